@@ -1,0 +1,49 @@
+// Where a text breaks a rule, and what a stage answers then.
+ghost use Rattle.std.specs.Prelude.{◌≡◌};
+ghost use Rattle.sv_num.specs.declared.faults.Fault.TheVariants.{OutOfMemory};
+
+use crate::names::Name;
+use std::alloc::{AllocError, AllocFailed};
+use thiserror::Error;
+
+/// A place in a text: the line, and the byte in that line. Both count from 1.
+#[derive(Clone, Copy, Debug, PartialEq, Eq)]
+pub struct Place {
+    pub line: u32,
+    pub column: u32,
+}
+
+/// A broken rule: its number, where it is broken, and the names that go with it.
+#[derive(Debug, Drop)]
+pub struct Refusal {
+    pub number: u16,
+    pub place: Place,
+    pub names: Vec<Name>,
+}
+
+/// Why a stage gives no answer.
+#[derive(Debug, Drop, Error)]
+pub enum Fault {
+    /// The text breaks a rule.
+    #[error("rule {number} is broken at {line}:{column}", number = .0.number, line = .0.place.line, column = .0.place.column)]
+    Rule(Refusal),
+    /// Memory ran out.
+    #[error("out of memory")]
+    OutOfMemory,
+}
+
+impl From<AllocError> for Fault {
+    ghost from_gives = { λ _ fault. fault ≡ OutOfMemory };
+
+    fn from(_error: AllocError) -> Fault {
+        Fault::OutOfMemory
+    }
+}
+
+impl<T: Drop> From<AllocFailed<T>> for Fault {
+    ghost from_gives = { λ _ fault. fault ≡ OutOfMemory };
+
+    fn from(_error: AllocFailed<T>) -> Fault {
+        Fault::OutOfMemory
+    }
+}

@@ -1,0 +1,5 @@
+pub mod Tree
+pub mod Names
+pub mod Meaning
+pub mod Form
+pub mod Spelling

@@ -3,3 +3,4 @@ pub mod Names
 pub mod Meaning
 pub mod Form
 pub mod Spelling
+pub mod Obligations

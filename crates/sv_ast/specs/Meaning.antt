@@ -1,8 +1,8 @@
 -- What a module means as a synchronous design: its cycle system, by the words of the source alone. The clauses are those of
 -- IEEE 1364-2005, the labels those of SecVerilog (ASPLOS 2015), section 3.
-use Rattle.std.specs.Prelude.{ℕ, ◌+◌, ◌-◌, ◌%◌, ◌^◌, Bool, true, false, cond, not, ◌&&◌, bit_and, bit_or, bit_xor, List, [], ◌∷◌, ◌++◌, map, filter, Option, Some, None, unwrap_or}
-use Rattle.std.specs.List.{list_any, filter_map, flat_map, find}
-use Rattle.std.specs.Option.{option_and_then}
+use Rattle.std.specs.Prelude.{ℕ, ◌-◌, ◌%◌, ◌^◌, Bool, true, false, cond, not, ◌&&◌, bit_and, bit_or, bit_xor, List, [], ◌∷◌, ◌++◌, map, filter, Option, Some, None, unwrap_or, is_some, is_none}
+use Rattle.std.specs.List.{filter_map, flat_map, find}
+use Rattle.std.specs.Option.{option_and_then, option_map_or}
 use Rattle.std.specs.Str.{bytes_eq}
 use Rattle.sv_num.specs.declared.operators.UnOp.{UnOp}
 use Rattle.sv_num.specs.declared.operators.UnOp.TheVariants as unop
@@ -42,30 +42,32 @@ abbrev pub run : StatementTree → (List ℕ → ℕ) × List (List ℕ × ℕ) 
 run (assignment target true e) s = (put bytes_eq target (value e s.0) s.0, s.1)
 run (assignment target false e) s = (s.0, s.1 ++ (target, value e s.0) ∷ [])
 
+-- A process: an `assign` is one with a single blocking assignment (clause 6.1), an `always @(posedge ..)` has a clock.
+pub record Process : Type 0 where
+  pub clock : Option (List ℕ)
+  pub body : StatementTree
+
 abbrev pub declaration_of : ItemTree → Option Decl
 declaration_of (declared d) = Some d
-declaration_of _ = None
+declaration_of (continuous target e) = None
+declaration_of (clocked clock body) = None
 
--- an `assign` is a process with one blocking assignment (clause 6.1)
-abbrev pub combinational_of : ItemTree → Option StatementTree
-combinational_of (continuous target e) = Some (assignment target true e)
-combinational_of _ = None
-
-abbrev pub clocked_of : ItemTree → Option StatementTree
-clocked_of (clocked clock body) = Some body
-clocked_of _ = None
-
-abbrev pub clock_of : ItemTree → Option (List ℕ)
-clock_of (clocked clock body) = Some clock
-clock_of _ = None
+abbrev pub process_of : ItemTree → Option Process
+process_of (declared d) = None
+process_of (continuous target e) = Some (record { clock = None; body = assignment target true e })
+process_of (clocked c body) = Some (record { clock = Some c; body = body })
 
 -- the ports, then the other declarations, in textual order
 abbrev pub declarations : ModuleTree → List Decl
 declarations m = m.ports ++ filter_map declaration_of m.items
 
--- the signals of `posedge`
+-- the processes, in textual order
+abbrev pub processes : ModuleTree → List Process
+processes m = filter_map process_of m.items
+
+-- the signals after `posedge`
 abbrev pub clocks : ModuleTree → List (List ℕ)
-clocks m = filter_map clock_of m.items
+clocks m = filter_map (λ (p : Process). p.clock) (processes m)
 
 abbrev pub is_input_kind : DeclKind → Bool
 is_input_kind kind.Input = true
@@ -76,9 +78,13 @@ is_register_kind kind.OutputReg = true
 is_register_kind kind.Reg = true
 is_register_kind _ = false
 
+-- the declaration of a name
+abbrev pub declaration : ModuleTree → List ℕ → Option Decl
+declaration m n = find (λ (d : Decl). bytes_eq n d.name) (declarations m)
+
 -- whether the name is declared with a kind that passes the test
 abbrev pub declared_as : (DeclKind → Bool) → ModuleTree → List ℕ → Bool
-declared_as test m n = list_any (λ (d : Decl). bytes_eq n d.name && test d.kind) (declarations m)
+declared_as test m n = option_map_or (λ (d : Decl). test d.kind) (declaration m n) false
 
 -- the signals in order, clocks left out
 abbrev pub signals : ModuleTree → List (List ℕ)
@@ -93,7 +99,7 @@ is_register m n = declared_as is_register_kind m n
 
 -- the declared point; a signal without a label has the least one
 abbrev pub label_of : ModuleTree → List ℕ → Point
-label_of m n = unwrap_or (option_and_then (λ (d : Decl). d.label) (find (λ (d : Decl). bytes_eq n d.name) (declarations m))) Low
+label_of m n = unwrap_or (option_and_then (λ (d : Decl). d.label) (declaration m n)) Low
 
 -- L flows to both points, and H to itself
 abbrev pub flows : Point → Point → Bool
@@ -103,7 +109,7 @@ flows High High = true
 
 -- all updates of the clocked processes, each run on the environment with no updates pending
 abbrev pub updates : ModuleTree → (List ℕ → ℕ) → List (List ℕ × ℕ)
-updates m environment = flat_map (λ body. (run body (environment, [])).1) (filter_map clocked_of m.items)
+updates m environment = flat_map (λ (p : Process). (run p.body (environment, [])).1) (filter (λ (p : Process). is_some p.clock) (processes m))
 
 -- the value of the last update of a signal, or the old value where there is none
 abbrev pub last_update : List ℕ → ℕ → List (List ℕ × ℕ) → ℕ
@@ -117,7 +123,7 @@ system m = record {
   is_input = is_input m;
   is_register = is_register m;
   width = λ n. 1;
-  processes = map (λ body. λ environment. (run body (environment, [])).0) (filter_map combinational_of m.items);
+  processes = map (λ (p : Process). λ environment. (run p.body (environment, [])).0) (filter (λ (p : Process). is_none p.clock) (processes m));
   next = λ environment. λ n. last_update n (environment n) (updates m environment);
   label = λ n. λ environment. label_of m n;
   flows = flows;

@@ -1,5 +1,5 @@
 -- The plain forms of trees: lists of bytes stand for names, and lists for vectors.
-use Rattle.std.specs.Prelude.{ℕ, Bool, List, Option, map}
+use Rattle.std.specs.Prelude.{ℕ, Bool, List, map}
 use Rattle.sv_num.specs.declared.operators.UnOp.{UnOp}
 use Rattle.sv_num.specs.declared.operators.BinOp.{BinOp}
 use Rattle.sv_ast.specs.declared.expression.Expr as exprs
@@ -8,8 +8,6 @@ use Rattle.sv_ast.specs.declared.module.Stmt.TheVariants as stmt
 use Rattle.sv_ast.specs.declared.module.Item as items
 use Rattle.sv_ast.specs.declared.module.Item.TheVariants as item
 use Rattle.sv_ast.specs.declared.module.Decl.{Decl}
-use Rattle.sv_ast.specs.declared.module.DeclKind.{DeclKind}
-use Rattle.sv_ast.specs.declared.module.Point.{Point}
 use Rattle.sv_ast.specs.declared.module.Module.{Module}
 
 pub data ExpressionTree : Type 0 where

@@ -211,7 +211,7 @@ ordered = record {
   values_fit = λ d among e fits. subst (λ (b : Driver Wire). b.value e < 2 ^ 1) (only copying d among) (fits 1 secret (omega arith));
   next_fits = λ e fits k d lt _. fits 2 copy (omega arith);
   earlier = λ before after d is e f inputs _ _. subst (λ (b : Driver Wire). b.value e ≡ b.value f) (only copying d (subst (λ ds. Contains ds d) (sym is) (Contains-append_right before (d ∷ after) d (Contains-head d after)))) (inputs secret refl);
-  next_within = λ e f s _ agree. agree copy (within copy);
+  next_within = λ e f s _ _ agree. agree copy (within copy);
 }
 
 -- so both theorems speak of it

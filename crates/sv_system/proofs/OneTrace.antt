@@ -62,9 +62,10 @@ module _ {Signal Point : Type 0} (system : System Signal Point) (facts : Ordered
   same_traces (now ∷ more) [] second start1 start2 starts one two = absurd one
   same_traces (now ∷ more) (e ∷ first) [] start1 start2 starts one two = absurd two
   same_traces (now ∷ more) (e ∷ first) (f ∷ second) start1 start2 starts one two =
+      let registers = λ (s : Signal) (register : IsTrue (system.is_register s)). one.0.registers s register ∙ starts s register ∙ sym (two.0.registers s register) in
       let agree = settled_agree start1 start2 now e f starts one.0 two.0 in (
         All-weaker (Contains system.signals) (λ s. e s ≡ f s) agree system.signals (All-contains_itself system.signals),
-        same_traces more first second (system.next e) (system.next f) (λ s register. facts.next_within e f s register agree) one.1 two.1,
+        same_traces more first second (system.next e) (system.next f) (λ s register. facts.next_within e f s register registers agree) one.1 two.1,
       )
 
 -- drivers in order give each start and each list of inputs exactly one trace

@@ -72,5 +72,8 @@ pub record Ordered {Signal Point : Type 0} (system : System Signal Point) : Type
       → ((s : Signal) → IsTrue (system.is_register s) → e s ≡ f s)
       → ((s : Signal) → Contains (map (λ (b : Driver Signal). b.target) before) s → e s ≡ f s)
       → d.value e ≡ d.value f
-  -- a register's next value depends on the system's signals alone
-  pub next_within : (e f : Environment Signal) (s : Signal) → IsTrue (system.is_register s) → ((t : Signal) → Contains system.signals t → e t ≡ f t) → system.next e s ≡ system.next f s
+  -- a register's next value depends on registers and on the system's signals alone
+  pub next_within : (e f : Environment Signal) (s : Signal) → IsTrue (system.is_register s)
+      → ((t : Signal) → IsTrue (system.is_register t) → e t ≡ f t)
+      → ((t : Signal) → Contains system.signals t → e t ≡ f t)
+      → system.next e s ≡ system.next f s

@@ -1,0 +1,9 @@
+-- Files in memory: a map from texts to bytes.
+use Rattle.std.specs.Prelude.{ℕ, List, Option, String, Vec}
+use Rattle.std.specs.declared.alloc.Global.{Global}
+use Rattle.std.specs.Option.{option_map}
+use Rattle.std.specs.BTreeMap.{BTreeMap, get_by_text}
+
+-- the bytes under a name
+abbrev pub files_held : BTreeMap (String Global) (Vec ℕ Global) → List ℕ → Option (List ℕ)
+files_held files name = option_map (λ bytes. bytes.items) (get_by_text files name)

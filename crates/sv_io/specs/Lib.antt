@@ -1,0 +1,5 @@
+pub mod Cabinet
+pub mod Count
+pub mod Files
+pub mod Sink
+pub mod Sure

@@ -1,7 +1,8 @@
 ghost use Rattle.std.specs.Prelude.{◌≡◌, ◌≢◌, ℕ, ◌+◌, ◌<◌, ◌≤◌, List, take, length, min, Some, IfOk, OnOk, OnErr, IsErrOf, vec_len};
 ghost use Rattle.std.specs.Option.{option_copied};
 ghost use Rattle.sv_io.specs.Cabinet.{bytes_under, IfLong};
-ghost use Rattle.sv_io.specs.Files.{files_held};
+ghost use Rattle.sv_io.specs.Count.{one_more};
+ghost use Rattle.sv_io.specs.Files.{files_held, count_of};
 
 use super::faults::FetchFault;
 use std::alloc::{AllocError, Global};
@@ -53,4 +54,19 @@ pub fn copy_within(alloc: Global, bytes: &[u8], limit: u64) -> Result<Vec<u8>, F
         Ok(front) => Err(FetchFault::Long(front)),
         Err(AllocError) => Err(FetchFault::OutOfMemory),
     }
+}
+
+/// How often something happened to each name.
+pub type Counts = BTreeMap<String, u64>;
+
+/// Counts one more for the name, up to the greatest u64. Refused, it changes nothing.
+pub fn count_one(counts: &mut Counts, alloc: Global, name: &str) -> Result<(), AllocError>
+    ensures counted { OnOk result (count_of counts.new name.now ≡ one_more (count_of counts.old name.now)) }
+    ensures others { (other : List ℕ) → other ≢ name.now → count_of counts.new other ≡ count_of counts.old other }
+    ensures refused { OnErr result ((other : List ℕ) → count_of counts.new other ≡ count_of counts.old other) }
+    ensures no_fewer { (other : List ℕ) → count_of counts.old other ≤ count_of counts.new other }
+{
+    let count = counts.get(name).copied().unwrap_or(0).saturating_add(1);
+    counts.insert(String::from_str(alloc, name)?, count)?;
+    Ok(())
 }

@@ -2,13 +2,16 @@
 //! object holds and how often it failed, with objects in memory and over the real system.
 #![tactic(auto)]
 
+mod calls;
 mod faults;
 mod files;
+mod mem;
 mod pieces;
 mod sure;
 mod traits;
 
 pub use faults::{Failed, FetchFault, PutFault, StoreFault};
+pub use mem::{MemCabinet, MemSink, MemSource};
 pub use std::alloc::AllocError as OutOfMemory;
 pub use sure::{SureCabinet, SureSink, SureSource};
 pub use traits::{Cabinet, Sink, Source, put_all};

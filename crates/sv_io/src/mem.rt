@@ -1,0 +1,349 @@
+ghost use Rattle.std.specs.Prelude.{◌≡◌, ◌≢◌, ℕ, ◌+◌, ◌<◌, ◌≤◌, ◌↔◌, ◌⊎◌, Bool, true, IsTrue, [], List, ◌++◌, take, length, min, Option, None, Some, Ok, Err, IfOk, OnOk, OnErr, IsOk, IsErr, IsErrOf, vec_len};
+ghost use Rattle.std.specs.Option.{option_copied};
+ghost use Rattle.sv_io.specs.Cabinet.{bytes_under, IfLong, KeepsOrBegins};
+ghost use Rattle.sv_io.specs.Count.{Rose, one_more, is_failing};
+
+use super::OutOfMemory;
+use super::calls::Calls;
+use super::faults::{Failed, FetchFault, PutFault, StoreFault};
+use super::files::{Counts, Files, copy_within, count_one, file_named, put_file};
+use super::pieces::copy_front;
+use super::traits::{Cabinet, Sink, Source};
+use std::alloc::Global;
+
+/// A cabinet in memory. Its fetches and stores are numbered together from 1, and those whose numbers it was
+/// given fail. A fetch of a name that it does not hold fails too.
+#[derive(Drop)]
+pub struct MemCabinet {
+    files: Files,
+    fetches: Counts,
+    stores: Counts,
+    calls: Calls,
+    alloc: Global,
+}
+
+impl MemCabinet {
+    ghost use Rattle.sv_io.specs.Mem.{mem_held, fetch_faults_of, store_faults_of, cabinet_calls, cabinet_failing};
+
+    /// A cabinet that holds no name. The calls whose numbers stand in `failing` will fail; numbers of calls
+    /// stop at the greatest u64.
+    pub fn new(alloc: Global, failing: Vec<u32>) -> MemCabinet
+        ensures holds_none { (name : List ℕ) → mem_held result name ≡ None }
+        ensures no_fetch_failed { (name : List ℕ) → fetch_faults_of result name ≡ 0 }
+        ensures no_store_failed { (name : List ℕ) → store_faults_of result name ≡ 0 }
+        ensures no_call { cabinet_calls result ≡ 0 }
+        ensures failing { cabinet_failing result ≡ failing.items }
+    {
+        MemCabinet {
+            files: Files::new(alloc),
+            fetches: Counts::new(alloc),
+            stores: Counts::new(alloc),
+            calls: Calls::new(failing),
+            alloc,
+        }
+    }
+
+    /// The bytes under the name, None exactly where it is not held.
+    pub fn bytes(&self, name: &str) -> Option<&[u8]>
+        ensures { option_copied result ≡ mem_held self.now name.now }
+    {
+        file_named(&self.files, name)
+    }
+
+    /// Puts the bytes under the name. It is no call that is numbered. Refused, it changes nothing.
+    pub fn hold(&mut self, name: &str, bytes: &[u8]) -> Result<(), OutOfMemory>
+        ensures held { OnOk result (mem_held self.new name.now ≡ Some bytes.now) }
+        ensures others { (other : List ℕ) → other ≢ name.now → mem_held self.new other ≡ mem_held self.old other }
+        ensures refused { OnErr result ((other : List ℕ) → mem_held self.new other ≡ mem_held self.old other) }
+        ensures fetch_counts { (other : List ℕ) → fetch_faults_of self.new other ≡ fetch_faults_of self.old other }
+        ensures store_counts { (other : List ℕ) → store_faults_of self.new other ≡ store_faults_of self.old other }
+        ensures calls { cabinet_calls self.new ≡ cabinet_calls self.old }
+        ensures failing { cabinet_failing self.new ≡ cabinet_failing self.old }
+    {
+        put_file(&mut self.files, self.alloc, name, bytes)
+    }
+
+    // Counts a failed fetch of the name.
+    fn fetch_failed(&mut self, name: &str) -> FetchFault
+        ensures answer { (result ≡ FetchFault.Failed) ⊎ (result ≡ FetchFault.OutOfMemory) }
+        ensures counted { result ≡ FetchFault.Failed →
+            fetch_faults_of self.new name.now ≡ one_more (fetch_faults_of self.old name.now) }
+        ensures not_counted { (result ≡ FetchFault.Failed → ⊥) →
+            fetch_faults_of self.new name.now ≡ fetch_faults_of self.old name.now }
+        ensures other_names { (other : List ℕ) → other ≢ name.now →
+            fetch_faults_of self.new other ≡ fetch_faults_of self.old other }
+        ensures fetch_counts { (other : List ℕ) →
+            fetch_faults_of self.old other ≤ fetch_faults_of self.new other }
+        ensures rest { self.new ≡ record self.old { fetches = self.new.fetches } }
+    {
+        match count_one(&mut self.fetches, self.alloc, name) {
+            Ok(()) => FetchFault::Failed,
+            Err(OutOfMemory) => FetchFault::OutOfMemory,
+        }
+    }
+
+    // Counts a failed store under the name.
+    fn store_failed(&mut self, name: &str) -> StoreFault
+        ensures counted { result ≡ StoreFault.Failed →
+            store_faults_of self.new name.now ≡ one_more (store_faults_of self.old name.now) }
+        ensures not_counted { (result ≡ StoreFault.Failed → ⊥) →
+            store_faults_of self.new name.now ≡ store_faults_of self.old name.now }
+        ensures other_names { (other : List ℕ) → other ≢ name.now →
+            store_faults_of self.new other ≡ store_faults_of self.old other }
+        ensures store_counts { (other : List ℕ) →
+            store_faults_of self.old other ≤ store_faults_of self.new other }
+        ensures rest { self.new ≡ record self.old { stores = self.new.stores } }
+    {
+        match count_one(&mut self.stores, self.alloc, name) {
+            Ok(()) => StoreFault::Failed,
+            Err(OutOfMemory) => StoreFault::OutOfMemory,
+        }
+    }
+}
+
+impl Cabinet for MemCabinet {
+    ghost use Rattle.sv_io.specs.Mem.{mem_held, fetch_faults_of, store_faults_of, cabinet_calls, cabinet_failing};
+
+    ghost tells = { true };
+
+    ghost held = { mem_held };
+
+    ghost fetch_faults = { fetch_faults_of };
+
+    ghost store_faults = { store_faults_of };
+
+    fn fetch(&mut self, alloc: Global, name: &str, limit: u64) -> Result<Vec<u8>, FetchFault>
+        requires { limit < 18446744073709551615 }
+
+        ensures whole { IfOk result (λ bytes. bytes.items ≡ bytes_under (mem_held self.old) name.now) }
+        ensures within { IfOk result (λ bytes. vec_len bytes ≤ limit) }
+        ensures long_length { IfLong result (λ bytes. length bytes ≡ limit + 1) }
+        ensures long_front { IfLong result
+            (λ bytes. bytes ≡ take (limit + 1) (bytes_under (mem_held self.old) name.now)) }
+        ensures long_cause { IfLong result
+            (λ _. limit < length (bytes_under (mem_held self.old) name.now)) }
+        ensures unchanged { (other : List ℕ) → mem_held self.new other ≡ mem_held self.old other }
+
+        // It fails exactly where its number is one that fails or the name is not held.
+        ensures number { cabinet_calls self.new ≡ one_more (cabinet_calls self.old) }
+        ensures failing { cabinet_failing self.new ≡ cabinet_failing self.old }
+        ensures fails { IsTrue (is_failing (cabinet_failing self.old) (cabinet_calls self.new)) →
+            IsErrOf result FetchFault.Failed ⊎ IsErrOf result FetchFault.OutOfMemory }
+        ensures missing { mem_held self.old name.now ≡ None →
+            IsErrOf result FetchFault.Failed ⊎ IsErrOf result FetchFault.OutOfMemory }
+        ensures failed { IsErrOf result FetchFault.Failed →
+            IsTrue (is_failing (cabinet_failing self.old) (cabinet_calls self.new))
+            ⊎ (mem_held self.old name.now ≡ None) }
+
+        // Then the name's count of fetches goes up by one, and no other count changes.
+        ensures counted { IsErrOf result FetchFault.Failed →
+            fetch_faults_of self.new name.now ≡ one_more (fetch_faults_of self.old name.now) }
+        ensures not_counted { (IsErrOf result FetchFault.Failed → ⊥) →
+            fetch_faults_of self.new name.now ≡ fetch_faults_of self.old name.now }
+        ensures other_names { (other : List ℕ) → other ≢ name.now →
+            fetch_faults_of self.new other ≡ fetch_faults_of self.old other }
+        ensures fetch_counts { (other : List ℕ) →
+            fetch_faults_of self.old other ≤ fetch_faults_of self.new other }
+        ensures store_counts { (other : List ℕ) →
+            store_faults_of self.new other ≡ store_faults_of self.old other }
+    {
+        if self.calls.next_fails() {
+            return Err(self.fetch_failed(name));
+        }
+        match file_named(&self.files, name) {
+            Some(bytes) => copy_within(alloc, bytes, limit),
+            None => Err(self.fetch_failed(name)),
+        }
+    }
+
+    fn store(&mut self, name: &str, bytes: &[u8]) -> Result<(), StoreFault>
+        ensures stored { OnOk result (mem_held self.new name.now ≡ Some bytes.now) }
+        ensures refused { OnErr result (mem_held self.new name.now ≡ mem_held self.old name.now) }
+        ensures others { (other : List ℕ) → other ≢ name.now →
+            mem_held self.new other ≡ mem_held self.old other }
+
+        // It fails exactly where its number is one that fails.
+        ensures number { cabinet_calls self.new ≡ one_more (cabinet_calls self.old) }
+        ensures failing { cabinet_failing self.new ≡ cabinet_failing self.old }
+        ensures fails { IsTrue (is_failing (cabinet_failing self.old) (cabinet_calls self.new)) →
+            IsErrOf result StoreFault.Failed ⊎ IsErrOf result StoreFault.OutOfMemory }
+        ensures failed { IsErrOf result StoreFault.Failed →
+            IsTrue (is_failing (cabinet_failing self.old) (cabinet_calls self.new)) }
+
+        // Then the name's count of stores goes up by one, and no other count changes.
+        ensures counted { IsErrOf result StoreFault.Failed →
+            store_faults_of self.new name.now ≡ one_more (store_faults_of self.old name.now) }
+        ensures not_counted { (IsErrOf result StoreFault.Failed → ⊥) →
+            store_faults_of self.new name.now ≡ store_faults_of self.old name.now }
+        ensures other_names { (other : List ℕ) → other ≢ name.now →
+            store_faults_of self.new other ≡ store_faults_of self.old other }
+        ensures store_counts { (other : List ℕ) →
+            store_faults_of self.old other ≤ store_faults_of self.new other }
+        ensures fetch_counts { (other : List ℕ) →
+            fetch_faults_of self.new other ≡ fetch_faults_of self.old other }
+    {
+        if self.calls.next_fails() {
+            return Err(self.store_failed(name));
+        }
+        match self.hold(name, bytes) {
+            Ok(()) => Ok(()),
+            Err(OutOfMemory) => Err(StoreFault::OutOfMemory),
+        }
+    }
+}
+
+/// A source in memory. The takes whose numbers it was given, from 1, fail.
+#[derive(Drop)]
+pub struct MemSource {
+    all: Vec<u8>,
+    at: usize,
+    calls: Calls,
+    failed: u64,
+    most: usize,
+    ghost in_range: { at ≤ vec_len all },
+    ghost some: { 1 ≤ most },
+}
+
+impl MemSource {
+    ghost use Rattle.sv_io.specs.Mem.{mem_left, source_calls, source_faults, source_failing, source_most};
+
+    /// A source with these bytes left, of which a take moves at most `most`. The takes whose numbers stand in
+    /// `failing` will fail; numbers of takes stop at the greatest u64.
+    pub fn new(bytes: Vec<u8>, failing: Vec<u32>, most: usize) -> MemSource
+        requires { 1 ≤ most }
+        ensures left { mem_left result ≡ bytes.items }
+        ensures no_call { source_calls result ≡ 0 }
+        ensures no_fault { source_faults result ≡ 0 }
+        ensures failing { source_failing result ≡ failing.items }
+        ensures most { source_most result ≡ most }
+    {
+        MemSource {
+            all: bytes,
+            at: 0,
+            calls: Calls::new(failing),
+            failed: 0,
+            most,
+        }
+    }
+}
+
+impl Source for MemSource {
+    ghost use Rattle.sv_io.specs.Mem.{mem_left, source_calls, source_faults, source_failing, source_most};
+
+    ghost tells = { true };
+
+    ghost left = { mem_left };
+
+    ghost faults = { source_faults };
+
+    fn take(&mut self, buf: &mut [u8]) -> Result<usize, Failed>
+        ensures moved { IfOk result (λ count.
+            count ≡ min (source_most self.old) (min (length (mem_left self.old)) (length buf.old))) }
+        ensures within { IfOk result (λ count. count ≤ length buf.new) }
+        ensures taken { IfOk result (λ count.
+            mem_left self.old ≡ take count buf.new ++ mem_left self.new) }
+        ensures end { 0 < length buf.old →
+            IfOk result (λ count. (count ≡ 0) ↔ (mem_left self.old ≡ [])) }
+        ensures refused { OnErr result (mem_left self.new ≡ mem_left self.old) }
+
+        // It fails exactly where its number is one that fails, and then the count goes up by one.
+        ensures number { source_calls self.new ≡ one_more (source_calls self.old) }
+        ensures failed { IsErr result ↔
+            IsTrue (is_failing (source_failing self.old) (source_calls self.new)) }
+        ensures counted { OnErr result (source_faults self.new ≡ one_more (source_faults self.old)) }
+        ensures not_counted { OnOk result (source_faults self.new ≡ source_faults self.old) }
+        ensures counts { source_faults self.old ≤ source_faults self.new }
+
+        ensures failing { source_failing self.new ≡ source_failing self.old }
+        ensures most { source_most self.new ≡ source_most self.old }
+    {
+        if self.calls.next_fails() {
+            self.failed = self.failed.saturating_add(1);
+            return Err(Failed);
+        }
+        let count = copy_front(&self.all[self.at..], buf, self.most);
+        self.at += count;
+        Ok(count)
+    }
+}
+
+/// A sink in memory. The puts whose numbers it was given, from 1, fail.
+#[derive(Drop)]
+pub struct MemSink {
+    all: Vec<u8>,
+    calls: Calls,
+    failed: u64,
+    most: usize,
+    ghost some: { 1 ≤ most },
+}
+
+impl MemSink {
+    ghost use Rattle.sv_io.specs.Mem.{mem_written, sink_calls, sink_faults, sink_failing, sink_most};
+
+    /// A sink to which nothing was written. A put moves at most `most` bytes. The puts whose numbers stand in
+    /// `failing` will fail; numbers of puts stop at the greatest u64.
+    pub fn new(alloc: Global, failing: Vec<u32>, most: usize) -> MemSink
+        requires { 1 ≤ most }
+        ensures written { mem_written result ≡ [] }
+        ensures no_call { sink_calls result ≡ 0 }
+        ensures no_fault { sink_faults result ≡ 0 }
+        ensures failing { sink_failing result ≡ failing.items }
+        ensures most { sink_most result ≡ most }
+    {
+        MemSink {
+            all: Vec::new(alloc),
+            calls: Calls::new(failing),
+            failed: 0,
+            most,
+        }
+    }
+
+    /// What was written.
+    pub fn bytes(&self) -> &[u8]
+        ensures { result.now ≡ mem_written self.now }
+    {
+        self.all.as_slice()
+    }
+}
+
+impl Sink for MemSink {
+    ghost use Rattle.sv_io.specs.Mem.{mem_written, sink_calls, sink_faults, sink_failing, sink_most};
+
+    ghost tells = { true };
+
+    ghost written = { mem_written };
+
+    ghost faults = { sink_faults };
+
+    fn put(&mut self, piece: &[u8]) -> Result<usize, PutFault>
+        requires { 0 < length piece.now }
+        ensures moved { IfOk result (λ count. count ≡ min (length piece.now) (sink_most self.old)) }
+        ensures some { IfOk result (λ count. 0 < count) }
+        ensures written { IfOk result (λ count.
+            mem_written self.new ≡ mem_written self.old ++ take count piece.now) }
+        ensures refused { OnErr result (mem_written self.new ≡ mem_written self.old) }
+
+        // It fails exactly where its number is one that fails, and then the count goes up by one.
+        ensures number { sink_calls self.new ≡ one_more (sink_calls self.old) }
+        ensures failed { IsErrOf result PutFault.Failed ↔
+            IsTrue (is_failing (sink_failing self.old) (sink_calls self.new)) }
+        ensures counted { IsErrOf result PutFault.Failed →
+            sink_faults self.new ≡ one_more (sink_faults self.old) }
+        ensures not_counted { (IsErrOf result PutFault.Failed → ⊥) →
+            sink_faults self.new ≡ sink_faults self.old }
+        ensures counts { sink_faults self.old ≤ sink_faults self.new }
+
+        ensures failing { sink_failing self.new ≡ sink_failing self.old }
+        ensures most { sink_most self.new ≡ sink_most self.old }
+    {
+        if self.calls.next_fails() {
+            self.failed = self.failed.saturating_add(1);
+            return Err(PutFault::Failed);
+        }
+        let count = piece.len().min(self.most);
+        match self.all.extend_from_slice(&piece[..count]) {
+            Ok(()) => Ok(count),
+            Err(OutOfMemory) => Err(PutFault::OutOfMemory),
+        }
+    }
+}

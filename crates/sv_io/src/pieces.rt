@@ -1,0 +1,11 @@
+ghost use Rattle.std.specs.Prelude.{◌≡◌, ◌≤◌, length, take, min};
+
+/// Copies as many bytes as both have, and at most `most`, to the front of `buf`, and says how many.
+pub fn copy_front(from: &[u8], buf: &mut [u8], most: usize) -> usize
+    ensures count { result ≡ min most (min (length from.now) (length buf.old)) }
+    ensures copied { take result buf.new ≡ take result from.now }
+{
+    let count = most.min(from.len().min(buf.len()));
+    buf[..count].copy_from_slice(&from[..count]);
+    count
+}

@@ -1,13 +1,9 @@
-// A library with one function.
+//! The top call: what `secv` does with its words, a cabinet of files, an input and an output.
+//!
+//! `run` answers as `specs/Answer.antt` says. Where it answers `Done`, no secret reaches a public signal: any two traces of the
+//! text's cycle meaning that look alike to a level have equal views for it at every cycle.
 #![tactic(auto)]
 
-ghost use Rattle.std.specs.Prelude.{◌≡◌};
-ghost use Rattle.sv_cli.specs.Echo.{echo_of};
+mod outcome;
 
-// The `ensures` clause is the contract: what `echo` returns is `echo_of` of its argument, a definition
-// in `specs/Echo.antt`, which a caller's clause can cite too.
-pub fn echo(x: usize) -> usize
-    ensures { result ≡ echo_of x }
-{
-    x
-}
+pub use outcome::{Broken, Outcome, UsageKind, Valuation};

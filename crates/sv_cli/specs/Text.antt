@@ -1,0 +1,40 @@
+-- The texts that the program writes. Each line ends with a line feed.
+use Rattle.std.specs.Prelude.{ℕ, false, List, [], ◌∷◌, ◌++◌, codes, decimal, filter, if◌then◌else◌}
+use Rattle.std.specs.Fmt.{digits}
+use Rattle.sv_ast.specs.Tree.{ModuleTree}
+use Rattle.sv_ast.specs.Meaning.{signals, is_input, is_register}
+use Rattle.sv_ast.specs.Obligations.{Obligation, Values}
+use Rattle.sv_cli.specs.declared.outcome.UsageKind.{UsageKind}
+use Rattle.sv_cli.specs.declared.outcome.UsageKind.TheVariants.{NoCommand, UnknownCommand, Words}
+
+abbrev pub usage_name : UsageKind → List ℕ
+usage_name NoCommand = codes "no-command"
+usage_name UnknownCommand = codes "unknown-command"
+usage_name Words = codes "words"
+
+abbrev pub usage_text : UsageKind → List ℕ
+usage_text kind = codes "usage " ++ usage_name kind ++ codes "\n"
+
+abbrev pub accepted_text : ℕ → List ℕ
+accepted_text count = codes "accepted " ++ decimal count ++ codes " obligations\n"
+
+-- the text is of no form that is read so far
+abbrev pub not_built_text : List ℕ
+not_built_text = codes "refused 199 not-built 1:1\n"
+
+abbrev pub file_size_text : List ℕ
+file_size_text = codes "refused 701 file-size\n"
+
+-- a line for each name with its value in lower-case hexadecimal
+abbrev pub value_lines : List ℕ → List (List ℕ) → List ℕ → List ℕ
+value_lines word [] values = []
+value_lines word (n ∷ names) [] = []
+value_lines word (n ∷ names) (v ∷ values) = word ++ n ++ codes " " ++ digits 16 false v ++ codes "\n" ++ value_lines word names values
+
+-- the obligation, its target, the first read that does not flow, and the values that show it
+abbrev pub leak_text : ModuleTree → ℕ → Obligation → List ℕ → Values → List ℕ
+leak_text m number o read v =
+    codes "refused flow " ++ decimal number ++ codes " " ++ o.target ++ codes " from " ++ read ++ codes "\n"
+    ++ value_lines (codes "reg ") (filter (is_register m) (signals m)) v.registers
+    ++ value_lines (codes "in ") (filter (is_input m) (signals m)) v.inputs
+    ++ (if is_register m o.target then value_lines (codes "next ") (filter (is_input m) (signals m)) v.next_inputs else [])

@@ -1,5 +1,5 @@
 -- The facts on a system from which noninterference and the one trace follow. Each kind of design supplies its own.
-use Rattle.std.specs.Prelude.{◌≡◌, ℕ, ◌<◌, ◌^◌, Bool, true, false, IsTrue, List, ◌∷◌, ◌++◌, map, Contains, All, cond, ◌⊎◌}
+use Rattle.std.specs.Prelude.{◌≡◌, ℕ, ◌<◌, ◌^◌, Bool, true, false, IsTrue, List, ◌∷◌, ◌++◌, map, Contains, cond}
 use Rattle.std.specs.List.{IsDistinct}
 use Rattle.sv_system.specs.System.{System, Environment, IsStill, Fits, KindFits}
 
@@ -18,28 +18,26 @@ pub record Guarded {Signal Point : Type 0} (system : System Signal Point) : Type
   pub depth : Signal → ℕ
   pub uses_within : (e : Environment Signal) (s t : Signal) → Contains system.signals s → Contains (uses e s) t → Contains system.signals t
   pub selectors_within : (s t : Signal) → Contains system.signals s → Contains (selectors s) t → Contains system.signals t
-  pub inputs_within : (s : Signal) → IsTrue (system.is_input s) → Contains system.signals s
-  pub registers_within : (s : Signal) → IsTrue (system.is_register s) → Contains system.signals s
   -- reads go to lower depth
   pub lower : (e : Environment Signal) (s t : Signal) → IsCombinational system s → Contains (uses e s) t → IsCombinational system t → depth t < depth s
   -- where two environments at rest agree on what a signal uses in the first, they agree on the signal
   pub determined : (e f : Environment Signal) (s : Signal) → IsCombinational system s → Fits system e → Fits system f → IsStill system e → IsStill system f
-    → ((t : Signal) → Contains (uses e s) t → e t ≡ f t) → e s ≡ f s
+      → ((t : Signal) → Contains (uses e s) t → e t ≡ f t) → e s ≡ f s
   -- likewise a register's next value
-  pub determined_next : (e f : Environment Signal) (s : Signal) → IsTrue (system.is_register s) → Fits system e → Fits system f → IsStill system e → IsStill system f
-    → ((t : Signal) → Contains (uses e s) t → e t ≡ f t) → system.next e s ≡ system.next f s
+  pub determined_next : (e f : Environment Signal) (s : Signal) → Contains system.signals s → IsTrue (system.is_register s) → Fits system e → Fits system f → IsStill system e → IsStill system f
+      → ((t : Signal) → Contains (uses e s) t → e t ≡ f t) → system.next e s ≡ system.next f s
   -- the label of what a combinational signal uses flows to its own
   pub guarded : (e : Environment Signal) (s t : Signal) → IsCombinational system s → Fits system e → IsStill system e → Contains (uses e s) t
-    → IsTrue (system.flows (system.label t e) (system.label s e))
+      → IsTrue (system.flows (system.label t e) (system.label s e))
   -- the label of what a register uses flows to its label in the cycle that follows
-  pub guarded_next : (e f : Environment Signal) (s t : Signal) → IsTrue (system.is_register s) → Fits system e → Fits system f → IsStill system e → IsStill system f
-    → ((r : Signal) → IsTrue (system.is_register r) → f r ≡ system.next e r) → Contains (uses e s) t
-    → IsTrue (system.flows (system.label t e) (system.label s f))
+  pub guarded_next : (e f : Environment Signal) (s t : Signal) → Contains system.signals s → IsTrue (system.is_register s) → Fits system e → Fits system f → IsStill system e → IsStill system f
+      → ((r : Signal) → IsTrue (system.is_register r) → f r ≡ system.next e r) → Contains (uses e s) t
+      → IsTrue (system.flows (system.label t e) (system.label s f))
   -- a label depends on the values of its selectors alone
   pub selected : (e f : Environment Signal) (s : Signal) → Contains system.signals s → ((t : Signal) → Contains (selectors s) t → e t ≡ f t) → system.label s e ≡ system.label s f
   -- a selector's label flows to the label that it selects
   pub selecting : (e : Environment Signal) (s t : Signal) → Contains system.signals s → Fits system e → IsStill system e → Contains (selectors s) t
-    → IsTrue (system.flows (system.label t e) (system.label s e))
+      → IsTrue (system.flows (system.label t e) (system.label s e))
   pub transitive : (a b c : Point) → IsTrue (system.flows a b) → IsTrue (system.flows b c) → IsTrue (system.flows a c)
 
 -- a signal that a process drives, and the value that a run of that process gives it in an environment
@@ -68,7 +66,9 @@ pub record Ordered {Signal Point : Type 0} (system : System Signal Point) : Type
   pub next_fits : (e : Environment Signal) → Fits system e → KindFits system.is_register system (system.next e)
   -- the value depends on inputs, registers and earlier targets alone
   pub earlier : (before after : List (Driver Signal)) (d : Driver Signal) → drivers ≡ before ++ d ∷ after → (e f : Environment Signal)
-    → ((s : Signal) → IsTrue (system.is_input s) → e s ≡ f s)
-    → ((s : Signal) → IsTrue (system.is_register s) → e s ≡ f s)
-    → ((s : Signal) → Contains (map (λ (b : Driver Signal). b.target) before) s → e s ≡ f s)
-    → d.value e ≡ d.value f
+      → ((s : Signal) → IsTrue (system.is_input s) → e s ≡ f s)
+      → ((s : Signal) → IsTrue (system.is_register s) → e s ≡ f s)
+      → ((s : Signal) → Contains (map (λ (b : Driver Signal). b.target) before) s → e s ≡ f s)
+      → d.value e ≡ d.value f
+  -- a register's next value depends on the system's signals alone
+  pub next_within : (e f : Environment Signal) (s : Signal) → IsTrue (system.is_register s) → ((t : Signal) → Contains system.signals t → e t ≡ f t) → system.next e s ≡ system.next f s

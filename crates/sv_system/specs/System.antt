@@ -64,8 +64,8 @@ pub record LookAlike {Signal Point : Type 0} (system : System Signal Point) (lev
 -- any two traces that look alike to a level have equal views for it at every cycle
 abbrev pub Noninterferent : {Signal Point : Type 0} → System Signal Point → Type 0
 Noninterferent {Signal} {Point} system = (level : Point) (start1 start2 : Signal → ℕ) (inputs1 inputs2 first second : List (Signal → ℕ))
-  → IsTrace system start1 inputs1 first → IsTrace system start2 inputs2 second → LookAlike system level first second
-  → map (view system level) first ≡ map (view system level) second
+    → IsTrace system start1 inputs1 first → IsTrace system start2 inputs2 second → LookAlike system level first second
+    → map (view system level) first ≡ map (view system level) second
 
 -- two environments agree on the signals of the system
 abbrev pub SameSignals : {Signal Point : Type 0} → System Signal Point → Environment Signal → Environment Signal → Type 0
@@ -85,5 +85,5 @@ KindFits kind system environment = All (λ s. IsTrue (kind s) → environment s 
 -- each start and each list of inputs, all of them fitting, has exactly one trace
 abbrev pub HasOneTrace : {Signal Point : Type 0} → System Signal Point → Type 0
 HasOneTrace {Signal} system = (start : Signal → ℕ) (inputs : List (Signal → ℕ)) → KindFits system.is_register system start → All (KindFits system.is_input system) inputs
-  → (trace : List (Signal → ℕ)) × IsTrace system start inputs trace
+    → (trace : List (Signal → ℕ)) × IsTrace system start inputs trace
     × ((other : List (Signal → ℕ)) → IsTrace system start inputs other → SameTraces system trace other)

@@ -1,0 +1,6 @@
+pub mod Lists
+pub mod OneCycle
+pub mod Noninterference
+pub mod Runs
+pub mod Settling
+pub mod OneTrace

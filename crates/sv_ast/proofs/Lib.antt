@@ -1,3 +1,4 @@
 pub mod Lists
 pub mod Declarations
 pub mod Processes
+pub mod Order

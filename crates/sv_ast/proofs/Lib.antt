@@ -2,3 +2,4 @@ pub mod Lists
 pub mod Declarations
 pub mod Processes
 pub mod Order
+pub mod Drivers

@@ -4,3 +4,5 @@ pub mod Noninterference
 pub mod Runs
 pub mod Settling
 pub mod OneTrace
+pub mod OneTarget
+pub mod Example

@@ -5,7 +5,7 @@ use Rattle.std.proofs.lemmas.Bool.{and_from}
 use Rattle.sv_system.specs.System.{System, Environment, Settled, IsTrace, LookAlike, Noninterferent, seen, view}
 use Rattle.sv_system.specs.Facts.{Guarded}
 use Rattle.sv_system.proofs.Lists.{told_value}
-use Rattle.sv_system.proofs.OneCycle.{IsAtRest, IsSeen, AgreesUp, AgreesOnSeen, seen_agree, views_agree, registers_agree}
+use Rattle.sv_system.proofs.OneCycle.{IsAtRest, rests, IsSeen, AgreesUp, AgreesOnSeen, seen_agree, views_agree, registers_agree}
 
 module _ {X : Type 0} where
   first_same : (x y : X) (xs ys : List X) → x ∷ xs ≡ y ∷ ys → x ≡ y
@@ -21,9 +21,6 @@ module _ {X : Type 0} where
   joined x y xs ys first rest = cc
 
 module _ {Signal Point : Type 0} (system : System Signal Point) where
-  rests : (state inputs e : Environment Signal) → Settled system state inputs e → IsAtRest system e
-  rests state inputs e settled = record { fits = settled.fits; still = settled.still }
-
   -- the first environment of a trace, and the trace that follows it
   record Begins (start e : Environment Signal) (later : List (Environment Signal)) : Type 0 where
     inputs : Environment Signal

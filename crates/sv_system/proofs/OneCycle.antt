@@ -2,7 +2,7 @@
 use Rattle.std.proofs.Common.{◌≡◌, ℕ, zero, suc, ◌<◌, Bool, true, false, ◌⊎◌, inl, inr, ⊎_elim, refl, sym, subst, ◌∙◌, arith}
 use Rattle.std.specs.Prelude.{Contains, IsTrue}
 use Rattle.std.proofs.lemmas.Bool.{cases_Bool, both_ways}
-use Rattle.sv_system.specs.System.{System, Environment, IsStill, Fits, view}
+use Rattle.sv_system.specs.System.{System, Environment, IsStill, Fits, Settled, view}
 use Rattle.sv_system.specs.Facts.{IsCombinational, Guarded}
 use Rattle.sv_system.proofs.Lists.{told_same}
 
@@ -24,6 +24,9 @@ abbrev pub AgreesOnSeen : {Signal Point : Type 0} → System Signal Point → Po
 AgreesOnSeen {Signal} system level e f = (s : Signal) → Contains system.signals s → IsSeen system level e s → e s ≡ f s
 
 module _ {Signal Point : Type 0} (system : System Signal Point) where
+  pub rests : (state inputs e : Environment Signal) → Settled system state inputs e → IsAtRest system e
+  rests state inputs e settled = record { fits = settled.fits; still = settled.still }
+
   -- a signal of the system is an input, a register or combinational
   pub kinds : (s : Signal) → Contains system.signals s → (IsTrue (system.is_input s) ⊎ IsTrue (system.is_register s)) ⊎ IsCombinational system s
   kinds s within = ⊎_elim

@@ -1,25 +1,17 @@
 -- Where drivers stand in order, each start and each list of inputs has exactly one trace.
-use Rattle.std.proofs.Common.{◌≡◌, ℕ, List, [], ◌∷◌, ◌++◌, ⊎_elim, refl, sym, subst, ◌∙◌, append_assoc, append-nil}
+use Rattle.std.proofs.Common.{◌≡◌, List, [], ◌∷◌, ◌++◌, ⊎_elim, refl, sym, subst, ◌∙◌, append_assoc, append-nil}
 use Rattle.std.specs.Prelude.{Contains, All, IsTrue}
 use Rattle.std.proofs.lemmas.List.{map-append}
-use Rattle.std.proofs.lemmas.List.Elements.{All-weaker, All-contains, All-contains_itself, All-head, All-tail, Contains-append_cases, Contains-append_right}
-use Rattle.sv_system.specs.System.{System, Environment, IsStill, Settled, IsTrace, SameTraces, KindFits, HasOneTrace}
-use Rattle.sv_system.specs.Facts.{Driver, put, Ordered}
-use Rattle.sv_system.proofs.Lists.{Contains-head, Contains-nil, Contains-cases, Contains-map}
-use Rattle.sv_system.proofs.Runs.{targets, put_at}
-use Rattle.sv_system.proofs.OneCycle.{kinds}
+use Rattle.std.proofs.lemmas.List.Elements.{All-weaker, All-contains_itself, All-head, All-tail, Contains-append_cases, Contains-append_right}
+use Rattle.sv_system.specs.System.{System, Environment, Settled, IsTrace, SameTraces, KindFits, HasOneTrace}
+use Rattle.sv_system.specs.Facts.{Driver, Ordered}
+use Rattle.sv_system.proofs.Lists.{Contains-head, Contains-nil, Contains-cases}
+use Rattle.sv_system.proofs.Runs.{targets}
+use Rattle.sv_system.proofs.OneCycle.{IsAtRest, rests, kinds}
 use Rattle.sv_system.proofs.Settling.{settle, settle_settles}
 
 module _ {Signal Point : Type 0} (system : System Signal Point) (facts : Ordered system) where
-  -- at rest a driver's target has the value that the driver gives it
-  target_value : (e : Environment Signal) → IsStill system e → (d : Driver Signal) → Contains facts.drivers d → e d.target ≡ d.value e
-  target_value e still d among =
-      let process_of = λ (b : Driver Signal) (at : Signal → ℕ). put facts.same b.target (b.value at) at in
-      let listed = subst (λ ps. Contains ps (process_of d)) (sym facts.processes_are) (Contains-map process_of facts.drivers d among) in
-      sym (All-contains (λ (process : (Signal → ℕ) → (Signal → ℕ)). (s : Signal) → process e s ≡ e s) system.processes (process_of d) still listed d.target)
-      ∙ put_at facts.same facts.same_is facts.is_same d.target (d.value e) e
-
-  module _ (e f : Environment Signal) (e_still : IsStill system e) (f_still : IsStill system f)
+  module _ (e f : Environment Signal) (e_rests : IsAtRest system e) (f_rests : IsAtRest system f)
       (inputs : (s : Signal) → IsTrue (system.is_input s) → e s ≡ f s) (registers : (s : Signal) → IsTrue (system.is_register s) → e s ≡ f s) where
     -- along the order of the drivers
     targets_along : (before after : List (Driver Signal)) → facts.drivers ≡ before ++ after → ((s : Signal) → Contains (targets before) s → e s ≡ f s)
@@ -31,7 +23,7 @@ module _ {Signal Point : Type 0} (system : System Signal Point) (facts : Ordered
         among = subst (λ ds. Contains ds d) (sym is) (Contains-append_right before (d ∷ after) d (Contains-head d after))
 
         here : e d.target ≡ f d.target
-        here = target_value e e_still d among ∙ facts.earlier before after d is e f inputs registers agree ∙ sym (target_value f f_still d among)
+        here = facts.still_targets e e_rests.fits e_rests.still d among ∙ facts.earlier before after d is e f inputs registers agree ∙ sym (facts.still_targets f f_rests.fits f_rests.still d among)
 
         grown : (t : Signal) → Contains (targets (before ++ d ∷ [])) t → e t ≡ f t
         grown t listed = ⊎_elim (agree t)
@@ -45,9 +37,9 @@ module _ {Signal Point : Type 0} (system : System Signal Point) (facts : Ordered
         (kinds system s within)
 
   -- two states with the same registers have the same settled environment
-  settled_agree : (state1 state2 now e f : Environment Signal) → ((s : Signal) → IsTrue (system.is_register s) → state1 s ≡ state2 s)
+  pub settled_agree : (state1 state2 now e f : Environment Signal) → ((s : Signal) → IsTrue (system.is_register s) → state1 s ≡ state2 s)
       → Settled system state1 now e → Settled system state2 now f → (s : Signal) → Contains system.signals s → e s ≡ f s
-  settled_agree state1 state2 now e f states one two = all_agree e f one.still two.still
+  settled_agree state1 state2 now e f states one two = all_agree e f (rests system state1 now e one) (rests system state2 now f two)
       (λ s input. one.inputs_are s input ∙ sym (two.inputs_are s input))
       (λ s register. one.registers s register ∙ states s register ∙ sym (two.registers s register))
 
@@ -70,9 +62,10 @@ module _ {Signal Point : Type 0} (system : System Signal Point) (facts : Ordered
   same_traces (now ∷ more) [] second start1 start2 starts one two = absurd one
   same_traces (now ∷ more) (e ∷ first) [] start1 start2 starts one two = absurd two
   same_traces (now ∷ more) (e ∷ first) (f ∷ second) start1 start2 starts one two =
+      let registers = λ (s : Signal) (register : IsTrue (system.is_register s)). one.0.registers s register ∙ starts s register ∙ sym (two.0.registers s register) in
       let agree = settled_agree start1 start2 now e f starts one.0 two.0 in (
         All-weaker (Contains system.signals) (λ s. e s ≡ f s) agree system.signals (All-contains_itself system.signals),
-        same_traces more first second (system.next e) (system.next f) (λ s register. facts.next_within e f s register agree) one.1 two.1,
+        same_traces more first second (system.next e) (system.next f) (λ s register. facts.next_within e f s register registers agree) one.1 two.1,
       )
 
 -- drivers in order give each start and each list of inputs exactly one trace

@@ -1,14 +1,14 @@
 -- One run of each driver, in their order, settles a cycle.
-use Rattle.std.proofs.Common.{◌≡◌, ℕ, ◌<◌, ◌^◌, Bool, true, false, cond, List, [], ◌∷◌, ◌++◌, map, ◌⊎◌, inl, inr, refl, sym, ap, subst, ◌∙◌, pow_pos, get_or}
+use Rattle.std.proofs.Common.{◌≡◌, ℕ, ◌<◌, ◌^◌, Bool, true, false, cond, List, [], ◌∷◌, ◌++◌, ◌⊎◌, inl, inr, refl, sym, ap, subst, ◌∙◌, pow_pos, get_or}
 use Rattle.std.specs.Prelude.{Contains, IsTrue}
 use Rattle.std.specs.List.{IsDistinct}
 use Rattle.std.proofs.lemmas.Bool.{cond-true, cond-false, cond_both}
 use Rattle.std.proofs.lemmas.List.{map-append}
-use Rattle.std.proofs.lemmas.List.Elements.{All-same, All-map, All-weaker, All-contains_itself, Contains-append_left}
-use Rattle.sv_system.specs.System.{System, Environment, IsStill, Fits, Settled, KindFits}
+use Rattle.std.proofs.lemmas.List.Elements.{All-weaker, Contains-append_left}
+use Rattle.sv_system.specs.System.{System, Environment, Fits, Settled, KindFits}
 use Rattle.sv_system.specs.Facts.{IsCombinational, Driver, put, Ordered}
 use Rattle.sv_system.proofs.Lists.{Contains-head, Contains-later, Contains-from_map}
-use Rattle.sv_system.proofs.Runs.{targets, run, cut_at, put_same, run_leaves, final_target, final_earlier}
+use Rattle.sv_system.proofs.Runs.{targets, run, cut_at, run_leaves, final_target, final_earlier}
 use Rattle.sv_system.proofs.OneCycle.{one_kind}
 
 -- the registers of the state, the inputs, and zero elsewhere
@@ -79,28 +79,22 @@ module _ {Signal Point : Type 0} (system : System Signal Point) (facts : Ordered
     turn_value = facts.earlier before after d is turn (settle state inputs)
         (λ s input. turn_given s (inl input)) (λ s register. turn_given s (inr register)) turn_earlier
 
-  -- each driver gives its target the value that it has
-  settle_target : (state inputs : Environment Signal) (d : Driver Signal) → Contains facts.drivers d → d.value (settle state inputs) ≡ settle state inputs d.target
+  settle_fits : (state inputs : Environment Signal) → KindFits system.is_register system state → KindFits system.is_input system inputs → Fits system (settle state inputs)
+  unfolding settle
+  settle_fits state inputs state_fits inputs_fit = run_fits facts.drivers (λ d among. among) (base system state inputs) (base_fits state inputs state_fits inputs_fit)
+
+  -- each target has the value that its driver gives it
+  settle_target : (state inputs : Environment Signal) (d : Driver Signal) → Contains facts.drivers d → settle state inputs d.target ≡ d.value (settle state inputs)
   settle_target state inputs d among =
       let cut = cut_at facts.drivers d among in
-      sym (turn_target state inputs d cut.before cut.after cut.is ∙ turn_value state inputs d cut.before cut.after cut.is)
-
-  settle_still : (state inputs : Environment Signal) → IsStill system (settle state inputs)
-  settle_still state inputs =
-      let e = settle state inputs in
-      let is_still = λ (process : (Signal → ℕ) → (Signal → ℕ)). (s : Signal) → process e s ≡ e s in
-      let process_of = λ (d : Driver Signal) (at : Signal → ℕ). put facts.same d.target (d.value at) at in
-      All-same is_still system.processes (map process_of facts.drivers) facts.processes_are
-      (All-map is_still process_of facts.drivers
-      (All-weaker (Contains facts.drivers) (λ d. is_still (process_of d))
-      (λ d among s. put_same facts.same facts.same_is facts.is_same d.target s (d.value e) e (settle_target state inputs d among))
-      facts.drivers (All-contains_itself facts.drivers)))
+      turn_target state inputs d cut.before cut.after cut.is ∙ turn_value state inputs d cut.before cut.after cut.is
 
   pub settle_settles : (state inputs : Environment Signal) → KindFits system.is_register system state → KindFits system.is_input system inputs → Settled system state inputs (settle state inputs)
-  unfolding settle
-  settle_settles state inputs state_fits inputs_fit = record {
-    registers = λ s register. settle_leaves state inputs s (inr register) ∙ cond-true (system.is_register s) (state s) _ register;
-    inputs_are = λ s input. settle_leaves state inputs s (inl input) ∙ cond-false (system.is_register s) (state s) _ (facts.not_both s input) ∙ cond-true (system.is_input s) (inputs s) 0 input;
-    fits = run_fits facts.drivers (λ d among. among) (base system state inputs) (base_fits state inputs state_fits inputs_fit);
-    still = settle_still state inputs;
-  }
+  settle_settles state inputs state_fits inputs_fit =
+      let fits = settle_fits state inputs state_fits inputs_fit in
+      record {
+        registers = λ s register. settle_leaves state inputs s (inr register) ∙ cond-true (system.is_register s) (state s) _ register;
+        inputs_are = λ s input. settle_leaves state inputs s (inl input) ∙ cond-false (system.is_register s) (state s) _ (facts.not_both s input) ∙ cond-true (system.is_input s) (inputs s) 0 input;
+        fits = fits;
+        still = facts.targets_still (settle state inputs) fits (settle_target state inputs);
+      }

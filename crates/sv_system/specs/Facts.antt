@@ -49,14 +49,16 @@ pub record Driver (Signal : Type 0) : Type 0 where
 abbrev pub put : {Signal : Type 0} → (Signal → Signal → Bool) → Signal → ℕ → Environment Signal → Environment Signal
 put same target value environment = λ s. cond (same target s) value (environment s)
 
--- each combinational process changes its own target alone, by a function of inputs, registers and the targets of processes before it
--- in the order of the list
+-- Each combinational signal has one driver, and the drivers stand in an order in which each value is a function of inputs, registers
+-- and the targets before it. The order is not that of the processes, and a process may drive several targets.
 pub record Ordered {Signal Point : Type 0} (system : System Signal Point) : Type 0 where
   pub same : Signal → Signal → Bool
   pub same_is : (s t : Signal) → IsTrue (same s t) → s ≡ t
   pub is_same : (s : Signal) → same s s ≡ true
   pub drivers : List (Driver Signal)
-  pub processes_are : system.processes ≡ map (λ (d : Driver Signal). λ (e : Signal → ℕ). put same d.target (d.value e) e) drivers
+  -- an environment is at rest exactly where each target has the value that its driver gives it
+  pub still_targets : (e : Environment Signal) → Fits system e → IsStill system e → (d : Driver Signal) → Contains drivers d → e d.target ≡ d.value e
+  pub targets_still : (e : Environment Signal) → Fits system e → ((d : Driver Signal) → Contains drivers d → e d.target ≡ d.value e) → IsStill system e
   pub targets_differ : IsDistinct same (map (λ (d : Driver Signal). d.target) drivers)
   pub targets_combinational : (d : Driver Signal) → Contains drivers d → IsCombinational system d.target
   -- every signal is an input, a register or a target
@@ -70,5 +72,8 @@ pub record Ordered {Signal Point : Type 0} (system : System Signal Point) : Type
       → ((s : Signal) → IsTrue (system.is_register s) → e s ≡ f s)
       → ((s : Signal) → Contains (map (λ (b : Driver Signal). b.target) before) s → e s ≡ f s)
       → d.value e ≡ d.value f
-  -- a register's next value depends on the system's signals alone
-  pub next_within : (e f : Environment Signal) (s : Signal) → IsTrue (system.is_register s) → ((t : Signal) → Contains system.signals t → e t ≡ f t) → system.next e s ≡ system.next f s
+  -- a register's next value depends on registers and on the system's signals alone
+  pub next_within : (e f : Environment Signal) (s : Signal) → IsTrue (system.is_register s)
+      → ((t : Signal) → IsTrue (system.is_register t) → e t ≡ f t)
+      → ((t : Signal) → Contains system.signals t → e t ≡ f t)
+      → system.next e s ≡ system.next f s

@@ -13,12 +13,10 @@ ghost use Rattle.sv_system.specs.Facts.{Guarded, Ordered};
 /// it may: two traces that look alike to it have equal views for it.
 pub fn guarded_means_noninterferent<Signal, Point>()
     ensures { (system : System Signal Point) → Guarded system → Noninterferent system }
-{
-}
+{}
 
-/// Where the processes can be put in an order in which each reads only what is settled before it, each start and each
-/// list of inputs has exactly one trace.
+/// Where the combinational signals can be put in an order in which each value hangs on inputs, registers and earlier ones
+/// alone, each start and each list of inputs has exactly one trace.
 pub fn ordered_means_one_trace<Signal, Point>()
     ensures { (system : System Signal Point) → Ordered system → HasOneTrace system }
-{
-}
+{}

@@ -3,3 +3,4 @@ pub mod Declarations
 pub mod Processes
 pub mod Order
 pub mod Drivers
+pub mod OneTrace

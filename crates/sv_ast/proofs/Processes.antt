@@ -58,7 +58,7 @@ abbrev pub driver_of : Process → Driver (List ℕ)
 driver_of p = record { target = target_of p.body; value = assigned p.body }
 
 -- a blocking assignment changes the environment at its target alone
-run_blocking : (s : StatementTree) → IsTrue (is_blocking s) → run_of s ≡ put_of (record { target = target_of s; value = assigned s })
+pub run_blocking : (s : StatementTree) → IsTrue (is_blocking s) → run_of s ≡ put_of (record { target = target_of s; value = assigned s })
 run_blocking (assignment target true x) blocking = refl
 run_blocking (assignment target false x) blocking = absurd (false≢true blocking)
 
@@ -101,14 +101,6 @@ unclocked ps = filter (λ (p : Process). is_none p.clock) ps
 
 abbrev pub targets_of : List Process → List (List ℕ)
 targets_of ps = map (λ (p : Process). target_of p.body) ps
-
--- the runs of blocking processes are those of their drivers
-pub runs_are : (ps : List Process) → ((p : Process) → Contains ps p → IsTrue (is_blocking p.body))
-    → map (λ (p : Process). run_of p.body) ps ≡ map put_of (map driver_of ps)
-runs_are [] blocking = refl
-runs_are (p ∷ ps) blocking = ap₂ (λ h hs. h ∷ hs)
-    (run_blocking p.body (blocking p (Contains-head p ps)))
-    (runs_are ps (λ q at. blocking q (Contains-later p ps q at)))
 
 pub driver_targets : (ps : List Process) → map (λ (d : Driver (List ℕ)). d.target) (map driver_of ps) ≡ targets_of ps
 driver_targets [] = refl

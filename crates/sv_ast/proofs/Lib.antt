@@ -4,3 +4,4 @@ pub mod Processes
 pub mod Order
 pub mod Drivers
 pub mod OneTrace
+pub mod Flow

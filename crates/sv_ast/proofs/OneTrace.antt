@@ -10,7 +10,7 @@ use Rattle.sv_ast.specs.Tree.{ModuleTree}
 use Rattle.sv_ast.specs.Meaning.{Process, processes, signals, is_input, is_register, is_register_kind, system}
 use Rattle.sv_ast.specs.Form.{reads_of, target_of, is_first_form}
 use Rattle.sv_ast.specs.Spelling.{is_shaped}
-use Rattle.sv_system.specs.System.{System, Fits, KindFits, HasOneTrace}
+use Rattle.sv_system.specs.System.{System, Fits, IsStill, KindFits, HasOneTrace}
 use Rattle.sv_system.specs.Facts.{IsCombinational, Driver, Ordered}
 use Rattle.sv_system.proofs.Lists.{Contains-filter, Contains-map, Contains-from_map}
 use Rattle.sv_system.proofs.OneTarget.{Puts, OneTarget, one_still_targets, one_targets_still}
@@ -66,6 +66,11 @@ module _ (m : ModuleTree) where
           let found = Contains-from_map driver_of assigns d at in
           (run_of found.0.body, Contains-map (λ (p : Process). run_of p.body) assigns found.0 found.1, subst (λ c. Puts bytes_eq c (run_of found.0.body)) found.2 (puts found.0 found.1));
     }
+
+    -- at rest the target of an `assign` has its value
+    pub assign_value : (e : List ℕ → ℕ) → IsStill (system m) e → (p : Process) → Contains (processes m) p → IsTrue (is_none p.clock) → e (target_of p.body) ≡ assigned p.body e
+    assign_value e still p at none = one_still_targets (system m) bytes_eq name_same name_itself drivers one_target e still (driver_of p)
+        (Contains-map driver_of assigns p (Contains-filter (λ (q : Process). is_none q.clock) (processes m) p at none))
 
   module _ (first : FirstForm m) where
     targets_apart : IsDistinct bytes_eq (map (λ (d : Driver (List ℕ)). d.target) drivers)

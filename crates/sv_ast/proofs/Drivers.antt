@@ -68,9 +68,9 @@ module _ (m : ModuleTree) (first : FirstForm m) where
       let d = name_declared m s (signal_name m s at) in
       let driven = list_all-at (λ (c : Decl). is_input_kind c.kind || holds (targets m) c.name) (declarations m) d.found first.driven d.among in
       let held : IsTrue (holds (targets m) d.found.name) = ⊎_elim
-          (λ input. absurd (both_ways (declared_as is_input_kind m s) (no_input_kind m s at no_input) (declared_kind m is_input_kind s d ∙ input)))
-          (λ held. held)
-          (or_cases (is_input_kind d.found.kind) (holds (targets m) d.found.name) driven) in
+      (λ input. absurd (both_ways (declared_as is_input_kind m s) (no_input_kind m s at no_input) (declared_kind m is_input_kind s d ∙ input)))
+      (λ held. held)
+      (or_cases (is_input_kind d.found.kind) (holds (targets m) d.found.name) driven) in
       let at_target = Contains-from_map (λ (p : Process). target_of p.body) (processes m) s (subst (Contains (targets m)) d.named (Contains-from_holds (targets m) d.found.name held)) in
       record { process = at_target.0; among = at_target.1; target = at_target.2 }
 

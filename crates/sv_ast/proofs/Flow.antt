@@ -67,7 +67,7 @@ module _ (m : ModuleTree) (shaped : IsTrue (is_shaped m)) (first : FirstForm m) 
       let read = used_read m s t used in
       let p = read.0.process in
       let none : is_some p.clock ≡ false = false_from_ne_true (is_some p.clock) (λ some.
-          both_ways (is_register m s) combinational.no_register (subst (λ n. IsTrue (is_register m n)) read.0.target (clocked_is_register m first p read.0.among some))) in
+      both_ways (is_register m s) combinational.no_register (subst (λ n. IsTrue (is_register m n)) read.0.target (clocked_is_register m first p read.0.among some))) in
       ⊎_elim
       (λ given. ⊎_elim
       (λ input. absurd (both_ways (is_input m t) read_combinational.no_input (read_input m first p read.0.among t read.1 input)))

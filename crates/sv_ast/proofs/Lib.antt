@@ -5,3 +5,5 @@ pub mod Order
 pub mod Drivers
 pub mod OneTrace
 pub mod Flow
+pub mod Leak
+pub mod DefaultFlows

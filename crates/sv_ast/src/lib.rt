@@ -5,7 +5,12 @@
 #![tactic(auto)]
 
 mod expression;
+mod laws;
 mod module;
 
 pub use expression::Expr;
+pub use laws::{
+    first_form_has_one_trace, flowing_form_is_noninterferent, flows_by_declared_pairs,
+    leak_falsifies_its_obligation,
+};
 pub use module::{Decl, DeclKind, Item, Module, Point, Stmt};

@@ -1,5 +1,5 @@
 -- One point flows to another exactly where declared pairs lead from it to the other.
-use Rattle.std.proofs.Common.{◌≡◌, Bool, true, false, List, [], ◌∷◌, ◌⊎◌, ⊎_elim, refl, sym, ap, subst}
+use Rattle.std.proofs.Common.{[], ⊎_elim, refl, subst}
 use Rattle.std.specs.Prelude.{◌↔◌, Contains, IsTrue}
 use Rattle.std.proofs.lemmas.Bool.{false≢true}
 use Rattle.sv_ast.specs.declared.module.Point.{Point}

@@ -1,19 +1,17 @@
 -- Which process drives a signal of a module of the first form.
-use Rattle.std.proofs.Common.{◌≡◌, ℕ, Bool, true, false, cond, not, ◌&&◌, ◌||◌, List, [], ◌∷◌, map, ◌⊎◌, inl, inr, ⊎_elim, refl, sym, ap, subst, ◌∙◌}
-use Rattle.std.specs.Prelude.{Contains, IsTrue, is_some, is_none, filter, if◌then◌else◌}
-use Rattle.std.specs.List.{list_all}
-use Rattle.std.proofs.lemmas.Bool.{false≢true, cases_Bool, both_ways, and_parts, and_cases, or_cases, not-true, not_from_false, and_left}
+use Rattle.std.proofs.Common.{◌≡◌, ℕ, false, not, ◌&&◌, ◌||◌, List, ⊎_elim, ap, subst, ◌∙◌}
+use Rattle.std.specs.Prelude.{Contains, IsTrue, is_some, is_none, if◌then◌else◌}
+use Rattle.std.proofs.lemmas.Bool.{both_ways, and_parts, and_cases, or_cases, not_from_false, and_left}
 use Rattle.sv_ast.specs.declared.module.Decl.{Decl}
-use Rattle.sv_ast.specs.declared.module.Point.{Point}
 use Rattle.sv_ast.specs.Names.{holds}
 use Rattle.sv_ast.specs.Tree.{ModuleTree}
 use Rattle.sv_ast.specs.Meaning.{Process, declarations, processes, declared_as, clocks, signals, is_input, is_register, is_register_kind, is_input_kind, system}
 use Rattle.sv_ast.specs.Form.{reads_of, target_of, targets, is_net_kind, target_fits}
 use Rattle.sv_system.specs.Facts.{IsCombinational}
-use Rattle.sv_system.proofs.Lists.{Contains-from_map, Contains-filter}
+use Rattle.sv_system.proofs.Lists.{Contains-from_map}
 use Rattle.sv_ast.proofs.Lists.{Contains-from_holds, list_all-at}
-use Rattle.sv_ast.proofs.Declarations.{FirstForm, Declared, net_no_input, net_no_register, register_no_input, input_no_register, declared_apart, declared_kind, name_declared, no_input_signal, signal_name, signal_no_clock, read_signal}
-use Rattle.sv_ast.proofs.Processes.{is_one_kind, unclocked}
+use Rattle.sv_ast.proofs.Declarations.{FirstForm, net_no_input, net_no_register, register_no_input, input_no_register, declared_apart, declared_kind, name_declared, no_input_signal, signal_name, signal_no_clock, read_signal}
+use Rattle.sv_ast.proofs.Processes.{is_one_kind}
 
 -- a process with this target
 pub record Drives (m : ModuleTree) (s : List ℕ) : Type 0 where

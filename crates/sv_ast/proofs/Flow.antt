@@ -1,26 +1,25 @@
 -- Where every obligation holds by the labels, no level learns more of a module of the first form than it may.
-use Rattle.std.proofs.Common.{◌≡◌, ℕ, ◌<◌, Bool, true, false, not, List, [], ◌∷◌, map, ◌⊎◌, inl, inr, ⊎_elim, refl, sym, ap, subst, ◌∙◌}
+use Rattle.std.proofs.Common.{◌≡◌, ℕ, ◌<◌, Bool, true, false, not, List, [], inr, ⊎_elim, refl, sym, subst, ◌∙◌}
 use Rattle.std.specs.Prelude.{Contains, IsTrue, is_some, filter, if◌then◌else◌}
 use Rattle.std.specs.List.{list_all, flat_map}
 use Rattle.std.specs.Str.{bytes_eq}
-use Rattle.std.proofs.lemmas.Bool.{false≢true, both_ways, cases_Bool, false_from_ne_true, not_from_false}
-use Rattle.std.proofs.lemmas.List.Elements.{All-contains}
+use Rattle.std.proofs.lemmas.Bool.{false≢true, both_ways, false_from_ne_true, not_from_false}
 use Rattle.sv_ast.specs.declared.module.Point.{Point}
 use Rattle.sv_ast.specs.declared.module.Point.TheVariants.{Low, High}
 use Rattle.sv_ast.specs.Names.{holds}
 use Rattle.sv_ast.specs.Tree.{ModuleTree}
-use Rattle.sv_ast.specs.Meaning.{Process, processes, signals, declared_as, clocks, is_input, is_input_kind, is_register, label_of, flows, system}
+use Rattle.sv_ast.specs.Meaning.{Process, processes, signals, is_input, is_register, label_of, flows, system}
 use Rattle.sv_ast.specs.Form.{reads_of, target_of, targets, is_first_form}
 use Rattle.sv_ast.specs.Obligations.{Obligation, reads_for, obligations, flow_holds}
 use Rattle.sv_ast.specs.Spelling.{is_shaped}
-use Rattle.sv_system.specs.System.{System, IsStill, Noninterferent}
+use Rattle.sv_system.specs.System.{IsStill, Noninterferent}
 use Rattle.sv_system.specs.Facts.{IsCombinational, Guarded}
 use Rattle.sv_system.proofs.Lists.{Contains-nil, Contains-filter, Contains-map}
 use Rattle.sv_system.proofs.Noninterference.{noninterference}
 use Rattle.sv_ast.proofs.Lists.{Contains-from_filter, Contains-flat_map, Contains-from_flat_map, Contains-from_holds, holds-from_Contains, list_all-at, name_same, name_itself}
 use Rattle.sv_ast.proofs.Declarations.{FirstForm, first_form_parts, read_signal}
-use Rattle.sv_ast.proofs.Processes.{assigned, assigned_agrees, has_its_statement, driver_of, targets_of, IsUpdated, last_agrees}
-use Rattle.sv_ast.proofs.Order.{IsGiven, place, reads_lower}
+use Rattle.sv_ast.proofs.Processes.{assigned, assigned_agrees, has_its_statement, last_agrees}
+use Rattle.sv_ast.proofs.Order.{place, reads_lower}
 use Rattle.sv_ast.proofs.Drivers.{Drives, register_no_input_here, clocked_is_register, read_input, combinational_driver, register_driver}
 use Rattle.sv_ast.proofs.OneTrace.{assign_value}
 

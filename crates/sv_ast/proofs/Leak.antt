@@ -1,16 +1,15 @@
 -- An obligation that fails by the labels is falsified by zeros.
-use Rattle.std.proofs.Common.{◌≡◌, ℕ, ◌<◌, ◌^◌, zero, suc, Bool, true, false, cond, List, [], ◌∷◌, replicate, length, refl, sym, subst, arith, pow_pos}
-use Rattle.std.specs.Prelude.{Contains, IsTrue, All, filter}
-use Rattle.std.specs.List.{list_all}
+use Rattle.std.proofs.Common.{◌≡◌, ℕ, ◌<◌, ◌^◌, Bool, false, List, [], ◌∷◌, replicate, length, refl, sym, subst, pow_pos}
+use Rattle.std.specs.Prelude.{Contains, IsTrue, filter}
 use Rattle.std.specs.Str.{bytes_eq}
 use Rattle.std.proofs.lemmas.Bool.{cond_both}
 use Rattle.std.proofs.lemmas.List.Elements.{All-weaker, All-contains_itself, All-cons, All-nil}
 use Rattle.sv_ast.specs.Tree.{ModuleTree}
 use Rattle.sv_ast.specs.Meaning.{signals, is_input, is_register, system}
 use Rattle.sv_ast.specs.Form.{is_first_form}
-use Rattle.sv_ast.specs.Obligations.{Obligation, flow_holds, Values, beside, zeros, Falsifies}
+use Rattle.sv_ast.specs.Obligations.{Obligation, flow_holds, beside, zeros, Falsifies}
 use Rattle.sv_ast.specs.Spelling.{is_shaped}
-use Rattle.sv_system.specs.System.{System, Environment, Settled, IsTrace, KindFits}
+use Rattle.sv_system.specs.System.{Environment, Settled, IsTrace, KindFits}
 use Rattle.sv_ast.proofs.OneTrace.{first_form_one_trace}
 
 -- beside a zero for each name stands zero

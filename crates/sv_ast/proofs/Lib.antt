@@ -7,3 +7,4 @@ pub mod OneTrace
 pub mod Flow
 pub mod Leak
 pub mod DefaultFlows
+pub mod Example

@@ -1,9 +1,9 @@
 -- What is contained in a list, through tests, filters and flattened lists; a name in a list of names.
-use Rattle.std.proofs.Common.{◌≡◌, ℕ, Bool, true, false, cond, not, ◌&&◌, ◌||◌, List, [], ◌∷◌, ◌++◌, map, Option, Some, None, ◌⊎◌, inl, inr, ⊎_elim, refl, sym, ap, subst, ◌∙◌}
+use Rattle.std.proofs.Common.{◌≡◌, ℕ, Bool, true, false, cond, not, List, [], ◌∷◌, Option, Some, None, ◌⊎◌, inl, inr, ⊎_elim, refl, sym, ap, subst, ◌∙◌}
 use Rattle.std.specs.Prelude.{Contains, filter, IsTrue}
-use Rattle.std.specs.List.{list_all, list_any, find, filter_map, flat_map, cons_option, IsDistinct, AllByRecursion}
+use Rattle.std.specs.List.{list_all, find, filter_map, flat_map, cons_option, IsDistinct, AllByRecursion}
 use Rattle.std.specs.Str.{bytes_eq}
-use Rattle.std.proofs.lemmas.Bool.{false≢true, cases_Bool, both_ways, and_parts, or_cases, or_left, or_right, or_parts, not-true, false_from_ne_true}
+use Rattle.std.proofs.lemmas.Bool.{false≢true, cases_Bool, both_ways, and_parts, or_cases, or_left, or_right, or_parts, not-true}
 use Rattle.std.proofs.lemmas.List.Elements.{Contains-append_left, Contains-append_right, Contains-append_cases}
 use Rattle.std.proofs.lemmas.Slice.Eq.{bytes_eq-Decides}
 use Rattle.sv_ast.specs.Names.{holds, all_differ}

@@ -1,25 +1,25 @@
 -- A module of the first form has one trace for each start and each list of inputs.
-use Rattle.std.proofs.Common.{◌≡◌, ℕ, ◌<◌, ◌^◌, Bool, true, false, List, [], ◌∷◌, ◌++◌, map, ◌⊎◌, inl, inr, ⊎_elim, refl, sym, ap, subst, ◌∙◌, get_or}
+use Rattle.std.proofs.Common.{◌≡◌, ℕ, ◌<◌, ◌^◌, false, List, [], ◌∷◌, ◌++◌, map, inl, ⊎_elim, sym, ap, subst, ◌∙◌}
 use Rattle.std.specs.Prelude.{Contains, IsTrue, is_none, is_some}
 use Rattle.std.specs.List.{IsDistinct}
 use Rattle.std.specs.Str.{bytes_eq}
-use Rattle.std.proofs.lemmas.Bool.{both_ways, cases_Bool, false≢true}
-use Rattle.std.proofs.lemmas.List.Elements.{All-weaker, All-contains, All-contains_itself}
-use Rattle.sv_ast.specs.Names.{holds, all_differ}
+use Rattle.std.proofs.lemmas.Bool.{both_ways, false≢true}
+use Rattle.std.proofs.lemmas.List.Elements.{All-weaker}
+use Rattle.sv_ast.specs.Names.{all_differ}
 use Rattle.sv_ast.specs.Tree.{ModuleTree}
 use Rattle.sv_ast.specs.Meaning.{Process, processes, signals, is_input, is_register, is_register_kind, system}
-use Rattle.sv_ast.specs.Form.{reads_of, target_of, is_first_form}
+use Rattle.sv_ast.specs.Form.{target_of, is_first_form}
 use Rattle.sv_ast.specs.Spelling.{is_shaped}
-use Rattle.sv_system.specs.System.{System, Fits, IsStill, KindFits, HasOneTrace}
+use Rattle.sv_system.specs.System.{IsStill, HasOneTrace}
 use Rattle.sv_system.specs.Facts.{IsCombinational, Driver, Ordered}
 use Rattle.sv_system.proofs.Lists.{Contains-filter, Contains-map, Contains-from_map}
 use Rattle.sv_system.proofs.OneTarget.{Puts, OneTarget, one_still_targets, one_targets_still}
 use Rattle.sv_system.proofs.OneTrace.{one_trace}
 use Rattle.sv_ast.proofs.Lists.{Contains-from_filter, name_same, name_itself, all_differ-distinct}
 use Rattle.sv_ast.proofs.Declarations.{FirstForm, first_form_parts, register_no_input, no_input_signal, read_signal}
-use Rattle.sv_ast.proofs.Processes.{expression_of, is_blocking, assigned, assigned_agrees, value_fits, run_of, put_of, run_blocking, has_its_statement, is_one_kind, driver_of, unclocked, targets_of, driver_targets, updates_of, IsUpdated, last_fits, last_agrees}
-use Rattle.sv_ast.proofs.Order.{IsGiven, unclocked_differ, Assigns, driver_assigns, driver_targets_of}
-use Rattle.sv_ast.proofs.Drivers.{input_no_register_here, assign_combinational, clocked_is_register, read_input, Drives, combinational_driver}
+use Rattle.sv_ast.proofs.Processes.{expression_of, assigned, assigned_agrees, value_fits, run_of, run_blocking, has_its_statement, is_one_kind, driver_of, unclocked, driver_targets, last_fits, last_agrees}
+use Rattle.sv_ast.proofs.Order.{unclocked_differ, driver_assigns, driver_targets_of}
+use Rattle.sv_ast.proofs.Drivers.{input_no_register_here, assign_combinational, clocked_is_register, read_input, combinational_driver}
 
 module _ (m : ModuleTree) where
   -- the processes without a clock, and their drivers

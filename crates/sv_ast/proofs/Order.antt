@@ -1,16 +1,16 @@
 -- What stands in order: each `assign` reads inputs, registers and targets of processes before it.
-use Rattle.std.proofs.Common.{◌≡◌, ℕ, zero, suc, ◌<◌, Bool, true, false, cond, not, ◌&&◌, ◌||◌, List, [], ◌∷◌, ◌++◌, map, Option, Some, None, ◌⊎◌, inl, inr, ⊎_elim, refl, sym, ap, subst, ◌∙◌, arith}
-use Rattle.std.specs.Prelude.{Contains, IsTrue, is_some, is_none, filter}
+use Rattle.std.proofs.Common.{◌≡◌, ℕ, suc, ◌<◌, Bool, true, false, cond, not, ◌||◌, List, [], ◌∷◌, ◌++◌, map, ◌⊎◌, inl, inr, ⊎_elim, sym, ap, subst, arith}
+use Rattle.std.specs.Prelude.{Contains, IsTrue, is_some, is_none}
 use Rattle.std.specs.List.{list_all}
 use Rattle.std.specs.Str.{bytes_eq}
-use Rattle.std.proofs.lemmas.Bool.{false≢true, cases_Bool, both_ways, and_parts, and_from, or_cases, not-true, not_from_false, false_from_ne_true}
+use Rattle.std.proofs.lemmas.Bool.{cases_Bool, both_ways, and_parts, and_from, or_cases, not-true, not_from_false, false_from_ne_true}
 use Rattle.sv_ast.specs.Names.{holds, all_differ}
 use Rattle.sv_ast.specs.Tree.{ModuleTree}
-use Rattle.sv_ast.specs.Meaning.{Process, processes, declared_as, is_register_kind, is_input_kind}
+use Rattle.sv_ast.specs.Meaning.{Process, declared_as, is_register_kind, is_input_kind}
 use Rattle.sv_ast.specs.Form.{reads_of, target_of, in_order, is_known}
 use Rattle.sv_system.specs.Facts.{Driver}
 use Rattle.sv_system.proofs.Lists.{Contains-head, Contains-later, Contains-cases, Contains-nil, Contains-map}
-use Rattle.sv_ast.proofs.Lists.{Contains-from_filter, Contains-from_holds, holds-from_Contains, list_all-at, name_same, name_itself}
+use Rattle.sv_ast.proofs.Lists.{Contains-from_holds, holds-from_Contains, list_all-at, name_same, name_itself}
 use Rattle.sv_ast.proofs.Processes.{driver_of, unclocked, targets_of, is_one_kind}
 
 -- Where no two processes have one target, no two of those without a clock have.

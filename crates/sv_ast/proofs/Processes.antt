@@ -2,17 +2,14 @@
 -- names that are read.
 use Rattle.std.proofs.Common.{◌≡◌, ℕ, ◌<◌, ◌%◌, ◌^◌, Bool, true, false, cond, not, ◌&&◌, List, [], ◌∷◌, ◌++◌, map, Option, Some, None, ◌⊎◌, inl, inr, ⊎_elim, refl, sym, ap, ap₂, subst, ◌∙◌, arith}
 use Rattle.std.specs.Prelude.{Contains, IsTrue, is_some, is_none, filter}
-use Rattle.std.specs.List.{list_all, flat_map, IsDistinct}
+use Rattle.std.specs.List.{list_all, flat_map}
 use Rattle.std.specs.Str.{bytes_eq}
 use Rattle.std.proofs.lemmas.Bool.{false≢true, cases_Bool, both_ways, and_parts, not-true, cond-true, cond-false, cond_both}
 use Rattle.std.proofs.lemmas.List.Elements.{Contains-append_left, Contains-append_right}
-use Rattle.sv_num.specs.declared.operators.UnOp.{UnOp}
-use Rattle.sv_num.specs.declared.operators.BinOp.{BinOp}
-use Rattle.sv_ast.specs.declared.module.Decl.{Decl}
 use Rattle.sv_ast.specs.Tree.{ExpressionTree, named, unary, binary, StatementTree, assignment, ItemTree, declared, continuous, clocked, ModuleTree}
-use Rattle.sv_ast.specs.Meaning.{unary_value, binary_value, value, run, Process, process_of, processes, updates, last_update}
+use Rattle.sv_ast.specs.Meaning.{unary_value, binary_value, value, run, Process, process_of, processes, last_update}
 use Rattle.sv_ast.specs.Form.{reads, target_of, reads_of}
-use Rattle.sv_ast.specs.Spelling.{is_name, is_port, is_expression, is_statement, is_item, is_shaped}
+use Rattle.sv_ast.specs.Spelling.{is_name, is_expression, is_statement, is_item, is_shaped}
 use Rattle.sv_system.specs.Facts.{put, Driver}
 use Rattle.sv_system.proofs.Lists.{Contains-head, Contains-later, Contains-cases, Contains-nil}
 use Rattle.sv_ast.proofs.Lists.{Contains-from_filter_map, list_all-at, name_same, name_itself}

@@ -1,5 +1,5 @@
 -- What is contained in a list, through tests, filters and flattened lists; a name in a list of names.
-use Rattle.std.proofs.Common.{◌≡◌, ℕ, Bool, true, false, cond, not, List, [], ◌∷◌, Option, Some, None, ◌⊎◌, inl, inr, ⊎_elim, refl, sym, ap, subst, ◌∙◌}
+use Rattle.std.proofs.Common.{◌≡◌, ℕ, Bool, true, false, cond, not, List, [], ◌∷◌, Option, Some, None, ◌⊎◌, inl, inr, ⊎_elim, refl, sym, ap, subst}
 use Rattle.std.specs.Prelude.{Contains, filter, IsTrue}
 use Rattle.std.specs.List.{list_all, find, filter_map, flat_map, cons_option, IsDistinct, AllByRecursion}
 use Rattle.std.specs.Str.{bytes_eq}
@@ -59,23 +59,12 @@ module _ {X Y : Type 0} (f : X → Option Y) where
   option_cases None ys y at = inr at
   option_cases (Some z) ys y at = ⊎_elim (λ e. inl (ap (λ w. Some w) e)) inr (Contains-cases z ys y at)
 
-  option_later : (o : Option Y) (ys : List Y) (y : Y) → Contains ys y → Contains (cons_option o ys) y
-  option_later None ys y at = at
-  option_later (Some z) ys y at = Contains-later z ys y at
-
   pub Contains-from_filter_map : (xs : List X) (y : Y) → Contains (filter_map f xs) y → (x : X) × Contains xs x × (f x ≡ Some y)
   Contains-from_filter_map [] y at = absurd (Contains-nil y at)
   Contains-from_filter_map (x ∷ xs) y at = ⊎_elim
       (λ is. (x, Contains-head x xs, is))
       (λ inside. let found = Contains-from_filter_map xs y inside in (found.0, Contains-later x xs found.0 found.1, found.2))
       (option_cases (f x) (filter_map f xs) y at)
-
-  pub Contains-filter_map : (xs : List X) (x : X) (y : Y) → Contains xs x → f x ≡ Some y → Contains (filter_map f xs) y
-  Contains-filter_map [] x y at is = absurd (Contains-nil x at)
-  Contains-filter_map (z ∷ zs) x y at is = ⊎_elim
-      (λ e. subst (λ o. Contains (cons_option o (filter_map f zs)) y) (sym is ∙ ap f (sym e)) (Contains-head y (filter_map f zs)))
-      (λ inside. option_later (f z) (filter_map f zs) y (Contains-filter_map zs x y inside is))
-      (Contains-cases z zs x at)
 
 module _ {X Y : Type 0} (f : X → List Y) where
   pub Contains-flat_map : (xs : List X) (x : X) (y : Y) → Contains xs x → Contains (f x) y → Contains (flat_map f xs) y

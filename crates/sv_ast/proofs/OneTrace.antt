@@ -7,7 +7,7 @@ use Rattle.std.proofs.lemmas.Bool.{both_ways, false≢true}
 use Rattle.std.proofs.lemmas.List.Elements.{All-weaker}
 use Rattle.sv_ast.specs.Names.{all_differ}
 use Rattle.sv_ast.specs.Tree.{ModuleTree}
-use Rattle.sv_ast.specs.Meaning.{Process, processes, signals, is_input, is_register, is_register_kind, system}
+use Rattle.sv_ast.specs.Meaning.{Process, processes, signals, is_input, is_register, system}
 use Rattle.sv_ast.specs.Form.{target_of, is_first_form}
 use Rattle.sv_ast.specs.Spelling.{is_shaped}
 use Rattle.sv_system.specs.System.{IsStill, HasOneTrace}
@@ -16,7 +16,7 @@ use Rattle.sv_system.proofs.Lists.{Contains-filter, Contains-map, Contains-from_
 use Rattle.sv_system.proofs.OneTarget.{Puts, OneTarget, one_still_targets, one_targets_still}
 use Rattle.sv_system.proofs.OneTrace.{one_trace}
 use Rattle.sv_ast.proofs.Lists.{Contains-from_filter, name_same, name_itself, all_differ-distinct}
-use Rattle.sv_ast.proofs.Declarations.{FirstForm, first_form_parts, register_no_input, no_input_signal, read_signal}
+use Rattle.sv_ast.proofs.Declarations.{FirstForm, first_form_parts, read_signal}
 use Rattle.sv_ast.proofs.Processes.{expression_of, assigned, assigned_agrees, value_fits, run_of, run_blocking, has_its_statement, is_one_kind, driver_of, unclocked, driver_targets, last_fits, last_agrees}
 use Rattle.sv_ast.proofs.Order.{unclocked_differ, driver_assigns, driver_targets_of}
 use Rattle.sv_ast.proofs.Drivers.{input_no_register_here, assign_combinational, clocked_is_register, read_input, combinational_driver}
@@ -93,9 +93,6 @@ module _ (m : ModuleTree) where
     driver_fits d at e =
         let found = from d at in
         subst (λ (c : Driver (List ℕ)). c.value e < 2 ^ 1) found.is (value_fits (expression_of found.process.body) e)
-
-    register_signal : (s : List ℕ) → IsTrue (is_register m s) → Contains (signals m) s
-    register_signal s register = no_input_signal m first is_register_kind register_no_input s register
 
     -- the value of a driver is that of an expression whose reads are given or targets of drivers before
     earlier_agree : (before after : List (Driver (List ℕ))) (d : Driver (List ℕ)) → drivers ≡ before ++ d ∷ after → (e f : List ℕ → ℕ)

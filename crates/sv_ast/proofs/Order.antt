@@ -44,9 +44,6 @@ abbrev pub place : List (List ℕ) → List ℕ → ℕ
 place [] n = 0
 place (m ∷ names) n = cond (bytes_eq m n) 0 (suc (place names n))
 
-place_hit : (t : List ℕ) (names : List (List ℕ)) → place (t ∷ names) t ≡ 0
-place_hit t names = ap (λ b. cond b 0 (suc (place names t))) (name_itself t)
-
 place_miss : (t : List ℕ) (names : List (List ℕ)) (n : List ℕ) → (t ≡ n → ⊥) → place (t ∷ names) n ≡ suc (place names n)
 place_miss t names n apart = ap (λ b. cond b 0 (suc (place names n))) (false_from_ne_true (bytes_eq t n) (λ same. apart (name_same t n same)))
 

@@ -4,3 +4,4 @@ pub mod Meaning
 pub mod Form
 pub mod Spelling
 pub mod Obligations
+pub mod Lattice

@@ -1,0 +1,10 @@
+pub mod Lists
+pub mod Declarations
+pub mod Processes
+pub mod Order
+pub mod Drivers
+pub mod OneTrace
+pub mod Flow
+pub mod Leak
+pub mod DefaultFlows
+pub mod Example

@@ -5,5 +5,10 @@
 #![tactic(auto)]
 
 mod outcome;
+mod report;
+mod text;
+mod top;
+mod words;
 
 pub use outcome::{Broken, Outcome, UsageKind, Valuation};
+pub use top::run;

@@ -1,0 +1,28 @@
+-- What a report has to be.
+use Rattle.sv_io.specs.Cabinet.{bytes_under}
+use Rattle.std.specs.Prelude.{◌≡◌, ℕ, Bool, IsTrue, List, Option, Some, length, replicate}
+use Rattle.sv_ast.specs.Obligations.{Values}
+use Rattle.sv_flow.specs.declared.leak.Leak.{Leak}
+use Rattle.sv_cli.specs.declared.outcome.Outcome.{Outcome}
+use Rattle.sv_cli.specs.declared.outcome.Outcome.TheVariants.{Done}
+use Rattle.sv_cli.specs.Answer.{Answer, answer_of, IsVerdict, KeepsSecrets}
+
+-- 0 for each register and input
+abbrev pub zeros_for : Leak → Values
+zeros_for leak = record {
+  registers = replicate (length leak.registers.items) 0;
+  inputs = replicate (length leak.inputs.items) 0;
+  next_inputs = replicate (length leak.inputs.items) 0;
+}
+
+-- the outcome and what is printed with it are those of the text, and no others are
+pub record Decides (text : List ℕ) (outcome : Outcome) (printed : List ℕ) : Type 0 where
+  pub answer : Answer
+  pub gives : answer_of outcome ≡ Some answer
+  pub verdict : IsVerdict text answer printed
+  pub only : (other : Answer) (others : List ℕ) → IsVerdict text other others → (other ≡ answer) × (others ≡ printed)
+  pub secrets : outcome ≡ Done → KeepsSecrets text
+
+-- the text is what the cabinet holds under the name, where it tells what it holds
+abbrev pub IsTold : Bool → (List ℕ → Option (List ℕ)) → List ℕ → List ℕ → Type 0
+IsTold tells held file text = IsTrue tells → text ≡ bytes_under held file

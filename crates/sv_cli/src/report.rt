@@ -1,0 +1,108 @@
+// What is answered, and the text that says so.
+ghost use Rattle.std.specs.Prelude.{◌≡◌, ◌≤◌, [], Some, IfOk, length, replicate};
+ghost use Rattle.sv_cli.specs.Text.{usage_text, accepted_text, not_built_text, file_size_text, flow_text};
+ghost use Rattle.sv_cli.specs.Answer.{answer_of, accepted, rule_broken, limit_passed, falsified, misused, largest_file};
+ghost use Rattle.sv_cli.specs.Report.{Decides, zeros_for};
+
+use crate::outcome::{Broken, Outcome, UsageKind, Valuation};
+use crate::text;
+use std::alloc::{AllocError, Global};
+use sv_first::read_module;
+use sv_flow::{Finding, Leak, check};
+use sv_num::{Place, Refusal};
+
+// An outcome, and all that is to be written with it.
+#[derive(Drop)]
+pub struct Report {
+    pub outcome: Outcome,
+    pub text: Vec<u8>,
+}
+
+pub fn misused(alloc: Global, kind: UsageKind) -> Result<Report, AllocError>
+    ensures answer { IfOk result (λ report. answer_of report.outcome ≡ Some (misused kind)) }
+    ensures text { IfOk result (λ report. report.text.items ≡ usage_text kind) }
+{
+    let text = text::usage_text(alloc, kind)?;
+    Ok(Report {
+        outcome: Outcome::Usage(kind),
+        text,
+    })
+}
+
+pub fn file_too_large(alloc: Global) -> Result<Report, AllocError>
+    ensures answer { IfOk result (λ report. answer_of report.outcome ≡ Some (limit_passed 701 [])) }
+    ensures text { IfOk result (λ report. report.text.items ≡ file_size_text) }
+{
+    let text = Vec::from_slice(alloc, b"refused 701 file-size\n")?;
+    Ok(Report {
+        outcome: Outcome::Refused(Broken::Limit(701, Vec::new(alloc))),
+        text,
+    })
+}
+
+fn not_built(alloc: Global) -> Result<Report, AllocError>
+    ensures answer { IfOk result (λ report. answer_of report.outcome ≡ Some (rule_broken 199 (record { line = 1; column = 1 }) [])) }
+    ensures text { IfOk result (λ report. report.text.items ≡ not_built_text) }
+{
+    let text = Vec::from_slice(alloc, b"refused 199 not-built 1:1\n")?;
+    let refusal = Refusal {
+        number: 199,
+        place: Place { line: 1, column: 1 },
+        names: Vec::new(alloc),
+    };
+    Ok(Report {
+        outcome: Outcome::Refused(Broken::Rule(refusal)),
+        text,
+    })
+}
+
+fn holding(alloc: Global, count: u32) -> Result<Report, AllocError>
+    ensures answer { IfOk result (λ report. answer_of report.outcome ≡ Some accepted) }
+    ensures text { IfOk result (λ report. report.text.items ≡ accepted_text count) }
+{
+    let text = text::accepted_text(alloc, count)?;
+    Ok(Report {
+        outcome: Outcome::Done,
+        text,
+    })
+}
+
+// All values are 0: labels without selectors fail at any values.
+fn zeros(alloc: Global, leak: &Leak) -> Result<Valuation, AllocError>
+    ensures registers { IfOk result (λ v. v.regs.items ≡ replicate (length leak.now.registers.items) 0) }
+    ensures inputs { IfOk result (λ v. v.inputs.items ≡ replicate (length leak.now.inputs.items) 0) }
+    ensures next_inputs { IfOk result (λ v. v.next_inputs.items ≡ replicate (length leak.now.inputs.items) 0) }
+{
+    Ok(Valuation {
+        regs: vec![in alloc; 0; leak.registers.len()]?,
+        inputs: vec![in alloc; 0; leak.inputs.len()]?,
+        next_inputs: vec![in alloc; 0; leak.inputs.len()]?,
+    })
+}
+
+fn failing(alloc: Global, leak: &Leak) -> Result<Report, AllocError>
+    ensures answer { IfOk result (λ report. answer_of report.outcome ≡ Some (falsified leak.now.obligation (zeros_for leak.now))) }
+    ensures text { IfOk result (λ report. report.text.items ≡ flow_text leak.now.obligation leak.now.target leak.now.read leak.now.clocked leak.now.registers.items leak.now.inputs.items (zeros_for leak.now)) }
+{
+    let values = zeros(alloc, leak)?;
+    let text = text::leak_text(alloc, leak, &values)?;
+    Ok(Report {
+        outcome: Outcome::Refused(Broken::Fails(leak.obligation, values)),
+        text,
+    })
+}
+
+// The answer to a text within the limit.
+pub fn report_on(alloc: Global, bytes: &[u8]) -> Result<Report, AllocError>
+    requires { length bytes.now ≤ largest_file }
+    ensures { IfOk result (λ report. Decides bytes.now report.outcome report.text.items) }
+{
+    let Some(module) = read_module(alloc, bytes)? else {
+        return not_built(alloc);
+    };
+    match check(alloc, &module)? {
+        None => not_built(alloc),
+        Some(Finding::Holds(count)) => holding(alloc, count),
+        Some(Finding::Leaks(leak)) => failing(alloc, &leak),
+    }
+}

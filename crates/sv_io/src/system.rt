@@ -7,7 +7,8 @@ use std::io::{ErrorKind, Read, Write};
 use std::rt::Files;
 use std::{fs, io};
 
-/// The files of the system, by their paths. What they hold is not told, and one count stands for all.
+/// The files of the system, by their paths. What they hold is not told. One count, which goes up at
+/// each error of the system, is the count of every name.
 #[derive(Drop)]
 pub struct FileCabinet<R: Files> {
     runtime: R,
@@ -17,8 +18,10 @@ pub struct FileCabinet<R: Files> {
 impl<R: Files> FileCabinet<R> {
     /// Over the files that the runtime reaches.
     pub fn new(runtime: R) -> FileCabinet<R>
-        ensures fetches { (name : List ℕ) → ⟦<FileCabinet<R> as Cabinet>⟧.fetch_faults result name ≡ 0 }
-        ensures stores { (name : List ℕ) → ⟦<FileCabinet<R> as Cabinet>⟧.store_faults result name ≡ 0 }
+        ensures fetches { (name : List ℕ) →
+            ⟦<FileCabinet<R> as Cabinet>⟧.fetch_faults result name ≡ 0 }
+        ensures stores { (name : List ℕ) →
+            ⟦<FileCabinet<R> as Cabinet>⟧.store_faults result name ≡ 0 }
     {
         FileCabinet { runtime, faults: 0 }
     }

@@ -1,12 +1,12 @@
 use thiserror::Error;
 
 /// A call failed, and the object's count of faults rose.
-#[derive(Clone, Copy, Debug, Error)]
+#[derive(Clone, Copy, Debug, PartialEq, Eq, Error)]
 #[error("the input failed")]
 pub struct Failed;
 
 /// Why a cabinet hands out no bytes.
-#[derive(Debug, Drop, Error)]
+#[derive(Debug, PartialEq, Eq, Drop, Error)]
 pub enum FetchFault {
     /// The fetch failed, and the name's count of failed fetches rose.
     #[error("the file could not be read")]
@@ -20,7 +20,7 @@ pub enum FetchFault {
 }
 
 /// Why a cabinet did not take the bytes.
-#[derive(Clone, Copy, Debug, Error)]
+#[derive(Clone, Copy, Debug, PartialEq, Eq, Error)]
 pub enum StoreFault {
     /// The store failed, and the name's count of failed stores rose.
     #[error("the file could not be written")]
@@ -31,7 +31,7 @@ pub enum StoreFault {
 }
 
 /// Why a sink did not take the bytes.
-#[derive(Clone, Copy, Debug, Error)]
+#[derive(Clone, Copy, Debug, PartialEq, Eq, Error)]
 pub enum PutFault {
     /// The put failed, and the sink's count of faults rose.
     #[error("the output could not be written")]

@@ -29,8 +29,10 @@ pub fn put_file(
     bytes: &[u8],
 ) -> Result<(), AllocError>
     ensures held { OnOk result (files_held files.new name.now ≡ Some bytes.now) }
-    ensures others { (other : List ℕ) → other ≢ name.now → files_held files.new other ≡ files_held files.old other }
-    ensures refused { OnErr result ((other : List ℕ) → files_held files.new other ≡ files_held files.old other) }
+    ensures others { (other : List ℕ) → other ≢ name.now →
+        files_held files.new other ≡ files_held files.old other }
+    ensures refused { OnErr result
+        ((other : List ℕ) → files_held files.new other ≡ files_held files.old other) }
 {
     let name = String::from_str(alloc, name)?;
     let bytes = Vec::from_slice(alloc, bytes)?;
@@ -61,9 +63,12 @@ pub type Counts = BTreeMap<String, u64>;
 
 /// Counts one more for the name, up to the greatest u64. Refused, it changes nothing.
 pub fn count_one(counts: &mut Counts, alloc: Global, name: &str) -> Result<(), AllocError>
-    ensures counted { OnOk result (count_of counts.new name.now ≡ one_more (count_of counts.old name.now)) }
-    ensures others { (other : List ℕ) → other ≢ name.now → count_of counts.new other ≡ count_of counts.old other }
-    ensures refused { OnErr result ((other : List ℕ) → count_of counts.new other ≡ count_of counts.old other) }
+    ensures counted { OnOk result
+        (count_of counts.new name.now ≡ one_more (count_of counts.old name.now)) }
+    ensures others { (other : List ℕ) → other ≢ name.now →
+        count_of counts.new other ≡ count_of counts.old other }
+    ensures refused { OnErr result
+        ((other : List ℕ) → count_of counts.new other ≡ count_of counts.old other) }
     ensures no_fewer { (other : List ℕ) → count_of counts.old other ≤ count_of counts.new other }
 {
     let count = counts.get(name).copied().unwrap_or(0).saturating_add(1);

@@ -1,5 +1,5 @@
-//! The outside of the checker: files by name, an input and an output, each as a trait that says what an
-//! object holds and how often it failed, with objects in memory and over the real system.
+//! The outside of the checker: files by name, an input and an output, each as a trait that says what
+//! an object holds and how often it failed, with objects in memory and over the real system.
 #![tactic(auto)]
 
 mod calls;
@@ -8,10 +8,15 @@ mod files;
 mod mem;
 mod pieces;
 mod sure;
+mod system;
 mod traits;
 
 pub use faults::{Failed, FetchFault, PutFault, StoreFault};
 pub use mem::{MemCabinet, MemSink, MemSource};
 pub use std::alloc::AllocError as OutOfMemory;
 pub use sure::{SureCabinet, SureSink, SureSource};
+pub use system::{FileCabinet, StdSink, StdSource};
 pub use traits::{Cabinet, Sink, Source, put_all};
+
+#[cfg(test)]
+mod tests;

@@ -11,8 +11,8 @@ use super::pieces::copy_front;
 use super::traits::{Cabinet, Sink, Source};
 use std::alloc::Global;
 
-/// A cabinet in memory. Its fetches and stores are numbered together from 1, and those whose numbers it was
-/// given fail. A fetch of a name that it does not hold fails too.
+/// A cabinet in memory. Its fetches and stores are numbered together from 1, and those whose numbers
+/// it was given fail. A fetch of a name that it does not hold fails too.
 #[derive(Drop)]
 pub struct MemCabinet {
     files: Files,
@@ -25,8 +25,8 @@ pub struct MemCabinet {
 impl MemCabinet {
     ghost use Rattle.sv_io.specs.Mem.{mem_held, fetch_faults_of, store_faults_of, cabinet_calls, cabinet_failing};
 
-    /// A cabinet that holds no name. The calls whose numbers stand in `failing` will fail; numbers of calls
-    /// stop at the greatest u64.
+    /// A cabinet that holds no name. The calls whose numbers stand in `failing` will fail; numbers of
+    /// calls stop at the greatest u64.
     pub fn new(alloc: Global, failing: Vec<u32>) -> MemCabinet
         ensures holds_none { (name : List ℕ) → mem_held result name ≡ None }
         ensures no_fetch_failed { (name : List ℕ) → fetch_faults_of result name ≡ 0 }
@@ -53,10 +53,14 @@ impl MemCabinet {
     /// Puts the bytes under the name. It is no call that is numbered. Refused, it changes nothing.
     pub fn hold(&mut self, name: &str, bytes: &[u8]) -> Result<(), OutOfMemory>
         ensures held { OnOk result (mem_held self.new name.now ≡ Some bytes.now) }
-        ensures others { (other : List ℕ) → other ≢ name.now → mem_held self.new other ≡ mem_held self.old other }
-        ensures refused { OnErr result ((other : List ℕ) → mem_held self.new other ≡ mem_held self.old other) }
-        ensures fetch_counts { (other : List ℕ) → fetch_faults_of self.new other ≡ fetch_faults_of self.old other }
-        ensures store_counts { (other : List ℕ) → store_faults_of self.new other ≡ store_faults_of self.old other }
+        ensures others { (other : List ℕ) → other ≢ name.now →
+            mem_held self.new other ≡ mem_held self.old other }
+        ensures refused { OnErr result
+            ((other : List ℕ) → mem_held self.new other ≡ mem_held self.old other) }
+        ensures fetch_counts { (other : List ℕ) →
+            fetch_faults_of self.new other ≡ fetch_faults_of self.old other }
+        ensures store_counts { (other : List ℕ) →
+            store_faults_of self.new other ≡ store_faults_of self.old other }
         ensures calls { cabinet_calls self.new ≡ cabinet_calls self.old }
         ensures failing { cabinet_failing self.new ≡ cabinet_failing self.old }
     {
@@ -115,7 +119,8 @@ impl Cabinet for MemCabinet {
     fn fetch(&mut self, alloc: Global, name: &str, limit: u64) -> Result<Vec<u8>, FetchFault>
         requires { limit < 18446744073709551615 }
 
-        ensures whole { IfOk result (λ bytes. bytes.items ≡ bytes_under (mem_held self.old) name.now) }
+        ensures whole { IfOk result
+            (λ bytes. bytes.items ≡ bytes_under (mem_held self.old) name.now) }
         ensures within { IfOk result (λ bytes. vec_len bytes ≤ limit) }
         ensures long_length { IfLong result (λ bytes. length bytes ≡ limit + 1) }
         ensures long_front { IfLong result
@@ -207,8 +212,8 @@ pub struct MemSource {
 impl MemSource {
     ghost use Rattle.sv_io.specs.Mem.{mem_left, source_calls, source_faults, source_failing, source_most};
 
-    /// A source with these bytes left, of which a take moves at most `most`. The takes whose numbers stand in
-    /// `failing` will fail; numbers of takes stop at the greatest u64.
+    /// A source with these bytes left, of which a take moves at most `most`. The takes whose numbers
+    /// stand in `failing` will fail; numbers of takes stop at the greatest u64.
     pub fn new(bytes: Vec<u8>, failing: Vec<u32>, most: usize) -> MemSource
         requires { 1 ≤ most }
         ensures left { mem_left result ≡ bytes.items }
@@ -237,8 +242,8 @@ impl Source for MemSource {
     ghost faults = { source_faults };
 
     fn take(&mut self, buf: &mut [u8]) -> Result<usize, Failed>
-        ensures moved { IfOk result (λ count.
-            count ≡ min (source_most self.old) (min (length (mem_left self.old)) (length buf.old))) }
+        ensures moved { IfOk result (λ count. count ≡
+            min (source_most self.old) (min (length (mem_left self.old)) (length buf.old))) }
         ensures within { IfOk result (λ count. count ≤ length buf.new) }
         ensures taken { IfOk result (λ count.
             mem_left self.old ≡ take count buf.new ++ mem_left self.new) }
@@ -250,7 +255,8 @@ impl Source for MemSource {
         ensures number { source_calls self.new ≡ one_more (source_calls self.old) }
         ensures failed { IsErr result ↔
             IsTrue (is_failing (source_failing self.old) (source_calls self.new)) }
-        ensures counted { OnErr result (source_faults self.new ≡ one_more (source_faults self.old)) }
+        ensures counted { OnErr result
+            (source_faults self.new ≡ one_more (source_faults self.old)) }
         ensures not_counted { OnOk result (source_faults self.new ≡ source_faults self.old) }
         ensures counts { source_faults self.old ≤ source_faults self.new }
 
@@ -280,8 +286,8 @@ pub struct MemSink {
 impl MemSink {
     ghost use Rattle.sv_io.specs.Mem.{mem_written, sink_calls, sink_faults, sink_failing, sink_most};
 
-    /// A sink to which nothing was written. A put moves at most `most` bytes. The puts whose numbers stand in
-    /// `failing` will fail; numbers of puts stop at the greatest u64.
+    /// A sink to which nothing was written. A put moves at most `most` bytes. The puts whose numbers
+    /// stand in `failing` will fail; numbers of puts stop at the greatest u64.
     pub fn new(alloc: Global, failing: Vec<u32>, most: usize) -> MemSink
         requires { 1 ≤ most }
         ensures written { mem_written result ≡ [] }

@@ -38,8 +38,10 @@ impl SureCabinet {
     /// Puts the bytes under the name. Refused, it changes nothing.
     pub fn hold(&mut self, name: &str, bytes: &[u8]) -> Result<(), OutOfMemory>
         ensures held { OnOk result (sure_held self.new name.now ≡ Some bytes.now) }
-        ensures others { (other : List ℕ) → other ≢ name.now → sure_held self.new other ≡ sure_held self.old other }
-        ensures refused { OnErr result ((other : List ℕ) → sure_held self.new other ≡ sure_held self.old other) }
+        ensures others { (other : List ℕ) → other ≢ name.now →
+            sure_held self.new other ≡ sure_held self.old other }
+        ensures refused { OnErr result
+            ((other : List ℕ) → sure_held self.new other ≡ sure_held self.old other) }
     {
         put_file(&mut self.files, self.alloc, name, bytes)
     }

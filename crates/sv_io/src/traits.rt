@@ -20,7 +20,8 @@ pub trait Cabinet {
     // How often stores under each name have failed.
     ghost store_faults: { Self → List ℕ → ℕ };
 
-    /// All the bytes under the name, where there are at most `limit`. It changes nothing that is held.
+    /// All the bytes under the name, where there are at most `limit`. A name that is not held has none.
+    /// It changes nothing that is held.
     fn fetch(&mut self, alloc: Global, name: &str, limit: u64) -> Result<Vec<u8>, FetchFault>
         requires { limit < 18446744073709551615 }
 
@@ -28,7 +29,7 @@ pub trait Cabinet {
             IfOk result (λ bytes. bytes.items ≡ bytes_under (held self.old) name.now) }
         ensures within { IfOk result (λ bytes. vec_len bytes ≤ limit) }
 
-        // `Long` is told only of more bytes than the limit, and carries the first limit + 1 of them.
+        // `Long` comes only of more bytes than the limit, and carries the first limit + 1 of them.
         ensures long_length { IfLong result (λ bytes. length bytes ≡ limit + 1) }
         ensures long_front { IsTrue tells →
             IfLong result
@@ -72,8 +73,8 @@ pub trait Source {
     // How often a take has failed.
     ghost faults: { Self → ℕ };
 
-    /// Puts the next bytes at the front of `buf`, and says how many. For a `buf` that is not empty, 0 is the
-    /// end of the input. A take that fails takes nothing.
+    /// Puts the next bytes at the front of `buf`, and says how many. For a `buf` that is not empty, 0
+    /// is the end of the input. A take that fails takes nothing.
     fn take(&mut self, buf: &mut [u8]) -> Result<usize, Failed>
         ensures within { IfOk result (λ count. count ≤ length buf.new) }
         ensures taken { IsTrue tells →
@@ -96,7 +97,7 @@ pub trait Sink {
     // How often a put has failed.
     ghost faults: { Self → ℕ };
 
-    /// Writes the front of the piece, at least one byte, and says how many. A put that is refused writes nothing.
+    /// Writes the front of the piece, at least one byte, and says how many. Refused, it writes nothing.
     fn put(&mut self, piece: &[u8]) -> Result<usize, PutFault>
         requires { 0 < length piece.now }
         ensures some { IfOk result (λ count. 0 < count) }

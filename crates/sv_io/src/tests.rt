@@ -1,0 +1,163 @@
+use crate::*;
+use std::alloc::Global;
+use std::io::{ErrorKind, Read, Write};
+use std::test::Fail;
+use std::{fs, io};
+
+#[test]
+fn a_sure_cabinet_hands_out_what_it_took(rt: HostRuntime) -> Result<(), Fail> {
+    let alloc = rt.alloc();
+    let mut cabinet = SureCabinet::new(alloc);
+    cabinet.hold("a", b"xyz")?;
+    cabinet.store("b", b"old")?;
+    cabinet.store("b", b"new")?;
+    assert_eq!(rt; cabinet.fetch(alloc, "a", 3)?.as_slice(), b"xyz".as_slice());
+    assert_eq!(rt; cabinet.fetch(alloc, "b", 9)?.as_slice(), b"new".as_slice());
+    assert_eq!(rt; cabinet.fetch(alloc, "c", 0)?.len(), 0);
+    let long = FetchFault::Long(Vec::from_slice(alloc, b"xy")?);
+    assert_eq!(rt; cabinet.fetch(alloc, "a", 1), Err(long));
+    assert!(rt; cabinet.bytes("c").is_none());
+    assert!(rt; cabinet.bytes("a").is_some());
+    Ok(())
+}
+
+#[test]
+fn a_cabinet_fails_at_its_numbers(rt: HostRuntime) -> Result<(), Fail> {
+    let alloc = rt.alloc();
+    let mut cabinet = MemCabinet::new(alloc, Vec::from_slice(alloc, &[2, 4])?);
+    cabinet.hold("a", b"xyz")?;
+    assert_eq!(rt; cabinet.fetch(alloc, "a", 3)?.as_slice(), b"xyz".as_slice());
+    assert_eq!(rt; cabinet.fetch(alloc, "a", 3), Err(FetchFault::Failed));
+    cabinet.store("b", b"new")?;
+    assert_eq!(rt; cabinet.store("a", b"new"), Err(StoreFault::Failed));
+    assert_eq!(rt; cabinet.fetch(alloc, "c", 3), Err(FetchFault::Failed));
+    assert_eq!(rt; cabinet.fetch(alloc, "a", 3)?.as_slice(), b"xyz".as_slice());
+    assert!(rt; cabinet.bytes("c").is_none());
+    assert!(rt; cabinet.bytes("b").is_some());
+    Ok(())
+}
+
+// The bytes of a source, taken with a buffer of 3, with a '!' for each take that fails.
+fn taken<S: Source>(alloc: Global, source: &mut S) -> Result<Vec<u8>, OutOfMemory> {
+    let mut all = Vec::new(alloc);
+    let mut buf = [0u8; 3];
+    for _ in 0..20 {
+        match source.take(&mut buf) {
+            Ok(0) => break,
+            Ok(count) => all.extend_from_slice(&buf[..count.min(3)])?,
+            Err(Failed) => all.extend_from_slice(b"!")?,
+        }
+    }
+    Ok(all)
+}
+
+#[test]
+fn a_source_gives_its_bytes_in_turn(rt: HostRuntime) -> Result<(), Fail> {
+    let alloc = rt.alloc();
+    let failing = Vec::from_slice(alloc, &[2])?;
+    let mut source = MemSource::new(Vec::from_slice(alloc, b"abcde")?, failing, 2);
+    assert_eq!(rt; taken(alloc, &mut source)?.as_slice(), b"ab!cde".as_slice());
+    let mut sure = SureSource::new(Vec::from_slice(alloc, b"abcde")?);
+    assert_eq!(rt; taken(alloc, &mut sure)?.as_slice(), b"abcde".as_slice());
+    Ok(())
+}
+
+#[test]
+fn a_sink_that_fails_keeps_the_front(rt: HostRuntime) -> Result<(), Fail> {
+    let alloc = rt.alloc();
+    let text = b"abc";
+    for number in 1..=4u32 {
+        let mut sink = MemSink::new(alloc, Vec::from_slice(alloc, &[number])?, 1);
+        let fails = put_all(&mut sink, text) == Err(PutFault::Failed);
+        assert_eq!(rt; fails, number < 4, "at put {number}");
+        assert_eq!(rt; sink.bytes().len(), number as usize - 1, "at put {number}");
+    }
+    let mut sure = SureSink::new(alloc);
+    put_all(&mut sure, text)?;
+    assert_eq!(rt; sure.bytes(), text.as_slice());
+    Ok(())
+}
+
+const PATH: &str = "sv_io_test_file";
+
+#[test]
+fn files_are_read_and_written(rt: HostRuntime) -> Result<(), Fail> {
+    let alloc = rt.alloc();
+    let mut cabinet = FileCabinet::new(rt);
+    cabinet.store(PATH, b"older bytes")?;
+    cabinet.store(PATH, b"text")?;
+    assert_eq!(rt;
+        cabinet.fetch(alloc, PATH, 4)?.as_slice(),
+        b"text".as_slice()
+    );
+    let long = FetchFault::Long(Vec::from_slice(alloc, b"te")?);
+    assert_eq!(rt; cabinet.fetch(alloc, PATH, 1), Err(long));
+
+    let mut input = StdSource::new(fs::open(&rt, PATH)?);
+    assert_eq!(rt; taken(alloc, &mut input)?.as_slice(), b"text".as_slice());
+    let mut output = StdSink::new(fs::create(&rt, PATH)?);
+    put_all(&mut output, b"put")?;
+    assert_eq!(rt;
+        cabinet.fetch(alloc, PATH, 4)?.as_slice(),
+        b"put".as_slice()
+    );
+    fs::remove_file(&rt, PATH)?;
+
+    assert_eq!(rt; cabinet.fetch(alloc, PATH, 4), Err(FetchFault::Failed));
+    assert_eq!(rt;
+        cabinet.store("missing/file", b"text"),
+        Err(StoreFault::Failed)
+    );
+    put_all(&mut StdSink::new(rt.stdout()), b"standard output\n")?;
+    assert_eq!(rt; StdSource::new(rt.stdin()).take(&mut []), Ok(0));
+    Ok(())
+}
+
+// A stream that is cut off by a signal at first, then moves one byte, then nothing, and then fails.
+#[derive(Drop)]
+struct Fitful {
+    calls: u8,
+}
+
+impl Fitful {
+    fn next(&mut self) -> io::Result<bool> {
+        self.calls = self.calls.saturating_add(1);
+        match self.calls {
+            1 => Err(io::Error::from(ErrorKind::Interrupted)),
+            2 => Ok(true),
+            3 => Ok(false),
+            _ => Err(io::Error::from(ErrorKind::BrokenPipe)),
+        }
+    }
+}
+
+impl Read for Fitful {
+    fn read(&mut self, buf: &mut [u8]) -> io::Result<usize> {
+        let moves = self.next()?;
+        Ok(if moves && !buf.is_empty() { 1 } else { 0 })
+    }
+}
+
+impl Write for Fitful {
+    fn write(&mut self, buf: &[u8]) -> io::Result<usize> {
+        let moves = self.next()?;
+        Ok(if moves && !buf.is_empty() { 1 } else { 0 })
+    }
+
+    fn flush(&mut self) -> io::Result<()> {
+        Ok(())
+    }
+}
+
+#[test]
+fn a_stream_that_breaks_is_a_fault(rt: HostRuntime) {
+    let mut input = StdSource::new(Fitful { calls: 0 });
+    let mut buf = [0u8; 4];
+    assert_eq!(rt; input.take(&mut buf), Ok(1));
+    assert_eq!(rt; input.take(&mut buf), Ok(0));
+    assert_eq!(rt; input.take(&mut buf), Err(Failed));
+    let mut output = StdSink::new(Fitful { calls: 0 });
+    assert_eq!(rt; output.put(b"ab"), Ok(1));
+    assert_eq!(rt; output.put(b"ab"), Err(PutFault::Failed));
+    assert_eq!(rt; output.put(b"ab"), Err(PutFault::Failed));
+}

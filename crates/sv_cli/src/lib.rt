@@ -12,3 +12,6 @@ mod words;
 
 pub use outcome::{Broken, Outcome, UsageKind, Valuation};
 pub use top::run;
+
+#[cfg(test)]
+mod tests;

@@ -1,0 +1,104 @@
+use crate::*;
+use std::alloc::{AllocError, Global};
+use std::test::Fail;
+use sv_io::{MemCabinet, MemSink, SureSource};
+
+const GATE: &str = "module m(input a, input b, output y); assign y = a & b; endmodule\n";
+
+const LEAK: &str = "module m(input {H} k, output {L} y); assign y = k; endmodule\n";
+
+const REGISTER: &str =
+    "module m(input clk, input {H} k, output reg {L} r); always @(posedge clk) r <= k; endmodule\n";
+
+const SECRET_REGISTER: &str =
+    "module m(input clk, input {H} k, output reg {H} r); always @(posedge clk) r <= k; endmodule\n";
+
+const WIRE: &str =
+    "module m(input a, input {H} b, output {H} y); wire {H} w; assign w = a ^ b; assign y = ~w | a; endmodule\n";
+
+const SUM: &str = "module m(input a, output y); assign y = a + a; endmodule\n";
+
+// The status and all that was written for words that one blank parts, where `f` holds the text.
+fn called(
+    alloc: Global,
+    words: &str,
+    text: &[u8],
+    failing_fetches: &[u32],
+    failing_puts: &[u32],
+) -> Result<(u8, Vec<u8>), AllocError> {
+    let mut list = Vec::new(alloc);
+    for word in words.split(' ') {
+        if !word.is_empty() {
+            list.push(String::from_str(alloc, word)?)?;
+        }
+    }
+    let mut cabinet = MemCabinet::new(alloc, Vec::from_slice(alloc, failing_fetches)?);
+    cabinet.hold("f", text)?;
+    let mut input = SureSource::new(Vec::new(alloc));
+    let mut out = MemSink::new(alloc, Vec::from_slice(alloc, failing_puts)?, 1);
+    let outcome = run(alloc, &list, &mut cabinet, &mut input, &mut out);
+    Ok((outcome.status(), Vec::from_slice(alloc, out.bytes())?))
+}
+
+#[test]
+fn every_row_has_its_whole_output(rt: HostRuntime) -> Result<(), Fail> {
+    let rows = [
+        ("check f", GATE, 0, "accepted 1 obligations\n"),
+        ("check f", LEAK, 1, "refused flow 1 y from k\nin k 0\n"),
+        (
+            "check f",
+            REGISTER,
+            1,
+            "refused flow 1 r from k\nreg r 0\nin k 0\nnext k 0\n",
+        ),
+        ("check f", SECRET_REGISTER, 0, "accepted 1 obligations\n"),
+        ("check f", WIRE, 0, "accepted 2 obligations\n"),
+        ("check f", SUM, 1, "refused 199 not-built 1:1\n"),
+        ("check f", "", 1, "refused 199 not-built 1:1\n"),
+        ("", GATE, 2, "usage no-command\n"),
+        ("chekc f", GATE, 2, "usage unknown-command\n"),
+        ("check", GATE, 2, "usage words\n"),
+        ("check f f", GATE, 2, "usage words\n"),
+        ("check -f", GATE, 2, "usage words\n"),
+        ("check g", GATE, 4, ""),
+    ];
+    for (words, text, status, printed) in rows {
+        let (got, bytes) = called(rt.alloc(), words, text.as_bytes(), &[], &[])?;
+        assert_eq!(rt; got, status, "{words} {text}");
+        assert_eq!(rt; bytes.as_slice(), printed.as_bytes(), "{words} {text}");
+    }
+    Ok(())
+}
+
+#[test]
+fn a_text_over_the_limit_is_refused(rt: HostRuntime) -> Result<(), Fail> {
+    let mut text = vec![in rt.alloc(); b' '; 1_048_576]?;
+    let (status, bytes) = called(rt.alloc(), "check f", &text, &[], &[])?;
+    assert_eq!(rt; status, 1);
+    assert_eq!(rt; bytes.as_slice(), b"refused 199 not-built 1:1\n".as_slice());
+    text.push(b' ')?;
+    let (status, bytes) = called(rt.alloc(), "check f", &text, &[], &[])?;
+    assert_eq!(rt; status, 1);
+    assert_eq!(rt; bytes.as_slice(), b"refused 701 file-size\n".as_slice());
+    Ok(())
+}
+
+// The sink moves one byte a put.
+#[test]
+fn a_sink_that_fails_has_the_front_of_the_text(rt: HostRuntime) -> Result<(), Fail> {
+    let whole = b"accepted 1 obligations\n".as_slice();
+    for n in 0..whole.len() {
+        let (status, bytes) = called(rt.alloc(), "check f", GATE.as_bytes(), &[], &[n as u32 + 1])?;
+        assert_eq!(rt; status, 5);
+        assert_eq!(rt; bytes.as_slice(), &whole[..n]);
+    }
+    Ok(())
+}
+
+#[test]
+fn a_cabinet_that_fails_gives_a_read_fault(rt: HostRuntime) -> Result<(), Fail> {
+    let (status, bytes) = called(rt.alloc(), "check f", GATE.as_bytes(), &[1], &[])?;
+    assert_eq!(rt; status, 4);
+    assert_eq!(rt; bytes.len(), 0);
+    Ok(())
+}

@@ -4,5 +4,7 @@
 #![tactic(auto)]
 
 mod leak;
+mod process;
+mod scope;
 
 pub use leak::{Finding, Leak};

@@ -1,2 +1,4 @@
 pub mod Names
+pub mod Left
 pub mod Lookups
+pub mod Order

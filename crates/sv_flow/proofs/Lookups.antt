@@ -1,10 +1,10 @@
 -- A look-up by the place of a name is the look-up along the declarations.
-use Rattle.std.proofs.Common.{◌≡◌, ℕ, ◌+◌, ◌<◌, ◌≤◌, Bool, true, false, cond, not, nat_lt, List, [], ◌∷◌, ◌++◌, drop, map, length, get_or, slice_get, position, Option, Some, None, option_map, option_and_then, find, refl, ap, ◌∙◌, sym, subst, arith}
+use Rattle.std.proofs.Common.{◌≡◌, ℕ, ◌+◌, ◌<◌, ◌≤◌, Bool, true, false, cond, not, nat_lt, List, [], ◌∷◌, map, length, get_or, slice_get, position, Option, Some, None, option_map, option_and_then, find, refl, ap, ◌∙◌, sym, subst}
 use Rattle.std.specs.Borrow.{Bor}
-use Rattle.std.specs.List.{prefix_len, position_or_len}
+use Rattle.std.specs.List.{position_or_len}
 use Rattle.std.specs.Str.{bytes_eq}
 use Rattle.std.proofs.lemmas.Bool.{ltb-false}
-use Rattle.std.proofs.lemmas.List.{length-map, drop_more, append_assoc}
+use Rattle.std.proofs.lemmas.List.{length-map}
 use Rattle.std.proofs.lemmas.List.Folds.{find_at}
 use Rattle.std.proofs.lemmas.Option.{slice_get-map, slice_get-get_or, slice_get_past}
 use Rattle.std.proofs.lemmas.List.Quantifiers.{position-Some}
@@ -13,10 +13,7 @@ use Rattle.sv_ast.specs.declared.module.Module.{Module}
 use Rattle.sv_ast.specs.Tree.{ModuleTree, module_tree}
 use Rattle.sv_ast.specs.Meaning.{declarations, declaration}
 use Rattle.sv_ast.specs.Form.{names}
-use Rattle.sv_ast.specs.Names.{holds, all_differ}
-use Rattle.indexmap.specs.IndexSet.{insert_key}
-use Rattle.sv_flow.specs.Scope.{plain_declarations, names_of}
-use Rattle.sv_flow.proofs.Names.{differ_not_again, fresh_key}
+use Rattle.sv_flow.specs.Scope.{plain_declarations}
 
 place_of_map : {X Y : Type 0} (f : X → Y) (p : Y → Bool) (xs : List X) → position_or_len p (map f xs) ≡ position_or_len (λ x. p (f x)) xs
 place_of_map f p [] = refl
@@ -65,20 +62,3 @@ module _ (old now : Module) (n : List ℕ) (keys : List (List ℕ)) (ds : List (
       let at : slice_get ds i ≡ Some d = slice_get-get_or ds i d within ∙ ap Some (sym is) in
       sym (by_place ∙ ap (λ (o : Option ℕ). option_and_then (λ j. option_map (λ d. d.now) (slice_get ds j)) o) (sym h)
       ∙ ap (λ (o : Option (Bor Decl)). option_map (λ d. d.now) o) at)
-
--- a name of a declaration that is left, where the names so far and those that are left are all
-module _ (keys : List (List ℕ)) (ds : List (Bor Decl)) (i : ℕ) (d : Bor Decl)
-    (all : keys ++ names_of (plain_declarations (drop i ds)) ≡ names_of (plain_declarations ds)) (within : i < length ds) (is : d ≡ get_or ds i d) where
-  next_name : names_of (plain_declarations (drop i ds)) ≡ d.now.name ∷ names_of (plain_declarations (drop (i + 1) ds))
-  next_name = ap (λ (es : List (Bor Decl)). names_of (plain_declarations es)) (drop_more ds i d within)
-      ∙ ap (λ (e : Bor Decl). e.now.name ∷ names_of (plain_declarations (drop (i + 1) ds))) (sym is)
-
-  parts : keys ++ d.now.name ∷ names_of (plain_declarations (drop (i + 1) ds)) ≡ names_of (plain_declarations ds)
-  parts = ap (λ (rest : List (List ℕ)). keys ++ rest) (sym next_name) ∙ all
-
-  pub again_among : holds keys d.now.name ≡ true → all_differ (names_of (plain_declarations ds)) ≡ false
-  again_among h = ap all_differ (sym parts) ∙ differ_not_again keys d.now.name (names_of (plain_declarations (drop (i + 1) ds))) h
-
-  pub fresh_among : holds keys d.now.name ≡ false → insert_key bytes_eq keys d.now.name ++ names_of (plain_declarations (drop (i + 1) ds)) ≡ names_of (plain_declarations ds)
-  fresh_among h = ap (λ (ns : List (List ℕ)). ns ++ names_of (plain_declarations (drop (i + 1) ds))) (fresh_key keys d.now.name h)
-      ∙ append_assoc keys (d.now.name ∷ []) (names_of (plain_declarations (drop (i + 1) ds))) ∙ parts

@@ -1,12 +1,13 @@
 -- A module as the code walks over it: references to its declarations and processes, and its names in a set.
-use Rattle.std.specs.Prelude.{◌≡◌, ℕ, Bool, ◌&&◌, nat_le, List, map, length}
+use Rattle.std.specs.Prelude.{◌≡◌, ℕ, Bool, ◌&&◌, ◌||◌, nat_le, is_some, [], List, map, length}
 use Rattle.std.specs.Borrow.{Bor}
+use Rattle.std.specs.List.{list_all}
 use Rattle.std.specs.Option.{option_copied}
 use Rattle.sv_ast.specs.declared.module.Decl.{Decl}
 use Rattle.sv_ast.specs.Tree.{ModuleTree, assignment, expression_tree}
 use Rattle.sv_ast.specs.Meaning as meaning
-use Rattle.sv_ast.specs.Names.{all_differ}
-use Rattle.sv_ast.specs.Form.{names}
+use Rattle.sv_ast.specs.Names.{holds, all_differ}
+use Rattle.sv_ast.specs.Form.{names, targets, reads_of, is_known, in_order, one_clock, is_clock}
 use Rattle.sv_flow.specs.declared.process.Process.{Process}
 
 -- the process that the references lead to
@@ -32,3 +33,19 @@ names_of ds = map (λ (d : Decl). d.name) ds
 -- all declared names differ, and there are not too many
 abbrev pub has_names : ModuleTree → Bool
 has_names m = all_differ (names m) && nat_le (length (names m)) 4096
+
+-- the process is clocked, or reads only inputs, registers and the targets that stand earlier
+abbrev pub stands_after : ModuleTree → List (List ℕ) → meaning.Process → Bool
+stands_after m earlier p = is_some p.clock || list_all (is_known m earlier) (reads_of p.body)
+
+-- no signal has two drivers, and each `assign` reads what comes before it
+abbrev pub has_order : ModuleTree → Bool
+has_order m = all_differ (targets m) && in_order m [] (meaning.processes m)
+
+-- an input, or one of the targets
+abbrev pub is_driven : List (List ℕ) → Decl → Bool
+is_driven keys d = meaning.is_input_kind d.kind || holds keys d.name
+
+-- no two clocks, and each is one
+abbrev pub has_clocks : ModuleTree → Bool
+has_clocks m = one_clock (meaning.clocks m) && list_all (is_clock m) (meaning.clocks m)

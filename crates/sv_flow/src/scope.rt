@@ -9,11 +9,12 @@ ghost use Rattle.sv_ast.specs.Form as form;
 ghost use Rattle.sv_flow.specs.Scope.{plain_declarations, plain_processes, has_names, names_of};
 ghost use Rattle.indexmap.specs.IndexSet.{insert_key};
 
+use crate::kind;
 use crate::process::{Process, processes};
 use indexmap::IndexSet;
 use std::alloc::{AllocError, Global};
 use std::marker::Model;
-use sv_ast::{Decl, DeclKind, Item, Module, Point};
+use sv_ast::{Decl, Item, Module, Point};
 use sv_num::Name;
 
 /// The most names that a module of the first form declares.
@@ -138,5 +139,45 @@ impl<'a> Scope<'a> {
         ensures { result ≡ holds (form.names (module_tree self.now)) name.now }
     {
         self.names.contains(name)
+    }
+
+    /// Whether the name is declared as an input.
+    pub(crate) fn is_input(&self, name: &Name) -> bool
+        ensures { result ≡ meaning.declared_as meaning.is_input_kind (module_tree self.now) name.now }
+    {
+        match self.declaration(name) {
+            Some(declaration) => kind::is_input(declaration.kind),
+            None => false,
+        }
+    }
+
+    /// Whether the name is declared as a register.
+    pub(crate) fn is_register(&self, name: &Name) -> bool
+        ensures { result ≡ meaning.declared_as meaning.is_register_kind (module_tree self.now) name.now }
+    {
+        match self.declaration(name) {
+            Some(declaration) => kind::is_register(declaration.kind),
+            None => false,
+        }
+    }
+
+    /// Whether the name is declared as an output or a wire that an `assign` drives.
+    pub(crate) fn is_net(&self, name: &Name) -> bool
+        ensures { result ≡ meaning.declared_as form.is_net_kind (module_tree self.now) name.now }
+    {
+        match self.declaration(name) {
+            Some(declaration) => kind::is_net(declaration.kind),
+            None => false,
+        }
+    }
+
+    /// The point of a name: the least one where it has no label.
+    pub(crate) fn label(&self, name: &Name) -> Point
+        ensures { result ≡ meaning.label_of (module_tree self.now) name.now }
+    {
+        match self.declaration(name) {
+            Some(declaration) => kind::label(declaration),
+            None => Point::Low,
+        }
     }
 }

@@ -1,4 +1,4 @@
-use Rattle.std.proofs.Common.{◌∙◌, sym}
+use Rattle.std.proofs.Common.{sym}
 use Rattle.sv_flow.proofs.Lookups.{declaration_absent, declaration_present}
 use Rattle.sv_flow.proofs.scope.Scope.declaration.Goals as goal
 

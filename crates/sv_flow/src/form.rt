@@ -7,15 +7,15 @@ ghost use Rattle.sv_ast.specs.Tree.{module_tree, expression_tree};
 ghost use Rattle.sv_ast.specs.Names.{holds};
 ghost use Rattle.sv_ast.specs.Meaning as meaning;
 ghost use Rattle.sv_ast.specs.Form as form;
-ghost use Rattle.sv_flow.specs.Scope.{plain_process, stands_after, has_order, is_driven, has_clocks};
+ghost use Rattle.sv_flow.specs.Scope.{plain_process, stands_after, has_order, is_driven, has_clocks, has_names};
 
 use crate::kind;
 use crate::process::{Process, is_read};
 use crate::scope::{Scope, add_name};
 use indexmap::IndexSet;
-use std::alloc::{AllocError, Global};
+use std::alloc::Global;
 use sv_ast::Expr;
-use sv_num::Name;
+use sv_num::{Name, OutOfMemory};
 
 impl<'a> Scope<'a> {
     /// Whether all names that the expression reads are declared.
@@ -99,7 +99,7 @@ impl<'a> Scope<'a> {
     }
 
     /// The targets in order; None where a signal has two drivers, or an `assign` reads the target of a later one.
-    pub(crate) fn targets(&self, alloc: Global) -> Result<Option<IndexSet<Name>>, AllocError>
+    pub(crate) fn targets(&self, alloc: Global) -> Result<Option<IndexSet<Name>>, OutOfMemory>
         ensures keys { IfOk result (λ found. IfSome found (λ targets. targets.keys ≡ form.targets (module_tree self.now))) }
         ensures ordered { IfOk result (λ found. IfSome found (λ targets. IsTrue (has_order (module_tree self.now)))) }
         ensures none { IfOk result (λ found. IfNone found (has_order (module_tree self.now) ≡ false)) }
@@ -181,5 +181,33 @@ impl<'a> Scope<'a> {
             Some(clock) => self.has_one_clock(clock) && self.is_clock(clock),
             None => true,
         }
+    }
+
+    /// The targets in order; None where the module is not of the first form.
+    pub(crate) fn first_form_targets(
+        &self,
+        alloc: Global,
+    ) -> Result<Option<IndexSet<Name>>, OutOfMemory>
+        requires { IsTrue (has_names (module_tree self.now)) }
+        ensures keys { IfOk result (λ found. IfSome found (λ targets. targets.keys ≡ form.targets (module_tree self.now))) }
+        ensures first_form { IfOk result (λ found. IfSome found (λ targets. IsTrue (form.is_first_form (module_tree self.now)))) }
+        ensures none { IfOk result (λ found. IfNone found (form.is_first_form (module_tree self.now) ≡ false)) }
+    {
+        if !self.declares_all_uses() {
+            return Ok(None);
+        }
+        if !self.fits_all_targets() {
+            return Ok(None);
+        }
+        if !self.fits_clocks() {
+            return Ok(None);
+        }
+        let Some(targets) = self.targets(alloc)? else {
+            return Ok(None);
+        };
+        if !self.drives_all(&targets) {
+            return Ok(None);
+        }
+        Ok(Some(targets))
     }
 }

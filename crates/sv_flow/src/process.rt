@@ -6,9 +6,9 @@ ghost use Rattle.sv_ast.specs.Names.{holds};
 ghost use Rattle.sv_ast.specs.Meaning.{processes, process_of};
 ghost use Rattle.sv_flow.specs.Scope.{plain_process, plain_processes};
 
-use std::alloc::{AllocError, Global};
+use std::alloc::Global;
 use sv_ast::{Expr, Item, Module, Stmt};
-use sv_num::Name;
+use sv_num::{Name, OutOfMemory};
 
 /// A process with one assignment, which `blocking` tells from a nonblocking one.
 #[derive(Clone, Copy)]
@@ -59,7 +59,7 @@ fn process_of_item(item: &Item) -> Option<Process<'_>>
 }
 
 /// The processes of a module, in textual order.
-pub(crate) fn processes(alloc: Global, module: &Module) -> Result<Vec<Process<'_>>, AllocError>
+pub(crate) fn processes(alloc: Global, module: &Module) -> Result<Vec<Process<'_>>, OutOfMemory>
     ensures { IfOk result (λ found. plain_processes found.items ≡ processes (module_tree «module».now)) }
 {
     let mut found = Vec::new(alloc);

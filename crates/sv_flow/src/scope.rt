@@ -12,15 +12,16 @@ ghost use Rattle.indexmap.specs.IndexSet.{insert_key};
 use crate::kind;
 use crate::process::{Process, processes};
 use indexmap::IndexSet;
-use std::alloc::{AllocError, Global};
+use std::alloc::Global;
 use std::marker::Model;
 use sv_ast::{Decl, Item, Module, Point};
-use sv_num::Name;
+use sv_num::{Name, OutOfMemory};
 
 /// The most names that a module of the first form declares.
 const MOST_NAMES: usize = 4096;
 
 /// A module whose declared names all differ.
+#[derive(Drop)]
 pub(crate) struct Scope<'a> {
     module: &'a Module,
     names: IndexSet<Name>,
@@ -44,7 +45,7 @@ impl<'a> Model for Scope<'a> {
 }
 
 /// The declarations of a module: its ports, and then its other declarations.
-fn declarations(alloc: Global, module: &Module) -> Result<Vec<&Decl>, AllocError>
+fn declarations(alloc: Global, module: &Module) -> Result<Vec<&Decl>, OutOfMemory>
     ensures { IfOk result (λ found. plain_declarations found.items ≡ meaning.declarations (module_tree «module».now)) }
 {
     let mut found = Vec::new(alloc);
@@ -64,7 +65,7 @@ pub(crate) fn add_name(
     alloc: Global,
     names: &mut IndexSet<Name>,
     name: &Name,
-) -> Result<bool, AllocError>
+) -> Result<bool, OutOfMemory>
     ensures new { IfOk result (λ new. new ≡ not (holds names.old.keys name.now)) }
     ensures added { IfOk result (λ new. names.new.keys ≡ insert_key bytes_eq names.old.keys name.now) }
 {
@@ -75,7 +76,7 @@ pub(crate) fn add_name(
 fn distinct_names(
     alloc: Global,
     declarations: &[&Decl],
-) -> Result<Option<IndexSet<Name>>, AllocError>
+) -> Result<Option<IndexSet<Name>>, OutOfMemory>
     ensures some { IfOk result (λ found. IfSome found (λ names. names.keys ≡ names_of (plain_declarations declarations.now))) }
     ensures differ { IfOk result (λ found. IfSome found (λ names. IsTrue (all_differ (names_of (plain_declarations declarations.now))))) }
     ensures none { IfOk result (λ found. IfNone found (all_differ (names_of (plain_declarations declarations.now)) ≡ false)) }
@@ -91,7 +92,7 @@ fn distinct_names(
 
 impl<'a> Scope<'a> {
     /// The scope of a module; None where a name is declared twice, or more than 4,096 are.
-    pub(crate) fn new(alloc: Global, module: &'a Module) -> Result<Option<Scope<'a>>, AllocError>
+    pub(crate) fn new(alloc: Global, module: &'a Module) -> Result<Option<Scope<'a>>, OutOfMemory>
         ensures some { IfOk result (λ found. IfSome found (λ scope. scope ≡ «module».now)) }
         ensures named { IfOk result (λ found. IfSome found (λ scope. IsTrue (has_names (module_tree «module».now)))) }
         ensures none { IfOk result (λ found. IfNone found (has_names (module_tree «module».now) ≡ false)) }

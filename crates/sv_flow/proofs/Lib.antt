@@ -1,0 +1,9 @@
+pub mod Names
+pub mod Left
+pub mod Lookups
+pub mod Order
+pub mod FirstForm
+pub mod Members
+pub mod Dues
+pub mod Leaks
+pub mod Findings

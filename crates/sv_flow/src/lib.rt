@@ -13,3 +13,6 @@ mod scope;
 
 pub use answer::check;
 pub use leak::{Finding, Leak};
+
+#[cfg(test)]
+mod tests;

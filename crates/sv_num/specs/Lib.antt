@@ -1,1 +1,5 @@
+pub mod BinaryValues
 pub mod Faults
+pub mod OperatorTables
+pub mod UnaryValues
+pub mod Vectors

@@ -40,3 +40,16 @@ pub enum UnOp {
     Xor,
     Xnor,
 }
+
+/// How the operands and the result of a binary operator are sized.
+#[derive(Clone, Copy, Debug, PartialEq, Eq)]
+pub enum OpClass {
+    /// Both operands and the result have one length and sign, which the context gives.
+    Context,
+    /// Both operands have one length and sign, and the result is one bit without sign.
+    Compare,
+    /// Each operand has a type of its own, and the result is one bit without sign.
+    Logical,
+    /// The result has the type of the left operand, and the right one has a type of its own.
+    Shift,
+}

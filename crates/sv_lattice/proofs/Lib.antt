@@ -1,0 +1,4 @@
+pub mod FlowLemmas
+pub mod TableLemmas
+pub mod BoundLemmas
+pub mod OrderLemmas

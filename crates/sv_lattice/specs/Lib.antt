@@ -1,0 +1,4 @@
+pub mod Flows
+pub mod Labels
+pub mod Maps
+pub mod Tables

@@ -1,0 +1,72 @@
+// The first two points that break what a lattice asks for, found in its table.
+ghost use Rattle.std.specs.Prelude.{◌≡◌, ◌↔◌, ℕ, ◌<◌, ◌≤◌, length, IsTrue, MatchOption};
+ghost use Rattle.sv_lattice.specs.Flows.{IsApart, HasJoin, EachPair, IsFirstWithout};
+ghost use Rattle.sv_lattice.specs.Tables.{FlowsTo, IsWithin, IsPreorder, IsFirstNot};
+
+use crate::flow_table::has;
+
+/// The first two different points that flow to each other.
+pub fn first_circle(table: &[u32]) -> Option<(u32, u32)>
+    requires { length table.now ≤ 32 }
+    ensures { MatchOption result (EachPair (length table.now) (IsApart (FlowsTo table.now))) (λ pair. IsFirstWithout (length table.now) (IsApart (FlowsTo table.now)) pair.0 pair.1) }
+{
+    for first in 0..table.len() {
+        if let Some(second) = circle_with(table, first) {
+            return Some((first as u32, second as u32));
+        }
+    }
+    None
+}
+
+fn circle_with(table: &[u32], first: usize) -> Option<usize>
+    requires count { length table.now ≤ 32 }
+    requires first { first < length table.now }
+    ensures { MatchOption result ((b : ℕ) → b < length table.now → IsApart (FlowsTo table.now) first b) (IsFirstNot (length table.now) (IsApart (FlowsTo table.now) first)) }
+{
+    for second in 0..table.len() {
+        if second != first && has(table[first], second) && has(table[second], first) {
+            return Some(second);
+        }
+    }
+    None
+}
+
+/// The first two points without a least upper point.
+pub fn first_unjoined(table: &[u32]) -> Option<(u32, u32)>
+    requires count { length table.now ≤ 32 }
+    requires within { IsWithin (length table.now) table.now }
+    requires preorder { IsPreorder (length table.now) (FlowsTo table.now) }
+    ensures { MatchOption result (EachPair (length table.now) (HasJoin (length table.now) (FlowsTo table.now))) (λ pair. IsFirstWithout (length table.now) (HasJoin (length table.now) (FlowsTo table.now)) pair.0 pair.1) }
+{
+    for first in 0..table.len() {
+        if let Some(second) = unjoined_with(table, first) {
+            return Some((first as u32, second as u32));
+        }
+    }
+    None
+}
+
+fn unjoined_with(table: &[u32], first: usize) -> Option<usize>
+    requires within { IsWithin (length table.now) table.now }
+    requires preorder { IsPreorder (length table.now) (FlowsTo table.now) }
+    requires first { first < length table.now }
+    ensures { MatchOption result ((b : ℕ) → b < length table.now → HasJoin (length table.now) (FlowsTo table.now) first b) (IsFirstNot (length table.now) (HasJoin (length table.now) (FlowsTo table.now) first)) }
+{
+    for second in 0..table.len() {
+        if !have_join(table, first, second) {
+            return Some(second);
+        }
+    }
+    None
+}
+
+// The upper points of two points are those that both rows have, and they are the row of the least of them.
+fn have_join(table: &[u32], first: usize, second: usize) -> bool
+    requires within { IsWithin (length table.now) table.now }
+    requires preorder { IsPreorder (length table.now) (FlowsTo table.now) }
+    requires first { first < length table.now }
+    requires second { second < length table.now }
+    ensures { IsTrue result ↔ HasJoin (length table.now) (FlowsTo table.now) first second }
+{
+    table.contains(&(table[first] & table[second]))
+}

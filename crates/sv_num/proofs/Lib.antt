@@ -1,0 +1,4 @@
+pub mod BinaryRows
+pub mod BitsLemmas
+pub mod NumberLemmas
+pub mod UnaryRows

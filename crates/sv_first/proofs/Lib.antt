@@ -1,0 +1,3 @@
+pub mod SignLaws
+pub mod FrontLaws
+pub mod ReadLaws

@@ -4,8 +4,15 @@
 //! exactly these are read, each as the one module that it means.
 #![tactic(auto)]
 
+mod declarations;
+mod items;
 mod lexer;
+mod modules;
+mod reading;
 mod signs;
 mod stop;
 mod token;
+mod values;
 mod words;
+
+pub use modules::read_module;

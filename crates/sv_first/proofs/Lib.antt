@@ -1,0 +1,12 @@
+pub mod SignLaws
+pub mod FrontLaws
+pub mod ReadLaws
+pub mod ValueSteps
+pub mod ListSteps
+pub mod KindLaws
+pub mod TokenLaws
+pub mod ValueTakes
+pub mod ValueAgain
+pub mod ItemTakes
+pub mod ItemAgain
+pub mod Whole

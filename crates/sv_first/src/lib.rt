@@ -1,0 +1,18 @@
+//! Texts of the first form, from bytes to trees.
+//!
+//! [`read_module`] reads one module of one-bit signals. What bytes mean a module is said in `specs/Spelling.antt` of `sv_ast`:
+//! exactly these are read, each as the one module that it means.
+#![tactic(auto)]
+
+mod declarations;
+mod items;
+mod lexer;
+mod modules;
+mod reading;
+mod signs;
+mod stop;
+mod token;
+mod values;
+mod words;
+
+pub use modules::read_module;

@@ -22,7 +22,7 @@ is_negative n signed value = signed && nat_le (2 ^ (n - 1)) value
 abbrev pub as_number : ℕ → Bool → ℕ → ℤ
 as_number n signed value = if is_negative n signed value then pos value -ℤ pos (2 ^ n) else pos value
 
--- a whole number modulo 2^n
+-- a whole number modulo 2^n: -(a + 1) is as far below 2^n as it is below 0
 abbrev pub reduced : ℕ → ℤ → ℕ
 reduced n (pos a) = a % 2 ^ n
 reduced n (negsuc a) = 2 ^ n - 1 - a % 2 ^ n

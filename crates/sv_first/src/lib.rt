@@ -16,3 +16,6 @@ mod values;
 mod words;
 
 pub use modules::read_module;
+
+#[cfg(test)]
+mod tests;

@@ -18,7 +18,7 @@ use Rattle.sv_first.specs.Tokens.{Lexeme, AreLexed, texts_of}
 use Rattle.sv_first.specs.Reading.{◌>>=◌, where_read, token_at, name_at, end_at}
 use Rattle.sv_first.specs.Values.{value_at}
 use Rattle.sv_first.specs.Items.{port_kind_at, signal_kind_at, point_at, label_at, declaration_at, port_at, ports_at, ports_of, signal_at, continuous_at, clock_at, statement_at, clocked_at, item_at, items_at, items_of, module_at}
-use Rattle.sv_first.proofs.TokenLaws.{Takes, Takes-then, Takes-none, token_takes, name_takes, bind_some, where_some, some_is}
+use Rattle.sv_first.proofs.TokenLaws.{Takes, Takes-then, Takes-none, token_takes, name_takes, bind_some, where_some, moved}
 use Rattle.sv_first.proofs.ValueTakes.{value_tokens, value_at_takes}
 
 -- ---- declarations
@@ -30,13 +30,13 @@ port_kind_takes : (ls : List Lexeme) (x : DeclKind × List Lexeme) → AreLexed 
 unfolding port_kind_at
 port_kind_takes ls x all e =
     ⊎_elim
-    (λ w. subst (TakesPortKind ls) (some_is (kind.Input, w.0) x w.2) (token_takes kinds.Input ls w.0 refl all w.1, refl))
+    (λ w. moved (TakesPortKind ls) (kind.Input, w.0) x w.2 (token_takes kinds.Input ls w.0 refl all w.1, refl))
     (λ w.
     let b = bind_some (token_at kinds.Output ls) (λ rest. where_read (token_at kinds.Reg rest) (λ more. Some (kind.OutputReg, more)) (Some (kind.OutputWire, rest))) x w.1 in
     let o = token_takes kinds.Output ls b.0 refl all b.1 in
     ⊎_elim
-    (λ v. subst (TakesPortKind ls) (some_is (kind.OutputReg, v.0) x v.2) (Takes-then ls (codes "output" ∷ []) b.0 (codes "reg" ∷ []) v.0 o (token_takes kinds.Reg b.0 v.0 refl o.lexed v.1), refl))
-    (λ v. subst (TakesPortKind ls) (some_is (kind.OutputWire, b.0) x v.1) (o, refl))
+    (λ v. moved (TakesPortKind ls) (kind.OutputReg, v.0) x v.2 (Takes-then ls (codes "output" ∷ []) b.0 (codes "reg" ∷ []) v.0 o (token_takes kinds.Reg b.0 v.0 refl o.lexed v.1), refl))
+    (λ v. moved (TakesPortKind ls) (kind.OutputWire, b.0) x v.1 (o, refl))
     (where_some (token_at kinds.Reg b.0) (λ more. Some (kind.OutputReg, more)) (Some (kind.OutputWire, b.0)) x b.2))
     (where_some (token_at kinds.Input ls) (λ rest. Some (kind.Input, rest)) (token_at kinds.Output ls >>= λ rest. where_read (token_at kinds.Reg rest) (λ more. Some (kind.OutputReg, more)) (Some (kind.OutputWire, rest))) x e)
 
@@ -47,10 +47,10 @@ signal_kind_takes : (ls : List Lexeme) (x : DeclKind × List Lexeme) → AreLexe
 unfolding signal_kind_at
 signal_kind_takes ls x all e =
     ⊎_elim
-    (λ w. subst (TakesSignalKind ls) (some_is (kind.Wire, w.0) x w.2) (token_takes kinds.Wire ls w.0 refl all w.1, refl))
+    (λ w. moved (TakesSignalKind ls) (kind.Wire, w.0) x w.2 (token_takes kinds.Wire ls w.0 refl all w.1, refl))
     (λ w.
     let b = bind_some (token_at kinds.Reg ls) (λ rest. Some (kind.Reg, rest)) x w.1 in
-    subst (TakesSignalKind ls) (some_is (kind.Reg, b.0) x b.2) (token_takes kinds.Reg ls b.0 refl all b.1, refl))
+    moved (TakesSignalKind ls) (kind.Reg, b.0) x b.2 (token_takes kinds.Reg ls b.0 refl all b.1, refl))
     (where_some (token_at kinds.Wire ls) (λ rest. Some (kind.Wire, rest)) (token_at kinds.Reg ls >>= λ rest. Some (kind.Reg, rest)) x e)
 
 chosen : {A : Type 0} (b : Bool) (x y z : A) → cond b x y ≡ z → ((b ≡ true) × (x ≡ z)) ⊎ ((b ≡ false) × (y ≡ z))
@@ -70,10 +70,10 @@ point_takes ls x all e =
     let n = name_takes ls b.0 all b.1 in
     let P : List ℕ → Type 0 = λ t. Takes ls (t ∷ []) b.0.1 in
     ⊎_elim
-    (λ w. subst (TakesPoint ls) (some_is (Low, b.0.1) x w.1) (subst P ((bytes_eq-Decides b.0.0 (codes "L")).0 w.0) n.0))
+    (λ w. moved (TakesPoint ls) (Low, b.0.1) x w.1 (subst P ((bytes_eq-Decides b.0.0 (codes "L")).0 w.0) n.0))
     (λ w.
     ⊎_elim
-    (λ v. subst (TakesPoint ls) (some_is (High, b.0.1) x v.1) (subst P ((bytes_eq-Decides b.0.0 (codes "H")).0 v.0) n.0))
+    (λ v. moved (TakesPoint ls) (High, b.0.1) x v.1 (subst P ((bytes_eq-Decides b.0.0 (codes "H")).0 v.0) n.0))
     (λ v. none_is_some x v.1)
     (chosen (bytes_eq b.0.0 (codes "H")) (Some (High, b.0.1)) None (Some x) w.1))
     (chosen (bytes_eq b.0.0 (codes "L")) (Some (Low, b.0.1)) (cond (bytes_eq b.0.0 (codes "H")) (Some (High, b.0.1)) None) (Some x) b.2)
@@ -91,8 +91,8 @@ label_takes ls x all e =
     let p = point_takes w.0 b.0 o.lexed b.1 in
     let c = bind_some (token_at kinds.RightBrace b.0.1) (λ more. Some (Some b.0.0, more)) x b.2 in
     let q = token_takes kinds.RightBrace b.0.1 c.0 refl p.lexed c.1 in
-    subst (TakesLabel ls) (some_is (Some b.0.0, c.0) x c.2) (Takes-then ls (codes "{" ∷ []) w.0 (point_name b.0.0 ∷ codes "}" ∷ []) c.0 o (Takes-then w.0 (point_name b.0.0 ∷ []) b.0.1 (codes "}" ∷ []) c.0 p q)))
-    (λ w. subst (TakesLabel ls) (some_is (None, ls) x w.1) (Takes-none ls all))
+    moved (TakesLabel ls) (Some b.0.0, c.0) x c.2 (Takes-then ls (codes "{" ∷ []) w.0 (point_name b.0.0 ∷ codes "}" ∷ []) c.0 o (Takes-then w.0 (point_name b.0.0 ∷ []) b.0.1 (codes "}" ∷ []) c.0 p q)))
+    (λ w. moved (TakesLabel ls) (None, ls) x w.1 (Takes-none ls all))
     (where_some (token_at kinds.LeftBrace ls) (λ rest. point_at rest >>= λ p. token_at kinds.RightBrace p.1 >>= λ more. Some (Some p.0, more)) (Some (None, ls)) x e)
 
 -- a declaration behind its words
@@ -109,7 +109,7 @@ declaration_takes k ls x all e =
     let c = bind_some (name_at b.0.1) (λ n. Some (record { kind = k; label = b.0.0; name = n.0 }, n.1)) x b.2 in
     let n = name_takes b.0.1 c.0 l.lexed c.1 in
     let one : Decl × List Lexeme = (record { kind = k; label = b.0.0; name = c.0.0 }, c.0.1) in
-    subst (TakesDeclaration k ls) (some_is one x c.2) (record { takes = Takes-then ls (label_tokens b.0.0) b.0.1 (c.0.0 ∷ []) c.0.1 l n.0; name = n.1; kind_is = refl })
+    moved (TakesDeclaration k ls) one x c.2 (record { takes = Takes-then ls (label_tokens b.0.0) b.0.1 (c.0.0 ∷ []) c.0.1 l n.0; name = n.1; kind_is = refl })
 
 -- with its words
 whole_declaration : (k : DeclKind) (a b : List Lexeme) (x : Decl × List Lexeme) → Takes a (kind_tokens k) b → TakesDeclaration k b x → Takes a (declaration_tokens x.0) x.1
@@ -161,10 +161,10 @@ after_takes n ls d after x one e more =
     (λ w.
     let comma = token_takes kinds.Comma after w.0 refl one.0.lexed w.1 in
     let c = bind_some (ports_at n w.0) (λ ds. Some (d ∷ ds.0, ds.1)) x w.2 in
-    subst (TakesPorts ls) (some_is (d ∷ c.0.0, c.0.1) x c.2) (more_ports ls d after w.0 c.0.1 c.0.0 one comma (more w.0 c.0 comma.lexed c.1)))
+    moved (TakesPorts ls) (d ∷ c.0.0, c.0.1) x c.2 (more_ports ls d after w.0 c.0.1 c.0.0 one comma (more w.0 c.0 comma.lexed c.1)))
     (λ w.
     let c = bind_some (token_at kinds.RightParenthesis after) (λ rest. Some (d ∷ [], rest)) x w.1 in
-    subst (TakesPorts ls) (some_is (d ∷ [], c.0) x c.2) (last_port ls d after c.0 one (token_takes kinds.RightParenthesis after c.0 refl one.0.lexed c.1)))
+    moved (TakesPorts ls) (d ∷ [], c.0) x c.2 (last_port ls d after c.0 one (token_takes kinds.RightParenthesis after c.0 refl one.0.lexed c.1)))
     (where_some (token_at kinds.Comma after) (λ rest. ports_at n rest >>= λ ds. Some (d ∷ ds.0, ds.1)) (token_at kinds.RightParenthesis after >>= λ rest. Some (d ∷ [], rest)) x e)
 
 ports_takes : (n : ℕ) (ls : List Lexeme) (x : List Decl × List Lexeme) → AreLexed ls → ports_at n ls ≡ Some x → TakesPorts ls x
@@ -190,7 +190,7 @@ signal_takes ls x all e =
     let whole = whole_declaration b.0.0 ls b.0.1 c.0 k.0 d in
     let last = token_takes kinds.Semicolon c.0.1 f.0 refl whole.lexed f.1 in
     let good : is_item (declared c.0.0) ≡ true = and_from (not (is_port_kind c.0.0.kind)) _ (ap (λ (j : DeclKind). not (is_port_kind j)) d.kind_is ∙ k.1) d.name in
-    subst (TakesItem ls) (some_is (declared c.0.0, f.0) x f.2) (Takes-then ls (declaration_tokens c.0.0) c.0.1 (codes ";" ∷ []) f.0 whole last, good)
+    moved (TakesItem ls) (declared c.0.0, f.0) x f.2 (Takes-then ls (declaration_tokens c.0.0) c.0.1 (codes ";" ∷ []) f.0 whole last, good)
 
 -- what follows the first word of an item
 abbrev TakesRest : List ℕ → List Lexeme → ItemTree × List Lexeme → Type 0
@@ -207,7 +207,7 @@ continuous_takes ls x all e =
     let v = value_at_takes c.0 d.0 sign.lexed d.1 in
     let one : ItemTree × List Lexeme = (continuous b.0.0 d.0.0, d.0.1) in
     let takes = Takes-then ls (b.0.0 ∷ []) b.0.1 (codes "=" ∷ value_tokens d.0.0) d.0.1 t.0 (Takes-then b.0.1 (codes "=" ∷ []) c.0 (value_tokens d.0.0) d.0.1 sign v.0) in
-    subst (TakesRest (codes "assign") ls) (some_is one x d.2) (b.0.0 ∷ codes "=" ∷ value_tokens d.0.0, refl, takes, and_from (is_name b.0.0) _ t.1 v.1)
+    moved (TakesRest (codes "assign") ls) one x d.2 (b.0.0 ∷ codes "=" ∷ value_tokens d.0.0, refl, takes, and_from (is_name b.0.0) _ t.1 v.1)
 
 abbrev clock_tokens : List ℕ → List (List ℕ)
 clock_tokens c = codes "@" ∷ codes "(" ∷ codes "posedge" ∷ c ∷ codes ")" ∷ []
@@ -232,7 +232,7 @@ clock_takes ls x all e =
     let t3 = Takes-then b.0 (codes "posedge" ∷ []) c.0 (n.0.0 ∷ codes ")" ∷ []) d.0 ct t4 in
     let t2 = Takes-then a.0 (codes "(" ∷ []) b.0 (codes "posedge" ∷ n.0.0 ∷ codes ")" ∷ []) d.0 bt t3 in
     let t1 = Takes-then ls (codes "@" ∷ []) a.0 (codes "(" ∷ codes "posedge" ∷ n.0.0 ∷ codes ")" ∷ []) d.0 at t2 in
-    subst (TakesClock ls) (some_is (n.0.0, d.0) x d.2) (t1, nt.1)
+    moved (TakesClock ls) (n.0.0, d.0) x d.2 (t1, nt.1)
 
 abbrev TakesStatement : List Lexeme → StatementTree × List Lexeme → Type 0
 TakesStatement ls x = Takes ls (statement_tokens x.0) x.1 × IsTrue (is_statement x.0)
@@ -248,7 +248,7 @@ statement_takes ls x all e =
     let v = value_at_takes c.0 d.0 sign.lexed d.1 in
     let one : StatementTree × List Lexeme = (assignment b.0.0 false d.0.0, d.0.1) in
     let takes = Takes-then ls (b.0.0 ∷ []) b.0.1 (codes "<=" ∷ value_tokens d.0.0) d.0.1 t.0 (Takes-then b.0.1 (codes "<=" ∷ []) c.0 (value_tokens d.0.0) d.0.1 sign v.0) in
-    subst (TakesStatement ls) (some_is one x d.2) (takes, and_from (is_name b.0.0) _ t.1 v.1)
+    moved (TakesStatement ls) one x d.2 (takes, and_from (is_name b.0.0) _ t.1 v.1)
 
 clocked_takes : (ls : List Lexeme) (x : ItemTree × List Lexeme) → AreLexed ls → clocked_at ls ≡ Some x → TakesRest (codes "always") ls x
 unfolding clocked_at
@@ -258,7 +258,7 @@ clocked_takes ls x all e =
     let d = bind_some (statement_at b.0.1) (λ s. Some (clocked b.0.0 s.0, s.1)) x b.2 in
     let s = statement_takes b.0.1 d.0 c.0.lexed d.1 in
     let one : ItemTree × List Lexeme = (clocked b.0.0 d.0.0, d.0.1) in
-    subst (TakesRest (codes "always") ls) (some_is one x d.2) (clock_tokens b.0.0 ++ statement_tokens d.0.0, refl, Takes-then ls (clock_tokens b.0.0) b.0.1 (statement_tokens d.0.0) d.0.1 c.0 s.0, and_from (is_name b.0.0) _ c.1 s.1)
+    moved (TakesRest (codes "always") ls) one x d.2 (clock_tokens b.0.0 ++ statement_tokens d.0.0, refl, Takes-then ls (clock_tokens b.0.0) b.0.1 (statement_tokens d.0.0) d.0.1 c.0 s.0, and_from (is_name b.0.0) _ c.1 s.1)
 
 with_word : (w : List ℕ) (a b : List Lexeme) (x : ItemTree × List Lexeme) → Takes a (w ∷ []) b → TakesRest w b x → TakesItem a x
 with_word w a b x p q = (subst (λ (ts : List (List ℕ)). Takes a ts x.1) (sym q.1) (Takes-then a (w ∷ []) b q.0 x.1 p q.2), q.3)
@@ -289,12 +289,12 @@ unfolding items_at
 items_takes zero ls x all e = none_is_some x e
 items_takes (suc n) ls x all e =
     ⊎_elim
-    (λ w. subst (TakesItems ls) (some_is ([], w.0) x w.2) (record { takes = token_takes kinds.Endmodule ls w.0 refl all w.1; items = refl }))
+    (λ w. moved (TakesItems ls) ([], w.0) x w.2 (record { takes = token_takes kinds.Endmodule ls w.0 refl all w.1; items = refl }))
     (λ w.
     let b = bind_some (item_at ls) (λ i. items_at n i.1 >>= λ more. Some (i.0 ∷ more.0, more.1)) x w.1 in
     let one = item_takes ls b.0 all b.1 in
     let c = bind_some (items_at n b.0.1) (λ more. Some (b.0.0 ∷ more.0, more.1)) x b.2 in
-    subst (TakesItems ls) (some_is (b.0.0 ∷ c.0.0, c.0.1) x c.2) (more_items ls b.0.0 b.0.1 c.0.1 c.0.0 one (items_takes n b.0.1 c.0 one.0.lexed c.1)))
+    moved (TakesItems ls) (b.0.0 ∷ c.0.0, c.0.1) x c.2 (more_items ls b.0.0 b.0.1 c.0.1 c.0.0 one (items_takes n b.0.1 c.0 one.0.lexed c.1)))
     (where_some (token_at kinds.Endmodule ls) (λ rest. Some ([], rest)) (item_at ls >>= λ i. items_at n i.1 >>= λ more. Some (i.0 ∷ more.0, more.1)) x e)
 
 -- ---- modules
@@ -325,6 +325,9 @@ whole_module ls a b c d e n ds is p0 p1 name p2 ports p3 items =
       and_from _ _ (and_from _ _ (and_from _ _ name (lt-ltb 0 (length ds) ports.some)) ports.ports) items.items,
     )
 
+up_to_end : (ls rest : List Lexeme) (is : List ItemTree) → rest ≡ [] → TakesItems ls (is, rest) → TakesItems ls (is, [])
+up_to_end ls rest is e h = subst (λ (r : List Lexeme). TakesItems ls (is, r)) e h
+
 -- what is left behind the name, the ports and the items
 abbrev rest_of_module : List ℕ → List Decl → List ItemTree × List Lexeme → Option ModuleTree
 rest_of_module n ds is = end_at is.1 >>= λ nothing. Some (record { name = n; ports = ds; items = is.0 })
@@ -346,5 +349,5 @@ module_takes ls m all h =
     let items = items_takes (length c.0) c.0 is.0 p3.lexed is.1 in
     let u = bind_some (end_at is.0.1) (λ nothing. Some (record { name = n.0.0; ports = ps.0.0; items = is.0.0 })) m is.2 in
     let ended = end_is is.0.1 u.0 u.1 in
-    subst (IsTaken ls) (some_is (record { name = n.0.0; ports = ps.0.0; items = is.0.0 }) m u.2)
-    (whole_module ls a.0 n.0.1 b.0 ps.0.1 c.0 n.0.0 ps.0.0 is.0.0 p0 p1.0 p1.1 p2 ports p3 (subst (λ (r : List Lexeme). TakesItems c.0 (is.0.0, r)) ended items))
+    moved (IsTaken ls) (record { name = n.0.0; ports = ps.0.0; items = is.0.0 }) m u.2
+    (whole_module ls a.0 n.0.1 b.0 ps.0.1 c.0 n.0.0 ps.0.0 is.0.0 p0 p1.0 p1.1 p2 ports p3 (up_to_end c.0 is.0.1 is.0.0 ended items))

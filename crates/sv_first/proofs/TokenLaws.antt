@@ -22,6 +22,9 @@ where_some None f other y e = inr (refl, e)
 pub some_is : {A : Type 0} (x y : A) → Some x ≡ Some y → x ≡ y
 some_is x y e = cc
 
+pub moved : {A : Type 0} (P : A → Type 0) (x y : A) → Some x ≡ Some y → P x → P y
+moved P x y e p = subst P (some_is x y e) p
+
 -- ---- what is read
 
 -- the lexemes are these texts and then the rest

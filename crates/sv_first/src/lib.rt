@@ -2,6 +2,9 @@
 //!
 //! [`read_module`] reads one module of one-bit signals. What bytes mean a module is said in `specs/Spelling.antt` of `sv_ast`:
 //! exactly these are read, each as the one module that it means.
+//!
+//! Bytes become tokens (`lexer`), and tokens a tree, from left to right. The definitions in `specs/` say how the private functions
+//! do that, and are no part of what the crate promises.
 #![tactic(auto)]
 
 mod declarations;
@@ -16,3 +19,6 @@ mod values;
 mod words;
 
 pub use modules::read_module;
+
+#[cfg(test)]
+mod tests;

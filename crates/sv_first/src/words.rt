@@ -1,9 +1,8 @@
 // Words.
 ghost use Rattle.std.specs.Prelude.{◌≡◌, map};
 ghost use Rattle.std.specs.List.{prefix_len};
-ghost use Rattle.sv_ast.specs.Spelling.{begins_word, continues_word, is_blank};
 ghost use Rattle.sv_ast.specs.Names.{holds};
-ghost use Rattle.sv_ast.specs.Spelling.{reserved};
+ghost use Rattle.sv_ast.specs.Spelling.{begins_word, continues_word, is_blank, reserved};
 ghost use Rattle.sv_first.specs.Words.{word_kind};
 
 use crate::token::TokenKind;
@@ -142,18 +141,21 @@ const RESERVED: [&[u8]; 130] = [
     b"invariant",
 ];
 
+/// Whether the byte only parts tokens.
 pub fn is_blank(byte: u8) -> bool
     ensures { result ≡ is_blank byte }
 {
     matches!(byte, b' ' | b'\t' | b'\r' | b'\n' | 0x0c)
 }
 
+/// Whether a word may begin with the byte.
 pub fn begins_word(byte: u8) -> bool
     ensures { result ≡ begins_word byte }
 {
     byte.is_ascii_alphabetic() || byte == b'_'
 }
 
+// Whether the byte goes on a word.
 fn continues_word(byte: u8) -> bool
     ensures { result ≡ continues_word byte }
 {
@@ -174,13 +176,14 @@ pub fn word_length(bytes: &[u8]) -> usize
     length
 }
 
-// Whether the word is one of these.
+// Whether the word is one of those.
 fn is_among(word: &[u8], words: &[&[u8]]) -> bool
     ensures { result ≡ holds (map (λ w. w.now) words.now) word.now }
 {
     words.contains(&word)
 }
 
+// Whether the word names nothing.
 fn is_reserved(word: &[u8]) -> bool
     ensures { result ≡ holds reserved word.now }
 {

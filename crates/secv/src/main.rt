@@ -7,7 +7,8 @@ use std::rt::Files;
 use sv_cli::{Outcome, run};
 use sv_io::{FileCabinet, StdSink, StdSource};
 
-const HELP: &str = "secv checks designs in SecVerilog: Verilog in which every signal has a security label.
+const HELP: &str =
+    "secv checks designs in SecVerilog: Verilog in which every signal has a security label.
 
 usage:
   secv check FILE    say whether a secret can reach a public signal
@@ -21,8 +22,11 @@ const VERSION: &str = "secv 0.1.0\n";
 
 // The statuses of `Outcome` for what is answered here.
 const DONE: u8 = 0;
+
 const WRONG_WORDS: u8 = 2;
+
 const WRITE_FAULT: u8 = 5;
+
 const OUT_OF_MEMORY: u8 = 6;
 
 fn main(rt: HostRuntime) -> ExitCode {

@@ -1,5 +1,5 @@
 -- The table of a lattice: one number for each point, whose bit b says whether the point flows to point b.
-use Rattle.std.specs.Prelude.{◌≡◌, ℕ, ◌<◌, ◌^◌, ◌↔◌, Bool, ◌==◌, IsTrue, List, length, slice_index}
+use Rattle.std.specs.Prelude.{◌≡◌, ℕ, ◌<◌, ◌^◌, ◌↔◌, Bool, ◌==◌, ◌||◌, ◌&&◌, IsTrue, MatchOption, Option, List, length, slice_index}
 use Rattle.std.specs.Int.{bit_at}
 use Rattle.sv_lattice.specs.Flows.{Flows, EachPair, IsLattice, IsPointCount, IsApart, HasJoin, HasMeet, IsFirstWithout}
 use Rattle.sv_lattice.specs.declared.points.LatticeFault.{LatticeFault}
@@ -35,11 +35,35 @@ pub record IsLatticeTable (table : List ℕ) : Type 0 where
   pub preorder : IsPreorder (length table) (FlowsTo table)
   pub lattice : IsLattice (length table) (FlowsTo table)
 
+-- what the rows say of a and b after a flow from x to y was added: a flows to b as before, or by x and y
+abbrev pub GainsFlow : List ℕ → List ℕ → ℕ → ℕ → ℕ → ℕ → Type 0
+GainsFlow old new x y a b = flow_test new a b ≡ (flow_test old a b || (flow_test old a x && flow_test old y b))
+
+-- the second table has the flows of the first the other way round
+abbrev pub IsTurned : List ℕ → List ℕ → Type 0
+IsTurned table turned = EachPair (length table) (λ a b. flow_test turned a b ≡ flow_test table b a)
+
 -- k is the first number below n of which P does not hold
 pub record IsFirstNot (n : ℕ) (P : ℕ → Type 0) (k : ℕ) : Type 0 where
   pub is_point : k < n
   pub fails : ¬ P k
   pub before : (j : ℕ) → j < k → P j
+
+-- a search for the first number below n of which P does not hold has this answer
+abbrev pub FindsNumber : ℕ → (ℕ → Type 0) → Option ℕ → Type 0
+FindsNumber n P answer = MatchOption answer ((k : ℕ) → k < n → P k) (IsFirstNot n P)
+
+-- a search for the first two points below n of which Q does not hold has this answer
+abbrev pub FindsPair : ℕ → (ℕ → ℕ → Type 0) → Option (ℕ × ℕ) → Type 0
+FindsPair n Q answer = MatchOption answer (EachPair n Q) (λ pair. IsFirstWithout n Q pair.0 pair.1)
+
+-- of the points of a table, these two are no two different ones that flow to each other
+abbrev pub AreApart : List ℕ → ℕ → ℕ → Type 0
+AreApart table = IsApart (FlowsTo table)
+
+-- of the points of a table, these two have a least upper one
+abbrev pub HaveJoin : List ℕ → ℕ → ℕ → Type 0
+HaveJoin table = HasJoin (length table) (FlowsTo table)
 
 -- the first fault of a table's points, where R says which point flows to which
 abbrev pub IsOrderFault : ℕ → (ℕ → ℕ → Type 0) → LatticeFault → Type 0

@@ -1,14 +1,13 @@
 // The first two points that break what a lattice asks for, found in its table.
-ghost use Rattle.std.specs.Prelude.{◌≡◌, ◌↔◌, ℕ, ◌<◌, ◌≤◌, length, IsTrue, MatchOption};
-ghost use Rattle.sv_lattice.specs.Flows.{IsApart, HasJoin, EachPair, IsFirstWithout};
-ghost use Rattle.sv_lattice.specs.Tables.{FlowsTo, IsWithin, IsPreorder, IsFirstNot};
+ghost use Rattle.std.specs.Prelude.{◌↔◌, ◌<◌, ◌≤◌, length, IsTrue};
+ghost use Rattle.sv_lattice.specs.Tables.{FlowsTo, IsWithin, IsPreorder, FindsNumber, FindsPair, AreApart, HaveJoin};
 
 use crate::flow_table::has;
 
 /// The first two different points that flow to each other.
 pub fn first_circle(table: &[u32]) -> Option<(u32, u32)>
     requires { length table.now ≤ 32 }
-    ensures { MatchOption result (EachPair (length table.now) (IsApart (FlowsTo table.now))) (λ pair. IsFirstWithout (length table.now) (IsApart (FlowsTo table.now)) pair.0 pair.1) }
+    ensures { FindsPair (length table.now) (AreApart table.now) result }
 {
     for first in 0..table.len() {
         if let Some(second) = circle_with(table, first) {
@@ -21,7 +20,7 @@ pub fn first_circle(table: &[u32]) -> Option<(u32, u32)>
 fn circle_with(table: &[u32], first: usize) -> Option<usize>
     requires count { length table.now ≤ 32 }
     requires first { first < length table.now }
-    ensures { MatchOption result ((b : ℕ) → b < length table.now → IsApart (FlowsTo table.now) first b) (IsFirstNot (length table.now) (IsApart (FlowsTo table.now) first)) }
+    ensures { FindsNumber (length table.now) (AreApart table.now first) result }
 {
     for second in 0..table.len() {
         if second != first && has(table[first], second) && has(table[second], first) {
@@ -36,7 +35,7 @@ pub fn first_unjoined(table: &[u32]) -> Option<(u32, u32)>
     requires count { length table.now ≤ 32 }
     requires within { IsWithin (length table.now) table.now }
     requires preorder { IsPreorder (length table.now) (FlowsTo table.now) }
-    ensures { MatchOption result (EachPair (length table.now) (HasJoin (length table.now) (FlowsTo table.now))) (λ pair. IsFirstWithout (length table.now) (HasJoin (length table.now) (FlowsTo table.now)) pair.0 pair.1) }
+    ensures { FindsPair (length table.now) (HaveJoin table.now) result }
 {
     for first in 0..table.len() {
         if let Some(second) = unjoined_with(table, first) {
@@ -50,7 +49,7 @@ fn unjoined_with(table: &[u32], first: usize) -> Option<usize>
     requires within { IsWithin (length table.now) table.now }
     requires preorder { IsPreorder (length table.now) (FlowsTo table.now) }
     requires first { first < length table.now }
-    ensures { MatchOption result ((b : ℕ) → b < length table.now → HasJoin (length table.now) (FlowsTo table.now) first b) (IsFirstNot (length table.now) (HasJoin (length table.now) (FlowsTo table.now) first)) }
+    ensures { FindsNumber (length table.now) (HaveJoin table.now first) result }
 {
     for second in 0..table.len() {
         if !have_join(table, first, second) {
@@ -66,7 +65,7 @@ fn have_join(table: &[u32], first: usize, second: usize) -> bool
     requires preorder { IsPreorder (length table.now) (FlowsTo table.now) }
     requires first { first < length table.now }
     requires second { second < length table.now }
-    ensures { IsTrue result ↔ HasJoin (length table.now) (FlowsTo table.now) first second }
+    ensures { IsTrue result ↔ HaveJoin table.now first second }
 {
     table.contains(&(table[first] & table[second]))
 }

@@ -1,9 +1,9 @@
 // The table of a lattice while it is made.
-ghost use Rattle.std.specs.Prelude.{◌≡◌, ℕ, ◌^◌, ◌<◌, ◌≤◌, ◌==◌, ◌||◌, ◌&&◌, [], length, IfOk, MatchOption};
+ghost use Rattle.std.specs.Prelude.{◌≡◌, ℕ, ◌^◌, ◌<◌, ◌≤◌, ◌==◌, [], length, IfOk, MatchOption};
 ghost use Rattle.std.specs.Int.{bit_at};
 ghost use Rattle.std.specs.List.{All};
 ghost use Rattle.sv_lattice.specs.Flows.{IsKnown, IsFirstUnknown, IsDeclared, EachPair};
-ghost use Rattle.sv_lattice.specs.Tables.{flow_test, IsWithin, IsTableOf};
+ghost use Rattle.sv_lattice.specs.Tables.{flow_test, IsWithin, IsTableOf, GainsFlow, IsTurned};
 
 use std::alloc::{AllocError, Global};
 
@@ -44,7 +44,7 @@ pub fn add_flow(table: &mut [u32], from: usize, to: usize)
     requires count { length table.old ≤ 32 }
     requires from { from < length table.old }
     requires to { to < length table.old }
-    ensures exact { EachPair (length table.old) (λ a b. flow_test table.new a b ≡ (flow_test table.old a b || (flow_test table.old a from && flow_test table.old to b))) }
+    ensures exact { EachPair (length table.old) (GainsFlow table.old table.new from to) }
     ensures within { IsWithin (length table.old) table.old → IsWithin (length table.old) table.new }
 {
     let gained = table[to];
@@ -91,7 +91,7 @@ pub fn column(table: &[u32], point: usize) -> u32
 pub fn transposed(alloc: Global, table: &[u32]) -> Result<Vec<u32>, AllocError>
     requires { length table.now ≤ 32 }
     ensures size { IfOk result (λ turned. length turned.items ≡ length table.now) }
-    ensures turned { IfOk result (λ turned. EachPair (length table.now) (λ a b. flow_test turned.items a b ≡ flow_test table.now b a)) }
+    ensures turned { IfOk result (λ turned. IsTurned table.now turned.items) }
     ensures within { IfOk result (λ turned. IsWithin (length table.now) turned.items) }
 {
     let mut turned = Vec::with_capacity(alloc, table.len())?;

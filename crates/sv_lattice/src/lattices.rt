@@ -1,7 +1,7 @@
 // Lattices.
 ghost use Rattle.std.specs.Prelude.{◌≡◌, ℕ, ◌<◌, ◌≤◌, ◌^◌, length, OnOk, IfOk, IfErr, MatchResult};
 ghost use Rattle.sv_lattice.specs.Flows.{Flows, EachPair, IsDeclared, IsFaultOf, IsLattice};
-ghost use Rattle.sv_lattice.specs.Tables.{flow_test, FlowsTo, IsWithin, IsPreorder, IsTableOf, IsLatticeTable, IsOrderFault};
+ghost use Rattle.sv_lattice.specs.Tables.{flow_test, FlowsTo, IsWithin, IsPreorder, IsTableOf, IsLatticeTable, IsOrderFault, IsTurned};
 
 use crate::bounds::{first_circle, first_unjoined};
 use crate::flow_table::{closed, first_unknown, has, transposed};
@@ -38,7 +38,7 @@ fn check_order(table: &[u32], turned: &[u32]) -> Result<(), LatticeFault>
     requires preorder { IsPreorder (length table.now) (FlowsTo table.now) }
     requires size { length turned.now ≡ length table.now }
     requires within { IsWithin (length table.now) turned.now }
-    requires turned { EachPair (length table.now) (λ a b. flow_test turned.now a b ≡ flow_test table.now b a) }
+    requires turned { IsTurned table.now turned.now }
     ensures { MatchResult result (λ _. IsLattice (length table.now) (FlowsTo table.now)) (IsOrderFault (length table.now) (FlowsTo table.now)) }
 {
     if let Some((first, second)) = first_circle(table) {

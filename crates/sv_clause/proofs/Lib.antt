@@ -1,0 +1,4 @@
+pub mod Standing
+pub mod Truth
+pub mod UnitLaws
+pub mod Merging

@@ -1,12 +1,12 @@
 -- What is true wherever clauses are: their resolvents, and all that a log derives from them.
-use Rattle.std.proofs.Common.{◌≡◌, ℕ, zero, suc, Bool, true, false, not, ◌&&◌, ◌||◌, ℤ, pos, negsuc, neg_ℤ, List, [], ◌∷◌, ◌++◌, refl, sym, ap, ◌∙◌, subst, ⊎_elim, All, Option, Some, None, slice_get, length, IsSomeAnd, ◌-◌, map}
-use Rattle.std.specs.List.{list_any, AllByRecursion}
+use Rattle.std.proofs.Common.{◌≡◌, ℕ, zero, suc, Bool, true, false, not, ◌&&◌, ◌||◌, ℤ, pos, negsuc, neg_ℤ, List, [], ◌∷◌, ◌++◌, refl, sym, ◌∙◌, subst, ⊎_elim, Option, Some, None, slice_get, length, IsSomeAnd, ◌-◌}
+use Rattle.std.specs.List.{AllByRecursion}
 use Rattle.std.specs.Ordering.{int_eq}
-use Rattle.std.proofs.lemmas.Bool.{false≢true, or_left, or_right, cases_Bool, not-true}
+use Rattle.std.proofs.lemmas.Bool.{false≢true, or_right, cases_Bool, not-true}
 use Rattle.std.proofs.lemmas.List.Elements.{recursion_from_All, All-push}
 use Rattle.sv_clause.specs.Literals.{stands, SameLiterals, literal_true, clause_true, Satisfies, HaveNoSolution}
-use Rattle.sv_clause.specs.Resolution.{IsOnlyClash, IsResolvent}
-use Rattle.sv_clause.specs.Logs.{Step, numbered, ResolvesTo, ChainGives, IsDerived, AllDerived, EndsEmpty, Refutes}
+use Rattle.sv_clause.specs.Resolution.{IsResolvent}
+use Rattle.sv_clause.specs.Logs.{Step, numbered, ResolvesTo, ChainGives, AllDerived, Refutes}
 use Rattle.sv_clause.proofs.Standing.{same_from_int_eq, found_by, any_from}
 
 -- no values make a literal and its negation true

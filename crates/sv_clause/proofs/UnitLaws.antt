@@ -1,5 +1,5 @@
 -- What unit resolution shows.
-use Rattle.std.proofs.Common.{◌≡◌, ◌≢◌, ℕ, zero, suc, ◌<◌, Bool, true, false, ℤ, neg_ℤ, List, [], ◌∷◌, ◌++◌, refl, sym, ap, ◌∙◌, subst, ⊎_elim, inl, inr, ◌⊎◌, All, Any, Contains, Option, Some, None, slice_get, length, take, get_or, arith}
+use Rattle.std.proofs.Common.{◌≡◌, ◌≢◌, ℕ, zero, suc, Bool, true, false, ℤ, neg_ℤ, List, [], ◌∷◌, sym, ap, ◌∙◌, subst, ⊎_elim, inl, inr, ◌⊎◌, Any, Contains, Some, slice_get, length, take, arith}
 use Rattle.std.proofs.lemmas.Bool.{false≢true, or_cases, or_left, or_right}
 use Rattle.std.proofs.lemmas.List.Elements.{All-contains}
 use Rattle.std.specs.Ordering.{int_eq}
@@ -7,7 +7,7 @@ use Rattle.std.proofs.lemmas.List.{take_all}
 use Rattle.sv_clause.specs.Literals.{stands, literal_true, clause_true, Satisfies, HaveNoSolution}
 use Rattle.sv_clause.specs.Units.{IsOpen, HasOneIn, HasTwoOpen, IsAtRest, ShowsNew, IsNew, IsForced, IsUnitConflict}
 use Rattle.sv_clause.proofs.Standing.{found_by, cases_int, same_from_int_eq}
-use Rattle.sv_clause.proofs.Truth.{not_both_true, holds_at}
+use Rattle.sv_clause.proofs.Truth.{not_both_true}
 
 -- a literal and its negation do not both stand in a list at rest
 at_rest_not_both : (clauses : List (List ℤ)) (literals : List ℤ) (l : ℤ) → IsAtRest clauses literals → stands l literals ≡ true → stands (neg_ℤ l) literals ≡ true → ⊥

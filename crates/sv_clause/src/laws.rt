@@ -1,6 +1,6 @@
 // What resolution and unit resolution show, as contracts of functions that do nothing.
 ghost use Rattle.std.specs.Prelude.{◌≡◌, ℕ, ℤ, Bool, List, Contains, IsTrue};
-ghost use Rattle.sv_clause.specs.Literals.{stands, clause_true, HaveNoSolution};
+ghost use Rattle.sv_clause.specs.Literals.{stands, clause_true, HaveNoSolution, IsClause, SameLiterals};
 ghost use Rattle.sv_clause.specs.Resolution.{IsResolvent};
 ghost use Rattle.sv_clause.specs.Logs.{Step, Refutes};
 ghost use Rattle.sv_clause.specs.Units.{IsNew, IsUnitConflict};
@@ -26,4 +26,9 @@ pub fn new_contains_no_earlier()
 /// Where clauses have a unit conflict, no values make them all true.
 pub fn unit_conflict_has_no_solution()
     ensures { (clauses : List (List ℤ)) (literals : List ℤ) → IsUnitConflict clauses literals → HaveNoSolution clauses }
+{}
+
+/// A clause is known by its literals: each set of literals has one normal form.
+pub fn same_literals_same_clause()
+    ensures { (first second : List ℤ) → IsClause first → IsClause second → SameLiterals first second → first ≡ second }
 {}

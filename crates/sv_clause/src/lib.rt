@@ -12,7 +12,7 @@ mod resolution;
 pub use clause::Clause;
 pub use laws::{
     new_contains_no_earlier, refuted_has_no_solution, resolvent_holds_where_both_do,
-    unit_conflict_has_no_solution,
+    same_literals_same_clause, unit_conflict_has_no_solution,
 };
 pub use logs::{Derived, Log};
 pub use resolution::{ResolveFault, resolve, resolve_into};

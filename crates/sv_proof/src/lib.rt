@@ -1,0 +1,7 @@
+//! Certificates: their text, and the check that a log of resolution refutes clauses, whoever made it.
+#![tactic(auto)]
+
+mod check;
+
+pub use check::{LogFault, check_log};
+pub use std::alloc::AllocError as OutOfMemory;

@@ -13,9 +13,9 @@ same_first a b c p r same h =
       clash = record {
         here = sym (same p) ∙ h.clash.here;
         there = h.clash.there;
-        only = λ o e f. h.clash.only o (same o ∙ e) f
+        only = λ o e f. h.clash.only o (same o ∙ e) f;
       };
-      literals = λ o. h.literals o ∙ ap (λ z. ((z && not (int_eq o p)) || (stands o c && not (int_eq o (neg_ℤ p))))) (same o)
+      literals = λ o. h.literals o ∙ ap (λ z. ((z && not (int_eq o p)) || (stands o c && not (int_eq o (neg_ℤ p))))) (same o);
     }
 
 pub same_start : (all : List (List ℤ)) (a b : List ℤ) (chain : List ℕ) (clause : List ℤ) → SameLiterals a b → ResolvesTo all a chain clause → ResolvesTo all b chain clause
@@ -54,9 +54,9 @@ module _ (all : List (List ℤ)) (from : List ℤ) (chain : List ℕ) (work : Li
         normal = up;
         onward = λ clause r. g.onward clause (subst (λ z. ResolvesTo all work z clause) (sym next_is) (next, p, now, sym e, is, r));
         back = λ clause r.
-          let (next', q, other, e', is', rest) = at_next clause r in
-          let same : next' ≡ next = some_same next' next (sym e' ∙ sym e) in
-          same_start all other now (drop (k + 1) chain) clause (one_resolvent work next q p other now (subst (λ z. IsResolvent work z q other) same is') is) rest
+            let (next', q, other, e', is', rest) = at_next clause r in
+            let same : next' ≡ next = some_same next' next (sym e' ∙ sym e) in
+            same_start all other now (drop (k + 1) chain) clause (one_resolvent work next q p other now (subst (λ z. IsResolvent work z q other) same is') is) rest;
       }
 
   pub stuck_at_number : None ≡ numbered all (get_or chain k 0) → (clause : List ℤ) → ResolvesTo all from chain clause → ⊥

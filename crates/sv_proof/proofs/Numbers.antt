@@ -40,7 +40,7 @@ pub numbered_past : (clauses : List (List ℤ)) (steps : List Derived) (n : ℕ)
     → None ≡ numbered (clauses ++ clauses_of (map plain_step steps)) n
 numbered_past clauses steps n positive past outside =
     sym (numbered_at (clauses ++ clauses_of (map plain_step steps)) n positive ∙ slice_get_right clauses (clauses_of (map plain_step steps)) (n - 1) past
-      ∙ slice_get_past (clauses_of (map plain_step steps)) (n - 1 - length clauses) (let same = length_clauses steps in omega arith))
+    ∙ slice_get_past (clauses_of (map plain_step steps)) (n - 1 - length clauses) (let same = length_clauses steps in omega arith))
 
 -- one more step
 pub AllDerived-push : (clauses : List (List ℤ)) (steps : List Step) (s : Step) → AllDerived clauses steps → IsDerived (clauses ++ clauses_of steps) s → AllDerived clauses (steps ++ s ∷ [])
@@ -59,7 +59,7 @@ module _ (clauses : List (List ℤ)) (steps : List Derived) (i : ℕ) (d : Deriv
   all_derived_more derived =
       let within : i < length (map plain_step steps) = let same = length-map steps plain_step in omega arith in
       let longer : take (i + 1) (map plain_step steps) ≡ take i (map plain_step steps) ++ plain_step d ∷ [] =
-        take_more (map plain_step steps) i (plain_step d) within ∙ ap (λ z. take i (map plain_step steps) ++ z ∷ []) step_is in
+      take_more (map plain_step steps) i (plain_step d) within ∙ ap (λ z. take i (map plain_step steps) ++ z ∷ []) step_is in
       subst (AllDerived clauses) (sym longer) (AllDerived-push clauses (take i (map plain_step steps)) (plain_step d) before (subst (λ z. IsDerived (clauses ++ clauses_of z) (plain_step d)) earlier_is derived))
 
   pub first_underived : (IsDerived (clauses ++ clauses_of (map plain_step (take i steps))) (plain_step d) → ⊥) → IsFirstUnderived clauses (map plain_step steps) i
@@ -68,10 +68,10 @@ module _ (clauses : List (List ℤ)) (steps : List Derived) (i : ℕ) (d : Deriv
         inside = let same = length-map steps plain_step in omega arith;
         before = before;
         underived = λ step at derived.
-          let within : i < length (map plain_step steps) = let same = length-map steps plain_step in omega arith in
-          let found : Some step ≡ Some (plain_step d) = sym at ∙ slice_get-get_or (map plain_step steps) i (plain_step d) within ∙ ap Some step_is in
-          let same : step ≡ plain_step d = cc in
-          not_derived (subst (λ z. IsDerived (clauses ++ clauses_of z) (plain_step d)) (sym earlier_is) (subst (λ z. IsDerived (clauses ++ clauses_of (take i (map plain_step steps))) z) same derived))
+            let within : i < length (map plain_step steps) = let same = length-map steps plain_step in omega arith in
+            let found : Some step ≡ Some (plain_step d) = sym at ∙ slice_get-get_or (map plain_step steps) i (plain_step d) within ∙ ap Some step_is in
+            let same : step ≡ plain_step d = cc in
+            not_derived (subst (λ z. IsDerived (clauses ++ clauses_of z) (plain_step d)) (sym earlier_is) (subst (λ z. IsDerived (clauses ++ clauses_of (take i (map plain_step steps))) z) same derived));
       }
 
 pub all_derived_all : (clauses : List (List ℤ)) (steps : List Derived) (i : ℕ) → length steps ≤ i → AllDerived clauses (take i (map plain_step steps)) → AllDerived clauses (map plain_step steps)
@@ -80,19 +80,21 @@ all_derived_all clauses steps i past h = subst (AllDerived clauses) (take_all i 
 -- a chain by its first number
 pub chain_by_first : (all : List (List ℤ)) (chain rest : List ℕ) (n : ℕ) (from clause : List ℤ) → chain ≡ n ∷ rest → Some from ≡ numbered all n
     → (ResolvesTo all from rest clause → ChainGives all chain clause) × (ChainGives all chain clause → ResolvesTo all from rest clause)
-chain_by_first all chain rest n from clause e at =
-    (λ r. subst (λ z. ChainGives all z clause) (sym e) (from, sym at, r),
-     λ g. let (other, at', r) = subst (λ z. ChainGives all z clause) e g in
-       let found : Some other ≡ Some from = sym at' ∙ sym at in
-       let same : other ≡ from = cc in
-       subst (λ z. ResolvesTo all z rest clause) same r)
+chain_by_first all chain rest n from clause e at = (
+  λ r. subst (λ z. ChainGives all z clause) (sym e) (from, sym at, r),
+  λ g. let (other, at', r) = subst (λ z. ChainGives all z clause) e g in
+      let found : Some other ≡ Some from = sym at' ∙ sym at in
+      let same : other ≡ from = cc in
+      subst (λ z. ResolvesTo all z rest clause) same r,
+)
 
 -- whether the log ends with the empty clause, by its last step
 pub ends_empty_by_last : (steps : List Derived) (d : Derived) (empty : Bool) → Some d ≡ slice_get steps (length steps - 1) → empty ≡ eqb (length d.clause) 0
     → (empty ≡ true → EndsEmpty (map plain_step steps)) × (EndsEmpty (map plain_step steps) → empty ≡ true)
 ends_empty_by_last steps d empty at is =
     let last : slice_get (map plain_step steps) (length (map plain_step steps) - 1) ≡ Some (plain_step d) =
-      ap (λ n. slice_get (map plain_step steps) (n - 1)) (length-map steps plain_step) ∙ slice_get-map plain_step steps (length steps - 1) ∙ ap (option_map plain_step) (sym at) in
-    let P : Step → Type 0 = λ s. s.clause ≡ [] in
-    (λ yes. subst (λ o. IsSomeAnd o P) (sym last) (nil_from_length d.clause (eqb-true (length d.clause) 0 (sym is ∙ yes))),
-     λ ends. let none : d.clause ≡ [] = subst (λ o. IsSomeAnd o P) last ends in is ∙ eq-eqb (length d.clause) 0 (ap length none))
+    ap (λ n. slice_get (map plain_step steps) (n - 1)) (length-map steps plain_step) ∙ slice_get-map plain_step steps (length steps - 1) ∙ ap (option_map plain_step) (sym at) in
+    let P : Step → Type 0 = λ s. s.clause ≡ [] in (
+      λ yes. subst (λ o. IsSomeAnd o P) (sym last) (nil_from_length d.clause (eqb-true (length d.clause) 0 (sym is ∙ yes))),
+      λ ends. let none : d.clause ≡ [] = subst (λ o. IsSomeAnd o P) last ends in is ∙ eq-eqb (length d.clause) 0 (ap length none),
+    )

@@ -2,6 +2,8 @@
 #![tactic(auto)]
 
 mod check;
+mod write;
 
 pub use check::{LogFault, check_log};
 pub use std::alloc::AllocError as OutOfMemory;
+pub use write::write_proof;

@@ -1,3 +1,5 @@
 pub mod Numbers
 pub mod Chains
+pub mod Digits
+pub mod Splitting
 pub mod Writing

@@ -2,8 +2,12 @@
 #![tactic(auto)]
 
 mod check;
+mod read;
+mod steps;
+mod words;
 mod write;
 
 pub use check::{LogFault, check_log};
+pub use read::{ProofFault, read_proof};
 pub use std::alloc::AllocError as OutOfMemory;
 pub use write::write_proof;

@@ -28,5 +28,5 @@ steps-preserved c =
 pub returns-clause-no_solution : goal.returns-clause-no_solution
 returns-clause-no_solution c =
     let refutes : Refutes c.args.clauses.now (plain_log c.args.log.now) =
-      record { derived = all_derived_all c.args.clauses.now c.args.log.now.steps.items c.steps.i (omega arith) c.steps.invariant; ends_empty = grind (arith, common_steps) } in
+    record { derived = all_derived_all c.args.clauses.now c.args.log.now.steps.items c.steps.i (omega arith) c.steps.invariant; ends_empty = grind (arith, common_steps) } in
     refuted c.args.clauses.now (plain_log c.args.log.now) refutes

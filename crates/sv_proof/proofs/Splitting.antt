@@ -1,5 +1,5 @@
 -- Words and lines: where the first separator stands, and what is spelled with it.
-use Rattle.std.proofs.Common.{◌≡◌, ◌≢◌, ℕ, zero, suc, ◌+◌, ◌<◌, ◌≤◌, ◌^◌, ℤ, pos, negsuc, unsigned_abs, List, [], ◌∷◌, ◌++◌, refl, sym, ap, ◌∙◌, subst, ⊎_elim, inl, inr, ◌⊎◌, length, codes, decimal, arith}
+use Rattle.std.proofs.Common.{◌≡◌, ◌≢◌, ℕ, zero, suc, ◌+◌, ◌<◌, ◌≤◌, ◌^◌, ℤ, pos, negsuc, unsigned_abs, List, [], ◌∷◌, ◌++◌, refl, sym, ap, ◌∙◌, subst, ⊎_elim, inl, inr, ◌⊎◌, length, get_or, codes, decimal, arith}
 use Rattle.std.specs.List.{AllByRecursion, flat_map}
 use Rattle.std.specs.Fmt.{signed_decimal}
 use Rattle.std.specs.Str.Parse.{AllDigits, digits_value}
@@ -56,7 +56,7 @@ decimal_zero = decimal_digit 0 (omega arith)
 -- a literal that is written as 0 is 0
 pub zero_is : (l : ℤ) → unsigned_abs l < 2 ^ 31 → signed_decimal l ≡ codes "0" → l ≡ pos 0
 zero_is (pos n) small e = ap pos (decimal_injective n 0 (omega arith) (omega arith) (e ∙ sym decimal_zero))
-zero_is (negsuc n) small e = absurd (cc)
+zero_is (negsuc n) small e = let first : ◌≡◌ {A = ℕ} 45 48 = ap (λ z. get_or z 0 0) e in absurd (omega arith)
 
 pub same_literal : (x y : ℤ) → unsigned_abs x < 2 ^ 31 → unsigned_abs y < 2 ^ 31 → signed_decimal x ≡ signed_decimal y → x ≡ y
 same_literal (pos m) (pos n) sx sy e = ap pos (decimal_injective m n (omega arith) (omega arith) e)

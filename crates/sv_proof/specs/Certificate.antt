@@ -28,7 +28,7 @@ step_line step = literal_words step.clause ++ (word (codes "0") ++ (number_words
 
 -- the line before the steps of a log: the log's number from 1, and how many steps follow
 abbrev pub log_line : ℕ → ℕ → List ℕ
-log_line number steps = codes "o " ++ decimal number ++ codes " " ++ decimal steps
+log_line number steps = codes "o " ++ (word (decimal number) ++ decimal steps)
 
 -- the lines of logs that are numbered from a number on
 abbrev pub log_lines : ℕ → List (List Step) → List (List ℕ)

@@ -14,7 +14,15 @@ pub fn read_counted(line: &[u8], prefix: &[u8]) -> Option<u64>
     ensures none { IsNone result → (count : ℕ) → count < 2 ^ 32 → line.now ≡ prefix.now ++ decimal count → ⊥ }
 {
     let rest = without_prefix(line, prefix)?;
-    let count = read_number(rest)?;
+    read_count(rest)
+}
+
+// The number below 2 ^ 32 that is written so.
+fn read_count(word: &[u8]) -> Option<u64>
+    ensures some { IfSome result (λ count. (word.now ≡ decimal count) × (count < 2 ^ 32)) }
+    ensures none { IsNone result → (count : ℕ) → count < 2 ^ 32 → word.now ≡ decimal count → ⊥ }
+{
+    let count = read_number(word)?;
     if count > 4_294_967_295 {
         return None;
     }
@@ -31,7 +39,7 @@ pub fn read_log_line(line: &[u8], number: u64) -> Option<u64>
     if read_number(word)? != number {
         return None;
     }
-    read_counted(rest, b"")
+    read_count(rest)
 }
 
 // The step of a line.

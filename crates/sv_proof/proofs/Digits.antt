@@ -32,9 +32,10 @@ none_other word k n inside other small e =
 pub digits_so_far : (word : List ℕ) (k value : ℕ) → k < length word → 48 ≤ get_or word k 0 → get_or word k 0 ≤ 57 → AllDigits 10 (take k word) → value ≡ digits_value 10 (take k word)
     → AllDigits 10 (take (k + 1) word) × (value * 10 + (get_or word k 0 - 48) ≡ digits_value 10 (take (k + 1) word))
 digits_so_far word k value inside low high all is =
-    let d : digit_value (get_or word k 0) ≡ get_or word k 0 - 48 = digit_is (get_or word k 0) low high in
-    (digits_more 10 word k inside all (omega arith),
-     ap (λ v. v * 10 + (get_or word k 0 - 48)) is ∙ ap (λ v. digits_value 10 (take k word) * 10 + v) (sym d) ∙ sym (digits_value_more 10 word k inside))
+    let d : digit_value (get_or word k 0) ≡ get_or word k 0 - 48 = digit_is (get_or word k 0) low high in (
+      digits_more 10 word k inside all (omega arith),
+      ap (λ v. v * 10 + (get_or word k 0 - 48)) is ∙ ap (λ v. digits_value 10 (take k word) * 10 + v) (sym d) ∙ sym (digits_value_more 10 word k inside),
+    )
 
 pub none_large : (word : List ℕ) (k value n : ℕ) → k < length word → 48 ≤ get_or word k 0 → get_or word k 0 ≤ 57 → AllDigits 10 (take k word) → value ≡ digits_value 10 (take k word)
     → 2 ^ 64 ≤ value * 10 + (get_or word k 0 - 48) → n < 2 ^ 64 → word ≡ decimal n → ⊥
@@ -49,8 +50,8 @@ number_is word k value past some plain all is small =
     let value_is : value ≡ digits_value 10 word = is ∙ ap (digits_value 10) whole in
     let positive : 0 < length word = ⊎_elim (λ h. h) (λ h. absurd (some (omega arith))) (cases_lt 0 (length word)) in
     sym (ap decimal value_is ∙ decimal-digits_value own word (subst (AllDigits 10) whole all) positive
-      (λ zero_first. ⊎_elim (λ long. absurd (plain zero_first long)) (λ short. omega arith) (cases_lt 1 (length word)))
-      (omega arith))
+    (λ zero_first. ⊎_elim (λ long. absurd (plain zero_first long)) (λ short. omega arith) (cases_lt 1 (length word)))
+    (omega arith))
 
 -- no number is written with a minus sign first
 pub none_signed : (rest : List ℕ) (n : ℕ) → n < 2 ^ 64 → 45 ∷ rest ≡ decimal n → ⊥

@@ -3,4 +3,7 @@ pub mod Chains
 pub mod Digits
 pub mod Splitting
 pub mod Spelling
+pub mod Following
+pub mod Breaking
+pub mod Beginning
 pub mod Writing

@@ -47,7 +47,7 @@ first_literal above text first more e lacks ([], tail, up, is) =
     inl (same_split 32 first (codes "0") more tail lacks ((λ same. absurd (omega arith)), tt) (sym e ∙ is)).0
 first_literal above text first more e lacks (l ∷ clause, tail, up, is) =
     let parts = same_split 32 first (signed_decimal l) more (literal_words clause ++ (word (codes "0") ++ tail)) lacks (lacks_signed 32 l (omega arith) up.1)
-      (sym e ∙ is ∙ word_then (signed_decimal l) (literal_words clause) (word (codes "0") ++ tail)) in
+    (sym e ∙ is ∙ word_then (signed_decimal l) (literal_words clause) (word (codes "0") ++ tail)) in
     inr (l, parts.0, up.0, up.1, (clause, tail, up.2, parts.1))
 
 pub literals_have_blank : (above : ℕ) (text : List ℕ) → Lacks 32 text → LiteralsRest above text → ⊥
@@ -84,13 +84,13 @@ module _ (line : List ℕ) (clause : List ℤ) (above : ℕ) (rest first more : 
   literals_more l now small is far e =
       record {
         so_far = r.so_far ∙ ap (λ z. literal_words clause ++ z) (parts ∙ ap (λ z. z ++ 32 ∷ more) is ∙ sym (append_assoc (signed_decimal l) (32 ∷ []) more))
-          ∙ sym (append_assoc (literal_words clause) (word (signed_decimal l)) more) ∙ ap (λ z. z ++ more) (sym (literal_words-push clause l)) ∙ ap (λ z. literal_words z ++ more) (sym e);
+            ∙ sym (append_assoc (literal_words clause) (word (signed_decimal l)) more) ∙ ap (λ z. z ++ more) (sym (literal_words-push clause l)) ∙ ap (λ z. literal_words z ++ more) (sym e);
         up = subst (λ z. UpTo 0 z (unsigned_abs l)) (sym e) (up_to_push 0 above clause l r.up far small);
         back = λ whole.
-          ⊎_elim
-          (λ nil. let none : unsigned_abs l ≡ 0 = ap unsigned_abs (zero_is l small (sym is ∙ nil)) in absurd (omega arith))
-          (λ (x, is', up, small', more'). subst (λ z. LiteralsRest (unsigned_abs z) more) (sym (same_literal l x small small' (sym is ∙ is'))) more')
-          (next_literal whole)
+            ⊎_elim
+            (λ nil. let none : unsigned_abs l ≡ 0 = ap unsigned_abs (zero_is l small (sym is ∙ nil)) in absurd (omega arith))
+            (λ (x, is', up, small', more'). subst (λ z. LiteralsRest (unsigned_abs z) more) (sym (same_literal l x small small' (sym is ∙ is'))) more')
+            (next_literal whole);
       }
 
   -- the word is the 0 behind the literals
@@ -108,17 +108,17 @@ pub same_literals : (m : ℕ) (c d : List ℤ) (xs ys : List ℕ) → Ascend m c
 same_literals m [] [] xs ys up_c up_d e = (refl, append_cancel_left (word (codes "0")) xs ys e)
 same_literals m [] (y ∷ d) xs ys up_c up_d e =
     let parts = same_split 32 (codes "0") (signed_decimal y) xs (literal_words d ++ (word (codes "0") ++ ys)) ((λ same. absurd (omega arith)), tt) (lacks_signed 32 y (omega arith) up_d.1)
-      (e ∙ word_then (signed_decimal y) (literal_words d) (word (codes "0") ++ ys)) in
+    (e ∙ word_then (signed_decimal y) (literal_words d) (word (codes "0") ++ ys)) in
     let none : unsigned_abs y ≡ 0 = ap unsigned_abs (zero_is y up_d.1 (sym parts.0)) in
     let far : m < unsigned_abs y = up_d.0 in absurd (omega arith)
 same_literals m (x ∷ c) [] xs ys up_c up_d e =
     let parts = same_split 32 (codes "0") (signed_decimal x) ys (literal_words c ++ (word (codes "0") ++ xs)) ((λ same. absurd (omega arith)), tt) (lacks_signed 32 x (omega arith) up_c.1)
-      (sym e ∙ word_then (signed_decimal x) (literal_words c) (word (codes "0") ++ xs)) in
+    (sym e ∙ word_then (signed_decimal x) (literal_words c) (word (codes "0") ++ xs)) in
     let none : unsigned_abs x ≡ 0 = ap unsigned_abs (zero_is x up_c.1 (sym parts.0)) in
     let far : m < unsigned_abs x = up_c.0 in absurd (omega arith)
 same_literals m (x ∷ c) (y ∷ d) xs ys up_c up_d e =
     let parts = same_split 32 (signed_decimal x) (signed_decimal y) (literal_words c ++ (word (codes "0") ++ xs)) (literal_words d ++ (word (codes "0") ++ ys)) (lacks_signed 32 x (omega arith) up_c.1) (lacks_signed 32 y (omega arith) up_d.1)
-      (sym (word_then (signed_decimal x) (literal_words c) (word (codes "0") ++ xs)) ∙ e ∙ word_then (signed_decimal y) (literal_words d) (word (codes "0") ++ ys)) in
+    (sym (word_then (signed_decimal x) (literal_words c) (word (codes "0") ++ xs)) ∙ e ∙ word_then (signed_decimal y) (literal_words d) (word (codes "0") ++ ys)) in
     let head = same_literal x y up_c.1 up_d.1 parts.0 in
     let rest = same_literals (unsigned_abs x) c d xs ys up_c.2 (subst (λ z. Ascend (unsigned_abs z) d) (sym head) up_d.2) parts.1 in
     (ap (λ z. x ∷ z) rest.0 ∙ ap (λ z. z ∷ d) head, rest.1)
@@ -137,7 +137,7 @@ chain_start text chain e =
     record {
       so_far = ap (λ z. number_words z ++ text) (sym e);
       numbers = subst (All (λ number. (0 < number) × (number < 2 ^ 64))) (sym e) (All-nil (λ number. (0 < number) × (number < 2 ^ 64)));
-      back = λ r. subst (λ z. ChainRest z text) (sym e) r
+      back = λ r. subst (λ z. ChainRest z text) (sym e) r;
     }
 
 -- the first word of such text is a number
@@ -164,11 +164,11 @@ module _ (text chain rest first more : List ℕ) (r : ReadsChain text chain rest
       let positive : 0 < n = ⊎_elim (λ h. h) (λ h. absurd (some (omega arith))) (cases_lt 0 n) in
       record {
         so_far = r.so_far ∙ ap (λ z. number_words chain ++ z) (parts ∙ ap (λ z. z ++ 32 ∷ more) is ∙ sym (append_assoc (decimal n) (32 ∷ []) more))
-          ∙ sym (append_assoc (number_words chain) (word (decimal n)) more) ∙ ap (λ z. z ++ more) (sym (number_words-push chain n)) ∙ ap (λ z. number_words z ++ more) (sym e);
+            ∙ sym (append_assoc (number_words chain) (word (decimal n)) more) ∙ ap (λ z. z ++ more) (sym (number_words-push chain n)) ∙ ap (λ z. number_words z ++ more) (sym e);
         numbers = subst (All (λ number. (0 < number) × (number < 2 ^ 64))) (sym e) (All-push (λ number. (0 < number) × (number < 2 ^ 64)) chain n r.numbers (positive, small));
         back = λ whole.
-          let (x, is', positive', small', others, each, left) = first_number chain rest first more parts lacks (r.back whole) in
-          (others, each, left, λ none. absurd (not_pushed chain n (sym e ∙ none)))
+            let (x, is', positive', small', others, each, left) = first_number chain rest first more parts lacks (r.back whole) in
+            (others, each, left, λ none. absurd (not_pushed chain n (sym e ∙ none)));
       }
     where
       not_pushed : (xs : List ℕ) (y : ℕ) → xs ++ y ∷ [] ≡ [] → ⊥

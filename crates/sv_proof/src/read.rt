@@ -1,6 +1,8 @@
 // The text of certificates, as it is read.
-ghost use Rattle.std.specs.Prelude.{◌≡◌, IfOk, IfErr};
-ghost use Rattle.sv_proof.specs.Certificate.{plain_logs, proof_text, AreLogs};
+ghost use Rattle.std.specs.Prelude.{◌≡◌, ◌+◌, ◌<◌, ◌≤◌, ◌^◌, length, map, IfOk, IfErr};
+ghost use Rattle.sv_clause.specs.Logs.{plain_step};
+ghost use Rattle.sv_proof.specs.Certificate.{plain_logs, log_lines, proof_text, AreLogs};
+ghost use Rattle.sv_proof.specs.Reading.{BeginWithSteps, BeginWithLogs, StepsFault, LogsFault};
 ghost use Rattle.sv_proof.specs.Lines.{IsFault};
 ghost use Rattle.sv_proof.specs.declared.read.ProofFault.TheVariants.{OutOfMemory};
 
@@ -55,8 +57,9 @@ pub fn read_proof(alloc: Global, bytes: &[u8]) -> Result<Vec<Log>, ProofFault>
     let Some(count) = read_counted(second, b"obligations ") else {
         return Err(ProofFault::Text(2));
     };
-    let (logs, line, rest) = read_logs(alloc, rest, count)?;
-    let Some((last, rest)) = split_first(rest, b'\n') else {
+    let logs = read_logs(alloc, rest, count)?;
+    let line = logs.line;
+    let Some((last, rest)) = split_first(logs.rest, b'\n') else {
         return Err(ProofFault::Text(line));
     };
     if !is_line(last, b"end") {
@@ -65,32 +68,52 @@ pub fn read_proof(alloc: Global, bytes: &[u8]) -> Result<Vec<Log>, ProofFault>
     if !rest.is_empty() {
         return Err(ProofFault::Text(line + 1));
     }
-    Ok(logs)
+    Ok(logs.logs)
 }
 
-fn read_logs(
-    alloc: Global,
-    bytes: &[u8],
-    count: u64,
-) -> Result<(Vec<Log>, u64, &[u8]), ProofFault> {
+// Logs that were read, the number of the next line, and what follows.
+#[derive(Drop)]
+struct ReadLogs<'a> {
+    logs: Vec<Log>,
+    line: u64,
+    rest: &'a [u8],
+}
+
+// Steps that were read, the number of the next line, and what follows.
+#[derive(Drop)]
+struct ReadSteps<'a> {
+    steps: Vec<Derived>,
+    line: u64,
+    rest: &'a [u8],
+}
+
+fn read_logs(alloc: Global, bytes: &[u8], count: u64) -> Result<ReadLogs<'_>, ProofFault>
+    requires bytes { length bytes.now < 2 ^ 63 }
+    requires count { count < 2 ^ 32 }
+    ensures logs { IfOk result (λ read. BeginWithLogs bytes.now (plain_logs read.logs.items) read.rest.now) }
+    ensures count { IfOk result (λ read. length (plain_logs read.logs.items) ≡ count) }
+    ensures line { IfOk result (λ read. read.line ≡ 3 + length (log_lines 1 (plain_logs read.logs.items))) }
+    ensures room { IfOk result (λ read. read.line + length read.rest.now ≤ 3 + length bytes.now) }
+    ensures fault { IfErr result (LogsFault bytes.now count) }
+{
     let mut logs = Vec::new(alloc);
     let mut rest = bytes;
     let mut line: u64 = 3;
-    let mut number: u64 = 1;
-    'logs: while number <= count {
+    let mut done: u64 = 0;
+    'logs: while done < count {
         let Some((first, after)) = split_first(rest, b'\n') else {
             return Err(ProofFault::Text(line));
         };
-        let Some(length) = read_log_line(first, number) else {
+        let Some(wanted) = read_log_line(first, done + 1) else {
             return Err(ProofFault::Text(line));
         };
-        let (steps, next, after) = read_steps(alloc, after, length, line + 1)?;
-        logs.push(Log { steps })?;
-        rest = after;
-        line = next;
-        number += 1;
+        let read = read_steps(alloc, after, wanted, line + 1)?;
+        rest = read.rest;
+        line = read.line;
+        logs.push(Log { steps: read.steps })?;
+        done += 1;
     }
-    Ok((logs, line, rest))
+    Ok(ReadLogs { logs, line, rest })
 }
 
 fn read_steps(
@@ -98,24 +121,33 @@ fn read_steps(
     bytes: &[u8],
     count: u64,
     first: u64,
-) -> Result<(Vec<Derived>, u64, &[u8]), ProofFault> {
+) -> Result<ReadSteps<'_>, ProofFault>
+    requires { first + length bytes.now < 2 ^ 64 }
+    ensures steps { IfOk result (λ read. BeginWithSteps bytes.now (map plain_step read.steps.items) read.rest.now) }
+    ensures count { IfOk result (λ read. length (map plain_step read.steps.items) ≡ count) }
+    ensures line { IfOk result (λ read. read.line ≡ first + count) }
+    ensures room { IfOk result (λ read. read.line + length read.rest.now ≤ first + length bytes.now) }
+    ensures fault { IfErr result (StepsFault bytes.now count first) }
+{
     let mut steps = Vec::new(alloc);
     let mut rest = bytes;
-    let mut line = first;
     let mut done: u64 = 0;
     'steps: while done < count {
         let Some((text, after)) = split_first(rest, b'\n') else {
-            return Err(ProofFault::Text(line));
+            return Err(ProofFault::Text(first + done));
         };
         let Some(step) = read_step(alloc, text)? else {
-            return Err(ProofFault::Text(line));
+            return Err(ProofFault::Text(first + done));
         };
         steps.push(step)?;
         rest = after;
-        line += 1;
         done += 1;
     }
-    Ok((steps, line, rest))
+    Ok(ReadSteps {
+        steps,
+        line: first + done,
+        rest,
+    })
 }
 
 #[cfg(test)]

@@ -21,8 +21,8 @@ pub returns-then-is_empty-clause-none : goal.returns-then-is_empty-clause-none
 returns-then-is_empty-clause-none c =
     λ none chain is e. let ends = chain_ends _ _ _ c.numbers.invariant (c.in_default.ensures.none refl) (chain_whole _ chain is e) in
     elim c.then-is_empty.branch [
-      then-is_empty-via-then-is_empty w ↦
-        (let none_read : vec_len c.numbers.chain ≡ 0 = eqb-true (vec_len c.numbers.chain) 0 (sym c.is_empty.ensures ∙ w.if-is_empty.true) in
-        ends.1 (nil_from_length c.numbers.chain.items (omega (arith, c.numbers.chain.ok.0))))
-    | then-is_empty-via-else-is_empty+then-not-is_line w ↦ false≢true (sym w.if-not-is_line.true ∙ w.is_line.ensures.1 ends.0)
+      | then-is_empty-via-then-is_empty w ↦
+          (let none_read : vec_len c.numbers.chain ≡ 0 = eqb-true (vec_len c.numbers.chain) 0 (sym c.is_empty.ensures ∙ w.if-is_empty.true) in
+          ends.1 (nil_from_length c.numbers.chain.items (omega (arith, c.numbers.chain.ok.0))))
+      | then-is_empty-via-else-is_empty+then-not-is_line w ↦ false≢true (sym w.if-not-is_line.true ∙ w.is_line.ensures.1 ends.0)
     ]

@@ -28,7 +28,7 @@ literals-preserved c =
     let size : c.unsigned_abs-variable.result ≡ unsigned_abs l = c.unsigned_abs-variable.ensures.value ∙ ap unsigned_abs is in
     subst (λ z. ReadsLiterals c.args.line.now c.push.new.self.items z c.in-Some.after.now) (sym size)
     (literals_more _ _ _ _ _ _ c.literals.invariant c.in-Some.ensures.some.0 c.in-Some.ensures.some.1 l c.push.new.self.items
-      c.in-Some-read_literal.ensures.small c.in-Some-read_literal.ensures.some (omega arith) (c.in_ok-push.ensures.items ∙ ap (λ z. c.literals.literals.items ++ z ∷ []) is))
+    c.in-Some-read_literal.ensures.small c.in-Some-read_literal.ensures.some (omega arith) (c.in_ok-push.ensures.items ∙ ap (λ z. c.literals.literals.items ++ z ∷ []) is))
 
 pub returns-clause-none : goal.returns-clause-none
 returns-clause-none c =

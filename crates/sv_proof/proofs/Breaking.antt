@@ -149,16 +149,16 @@ after_count count lines few (logs, are, e) =
     let many = are.count in
     (logs, decimal_injective (length logs) count (omega arith) (omega arith) digits, are.each, sym (ap (λ z. behind (behind z)) e))
 
-same_length_rest : {X : Type 0} (xs ys us vs : List X) → length xs ≡ length ys → xs ++ us ≡ ys ++ vs → us ≡ vs
+pub same_length_rest : {X : Type 0} (xs ys us vs : List X) → length xs ≡ length ys → xs ++ us ≡ ys ++ vs → us ≡ vs
 same_length_rest [] [] us vs l e = e
 same_length_rest [] (y ∷ ys) us vs l e = absurd (omega arith)
 same_length_rest (x ∷ xs) [] us vs l e = absurd (omega arith)
 same_length_rest (x ∷ xs) (y ∷ ys) us vs l e = let tail : xs ++ us ≡ ys ++ vs = cc in same_length_rest xs ys us vs (omega arith) tail
 
-log_is_not_end : (number steps : ℕ) → log_line number steps ≡ codes "end" → ⊥
+pub log_is_not_end : (number steps : ℕ) → log_line number steps ≡ codes "end" → ⊥
 log_is_not_end number steps e = let first : ◌≡◌ {A = ℕ} 111 101 = ap (λ z. get_or z 0 0) e in absurd (omega arith)
 
-same_count : (number m n : ℕ) → m < 2 ^ 32 → n < 2 ^ 32 → log_line number m ≡ log_line number n → m ≡ n
+pub same_count : (number m n : ℕ) → m < 2 ^ 32 → n < 2 ^ 32 → log_line number m ≡ log_line number n → m ≡ n
 same_count number m n sm sn e =
     let words : word (decimal number) ++ decimal m ≡ word (decimal number) ++ decimal n = append_cancel_left (codes "o ") (word (decimal number) ++ decimal m) (word (decimal number) ++ decimal n) e in
     decimal_injective m n (omega arith) (omega arith) (append_cancel_left (word (decimal number)) (decimal m) (decimal n) words)

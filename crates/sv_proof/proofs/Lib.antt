@@ -6,4 +6,5 @@ pub mod Spelling
 pub mod Following
 pub mod Breaking
 pub mod Beginning
+pub mod Again
 pub mod Writing

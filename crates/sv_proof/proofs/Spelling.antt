@@ -31,7 +31,7 @@ pub number_words-push : (c : List ℕ) (n : ℕ) → number_words (c ++ n ∷ []
 number_words-push c n = sym (flat_map_more (λ number. word (decimal number)) [] c n)
 
 -- text that begins with a word goes on behind its blank
-word_then : (w xs rest : List ℕ) → (word w ++ xs) ++ rest ≡ w ++ 32 ∷ (xs ++ rest)
+pub word_then : (w xs rest : List ℕ) → (word w ++ xs) ++ rest ≡ w ++ 32 ∷ (xs ++ rest)
 word_then w xs rest = append_assoc (word w) xs rest ∙ append_assoc w (32 ∷ []) (xs ++ rest)
 
 -- literals above a variable, the 0 behind them, and more

@@ -1,6 +1,6 @@
 // The text of certificates, as it is read.
-ghost use Rattle.std.specs.Prelude.{◌≡◌, ◌+◌, ◌<◌, ◌≤◌, ◌^◌, length, map, IfOk, IfErr};
-ghost use Rattle.sv_clause.specs.Logs.{plain_step};
+ghost use Rattle.std.specs.Prelude.{◌≡◌, ◌+◌, ◌<◌, ◌≤◌, ◌^◌, List, length, map, IfOk, IfErr, MatchResult};
+ghost use Rattle.sv_clause.specs.Logs.{Step, plain_step};
 ghost use Rattle.sv_proof.specs.Certificate.{plain_logs, log_lines, proof_text, AreLogs};
 ghost use Rattle.sv_proof.specs.Reading.{BeginWithSteps, BeginWithLogs, StepsFault, LogsFault};
 ghost use Rattle.sv_proof.specs.Lines.{IsFault};
@@ -41,6 +41,18 @@ impl<T: Drop> From<AllocFailed<T>> for ProofFault {
 
 /// The logs of a certificate. `Text` says the first line that breaks the text; the caller keeps the bytes.
 pub fn read_proof(alloc: Global, bytes: &[u8]) -> Result<Vec<Log>, ProofFault>
+    ensures logs { IfOk result (λ logs. AreLogs (plain_logs logs.items)) }
+    ensures text { IfOk result (λ logs. bytes.now ≡ proof_text (plain_logs logs.items)) }
+    ensures fault { IfErr result (IsFault bytes.now) }
+
+    // What was written is read as the logs that were written, unless memory runs out.
+    ensures again { (logs : List (List Step)) → AreLogs logs → bytes.now ≡ proof_text logs →
+        MatchResult result (λ found. plain_logs found.items ≡ logs) (λ fault. fault ≡ ProofFault.OutOfMemory) }
+{
+    read_text(alloc, bytes)
+}
+
+fn read_text(alloc: Global, bytes: &[u8]) -> Result<Vec<Log>, ProofFault>
     ensures logs { IfOk result (λ logs. AreLogs (plain_logs logs.items)) }
     ensures text { IfOk result (λ logs. bytes.now ≡ proof_text (plain_logs logs.items)) }
     ensures fault { IfErr result (IsFault bytes.now) }

@@ -1,11 +1,11 @@
 -- Each list of logs has one text, and a text is of one list of logs.
-use Rattle.std.proofs.Common.{◌≡◌, ◌≢◌, ℕ, zero, suc, ◌+◌, ◌<◌, ◌≤◌, ◌^◌, List, [], ◌∷◌, ◌++◌, refl, sym, ap, ◌∙◌, subst, length, map, get_or, All, codes, decimal, MatchResult, IfOk, IfErr, Result, Ok, Err, arith}
-use Rattle.std.proofs.lemmas.List.{append_assoc, append-nil, append_cancel_left, append_cancel_right, length-map}
+use Rattle.std.proofs.Common.{◌≡◌, ℕ, ◌+◌, ◌<◌, ◌^◌, List, [], ◌∷◌, ◌++◌, refl, sym, ap, ◌∙◌, length, map, get_or, All, codes, decimal, MatchResult, IfOk, IfErr, Result, Ok, Err, arith}
+use Rattle.std.proofs.lemmas.List.{append_assoc, append-nil, length-map}
 use Rattle.std.proofs.lemmas.List.Elements.{All-head, All-tail}
 use Rattle.std.proofs.lemmas.Fmt.{decimal_injective}
 use Rattle.sv_clause.specs.Logs.{Step}
-use Rattle.sv_proof.specs.Certificate.{word, literal_words, number_words, step_line, log_line, log_lines, proof_lines, text_of, proof_text, IsChain, IsWritable, IsWritableLog, AreLogs}
-use Rattle.sv_proof.specs.Lines.{Lacks, IsFirstBroken, IsFault}
+use Rattle.sv_proof.specs.Certificate.{number_words, step_line, log_lines, proof_lines, text_of, proof_text, IsWritable, IsWritableLog, AreLogs}
+use Rattle.sv_proof.specs.Lines.{IsFault}
 use Rattle.sv_proof.specs.declared.read.ProofFault.{ProofFault}
 use Rattle.sv_proof.specs.declared.read.ProofFault.TheVariants.{Text, OutOfMemory}
 use Rattle.sv_proof.proofs.Splitting.{same_split, lacks_split, lacks_decimal}
@@ -23,7 +23,7 @@ same_chain (m ∷ c) (n ∷ d) all_c all_d e =
     let good_m = All-head IsNumber m c all_c in
     let good_n = All-head IsNumber n d all_d in
     let parts = same_split 32 (decimal m) (decimal n) (number_words c ++ codes "0") (number_words d ++ codes "0") (lacks_decimal 32 m (omega arith) good_m.1) (lacks_decimal 32 n (omega arith) good_n.1)
-      (sym (word_then (decimal m) (number_words c) (codes "0")) ∙ e ∙ word_then (decimal n) (number_words d) (codes "0")) in
+    (sym (word_then (decimal m) (number_words c) (codes "0")) ∙ e ∙ word_then (decimal n) (number_words d) (codes "0")) in
     ap (λ z. z ∷ c) (decimal_injective m n good_m.1 good_n.1 parts.0) ∙ ap (λ z. n ∷ z) (same_chain c d (All-tail IsNumber m c all_c) (All-tail IsNumber n d all_d) parts.1)
 
 same_step : (s t : Step) → IsWritable s → IsWritable t → step_line s ≡ step_line t → s ≡ t
@@ -31,7 +31,7 @@ same_step s t ws wt e =
     let parts = same_literals 0 s.clause t.clause (number_words s.chain ++ codes "0") (number_words t.chain ++ codes "0") ws.clause wt.clause e in
     let chain = same_chain s.chain t.chain ws.chain.numbers wt.chain.numbers parts.1 in
     let both : ◌≡◌ {A = Step} (record { clause = s.clause; chain = s.chain }) (record { clause = t.clause; chain = t.chain }) =
-      ap (λ (z : List _). record { clause = z; chain = s.chain }) parts.0 ∙ ap (λ (z : List ℕ). record { clause = t.clause; chain = z }) chain in
+    ap (λ (z : List _). record { clause = z; chain = s.chain }) parts.0 ∙ ap (λ (z : List ℕ). record { clause = t.clause; chain = z }) chain in
     both
 
 same_steps : (s t : List Step) (us vs : List (List ℕ)) → length s ≡ length t → All IsWritable s → All IsWritable t → map step_line s ++ us ≡ map step_line t ++ vs → s ≡ t
@@ -53,7 +53,7 @@ same_logs number (s ∷ a) (t ∷ b) wa wb e =
     let log_t = All-head IsWritableLog t b wb in
     let count = same_count number (length s) (length t) log_s.count log_t.count (ap (λ z. get_or z 0 []) e) in
     let tail : map step_line s ++ (log_lines (number + 1) a ++ codes "end" ∷ []) ≡ map step_line t ++ (log_lines (number + 1) b ++ codes "end" ∷ []) =
-      sym (append_assoc (map step_line s) (log_lines (number + 1) a) (codes "end" ∷ [])) ∙ ap (λ z. behind z) e ∙ append_assoc (map step_line t) (log_lines (number + 1) b) (codes "end" ∷ []) in
+    sym (append_assoc (map step_line s) (log_lines (number + 1) a) (codes "end" ∷ [])) ∙ ap (λ z. behind z) e ∙ append_assoc (map step_line t) (log_lines (number + 1) b) (codes "end" ∷ []) in
     let rest = same_length_rest (map step_line s) (map step_line t) (log_lines (number + 1) a ++ codes "end" ∷ []) (log_lines (number + 1) b ++ codes "end" ∷ []) (length-map s step_line ∙ count ∙ sym (length-map t step_line)) tail in
     ap (λ z. z ∷ a) (same_steps s t (log_lines (number + 1) a ++ codes "end" ∷ []) (log_lines (number + 1) b ++ codes "end" ∷ []) count log_s.each log_t.each tail)
     ∙ ap (λ z. t ∷ z) (same_logs (number + 1) a b (All-tail IsWritableLog s a wa) (All-tail IsWritableLog t b wb) rest)

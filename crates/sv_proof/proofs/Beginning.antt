@@ -1,15 +1,15 @@
 -- Lines that were read begin a certificate: steps and logs that are still wanted can be filled in.
-use Rattle.std.proofs.Common.{◌≡◌, ◌≢◌, ℕ, zero, suc, ◌+◌, ◌-◌, ◌<◌, ◌≤◌, ◌^◌, List, [], ◌∷◌, ◌++◌, refl, sym, ap, ◌∙◌, subst, ⊎_elim, inl, inr, ◌⊎◌, length, map, replicate, All, codes, decimal, arith}
+use Rattle.std.proofs.Common.{◌≡◌, ℕ, ◌+◌, ◌-◌, ◌<◌, ◌≤◌, ◌^◌, List, [], ◌∷◌, ◌++◌, refl, sym, ap, ◌∙◌, subst, ⊎_elim, inr, length, map, replicate, All, codes, decimal, arith}
 use Rattle.std.proofs.lemmas.List.{append_assoc, append-nil, map-append, length-append, length-map, length-replicate}
 use Rattle.std.proofs.lemmas.List.Elements.{All-append, All-nil, All-cons, All-replicate}
 use Rattle.sv_clause.specs.Logs.{Step}
-use Rattle.sv_proof.specs.Certificate.{step_line, log_line, log_lines, proof_lines, text_of, proof_text, IsChain, IsWritable, IsWritableLog, AreLogs}
-use Rattle.sv_proof.specs.Lines.{Lacks, BeginCertificate, IsFirstBroken, IsFault}
-use Rattle.sv_proof.specs.Reading.{NextIsNo, IsStepLine, IsLogLine, BeginWithSteps, BeginWithLogs, StopsInSteps, StopsAtLog, StopsInLog, StepsFault, LogsFault}
+use Rattle.sv_proof.specs.Certificate.{step_line, log_line, log_lines, proof_lines, text_of, proof_text, IsWritable, IsWritableLog, AreLogs}
+use Rattle.sv_proof.specs.Lines.{BeginCertificate, IsFirstBroken, IsFault}
+use Rattle.sv_proof.specs.Reading.{NextIsNo, IsStepLine, IsLogLine, BeginWithLogs, StopsAtLog, StopsInLog, StepsFault, LogsFault}
 use Rattle.sv_proof.specs.declared.read.ProofFault.{ProofFault}
 use Rattle.sv_proof.specs.declared.read.ProofFault.TheVariants.{Text, OutOfMemory}
 use Rattle.sv_proof.proofs.Writing.{text_of-append}
-use Rattle.sv_proof.proofs.Following.{log_lines-append, rest_shorter}
+use Rattle.sv_proof.proofs.Following.{log_lines-append}
 use Rattle.sv_proof.proofs.Breaking.{behind, count_line, AreCertificate, up_to, up_to_steps, broken, broken_after, expects_log, expects_end, expects_step}
 
 -- any step that can be written
@@ -27,11 +27,14 @@ empty_writable = record { count = omega arith; each = All-nil IsWritable }
 begins_logs : (count : ℕ) (done fill : List (List Step)) → count < 2 ^ 32 → All IsWritableLog done → All IsWritableLog fill → length done + length fill ≡ count → BeginCertificate (up_to count done)
 begins_logs count done fill few all all' sum =
     let logs = done ++ fill in
-    let many : length logs ≡ count = length-append done fill ∙ sum in
-    (logs, log_lines (1 + length done) fill ++ codes "end" ∷ [], record { count = omega arith; each = All-append IsWritableLog done fill all all' },
-     ap (λ n. codes "secv-proof 1" ∷ count_line n ∷ log_lines 1 logs ++ codes "end" ∷ []) many
-     ∙ ap (λ z. codes "secv-proof 1" ∷ count_line count ∷ z)
-       (ap (λ z. z ++ codes "end" ∷ []) (log_lines-append 1 done fill) ∙ append_assoc (log_lines 1 done) (log_lines (1 + length done) fill) (codes "end" ∷ [])))
+    let many : length logs ≡ count = length-append done fill ∙ sum in (
+      logs,
+      log_lines (1 + length done) fill ++ codes "end" ∷ [],
+      record { count = omega arith; each = All-append IsWritableLog done fill all all' },
+      ap (λ n. codes "secv-proof 1" ∷ count_line n ∷ log_lines 1 logs ++ codes "end" ∷ []) many
+          ∙ ap (λ z. codes "secv-proof 1" ∷ count_line count ∷ z)
+          (ap (λ z. z ++ codes "end" ∷ []) (log_lines-append 1 done fill) ∙ append_assoc (log_lines 1 done) (log_lines (1 + length done) fill) (codes "end" ∷ [])),
+    )
 
 pub begins_up_to : (count : ℕ) (done : List (List Step)) → count < 2 ^ 32 → All IsWritableLog done → length done ≤ count → BeginCertificate (up_to count done)
 begins_up_to count done few all fewer =
@@ -48,19 +51,22 @@ begins_steps count done fill wanted steps more few all all' sum small each each'
     let rest = map step_line more ++ (log_lines (1 + length done + 1) fill ++ codes "end" ∷ []) in
     let number : 1 + length done ≡ length done + 1 = omega arith in
     let one : log_lines (1 + length done) (log ∷ fill) ++ codes "end" ∷ [] ≡ (log_line (length done + 1) wanted ∷ map step_line steps) ++ rest =
-      ap (λ n. log_line n (length log) ∷ (map step_line log ++ log_lines (1 + length done + 1) fill) ++ codes "end" ∷ []) number
-      ∙ ap (λ n. log_line (length done + 1) n ∷ (map step_line log ++ log_lines (1 + length done + 1) fill) ++ codes "end" ∷ []) long
-      ∙ ap (λ z. log_line (length done + 1) wanted ∷ z)
-        (append_assoc (map step_line log) (log_lines (1 + length done + 1) fill) (codes "end" ∷ [])
-        ∙ ap (λ z. z ++ (log_lines (1 + length done + 1) fill ++ codes "end" ∷ [])) (map-append step_line steps more)
-        ∙ append_assoc (map step_line steps) (map step_line more) (log_lines (1 + length done + 1) fill ++ codes "end" ∷ [])) in
-    (logs, rest, record { count = omega arith; each = All-append IsWritableLog done (log ∷ fill) all (All-cons IsWritableLog log fill good all') },
-     ap (λ n. codes "secv-proof 1" ∷ count_line n ∷ log_lines 1 logs ++ codes "end" ∷ []) many
-     ∙ ap (λ z. codes "secv-proof 1" ∷ count_line count ∷ z)
-       (ap (λ z. z ++ codes "end" ∷ []) (log_lines-append 1 done (log ∷ fill))
-       ∙ append_assoc (log_lines 1 done) (log_lines (1 + length done) (log ∷ fill)) (codes "end" ∷ [])
-       ∙ ap (λ z. log_lines 1 done ++ z) one
-       ∙ sym (append_assoc (log_lines 1 done) (log_line (length done + 1) wanted ∷ map step_line steps) rest)))
+    ap (λ n. log_line n (length log) ∷ (map step_line log ++ log_lines (1 + length done + 1) fill) ++ codes "end" ∷ []) number
+    ∙ ap (λ n. log_line (length done + 1) n ∷ (map step_line log ++ log_lines (1 + length done + 1) fill) ++ codes "end" ∷ []) long
+    ∙ ap (λ z. log_line (length done + 1) wanted ∷ z)
+    (append_assoc (map step_line log) (log_lines (1 + length done + 1) fill) (codes "end" ∷ [])
+    ∙ ap (λ z. z ++ (log_lines (1 + length done + 1) fill ++ codes "end" ∷ [])) (map-append step_line steps more)
+    ∙ append_assoc (map step_line steps) (map step_line more) (log_lines (1 + length done + 1) fill ++ codes "end" ∷ [])) in (
+      logs,
+      rest,
+      record { count = omega arith; each = All-append IsWritableLog done (log ∷ fill) all (All-cons IsWritableLog log fill good all') },
+      ap (λ n. codes "secv-proof 1" ∷ count_line n ∷ log_lines 1 logs ++ codes "end" ∷ []) many
+          ∙ ap (λ z. codes "secv-proof 1" ∷ count_line count ∷ z)
+          (ap (λ z. z ++ codes "end" ∷ []) (log_lines-append 1 done (log ∷ fill))
+          ∙ append_assoc (log_lines 1 done) (log_lines (1 + length done) (log ∷ fill)) (codes "end" ∷ [])
+          ∙ ap (λ z. log_lines 1 done ++ z) one
+          ∙ sym (append_assoc (log_lines 1 done) (log_line (length done + 1) wanted ∷ map step_line steps) rest)),
+    )
 
 pub begins_up_to_steps : (count : ℕ) (done : List (List Step)) (wanted : ℕ) (steps : List Step) → count < 2 ^ 32 → All IsWritableLog done → length done < count → wanted < 2 ^ 32 → All IsWritable steps → length steps ≤ wanted → BeginCertificate (up_to_steps count done wanted steps)
 begins_up_to_steps count done wanted steps few all fewer small each short =
@@ -110,9 +116,9 @@ module _ (bytes first rest second logs_text : List ℕ) (count : ℕ) (e : bytes
       let inside : s.rest ≡ text_of (map step_line stops.steps) ++ stops.rest = stops.begins.text in
       let lines = log_lines 1 s.logs ++ line ∷ map step_line stops.steps in
       let text : logs_text ≡ text_of lines ++ stops.rest =
-        s.begins.text ∙ ap (λ z. text_of (log_lines 1 s.logs) ++ z) (s.line ∙ text_one line s.rest (map step_line stops.steps) stops.rest inside)
-        ∙ sym (append_assoc (text_of (log_lines 1 s.logs)) (text_of (line ∷ map step_line stops.steps)) stops.rest)
-        ∙ ap (λ z. z ++ stops.rest) (sym (text_of-append (log_lines 1 s.logs) (line ∷ map step_line stops.steps))) in
+      s.begins.text ∙ ap (λ z. text_of (log_lines 1 s.logs) ++ z) (s.line ∙ text_one line s.rest (map step_line stops.steps) stops.rest inside)
+      ∙ sym (append_assoc (text_of (log_lines 1 s.logs)) (text_of (line ∷ map step_line stops.steps)) stops.rest)
+      ∙ ap (λ z. z ++ stops.rest) (sym (text_of-append (log_lines 1 s.logs) (line ∷ map step_line stops.steps))) in
       broken bytes (up_to_steps count s.logs s.steps stops.steps) stops.rest (3 + place) IsStepLine (by_lines lines stops.rest text)
       (let outer = s.place_is in let inner = stops.place_is in omega (arith, length-append (log_lines 1 s.logs) (line ∷ map step_line stops.steps), length-map stops.steps step_line))
       (begins_up_to_steps count s.logs s.steps stops.steps few s.begins.each s.fewer s.few_steps stops.begins.each (let fewer = stops.fewer in omega arith))
@@ -163,7 +169,20 @@ module _ (bytes first rest second logs_text : List ℕ) (count : ℕ) (e : bytes
 pub fault_in_log : (bytes first after : List ℕ) (logs : List (List Step)) (count wanted line : ℕ) (fault : ProofFault) → BeginWithLogs bytes logs first → length logs < count → wanted < 2 ^ 32
     → first ≡ log_line (length logs + 1) wanted ++ 10 ∷ after → line ≡ 3 + length (log_lines 1 logs) → StepsFault after wanted (line + 1) fault → LogsFault bytes count fault
 fault_in_log bytes first after logs count wanted line OutOfMemory b fewer small e place h = tt
-fault_in_log bytes first after logs count wanted line (Text n) b fewer small e place (inside, is, stops) =
-    (length (log_lines 1 logs) + 1 + inside, omega arith, inr (record {
-      logs = logs; steps = wanted; first = first; rest = after; begins = b; fewer = fewer; few_steps = small; line = e; inside = inside; place_is = refl; stops = stops
-    }))
+fault_in_log bytes first after logs count wanted line (Text n) b fewer small e place (inside, is, stops) = (
+  length (log_lines 1 logs) + 1 + inside,
+  omega arith,
+  inr (record {
+    logs = logs;
+    steps = wanted;
+    first = first;
+    rest = after;
+    begins = b;
+    fewer = fewer;
+    few_steps = small;
+    line = e;
+    inside = inside;
+    place_is = refl;
+    stops = stops;
+  }),
+)

@@ -1,21 +1,17 @@
 -- Which line first breaks the text: what lines can follow those that were read.
-use Rattle.std.proofs.Common.{◌≡◌, ◌≢◌, ℕ, zero, suc, ◌+◌, ◌-◌, ◌<◌, ◌≤◌, ◌^◌, Bool, true, false, not, ◌&&◌, ℤ, List, [], ◌∷◌, ◌++◌, refl, sym, ap, ◌∙◌, subst, ⊎_elim, inl, inr, ◌⊎◌, length, map, get_or, replicate, All, codes, decimal, eqb, arith}
+use Rattle.std.proofs.Common.{◌≡◌, ℕ, ◌+◌, ◌<◌, ◌^◌, true, not, ℤ, List, [], ◌∷◌, ◌++◌, refl, sym, ap, ◌∙◌, subst, length, map, get_or, All, codes, decimal, eqb, arith}
 use Rattle.std.specs.List.{AllByRecursion, list_all}
 use Rattle.std.specs.Fmt.{signed_decimal}
-use Rattle.std.proofs.lemmas.List.{append_assoc, append-nil, append_cancel_left, map-append, length-append, length-map, length-replicate, nil_from_length}
-use Rattle.std.proofs.lemmas.List.Elements.{All-append, All-nil, All-cons, All-head, All-tail, All-replicate}
+use Rattle.std.proofs.lemmas.List.{append_assoc, append-nil, append_cancel_left, length-map}
+use Rattle.std.proofs.lemmas.List.Elements.{All-head, All-tail}
 use Rattle.std.proofs.lemmas.Fmt.{decimal_injective}
 use Rattle.std.proofs.lemmas.Bool.{and_parts, not-true, eqb-false}
-use Rattle.sv_clause.specs.Literals.{Ascend, IsClause}
+use Rattle.sv_clause.specs.Literals.{Ascend}
 use Rattle.sv_clause.specs.Logs.{Step}
-use Rattle.sv_proof.specs.Certificate.{word, literal_words, number_words, step_line, log_line, log_lines, proof_lines, text_of, proof_text, IsChain, IsWritable, IsWritableLog, AreLogs}
-use Rattle.sv_proof.specs.Lines.{Lacks, BeginCertificate, IsFirstBroken, IsFault}
-use Rattle.sv_proof.specs.Reading.{NextIsNo, IsStepLine, IsLogLine, BeginWithSteps, BeginWithLogs, StopsInSteps, StopsAtLog, StopsInLog, StepsFault, LogsFault}
-use Rattle.sv_proof.specs.declared.read.ProofFault.{ProofFault}
-use Rattle.sv_proof.specs.declared.read.ProofFault.TheVariants.{Text, OutOfMemory}
+use Rattle.sv_proof.specs.Certificate.{word, literal_words, number_words, step_line, log_line, log_lines, proof_lines, text_of, IsWritable, IsWritableLog, AreLogs}
+use Rattle.sv_proof.specs.Lines.{Lacks, BeginCertificate, IsFirstBroken}
+use Rattle.sv_proof.specs.Reading.{NextIsNo, IsStepLine, IsLogLine}
 use Rattle.sv_proof.proofs.Splitting.{same_split, lacks_split, Lacks-append, lacks_decimal, lacks_signed}
-use Rattle.sv_proof.proofs.Writing.{text_of-append}
-use Rattle.sv_proof.proofs.Following.{log_lines-append}
 
 -- no line of a certificate has a line feed inside
 
@@ -42,7 +38,7 @@ lacks_step : (s : Step) → IsWritable s → Lacks 10 (step_line s)
 lacks_step s w =
     Lacks-append 10 (literal_words s.clause) (word (codes "0") ++ (number_words s.chain ++ codes "0")) (lacks_literals 0 s.clause w.clause)
     (Lacks-append 10 (word (codes "0")) (number_words s.chain ++ codes "0") (lacks_from_test 10 (word (codes "0")) refl)
-      (Lacks-append 10 (number_words s.chain) (codes "0") (lacks_numbers s.chain w.chain.numbers) (lacks_from_test 10 (codes "0") refl)))
+    (Lacks-append 10 (number_words s.chain) (codes "0") (lacks_numbers s.chain w.chain.numbers) (lacks_from_test 10 (codes "0") refl)))
 
 lacks_log : (number steps : ℕ) → number < 2 ^ 64 → steps < 2 ^ 32 → Lacks 10 (log_line number steps)
 lacks_log number steps small few =
@@ -68,9 +64,10 @@ lack_steps (s ∷ steps) all = (lacks_step s (All-head IsWritable s steps all), 
 lack_logs : (number : ℕ) (logs : List (List Step)) → number + length logs < 2 ^ 64 → All IsWritableLog logs → AllByRecursion (Lacks 10) (log_lines number logs)
 lack_logs number [] small all = tt
 lack_logs number (s ∷ logs) small all =
-    let head = All-head IsWritableLog s logs all in
-    (lacks_log number (length s) (omega arith) head.count,
-     all_append (Lacks 10) (map step_line s) (log_lines (number + 1) logs) (lack_steps s head.each) (lack_logs (number + 1) logs (omega arith) (All-tail IsWritableLog s logs all)))
+    let head = All-head IsWritableLog s logs all in (
+      lacks_log number (length s) (omega arith) head.count,
+      all_append (Lacks 10) (map step_line s) (log_lines (number + 1) logs) (lack_steps s head.each) (lack_logs (number + 1) logs (omega arith) (All-tail IsWritableLog s logs all)),
+    )
 
 -- the line that says how many logs there are
 abbrev pub count_line : ℕ → List ℕ
@@ -80,9 +77,10 @@ pub lines_lack : (logs : List (List Step)) → AreLogs logs → AllByRecursion (
 lines_lack logs are =
     let few = are.count in
     let counted : Lacks 10 (count_line (length logs)) = Lacks-append 10 (codes "obligations ") (decimal (length logs)) (lacks_from_test 10 (codes "obligations ") refl) (lacks_decimal 10 (length logs) (omega arith) (omega arith)) in
-    let last : AllByRecursion (Lacks 10) (codes "end" ∷ []) = (lacks_from_test 10 (codes "end") refl, tt) in
-    (lacks_from_test 10 (codes "secv-proof 1") refl,
-     (counted, all_append (Lacks 10) (log_lines 1 logs) (codes "end" ∷ []) (lack_logs 1 logs (omega arith) are.each) last))
+    let last : AllByRecursion (Lacks 10) (codes "end" ∷ []) = (lacks_from_test 10 (codes "end") refl, tt) in (
+      lacks_from_test 10 (codes "secv-proof 1") refl,
+      (counted, all_append (Lacks 10) (log_lines 1 logs) (codes "end" ∷ []) (lack_logs 1 logs (omega arith) are.each) last),
+    )
 
 -- the lines of a text that begins with whole lines begin with those
 pub same_lines : (lines whole : List (List ℕ)) (rest : List ℕ) → AllByRecursion (Lacks 10) lines → AllByRecursion (Lacks 10) whole → text_of lines ++ rest ≡ text_of whole
@@ -110,15 +108,20 @@ broken bytes lines rest n kind e place begins expects next =
     let (first, following, are, front) = begins in
     let lacks : AllByRecursion (Lacks 10) lines = all_front (Lacks 10) lines following (subst (AllByRecursion (Lacks 10)) front (lines_lack first are)) in
     record {
-      lines = lines; rest = rest; parts = e; each = lacks; number = place; begins = begins;
+      lines = lines;
+      rest = rest;
+      parts = e;
+      each = lacks;
+      number = place;
+      begins = begins;
       breaks = λ line more l f (logs, others, are', g).
-        let (wanted, later, is, k) = expects (line ∷ others) (logs, are', g ∙ append_assoc lines (line ∷ []) others) in
-        let same : wanted ≡ line = cc in next line more l f (subst kind same k);
+          let (wanted, later, is, k) = expects (line ∷ others) (logs, are', g ∙ append_assoc lines (line ∷ []) others) in
+          let same : wanted ≡ line = cc in next line more l f (subst kind same k);
       incomplete = λ logs are' f.
-        let (more, is, text) = same_lines lines (proof_lines logs) rest lacks (lines_lack logs are') (sym e ∙ f) in
-        let (line, later, more_is, k) = expects more (logs, are', is) in
-        let line_lacks = (all_back (Lacks 10) lines (line ∷ later) (subst (AllByRecursion (Lacks 10)) (is ∙ ap (λ z. lines ++ z) more_is) (lines_lack logs are'))).0 in
-        next line (text_of later) line_lacks (text ∙ ap text_of more_is ∙ append_assoc line (10 ∷ []) (text_of later)) k
+          let (more, is, text) = same_lines lines (proof_lines logs) rest lacks (lines_lack logs are') (sym e ∙ f) in
+          let (line, later, more_is, k) = expects more (logs, are', is) in
+          let line_lacks = (all_back (Lacks 10) lines (line ∷ later) (subst (AllByRecursion (Lacks 10)) (is ∙ ap (λ z. lines ++ z) more_is) (lines_lack logs are'))).0 in
+          next line (text_of later) line_lacks (text ∙ ap text_of more_is ∙ append_assoc line (10 ∷ []) (text_of later)) k;
     }
 
 -- the whole certificate, and bytes behind it
@@ -126,11 +129,16 @@ pub broken_after : (bytes : List ℕ) (lines : List (List ℕ)) (rest : List ℕ
 broken_after bytes lines rest n e place (first, are, front) ends some =
     let lacks : AllByRecursion (Lacks 10) lines = subst (AllByRecursion (Lacks 10)) front (lines_lack first are) in
     record {
-      lines = lines; rest = rest; parts = e; each = lacks; number = place; begins = (first, [], are, front ∙ sym (append-nil lines));
+      lines = lines;
+      rest = rest;
+      parts = e;
+      each = lacks;
+      number = place;
+      begins = (first, [], are, front ∙ sym (append-nil lines));
       breaks = λ line more l f (logs, others, are', g). let none = ends (line ∷ others) (logs, are', g ∙ append_assoc lines (line ∷ []) others) in (cc);
       incomplete = λ logs are' f.
-        let (more, is, text) = same_lines lines (proof_lines logs) rest lacks (lines_lack logs are') (sym e ∙ f) in
-        some (text ∙ ap text_of (ends more (logs, are', is)))
+          let (more, is, text) = same_lines lines (proof_lines logs) rest lacks (lines_lack logs are') (sym e ∙ f) in
+          some (text ∙ ap text_of (ends more (logs, are', is)));
     }
 
 -- the lines behind the first
@@ -174,9 +182,9 @@ after_logs (s ∷ done) number count lines all (t ∷ logs, l, each, e) =
     let count_is : length s ≡ length t = same_count number (length s) (length t) first.count other.count (ap (λ z. get_or z 0 []) e) in
     let tail : (map step_line s ++ log_lines (number + 1) done) ++ lines ≡ (map step_line t ++ log_lines (number + 1) logs) ++ codes "end" ∷ [] = ap (λ z. behind z) e in
     let rest : log_lines (number + 1) done ++ lines ≡ log_lines (number + 1) logs ++ codes "end" ∷ [] =
-      same_length_rest (map step_line s) (map step_line t) (log_lines (number + 1) done ++ lines) (log_lines (number + 1) logs ++ codes "end" ∷ [])
-      (length-map s step_line ∙ count_is ∙ sym (length-map t step_line))
-      (sym (append_assoc (map step_line s) (log_lines (number + 1) done) lines) ∙ tail ∙ append_assoc (map step_line t) (log_lines (number + 1) logs) (codes "end" ∷ [])) in
+    same_length_rest (map step_line s) (map step_line t) (log_lines (number + 1) done ++ lines) (log_lines (number + 1) logs ++ codes "end" ∷ [])
+    (length-map s step_line ∙ count_is ∙ sym (length-map t step_line))
+    (sym (append_assoc (map step_line s) (log_lines (number + 1) done) lines) ∙ tail ∙ append_assoc (map step_line t) (log_lines (number + 1) logs) (codes "end" ∷ [])) in
     let (left, sum, f) = after_logs done (number + 1) (length logs) lines (All-tail IsWritableLog s done all) (logs, refl, All-tail IsWritableLog t logs each, rest) in
     (left, omega arith, subst (λ n. FollowLogs n left lines) (omega arith) f)
 
@@ -218,7 +226,7 @@ up_to_steps count done wanted steps = up_to count done ++ log_line (length done 
 pub expects_step : (count : ℕ) (done : List (List Step)) (wanted : ℕ) (steps : List Step) → count < 2 ^ 32 → All IsWritableLog done → wanted < 2 ^ 32 → length steps < wanted → Expects (up_to_steps count done wanted steps) IsStepLine
 expects_step count done wanted steps few all small fewer more c =
     next (follow_done count done (log_line (length done + 1) wanted ∷ map step_line steps ++ more) few all
-      (subst AreCertificate (append_assoc (up_to count done) (log_line (length done + 1) wanted ∷ map step_line steps) more) c))
+    (subst AreCertificate (append_assoc (up_to count done) (log_line (length done + 1) wanted ∷ map step_line steps) more) c))
   where
     next : (left : ℕ) × (length done + left ≡ count) × FollowLogs (length done + 1) left (log_line (length done + 1) wanted ∷ map step_line steps ++ more) → (line : List ℕ) × (others : List (List ℕ)) × (more ≡ line ∷ others) × IsStepLine line
     next (left, sum, ([], l, each, e)) = absurd (log_is_not_end (length done + 1) wanted (ap (λ z. get_or z 0 []) e))

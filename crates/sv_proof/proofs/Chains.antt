@@ -1,10 +1,10 @@
 -- Resolving along a chain: each numbered clause leaves one clause, whichever way it is seen.
-use Rattle.std.proofs.Common.{◌≡◌, ℕ, zero, suc, ◌+◌, ◌<◌, ◌≤◌, Bool, true, false, not, ◌&&◌, ◌||◌, ℤ, neg_ℤ, List, [], ◌∷◌, ◌++◌, refl, sym, ap, ◌∙◌, subst, length, drop, get_or, Option, Some, None, arith}
+use Rattle.std.proofs.Common.{◌≡◌, ℕ, ◌+◌, ◌<◌, ◌≤◌, not, ◌&&◌, ◌||◌, ℤ, neg_ℤ, List, [], ◌∷◌, sym, ap, ◌∙◌, subst, length, drop, get_or, Some, None}
 use Rattle.std.specs.Ordering.{int_eq}
 use Rattle.std.proofs.lemmas.List.{drop_more, drop_all}
 use Rattle.sv_clause.specs.Literals.{stands, SameLiterals, IsClause}
 use Rattle.sv_clause.specs.Resolution.{IsOnlyClash, IsResolvent}
-use Rattle.sv_clause.specs.Logs.{Step, numbered, ResolvesTo, ChainGives, IsDerived}
+use Rattle.sv_clause.specs.Logs.{numbered, ResolvesTo}
 
 -- what a list of literals resolves to depends on its literals alone
 same_first : (a b c : List ℤ) (p : ℤ) (r : List ℤ) → SameLiterals a b → IsResolvent a c p r → IsResolvent b c p r

@@ -1,11 +1,11 @@
 -- Lines one after the other: what is read of them, and what can follow.
-use Rattle.std.proofs.Common.{◌≡◌, ◌≢◌, ℕ, zero, suc, ◌+◌, ◌-◌, ◌<◌, ◌≤◌, ◌^◌, List, [], ◌∷◌, ◌++◌, refl, sym, ap, ◌∙◌, subst, ⊎_elim, inl, inr, ◌⊎◌, length, map, All, codes, decimal, arith}
-use Rattle.std.proofs.lemmas.List.{append_assoc, append-nil, map-append, length-append, map_push, length-map}
+use Rattle.std.proofs.Common.{◌≡◌, ℕ, ◌+◌, ◌<◌, ◌≤◌, ◌^◌, List, [], ◌∷◌, ◌++◌, sym, ap, ◌∙◌, subst, length, map, All, arith}
+use Rattle.std.proofs.lemmas.List.{append_assoc, append-nil, length-append, map_push, length-map}
 use Rattle.std.proofs.lemmas.List.Elements.{All-push, All-nil}
 use Rattle.sv_clause.specs.Logs.{Step}
 use Rattle.sv_proof.specs.Certificate.{step_line, log_line, log_lines, text_of, IsWritable, IsWritableLog}
 use Rattle.sv_proof.specs.Lines.{Lacks}
-use Rattle.sv_proof.specs.Reading.{NextIsNo, IsStepLine, IsLogLine, BeginWithSteps, BeginWithLogs}
+use Rattle.sv_proof.specs.Reading.{NextIsNo, BeginWithSteps, BeginWithLogs}
 use Rattle.sv_proof.proofs.Splitting.{same_split, lacks_split}
 use Rattle.sv_proof.proofs.Writing.{text_of-append}
 
@@ -36,9 +36,9 @@ pub step_added : (bytes rest line after : List ℕ) (steps now : List Step) (s :
 step_added bytes rest line after steps now s b e is writable n =
     record {
       text = b.text ∙ text_push (map step_line steps) line rest after e
-        ∙ ap (λ z. text_of (map step_line steps ++ z ∷ []) ++ after) is
-        ∙ ap (λ z. text_of z ++ after) (sym (map_push step_line steps s)) ∙ ap (λ z. text_of (map step_line z) ++ after) (sym n);
-      each = subst (All IsWritable) (sym n) (All-push IsWritable steps s b.each writable)
+          ∙ ap (λ z. text_of (map step_line steps ++ z ∷ []) ++ after) is
+          ∙ ap (λ z. text_of z ++ after) (sym (map_push step_line steps s)) ∙ ap (λ z. text_of (map step_line z) ++ after) (sym n);
+      each = subst (All IsWritable) (sym n) (All-push IsWritable steps s b.each writable);
     }
 
 pub log_lines-append : (number : ℕ) (xs ys : List (List Step)) → log_lines number (xs ++ ys) ≡ log_lines number xs ++ log_lines (number + length xs) ys
@@ -74,7 +74,7 @@ log_added bytes first line after rest logs now steps wanted b e is small s count
     let whole : first ≡ log_line (length logs + 1) (length steps) ++ 10 ∷ after = e ∙ ap (λ z. z ++ 10 ∷ after) (is ∙ ap (log_line (length logs + 1)) (sym count)) in
     record {
       text = log_text bytes first after rest logs steps b.text whole s.text ∙ ap (λ z. text_of (log_lines 1 z) ++ rest) (sym n);
-      each = subst (All IsWritableLog) (sym n) (All-push IsWritableLog logs steps b.each (record { count = omega arith; each = s.each }))
+      each = subst (All IsWritableLog) (sym n) (All-push IsWritableLog logs steps b.each (record { count = omega arith; each = s.each }));
     }
 
 pub log_lines-length : (logs : List (List Step)) (steps : List Step) → length (log_lines 1 (logs ++ steps ∷ [])) ≡ length (log_lines 1 logs) + 1 + length steps

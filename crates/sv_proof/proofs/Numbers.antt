@@ -1,9 +1,9 @@
 -- The clause of a number, among the clauses and those of the steps.
-use Rattle.std.proofs.Common.{◌≡◌, ℕ, zero, suc, ◌+◌, ◌-◌, ◌<◌, ◌≤◌, ℤ, List, [], ◌∷◌, ◌++◌, refl, sym, ap, ◌∙◌, subst, map, take, length, get_or, Option, Some, None, slice_get, IsSomeAnd, Bool, true, eqb, arith}
+use Rattle.std.proofs.Common.{◌≡◌, ℕ, zero, suc, ◌+◌, ◌-◌, ◌<◌, ◌≤◌, ℤ, List, [], ◌∷◌, ◌++◌, refl, sym, ap, ◌∙◌, subst, map, take, length, get_or, Some, None, slice_get, IsSomeAnd, Bool, true, eqb, arith}
 use Rattle.std.proofs.lemmas.List.{append_assoc, append-nil, take-map, take_more, take_all, length-map, get_or-map, nil_from_length}
 use Rattle.std.proofs.lemmas.Bool.{eqb-true, eq-eqb}
 use Rattle.std.specs.Option.{option_map}
-use Rattle.std.proofs.lemmas.Option.{slice_get_past, slice_get-get_or, slice_get_read, slice_get-map}
+use Rattle.std.proofs.lemmas.Option.{slice_get_past, slice_get-get_or, slice_get-map}
 use Rattle.sv_clause.specs.Logs.{Step, plain_step, clauses_of, numbered, ResolvesTo, ChainGives, IsDerived, AllDerived, EndsEmpty}
 use Rattle.sv_clause.specs.declared.logs.Derived.{Derived}
 use Rattle.sv_proof.specs.Checking.{IsFirstUnderived}

@@ -1,14 +1,13 @@
 -- The words of a step's line, read from the left: what is left to read is spelled by what is left of the step.
-use Rattle.std.proofs.Common.{◌≡◌, ◌≢◌, ℕ, zero, suc, ◌+◌, ◌<◌, ◌≤◌, ◌^◌, ℤ, pos, negsuc, unsigned_abs, List, [], ◌∷◌, ◌++◌, refl, sym, ap, ◌∙◌, subst, ⊎_elim, inl, inr, ◌⊎◌, length, codes, decimal, All, arith}
-use Rattle.std.specs.List.{flat_map}
+use Rattle.std.proofs.Common.{◌≡◌, ◌≢◌, ℕ, ◌<◌, ◌≤◌, ◌^◌, ℤ, pos, unsigned_abs, List, [], ◌∷◌, ◌++◌, refl, sym, ap, ◌∙◌, subst, ⊎_elim, inl, inr, ◌⊎◌, codes, decimal, All, arith}
 use Rattle.std.specs.Fmt.{signed_decimal}
-use Rattle.std.proofs.lemmas.List.{append_assoc, append-nil, append_cancel_left, flat_map_more}
+use Rattle.std.proofs.lemmas.List.{append_assoc, append_cancel_left, flat_map_more}
 use Rattle.std.proofs.lemmas.List.Elements.{All-nil, All-head, All-tail, All-push}
 use Rattle.std.proofs.lemmas.Fmt.{decimal_injective}
 use Rattle.std.proofs.lemmas.Bool.{cases_lt}
 use Rattle.sv_clause.specs.Literals.{Ascend, IsClause}
 use Rattle.sv_clause.proofs.Folding.{UpTo, up_to_push, up_to_ascends}
-use Rattle.sv_proof.specs.Certificate.{word, literal_words, number_words, step_line, log_line, IsChain}
+use Rattle.sv_proof.specs.Certificate.{word, literal_words, number_words, log_line, IsChain}
 use Rattle.sv_proof.specs.Lines.{Lacks}
 use Rattle.sv_proof.proofs.Splitting.{same_split, lacks_split, lacks_decimal, lacks_signed, decimal_zero, zero_is, same_literal}
 

@@ -1,10 +1,8 @@
 -- Text that grows by what each element of a list adds.
-use Rattle.std.proofs.Common.{◌≡◌, ℕ, ◌+◌, ◌<◌, ◌≤◌, List, [], ◌∷◌, ◌++◌, refl, sym, ap, ◌∙◌, subst, map, take, drop, length, get_or, codes, decimal, arith}
+use Rattle.std.proofs.Common.{◌≡◌, ℕ, ◌+◌, ◌<◌, ◌≤◌, List, [], ◌∷◌, ◌++◌, refl, sym, ap, ◌∙◌, map, take, length, get_or}
 use Rattle.std.specs.List.{flat_map}
-use Rattle.std.proofs.lemmas.List.{append_assoc, append-nil, take_more, take_all, drop_more, drop_all, flat_map_more, get_or-map, take-map, drop-map}
-use Rattle.sv_clause.specs.Logs.{Step, plain_log}
-use Rattle.sv_clause.specs.declared.logs.Log.{Log}
-use Rattle.sv_proof.specs.Certificate.{plain_logs, step_line, log_line, log_lines, text_of, proof_text}
+use Rattle.std.proofs.lemmas.List.{append_assoc, take_more, take_all, flat_map_more}
+use Rattle.sv_proof.specs.Certificate.{text_of}
 
 pub spelled_more : {X : Type 0} (f : X → List ℕ) (xs : List X) (k : ℕ) (x d : X) (old text now : List ℕ) → k < length xs → x ≡ get_or xs k d → text ≡ old ++ flat_map f (take k xs) → now ≡ text ++ f x → now ≡ old ++ flat_map f (take (k + 1) xs)
 spelled_more f xs k x d old text now h is e n =

@@ -1,4 +1,4 @@
-use Rattle.std.proofs.Common.{◌≡◌, ◌++◌, ℕ, List, ◌∷◌, map, length, arith, Some, get_or, subst, sym, IsTrue, Bool}
+use Rattle.std.proofs.Common.{◌≡◌, ◌++◌, map, length, arith, get_or, subst, sym, IsTrue, Bool}
 use Rattle.std.specs.List.{between}
 use Rattle.std.proofs.lemmas.Result.{IfOk-weaker}
 use Rattle.std.proofs.lemmas.Slice.{first_rest}

@@ -1,4 +1,4 @@
-use Rattle.std.proofs.Common.{◌-◌, length, arith, ap, sym, ◌∙◌, Some}
+use Rattle.std.proofs.Common.{arith, ap, sym, ◌∙◌, Some}
 use Rattle.sv_proof.proofs.Numbers.{numbered_step, numbered_past}
 use Rattle.sv_proof.proofs.check.numbered.Goals as goal
 

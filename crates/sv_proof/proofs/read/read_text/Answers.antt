@@ -1,4 +1,4 @@
-use Rattle.std.proofs.Common.{rules, ◌≡◌, ◌+◌, ◌<◌, ◌^◌, ◌∷◌, [], ◌++◌, length, codes, refl, sym, ap, ◌∙◌, arith}
+use Rattle.std.proofs.Common.{◌≡◌, length, codes, refl, sym, ap, ◌∙◌}
 use Rattle.std.proofs.lemmas.Result.{err_from_is_err_and}
 use Rattle.std.proofs.lemmas.Bool.{false≢true, eqb-true, eq-eqb}
 use Rattle.std.proofs.lemmas.List.{nil_from_length}
@@ -15,7 +15,7 @@ pub returns-then-not-is_line-clause-fault : goal.returns-then-not-is_line-clause
 returns-then-not-is_line-clause-fault c =
     broken_first c.args.bytes.now
     (no_next_wrong (λ line. line ≡ codes "secv-proof 1") c.args.bytes.now c.in-Some.first.now c.in-Some.rest.now c.in-Some.ensures.some.0 c.in-Some.ensures.some.1
-      (λ is. false≢true (sym c.if-not-is_line.true ∙ c.is_line.ensures.1 is)))
+    (λ is. false≢true (sym c.if-not-is_line.true ∙ c.is_line.ensures.1 is)))
 
 pub returns-in_default-split_first-clause-fault : goal.returns-in_default-split_first-clause-fault
 returns-in_default-split_first-clause-fault c =
@@ -26,7 +26,7 @@ pub returns-in_default-read_counted-clause-fault : goal.returns-in_default-read_
 returns-in_default-read_counted-clause-fault c =
     broken_second c.args.bytes.now c.in-Some.first.now c.in-Some.rest.now c.in-Some.ensures.some.0 (c.is_line.ensures.0 c.if-not-is_line.false)
     (no_next_wrong IsCountLine c.in-Some.rest.now c.in-Some-split_first.second.now c.in-Some-split_first.rest.now c.in-Some-split_first.ensures.some.0 c.in-Some-split_first.ensures.some.1
-      (λ (count, few, is). c.in_default-read_counted.ensures.none refl count few is))
+    (λ (count, few, is). c.in_default-read_counted.ensures.none refl count few is))
 
 pub returns-in_err-logs-clause-fault : goal.returns-in_err-logs-clause-fault
 returns-in_err-logs-clause-fault c =
@@ -34,7 +34,7 @@ returns-in_err-logs-clause-fault c =
     let counted = c.in-Some-read_counted.ensures.some in
     rw (p.1, p.2)
     (broken_in_logs c.args.bytes.now c.in-Some.first.now c.in-Some.rest.now c.in-Some-split_first.second.now c.in-Some-split_first.rest.now c.in-Some-read_counted.count
-      c.in-Some.ensures.some.0 (c.is_line.ensures.0 c.if-not-is_line.false) c.in-Some-split_first.ensures.some.0 counted.0 counted.1 c.in_err-logs.field-0.0 c.in_err-logs.ensures.fault)
+    c.in-Some.ensures.some.0 (c.is_line.ensures.0 c.if-not-is_line.false) c.in-Some-split_first.ensures.some.0 counted.0 counted.1 c.in_err-logs.field-0.0 c.in_err-logs.ensures.fault)
 
 pub returns-in_default-split_first-2-clause-fault : goal.returns-in_default-split_first-2-clause-fault
 returns-in_default-split_first-2-clause-fault c =
@@ -53,7 +53,7 @@ returns-then-not-is_line-2-clause-fault c =
     c.in-Some.ensures.some.0 (c.is_line.ensures.0 c.if-not-is_line.false) c.in-Some-split_first.ensures.some.0 counted.0 counted.1
     (plain_logs read.logs.items) read.rest.now c.in_ok-logs.ensures.logs c.in_ok-logs.ensures.count read.line c.in_ok-logs.ensures.line
     (no_next_wrong (λ last. last ≡ codes "end") read.rest.now c.in-Some-split_first-2.last.now c.in-Some-split_first-2.rest.now c.in-Some-split_first-2.ensures.some.0 c.in-Some-split_first-2.ensures.some.1
-      (λ is. false≢true (sym c.if-not-is_line-2.true ∙ c.is_line-2.ensures.1 is)))
+    (λ is. false≢true (sym c.if-not-is_line-2.true ∙ c.is_line-2.ensures.1 is)))
 
 pub returns-then-not-is_empty-clause-fault : goal.returns-then-not-is_empty-clause-fault
 returns-then-not-is_empty-clause-fault c =

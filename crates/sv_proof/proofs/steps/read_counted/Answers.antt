@@ -1,4 +1,4 @@
-use Rattle.std.proofs.Common.{◌≡◌, decimal, sym, ◌∙◌}
+use Rattle.std.proofs.Common.{decimal, sym, ◌∙◌}
 use Rattle.std.proofs.lemmas.List.{append_cancel_left}
 use Rattle.sv_proof.proofs.steps.read_counted.Goals as goal
 

@@ -1,6 +1,5 @@
-use Rattle.std.proofs.Common.{rules, ◌≡◌, ◌<◌, ◌≤◌, ◌∷◌, ◌++◌, ◌^◌, pos, unsigned_abs, FitsSigned, [], subst, w32, to_z, of_z, arith, refl, sym, ap, ◌∙◌}
+use Rattle.std.proofs.Common.{rules, ◌≡◌, ◌∷◌, ◌++◌, unsigned_abs, FitsSigned, [], subst, w32, to_z, of_z, arith, refl, sym, ap, ◌∙◌}
 use Rattle.std.proofs.lemmas.Int.{ints, to_z-of_z}
-use Rattle.sv_proof.specs.Lines.{Lacks}
 use Rattle.sv_proof.proofs.Spelling.{ReadsLiterals, literals_stuck, literals_wrong, literals_more, literals_done, literals_clause, literals_end}
 use Rattle.sv_proof.proofs.steps.read_literals.Goals as goal
 

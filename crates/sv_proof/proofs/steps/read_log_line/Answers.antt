@@ -1,4 +1,4 @@
-use Rattle.std.proofs.Common.{rules, ◌≡◌, ◌<◌, ◌^◌, arith, refl, sym, ◌∙◌}
+use Rattle.std.proofs.Common.{rules, ◌<◌, ◌^◌, refl, sym, ◌∙◌}
 use Rattle.std.proofs.lemmas.Fmt.{decimal_injective}
 use Rattle.sv_proof.proofs.Spelling.{log_parts}
 use Rattle.sv_proof.proofs.steps.read_log_line.Goals as goal

@@ -1,4 +1,4 @@
-use Rattle.std.proofs.Common.{◌≡◌, ◌++◌, codes, refl, sym, ap, ◌∙◌}
+use Rattle.std.proofs.Common.{◌++◌, codes, refl, sym, ◌∙◌}
 use Rattle.sv_proof.specs.Certificate.{number_words}
 use Rattle.sv_proof.proofs.Spelling.{same_literals}
 use Rattle.sv_proof.proofs.steps.read_step.Goals as goal

@@ -1,4 +1,4 @@
-use Rattle.std.proofs.Common.{◌≡◌, decimal, refl, subst, sym, ap, ◌∙◌}
+use Rattle.std.proofs.Common.{decimal, refl, ap, ◌∙◌}
 use Rattle.sv_proof.proofs.Digits.{negated_none, negated_zero}
 use Rattle.sv_proof.proofs.words.read_negated.Goals as goal
 

@@ -1,4 +1,4 @@
-use Rattle.std.proofs.Common.{rules, ◌≡◌, ◌≤◌, ◌<◌, ◌-◌, ◌+◌, ◌*◌, ◌^◌, get_or, length, arith, sym, ◌∙◌}
+use Rattle.std.proofs.Common.{rules, ◌≤◌, get_or, length, arith, sym, ◌∙◌}
 use Rattle.std.proofs.lemmas.Bool.{eqb-true, eq-eqb, false≢true}
 use Rattle.sv_proof.proofs.Digits.{none_empty, none_leading, none_other, none_large, number_is, digits_so_far}
 use Rattle.sv_proof.proofs.words.read_number.Goals as goal

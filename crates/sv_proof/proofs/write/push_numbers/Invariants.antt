@@ -1,6 +1,5 @@
 use Rattle.std.proofs.Common.{◌≡◌, ◌++◌, take, decimal}
 use Rattle.std.specs.List.{flat_map}
-use Rattle.std.specs.Fmt.{signed_decimal}
 use Rattle.sv_proof.specs.Certificate.{word}
 use Rattle.sv_proof.proofs.write.push_numbers.Given as goal
 

@@ -1,0 +1,4 @@
+pub mod Literals
+pub mod Resolution
+pub mod Logs
+pub mod Units

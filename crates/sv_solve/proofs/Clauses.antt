@@ -4,7 +4,7 @@ use Rattle.std.proofs.lemmas.List.{get_or_default}
 use Rattle.std.proofs.lemmas.Bool.{cases_Bool, cases_order}
 use Rattle.sv_clause.specs.Literals.{stands, Ascend, IsClause}
 use Rattle.sv_clause.specs.Logs.{numbered}
-use Rattle.sv_clause.proofs.Merging.{above, unsigned_abs-neg}
+use Rattle.sv_clause.proofs.Merging.{above, not_own_negation, unsigned_abs-neg}
 use Rattle.sv_solve.specs.Codes.{IsOf}
 use Rattle.sv_solve.specs.Search.{IsClauseOf, AllFalse, OthersFalse, IsSettled, Implies}
 use Rattle.sv_solve.proofs.Places.{place_of, stands_at}
@@ -24,6 +24,22 @@ ascend_apart m (x ∷ xs) zero zero up lt h = absurd (omega arith)
 ascend_apart m (x ∷ xs) zero (suc j) up lt h = (ascend_at (unsigned_abs x) xs j up.2 (omega arith)).0
 ascend_apart m (x ∷ xs) (suc i) zero up lt h = absurd (omega arith)
 ascend_apart m (x ∷ xs) (suc i) (suc j) up lt h = ascend_apart (unsigned_abs x) xs i j up.2 (omega arith) (omega arith)
+
+-- no variable stands in a clause in both signs
+pub one_sign : (l : ℤ) (xs : List ℤ) → IsClause xs → stands l xs ≡ true → stands (neg_ℤ l) xs ≡ true → ⊥
+one_sign l xs up e f =
+    let p = place_of l xs e in
+    let q = place_of (neg_ℤ l) xs f in
+    let small : p.0 < length xs = p.1 in
+    let below : q.0 < length xs = q.1 in
+    let size : unsigned_abs (get_or xs q.0 (pos 0)) ≡ unsigned_abs (get_or xs p.0 (pos 0)) = ap unsigned_abs q.2 ∙ unsigned_abs-neg l ∙ ap unsigned_abs (sym p.2) in
+    ⊎_elim
+    (λ same. not_own_negation l (above 0 l xs up e) (sym p.2 ∙ ap (λ z. get_or xs z (pos 0)) same ∙ q.2))
+    (λ other. ⊎_elim
+    (λ lt. let far = ascend_apart 0 xs p.0 q.0 up lt below in absurd (omega (arith, far)))
+    (λ gt. let far = ascend_apart 0 xs q.0 p.0 up gt small in absurd (omega (arith, far)))
+    other)
+    (cases_order p.0 q.0)
 
 pub clause_some : (xs : List ℤ) (i : ℕ) → IsClause xs → i < length xs → 0 < unsigned_abs (get_or xs i (pos 0))
 clause_some xs i up h = (ascend_at 0 xs i up h).0

@@ -2,7 +2,7 @@
 use Rattle.std.proofs.Common.{◌≡◌, ◌≢◌, ℕ, zero, suc, ◌+◌, ◌-◌, ◌<◌, ◌≤◌, ◌^◌, Bool, true, false, ℤ, pos, negsuc, neg_ℤ, unsigned_abs, List, [], ◌∷◌, ◌++◌, sym, ap, ◌∙◌, subst, inl, inr, ◌⊎◌, ⊎_elim, length, take, get_or, arith, Some, slice_get, add-one, min}
 use Rattle.std.specs.Prelude.{All, Contains}
 use Rattle.std.proofs.lemmas.Bool.{false≢true, cases_order, cases_lt, not_from_false}
-use Rattle.std.proofs.lemmas.List.{append-nil, append_assoc, map-append, length_push, take-append-le, take_at, length-append, length-map, get_or-map, take_all, get_or_push, get_or_append_left, length-take-le, get_or-take}
+use Rattle.std.proofs.lemmas.List.{get_or-append-add, append-nil, append_assoc, map-append, length_push, take-append-le, take_at, length-append, length-map, get_or-map, take_all, get_or_push, get_or_append_left, length-take-le, get_or-take}
 use Rattle.std.proofs.lemmas.List.Elements.{All-push, Contains-append_right, Contains-get_or}
 use Rattle.sv_clause.specs.Literals.{stands, IsClause, literal_true, clause_true, Satisfies}
 use Rattle.sv_clause.specs.Logs.{Step, clauses_of, IsDerived, AllDerived, EndsEmpty, Refutes}
@@ -16,6 +16,7 @@ use Rattle.sv_solve.specs.Known.{Known, clauses_known, EachNew, IsKnown}
 use Rattle.sv_solve.specs.Answers.{IsWithin, value_of, OnlyLastIsEmpty, AreDifferent}
 use Rattle.sv_solve.specs.Values.{AreValues}
 use Rattle.sv_solve.proofs.Clauses.{slice_get_at, get_at, of_member, clause_small}
+use Rattle.sv_solve.proofs.Counting.{steps_below}
 use Rattle.sv_solve.proofs.Places.{stands_more_cases, place_of}
 
 clauses_of_push : (steps : List Step) (step : Step) → clauses_of (steps ++ step ∷ []) ≡ clauses_of steps ++ step.clause ∷ []
@@ -174,12 +175,21 @@ refuted_answer given steps log step budget is small derived each last empty =
     let P : List Step → Type 0 = λ z. Refutes given z × OnlyLastIsEmpty z × (length z ≤ budget + 1) in
     subst P (sym is) (refutation given steps step derived last empty, only_last_empty given steps step each, (let size : length (steps ++ step ∷ []) ≡ length steps + 1 = length_push steps step in omega arith))
 
+all_suffix : {X : Type 0} (P : X → Type 0) (xs ys : List X) → All P (xs ++ ys) → All P ys
+all_suffix P xs ys all k d h =
+    let size : length (xs ++ ys) ≡ length xs + length ys = length-append xs ys in
+    subst P (get_or-append-add xs ys k d) (all (length xs + k) d (omega arith))
+
 -- a spent log
-pub spent_answer : (given : List (List ℤ)) (steps log : List Step) (budget : ℕ) (trail : List ℤ) → log ≡ steps → length steps ≡ budget → AllDerived given steps → EachNew given steps
-    → IsAtRest (given ++ clauses_of steps) trail → IsSpentLog given log budget × AreDifferent log
-spent_answer given steps log budget trail is count derived each rest =
-    let P : List Step → Type 0 = λ z. IsSpentLog given z budget × AreDifferent z in
-    subst P (sym is) (spent_log given steps budget trail count derived each rest, steps_different given steps each)
+pub spent_answer : (variables bound : ℕ) (given : List (List ℤ)) (steps log : List Step) (budget : ℕ) (trail : List ℤ) → bound ≤ variables → log ≡ steps → length steps ≡ budget → AllDerived given steps → EachNew given steps
+    → All (IsClauseOf bound) (given ++ clauses_of steps) → IsAtRest (given ++ clauses_of steps) trail → IsSpentLog given log budget × AreDifferent log × (budget < 3 ^ variables)
+spent_answer variables bound given steps log budget trail low is count derived each of rest =
+    let P : List Step → Type 0 = λ z. IsSpentLog given z budget × AreDifferent z × (budget < 3 ^ variables) in
+    let wider : All (IsClauseOf variables) (clauses_of steps) =
+    λ k d h. let one = all_suffix (IsClauseOf bound) given (clauses_of steps) of k d h in
+    record { normal = one.normal; within = λ l e. let high : unsigned_abs l ≤ bound = one.within l e in omega arith } in
+    let few : length steps < 3 ^ variables = steps_below variables steps wider (steps_not_empty given steps each) (steps_different given steps each) in
+    subst P (sym is) (spent_log given steps budget trail count derived each rest, steps_different given steps each, omega arith)
 
 -- within the number of variables and in 32 bits
 pub clause_of_least : (variables bound : ℕ) (clause : List ℤ) → IsClause clause → IsWithin variables clause → bound ≡ min variables 2147483647 → IsClauseOf bound clause

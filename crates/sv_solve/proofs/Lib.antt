@@ -5,4 +5,5 @@ pub mod Clauses
 pub mod Trails
 pub mod Deriving
 pub mod Lessons
+pub mod Counting
 pub mod Knowing

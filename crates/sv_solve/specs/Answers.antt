@@ -1,5 +1,5 @@
 -- What the solver answers.
-use Rattle.std.specs.Prelude.{◌≡◌, ◌≢◌, ℕ, ◌+◌, ◌-◌, ◌≤◌, Bool, false, IsTrue, ℤ, unsigned_abs, List, [], length, take, All, AllPairs, slice_index_or}
+use Rattle.std.specs.Prelude.{◌≡◌, ◌≢◌, ℕ, ◌+◌, ◌-◌, ◌^◌, ◌<◌, ◌≤◌, Bool, false, IsTrue, ℤ, unsigned_abs, List, [], length, take, All, AllPairs, slice_index_or}
 use Rattle.sv_clause.specs.Literals.{stands, Satisfies}
 use Rattle.sv_clause.specs.Logs.{Step, clauses_of, plain_log, Refutes}
 use Rattle.sv_clause.specs.Units.{IsSpentLog}
@@ -48,4 +48,4 @@ IsNotSpent answer = WhereSpent (λ _. ⊥) answer
 abbrev pub IsAnswer : ℕ → List (List ℤ) → ℕ → Solved → Type 0
 IsAnswer variables clauses budget (Found values) = (length values.items ≡ variables) × Satisfies (value_of values.items) clauses
 IsAnswer variables clauses budget (Refuted log) = Refutes clauses (plain_log log) × OnlyLastIsEmpty (plain_log log) × (length (plain_log log) ≤ budget + 1)
-IsAnswer variables clauses budget (Spent log) = IsSpentLog clauses (plain_log log) budget × AreDifferent (plain_log log)
+IsAnswer variables clauses budget (Spent log) = IsSpentLog clauses (plain_log log) budget × AreDifferent (plain_log log) × (budget < 3 ^ variables)

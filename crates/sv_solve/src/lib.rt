@@ -11,5 +11,5 @@ mod search;
 mod solver;
 mod trail;
 
-pub use solver::{Solved, solve};
+pub use solver::{Solved, is_within, solve};
 pub use std::alloc::AllocError as OutOfMemory;

@@ -3,8 +3,8 @@ ghost use Rattle.std.specs.Prelude.{◌≡◌, ℕ, ◌+◌, ◌<◌, ◌≤◌,
 ghost use Rattle.std.specs.Bool.{IsFalse};
 ghost use Rattle.sv_clause.specs.Literals.{stands};
 ghost use Rattle.sv_clause.specs.Units.{IsAtRest};
-ghost use Rattle.sv_solve.specs.Search.{IsClauseOf, AllFalse, ImpliedFrom};
-ghost use Rattle.sv_solve.specs.Scans.{IsStanding, IsScan};
+ghost use Rattle.sv_solve.specs.Search.{IsClauseOf, IsSettled, ImpliedFrom};
+ghost use Rattle.sv_solve.specs.Scans.{IsStanding, IsConflict};
 
 use crate::kept::KeptClause;
 use crate::literal::Literal;
@@ -19,16 +19,6 @@ pub enum Standing {
     Unit(Literal),
     /// All literals are false.
     False,
-}
-
-/// What a scan found.
-pub enum Scan {
-    /// All clauses are settled.
-    Rest,
-    /// The clause of this number, from 1, makes this literal true.
-    Forced(u64, Literal),
-    /// The clause at this place, from 0, is false.
-    Conflict(usize),
 }
 
 // The first place from one on whose literal is not false.
@@ -68,38 +58,46 @@ pub fn standing_of(clause: &[Literal], trail: &Trail) -> Standing
     Standing::Settled
 }
 
-/// The first clause that is not settled under a trail.
-pub fn scan_of(clauses: &[KeptClause], trail: &Trail) -> Scan
-    requires { All (IsClauseOf trail.now.variables) clauses.now }
-    ensures { IsScan trail.now.variables clauses.now trail.now.literals result }
+// Goes over all clauses once and makes true what they make true: gives the place of the first that is false.
+fn pass(clauses: &[KeptClause], trail: &mut Trail) -> Result<Option<usize>, AllocError>
+    requires { All (IsClauseOf trail.old.variables) clauses.now }
+    ensures rest { IfOk result (λ found. IfNone found (length trail.new.literals ≡ length trail.old.literals → All (IsSettled trail.new.literals) clauses.now)) }
+    ensures conflict { IfOk result (λ found. IfSome found (IsConflict clauses.now trail.new.literals)) }
+    ensures older { OnOk result (take (length trail.old.literals) trail.new.literals ≡ trail.old.literals) }
+    ensures longer { OnOk result (length trail.old.literals ≤ length trail.new.literals) }
+    ensures implied { OnOk result ((from : ℕ) → ImpliedFrom clauses.now trail.old from → ImpliedFrom clauses.now trail.new from) }
+    ensures variables { trail.new.variables ≡ trail.old.variables }
 {
     let mut place = 0;
     'clauses: while place < clauses.len() {
-        match standing_of(clauses[place].literals(), trail) {
-            Standing::Settled => {}
-            Standing::Unit(literal) => return Scan::Forced(place as u64 + 1, literal),
-            Standing::False => return Scan::Conflict(place),
-        }
+        let standing = standing_of(clauses[place].literals(), trail);
         place += 1;
+        match standing {
+            Standing::Settled => continue 'clauses,
+            Standing::Unit(literal) => trail.push(&literal, place as u64)?,
+            Standing::False => return Ok(Some(place - 1)),
+        }
     }
-    Scan::Rest
+    Ok(None)
 }
 
 /// Makes true what clauses make true, until one is false or all are settled: gives the place of the false one.
 pub fn propagate(clauses: &[KeptClause], trail: &mut Trail) -> Result<Option<usize>, AllocError>
     requires { All (IsClauseOf trail.old.variables) clauses.now }
     ensures rest { IfOk result (λ found. IfNone found (IsAtRest clauses.now trail.new.literals)) }
-    ensures conflict { IfOk result (λ found. IfSome found (λ place. place < length clauses.now × AllFalse trail.new.literals (slice_index_or clauses.now place []))) }
+    ensures conflict { IfOk result (λ found. IfSome found (IsConflict clauses.now trail.new.literals)) }
     ensures older { OnOk result (take (length trail.old.literals) trail.new.literals ≡ trail.old.literals) }
     ensures implied { OnOk result ((from : ℕ) → ImpliedFrom clauses.now trail.old from → ImpliedFrom clauses.now trail.new from) }
     ensures variables { trail.new.variables ≡ trail.old.variables }
 {
-    'forced: loop {
-        let _len = trail.len();
-        match scan_of(clauses, trail) {
-            Scan::Rest => return Ok(None),
-            Scan::Conflict(place) => return Ok(Some(place)),
-            Scan::Forced(number, literal) => trail.push(&literal, number)?,
+    'passes: loop {
+        let before = trail.len();
+        let found = pass(clauses, trail)?;
+        if found.is_some() {
+            return Ok(found);
+        }
+        if trail.len() == before {
+            return Ok(None);
         }
     }
 }

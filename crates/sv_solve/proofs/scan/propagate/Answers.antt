@@ -1,14 +1,13 @@
-use Rattle.std.proofs.Common.{◌+◌, ◌≡◌, length, take, arith, ap, ◌∙◌, ◌++◌, ◌∷◌, []}
-use Rattle.std.proofs.lemmas.List.{take-append-le, length_push}
-use Rattle.sv_solve.proofs.Trails.{implied_push}
+use Rattle.std.proofs.Common.{◌≡◌, ℕ, length, arith, false, true, Option, Some, None, sym, ◌∙◌}
+use Rattle.std.specs.Prelude.{IfNone, is_some}
+use Rattle.sv_solve.proofs.Trails.{at_rest}
 use Rattle.sv_solve.proofs.scan.propagate.Goals as goal
 
-pub forced-preserved : goal.forced-preserved
-forced-preserved c =
-    let is : c.push.new.self.literals ≡ c.forced.trail.literals ++ c.in-Forced.literal ∷ [] = c.in_ok-push-in-Forced.ensures.literals in
-    let longer : length c.push.new.self.literals ≡ length c.forced.trail.literals + 1 = ap length is ∙ length_push c.forced.trail.literals c.in-Forced.literal in (
-      ap (take (length c.args.trail.now.literals)) is ∙ take-append-le (length c.args.trail.now.literals) c.forced.trail.literals (c.in-Forced.literal ∷ []) (omega arith) ∙ c.forced.invariant.0,
-      (λ from h. implied_push c.args.clauses.now c.forced.trail c.push.new.self c.in-Forced.literal c.in-Forced.number is c.in_ok-push-in-Forced.ensures.reasons c.in_ok-push-in-Forced.ensures.room c.in-Forced.ensures.0 from (c.forced.invariant.1 from h)),
-      c.in_ok-push-in-Forced.ensures.variables ∙ c.forced.invariant.2,
-      omega arith,
-    )
+if_none : {P : Type 0} (o : Option ℕ) → false ≡ is_some o → IfNone o P → P
+if_none None e h = h
+if_none (Some x) e h = absurd (cc)
+
+pub returns-then-len-before-clause-rest : goal.returns-then-len-before-clause-rest
+returns-then-len-before-clause-rest c =
+    let same : length c.pass.new.trail.literals ≡ length c.passes.trail.literals = sym c.len.ensures.value ∙ c.if-len-before.true ∙ c.len-before.ensures.value in
+    at_rest c.args.clauses.now c.pass.new.trail.literals c.len.ensures.consistent (if_none c.in_ok-found.found c.if-is_some.ensures c.in_ok-found.ensures.rest same)

@@ -1,4 +1,4 @@
-use Rattle.std.proofs.Common.{subst, sym, ap, ◌∙◌, ◌≡◌, ◌≤◌, ◌+◌, ◌++◌, length, arith, ℤ, List}
+use Rattle.std.proofs.Common.{◌^◌, ◌<◌, subst, sym, ap, ◌∙◌, ◌≡◌, ◌≤◌, ◌+◌, ◌++◌, length, arith, ℤ, List}
 use Rattle.std.specs.Prelude.{All}
 use Rattle.sv_clause.specs.Logs.{plain_step, plain_log, clauses_of, IsDerived, Refutes}
 use Rattle.sv_clause.specs.Units.{IsAtRest, IsSpentLog}
@@ -47,10 +47,11 @@ pub returns : goal.returns
 returns c =
     let rest = rw c.in-None.is at c.in_ok-conflict.ensures.rest in
     let log = plain_log c.finish.result in
-    let P : List (List ℤ) → Type 0 = λ z. IsSpentLog z log c.args.budget × AreDifferent log in
+    let P : List (List ℤ) → Type 0 = λ z. IsSpentLog z log c.args.budget × AreDifferent log × (c.args.budget < 3 ^ c.args.variables) in
     let count : length c.budget.known.steps ≡ c.budget.learned = c.budget.invariant.1 in
     let most : c.budget.learned ≤ c.args.budget = c.budget.invariant.2 in
     let spent : length c.budget.known.steps ≡ c.args.budget = omega arith in
     subst P c.budget.invariant.0
-    (spent_answer c.budget.known.given c.budget.known.steps log c.args.budget c.propagate.new.trail.literals c.finish.ensures.steps spent c.finish.ensures.derived c.finish.ensures.each_new
+    (spent_answer c.args.variables c.budget.known.variables c.budget.known.given c.budget.known.steps log c.args.budget c.propagate.new.trail.literals c.budget.invariant.6 c.finish.ensures.steps spent c.finish.ensures.derived c.finish.ensures.each_new
+    (subst (All (IsClauseOf c.budget.known.variables)) c.clauses-2.ensures.value c.clauses-2.ensures.of)
     (subst (λ z. IsAtRest z c.propagate.new.trail.literals) c.clauses-2.ensures.value rest))

@@ -1,0 +1,116 @@
+-- Literals of clauses, and where clauses stand.
+use Rattle.std.proofs.Common.{◌≡◌, ℕ, zero, suc, ◌+◌, ◌-◌, ◌<◌, ◌≤◌, ◌^◌, true, false, ℤ, pos, neg_ℤ, unsigned_abs, List, [], ◌∷◌, refl, sym, ap, ◌∙◌, subst, inl, inr, ⊎_elim, length, get_or, arith, Some, slice_get, add-one}
+use Rattle.std.proofs.lemmas.List.{get_or_default}
+use Rattle.std.proofs.lemmas.Bool.{cases_Bool, cases_order}
+use Rattle.sv_clause.specs.Literals.{stands, Ascend, IsClause}
+use Rattle.sv_clause.specs.Logs.{numbered}
+use Rattle.sv_clause.proofs.Merging.{above, not_own_negation, unsigned_abs-neg}
+use Rattle.sv_solve.specs.Codes.{IsOf}
+use Rattle.sv_solve.specs.Search.{IsClauseOf, AllFalse, OthersFalse, IsSettled, Implies}
+use Rattle.sv_solve.proofs.Places.{place_of, stands_at}
+
+ascend_at : (m : ℕ) (xs : List ℤ) (i : ℕ) → Ascend m xs → i < length xs → (m < unsigned_abs (get_or xs i (pos 0))) × (unsigned_abs (get_or xs i (pos 0)) < 2 ^ 31)
+ascend_at m [] i up h = absurd (omega arith)
+ascend_at m (x ∷ xs) zero up h = (up.0, up.1)
+ascend_at m (x ∷ xs) (suc i) up h =
+    let far : m < unsigned_abs x = up.0 in
+    let r = ascend_at (unsigned_abs x) xs i up.2 (omega arith) in
+    let more : unsigned_abs x < unsigned_abs (get_or xs i (pos 0)) = r.0 in
+    (omega arith, r.1)
+
+ascend_apart : (m : ℕ) (xs : List ℤ) (i j : ℕ) → Ascend m xs → i < j → j < length xs → unsigned_abs (get_or xs i (pos 0)) < unsigned_abs (get_or xs j (pos 0))
+ascend_apart m [] i j up lt h = absurd (omega arith)
+ascend_apart m (x ∷ xs) zero zero up lt h = absurd (omega arith)
+ascend_apart m (x ∷ xs) zero (suc j) up lt h = (ascend_at (unsigned_abs x) xs j up.2 (omega arith)).0
+ascend_apart m (x ∷ xs) (suc i) zero up lt h = absurd (omega arith)
+ascend_apart m (x ∷ xs) (suc i) (suc j) up lt h = ascend_apart (unsigned_abs x) xs i j up.2 (omega arith) (omega arith)
+
+-- no variable stands in a clause in both signs
+pub one_sign : (l : ℤ) (xs : List ℤ) → IsClause xs → stands l xs ≡ true → stands (neg_ℤ l) xs ≡ true → ⊥
+one_sign l xs up e f =
+    let p = place_of l xs e in
+    let q = place_of (neg_ℤ l) xs f in
+    let small : p.0 < length xs = p.1 in
+    let below : q.0 < length xs = q.1 in
+    let size : unsigned_abs (get_or xs q.0 (pos 0)) ≡ unsigned_abs (get_or xs p.0 (pos 0)) = ap unsigned_abs q.2 ∙ unsigned_abs-neg l ∙ ap unsigned_abs (sym p.2) in
+    ⊎_elim
+    (λ same. not_own_negation l (above 0 l xs up e) (sym p.2 ∙ ap (λ z. get_or xs z (pos 0)) same ∙ q.2))
+    (λ other. ⊎_elim
+    (λ lt. let far = ascend_apart 0 xs p.0 q.0 up lt below in absurd (omega (arith, far)))
+    (λ gt. let far = ascend_apart 0 xs q.0 p.0 up gt small in absurd (omega (arith, far)))
+    other)
+    (cases_order p.0 q.0)
+
+pub clause_some : (xs : List ℤ) (i : ℕ) → IsClause xs → i < length xs → 0 < unsigned_abs (get_or xs i (pos 0))
+clause_some xs i up h = (ascend_at 0 xs i up h).0
+
+pub clause_small : (xs : List ℤ) (i : ℕ) → IsClause xs → i < length xs → unsigned_abs (get_or xs i (pos 0)) < 2 ^ 31
+clause_small xs i up h = (ascend_at 0 xs i up h).1
+
+pub of_neg : (variables : ℕ) (l : ℤ) → IsOf variables l → IsOf variables (neg_ℤ l)
+of_neg variables l h = let size : unsigned_abs (neg_ℤ l) ≡ unsigned_abs l = unsigned_abs-neg l in let low : 0 < unsigned_abs l = h.0 in let high : unsigned_abs l ≤ variables = h.1 in (omega arith, omega arith)
+
+pub of_member : (variables : ℕ) (clause : List ℤ) (l : ℤ) → IsClauseOf variables clause → stands l clause ≡ true → IsOf variables l
+of_member variables clause l c e = (above 0 l clause c.normal e, c.within l e)
+
+pub of_at : (variables : ℕ) (clause : List ℤ) (i : ℕ) → IsClauseOf variables clause → i < length clause → IsOf variables (get_or clause i (pos 0))
+of_at variables clause i c h = of_member variables clause (get_or clause i (pos 0)) c (stands_at clause i h)
+
+pub of_neg_at : (variables : ℕ) (clause : List ℤ) (i : ℕ) → IsClauseOf variables clause → i < length clause → IsOf variables (neg_ℤ (get_or clause i (pos 0)))
+of_neg_at variables clause i c h = of_neg variables (get_or clause i (pos 0)) (of_at variables clause i c h)
+
+-- the literals at these places are false
+abbrev FalseBetween : List ℤ → List ℤ → ℕ → ℕ → Type 0
+FalseBetween clause literals from to = (i : ℕ) → from ≤ i → i < to → stands (neg_ℤ (get_or clause i (pos 0))) literals ≡ true
+
+pub all_false : (clause literals : List ℤ) → FalseBetween clause literals 0 (length clause) → AllFalse literals clause
+all_false clause literals f l e = let p = place_of l clause e in subst (λ z. stands (neg_ℤ z) literals ≡ true) p.2 (f p.0 (omega arith) p.1)
+
+pub others_false : (clause literals : List ℤ) (first : ℕ) → FalseBetween clause literals 0 first → FalseBetween clause literals (first + 1) (length clause) → OthersFalse literals clause (get_or clause first (pos 0))
+others_false clause literals first f g l e ne =
+    let p = place_of l clause e in
+    let small : p.0 < length clause = p.1 in
+    ⊎_elim (λ same. absurd (ne (sym p.2 ∙ ap (λ z. get_or clause z (pos 0)) same)))
+    (λ other. ⊎_elim (λ lt. subst (λ z. stands (neg_ℤ z) literals ≡ true) p.2 (f p.0 (omega arith) lt)) (λ gt. subst (λ z. stands (neg_ℤ z) literals ≡ true) p.2 (g p.0 (omega arith) small)) other)
+    (cases_order p.0 first)
+
+pub settled_one : (clause literals : List ℤ) (i : ℕ) → i < length clause → stands (get_or clause i (pos 0)) literals ≡ true → IsSettled literals clause
+settled_one clause literals i h e = inl (get_or clause i (pos 0), stands_at clause i h, e)
+
+pub settled_two : (clause literals : List ℤ) (i j : ℕ) → IsClause clause → i < j → j < length clause
+    → stands (get_or clause i (pos 0)) literals ≡ false → stands (neg_ℤ (get_or clause i (pos 0))) literals ≡ false
+    → stands (neg_ℤ (get_or clause j (pos 0))) literals ≡ false → IsSettled literals clause
+settled_two clause literals i j up lt h a b d =
+    let x = get_or clause i (pos 0) in
+    let y = get_or clause j (pos 0) in
+    let apart : unsigned_abs x < unsigned_abs y = ascend_apart 0 clause i j up lt h in
+    ⊎_elim (λ one. settled_one clause literals j h one)
+    (λ none. inr (x, y, (λ e. let same : unsigned_abs x ≡ unsigned_abs y = ap unsigned_abs e in absurd (omega arith)), stands_at clause i (omega arith), stands_at clause j h, (a, b), (none, d)))
+    (cases_Bool (stands y literals))
+
+pub slice_get_at : {X : Type 0} (xs : List X) (i : ℕ) (d : X) → i < length xs → slice_get xs i ≡ Some (get_or xs i d)
+slice_get_at [] i d h = absurd (omega arith)
+slice_get_at (x ∷ xs) zero d h = refl
+slice_get_at (x ∷ xs) (suc i) d h = slice_get_at xs i d (omega arith)
+
+pub get_at : {X : Type 0} (xs : List X) (i : ℕ) (x : X) → slice_get xs i ≡ Some x → (i < length xs) × (get_or xs i x ≡ x)
+get_at [] i x e = absurd (cc)
+get_at (y ∷ xs) zero x e = (omega arith, cc)
+get_at (y ∷ xs) (suc i) x e = let r = get_at xs i x e in let small : i < length xs = r.0 in (omega arith, r.1)
+
+pub numbered_at : (clauses : List (List ℤ)) (i : ℕ) → i < length clauses → numbered clauses (i + 1) ≡ Some (get_or clauses i [])
+numbered_at clauses i h = rw add-one (slice_get_at clauses i [] h)
+
+-- a numbered clause stands at the place before its number
+pub numbered_place : (clauses : List (List ℤ)) (number : ℕ) (clause : List ℤ) → numbered clauses number ≡ Some clause → (0 < number) × (number - 1 < length clauses) × (get_or clauses (number - 1) [] ≡ clause)
+numbered_place clauses zero clause e = absurd (cc)
+numbered_place clauses (suc n) clause e =
+    let r = get_at clauses n clause e in
+    let small : n < length clauses = r.0 in
+    let at : suc n - 1 ≡ n = omega arith in
+    (omega arith, omega arith, ap (λ z. get_or clauses z []) at ∙ get_or_default clauses n [] clause small ∙ r.1)
+
+pub implies_at : (clauses : List (List ℤ)) (place : ℕ) (literals : List ℤ) (literal : ℤ) → place < length clauses
+    → stands literal (get_or clauses place []) ≡ true → OthersFalse literals (get_or clauses place []) literal → Implies clauses (place + 1) literals literal
+implies_at clauses place literals literal h member others =
+    record { clause = get_or clauses place []; is = numbered_at clauses place h; member = member; others = others }

@@ -1,0 +1,188 @@
+// The solver.
+ghost use Rattle.std.specs.Prelude.{◌≡◌, ℕ, ℤ, ◌+◌, ◌^◌, ◌<◌, ◌≤◌, List, All, IfOk, IsTrue, length};
+ghost use Rattle.sv_clause.specs.Literals.{Satisfies};
+ghost use Rattle.sv_clause.specs.Logs.{Refutes};
+ghost use Rattle.sv_clause.specs.Units.{IsSpentLog, IsUnitConflict};
+ghost use Rattle.sv_solve.specs.Answers.{IsWithin, value_of, OnlyLastIsEmpty, AreDifferent, WhereFound, WhereRefuted, WhereSpent, IsNotSpent, IsAnswer};
+ghost use Rattle.sv_solve.specs.Values.{AreValues};
+
+use crate::OutOfMemory;
+use crate::analysis::refute;
+use crate::knowledge::Knowledge;
+use crate::lists::LiteralList;
+use crate::literal::Literal;
+use crate::scan::propagate;
+use crate::search::{Outcome, search};
+use crate::trail::Trail;
+use std::alloc::Global;
+use sv_clause::{Clause, Log};
+
+/// What became of some clauses.
+#[derive(Debug, Drop)]
+pub enum Solved {
+    /// Values that make every clause true, the first for variable 1.
+    Found(Vec<bool>),
+    /// Steps of which the last one alone is empty.
+    Refuted(Log),
+    /// As many steps as the budget allows, each new to the clauses and the steps before it.
+    Spent(Log),
+}
+
+// The value of each variable under a trail.
+fn values_under(alloc: Global, variables: u32, trail: &Trail) -> Result<Vec<bool>, OutOfMemory>
+    requires small { trail.now.variables < 2 ^ 31 }
+    ensures { IfOk result (λ values. AreValues variables trail.now values.items) }
+{
+    let mut values: Vec<bool> = Vec::new(alloc);
+    'variables: for before in 0..variables {
+        if before >= trail.variables() {
+            values.push(false)?;
+            continue 'variables;
+        }
+        values.push(trail.contains(&Literal::of_variable(before + 1)))?;
+    }
+    Ok(values)
+}
+
+// Learns until the clauses are decided or the budget is spent.
+fn answer(
+    alloc: Global,
+    variables: u32,
+    clauses: &[Clause],
+    budget: u32,
+) -> Result<Solved, OutOfMemory>
+    requires { All (IsWithin variables) clauses.now }
+    ensures { IfOk result (IsAnswer variables clauses.now budget) }
+{
+    let mut known = Knowledge::new(alloc, variables, clauses)?;
+    let mut trail = Trail::new(alloc, known.variables())?;
+    let mut seen = LiteralList::new(alloc, known.variables())?;
+    let mut learned = 0;
+    'budget: while learned < budget {
+        match search(alloc, known.clauses(), &mut trail, &mut seen)? {
+            Outcome::Found => return Ok(Solved::Found(values_under(alloc, variables, &trail)?)),
+            Outcome::Refuted(step) => return Ok(Solved::Refuted(known.finish_with(step)?)),
+            Outcome::Learned(step) => known = known.learn(alloc, step)?,
+        }
+        learned += 1;
+    }
+    trail.truncate(0);
+    match propagate(known.clauses(), &mut trail)? {
+        Some(conflict) => {
+            let step = refute(alloc, known.clauses(), &trail, &mut seen, conflict)?;
+            Ok(Solved::Refuted(known.finish_with(step)?))
+        }
+        None => Ok(Solved::Spent(known.finish())),
+    }
+}
+
+/// Decides clauses over variables from 1 on, with at most `budget` learned steps.
+///
+/// Nothing says how long it takes; it keeps all that it learns.
+pub fn solve(
+    alloc: Global,
+    variables: u32,
+    clauses: &[Clause],
+    budget: u32,
+) -> Result<Solved, OutOfMemory>
+    requires some { 1 ≤ budget }
+    requires most { budget ≤ 4000000000 }
+    requires within { All (IsWithin variables) clauses.now }
+    ensures found_size { IfOk result (WhereFound (λ values. length values ≡ variables)) }
+    ensures found { IfOk result (WhereFound (λ values. Satisfies (value_of values) clauses.now)) }
+    ensures refuted { IfOk result (WhereRefuted (Refutes clauses.now)) }
+    ensures refuted_last { IfOk result (WhereRefuted OnlyLastIsEmpty) }
+    ensures refuted_size { IfOk result (WhereRefuted (λ steps. length steps ≤ budget + 1)) }
+    ensures spent { IfOk result (WhereSpent (λ steps. IsSpentLog clauses.now steps budget)) }
+    ensures spent_different { IfOk result (WhereSpent AreDifferent) }
+    ensures large_budget_never_spent { 3 ^ variables ≤ budget → IfOk result IsNotSpent }
+    ensures units_never_spent { (literals : List ℤ) → IsUnitConflict clauses.now literals → IfOk result IsNotSpent }
+{
+    answer(alloc, variables, clauses, budget)
+}
+
+/// Whether a clause is of variables up to this one.
+pub fn is_within(variables: u32, clause: &Clause) -> bool
+    ensures { IsTrue result → IsWithin variables clause.now }
+{
+    let literals = clause.literals();
+    let mut place = 0;
+    'literals: while place < literals.len() {
+        if literals[place].unsigned_abs() > variables {
+            return false;
+        }
+        place += 1;
+    }
+    true
+}
+
+#[cfg(test)]
+mod tests {
+    use super::*;
+    use std::test::Fail;
+
+    fn clauses_of(
+        alloc: Global,
+        variables: u32,
+        lists: &[&[i32]],
+    ) -> Result<Vec<Clause>, Fail>
+        ensures { IfOk result (λ clauses. All (IsWithin variables) clauses.items) }
+    {
+        let mut clauses: Vec<Clause> = Vec::new(alloc);
+        let mut place = 0;
+        'lists: while place < lists.len() {
+            let clause = Clause::new(alloc, lists[place])?.ok_or("no clause")?;
+            place += 1;
+            if !is_within(variables, &clause) {
+                return Err(Fail::from("a literal is out of range"));
+            }
+            clauses.push(clause)?;
+        }
+        Ok(clauses)
+    }
+
+    // Both answers are an outside solver's too.
+    #[test]
+    fn finds_and_refutes(rt: HostRuntime) -> Result<(), Fail> {
+        let alloc = rt.alloc();
+        let lists: [&[i32]; 4] = [&[1, 2], &[-1, 2], &[1, -2], &[-1, -2]];
+        let three = clauses_of(alloc, 2, &lists[..3])?;
+        let answer = solve(alloc, 2, &three, 5)?;
+        assert!(rt; matches!(answer, Solved::Found(values) if values.as_slice() == [true, true].as_slice()));
+        let four = clauses_of(alloc, 2, &lists)?;
+        assert!(rt; matches!(solve(alloc, 2, &four, 5)?, Solved::Refuted(log) if log.steps.len() == 2));
+        Ok(())
+    }
+
+    #[test]
+    fn decides_without_a_decision(rt: HostRuntime) -> Result<(), Fail> {
+        let alloc = rt.alloc();
+        let none = clauses_of(alloc, 0, &[])?;
+        assert!(rt; matches!(solve(alloc, 0, &none, 1)?, Solved::Found(values) if values.is_empty()));
+        let empty = clauses_of(alloc, 0, &[&[]])?;
+        assert!(rt; matches!(solve(alloc, 0, &empty, 1)?, Solved::Refuted(log) if log.steps.len() == 1));
+        let chain = clauses_of(alloc, 3, &[&[1], &[-1, 2], &[-2, 3], &[-2, 3], &[-3]])?;
+        assert!(rt; matches!(solve(alloc, 3, &chain, 1)?, Solved::Refuted(log) if log.steps.len() == 1));
+        Ok(())
+    }
+
+    // All eight clauses of three variables need two steps and the empty one.
+    #[test]
+    fn spends_its_budget(rt: HostRuntime) -> Result<(), Fail> {
+        let alloc = rt.alloc();
+        let lists: [&[i32]; 8] = [
+            &[1, 2, 3],
+            &[1, 2, -3],
+            &[1, -2, 3],
+            &[1, -2, -3],
+            &[-1, 2, 3],
+            &[-1, 2, -3],
+            &[-1, -2, 3],
+            &[-1, -2, -3],
+        ];
+        let clauses = clauses_of(alloc, 3, &lists)?;
+        assert!(rt; matches!(solve(alloc, 3, &clauses, 1)?, Solved::Spent(log) if log.steps.len() == 1));
+        assert!(rt; matches!(solve(alloc, 3, &clauses, 27)?, Solved::Refuted(_log)));
+        Ok(())
+    }
+}

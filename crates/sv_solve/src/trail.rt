@@ -1,0 +1,121 @@
+// The literals that are true, in the order in which they became so, each with its reason.
+ghost use Rattle.std.specs.Prelude.{◌≡◌, ◌+◌, ◌-◌, ◌*◌, ◌<◌, ◌≤◌, ◌^◌, ℤ, pos, List, [], ◌∷◌, ◌++◌, length, take, IsTrue, IfOk, OnOk, slice_index_or, slice_set};
+ghost use Rattle.std.specs.Bool.{IsFalse};
+ghost use Rattle.sv_clause.specs.Literals.{stands};
+ghost use Rattle.sv_clause.specs.Units.{IsOpen};
+ghost use Rattle.sv_solve.specs.Codes.{IsOf};
+ghost use Rattle.sv_solve.specs.Lists.{EachOpen, IsAssigned};
+ghost use Rattle.sv_solve.specs.Search.{IsConsistent};
+
+use crate::lists::LiteralList;
+use crate::literal::Literal;
+use std::alloc::{AllocError, Global};
+use std::marker::Model;
+
+/// The true literals in order. A literal that a clause made true has that clause's number, from 1, beside it.
+#[derive(Drop)]
+pub struct Trail {
+    assigned: LiteralList,
+    reasons: Vec<u64>,
+}
+
+impl Model for Trail {
+    ghost use Rattle.sv_solve.specs.Lists.{Assigned, IsTrail};
+
+    ghost Value = { Assigned };
+
+    ghost view = { λ t. record { literals = t.assigned.literals; reasons = t.reasons.items; variables = t.assigned.variables } };
+
+    ghost invariant = { λ t. IsTrail t.assigned.literals t.reasons.items t.assigned.variables };
+}
+
+impl Trail {
+    /// The empty trail.
+    pub fn new(alloc: Global, variables: u32) -> Result<Trail, AllocError>
+        requires { variables < 2 ^ 31 }
+        ensures literals { IfOk result (λ trail. trail.literals ≡ []) }
+        ensures variables { IfOk result (λ trail. trail.variables ≡ variables) }
+    {
+        let assigned = LiteralList::new(alloc, variables)?;
+        let reasons = vec![in alloc; 0; 2 * variables as usize + 2]?;
+        Ok(Trail { assigned, reasons })
+    }
+
+    /// How many literals are true.
+    pub fn len(&self) -> usize
+        ensures value { result ≡ length self.now.literals }
+        ensures room { length self.now.literals ≤ 2 * self.now.variables + 2 }
+        ensures each_open { EachOpen self.now.literals }
+        ensures consistent { IsConsistent self.now.literals }
+        ensures of { (literal : ℤ) → IsTrue (stands literal self.now.literals) → IsOf self.now.variables literal }
+    {
+        self.assigned.len()
+    }
+
+    /// The literal at a place.
+    pub fn at(&self, place: usize) -> Literal
+        requires { place < length self.now.literals }
+        ensures value { result ≡ slice_index_or self.now.literals place (pos 0) }
+        ensures of { IsOf self.now.variables result }
+    {
+        self.assigned.at(place)
+    }
+
+    /// The number of the clause that made the literal at a place true.
+    pub fn reason(&self, place: usize) -> u64
+        requires { place < length self.now.literals }
+        ensures { result ≡ slice_index_or self.now.reasons place 0 }
+    {
+        let _room = self.assigned.len();
+        self.reasons[place]
+    }
+
+    /// Whether a literal is true.
+    pub fn contains(&self, literal: &Literal) -> bool
+        requires { IsOf self.now.variables literal.now }
+        ensures { result ≡ stands literal.now self.now.literals }
+    {
+        self.assigned.contains(literal)
+    }
+
+    /// Whether neither a literal nor its negation is true.
+    pub fn is_open(&self, literal: &Literal) -> bool
+        requires { IsOf self.now.variables literal.now }
+        ensures open { IsTrue result → IsOpen self.now.literals literal.now }
+        ensures assigned { IsFalse result → IsAssigned self.now.literals literal.now }
+    {
+        !self.contains(literal) && !self.contains(&literal.negated())
+    }
+
+    /// The number of variables.
+    pub fn variables(&self) -> u32
+        ensures { result ≡ self.now.variables }
+    {
+        self.assigned.variables()
+    }
+
+    /// Makes an open literal true.
+    pub fn push(&mut self, literal: &Literal, reason: u64) -> Result<(), AllocError>
+        requires of { IsOf self.old.variables literal.now }
+        requires new { IsOpen self.old.literals literal.now }
+        ensures literals { OnOk result (self.new.literals ≡ self.old.literals ++ literal.now ∷ []) }
+        ensures reasons { OnOk result (self.new.reasons ≡ slice_set self.old.reasons (length self.old.literals) reason) }
+        ensures variables { self.new.variables ≡ self.old.variables }
+        ensures room { OnOk result (length self.old.literals < length self.new.reasons) }
+    {
+        let place = self.assigned.len();
+        self.assigned.push(literal)?;
+        let _room = self.assigned.len();
+        self.reasons[place] = reason;
+        Ok(())
+    }
+
+    /// Takes the literals from a place on back.
+    pub fn truncate(&mut self, len: usize)
+        ensures literals { self.new.literals ≡ take len self.old.literals }
+        ensures reasons { self.new.reasons ≡ self.old.reasons }
+        ensures variables { self.new.variables ≡ self.old.variables }
+    {
+        self.assigned.truncate(len);
+    }
+}

@@ -121,11 +121,7 @@ mod tests {
     use super::*;
     use std::test::Fail;
 
-    fn clauses_of(
-        alloc: Global,
-        variables: u32,
-        lists: &[&[i32]],
-    ) -> Result<Vec<Clause>, Fail>
+    fn clauses_of(alloc: Global, variables: u32, lists: &[&[i32]]) -> Result<Vec<Clause>, Fail>
         ensures { IfOk result (λ clauses. All (IsWithin variables) clauses.items) }
     {
         let mut clauses: Vec<Clause> = Vec::new(alloc);
@@ -148,9 +144,13 @@ mod tests {
         let lists: [&[i32]; 4] = [&[1, 2], &[-1, 2], &[1, -2], &[-1, -2]];
         let three = clauses_of(alloc, 2, &lists[..3])?;
         let answer = solve(alloc, 2, &three, 5)?;
-        assert!(rt; matches!(answer, Solved::Found(values) if values.as_slice() == [true, true].as_slice()));
+        assert!(rt;
+            matches!(answer, Solved::Found(values) if values.as_slice() == [true, true].as_slice())
+        );
         let four = clauses_of(alloc, 2, &lists)?;
-        assert!(rt; matches!(solve(alloc, 2, &four, 5)?, Solved::Refuted(log) if log.steps.len() == 2));
+        assert!(rt;
+            matches!(solve(alloc, 2, &four, 5)?, Solved::Refuted(log) if log.steps.len() == 2)
+        );
         Ok(())
     }
 
@@ -158,11 +158,17 @@ mod tests {
     fn decides_without_a_decision(rt: HostRuntime) -> Result<(), Fail> {
         let alloc = rt.alloc();
         let none = clauses_of(alloc, 0, &[])?;
-        assert!(rt; matches!(solve(alloc, 0, &none, 1)?, Solved::Found(values) if values.is_empty()));
+        assert!(rt;
+            matches!(solve(alloc, 0, &none, 1)?, Solved::Found(values) if values.is_empty())
+        );
         let empty = clauses_of(alloc, 0, &[&[]])?;
-        assert!(rt; matches!(solve(alloc, 0, &empty, 1)?, Solved::Refuted(log) if log.steps.len() == 1));
+        assert!(rt;
+            matches!(solve(alloc, 0, &empty, 1)?, Solved::Refuted(log) if log.steps.len() == 1)
+        );
         let chain = clauses_of(alloc, 3, &[&[1], &[-1, 2], &[-2, 3], &[-2, 3], &[-3]])?;
-        assert!(rt; matches!(solve(alloc, 3, &chain, 1)?, Solved::Refuted(log) if log.steps.len() == 1));
+        assert!(rt;
+            matches!(solve(alloc, 3, &chain, 1)?, Solved::Refuted(log) if log.steps.len() == 1)
+        );
         Ok(())
     }
 
@@ -181,7 +187,9 @@ mod tests {
             &[-1, -2, -3],
         ];
         let clauses = clauses_of(alloc, 3, &lists)?;
-        assert!(rt; matches!(solve(alloc, 3, &clauses, 1)?, Solved::Spent(log) if log.steps.len() == 1));
+        assert!(rt;
+            matches!(solve(alloc, 3, &clauses, 1)?, Solved::Spent(log) if log.steps.len() == 1)
+        );
         assert!(rt; matches!(solve(alloc, 3, &clauses, 27)?, Solved::Refuted(_log)));
         Ok(())
     }

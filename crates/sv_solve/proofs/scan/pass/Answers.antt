@@ -1,4 +1,4 @@
-use Rattle.std.proofs.Common.{◌<◌, ◌≤◌, ◌+◌, ◌≡◌, ◌++◌, ◌∷◌, ℕ, length, take, arith, subst, sym, ap, ◌∙◌, get_or, [], below_more, ℤ, true}
+use Rattle.std.proofs.Common.{◌≤◌, ◌+◌, ◌≡◌, ◌++◌, ◌∷◌, length, take, arith, subst, ap, ◌∙◌, get_or, [], below_more, true}
 use Rattle.std.proofs.lemmas.List.{get_or_read, take-append-le, length_push}
 use Rattle.std.proofs.lemmas.List.Elements.{All-from_get_or}
 use Rattle.sv_clause.specs.Literals.{stands}

@@ -4,7 +4,7 @@
 //! `bench/certificate.sh` prints the rates.
 #![tactic(auto)]
 
-ghost use Rattle.std.specs.Prelude.{◌<◌, ◌≤◌};
+ghost use Rattle.std.specs.Prelude.{◌<◌};
 
 use anyhow::{Context, Result, ensure};
 use std::alloc::{AllocError, Global};

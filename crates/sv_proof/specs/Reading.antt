@@ -10,9 +10,11 @@ use Rattle.sv_proof.specs.declared.read.ProofFault.TheVariants.{Text, OutOfMemor
 abbrev pub NextIsNo : (List ℕ → Type 0) → List ℕ → Type 0
 NextIsNo kind bytes = (line more : List ℕ) → Lacks 10 line → bytes ≡ line ++ 10 ∷ more → kind line → ⊥
 
+-- the line of a step
 abbrev pub IsStepLine : List ℕ → Type 0
 IsStepLine line = (step : Step) × IsWritable step × (line ≡ step_line step)
 
+-- the line before the steps of the log with a number
 abbrev pub IsLogLine : ℕ → List ℕ → Type 0
 IsLogLine number line = (steps : ℕ) × (steps < 2 ^ 32) × (line ≡ log_line number steps)
 

@@ -1,5 +1,5 @@
 -- How many clauses there are over some variables.
-use Rattle.std.proofs.Common.{◌≡◌, ◌≢◌, ℕ, zero, suc, ◌+◌, ◌*◌, ◌<◌, ◌≤◌, ◌^◌, Bool, true, false, ◌||◌, cond, ℤ, pos, negsuc, neg_ℤ, unsigned_abs, List, [], ◌∷◌, refl, sym, ap, ◌∙◌, subst, ⊎_elim, length, get_or, map, eqb, arith}
+use Rattle.std.proofs.Common.{◌≡◌, ◌≢◌, ℕ, zero, suc, ◌+◌, ◌*◌, ◌<◌, ◌≤◌, ◌^◌, Bool, true, false, cond, ℤ, pos, negsuc, neg_ℤ, unsigned_abs, List, [], ◌∷◌, refl, sym, ap, ◌∙◌, ⊎_elim, length, get_or, map, eqb, arith}
 use Rattle.std.specs.Prelude.{All}
 use Rattle.std.specs.List.{list_any}
 use Rattle.std.proofs.Math.Nat.{pow-suc, mul-le-mul_left}

@@ -1,9 +1,8 @@
 -- What a scan of clauses finds.
-use Rattle.std.specs.Prelude.{ℕ, ◌<◌, ℤ, IsTrue, List, [], length, All, slice_index_or}
+use Rattle.std.specs.Prelude.{ℕ, ◌<◌, ℤ, IsTrue, List, [], length, slice_index_or}
 use Rattle.sv_clause.specs.Literals.{stands}
 use Rattle.sv_clause.specs.Units.{IsOpen}
-use Rattle.sv_solve.specs.Codes.{IsOf}
-use Rattle.sv_solve.specs.Search.{AllFalse, OthersFalse, IsSettled, Implies}
+use Rattle.sv_solve.specs.Search.{AllFalse, OthersFalse, IsSettled}
 use Rattle.sv_solve.specs.declared.scan.Standing.{Standing}
 use Rattle.sv_solve.specs.declared.scan.Standing.TheVariants.{Settled, Unit, False}
 

@@ -121,11 +121,7 @@ mod tests {
     use super::*;
     use std::test::Fail;
 
-    fn clauses_of(
-        alloc: Global,
-        variables: u32,
-        lists: &[&[i32]],
-    ) -> Result<Vec<Clause>, Fail>
+    fn clauses_of(alloc: Global, variables: u32, lists: &[&[i32]]) -> Result<Vec<Clause>, Fail>
         ensures { IfOk result (λ clauses. All (IsWithin variables) clauses.items) }
     {
         let mut clauses: Vec<Clause> = Vec::new(alloc);
@@ -141,16 +137,40 @@ mod tests {
         Ok(clauses)
     }
 
-    // Both answers are an outside solver's too.
+    // How many of the values are true, if any were found.
+    fn found(answer: &Solved) -> Option<usize> {
+        match answer {
+            Solved::Found(values) => Some(values.iter().filter(|value| **value).count()),
+            _ => None,
+        }
+    }
+
+    // How many steps the refutation has, if it is one.
+    fn refuted(answer: &Solved) -> Option<usize> {
+        match answer {
+            Solved::Refuted(log) => Some(log.steps.len()),
+            _ => None,
+        }
+    }
+
+    // How many steps the spent log has, if it is one.
+    fn spent(answer: &Solved) -> Option<usize> {
+        match answer {
+            Solved::Spent(log) => Some(log.steps.len()),
+            _ => None,
+        }
+    }
+
+    // Three of these clauses have one solution, and all four have none.
     #[test]
     fn finds_and_refutes(rt: HostRuntime) -> Result<(), Fail> {
         let alloc = rt.alloc();
-        let lists: [&[i32]; 4] = [&[1, 2], &[-1, 2], &[1, -2], &[-1, -2]];
-        let three = clauses_of(alloc, 2, &lists[..3])?;
+        let three = clauses_of(alloc, 2, &[&[1, 2], &[-1, 2], &[1, -2]])?;
         let answer = solve(alloc, 2, &three, 5)?;
-        assert!(rt; matches!(answer, Solved::Found(values) if values.as_slice() == [true, true].as_slice()));
-        let four = clauses_of(alloc, 2, &lists)?;
-        assert!(rt; matches!(solve(alloc, 2, &four, 5)?, Solved::Refuted(log) if log.steps.len() == 2));
+        assert_eq!(rt; found(&answer), Some(2));
+        let four = clauses_of(alloc, 2, &[&[1, 2], &[-1, 2], &[1, -2], &[-1, -2]])?;
+        let answer = solve(alloc, 2, &four, 5)?;
+        assert_eq!(rt; refuted(&answer), Some(2));
         Ok(())
     }
 
@@ -158,15 +178,18 @@ mod tests {
     fn decides_without_a_decision(rt: HostRuntime) -> Result<(), Fail> {
         let alloc = rt.alloc();
         let none = clauses_of(alloc, 0, &[])?;
-        assert!(rt; matches!(solve(alloc, 0, &none, 1)?, Solved::Found(values) if values.is_empty()));
+        let answer = solve(alloc, 0, &none, 1)?;
+        assert_eq!(rt; found(&answer), Some(0));
         let empty = clauses_of(alloc, 0, &[&[]])?;
-        assert!(rt; matches!(solve(alloc, 0, &empty, 1)?, Solved::Refuted(log) if log.steps.len() == 1));
+        let answer = solve(alloc, 0, &empty, 1)?;
+        assert_eq!(rt; refuted(&answer), Some(1));
         let chain = clauses_of(alloc, 3, &[&[1], &[-1, 2], &[-2, 3], &[-2, 3], &[-3]])?;
-        assert!(rt; matches!(solve(alloc, 3, &chain, 1)?, Solved::Refuted(log) if log.steps.len() == 1));
+        let answer = solve(alloc, 3, &chain, 1)?;
+        assert_eq!(rt; refuted(&answer), Some(1));
         Ok(())
     }
 
-    // All eight clauses of three variables need two steps and the empty one.
+    // All eight clauses of three variables need more than one step before the empty one.
     #[test]
     fn spends_its_budget(rt: HostRuntime) -> Result<(), Fail> {
         let alloc = rt.alloc();
@@ -181,8 +204,10 @@ mod tests {
             &[-1, -2, -3],
         ];
         let clauses = clauses_of(alloc, 3, &lists)?;
-        assert!(rt; matches!(solve(alloc, 3, &clauses, 1)?, Solved::Spent(log) if log.steps.len() == 1));
-        assert!(rt; matches!(solve(alloc, 3, &clauses, 27)?, Solved::Refuted(_log)));
+        let answer = solve(alloc, 3, &clauses, 1)?;
+        assert_eq!(rt; spent(&answer), Some(1));
+        let answer = solve(alloc, 3, &clauses, 27)?;
+        assert!(rt; refuted(&answer).is_some());
         Ok(())
     }
 }

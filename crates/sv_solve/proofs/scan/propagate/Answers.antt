@@ -1,4 +1,4 @@
-use Rattle.std.proofs.Common.{◌≡◌, ℕ, length, arith, false, true, Option, Some, None, sym, ◌∙◌}
+use Rattle.std.proofs.Common.{◌≡◌, ℕ, length, false, Option, Some, None, sym, ◌∙◌}
 use Rattle.std.specs.Prelude.{IfNone, is_some}
 use Rattle.sv_solve.proofs.Trails.{at_rest}
 use Rattle.sv_solve.proofs.scan.propagate.Goals as goal

@@ -1,4 +1,4 @@
-use Rattle.std.proofs.Common.{◌<◌, ◌≤◌, length, arith, subst, sym, ap, ◌∙◌, get_or, pos, unsigned_abs}
+use Rattle.std.proofs.Common.{◌<◌, ◌≤◌, length, arith, subst, ap, ◌∙◌, unsigned_abs}
 use Rattle.sv_clause.specs.Literals.{stands}
 use Rattle.sv_solve.proofs.Places.{place_of}
 use Rattle.sv_solve.proofs.solver.is_within.Goals as goal

@@ -1,0 +1,10 @@
+use Rattle.std.proofs.Common.{◌-◌, length}
+use Rattle.std.specs.Prelude.{All}
+use Rattle.sv_solve.specs.Answers.{IsWithin}
+use Rattle.sv_solve.proofs.solver.tests.clauses_of.Given as goal
+
+abbrev pub invariant-lists : goal.invariant-lists
+invariant-lists l = All (IsWithin l.variables) l.clauses.items
+
+abbrev pub decreases-lists : goal.decreases-lists
+decreases-lists l = length l.lists - l.place

@@ -1,0 +1,4 @@
+pub mod Checking
+pub mod Certificate
+pub mod Lines
+pub mod Reading

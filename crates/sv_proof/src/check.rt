@@ -1,0 +1,263 @@
+// The check of a log.
+ghost use Rattle.std.specs.Prelude.{◌≡◌, ◌↔◌, ◌<◌, ◌^◌, ℤ, List, ◌++◌, length, map, IsTrue, IfOk, IfErr, OnOk};
+ghost use Rattle.std.specs.Bool.{IsFalse};
+ghost use Rattle.std.specs.Option.{option_copied};
+ghost use Rattle.sv_clause.specs.Literals.{IsClause, SameLiterals, HaveNoSolution};
+ghost use Rattle.sv_clause.specs.Logs.{plain_step, plain_log, clauses_of, numbered, ResolvesTo, IsDerived, EndsEmpty, Refutes};
+ghost use Rattle.sv_proof.specs.Checking.{HasFault};
+ghost use Rattle.sv_proof.specs.declared.check.LogFault.TheVariants.{OutOfMemory};
+
+use std::alloc::{AllocError, Global};
+use std::mem;
+use sv_clause::{Clause, Derived, Log, resolve_into};
+use thiserror::Error;
+
+/// Why a log does not refute clauses.
+#[derive(Clone, Copy, Debug, PartialEq, Eq, Error)]
+pub enum LogFault {
+    /// This step, counted from 0, is the first that is not derived.
+    #[error("step {0} is not derived")]
+    Step(u32),
+    /// Every step is derived, and there is none or the last clause is not empty.
+    #[error("the log does not end with the empty clause")]
+    NotEmpty,
+    /// Memory ran out.
+    #[error("out of memory")]
+    OutOfMemory,
+}
+
+impl From<AllocError> for LogFault {
+    ghost from_gives = { λ _ fault. fault ≡ OutOfMemory };
+
+    fn from(_error: AllocError) -> LogFault {
+        LogFault::OutOfMemory
+    }
+}
+
+/// Whether the log refutes the clauses: each step is derived from them and the steps before it, and the last one is empty.
+/// Then no values make all the clauses true, whoever made the log.
+pub fn check_log(alloc: Global, clauses: &[Clause], log: &Log) -> Result<(), LogFault>
+    requires { length log.now.steps.items < 2 ^ 32 }
+    ensures refutes { OnOk result (Refutes clauses.now (plain_log log.now)) }
+    ensures no_solution { OnOk result (HaveNoSolution clauses.now) }
+    ensures fault { IfErr result (HasFault clauses.now (plain_log log.now)) }
+{
+    let steps = log.steps.as_slice();
+    let mut work = Vec::new(alloc);
+    let mut spare = Vec::new(alloc);
+    'steps: for (i, step) in steps.iter().enumerate() {
+        if !is_derived(clauses, &steps[..i], step, &mut work, &mut spare)? {
+            return Err(LogFault::Step(i as u32));
+        }
+    }
+    if !ends_empty(steps) {
+        return Err(LogFault::NotEmpty);
+    }
+    Ok(())
+}
+
+fn ends_empty(steps: &[Derived]) -> bool
+    ensures { IsTrue result ↔ EndsEmpty (map plain_step steps.now) }
+{
+    match steps.last() {
+        Some(last) => last.clause.literals().is_empty(),
+        None => false,
+    }
+}
+
+// Whether the step is derived from the clauses and the earlier steps. The two buffers hold the clauses on the way.
+fn is_derived(
+    clauses: &[Clause],
+    earlier: &[Derived],
+    step: &Derived,
+    work: &mut Vec<i32>,
+    spare: &mut Vec<i32>,
+) -> Result<bool, AllocError>
+    ensures { IfOk result (λ yes. IsTrue yes ↔
+        IsDerived (clauses.now ++ clauses_of (map plain_step earlier.now)) (plain_step step.now)) }
+{
+    let [first, rest @ ..] = step.chain.as_slice() else {
+        return Ok(false);
+    };
+    let Some(from) = numbered(clauses, earlier, *first) else {
+        return Ok(false);
+    };
+    resolves_to(clauses, earlier, from, rest, &step.clause, work, spare)
+}
+
+// Whether resolving from a clause along a chain gives a clause.
+fn resolves_to(
+    clauses: &[Clause],
+    earlier: &[Derived],
+    from: &Clause,
+    chain: &[u64],
+    clause: &Clause,
+    work: &mut Vec<i32>,
+    spare: &mut Vec<i32>,
+) -> Result<bool, AllocError>
+    ensures { IfOk result (λ yes. IsTrue yes ↔
+        ResolvesTo (clauses.now ++ clauses_of (map plain_step earlier.now)) from.now chain.now clause.now) }
+{
+    work.clear();
+    work.extend_from_slice(from.literals())?;
+    if !resolve_chain(clauses, earlier, chain, work, spare)? {
+        return Ok(false);
+    }
+    Ok(is_same(work.as_slice(), clause.literals()))
+}
+
+fn is_same(first: &[i32], second: &[i32]) -> bool
+    requires first { IsClause first.now }
+    requires second { IsClause second.now }
+    ensures { IsTrue result ↔ SameLiterals first.now second.now }
+{
+    first == second
+}
+
+// Resolves the clause in `work` with each numbered one in turn, as far as that can be done.
+fn resolve_chain(
+    clauses: &[Clause],
+    earlier: &[Derived],
+    chain: &[u64],
+    work: &mut Vec<i32>,
+    spare: &mut Vec<i32>,
+) -> Result<bool, AllocError>
+    requires { IsClause work.old.items }
+    ensures normal { IfOk result (λ done. IsTrue done → IsClause work.new.items) }
+    ensures done { IfOk result (λ done. IsTrue done → (clause : List ℤ) →
+        SameLiterals work.new.items clause ↔
+        ResolvesTo (clauses.now ++ clauses_of (map plain_step earlier.now)) work.old.items chain.now clause) }
+    ensures stuck { IfOk result (λ done. IsFalse done → (clause : List ℤ) →
+        ResolvesTo (clauses.now ++ clauses_of (map plain_step earlier.now)) work.old.items chain.now clause → ⊥) }
+{
+    'chain: for number in chain {
+        let Some(next) = numbered(clauses, earlier, *number) else {
+            return Ok(false);
+        };
+        let Some(_pivot) = resolve_into(work.as_slice(), next.literals(), spare)? else {
+            return Ok(false);
+        };
+        mem::swap(work, spare);
+    }
+    Ok(true)
+}
+
+// The clause of a number: from 1, the clauses and then those of the earlier steps.
+fn numbered<'a>(clauses: &'a [Clause], earlier: &'a [Derived], number: u64) -> Option<&'a Clause>
+    ensures { option_copied result ≡ numbered (clauses.now ++ clauses_of (map plain_step earlier.now)) number }
+{
+    if number == 0 {
+        return None;
+    }
+    let place = (number - 1) as usize;
+    if place < clauses.len() {
+        return Some(&clauses[place]);
+    }
+    let place = place - clauses.len();
+    if place < earlier.len() {
+        return Some(&earlier[place].clause);
+    }
+    None
+}
+
+#[cfg(test)]
+mod tests {
+    use super::*;
+    use std::test::Fail;
+
+    fn clauses(alloc: Global, literals: &[&[i32]]) -> Result<Vec<Clause>, Fail> {
+        let mut clauses = Vec::new(alloc);
+        for clause in literals {
+            clauses.push(Clause::new(alloc, clause)?.ok_or("no clause")?)?;
+        }
+        Ok(clauses)
+    }
+
+    fn step(alloc: Global, literals: &[i32], chain: &[u64]) -> Result<Derived, Fail> {
+        Ok(Derived {
+            clause: Clause::new(alloc, literals)?.ok_or("no clause")?,
+            chain: chain.to_vec(alloc)?,
+        })
+    }
+
+    // A turn that picks `b` for one level and `a` for the other.
+    fn first_obligation(alloc: Global) -> Result<Vec<Clause>, Fail> {
+        clauses(alloc, &[&[1], &[1, -3], &[-2, -3], &[-1, 2, 3], &[2], &[3]])
+    }
+
+    fn outcome(
+        alloc: Global,
+        literals: &[i32],
+        chain: &[u64],
+    ) -> Result<Result<(), LogFault>, Fail> {
+        let mut log = Log {
+            steps: Vec::new(alloc),
+        };
+        log.steps.push(step(alloc, literals, chain)?)?;
+        Ok(check_log(alloc, &first_obligation(alloc)?, &log))
+    }
+
+    #[test]
+    fn one_step(rt: HostRuntime) -> Result<(), Fail> {
+        let alloc = rt.alloc();
+        assert_eq!(rt; outcome(alloc, &[], &[3, 5, 6])?, Ok(()));
+        assert_eq!(rt;
+            outcome(alloc, &[], &[4, 3, 1])?,
+            Err(LogFault::Step(0)),
+            "two clashing variables"
+        );
+        assert_eq!(rt;
+            outcome(alloc, &[], &[3, 5, 7])?,
+            Err(LogFault::Step(0)),
+            "the step itself"
+        );
+        assert_eq!(rt;
+            outcome(alloc, &[], &[3, 5, 8])?,
+            Err(LogFault::Step(0)),
+            "past the last clause"
+        );
+        assert_eq!(rt; outcome(alloc, &[-3], &[3, 5])?, Err(LogFault::NotEmpty));
+        assert_eq!(rt;
+            outcome(alloc, &[5], &[3, 5])?,
+            Err(LogFault::Step(0)),
+            "another clause"
+        );
+        assert_eq!(rt;
+            outcome(alloc, &[2], &[5])?,
+            Err(LogFault::NotEmpty),
+            "a chain of one clause"
+        );
+        assert_eq!(rt;
+            outcome(alloc, &[], &[])?,
+            Err(LogFault::Step(0)),
+            "no chain"
+        );
+        assert_eq!(rt;
+            outcome(alloc, &[], &[0, 5, 6])?,
+            Err(LogFault::Step(0)),
+            "no clause 0"
+        );
+        assert_eq!(rt;
+            outcome(alloc, &[-3], &[3, 5, 5])?,
+            Err(LogFault::Step(0)),
+            "a clause again"
+        );
+        Ok(())
+    }
+
+    #[test]
+    fn several_steps(rt: HostRuntime) -> Result<(), Fail> {
+        let alloc = rt.alloc();
+        let second = clauses(alloc, &[&[1], &[-2], &[-1]])?;
+        let mut log = Log {
+            steps: Vec::new(alloc),
+        };
+        assert_eq!(rt; check_log(alloc, &second, &log), Err(LogFault::NotEmpty));
+        log.steps.push(step(alloc, &[1], &[1])?)?;
+        log.steps.push(step(alloc, &[], &[3, 4])?)?;
+        assert_eq!(rt; check_log(alloc, &second, &log), Ok(()));
+        log.steps.push(step(alloc, &[], &[5, 2, 2])?)?;
+        assert_eq!(rt; check_log(alloc, &second, &log), Err(LogFault::Step(2)));
+        Ok(())
+    }
+}

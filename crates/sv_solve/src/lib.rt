@@ -6,6 +6,7 @@ mod kept;
 mod knowledge;
 mod lists;
 mod literal;
+mod order;
 mod scan;
 mod search;
 mod solver;

@@ -1,15 +1,12 @@
 // A search for values: decisions, and what follows from them, until a clause is false.
-ghost use Rattle.std.specs.Prelude.{◌≡◌, ◌<◌, ◌≤◌, ◌^◌, All, IfOk, OnOk, IfSome, IfNone};
-ghost use Rattle.sv_clause.specs.Units.{IsOpen};
-ghost use Rattle.sv_solve.specs.Codes.{IsOf};
-ghost use Rattle.sv_solve.specs.Lists.{AllAssigned};
+ghost use Rattle.std.specs.Prelude.{◌≡◌, ◌<◌, ◌≤◌, ◌^◌, All, IfOk, OnOk};
 ghost use Rattle.sv_solve.specs.Search.{IsClauseOf};
 ghost use Rattle.sv_solve.specs.Outcomes.{IsOutcome};
 
 use crate::analysis::{learn, refute};
 use crate::kept::KeptClause;
 use crate::lists::LiteralList;
-use crate::literal::Literal;
+use crate::order::Order;
 use crate::scan::propagate;
 use crate::trail::Trail;
 use std::alloc::{AllocError, Global};
@@ -26,30 +23,13 @@ pub enum Outcome {
     Learned(Derived),
 }
 
-// A literal that is open, if any is.
-fn open_literal(trail: &Trail) -> Option<Literal>
-    requires { trail.now.variables < 2 ^ 31 }
-    ensures open { IfSome result (IsOpen trail.now.literals) }
-    ensures of { IfSome result (IsOf trail.now.variables) }
-    ensures none { IfNone result (AllAssigned trail.now.variables trail.now.literals) }
-{
-    let mut variable = 1;
-    'variables: while variable <= trail.variables() {
-        let literal = Literal::of_variable(variable);
-        if trail.is_open(&literal) {
-            return Some(literal.negated());
-        }
-        variable += 1;
-    }
-    None
-}
-
 /// Searches from the empty trail on.
 pub fn search(
     alloc: Global,
     clauses: &[KeptClause],
     trail: &mut Trail,
     seen: &mut LiteralList,
+    order: &mut Order,
 ) -> Result<Outcome, AllocError>
     requires clauses { All (IsClauseOf trail.old.variables) clauses.now }
     requires small { trail.old.variables < 2 ^ 31 }
@@ -58,13 +38,14 @@ pub fn search(
     ensures trail_variables { OnOk result (trail.new.variables ≡ trail.old.variables) }
     ensures seen_variables { OnOk result (seen.new.variables ≡ trail.old.variables) }
 {
+    order.note(seen, trail);
     trail.truncate(0);
     if let Some(conflict) = propagate(clauses, trail)? {
         return Ok(Outcome::Refuted(refute(alloc, clauses, trail, seen, conflict)?));
     }
     'decisions: loop {
         let mark = trail.len();
-        let Some(literal) = open_literal(trail) else {
+        let Some(literal) = order.pick(trail) else {
             return Ok(Outcome::Found);
         };
         trail.push(&literal, 0)?;

@@ -11,6 +11,7 @@ use crate::analysis::refute;
 use crate::knowledge::Knowledge;
 use crate::lists::LiteralList;
 use crate::literal::Literal;
+use crate::order::Order;
 use crate::scan::propagate;
 use crate::search::{Outcome, search};
 use crate::trail::Trail;
@@ -57,9 +58,10 @@ fn answer(
     let mut known = Knowledge::new(alloc, variables, clauses)?;
     let mut trail = Trail::new(alloc, known.variables())?;
     let mut seen = LiteralList::new(alloc, known.variables())?;
+    let mut order = Order::new(alloc, known.variables())?;
     let mut learned = 0;
     'budget: while learned < budget {
-        match search(alloc, known.clauses(), &mut trail, &mut seen)? {
+        match search(alloc, known.clauses(), &mut trail, &mut seen, &mut order)? {
             Outcome::Found => return Ok(Solved::Found(values_under(alloc, variables, &trail)?)),
             Outcome::Refuted(step) => return Ok(Solved::Refuted(known.finish_with(step)?)),
             Outcome::Learned(step) => known = known.learn(alloc, step)?,

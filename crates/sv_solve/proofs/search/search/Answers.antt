@@ -5,5 +5,5 @@ use Rattle.sv_solve.proofs.search.search.Goals as goal
 
 pub learn-requires-clause-rest : goal.learn-requires-clause-rest
 learn-requires-clause-rest c =
-    subst (IsAtRest c.args.clauses.now) (sym (back_to c.decisions.trail.literals c.propagate-in-decisions.new.trail.literals c.push.new.self.literals c.in-Some-open_literal.literal c.len-mark.result c.in_ok-push.ensures.literals c.in_ok-conflict-2.ensures.older c.len-mark.ensures.value))
+    subst (IsAtRest c.args.clauses.now) (sym (back_to c.decisions.trail.literals c.propagate-in-decisions.new.trail.literals c.push.new.self.literals c.in-Some-pick.literal c.len-mark.result c.in_ok-push.ensures.literals c.in_ok-conflict-2.ensures.older c.len-mark.ensures.value))
     c.decisions.invariant.0

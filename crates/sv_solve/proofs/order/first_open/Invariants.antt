@@ -1,6 +1,6 @@
 use Rattle.std.proofs.Common.{◌<◌, ◌+◌, ◌-◌, ℕ, pos}
 use Rattle.sv_solve.specs.Lists.{IsAssigned}
-use Rattle.sv_solve.proofs.search.open_literal.Given as goal
+use Rattle.sv_solve.proofs.order.first_open.Given as goal
 
 abbrev pub invariant-variables : goal.invariant-variables
 invariant-variables l = (0 < l.variable) × ((v : ℕ) → 0 < v → v < l.variable → IsAssigned l.trail.literals (pos v))

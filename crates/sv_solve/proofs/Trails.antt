@@ -45,6 +45,10 @@ each_open_push xs now l o new is =
 pub at_rest : (clauses : List (List ℤ)) (literals : List ℤ) → IsConsistent literals → All (IsSettled literals) clauses → IsAtRest clauses literals
 at_rest clauses literals c all = record { consistent = c; each = all }
 
+-- a trail that goes on from one that goes on
+pub older_more : (first cur new : List ℤ) → take (length first) cur ≡ first → take (length cur) new ≡ cur → length first ≤ length cur → take (length first) new ≡ first
+older_more first cur new e f h = sym (take-take (length first) (length cur) new h) ∙ ap (take (length first)) f ∙ e
+
 -- what a trail was before a decision
 pub back_to : (old new pushed : List ℤ) (l : ℤ) (mark : ℕ) → pushed ≡ old ++ l ∷ [] → take (length pushed) new ≡ pushed → mark ≡ length old → take mark new ≡ old
 back_to old new pushed l mark is older at =

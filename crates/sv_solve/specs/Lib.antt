@@ -6,3 +6,4 @@ pub mod Known
 pub mod Answers
 pub mod Outcomes
 pub mod Values
+pub mod Looks

@@ -11,6 +11,7 @@ mod scan;
 mod search;
 mod solver;
 mod trail;
+mod watches;
 
 pub use solver::{Solved, is_within, solve};
 pub use std::alloc::AllocError as OutOfMemory;

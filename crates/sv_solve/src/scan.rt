@@ -21,8 +21,8 @@ pub enum Standing {
     False,
 }
 
-// The first place from one on whose literal is not false.
-fn first_not_false(clause: &[Literal], trail: &Trail, from: usize) -> usize
+/// The first place from one on whose literal is not false.
+pub fn first_not_false(clause: &[Literal], trail: &Trail, from: usize) -> usize
     requires clause { IsClauseOf trail.now.variables clause.now }
     requires from { from ≤ length clause.now }
     ensures from { from ≤ result }

@@ -15,6 +15,7 @@ use crate::order::Order;
 use crate::scan::propagate;
 use crate::search::{Outcome, search};
 use crate::trail::Trail;
+use crate::watches::Watches;
 use std::alloc::Global;
 use sv_clause::{Clause, Log};
 
@@ -59,9 +60,17 @@ fn answer(
     let mut trail = Trail::new(alloc, known.variables())?;
     let mut seen = LiteralList::new(alloc, known.variables())?;
     let mut order = Order::new(alloc, known.variables())?;
+    let mut watches = Watches::new(alloc, known.variables())?;
     let mut learned = 0;
     'budget: while learned < budget {
-        match search(alloc, known.clauses(), &mut trail, &mut seen, &mut order)? {
+        match search(
+            alloc,
+            known.clauses(),
+            &mut trail,
+            &mut seen,
+            &mut order,
+            &mut watches,
+        )? {
             Outcome::Found => return Ok(Solved::Found(values_under(alloc, variables, &trail)?)),
             Outcome::Refuted(step) => return Ok(Solved::Refuted(known.finish_with(step)?)),
             Outcome::Learned(step) => known = known.learn(alloc, step)?,

@@ -1,7 +1,7 @@
 use Rattle.std.proofs.Common.{subst, sym}
 use Rattle.sv_clause.specs.Units.{IsAtRest}
 use Rattle.sv_solve.proofs.Trails.{back_to}
-use Rattle.sv_solve.proofs.search.search.Goals as goal
+use Rattle.sv_solve.proofs.search.search_slowly.Goals as goal
 
 pub learn-requires-clause-rest : goal.learn-requires-clause-rest
 learn-requires-clause-rest c =

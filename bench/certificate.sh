@@ -3,6 +3,7 @@
 # grows. The first word, 10 unless given, is how many resolutions a step has.
 cd "$(dirname "$0")/../crates/certificate_bench" || exit 1
 each=${1:-10}
+mkdir -p out
 rt run -- 1000 "$each" >out/build.log 2>&1 || { cat out/build.log; exit 1; }
 for resolutions in 500000 1000000; do
     ./out/certificate_bench "$resolutions" "$each" time || exit 1

@@ -2,6 +2,7 @@
 # Decides pigeonholes and random clauses of three literals near the threshold, and prints the answers and the times, beside
 # those of minisat where that is installed. The last line is the ratio of the total times.
 cd "$(dirname "$0")/../crates/solve_bench" || exit 1
+mkdir -p out
 rt run -- 20000 <stdin >out/build.log 2>&1 || { cat out/build.log; exit 1; }
 
 pigeons() {

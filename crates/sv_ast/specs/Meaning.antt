@@ -1,5 +1,5 @@
 -- What a module means as a synchronous design: its cycle system, by the words of the source alone. The clauses are those of
--- IEEE 1364-2005, the labels those of SecVerilog (ASPLOS 2015), section 3.
+-- IEEE 1364-2005, the labels those of SecVerilog (ASPLOS 2015).
 use Rattle.std.specs.Prelude.{ℕ, ◌-◌, ◌%◌, ◌^◌, Bool, true, false, cond, not, ◌&&◌, bit_and, bit_or, bit_xor, List, [], ◌∷◌, ◌++◌, map, filter, Option, Some, None, unwrap_or, is_some, is_none}
 use Rattle.std.specs.List.{filter_map, flat_map, find}
 use Rattle.std.specs.Option.{option_and_then, option_map_or}

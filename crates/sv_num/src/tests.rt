@@ -5,9 +5,11 @@ ghost use Rattle.sv_num.specs.Vectors.{width_of, is_signed, value_of};
 use super::*;
 use std::process::Abort;
 
-mod cases;
+mod binary_cases;
+mod unary_cases;
 
-use cases::{BINARY_CASES, UNARY_CASES};
+use binary_cases::BINARY_CASES;
+use unary_cases::UNARY_CASES;
 
 // The value of a width and sign, which has to fit.
 fn bits(rt: &impl Abort, width: u8, signed: bool, value: u64) -> Bits
@@ -70,6 +72,28 @@ fn sizes_and_signs(rt: HostRuntime) {
     assert_eq!(rt; (less.width(), less.signed(), less.value()), (1, false, 1));
     let both = apply_binary(BinOp::LogicAnd, a, bits(&rt, 3, false, 0));
     assert_eq!(rt; (both.width(), both.value()), (1, 0));
+}
+
+// All bits of a 4-bit 0 are turned over at the 8 bits of what it is compared with.
+#[test]
+fn inverts_at_the_common_length(rt: HostRuntime) {
+    let inverted = apply_unary(UnOp::Invert, extend(bits(&rt, 4, false, 0), 8, false));
+    let equal = apply_binary(BinOp::Eq, inverted, bits(&rt, 8, false, 0xff));
+    assert_eq!(rt;
+        (equal.width(), equal.signed(), equal.value()),
+        (1, false, 1)
+    );
+}
+
+// At 32 signed bits -7 divided by 2 is -3, and leaves -1.
+#[test]
+fn divides_towards_zero(rt: HostRuntime) {
+    let dividend = bits(&rt, 32, true, 0xffff_fff9);
+    let divisor = bits(&rt, 32, true, 2);
+    let quotient = apply_binary(BinOp::Div, dividend, divisor);
+    let remainder = apply_binary(BinOp::Rem, dividend, divisor);
+    assert_eq!(rt; quotient.value(), 0xffff_fffd);
+    assert_eq!(rt; remainder.value(), 0xffff_ffff);
 }
 
 #[test]

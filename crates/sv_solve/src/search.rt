@@ -32,7 +32,7 @@ fn search_slowly(
     clauses: &[KeptClause],
     trail: &mut Trail,
     seen: &mut LiteralList,
-    order: &Order,
+    order: &mut Order,
 ) -> Result<Outcome, AllocError>
     requires clauses { All (IsClauseOf trail.old.variables) clauses.now }
     requires small { trail.old.variables < 2 ^ 31 }
@@ -41,6 +41,7 @@ fn search_slowly(
     ensures trail_variables { OnOk result (trail.new.variables ≡ trail.old.variables) }
     ensures seen_variables { OnOk result (seen.new.variables ≡ trail.old.variables) }
 {
+    order.take_back(trail, 0);
     trail.truncate(0);
     if let Some(conflict) = propagate(clauses, trail)? {
         return Ok(Outcome::Refuted(refute(alloc, clauses, trail, seen, conflict)?));
@@ -62,7 +63,7 @@ fn decide(
     alloc: Global,
     clauses: &[KeptClause],
     trail: &mut Trail,
-    order: &Order,
+    order: &mut Order,
     watches: &mut Watches,
 ) -> Result<Option<Literal>, AllocError>
     requires clauses { All (IsClauseOf trail.old.variables) clauses.now }
@@ -81,6 +82,7 @@ fn decide(
         };
         trail.push(&literal, 0)?;
         if watches.advance(alloc, clauses, trail, mark)?.is_some() {
+            order.take_back(trail, mark);
             trail.truncate(mark);
             return Ok(Some(literal));
         }
@@ -94,7 +96,7 @@ fn settle(
     clauses: &[KeptClause],
     trail: &mut Trail,
     seen: &mut LiteralList,
-    order: &Order,
+    order: &mut Order,
 ) -> Result<Outcome, AllocError>
     requires clauses { All (IsClauseOf trail.old.variables) clauses.now }
     requires small { trail.old.variables < 2 ^ 31 }
@@ -119,7 +121,7 @@ fn learn_above(
     clauses: &[KeptClause],
     trail: &mut Trail,
     seen: &mut LiteralList,
-    order: &Order,
+    order: &mut Order,
     watches: &mut Watches,
     literal: &Literal,
 ) -> Result<Outcome, AllocError>
@@ -164,7 +166,8 @@ pub fn search(
     ensures trail_variables { OnOk result (trail.new.variables ≡ trail.old.variables) }
     ensures seen_variables { OnOk result (seen.new.variables ≡ trail.old.variables) }
 {
-    order.note(seen, trail);
+    order.note(seen);
+    order.take_back(trail, 0);
     watches.take_up(clauses)?;
     trail.truncate(0);
     if let Some(conflict) = propagate(clauses, trail)? {

@@ -1,9 +1,10 @@
 -- Literals of clauses, and where clauses stand.
-use Rattle.std.proofs.Common.{◌≡◌, ℕ, zero, suc, ◌+◌, ◌-◌, ◌<◌, ◌≤◌, ◌^◌, true, false, ℤ, pos, neg_ℤ, unsigned_abs, List, [], ◌∷◌, refl, sym, ap, ◌∙◌, subst, inl, inr, ⊎_elim, length, get_or, arith, Some, slice_get, add-one}
+use Rattle.std.proofs.Common.{◌≡◌, ◌≢◌, ℕ, zero, suc, ◌+◌, ◌-◌, ◌<◌, ◌≤◌, ◌^◌, true, false, ℤ, pos, neg_ℤ, unsigned_abs, List, [], ◌∷◌, refl, sym, ap, ◌∙◌, subst, inl, inr, ⊎_elim, length, get_or, arith, Some, slice_get, add-one}
 use Rattle.std.proofs.lemmas.List.{get_or_default}
-use Rattle.std.proofs.lemmas.Bool.{cases_Bool, cases_order}
+use Rattle.std.proofs.lemmas.Bool.{cases_Bool, cases_order, cases_lt}
 use Rattle.sv_clause.specs.Literals.{stands, Ascend, IsClause}
 use Rattle.sv_clause.specs.Logs.{numbered}
+use Rattle.sv_clause.proofs.Standing.{cases_int}
 use Rattle.sv_clause.proofs.Merging.{above, not_own_negation, unsigned_abs-neg}
 use Rattle.sv_solve.specs.Codes.{IsOf}
 use Rattle.sv_solve.specs.Search.{IsClauseOf, AllFalse, OthersFalse, IsSettled, Implies}
@@ -24,6 +25,16 @@ ascend_apart m (x ∷ xs) zero zero up lt h = absurd (omega arith)
 ascend_apart m (x ∷ xs) zero (suc j) up lt h = (ascend_at (unsigned_abs x) xs j up.2 (omega arith)).0
 ascend_apart m (x ∷ xs) (suc i) zero up lt h = absurd (omega arith)
 ascend_apart m (x ∷ xs) (suc i) (suc j) up lt h = ascend_apart (unsigned_abs x) xs i j up.2 (omega arith) (omega arith)
+
+-- a clause of one literal alone is short
+pub one_literal : (xs : List ℤ) (x : ℤ) → IsClause xs → ((l : ℤ) → stands l xs ≡ true → l ≢ x → ⊥) → length xs < 2
+one_literal xs x up only =
+    let is : (i : ℕ) → i < length xs → get_or xs i (pos 0) ≡ x = λ i h. ⊎_elim (λ same. same) (λ ne. absurd (only (get_or xs i (pos 0)) (stands_at xs i h) ne)) (cases_int (get_or xs i (pos 0)) x) in
+    ⊎_elim (λ lt. lt)
+    (λ ge. let far = ascend_apart 0 xs 0 1 up (omega arith) ge in
+    let same : unsigned_abs (get_or xs 0 (pos 0)) ≡ unsigned_abs (get_or xs 1 (pos 0)) = ap unsigned_abs (is 0 (omega arith) ∙ sym (is 1 ge)) in
+    absurd (omega (arith, far)))
+    (cases_lt (length xs) 2)
 
 -- no variable stands in a clause in both signs
 pub one_sign : (l : ℤ) (xs : List ℤ) → IsClause xs → stands l xs ≡ true → stands (neg_ℤ l) xs ≡ true → ⊥

@@ -2,16 +2,17 @@
 use Rattle.std.proofs.Common.{◌≡◌, ℕ, ◌+◌, ◌-◌, ◌<◌, ◌≤◌, Bool, true, false, not, ◌&&◌, ◌||◌, ℤ, pos, neg_ℤ, List, [], ◌∷◌, ◌++◌, refl, sym, ap, ◌∙◌, subst, inl, inr, ◌⊎◌, ⊎_elim, length, take, get_or, arith, Some}
 use Rattle.std.specs.Prelude.{filter}
 use Rattle.std.specs.Ordering.{int_eq}
-use Rattle.std.proofs.lemmas.Bool.{false≢true, false_from_ne_true, cases_lt, cond-true, cond-false, cases_Bool, and_parts, and_from, and_left, and_right, or_left, or_right, or_cases, not_from_false}
+use Rattle.std.proofs.lemmas.Bool.{false≢true, cases_lt, cond-true, cond-false, cases_Bool, and_parts, and_from, and_left, and_right, or_left, or_right, or_cases, not_from_false}
 use Rattle.std.proofs.lemmas.List.{length-take-le, get_or-take}
+use Rattle.std.proofs.lemmas.List.Folds.{list_any-append}
 use Rattle.sv_clause.specs.Literals.{stands, SameLiterals}
 use Rattle.sv_clause.specs.Resolution.{IsOnlyClash, IsResolvent}
 use Rattle.sv_clause.specs.Logs.{numbered, ResolvesTo, ChainGives}
 use Rattle.sv_clause.specs.Units.{IsOpen, IsAtRest, IsNew}
 use Rattle.sv_clause.proofs.Standing.{cases_int, same_from_int_eq, int_eq-same, int_eq-other}
 use Rattle.sv_clause.proofs.Merging.{neg-neg}
-use Rattle.sv_solve.specs.Search.{AllFalse, IsSettled, IsConsistent, Implies, Derives, HasLater, NoneSeen}
-use Rattle.sv_solve.proofs.Places.{place_of, stands_take_le, stands_take, stands_more_cases, stands_more_here, stands_more_other, stands_whole, same_tests}
+use Rattle.sv_solve.specs.Search.{AllFalse, OthersFalse, IsSettled, IsConsistent, Implies, Derives, HasLater, NoneSeen}
+use Rattle.sv_solve.proofs.Places.{place_of, stands_take_le, stands_take, stands_more_cases, stands_more_here, stands_more_other, stands_whole, stands_push_cases, stands_push_old, stands_push_new, or_nothing, same_tests}
 use Rattle.sv_solve.proofs.Clauses.{numbered_place}
 use Rattle.sv_solve.proofs.Trails.{stands_before}
 
@@ -98,127 +99,165 @@ negated_back l t e = sym (neg-neg l) ∙ ap neg_ℤ e
 and_both : (a b : Bool) → (a && b) ≡ true → (a ≡ true) × (b ≡ true)
 and_both a b e = and_parts a b e
 
+-- what stands in one list or in another
+stands_both : (l : ℤ) (xs ys : List ℤ) → stands l (xs ++ ys) ≡ (stands l xs || stands l ys)
+stands_both l xs ys = list_any-append (int_eq l) xs ys
+
 module _ (clauses : List (List ℤ)) (trail : List ℤ) where
   -- the first chain is the false clause alone
   pub derive_start : (chain : List ℕ) (n : ℕ) (clause seen : List ℤ) → chain ≡ n ∷ [] → numbered clauses n ≡ Some clause → AllFalse trail clause
-      → ((l : ℤ) → stands l seen ≡ stands l clause) → Derives clauses chain seen trail (length trail)
+      → ((l : ℤ) → stands l seen ≡ (stands l clause && stands (neg_ℤ l) trail)) → Derives clauses chain [] seen trail (length trail)
   derive_start chain n clause seen is at all tests =
       record {
         clause = clause;
         chain_gives = subst (λ z. ChainGives clauses z clause) (sym is) (chain_one clauses n clause at);
         literals = λ l. same_tests (stands l clause) (stands l seen && stands (neg_ℤ l) (take (length trail) trail))
-            (λ e. and_from (stands l seen) (stands (neg_ℤ l) (take (length trail) trail)) (tests l ∙ e) (stands_whole (neg_ℤ l) trail (length trail) (omega arith) ∙ all l e))
-            (λ e. sym (tests l) ∙ (and_both (stands l seen) (stands (neg_ℤ l) (take (length trail) trail)) e).0);
+            (λ e. and_from (stands l seen) (stands (neg_ℤ l) (take (length trail) trail)) (tests l ∙ and_from (stands l clause) (stands (neg_ℤ l) trail) e (all l e)) (stands_whole (neg_ℤ l) trail (length trail) (omega arith) ∙ all l e))
+            (λ e. (and_both (stands l clause) (stands (neg_ℤ l) trail) (sym (tests l) ∙ (and_both (stands l seen) (stands (neg_ℤ l) (take (length trail) trail)) e).0)).0);
       }
 
   -- an unseen literal of the trail changes nothing
-  pub derive_skip : (chain : List ℕ) (seen : List ℤ) (bound p : ℕ) → bound ≡ p + 1 → p < length trail → stands (neg_ℤ (get_or trail p (pos 0))) seen ≡ false
-      → Derives clauses chain seen trail bound → Derives clauses chain seen trail p
-  derive_skip chain seen bound p is small unseen d =
+  pub derive_skip : (chain : List ℕ) (kept seen : List ℤ) (bound p : ℕ) → bound ≡ p + 1 → p < length trail → stands (neg_ℤ (get_or trail p (pos 0))) seen ≡ false
+      → Derives clauses chain kept seen trail bound → Derives clauses chain kept seen trail p
+  derive_skip chain kept seen bound p is small unseen d =
       record {
         clause = d.clause;
         chain_gives = d.chain_gives;
-        literals = λ l. d.literals l ∙ ap (λ z. stands l seen && stands (neg_ℤ l) (take z trail)) is ∙ ⊎_elim
+        literals = λ l. d.literals l ∙ ap (λ z. stands l kept || (stands l seen && stands (neg_ℤ l) (take z trail))) is ∙ ap (λ z. stands l kept || z)
+            (⊎_elim
             (λ same. let none : stands l seen ≡ false = ap (λ z. stands z seen) (negated_back l (get_or trail p (pos 0)) same) ∙ unseen in
             and_left (stands l seen) (stands (neg_ℤ l) (take (p + 1) trail)) none ∙ sym (and_left (stands l seen) (stands (neg_ℤ l) (take p trail)) none))
             (λ ne. ap (λ z. stands l seen && z) (stands_more_other (neg_ℤ l) trail p small ne))
-            (cases_int (neg_ℤ l) (get_or trail p (pos 0)));
+            (cases_int (neg_ℤ l) (get_or trail p (pos 0))));
+      }
+
+  -- a seen literal of the trail is kept
+  pub derive_keep : (chain : List ℕ) (kept kept' seen : List ℤ) (bound p : ℕ) → bound ≡ p + 1 → p < length trail → stands (neg_ℤ (get_or trail p (pos 0))) seen ≡ true
+      → kept' ≡ kept ++ neg_ℤ (get_or trail p (pos 0)) ∷ [] → Derives clauses chain kept seen trail bound → Derives clauses chain kept' seen trail p
+  derive_keep chain kept kept' seen bound p is small here longer d =
+      let t = get_or trail p (pos 0) in
+      let all : ℤ → Bool = λ l. stands l seen && stands (neg_ℤ l) (take (p + 1) trail) in
+      let less : ℤ → Bool = λ l. stands l seen && stands (neg_ℤ l) (take p trail) in
+      record {
+        clause = d.clause;
+        chain_gives = d.chain_gives;
+        literals = λ l. d.literals l ∙ ap (λ z. stands l kept || (stands l seen && stands (neg_ℤ l) (take z trail))) is
+            ∙ same_tests (stands l kept || all l) (stands l (kept ++ neg_ℤ t ∷ []) || less l)
+            (λ e. ⊎_elim
+            (λ old. or_left (stands l (kept ++ neg_ℤ t ∷ [])) (less l) (stands_push_old l (neg_ℤ t) kept old))
+            (λ both. let q = and_both (stands l seen) (stands (neg_ℤ l) (take (p + 1) trail)) both in ⊎_elim
+            (λ older. or_right (stands l (kept ++ neg_ℤ t ∷ [])) (less l) (and_from (stands l seen) (stands (neg_ℤ l) (take p trail)) q.0 older))
+            (λ same. or_left (stands l (kept ++ neg_ℤ t ∷ [])) (less l) (ap (λ z. stands z (kept ++ neg_ℤ t ∷ [])) (negated_back l t same) ∙ stands_push_new (neg_ℤ t) kept))
+            (stands_more_cases (neg_ℤ l) trail p small q.1))
+            (or_cases (stands l kept) (all l) e))
+            (λ e. ⊎_elim
+            (λ new. ⊎_elim
+            (λ old. or_left (stands l kept) (all l) old)
+            (λ same. or_right (stands l kept) (all l)
+            (and_from (stands l seen) (stands (neg_ℤ l) (take (p + 1) trail)) (ap (λ z. stands z seen) same ∙ here) (ap (λ z. stands z (take (p + 1) trail)) (ap neg_ℤ same ∙ neg-neg t) ∙ stands_more_here trail p small)))
+            (stands_push_cases l (neg_ℤ t) kept new))
+            (λ both. let q = and_both (stands l seen) (stands (neg_ℤ l) (take p trail)) both in
+            or_right (stands l kept) (all l) (and_from (stands l seen) (stands (neg_ℤ l) (take (p + 1) trail)) q.0 (stands_take_le (neg_ℤ l) trail p (p + 1) (omega arith) q.1)))
+            (or_cases (stands l (kept ++ neg_ℤ t ∷ [])) (less l) e))
+            ∙ ap (λ z. stands l z || less l) (sym longer);
       }
 
   -- a seen literal of the trail is resolved on with its reason
-  pub derive_step : (chain chain' : List ℕ) (seen seen' : List ℤ) (bound p n : ℕ) → bound ≡ p + 1 → p < length trail → IsConsistent trail → IsOpen (take p trail) (get_or trail p (pos 0))
+  pub derive_step : (chain chain' : List ℕ) (kept seen seen' : List ℤ) (bound p n : ℕ) → bound ≡ p + 1 → p < length trail → IsConsistent trail → IsOpen (take p trail) (get_or trail p (pos 0))
       → stands (neg_ℤ (get_or trail p (pos 0))) seen ≡ true → (h : Implies clauses n (take p trail) (get_or trail p (pos 0))) → chain' ≡ chain ++ n ∷ []
-      → ((l : ℤ) → stands l seen' ≡ (stands l seen || stands l h.clause)) → Derives clauses chain seen trail bound → Derives clauses chain' seen' trail p
-  derive_step chain chain' seen seen' bound p n is small consistent o here h longer tests d =
+      → ((l : ℤ) → stands l seen' ≡ (stands l seen || (stands l h.clause && stands (neg_ℤ l) trail))) → ((l : ℤ) → stands l kept ≡ true → (stands (neg_ℤ l) (take bound trail) ≡ false) × (stands (neg_ℤ l) trail ≡ true))
+      → Derives clauses chain kept seen trail bound → Derives clauses chain' kept seen' trail p
+  derive_step chain chain' kept seen seen' bound p n is small consistent o here h longer tests late d =
       let t = get_or trail p (pos 0) in
       let below = take p trail in
       let test : ℤ → Bool = λ l. stands (neg_ℤ l) below in
-      let rest = filter test seen' in
-      let at_bound : (l : ℤ) → stands l d.clause ≡ (stands l seen && stands (neg_ℤ l) (take (p + 1) trail)) = λ l. d.literals l ∙ ap (λ z. stands l seen && stands (neg_ℤ l) (take z trail)) is in
+      let old : ℤ → Bool = λ l. stands l seen && stands (neg_ℤ l) (take (p + 1) trail) in
+      let brings : ℤ → Bool = λ l. stands l h.clause && stands (neg_ℤ l) trail in
+      let rest = kept ++ filter test seen' in
+      let at_bound : (l : ℤ) → stands l d.clause ≡ (stands l kept || old l) = λ l. d.literals l ∙ ap (λ z. stands l kept || (stands l seen && stands (neg_ℤ l) (take z trail))) is in
+      let not_yet : (l : ℤ) → stands l kept ≡ true → stands (neg_ℤ l) (take (p + 1) trail) ≡ false = λ l e. ap (λ z. stands (neg_ℤ l) (take z trail)) (sym is) ∙ (late l e).0 in
+      let in_rest : (l : ℤ) → stands l (filter test seen') ≡ true → stands l rest ≡ true = λ l e. stands_both l kept (filter test seen') ∙ or_right (stands l kept) (stands l (filter test seen')) e in
       let clash : IsOnlyClash d.clause h.clause (neg_ℤ t) = record {
-        here = at_bound (neg_ℤ t) ∙ and_from (stands (neg_ℤ t) seen) (stands (neg_ℤ (neg_ℤ t)) (take (p + 1) trail)) here (ap (λ z. stands z (take (p + 1) trail)) (neg-neg t) ∙ stands_more_here trail p small);
+        here = at_bound (neg_ℤ t) ∙ or_right (stands (neg_ℤ t) kept) (old (neg_ℤ t))
+            (and_from (stands (neg_ℤ t) seen) (stands (neg_ℤ (neg_ℤ t)) (take (p + 1) trail)) here (ap (λ z. stands z (take (p + 1) trail)) (neg-neg t) ∙ stands_more_here trail p small));
         there = ap (λ z. stands z h.clause) (neg-neg t) ∙ h.member;
         only = λ x e f. ⊎_elim
             (λ same. negated_back x t same)
             (λ ne. let false_here : stands (neg_ℤ (neg_ℤ x)) below ≡ true = h.others (neg_ℤ x) f ne in
-            let q = and_both (stands x seen) (stands (neg_ℤ x) (take (p + 1) trail)) (sym (at_bound x) ∙ e) in
-            let older : stands (neg_ℤ x) below ≡ true = sym (stands_more_other (neg_ℤ x) trail p small ne) ∙ q.1 in
-            absurd (false≢true (sym (consistent (neg_ℤ x) (stands_take (neg_ℤ x) trail p older)) ∙ stands_take (neg_ℤ (neg_ℤ x)) trail p false_here)))
+            let clear : stands (neg_ℤ x) trail ≡ true → x ≡ neg_ℤ t = λ g. absurd (false≢true (sym (consistent (neg_ℤ x) g) ∙ stands_take (neg_ℤ (neg_ℤ x)) trail p false_here)) in
+            ⊎_elim (λ k. clear (late x k).1)
+            (λ both. clear (stands_take (neg_ℤ x) trail (p + 1) (and_both (stands x seen) (stands (neg_ℤ x) (take (p + 1) trail)) both).1))
+            (or_cases (stands x kept) (old x) (sym (at_bound x) ∙ e)))
             (cases_int (neg_ℤ x) t);
       } in
       let resolvent : IsResolvent d.clause h.clause (neg_ℤ t) rest = resolvent_of d.clause h.clause rest (neg_ℤ t) clash
-      (λ x e. let q = filter_out test x seen' e in ⊎_elim
-      (λ old. inl (
-        at_bound x ∙ and_from (stands x seen) (stands (neg_ℤ x) (take (p + 1) trail)) old (stands_take_le (neg_ℤ x) trail p (p + 1) (omega arith) q.1),
+      (λ x e. ⊎_elim
+      (λ k. inl (
+        at_bound x ∙ or_left (stands x kept) (old x) k,
+        λ same. false≢true (sym (not_yet x k) ∙ ap (λ z. stands z (take (p + 1) trail)) (ap neg_ℤ same ∙ neg-neg t) ∙ stands_more_here trail p small),
+      ))
+      (λ f. let q = filter_out test x seen' f in ⊎_elim
+      (λ was. inl (
+        at_bound x ∙ or_right (stands x kept) (old x) (and_from (stands x seen) (stands (neg_ℤ x) (take (p + 1) trail)) was (stands_take_le (neg_ℤ x) trail p (p + 1) (omega arith) q.1)),
         λ same. false≢true (sym o.0 ∙ ap (λ z. stands z below) (sym (ap neg_ℤ same ∙ neg-neg t)) ∙ q.1),
       ))
-      (λ new. inr (new, λ same. false≢true (sym o.1 ∙ ap (λ z. stands (neg_ℤ z) below) (sym (same ∙ neg-neg t)) ∙ q.1)))
-      (or_cases (stands x seen) (stands x h.clause) (sym (tests x) ∙ q.0)))
-      (λ x e ne. let q = and_both (stands x seen) (stands (neg_ℤ x) (take (p + 1) trail)) (sym (at_bound x) ∙ e) in
-      filter_in test x seen' (tests x ∙ or_left (stands x seen) (stands x h.clause) q.0) (sym (stands_more_other (neg_ℤ x) trail p small (λ same. ne (negated_back x t same))) ∙ q.1))
-      (λ x e ne. filter_in test x seen' (tests x ∙ or_right (stands x seen) (stands x h.clause) e) (h.others x e (λ same. ne (same ∙ sym (neg-neg t))))) in
+      (λ new. inr ((and_both (stands x h.clause) (stands (neg_ℤ x) trail) new).0, λ same. false≢true (sym o.1 ∙ ap (λ z. stands (neg_ℤ z) below) (sym (same ∙ neg-neg t)) ∙ q.1)))
+      (or_cases (stands x seen) (brings x) (sym (tests x) ∙ q.0)))
+      (or_cases (stands x kept) (stands x (filter test seen')) (sym (stands_both x kept (filter test seen')) ∙ e)))
+      (λ x e ne. ⊎_elim
+      (λ k. stands_both x kept (filter test seen') ∙ or_left (stands x kept) (stands x (filter test seen')) k)
+      (λ both. let q = and_both (stands x seen) (stands (neg_ℤ x) (take (p + 1) trail)) both in
+      in_rest x (filter_in test x seen' (tests x ∙ or_left (stands x seen) (brings x) q.0) (sym (stands_more_other (neg_ℤ x) trail p small (λ same. ne (negated_back x t same))) ∙ q.1)))
+      (or_cases (stands x kept) (old x) (sym (at_bound x) ∙ e)))
+      (λ x e ne. let wrong = h.others x e (λ same. ne (same ∙ sym (neg-neg t))) in
+      in_rest x (filter_in test x seen' (tests x ∙ or_right (stands x seen) (brings x) (and_from (stands x h.clause) (stands (neg_ℤ x) trail) e (stands_take (neg_ℤ x) trail p wrong))) wrong)) in
       record {
         clause = rest;
         chain_gives = subst (λ z. ChainGives clauses z rest) (sym longer) (chain_more clauses chain d.clause h.clause (neg_ℤ t) rest n d.chain_gives h.is resolvent);
-        literals = λ l. same_tests (stands l rest) (stands l seen' && stands (neg_ℤ l) below)
+        literals = λ l. stands_both l kept (filter test seen') ∙ ap (λ z. stands l kept || z)
+            (same_tests (stands l (filter test seen')) (stands l seen' && stands (neg_ℤ l) below)
             (λ e. let q = filter_out test l seen' e in and_from (stands l seen') (stands (neg_ℤ l) below) q.0 q.1)
-            (λ e. let q = and_both (stands l seen') (stands (neg_ℤ l) below) e in filter_in test l seen' q.0 q.1);
+            (λ e. let q = and_both (stands l seen') (stands (neg_ℤ l) below) e in filter_in test l seen' q.0 q.1));
       }
 
-  -- with no bound left the chain gives the empty clause
-  pub derive_empty : (chain : List ℕ) (seen : List ℤ) → Derives clauses chain seen trail 0 → ChainGives clauses chain []
-  derive_empty chain seen d = chain_like clauses chain d.clause [] (λ l. d.literals l ∙ and_right (stands l seen) false refl) d.chain_gives
+  -- with no bound left the chain gives the clause of what is kept
+  pub derive_end : (chain : List ℕ) (kept seen : List ℤ) → Derives clauses chain kept seen trail 0 → ChainGives clauses chain kept
+  derive_end chain kept seen d =
+      chain_like clauses chain d.clause kept (λ l. d.literals l ∙ ap (λ z. stands l kept || z) (and_right (stands l seen) false refl) ∙ or_nothing (stands l kept)) d.chain_gives
 
-  -- what is seen below the mark, and one literal above it
-  pub derive_lesson : (chain : List ℕ) (seen lesson : List ℤ) (mark p : ℕ) → mark ≤ p → p < length trail → stands (neg_ℤ (get_or trail p (pos 0))) seen ≡ true → NoneSeen seen trail mark p
-      → ((l : ℤ) → stands l lesson ≡ (int_eq l (neg_ℤ (get_or trail p (pos 0))) || (stands l seen && stands (neg_ℤ l) (take mark trail))))
-      → Derives clauses chain seen trail (p + 1) → ChainGives clauses chain lesson
-  derive_lesson chain seen lesson mark p low small here none tests d =
+  -- where only one seen literal is false from the mark on, it is kept
+  pub derive_first : (chain : List ℕ) (seen : List ℤ) (mark p : ℕ) → mark ≤ p → p < length trail → stands (neg_ℤ (get_or trail p (pos 0))) seen ≡ true → NoneSeen seen trail mark p
+      → Derives clauses chain [] seen trail (p + 1) → Derives clauses chain (neg_ℤ (get_or trail p (pos 0)) ∷ []) seen trail mark
+  derive_first chain seen mark p low small here none d =
       let t = get_or trail p (pos 0) in
-      chain_like clauses chain d.clause lesson
-      (λ l. d.literals l ∙ same_tests (stands l seen && stands (neg_ℤ l) (take (p + 1) trail)) (int_eq l (neg_ℤ t) || (stands l seen && stands (neg_ℤ l) (take mark trail)))
-      (λ e. let q = and_both (stands l seen) (stands (neg_ℤ l) (take (p + 1) trail)) e in ⊎_elim
-      (λ older. let r = place_of (neg_ℤ l) (take p trail) older in
-      let size : length (take p trail) ≡ p = length-take-le p trail (omega arith) in
-      let below : r.0 < length (take p trail) = r.1 in
-      let at : get_or trail r.0 (pos 0) ≡ neg_ℤ l = sym (get_or-take p trail r.0 (pos 0) (omega arith)) ∙ r.2 in
-      ⊎_elim
-      (λ early. or_right (int_eq l (neg_ℤ t)) (stands l seen && stands (neg_ℤ l) (take mark trail))
-      (and_from (stands l seen) (stands (neg_ℤ l) (take mark trail)) q.0 (stands_before trail r.0 mark (neg_ℤ l) early (omega arith) at)))
-      (λ late. absurd (false≢true (sym (none r.0 late (omega arith)) ∙ ap (λ z. stands (neg_ℤ z) seen) at ∙ ap (λ z. stands z seen) (neg-neg l) ∙ q.0)))
-      (cases_lt r.0 mark))
-      (λ same. or_left (int_eq l (neg_ℤ t)) (stands l seen && stands (neg_ℤ l) (take mark trail)) (int_eq-same l (neg_ℤ t) (negated_back l t same)))
-      (stands_more_cases (neg_ℤ l) trail p small q.1))
-      (λ e. ⊎_elim
-      (λ first. let is = same_from_int_eq l (neg_ℤ t) first in
-      and_from (stands l seen) (stands (neg_ℤ l) (take (p + 1) trail)) (ap (λ z. stands z seen) is ∙ here) (ap (λ z. stands z (take (p + 1) trail)) (ap neg_ℤ is ∙ neg-neg t) ∙ stands_more_here trail p small))
-      (λ both. let q = and_both (stands l seen) (stands (neg_ℤ l) (take mark trail)) both in
-      and_from (stands l seen) (stands (neg_ℤ l) (take (p + 1) trail)) q.0 (stands_take_le (neg_ℤ l) trail mark (p + 1) (omega arith) q.1))
-      (or_cases (int_eq l (neg_ℤ t)) (stands l seen && stands (neg_ℤ l) (take mark trail)) e))
-      ∙ sym (tests l))
-      d.chain_gives
+      record {
+        clause = d.clause;
+        chain_gives = d.chain_gives;
+        literals = λ l. d.literals l ∙ same_tests (stands l seen && stands (neg_ℤ l) (take (p + 1) trail)) (int_eq l (neg_ℤ t) || (stands l seen && stands (neg_ℤ l) (take mark trail)))
+            (λ e. let q = and_both (stands l seen) (stands (neg_ℤ l) (take (p + 1) trail)) e in ⊎_elim
+            (λ older. let r = place_of (neg_ℤ l) (take p trail) older in
+            let size : length (take p trail) ≡ p = length-take-le p trail (omega arith) in
+            let below : r.0 < length (take p trail) = r.1 in
+            let at : get_or trail r.0 (pos 0) ≡ neg_ℤ l = sym (get_or-take p trail r.0 (pos 0) (omega arith)) ∙ r.2 in
+            ⊎_elim
+            (λ early. or_right (int_eq l (neg_ℤ t)) (stands l seen && stands (neg_ℤ l) (take mark trail))
+            (and_from (stands l seen) (stands (neg_ℤ l) (take mark trail)) q.0 (stands_before trail r.0 mark (neg_ℤ l) early (omega arith) at)))
+            (λ late. absurd (false≢true (sym (none r.0 late (omega arith)) ∙ ap (λ z. stands (neg_ℤ z) seen) at ∙ ap (λ z. stands z seen) (neg-neg l) ∙ q.0)))
+            (cases_lt r.0 mark))
+            (λ same. or_left (int_eq l (neg_ℤ t)) (stands l seen && stands (neg_ℤ l) (take mark trail)) (int_eq-same l (neg_ℤ t) (negated_back l t same)))
+            (stands_more_cases (neg_ℤ l) trail p small q.1))
+            (λ e. ⊎_elim
+            (λ first. let is = same_from_int_eq l (neg_ℤ t) first in
+            and_from (stands l seen) (stands (neg_ℤ l) (take (p + 1) trail)) (ap (λ z. stands z seen) is ∙ here) (ap (λ z. stands z (take (p + 1) trail)) (ap neg_ℤ is ∙ neg-neg t) ∙ stands_more_here trail p small))
+            (λ both. let q = and_both (stands l seen) (stands (neg_ℤ l) (take mark trail)) both in
+            and_from (stands l seen) (stands (neg_ℤ l) (take (p + 1) trail)) q.0 (stands_take_le (neg_ℤ l) trail mark (p + 1) (omega arith) q.1))
+            (or_cases (int_eq l (neg_ℤ t)) (stands l seen && stands (neg_ℤ l) (take mark trail)) e))
+            ∙ ap (λ z. z || (stands l seen && stands (neg_ℤ l) (take mark trail))) (sym (or_nothing (int_eq l (neg_ℤ t))));
+      }
 
-  -- and that clause is new
-  pub lesson_new : (seen lesson : List ℤ) (mark p : ℕ) → mark ≤ p → p < length trail → IsOpen (take p trail) (get_or trail p (pos 0)) → IsAtRest clauses (take mark trail)
-      → ((l : ℤ) → stands l lesson ≡ (int_eq l (neg_ℤ (get_or trail p (pos 0))) || (stands l seen && stands (neg_ℤ l) (take mark trail))))
-      → IsNew clauses lesson
-  lesson_new seen lesson mark p low small o rest tests =
-      let t = get_or trail p (pos 0) in (
-        take mark trail,
-        neg_ℤ t,
-        record {
-          rest = rest;
-          member = tests (neg_ℤ t) ∙ or_left (int_eq (neg_ℤ t) (neg_ℤ t)) (stands (neg_ℤ t) seen && stands (neg_ℤ (neg_ℤ t)) (take mark trail)) (int_eq-same (neg_ℤ t) (neg_ℤ t) refl);
-          open_left = (below_false (neg_ℤ t) mark p low o.1, ap (λ z. stands z (take mark trail)) (neg-neg t) ∙ below_false t mark p low o.0);
-          others = λ l e ne. ⊎_elim
-              (λ first. absurd (ne (same_from_int_eq l (neg_ℤ t) first)))
-              (λ both. (and_both (stands l seen) (stands (neg_ℤ l) (take mark trail)) both).1)
-              (or_cases (int_eq l (neg_ℤ t)) (stands l seen && stands (neg_ℤ l) (take mark trail)) (sym (tests l) ∙ e));
-        },
-      )
-    where
-      below_false : (l : ℤ) (m n : ℕ) → m ≤ n → stands l (take n trail) ≡ false → stands l (take m trail) ≡ false
-      below_false l m n h e = false_from_ne_true (stands l (take m trail)) (λ f. false≢true (sym e ∙ stands_take_le l trail m n h f))
+  -- a clause of which one literal is left at rest is new
+  pub lesson_new : (lesson : List ℤ) (first : ℤ) (mark : ℕ) → IsAtRest clauses (take mark trail) → stands first lesson ≡ true → IsOpen (take mark trail) first → OthersFalse (take mark trail) lesson first → IsNew clauses lesson
+  lesson_new lesson first mark rest member o others = (take mark trail, first, record { rest = rest; member = member; open_left = o; others = others })
 
   -- the clause of a number is settled at rest
   settled_number : (literals : List ℤ) (n : ℕ) (clause : List ℤ) → IsAtRest clauses literals → numbered clauses n ≡ Some clause → IsSettled literals clause
@@ -228,11 +267,11 @@ module _ (clauses : List (List ℤ)) (trail : List ℤ) where
 
   -- a clause that is false now was not at rest: two of its literals became false later
   pub later_start : (seen clause : List ℤ) (mark n : ℕ) → IsConsistent trail → IsAtRest clauses (take mark trail) → numbered clauses n ≡ Some clause → AllFalse trail clause
-      → ((l : ℤ) → stands l seen ≡ stands l clause) → HasLater seen trail mark (length trail)
+      → ((l : ℤ) → stands l seen ≡ (stands l clause && stands (neg_ℤ l) trail)) → HasLater seen trail mark (length trail)
   later_start seen clause mark n consistent rest at all tests =
       ⊎_elim
       (λ one. absurd (false≢true (sym (consistent one.0 (stands_take one.0 trail mark one.2)) ∙ all one.0 one.1)))
-      (λ two. (two.0, tests two.0 ∙ two.3, stands_whole (neg_ℤ two.0) trail (length trail) (omega arith) ∙ all two.0 two.3, (two.5).1))
+      (λ two. (two.0, tests two.0 ∙ and_from (stands two.0 clause) (stands (neg_ℤ two.0) trail) two.3 (all two.0 two.3), stands_whole (neg_ℤ two.0) trail (length trail) (omega arith) ∙ all two.0 two.3, (two.5).1))
       (settled_number (take mark trail) n clause rest at)
 
   pub later_skip : (seen : List ℤ) (mark bound p : ℕ) → bound ≡ p + 1 → p < length trail → stands (neg_ℤ (get_or trail p (pos 0))) seen ≡ false → HasLater seen trail mark bound → HasLater seen trail mark p
@@ -245,11 +284,12 @@ module _ (clauses : List (List ℤ)) (trail : List ℤ) where
   )
 
   pub later_step : (seen seen' : List ℤ) (mark p n : ℕ) → mark ≤ p → p < length trail → IsConsistent trail → IsOpen (take p trail) (get_or trail p (pos 0)) → IsAtRest clauses (take mark trail)
-      → (h : Implies clauses n (take p trail) (get_or trail p (pos 0))) → ((l : ℤ) → stands l seen' ≡ (stands l seen || stands l h.clause)) → HasLater seen' trail mark p
+      → (h : Implies clauses n (take p trail) (get_or trail p (pos 0))) → ((l : ℤ) → stands l seen' ≡ (stands l seen || (stands l h.clause && stands (neg_ℤ l) trail))) → HasLater seen' trail mark p
   later_step seen seen' mark p n low small consistent o rest h tests =
       let t = get_or trail p (pos 0) in
       let open_one : (y : ℤ) → stands y h.clause ≡ true → (y ≡ t → ⊥) → IsOpen (take mark trail) y → HasLater seen' trail mark p =
-      λ y e ne w. (y, tests y ∙ or_right (stands y seen) (stands y h.clause) e, h.others y e ne, w.1) in
+      λ y e ne w.
+      (y, tests y ∙ or_right (stands y seen) (stands y h.clause && stands (neg_ℤ y) trail) (and_from (stands y h.clause) (stands (neg_ℤ y) trail) e (stands_take (neg_ℤ y) trail p (h.others y e ne))), h.others y e ne, w.1) in
       ⊎_elim
       (λ one. ⊎_elim
       (λ same. absurd (false≢true (sym o.0 ∙ ap (λ z. stands z (take p trail)) (sym same) ∙ stands_take_le one.0 trail mark p low one.2)))

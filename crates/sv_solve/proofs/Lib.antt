@@ -3,7 +3,10 @@ pub mod Places
 pub mod Marks
 pub mod Clauses
 pub mod Trails
+pub mod Seeing
 pub mod Deriving
 pub mod Lessons
+pub mod Drafts
+pub mod Asserting
 pub mod Counting
 pub mod Knowing

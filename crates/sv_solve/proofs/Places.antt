@@ -7,7 +7,7 @@ use Rattle.sv_clause.specs.Literals.{stands}
 use Rattle.sv_clause.proofs.Standing.{same_from_int_eq, int_eq-same, int_eq-other}
 use Rattle.sv_clause.proofs.Folding.{stands-push}
 
-or_nothing : (b : Bool) → (b || false) ≡ b
+pub or_nothing : (b : Bool) → (b || false) ≡ b
 or_nothing true = refl
 or_nothing false = refl
 
@@ -36,6 +36,9 @@ stands_take_le l xs i j h e = stands_take l (take j xs) i (ap (stands l) (take-t
 
 pub not_stands_take : (l : ℤ) (xs : List ℤ) (k : ℕ) → stands l xs ≡ false → stands l (take k xs) ≡ false
 not_stands_take l xs k e = false_from_ne_true (stands l (take k xs)) (λ t. false≢true (sym e ∙ stands_take l xs k t))
+
+pub not_stands_take_le : (l : ℤ) (xs : List ℤ) (i j : ℕ) → i ≤ j → stands l (take j xs) ≡ false → stands l (take i xs) ≡ false
+not_stands_take_le l xs i j h e = false_from_ne_true (stands l (take i xs)) (λ t. false≢true (sym e ∙ stands_take_le l xs i j h t))
 
 pub place_of : (l : ℤ) (xs : List ℤ) → stands l xs ≡ true → (i : ℕ) × (i < length xs) × (get_or xs i (pos 0) ≡ l)
 place_of l [] e = absurd (false≢true e)

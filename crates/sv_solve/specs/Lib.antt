@@ -1,6 +1,7 @@
 pub mod Codes
 pub mod Lists
 pub mod Search
+pub mod Lessons
 pub mod Scans
 pub mod Known
 pub mod Answers

@@ -16,13 +16,15 @@ pub record Assigned : Type 0 where
   pub reasons : List ℕ
   pub variables : ℕ
 
--- the marks tell by number which literals stand in the list, each once
-pub record IsMarked (literals : List ℤ) (marks : List Bool) (variables : ℕ) : Type 0 where
+-- the marks tell by number which literals stand in the list, each once, and the places where they stand
+pub record IsMarked (literals : List ℤ) (marks : List Bool) (places : List ℕ) (variables : ℕ) : Type 0 where
   pub size : length marks ≡ 2 * variables + 2
+  pub as_many : length places ≡ length marks
   pub marked : (literal : ℤ) → code_of literal < length marks → slice_index_or marks (code_of literal) false ≡ stands literal literals
   pub within : (literal : ℤ) → IsTrue (stands literal literals) → IsOf variables literal
   pub distinct : (i : ℕ) → i < length literals → IsFalse (stands (slice_index_or literals i (pos 0)) (take i literals))
   pub room : length literals + count_by not marks ≡ length marks
+  pub placed : (i : ℕ) → i < length literals → slice_index_or places (code_of (slice_index_or literals i (pos 0))) 0 ≡ i
 
 -- each literal was open in those before it
 abbrev pub EachOpen : List ℤ → Type 0

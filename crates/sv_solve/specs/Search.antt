@@ -1,7 +1,6 @@
 -- What the search for values keeps: clauses, what is false under a list of literals, and what a clause makes true.
 use Rattle.std.specs.Prelude.{◌≡◌, ◌≢◌, ℕ, ◌<◌, ◌≤◌, ◌&&◌, ◌||◌, IsTrue, ℤ, pos, neg_ℤ, unsigned_abs, List, length, take, Some, slice_index_or, ◌⊎◌}
 use Rattle.std.specs.Bool.{IsFalse}
-use Rattle.std.specs.Ordering.{int_eq}
 use Rattle.sv_clause.specs.Literals.{stands, IsClause}
 use Rattle.sv_clause.specs.Logs.{numbered, ChainGives}
 use Rattle.sv_clause.specs.Units.{HasOneIn, HasTwoOpen}
@@ -43,11 +42,11 @@ IsImpliedAt clauses trail place = Implies clauses (slice_index_or trail.reasons 
 abbrev pub ImpliedFrom : List (List ℤ) → Assigned → ℕ → Type 0
 ImpliedFrom clauses trail from = (i : ℕ) → from ≤ i → i < length trail.literals → IsImpliedAt clauses trail i
 
--- the chain derives the clause of the seen literals that are false below the bound
-pub record Derives (clauses : List (List ℤ)) (chain : List ℕ) (seen trail : List ℤ) (bound : ℕ) : Type 0 where
+-- the chain derives the clause of the kept literals and of the seen ones that are false below the bound
+pub record Derives (clauses : List (List ℤ)) (chain : List ℕ) (kept seen trail : List ℤ) (bound : ℕ) : Type 0 where
   pub clause : List ℤ
   pub chain_gives : ChainGives clauses chain clause
-  pub literals : (literal : ℤ) → stands literal clause ≡ (stands literal seen && stands (neg_ℤ literal) (take bound trail))
+  pub literals : (literal : ℤ) → stands literal clause ≡ (stands literal kept || (stands literal seen && stands (neg_ℤ literal) (take bound trail)))
 
 -- some seen literal is false below the bound, and not below the mark
 abbrev pub HasLater : List ℤ → List ℤ → ℕ → ℕ → Type 0
@@ -61,7 +60,3 @@ NoneSeen seen trail from to = (i : ℕ) → from ≤ i → i < to → IsFalse (s
 -- some literal of the trail in between is seen negated
 abbrev pub SomeSeen : List ℤ → List ℤ → ℕ → ℕ → Type 0
 SomeSeen seen trail from to = (i : ℕ) × (from ≤ i) × (i < to) × IsTrue (stands (neg_ℤ (slice_index_or trail i (pos 0))) seen)
-
--- the literals of a lesson: one, and those seen that are false below a mark
-abbrev pub IsLesson : List ℤ → ℤ → List ℤ → List ℤ → Type 0
-IsLesson lesson one seen below = (literal : ℤ) → stands literal lesson ≡ (int_eq literal one || (stands literal seen && stands (neg_ℤ literal) below))

@@ -1,11 +1,13 @@
-// What a false clause shows: the chain that derives a new clause from it, or the empty one.
-ghost use Rattle.std.specs.Prelude.{◌≡◌, ℕ, ◌+◌, ◌-◌, ◌<◌, ◌≤◌, ◌^◌, ◌&&◌, ◌||◌, ℤ, pos, neg_ℤ, [], ◌∷◌, ◌++◌, length, take, All, IsTrue, IfOk, OnOk, slice_index_or};
+// What a false clause teaches: a new clause with the chain that derives it, or the empty one.
+ghost use Rattle.std.specs.Prelude.{◌≡◌, ℕ, ◌+◌, ◌-◌, ◌<◌, ◌≤◌, ◌^◌, ◌&&◌, ◌||◌, ℤ, pos, neg_ℤ, [], ◌∷◌, ◌++◌, length, take, All, IsTrue, IfOk, IfNone, IfSome, OnOk, MatchOption, slice_index_or};
 ghost use Rattle.std.specs.Bool.{IsFalse};
 ghost use Rattle.std.specs.Ordering.{int_eq};
 ghost use Rattle.sv_clause.specs.Literals.{stands, IsClause, SameLiterals, MakeNoClause};
-ghost use Rattle.sv_clause.specs.Units.{IsAtRest, IsNew};
-ghost use Rattle.sv_clause.specs.Logs.{plain_step, IsDerived};
-ghost use Rattle.sv_solve.specs.Search.{IsClauseOf, AllFalse, ImpliedFrom, IsImpliedAt, Derives, HasLater, NoneSeen, SomeSeen, IsLesson};
+ghost use Rattle.sv_clause.specs.Units.{IsAtRest, IsNew, IsOpen};
+ghost use Rattle.sv_clause.specs.Logs.{plain_step, IsDerived, ChainGives};
+ghost use Rattle.sv_solve.specs.Codes.{IsOf};
+ghost use Rattle.sv_solve.specs.Lessons.{IsAsserting, IsDraft};
+ghost use Rattle.sv_solve.specs.Search.{IsClauseOf, AllFalse, OthersFalse, ImpliedFrom, IsImpliedAt, Derives, HasLater, NoneSeen, SomeSeen};
 
 use crate::kept::KeptClause;
 use crate::lists::LiteralList;
@@ -14,10 +16,24 @@ use crate::trail::Trail;
 use std::alloc::{AllocError, Global};
 use sv_clause::{Clause, Derived};
 
-// Sees the literals of a clause.
-fn see(seen: &mut LiteralList, clause: &[Literal]) -> Result<(), AllocError>
-    requires { IsClauseOf seen.old.variables clause.now }
-    ensures seen { OnOk result ((literal : ℤ) → stands literal seen.new.literals ≡ (stands literal seen.old.literals || stands literal clause.now)) }
+/// What a false clause teaches.
+#[derive(Drop)]
+pub struct Lesson {
+    /// The new clause, and the chain that derives it.
+    pub step: Derived,
+    /// Its literal that becomes true once the newest decision is taken back.
+    pub first: Literal,
+    /// Of its other literals the one that became false last.
+    pub other: Option<Literal>,
+    /// How many literals of the trail it takes to make the other literals false.
+    pub keep: usize,
+}
+
+// Sees the false literals of a clause.
+fn see(trail: &Trail, seen: &mut LiteralList, clause: &[Literal]) -> Result<(), AllocError>
+    requires clause { IsClauseOf trail.now.variables clause.now }
+    requires variables { seen.old.variables ≡ trail.now.variables }
+    ensures seen { OnOk result ((literal : ℤ) → stands literal seen.new.literals ≡ (stands literal seen.old.literals || (stands literal clause.now && stands (neg_ℤ literal) trail.now.literals))) }
     ensures variables { OnOk result (seen.new.variables ≡ seen.old.variables) }
 {
     let mut place = 0;
@@ -25,6 +41,9 @@ fn see(seen: &mut LiteralList, clause: &[Literal]) -> Result<(), AllocError>
         let literal = clause[place];
         place += 1;
         if seen.contains(&literal) {
+            continue 'literals;
+        }
+        if !trail.contains(&literal.negated()) {
             continue 'literals;
         }
         seen.push(&literal)?;
@@ -39,12 +58,12 @@ fn is_some_seen(trail: &Trail, seen: &LiteralList, from: usize, to: usize) -> bo
     ensures some { IsTrue result → SomeSeen seen.now.literals trail.now.literals from to }
     ensures none { IsFalse result → NoneSeen seen.now.literals trail.now.literals from to }
 {
-    let mut place = from;
-    'walk: while place < to {
+    let mut place = to;
+    'walk: while place > from {
+        place -= 1;
         if seen.contains(&trail.at(place).negated()) {
             return true;
         }
-        place += 1;
     }
     false
 }
@@ -62,12 +81,12 @@ fn resolve_at(
     requires place { place < length trail.now.literals }
     requires implied { IsImpliedAt clauses.now trail.now place }
     ensures chain { OnOk result (chain.new.items ≡ chain.old.items ++ slice_index_or trail.now.reasons place 0 ∷ []) }
-    ensures seen { OnOk result ((literal : ℤ) → stands literal seen.new.literals ≡ (stands literal seen.old.literals || stands literal (slice_index_or clauses.now (slice_index_or trail.now.reasons place 0 - 1) []))) }
+    ensures seen { OnOk result ((literal : ℤ) → stands literal seen.new.literals ≡ (stands literal seen.old.literals || (stands literal (slice_index_or clauses.now (slice_index_or trail.now.reasons place 0 - 1) []) && stands (neg_ℤ literal) trail.now.literals))) }
     ensures variables { OnOk result (seen.new.variables ≡ seen.old.variables) }
 {
     let number = trail.reason(place);
     chain.push(number)?;
-    see(seen, clauses[number as usize - 1].literals())
+    see(trail, seen, clauses[number as usize - 1].literals())
 }
 
 // Resolves back from the trail's end until one seen literal is false that was not false below the mark: gives its place.
@@ -82,11 +101,11 @@ fn resolve_to_one(
     requires variables { seen.old.variables ≡ trail.now.variables }
     requires implied { ImpliedFrom clauses.now trail.now (mark + 1) }
     requires rest { IsAtRest clauses.now (take mark trail.now.literals) }
-    requires derives { Derives clauses.now chain.old.items seen.old.literals trail.now.literals (length trail.now.literals) }
+    requires derives { Derives clauses.now chain.old.items [] seen.old.literals trail.now.literals (length trail.now.literals) }
     requires later { HasLater seen.old.literals trail.now.literals mark (length trail.now.literals) }
     ensures from { IfOk result (λ place. mark ≤ place) }
     ensures to { IfOk result (λ place. place < length trail.now.literals) }
-    ensures derives { IfOk result (λ place. Derives clauses.now chain.new.items seen.new.literals trail.now.literals (place + 1)) }
+    ensures derives { IfOk result (λ place. Derives clauses.now chain.new.items [] seen.new.literals trail.now.literals (place + 1)) }
     ensures here { IfOk result (λ place. IsTrue (stands (neg_ℤ (slice_index_or trail.now.literals place (pos 0))) seen.new.literals)) }
     ensures none { IfOk result (λ place. NoneSeen seen.new.literals trail.now.literals mark place) }
     ensures variables { OnOk result (seen.new.variables ≡ seen.old.variables) }
@@ -114,8 +133,8 @@ fn resolve_to_none(
     requires clauses { All (IsClauseOf trail.now.variables) clauses.now }
     requires variables { seen.old.variables ≡ trail.now.variables }
     requires implied { ImpliedFrom clauses.now trail.now 0 }
-    requires derives { Derives clauses.now chain.old.items seen.old.literals trail.now.literals (length trail.now.literals) }
-    ensures derives { OnOk result (Derives clauses.now chain.new.items seen.new.literals trail.now.literals 0) }
+    requires derives { Derives clauses.now chain.old.items [] seen.old.literals trail.now.literals (length trail.now.literals) }
+    ensures derives { OnOk result (Derives clauses.now chain.new.items [] seen.new.literals trail.now.literals 0) }
     ensures variables { OnOk result (seen.new.variables ≡ seen.old.variables) }
 {
     let mut bound = trail.len();
@@ -132,47 +151,146 @@ fn resolve_to_none(
 // Sees the literals of a false clause alone, and begins a chain with it.
 fn begin(
     clauses: &[KeptClause],
+    trail: &Trail,
     seen: &mut LiteralList,
     chain: &mut Vec<u64>,
     conflict: usize,
 ) -> Result<(), AllocError>
-    requires clauses { All (IsClauseOf seen.old.variables) clauses.now }
+    requires clauses { All (IsClauseOf trail.now.variables) clauses.now }
+    requires variables { seen.old.variables ≡ trail.now.variables }
     requires conflict { conflict < length clauses.now }
     requires empty { chain.old.items ≡ [] }
     ensures chain { OnOk result (chain.new.items ≡ (conflict + 1) ∷ []) }
-    ensures seen { OnOk result ((literal : ℤ) → stands literal seen.new.literals ≡ stands literal (slice_index_or clauses.now conflict [])) }
+    ensures seen { OnOk result ((literal : ℤ) → stands literal seen.new.literals ≡ (stands literal (slice_index_or clauses.now conflict []) && stands (neg_ℤ literal) trail.now.literals)) }
     ensures variables { OnOk result (seen.new.variables ≡ seen.old.variables) }
 {
     seen.truncate(0);
     chain.push(conflict as u64 + 1)?;
-    see(seen, clauses[conflict].literals())
+    see(trail, seen, clauses[conflict].literals())
 }
 
-// The new clause: the literal at a place negated, and the seen literals that were false below the mark.
-fn lesson_of(
-    alloc: Global,
-    trail: &Trail,
-    seen: &LiteralList,
-    mark: usize,
-    place: usize,
-) -> Result<Vec<i32>, AllocError>
-    requires mark { mark ≤ place }
-    requires place { place < length trail.now.literals }
-    requires variables { seen.now.variables ≡ trail.now.variables }
-    ensures { IfOk result (λ lesson. IsLesson lesson.items (neg_ℤ (slice_index_or trail.now.literals place (pos 0))) seen.now.literals (take mark trail.now.literals)) }
+// The place below the mark at which a literal became false.
+fn place_below(trail: &Trail, literal: &Literal, mark: usize) -> Option<usize>
+    requires of { IsOf trail.now.variables literal.now }
+    requires mark { mark ≤ length trail.now.literals }
+    ensures none { IfNone result (IsFalse (stands (neg_ℤ literal.now) (take mark trail.now.literals))) }
+    ensures some { IfSome result (λ place. (place < mark) × (slice_index_or trail.now.literals place (pos 0) ≡ neg_ℤ literal.now)) }
 {
-    let mut lesson: Vec<i32> = Vec::new(alloc);
-    lesson.push(trail.at(place).negated().signed())?;
-    let mut older = 0;
-    'older: while older < mark {
-        let literal = trail.at(older).negated();
-        older += 1;
-        if !seen.contains(&literal) {
-            continue 'older;
-        }
-        lesson.push(literal.signed())?;
+    let _len = trail.len();
+    let negation = literal.negated();
+    if !trail.contains(&negation) {
+        return None;
     }
-    Ok(lesson)
+    let place = trail.place_of(&negation);
+    if place >= mark {
+        return None;
+    }
+    Some(place)
+}
+
+// Whether a clause makes the literal at a place true, and all its other literals are seen.
+fn adds_none(clause: &[Literal], trail: &Trail, seen: &LiteralList, place: usize) -> bool
+    requires clause { IsClauseOf trail.now.variables clause.now }
+    requires variables { seen.now.variables ≡ trail.now.variables }
+    requires place { place < length trail.now.literals }
+    ensures member { IsTrue result → IsTrue (stands (slice_index_or trail.now.literals place (pos 0)) clause.now) }
+    ensures others { IsTrue result → OthersFalse (take place trail.now.literals) clause.now (slice_index_or trail.now.literals place (pos 0)) }
+{
+    let literal = trail.at(place);
+    let mut is_member = false;
+    let mut index = 0;
+    'literals: while index < clause.len() {
+        let other = clause[index];
+        index += 1;
+        if other.is(&literal) {
+            is_member = true;
+            continue 'literals;
+        }
+        if !seen.contains(&other) {
+            return false;
+        }
+        let Some(_before) = place_below(trail, &other, place) else {
+            return false;
+        };
+    }
+    is_member
+}
+
+// Whether the literal at a place has a reason that makes it true, of which all other literals are seen.
+fn is_redundant(clauses: &[KeptClause], trail: &Trail, seen: &LiteralList, place: usize) -> bool
+    requires clauses { All (IsClauseOf trail.now.variables) clauses.now }
+    requires variables { seen.now.variables ≡ trail.now.variables }
+    requires place { place < length trail.now.literals }
+    ensures { IsTrue result → IsImpliedAt clauses.now trail.now place }
+{
+    let number = trail.reason(place);
+    if number == 0 || number > clauses.len() as u64 {
+        return false;
+    }
+    adds_none(clauses[number as usize - 1].literals(), trail, seen, place)
+}
+
+// The literals of a lesson, and how many literals of the trail make all but the first false.
+#[derive(Drop)]
+struct Draft {
+    literals: Vec<i32>,
+    keep: usize,
+}
+
+// Resolves on from the mark back, but only with reasons that bring no new literal, and keeps the other seen literals beside
+// the first one. It walks down the trail since a literal has to go before those that its reason brings back.
+fn shorten(
+    alloc: Global,
+    clauses: &[KeptClause],
+    trail: &Trail,
+    seen: &mut LiteralList,
+    chain: &mut Vec<u64>,
+    mark: usize,
+    first: &Literal,
+) -> Result<Draft, AllocError>
+    requires clauses { All (IsClauseOf trail.now.variables) clauses.now }
+    requires variables { seen.old.variables ≡ trail.now.variables }
+    requires mark { mark ≤ length trail.now.literals }
+    requires first { IsTrue (stands (neg_ℤ first.now) trail.now.literals) }
+    requires open_first { IsOpen (take mark trail.now.literals) first.now }
+    requires derives { Derives clauses.now chain.old.items (first.now ∷ []) seen.old.literals trail.now.literals mark }
+    ensures derives { IfOk result (λ draft. ChainGives clauses.now chain.new.items draft.literals.items) }
+    ensures draft { IfOk result (λ draft. IsDraft trail.now.literals first.now draft.literals.items 0 draft.keep mark) }
+    ensures variables { OnOk result (seen.new.variables ≡ seen.old.variables) }
+{
+    let _len = trail.len();
+    let mut literals: Vec<i32> = Vec::new(alloc);
+    literals.push(first.signed())?;
+    let mut keep = 0;
+    let mut bound = mark;
+    'back: while bound > 0 {
+        bound -= 1;
+        let literal = trail.at(bound).negated();
+        if !seen.contains(&literal) {
+            continue 'back;
+        }
+        if is_redundant(clauses, trail, seen, bound) {
+            resolve_at(clauses, trail, seen, chain, bound)?;
+            continue 'back;
+        }
+        literals.push(literal.signed())?;
+        if keep > 0 {
+            continue 'back;
+        }
+        keep = bound + 1;
+    }
+    Ok(Draft { literals, keep })
+}
+
+// The last of the first literals of the trail, negated.
+fn last_of(trail: &Trail, keep: usize) -> Option<Literal>
+    requires { keep ≤ length trail.now.literals }
+    ensures { MatchOption result (keep ≡ 0) (λ last. (0 < keep) × (last ≡ neg_ℤ (slice_index_or trail.now.literals (keep - 1) (pos 0)))) }
+{
+    if keep == 0 {
+        return None;
+    }
+    Some(trail.at(keep - 1).negated())
 }
 
 // The clause of literals that make one.
@@ -195,7 +313,7 @@ pub fn learn(
     seen: &mut LiteralList,
     conflict: usize,
     mark: usize,
-) -> Result<Derived, AllocError>
+) -> Result<Lesson, AllocError>
     requires clauses { All (IsClauseOf trail.now.variables) clauses.now }
     requires small { trail.now.variables < 2 ^ 31 }
     requires variables { seen.old.variables ≡ trail.now.variables }
@@ -203,18 +321,28 @@ pub fn learn(
     requires rest { IsAtRest clauses.now (take mark trail.now.literals) }
     requires conflict { conflict < length clauses.now }
     requires all_false { AllFalse trail.now.literals (slice_index_or clauses.now conflict []) }
-    ensures derived { IfOk result (λ step. IsDerived clauses.now (plain_step step)) }
-    ensures new { IfOk result (λ step. IsNew clauses.now step.clause) }
-    ensures of { IfOk result (λ step. IsClauseOf trail.now.variables step.clause) }
+    ensures derived { IfOk result (λ lesson. IsDerived clauses.now (plain_step lesson.step)) }
+    ensures new { IfOk result (λ lesson. IsNew clauses.now lesson.step.clause) }
+    ensures of { IfOk result (λ lesson. IsClauseOf trail.now.variables lesson.step.clause) }
+    ensures first { IfOk result (λ lesson. IsOf trail.now.variables lesson.first) }
+    ensures asserting { IfOk result (λ lesson. IsAsserting trail.now.literals mark lesson.step.clause lesson.first lesson.other lesson.keep) }
     ensures variables { OnOk result (seen.new.variables ≡ seen.old.variables) }
 {
     let _len = trail.len();
     let mut chain: Vec<u64> = Vec::new(alloc);
-    begin(clauses, seen, &mut chain, conflict)?;
+    begin(clauses, trail, seen, &mut chain, conflict)?;
     let place = resolve_to_one(clauses, trail, seen, &mut chain, mark)?;
-    let lesson = lesson_of(alloc, trail, seen, mark, place)?;
-    let clause = clause_of(alloc, &lesson)?;
-    Ok(Derived { clause, chain })
+    let first = trail.at(place).negated();
+    let draft = shorten(alloc, clauses, trail, seen, &mut chain, mark, &first)?;
+    let clause = clause_of(alloc, &draft.literals)?;
+    let keep = draft.keep;
+    let other = last_of(trail, keep);
+    Ok(Lesson {
+        step: Derived { clause, chain },
+        first,
+        other,
+        keep,
+    })
 }
 
 /// Derives the empty clause from a false one, where all of the trail is implied.
@@ -235,7 +363,7 @@ pub fn refute(
     ensures variables { OnOk result (seen.new.variables ≡ seen.old.variables) }
 {
     let mut chain: Vec<u64> = Vec::new(alloc);
-    begin(clauses, seen, &mut chain, conflict)?;
+    begin(clauses, trail, seen, &mut chain, conflict)?;
     resolve_to_none(clauses, trail, seen, &mut chain)?;
     let clause = Clause::from_normal(Vec::new(alloc));
     Ok(Derived { clause, chain })

@@ -1,4 +1,4 @@
-// Lists of literals that tell at once whether a literal stands in them.
+// Lists of literals that tell at once whether a literal stands in them, and where.
 ghost use Rattle.std.specs.Prelude.{◌≡◌, ◌+◌, ◌-◌, ◌*◌, ◌<◌, ◌≤◌, ◌^◌, ℤ, pos, List, [], ◌∷◌, ◌++◌, length, take, IsTrue, IfOk, OnOk, OnErr, slice_index_or};
 ghost use Rattle.std.specs.Bool.{IsFalse};
 ghost use Rattle.sv_clause.specs.Literals.{stands};
@@ -8,11 +8,12 @@ use crate::literal::Literal;
 use std::alloc::{AllocError, Global};
 use std::marker::Model;
 
-/// A list of different literals, with a mark for each that stands in it.
+/// A list of different literals, with a mark and a place for each that stands in it.
 #[derive(Drop)]
 pub struct LiteralList {
     literals: Vec<Literal>,
     marks: Vec<bool>,
+    places: Vec<usize>,
     variables: u32,
 }
 
@@ -23,7 +24,7 @@ impl Model for LiteralList {
 
     ghost view = { λ l. record { literals = l.literals.items; variables = l.variables } };
 
-    ghost invariant = { λ l. IsMarked l.literals.items l.marks.items l.variables };
+    ghost invariant = { λ l. IsMarked l.literals.items l.marks.items l.places.items l.variables };
 }
 
 impl LiteralList {
@@ -34,9 +35,11 @@ impl LiteralList {
         ensures variables { IfOk result (λ list. list.variables ≡ variables) }
     {
         let marks = vec![in alloc; false; 2 * variables as usize + 2]?;
+        let places = vec![in alloc; 0; 2 * variables as usize + 2]?;
         Ok(LiteralList {
             literals: Vec::new(alloc),
             marks,
+            places,
             variables,
         })
     }
@@ -75,6 +78,16 @@ impl LiteralList {
         self.marks[literal.index()]
     }
 
+    /// The place of a literal that stands in it.
+    pub fn place_of(&self, literal: &Literal) -> usize
+        requires of { IsOf self.now.variables literal.now }
+        requires here { IsTrue (stands literal.now self.now.literals) }
+        ensures within { result < length self.now.literals }
+        ensures value { slice_index_or self.now.literals result (pos 0) ≡ literal.now }
+    {
+        self.places[literal.index()]
+    }
+
     /// Puts a literal at its end.
     pub fn push(&mut self, literal: &Literal) -> Result<(), AllocError>
         requires of { IsOf self.old.variables literal.now }
@@ -83,8 +96,11 @@ impl LiteralList {
         ensures unchanged { OnErr result (self.new.literals ≡ self.old.literals) }
         ensures variables { self.new.variables ≡ self.old.variables }
     {
+        let place = self.literals.len();
+        let index = literal.index();
         self.literals.push(*literal)?;
-        self.marks[literal.index()] = true;
+        self.marks[index] = true;
+        self.places[index] = place;
         Ok(())
     }
 

@@ -4,7 +4,7 @@ ghost use Rattle.sv_solve.specs.Codes.{IsOf};
 ghost use Rattle.sv_solve.specs.Search.{IsClauseOf};
 ghost use Rattle.sv_solve.specs.Outcomes.{IsOutcome};
 
-use crate::analysis::{learn, refute};
+use crate::analysis::{Lesson, learn, refute};
 use crate::kept::KeptClause;
 use crate::lists::LiteralList;
 use crate::literal::Literal;
@@ -53,7 +53,8 @@ fn search_slowly(
         };
         trail.push(&literal, 0)?;
         if let Some(conflict) = propagate(clauses, trail)? {
-            return Ok(Outcome::Learned(learn(alloc, clauses, trail, seen, conflict, mark)?));
+            let Lesson { step, .. } = learn(alloc, clauses, trail, seen, conflict, mark)?;
+            return Ok(Outcome::Learned(step));
         }
     }
 }
@@ -144,7 +145,8 @@ fn learn_above(
     }
     trail.push(literal, 0)?;
     if let Some(conflict) = watches.advance(alloc, clauses, trail, from)? {
-        return Ok(Outcome::Learned(learn(alloc, clauses, trail, seen, conflict, mark)?));
+        let Lesson { step, .. } = learn(alloc, clauses, trail, seen, conflict, mark)?;
+        return Ok(Outcome::Learned(step));
     }
     search_slowly(alloc, clauses, trail, seen, order)
 }

@@ -78,6 +78,16 @@ impl Trail {
         self.assigned.contains(literal)
     }
 
+    /// The place of a literal that is true.
+    pub fn place_of(&self, literal: &Literal) -> usize
+        requires of { IsOf self.now.variables literal.now }
+        requires here { IsTrue (stands literal.now self.now.literals) }
+        ensures within { result < length self.now.literals }
+        ensures value { slice_index_or self.now.literals result (pos 0) ≡ literal.now }
+    {
+        self.assigned.place_of(literal)
+    }
+
     /// Whether neither a literal nor its negation is true.
     pub fn is_open(&self, literal: &Literal) -> bool
         requires { IsOf self.now.variables literal.now }

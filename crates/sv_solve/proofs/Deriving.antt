@@ -131,6 +131,28 @@ module _ (clauses : List (List ℤ)) (trail : List ℤ) where
             (cases_int (neg_ℤ l) (get_or trail p (pos 0))));
       }
 
+  -- nor do several
+  pub derive_unseen : (chain : List ℕ) (kept seen : List ℤ) (from bound : ℕ) → from ≤ bound → bound ≤ length trail → NoneSeen seen trail from bound
+      → Derives clauses chain kept seen trail bound → Derives clauses chain kept seen trail from
+  derive_unseen chain kept seen from bound low size none d =
+      record {
+        clause = d.clause;
+        chain_gives = d.chain_gives;
+        literals = λ l. d.literals l ∙ ap (λ z. stands l kept || z)
+            (same_tests (stands l seen && stands (neg_ℤ l) (take bound trail)) (stands l seen && stands (neg_ℤ l) (take from trail))
+            (λ e. let q = and_both (stands l seen) (stands (neg_ℤ l) (take bound trail)) e in
+            let r = place_of (neg_ℤ l) (take bound trail) q.1 in
+            let long : length (take bound trail) ≡ bound = length-take-le bound trail size in
+            let below : r.0 < length (take bound trail) = r.1 in
+            let at : get_or trail r.0 (pos 0) ≡ neg_ℤ l = sym (get_or-take bound trail r.0 (pos 0) (omega arith)) ∙ r.2 in
+            ⊎_elim
+            (λ early. and_from (stands l seen) (stands (neg_ℤ l) (take from trail)) q.0 (stands_before trail r.0 from (neg_ℤ l) early (omega arith) at))
+            (λ late. absurd (false≢true (sym (none r.0 late (omega arith)) ∙ ap (λ z. stands (neg_ℤ z) seen) at ∙ ap (λ z. stands z seen) (neg-neg l) ∙ q.0)))
+            (cases_lt r.0 from))
+            (λ e. let q = and_both (stands l seen) (stands (neg_ℤ l) (take from trail)) e in
+            and_from (stands l seen) (stands (neg_ℤ l) (take bound trail)) q.0 (stands_take_le (neg_ℤ l) trail from bound low q.1)));
+      }
+
   -- a seen literal of the trail is kept
   pub derive_keep : (chain : List ℕ) (kept kept' seen : List ℤ) (bound p : ℕ) → bound ≡ p + 1 → p < length trail → stands (neg_ℤ (get_or trail p (pos 0))) seen ≡ true
       → kept' ≡ kept ++ neg_ℤ (get_or trail p (pos 0)) ∷ [] → Derives clauses chain kept seen trail bound → Derives clauses chain kept' seen trail p
@@ -229,31 +251,8 @@ module _ (clauses : List (List ℤ)) (trail : List ℤ) where
   pub derive_first : (chain : List ℕ) (seen : List ℤ) (mark p : ℕ) → mark ≤ p → p < length trail → stands (neg_ℤ (get_or trail p (pos 0))) seen ≡ true → NoneSeen seen trail mark p
       → Derives clauses chain [] seen trail (p + 1) → Derives clauses chain (neg_ℤ (get_or trail p (pos 0)) ∷ []) seen trail mark
   derive_first chain seen mark p low small here none d =
-      let t = get_or trail p (pos 0) in
-      record {
-        clause = d.clause;
-        chain_gives = d.chain_gives;
-        literals = λ l. d.literals l ∙ same_tests (stands l seen && stands (neg_ℤ l) (take (p + 1) trail)) (int_eq l (neg_ℤ t) || (stands l seen && stands (neg_ℤ l) (take mark trail)))
-            (λ e. let q = and_both (stands l seen) (stands (neg_ℤ l) (take (p + 1) trail)) e in ⊎_elim
-            (λ older. let r = place_of (neg_ℤ l) (take p trail) older in
-            let size : length (take p trail) ≡ p = length-take-le p trail (omega arith) in
-            let below : r.0 < length (take p trail) = r.1 in
-            let at : get_or trail r.0 (pos 0) ≡ neg_ℤ l = sym (get_or-take p trail r.0 (pos 0) (omega arith)) ∙ r.2 in
-            ⊎_elim
-            (λ early. or_right (int_eq l (neg_ℤ t)) (stands l seen && stands (neg_ℤ l) (take mark trail))
-            (and_from (stands l seen) (stands (neg_ℤ l) (take mark trail)) q.0 (stands_before trail r.0 mark (neg_ℤ l) early (omega arith) at)))
-            (λ late. absurd (false≢true (sym (none r.0 late (omega arith)) ∙ ap (λ z. stands (neg_ℤ z) seen) at ∙ ap (λ z. stands z seen) (neg-neg l) ∙ q.0)))
-            (cases_lt r.0 mark))
-            (λ same. or_left (int_eq l (neg_ℤ t)) (stands l seen && stands (neg_ℤ l) (take mark trail)) (int_eq-same l (neg_ℤ t) (negated_back l t same)))
-            (stands_more_cases (neg_ℤ l) trail p small q.1))
-            (λ e. ⊎_elim
-            (λ first. let is = same_from_int_eq l (neg_ℤ t) first in
-            and_from (stands l seen) (stands (neg_ℤ l) (take (p + 1) trail)) (ap (λ z. stands z seen) is ∙ here) (ap (λ z. stands z (take (p + 1) trail)) (ap neg_ℤ is ∙ neg-neg t) ∙ stands_more_here trail p small))
-            (λ both. let q = and_both (stands l seen) (stands (neg_ℤ l) (take mark trail)) both in
-            and_from (stands l seen) (stands (neg_ℤ l) (take (p + 1) trail)) q.0 (stands_take_le (neg_ℤ l) trail mark (p + 1) (omega arith) q.1))
-            (or_cases (int_eq l (neg_ℤ t)) (stands l seen && stands (neg_ℤ l) (take mark trail)) e))
-            ∙ ap (λ z. z || (stands l seen && stands (neg_ℤ l) (take mark trail))) (sym (or_nothing (int_eq l (neg_ℤ t))));
-      }
+      let first = neg_ℤ (get_or trail p (pos 0)) in
+      derive_unseen chain (first ∷ []) seen mark p low (omega arith) none (derive_keep chain [] (first ∷ []) seen (p + 1) p refl small here refl d)
 
   -- a clause of which one literal is left at rest is new
   pub lesson_new : (lesson : List ℤ) (first : ℤ) (mark : ℕ) → IsAtRest clauses (take mark trail) → stands first lesson ≡ true → IsOpen (take mark trail) first → OthersFalse (take mark trail) lesson first → IsNew clauses lesson

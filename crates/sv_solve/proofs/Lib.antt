@@ -7,6 +7,15 @@ pub mod Seeing
 pub mod Deriving
 pub mod Lessons
 pub mod Drafts
+pub mod Shortening
 pub mod Asserting
 pub mod Counting
 pub mod Knowing
+pub mod Watched
+pub mod Visits
+pub mod Ascending
+pub mod Levels
+pub mod TakenUp
+pub mod Assumed
+pub mod Ends
+pub mod Endings

@@ -1,5 +1,5 @@
 -- What a false clause teaches: a clause of which one literal is left once the newest decision is taken back.
-use Rattle.std.specs.Prelude.{◌≡◌, ◌≢◌, ℕ, ◌-◌, ◌<◌, ◌≤◌, IsTrue, ℤ, pos, neg_ℤ, List, length, take, Option, Some, None, slice_index_or}
+use Rattle.std.specs.Prelude.{◌≡◌, ◌≢◌, ℕ, ◌-◌, ◌<◌, ◌≤◌, IsTrue, ℤ, pos, neg_ℤ, List, length, take, Option, Some, None, slice_index_or, All, Contains}
 use Rattle.std.specs.Bool.{IsFalse}
 use Rattle.sv_clause.specs.Literals.{stands}
 use Rattle.sv_clause.specs.Units.{IsOpen}
@@ -29,3 +29,17 @@ pub record IsDraft (trail : List ℤ) (first : ℤ) (literals : List ℤ) (bound
   pub member : IsTrue (stands first literals)
   pub others : (literal : ℤ) → IsTrue (stands literal literals) → literal ≢ first → BecameFalse trail literal bound keep
   pub latest : 0 < keep → IsTrue (stands (neg_ℤ (slice_index_or trail (keep - 1) (pos 0))) literals)
+
+-- every literal of the clause but one is seen
+abbrev pub OthersSeen : List ℤ → List ℤ → ℤ → Type 0
+OthersSeen seen clause left = (literal : ℤ) → IsTrue (stands literal clause) → literal ≢ left → IsTrue (stands literal seen)
+
+-- the literal of the trail at the place is seen negated
+abbrev pub IsSeenAt : List ℤ → List ℤ → ℕ → Type 0
+IsSeenAt seen trail place = IsTrue (stands (neg_ℤ (slice_index_or trail place (pos 0))) seen)
+
+-- the places below the bound whose literals are seen negated
+pub record ArePlaces (seen trail : List ℤ) (places : List ℕ) (bound : ℕ) : Type 0 where
+  pub below : All (λ place. place < bound) places
+  pub each : All (IsSeenAt seen trail) places
+  pub every : (place : ℕ) → place < bound → IsSeenAt seen trail place → Contains places place

@@ -1,10 +1,11 @@
 pub mod Codes
 pub mod Lists
 pub mod Search
+pub mod Conflicts
 pub mod Lessons
-pub mod Scans
 pub mod Known
 pub mod Answers
-pub mod Outcomes
 pub mod Values
-pub mod Looks
+pub mod Watching
+pub mod States
+pub mod Outcomes

@@ -1,12 +1,12 @@
 // What a false clause teaches: a new clause with the chain that derives it, or the empty one.
-ghost use Rattle.std.specs.Prelude.{◌≡◌, ℕ, ◌+◌, ◌-◌, ◌<◌, ◌≤◌, ◌^◌, ◌&&◌, ◌||◌, ℤ, pos, neg_ℤ, [], ◌∷◌, ◌++◌, length, take, All, IsTrue, IfOk, IfNone, IfSome, OnOk, MatchOption, slice_index_or};
+ghost use Rattle.std.specs.Prelude.{◌≡◌, ℕ, ◌+◌, ◌-◌, ◌<◌, ◌≤◌, ◌^◌, ◌&&◌, ◌||◌, ℤ, pos, neg_ℤ, [], ◌∷◌, ◌++◌, length, take, All, AllPairs, IsTrue, IfOk, IfNone, IfSome, OnOk, MatchOption, slice_index_or};
 ghost use Rattle.std.specs.Bool.{IsFalse};
 ghost use Rattle.std.specs.Ordering.{int_eq};
 ghost use Rattle.sv_clause.specs.Literals.{stands, IsClause, SameLiterals, MakeNoClause};
 ghost use Rattle.sv_clause.specs.Units.{IsAtRest, IsNew, IsOpen};
 ghost use Rattle.sv_clause.specs.Logs.{plain_step, IsDerived, ChainGives};
 ghost use Rattle.sv_solve.specs.Codes.{IsOf};
-ghost use Rattle.sv_solve.specs.Lessons.{IsAsserting, IsDraft};
+ghost use Rattle.sv_solve.specs.Lessons.{IsAsserting, IsDraft, OthersSeen, ArePlaces};
 ghost use Rattle.sv_solve.specs.Search.{IsClauseOf, AllFalse, OthersFalse, ImpliedFrom, IsImpliedAt, Derives, HasLater, NoneSeen, SomeSeen};
 
 use crate::kept::KeptClause;
@@ -195,6 +195,7 @@ fn adds_none(clause: &[Literal], trail: &Trail, seen: &LiteralList, place: usize
     requires place { place < length trail.now.literals }
     ensures member { IsTrue result → IsTrue (stands (slice_index_or trail.now.literals place (pos 0)) clause.now) }
     ensures others { IsTrue result → OthersFalse (take place trail.now.literals) clause.now (slice_index_or trail.now.literals place (pos 0)) }
+    ensures seen { IsTrue result → OthersSeen seen.now.literals clause.now (slice_index_or trail.now.literals place (pos 0)) }
 {
     let literal = trail.at(place);
     let mut is_member = false;
@@ -221,13 +222,41 @@ fn is_redundant(clauses: &[KeptClause], trail: &Trail, seen: &LiteralList, place
     requires clauses { All (IsClauseOf trail.now.variables) clauses.now }
     requires variables { seen.now.variables ≡ trail.now.variables }
     requires place { place < length trail.now.literals }
-    ensures { IsTrue result → IsImpliedAt clauses.now trail.now place }
+    ensures implied { IsTrue result → IsImpliedAt clauses.now trail.now place }
+    ensures seen { IsTrue result → OthersSeen seen.now.literals (slice_index_or clauses.now (slice_index_or trail.now.reasons place 0 - 1) []) (slice_index_or trail.now.literals place (pos 0)) }
 {
     let number = trail.reason(place);
     if number == 0 || number > clauses.len() as u64 {
         return false;
     }
     adds_none(clauses[number as usize - 1].literals(), trail, seen, place)
+}
+
+// The places below the mark at which seen literals became false, in order.
+fn seen_places(
+    alloc: Global,
+    trail: &Trail,
+    seen: &LiteralList,
+    mark: usize,
+) -> Result<Vec<usize>, AllocError>
+    requires variables { seen.now.variables ≡ trail.now.variables }
+    requires mark { mark ≤ length trail.now.literals }
+    ensures places { IfOk result (λ places. ArePlaces seen.now.literals trail.now.literals places.items mark) }
+    ensures ascending { IfOk result (λ places. AllPairs ◌<◌ places.items) }
+{
+    let _len = trail.len();
+    let mut places: Vec<usize> = Vec::new(alloc);
+    let mut index = 0;
+    'literals: while index < seen.len() {
+        let literal = seen.at(index);
+        index += 1;
+        let Some(place) = place_below(trail, &literal, mark) else {
+            continue 'literals;
+        };
+        places.push(place)?;
+    }
+    places.sort_unstable();
+    Ok(places)
 }
 
 // The literals of a lesson, and how many literals of the trail make all but the first false.
@@ -238,46 +267,40 @@ struct Draft {
 }
 
 // Resolves on from the mark back, but only with reasons that bring no new literal, and keeps the other seen literals beside
-// the first one. It walks down the trail since a literal has to go before those that its reason brings back.
+// the first one. It goes from the last place to the first since a literal has to go before those that its reason brings back.
 fn shorten(
     alloc: Global,
     clauses: &[KeptClause],
     trail: &Trail,
-    seen: &mut LiteralList,
+    seen: &LiteralList,
     chain: &mut Vec<u64>,
     mark: usize,
     first: &Literal,
 ) -> Result<Draft, AllocError>
     requires clauses { All (IsClauseOf trail.now.variables) clauses.now }
-    requires variables { seen.old.variables ≡ trail.now.variables }
+    requires variables { seen.now.variables ≡ trail.now.variables }
     requires mark { mark ≤ length trail.now.literals }
     requires first { IsTrue (stands (neg_ℤ first.now) trail.now.literals) }
     requires open_first { IsOpen (take mark trail.now.literals) first.now }
-    requires derives { Derives clauses.now chain.old.items (first.now ∷ []) seen.old.literals trail.now.literals mark }
+    requires derives { Derives clauses.now chain.old.items (first.now ∷ []) seen.now.literals trail.now.literals mark }
     ensures derives { IfOk result (λ draft. ChainGives clauses.now chain.new.items draft.literals.items) }
     ensures draft { IfOk result (λ draft. IsDraft trail.now.literals first.now draft.literals.items 0 draft.keep mark) }
-    ensures variables { OnOk result (seen.new.variables ≡ seen.old.variables) }
 {
     let _len = trail.len();
     let mut literals: Vec<i32> = Vec::new(alloc);
     literals.push(first.signed())?;
+    let mut places = seen_places(alloc, trail, seen, mark)?;
     let mut keep = 0;
-    let mut bound = mark;
-    'back: while bound > 0 {
-        bound -= 1;
-        let literal = trail.at(bound).negated();
-        if !seen.contains(&literal) {
+    'back: while let Some(place) = places.pop() {
+        if is_redundant(clauses, trail, seen, place) {
+            chain.push(trail.reason(place))?;
             continue 'back;
         }
-        if is_redundant(clauses, trail, seen, bound) {
-            resolve_at(clauses, trail, seen, chain, bound)?;
-            continue 'back;
-        }
-        literals.push(literal.signed())?;
+        literals.push(trail.at(place).negated().signed())?;
         if keep > 0 {
             continue 'back;
         }
-        keep = bound + 1;
+        keep = place + 1;
     }
     Ok(Draft { literals, keep })
 }
@@ -337,6 +360,7 @@ pub fn learn(
     let clause = clause_of(alloc, &draft.literals)?;
     let keep = draft.keep;
     let other = last_of(trail, keep);
+    chain.shrink_to_fit();
     Ok(Lesson {
         step: Derived { clause, chain },
         first,

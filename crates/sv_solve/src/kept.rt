@@ -27,7 +27,7 @@ impl KeptClause {
         ensures value { IfOk result (λ kept. kept ≡ clause.now) }
         ensures normal { IfOk result IsClause }
     {
-        let mut literals: Vec<Literal> = Vec::new(alloc);
+        let mut literals: Vec<Literal> = Vec::with_capacity(alloc, clause.literals().len())?;
         'copy: for signed in clause.literals() {
             literals.push(Literal::from_signed(signed))?;
         }

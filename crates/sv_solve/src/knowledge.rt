@@ -98,6 +98,7 @@ impl Knowledge {
     /// The log of its steps.
     pub fn finish(self) -> Log
         ensures steps { plain_log result ≡ self.steps }
+        ensures of { All (IsClauseOf self.variables) (clauses_known self) }
         ensures derived { AllDerived self.given self.steps }
         ensures each_new { EachNew self.given self.steps }
     {

@@ -7,9 +7,9 @@ mod knowledge;
 mod lists;
 mod literal;
 mod order;
-mod scan;
 mod search;
 mod solver;
+mod state;
 mod trail;
 mod watches;
 

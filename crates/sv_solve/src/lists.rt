@@ -66,6 +66,7 @@ impl LiteralList {
         requires { place < length self.now.literals }
         ensures value { result ≡ slice_index_or self.now.literals place (pos 0) }
         ensures of { IsOf self.now.variables result }
+        ensures first { IsFalse (stands result (take place self.now.literals)) }
     {
         self.literals[place]
     }

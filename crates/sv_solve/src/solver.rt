@@ -1,21 +1,19 @@
 // The solver.
-ghost use Rattle.std.specs.Prelude.{◌≡◌, ℕ, ℤ, ◌+◌, ◌^◌, ◌<◌, ◌≤◌, List, All, IfOk, IsTrue, length};
+ghost use Rattle.std.specs.Prelude.{◌≡◌, ℕ, ℤ, ◌+◌, ◌^◌, ◌<◌, ◌≤◌, List, All, IfOk, IsTrue, length, ◌↔◌};
 ghost use Rattle.sv_clause.specs.Literals.{Satisfies};
 ghost use Rattle.sv_clause.specs.Logs.{Refutes};
 ghost use Rattle.sv_clause.specs.Units.{IsSpentLog, IsUnitConflict};
 ghost use Rattle.sv_solve.specs.Answers.{IsWithin, value_of, OnlyLastIsEmpty, AreDifferent, WhereFound, WhereRefuted, WhereSpent, IsNotSpent, IsAnswer};
 ghost use Rattle.sv_solve.specs.Values.{AreValues};
+ghost use Rattle.sv_solve.specs.Outcomes.{IsSpending};
 
 use crate::OutOfMemory;
-use crate::analysis::refute;
-use crate::knowledge::Knowledge;
 use crate::lists::LiteralList;
 use crate::literal::Literal;
 use crate::order::Order;
-use crate::scan::propagate;
 use crate::search::{Outcome, search};
+use crate::state::{Begun, State};
 use crate::trail::Trail;
-use crate::watches::Watches;
 use std::alloc::Global;
 use sv_clause::{Clause, Log};
 
@@ -46,6 +44,23 @@ fn values_under(alloc: Global, variables: u32, trail: &Trail) -> Result<Vec<bool
     Ok(values)
 }
 
+// Answers where the budget is spent: all decisions are taken back, and what is true without them is looked at once more.
+fn spend(
+    alloc: Global,
+    state: State,
+    seen: &mut LiteralList,
+    order: &mut Order,
+) -> Result<Solved, OutOfMemory>
+    requires { seen.old.variables ≡ state.known.variables }
+    ensures { IfOk result (IsSpending state.known) }
+{
+    let (state, found) = state.go_back(order, 0).propagate()?;
+    match found {
+        Some(conflict) => Ok(Solved::Refuted(state.refute(alloc, seen, conflict)?)),
+        None => Ok(Solved::Spent(state.finish())),
+    }
+}
+
 // Learns until the clauses are decided or the budget is spent.
 fn answer(
     alloc: Global,
@@ -56,35 +71,24 @@ fn answer(
     requires { All (IsWithin variables) clauses.now }
     ensures { IfOk result (IsAnswer variables clauses.now budget) }
 {
-    let mut known = Knowledge::new(alloc, variables, clauses)?;
-    let mut trail = Trail::new(alloc, known.variables())?;
-    let mut seen = LiteralList::new(alloc, known.variables())?;
-    let mut order = Order::new(alloc, known.variables())?;
-    let mut watches = Watches::new(alloc, known.variables())?;
+    let mut state = match State::new(alloc, variables, clauses)? {
+        Begun::Ready(state) => state,
+        Begun::Refuted(log) => return Ok(Solved::Refuted(log)),
+    };
+    let mut seen = LiteralList::new(alloc, state.trail().variables())?;
+    let mut order = Order::new(alloc, state.trail().variables())?;
     let mut learned = 0;
     'budget: while learned < budget {
-        match search(
-            alloc,
-            known.clauses(),
-            &mut trail,
-            &mut seen,
-            &mut order,
-            &mut watches,
-        )? {
-            Outcome::Found => return Ok(Solved::Found(values_under(alloc, variables, &trail)?)),
-            Outcome::Refuted(step) => return Ok(Solved::Refuted(known.finish_with(step)?)),
-            Outcome::Learned(step) => known = known.learn(alloc, step)?,
+        match search(alloc, state, &mut seen, &mut order)? {
+            Outcome::Found(trail) => {
+                return Ok(Solved::Found(values_under(alloc, variables, &trail)?));
+            }
+            Outcome::Refuted(log) => return Ok(Solved::Refuted(log)),
+            Outcome::Learned(next) => state = next,
         }
         learned += 1;
     }
-    trail.truncate(0);
-    match propagate(known.clauses(), &mut trail)? {
-        Some(conflict) => {
-            let step = refute(alloc, known.clauses(), &trail, &mut seen, conflict)?;
-            Ok(Solved::Refuted(known.finish_with(step)?))
-        }
-        None => Ok(Solved::Spent(known.finish())),
-    }
+    spend(alloc, state, &mut seen, &mut order)
 }
 
 /// Decides clauses over variables from 1 on, with at most `budget` learned steps.
@@ -114,7 +118,7 @@ pub fn solve(
 
 /// Whether a clause is of variables up to this one.
 pub fn is_within(variables: u32, clause: &Clause) -> bool
-    ensures { IsTrue result → IsWithin variables clause.now }
+    ensures { IsTrue result ↔ IsWithin variables clause.now }
 {
     let literals = clause.literals();
     let mut place = 0;

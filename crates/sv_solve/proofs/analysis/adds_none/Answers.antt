@@ -1,5 +1,6 @@
 use Rattle.std.proofs.Common.{◌<◌, length, arith, subst, sym, ap, ◌∙◌, ⊎_elim, pos, neg_ℤ}
 use Rattle.std.proofs.lemmas.List.{get_or_read}
+use Rattle.sv_clause.specs.Literals.{stands}
 use Rattle.sv_solve.specs.Codes.{IsOf}
 use Rattle.sv_solve.proofs.Clauses.{of_at}
 use Rattle.sv_solve.proofs.Places.{stands_more_cases}
@@ -30,5 +31,8 @@ literals-preserved c =
       c.literals.invariant.1,
       λ l e ne. ⊎_elim (λ older. c.literals.invariant.2 l older ne)
           (λ same. stands_before trail c.in-Some._before place (neg_ℤ l) c.in-Some.ensures.some.0 (omega arith) (c.in-Some.ensures.some.1 ∙ ap neg_ℤ (is ∙ sym same)))
+          (stands_more_cases l clause c.literals.index small e),
+      λ l e ne. ⊎_elim (λ older. c.literals.invariant.3 l older ne)
+          (λ same. ap (λ z. stands z c.args.seen.now.literals) (same ∙ sym is) ∙ sym c.if-not-contains.ensures)
           (stands_more_cases l clause c.literals.index small e),
     )

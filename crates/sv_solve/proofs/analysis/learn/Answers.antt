@@ -1,5 +1,6 @@
 use Rattle.std.proofs.Common.{◌≡◌, ◌≤◌, length, sym, ap, ◌∙◌, subst, [], ◌∷◌, ◌+◌, get_or, pos, neg_ℤ, take, true, arith}
 use Rattle.sv_clause.specs.Literals.{stands, SameLiterals, MakeNoClause}
+use Rattle.sv_clause.specs.Logs.{ChainGives}
 use Rattle.sv_clause.specs.Units.{IsOpen}
 use Rattle.sv_clause.proofs.Merging.{neg-neg}
 use Rattle.sv_solve.specs.Codes.{IsOf}
@@ -82,7 +83,8 @@ drafted c =
 pub returns-clause-derived : goal.returns-clause-derived
 returns-clause-derived c =
     let s = same (goal.at.returns-clause-derived c).In_ok-clause in
-    chain_like c.args.clauses.now c.shorten.new.chain.items c.in_ok-draft.draft.literals.items c.in_ok-clause.clause (λ l. sym (s l)) c.in_ok-draft.ensures.derives
+    subst (λ chain. ChainGives c.args.clauses.now chain c.in_ok-clause.clause) (sym c.shrink_to_fit.ensures.items)
+    (chain_like c.args.clauses.now c.shorten.new.chain.items c.in_ok-draft.draft.literals.items c.in_ok-clause.clause (λ l. sym (s l)) c.in_ok-draft.ensures.derives)
 
 pub returns-clause-new : goal.returns-clause-new
 returns-clause-new c =

@@ -1,0 +1,375 @@
+// The state of the search: what is known, what is true, and where to look for what follows.
+ghost use Rattle.std.specs.Prelude.{◌≡◌, ℕ, ◌+◌, ◌*◌, ◌<◌, ◌≤◌, ◌^◌, [], ◌∷◌, ◌++◌, length, take, All, AllPairs, IsTrue, IfOk, OnOk, IfSome, IfNone, MatchOption, min, slice_index_or};
+ghost use Rattle.std.specs.Bool.{IsFalse};
+ghost use Rattle.sv_clause.specs.Literals.{IsClause};
+ghost use Rattle.sv_clause.specs.Logs.{plain_step, IsDerived};
+ghost use Rattle.sv_clause.specs.Units.{IsAtRest, IsNew, IsOpen};
+ghost use Rattle.sv_solve.specs.Codes.{IsOf};
+ghost use Rattle.sv_solve.specs.Search.{IsClauseOf, ImpliedFrom};
+ghost use Rattle.sv_solve.specs.Lessons.{IsAsserting};
+ghost use Rattle.sv_solve.specs.Watching.{IsListed, IsPairOf, IsFitting, UnitsTrue};
+ghost use Rattle.sv_solve.specs.Conflicts.{IsConflict};
+ghost use Rattle.sv_solve.specs.Known.{clauses_known};
+ghost use Rattle.sv_solve.specs.Answers.{IsWithin};
+ghost use Rattle.sv_solve.specs.Outcomes.{IsBegun, IsRefutation, IsSpent};
+
+use crate::analysis::{Lesson, learn, refute};
+use crate::kept::KeptClause;
+use crate::knowledge::Knowledge;
+use crate::lists::LiteralList;
+use crate::literal::Literal;
+use crate::order::Order;
+use crate::trail::Trail;
+use crate::watches::{Pair, Watches};
+use std::alloc::{AllocError, Global};
+use std::marker::Model;
+use sv_clause::{Clause, Log};
+
+/// The clauses that are known, the trail with the places of its decisions, and the watched literals.
+#[derive(Drop)]
+pub struct State {
+    known: Knowledge,
+    trail: Trail,
+    decisions: Vec<usize>,
+    watches: Watches,
+    propagated: usize,
+}
+
+impl Model for State {
+    ghost use Rattle.sv_solve.specs.States.{Searching, IsSearching};
+
+    ghost Value = { Searching };
+
+    ghost view = { λ s. record { known = s.known; trail = s.trail; decisions = s.decisions.items; propagated = s.propagated } };
+
+    ghost invariant = { λ s. IsSearching s.known s.trail s.decisions.items s.watches s.propagated };
+}
+
+/// How a search begins.
+#[derive(Drop)]
+pub enum Begun {
+    /// No clause is empty, and the literal of each clause of one literal is true.
+    Ready(State),
+    /// A clause is empty, or two of one literal contradict each other.
+    Refuted(Log),
+}
+
+// The first two literals of a clause, if it has two.
+fn first_pair(clause: &[Literal]) -> Option<Pair>
+    requires { IsClause clause.now }
+    ensures { IsPairOf clause.now result }
+{
+    if clause.len() < 2 {
+        return None;
+    }
+    Some(Pair {
+        one: clause[0],
+        other: clause[1],
+    })
+}
+
+// The pair that a learned clause watches: the literal that is left, and of its others the one that became false last.
+fn pair_of(first: Literal, other: Option<Literal>) -> Option<Pair>
+    ensures { MatchOption other (result ≡ None) (λ literal. result ≡ Some (record { one = first; other = literal })) }
+{
+    other.map(|other| Pair { one: first, other })
+}
+
+// Watches two literals of each clause.
+fn attach_all(watches: &mut Watches, clauses: &[KeptClause]) -> Result<(), AllocError>
+    requires clauses { All (IsClauseOf watches.old.variables) clauses.now }
+    requires empty { watches.old.pairs ≡ [] }
+    requires listed { IsListed watches.old }
+    ensures fitting { OnOk result (IsFitting clauses.now watches.new.pairs) }
+    ensures listed { OnOk result (IsListed watches.new) }
+    ensures variables { OnOk result (watches.new.variables ≡ watches.old.variables) }
+{
+    'clauses: for clause in clauses {
+        watches.attach(first_pair(clause.literals()))?;
+    }
+    Ok(())
+}
+
+// Makes the literal of each clause of one literal true: gives the place of a clause that is false, if there is one.
+fn assume_units(clauses: &[KeptClause], trail: &mut Trail) -> Result<Option<usize>, AllocError>
+    requires clauses { All (IsClauseOf trail.old.variables) clauses.now }
+    requires empty { trail.old.literals ≡ [] }
+    ensures conflict { IfOk result (λ found. IfSome found (IsConflict clauses.now trail.new.literals)) }
+    ensures units { IfOk result (λ found. IfNone found (UnitsTrue clauses.now trail.new.literals)) }
+    ensures implied { OnOk result (ImpliedFrom clauses.now trail.new 0) }
+    ensures variables { OnOk result (trail.new.variables ≡ trail.old.variables) }
+{
+    let mut place = 0;
+    'clauses: while place < clauses.len() {
+        let clause = clauses[place].literals();
+        place += 1;
+        if clause.len() >= 2 {
+            continue 'clauses;
+        }
+        if clause.len() == 0 || trail.contains(&clause[0].negated()) {
+            return Ok(Some(place - 1));
+        }
+        if trail.contains(&clause[0]) {
+            continue 'clauses;
+        }
+        trail.push(&clause[0], place as u64)?;
+    }
+    Ok(None)
+}
+
+// Which decision is the first from a place of the trail on.
+fn first_from(decisions: &[usize], keep: usize) -> usize
+    requires { AllPairs ◌<◌ decisions.now }
+    ensures within { result ≤ length decisions.now }
+    ensures below { All (λ decision. decision < keep) (take result decisions.now) }
+    ensures from { result < length decisions.now → keep ≤ slice_index_or decisions.now result 0 }
+{
+    let mut first = decisions.len();
+    'decisions: while first > 0 {
+        if decisions[first - 1] < keep {
+            return first;
+        }
+        first -= 1;
+    }
+    first
+}
+
+impl State {
+    /// The state before any decision, where the literals of the clauses of one literal are true.
+    pub fn new(alloc: Global, variables: u32, clauses: &[Clause]) -> Result<Begun, AllocError>
+        requires { All (IsWithin variables) clauses.now }
+        ensures { IfOk result (IsBegun (min variables 2147483647) clauses.now) }
+    {
+        let known = Knowledge::new(alloc, variables, clauses)?;
+        let mut trail = Trail::new(alloc, known.variables())?;
+        let mut watches = Watches::new(alloc, known.variables())?;
+        attach_all(&mut watches, known.clauses())?;
+        if let Some(conflict) = assume_units(known.clauses(), &mut trail)? {
+            let mut seen = LiteralList::new(alloc, known.variables())?;
+            let step = refute(alloc, known.clauses(), &trail, &mut seen, conflict)?;
+            return Ok(Begun::Refuted(known.finish_with(step)?));
+        }
+        Ok(Begun::Ready(State {
+            known,
+            trail,
+            decisions: Vec::new(alloc),
+            watches,
+            propagated: 0,
+        }))
+    }
+
+    /// The literals that are true.
+    pub fn trail(&self) -> &Trail
+        ensures value { result.now ≡ self.now.trail }
+        ensures small { self.now.trail.variables < 2 ^ 31 }
+        ensures room { length self.now.trail.literals ≤ 2 * self.now.known.variables + 2 }
+        ensures variables { self.now.trail.variables ≡ self.now.known.variables }
+        ensures clauses { All (IsClauseOf self.now.known.variables) (clauses_known self.now.known) }
+        ensures rest { self.now.propagated ≡ length self.now.trail.literals → IsAtRest (clauses_known self.now.known) self.now.trail.literals }
+    {
+        let _len = self.trail.len();
+        let _clauses = self.known.clauses();
+        &self.trail
+    }
+
+    /// Whether a decision is there.
+    pub fn has_decided(&self) -> bool
+        ensures some { IsTrue result → 0 < length self.now.decisions }
+        ensures none { IsFalse result → self.now.decisions ≡ [] }
+    {
+        self.decisions.len() > 0
+    }
+
+    /// Propagates until all true literals are, or a clause is false: gives its place.
+    pub fn propagate(self) -> Result<(State, Option<usize>), AllocError>
+        ensures known { IfOk result (λ pair. pair.0.known ≡ self.known) }
+        ensures decisions { IfOk result (λ pair. pair.0.decisions ≡ self.decisions) }
+        ensures older { IfOk result (λ pair. take (length self.trail.literals) pair.0.trail.literals ≡ self.trail.literals) }
+        ensures longer { IfOk result (λ pair. length self.trail.literals ≤ length pair.0.trail.literals) }
+        ensures rest { IfOk result (λ pair. IfNone pair.1 (pair.0.propagated ≡ length pair.0.trail.literals)) }
+        ensures conflict { IfOk result (λ pair. IfSome pair.1 (IsConflict (clauses_known self.known) pair.0.trail.literals)) }
+    {
+        let State {
+            known,
+            mut trail,
+            decisions,
+            mut watches,
+            propagated,
+        } = self;
+        let conflict = watches.propagate(known.clauses(), &mut trail, propagated)?;
+        let propagated = if conflict.is_some() {
+            propagated
+        } else {
+            trail.len()
+        };
+        let state = State {
+            known,
+            trail,
+            decisions,
+            watches,
+            propagated,
+        };
+        Ok((state, conflict))
+    }
+
+    /// Makes an open literal true by a decision.
+    pub fn decide(self, literal: &Literal) -> Result<State, AllocError>
+        requires of { IsOf self.trail.variables literal.now }
+        requires new { IsOpen self.trail.literals literal.now }
+        requires propagated { self.propagated ≡ length self.trail.literals }
+        ensures known { IfOk result (λ state. state.known ≡ self.known) }
+        ensures literals { IfOk result (λ state. state.trail.literals ≡ self.trail.literals ++ literal.now ∷ []) }
+        ensures decisions { IfOk result (λ state. state.decisions ≡ self.decisions ++ length self.trail.literals ∷ []) }
+    {
+        let State {
+            known,
+            mut trail,
+            mut decisions,
+            watches,
+            propagated,
+        } = self;
+        decisions.push(trail.len())?;
+        trail.push(literal, 0)?;
+        Ok(State {
+            known,
+            trail,
+            decisions,
+            watches,
+            propagated,
+        })
+    }
+
+    /// Takes the decisions from a place of the trail on back, and what follows from them.
+    pub fn go_back(self, order: &mut Order, keep: usize) -> State
+        requires { keep ≤ length self.trail.literals }
+        ensures known { result.known ≡ self.known }
+        ensures trail_variables { result.trail.variables ≡ self.trail.variables }
+        ensures older { result.trail.literals ≡ take (length result.trail.literals) self.trail.literals }
+        ensures keeps { keep ≤ length result.trail.literals }
+        ensures goes { All (λ decision. keep ≤ decision → length result.trail.literals ≤ decision) self.decisions }
+        ensures decisions { All (λ decision. decision < keep) result.decisions }
+    {
+        let first = first_from(&self.decisions, keep);
+        if first == self.decisions.len() {
+            return self;
+        }
+        let State {
+            known,
+            mut trail,
+            mut decisions,
+            watches,
+            propagated,
+        } = self;
+        let back = decisions[first];
+        decisions.truncate(first);
+        order.take_back(&trail, back);
+        trail.truncate(back);
+        State {
+            known,
+            trail,
+            decisions,
+            watches,
+            propagated: propagated.min(back),
+        }
+    }
+
+    // Takes up a new clause, and makes the literal true that is left of it.
+    fn take_up(self, alloc: Global, lesson: Lesson) -> Result<State, AllocError>
+        requires derived { IsDerived (clauses_known self.known) (plain_step lesson.step) }
+        requires new { IsNew (clauses_known self.known) lesson.step.clause }
+        requires of { IsClauseOf self.known.variables lesson.step.clause }
+        requires asserting { IsAsserting self.trail.literals (length self.trail.literals) lesson.step.clause lesson.first lesson.other lesson.keep }
+        requires decisions { All (λ decision. decision < lesson.keep) self.decisions }
+        ensures given { IfOk result (λ state. state.known.given ≡ self.known.given) }
+        ensures steps { IfOk result (λ state. length state.known.steps ≡ length self.known.steps + 1) }
+        ensures variables { IfOk result (λ state. state.known.variables ≡ self.known.variables) }
+    {
+        let State {
+            known,
+            mut trail,
+            decisions,
+            mut watches,
+            propagated,
+        } = self;
+        let Lesson {
+            step,
+            first,
+            other,
+            ..
+        } = lesson;
+        watches.attach(pair_of(first, other))?;
+        let known = known.learn(alloc, step)?;
+        trail.push(&first, known.clauses().len() as u64)?;
+        Ok(State {
+            known,
+            trail,
+            decisions,
+            watches,
+            propagated,
+        })
+    }
+
+    /// Learns from a false clause, and goes back to where what it learned makes a literal true.
+    pub fn learn(
+        self,
+        alloc: Global,
+        seen: &mut LiteralList,
+        order: &mut Order,
+        conflict: usize,
+    ) -> Result<State, AllocError>
+        requires decided { 0 < length self.decisions }
+        requires conflict { IsConflict (clauses_known self.known) self.trail.literals conflict }
+        requires variables { seen.old.variables ≡ self.known.variables }
+        ensures given { IfOk result (λ state. state.known.given ≡ self.known.given) }
+        ensures steps { IfOk result (λ state. length state.known.steps ≡ length self.known.steps + 1) }
+        ensures variables { IfOk result (λ state. state.known.variables ≡ self.known.variables) }
+        ensures seen { OnOk result (seen.new.variables ≡ seen.old.variables) }
+    {
+        let mark = self.decisions[self.decisions.len() - 1];
+        let lesson = learn(
+            alloc,
+            self.known.clauses(),
+            &self.trail,
+            seen,
+            conflict,
+            mark,
+        )?;
+        order.note(seen);
+        self.go_back(order, lesson.keep).take_up(alloc, lesson)
+    }
+
+    /// The log that refutes the clauses, where one is false and nothing was decided.
+    pub fn refute(
+        self,
+        alloc: Global,
+        seen: &mut LiteralList,
+        conflict: usize,
+    ) -> Result<Log, AllocError>
+        requires decided { self.decisions ≡ [] }
+        requires conflict { IsConflict (clauses_known self.known) self.trail.literals conflict }
+        requires variables { seen.old.variables ≡ self.known.variables }
+        ensures refutation { IfOk result (IsRefutation self.known) }
+        ensures variables { OnOk result (seen.new.variables ≡ seen.old.variables) }
+    {
+        let State { known, trail, .. } = self;
+        let step = refute(alloc, known.clauses(), &trail, seen, conflict)?;
+        known.finish_with(step)
+    }
+
+    /// The trail.
+    pub fn into_trail(self) -> Trail
+        ensures { result ≡ self.trail }
+    {
+        self.trail
+    }
+
+    /// The log of all that was learned, where all clauses are at rest.
+    pub fn finish(self) -> Log
+        requires { self.propagated ≡ length self.trail.literals }
+        ensures { IsSpent self.known result }
+    {
+        let State { known, trail, .. } = self;
+        let _len = trail.len();
+        known.finish()
+    }
+}

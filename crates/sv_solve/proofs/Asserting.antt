@@ -1,5 +1,5 @@
 -- A lesson has one literal left once the newest decision is taken back.
-use Rattle.std.proofs.Common.{◌≡◌, ℕ, ◌-◌, ◌<◌, ◌≤◌, ℤ, pos, neg_ℤ, List, sym, ap, ◌∙◌, length, take, get_or, arith, Option, Some, None, false}
+use Rattle.std.proofs.Common.{◌≡◌, ℕ, ◌-◌, ◌<◌, ◌≤◌, ℤ, pos, neg_ℤ, List, sym, ap, ◌∙◌, length, take, get_or, arith, Option, Some, None}
 use Rattle.std.specs.Prelude.{MatchOption}
 use Rattle.std.proofs.lemmas.Bool.{false≢true}
 use Rattle.sv_clause.specs.Literals.{stands, IsClause}
@@ -58,7 +58,3 @@ module _ (trail clause : List ℤ) (first : ℤ) (other : Option ℤ) (mark keep
   -- so the clause makes the first literal true there
   pub asserting_implies : (clauses : List (List ℤ)) (number n : ℕ) → keep ≤ n → numbered clauses number ≡ Some clause → Implies clauses number (take n trail) first
   asserting_implies clauses number n le is = record { clause = clause; is = is; member = a.member; others = asserting_others n le }
-
--- the latest other literal is not false before
-pub asserting_not_yet : (trail clause : List ℤ) (first other : ℤ) (mark keep n : ℕ) → IsAsserting trail mark clause first (Some other) keep → n < keep → stands (neg_ℤ other) (take n trail) ≡ false
-asserting_not_yet trail clause first other mark keep n a below = not_stands_take_le (neg_ℤ other) trail n (keep - 1) (omega arith) a.latest.3

@@ -1,13 +1,13 @@
 -- Literals of clauses, and where clauses stand.
-use Rattle.std.proofs.Common.{◌≡◌, ◌≢◌, ℕ, zero, suc, ◌+◌, ◌-◌, ◌<◌, ◌≤◌, ◌^◌, true, false, ℤ, pos, neg_ℤ, unsigned_abs, List, [], ◌∷◌, refl, sym, ap, ◌∙◌, subst, inl, inr, ⊎_elim, length, get_or, arith, Some, slice_get, add-one}
+use Rattle.std.proofs.Common.{◌≡◌, ◌≢◌, ℕ, zero, suc, ◌+◌, ◌-◌, ◌<◌, ◌≤◌, ◌^◌, true, ℤ, pos, neg_ℤ, unsigned_abs, List, [], ◌∷◌, refl, sym, ap, ◌∙◌, subst, ⊎_elim, length, get_or, arith, Some, slice_get, add-one}
 use Rattle.std.proofs.lemmas.List.{get_or_default}
-use Rattle.std.proofs.lemmas.Bool.{cases_Bool, cases_order, cases_lt}
+use Rattle.std.proofs.lemmas.Bool.{cases_order, cases_lt}
 use Rattle.sv_clause.specs.Literals.{stands, Ascend, IsClause}
 use Rattle.sv_clause.specs.Logs.{numbered}
 use Rattle.sv_clause.proofs.Standing.{cases_int}
 use Rattle.sv_clause.proofs.Merging.{above, not_own_negation, unsigned_abs-neg}
 use Rattle.sv_solve.specs.Codes.{IsOf}
-use Rattle.sv_solve.specs.Search.{IsClauseOf, AllFalse, OthersFalse, IsSettled, Implies}
+use Rattle.sv_solve.specs.Search.{IsClauseOf, AllFalse, OthersFalse, Implies}
 use Rattle.sv_solve.proofs.Places.{place_of, stands_at}
 
 ascend_at : (m : ℕ) (xs : List ℤ) (i : ℕ) → Ascend m xs → i < length xs → (m < unsigned_abs (get_or xs i (pos 0))) × (unsigned_abs (get_or xs i (pos 0)) < 2 ^ 31)
@@ -76,28 +76,6 @@ FalseBetween clause literals from to = (i : ℕ) → from ≤ i → i < to → s
 
 pub all_false : (clause literals : List ℤ) → FalseBetween clause literals 0 (length clause) → AllFalse literals clause
 all_false clause literals f l e = let p = place_of l clause e in subst (λ z. stands (neg_ℤ z) literals ≡ true) p.2 (f p.0 (omega arith) p.1)
-
-pub others_false : (clause literals : List ℤ) (first : ℕ) → FalseBetween clause literals 0 first → FalseBetween clause literals (first + 1) (length clause) → OthersFalse literals clause (get_or clause first (pos 0))
-others_false clause literals first f g l e ne =
-    let p = place_of l clause e in
-    let small : p.0 < length clause = p.1 in
-    ⊎_elim (λ same. absurd (ne (sym p.2 ∙ ap (λ z. get_or clause z (pos 0)) same)))
-    (λ other. ⊎_elim (λ lt. subst (λ z. stands (neg_ℤ z) literals ≡ true) p.2 (f p.0 (omega arith) lt)) (λ gt. subst (λ z. stands (neg_ℤ z) literals ≡ true) p.2 (g p.0 (omega arith) small)) other)
-    (cases_order p.0 first)
-
-pub settled_one : (clause literals : List ℤ) (i : ℕ) → i < length clause → stands (get_or clause i (pos 0)) literals ≡ true → IsSettled literals clause
-settled_one clause literals i h e = inl (get_or clause i (pos 0), stands_at clause i h, e)
-
-pub settled_two : (clause literals : List ℤ) (i j : ℕ) → IsClause clause → i < j → j < length clause
-    → stands (get_or clause i (pos 0)) literals ≡ false → stands (neg_ℤ (get_or clause i (pos 0))) literals ≡ false
-    → stands (neg_ℤ (get_or clause j (pos 0))) literals ≡ false → IsSettled literals clause
-settled_two clause literals i j up lt h a b d =
-    let x = get_or clause i (pos 0) in
-    let y = get_or clause j (pos 0) in
-    let apart : unsigned_abs x < unsigned_abs y = ascend_apart 0 clause i j up lt h in
-    ⊎_elim (λ one. settled_one clause literals j h one)
-    (λ none. inr (x, y, (λ e. let same : unsigned_abs x ≡ unsigned_abs y = ap unsigned_abs e in absurd (omega arith)), stands_at clause i (omega arith), stands_at clause j h, (a, b), (none, d)))
-    (cases_Bool (stands y literals))
 
 pub slice_get_at : {X : Type 0} (xs : List X) (i : ℕ) (d : X) → i < length xs → slice_get xs i ≡ Some (get_or xs i d)
 slice_get_at [] i d h = absurd (omega arith)

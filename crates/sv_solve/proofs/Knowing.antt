@@ -53,15 +53,6 @@ known_learn known next kept now step k given steps variables is derived new of =
       each_new = subst (λ z. EachNew next.given z) (sym steps) (subst (λ z. EachNew z (known.steps ++ step ∷ [])) (sym given) (each_new_push known.given known.steps step k.each_new new));
     }
 
-pub known_none : (known : Known) (kept : List (List ℤ)) → known.steps ≡ [] → kept ≡ known.given → All (IsClauseOf known.variables) kept → IsKnown known kept
-known_none known kept none is of =
-    record {
-      kept_is = is ∙ sym (append-nil known.given) ∙ ap (λ z. known.given ++ clauses_of z) (sym none);
-      of = of;
-      derived = subst (AllDerived known.given) (sym none) tt;
-      each_new = λ i s e. let past : slice_get [] i ≡ Some s = ap (λ z. slice_get z i) (sym none) ∙ e in absurd (let r = get_at [] i s past in omega (arith, r.0));
-    }
-
 -- a new clause has a literal
 new_not_empty : (clauses : List (List ℤ)) (clause : List ℤ) → IsNew clauses clause → clause ≢ []
 new_not_empty clauses clause (literals, left, n) e = false≢true (subst (λ z. stands left z ≡ true) e n.member)
@@ -167,13 +158,6 @@ pub only_last_empty : (given : List (List ℤ)) (steps : List Step) (step : Step
 only_last_empty given steps step each =
     let size : length (steps ++ step ∷ []) ≡ length steps + 1 = length_push steps step in
     subst (All (λ s. s.clause ≢ [])) (sym (take_at steps (step ∷ []) (length (steps ++ step ∷ []) - 1) (omega arith))) (steps_not_empty given steps each)
-
--- the log of a refutation
-pub refuted_answer : (given : List (List ℤ)) (steps log : List Step) (step : Step) (budget : ℕ) → log ≡ steps ++ step ∷ [] → length steps ≤ budget → AllDerived given steps → EachNew given steps
-    → IsDerived (given ++ clauses_of steps) step → step.clause ≡ [] → Refutes given log × OnlyLastIsEmpty log × (length log ≤ budget + 1)
-refuted_answer given steps log step budget is small derived each last empty =
-    let P : List Step → Type 0 = λ z. Refutes given z × OnlyLastIsEmpty z × (length z ≤ budget + 1) in
-    subst P (sym is) (refutation given steps step derived last empty, only_last_empty given steps step each, (let size : length (steps ++ step ∷ []) ≡ length steps + 1 = length_push steps step in omega arith))
 
 all_suffix : {X : Type 0} (P : X → Type 0) (xs ys : List X) → All P (xs ++ ys) → All P ys
 all_suffix P xs ys all k d h =

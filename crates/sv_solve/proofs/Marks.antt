@@ -123,7 +123,3 @@ marked_pop literals before marks places variables l k m is at =
           omega (arith, m.room);
       placed = placed_pop before places l (subst (λ z. ArePlaced z places) is m.placed);
     }
-
--- the place of the last literal of a list whose literals are each new
-pub pop_shorter : (literals before : List ℤ) (l : ℤ) → literals ≡ before ++ l ∷ [] → length before + 1 ≡ length literals
-pop_shorter literals before l is = sym (ap length is ∙ length_push before l)

@@ -4,11 +4,11 @@ use Rattle.std.specs.Prelude.{All}
 use Rattle.std.proofs.lemmas.Bool.{false≢true, false_from_ne_true, cases_order}
 use Rattle.std.proofs.lemmas.List.{get_or-set_same, get_or-set_other, get_or_append_left, take-append-le, get_or_push, take_at, length_push, take-take, get_or-take, length-take-le}
 use Rattle.sv_clause.specs.Literals.{stands}
-use Rattle.sv_clause.specs.Units.{IsOpen, IsAtRest}
+use Rattle.sv_clause.specs.Units.{IsAtRest}
 use Rattle.sv_clause.proofs.Merging.{neg-neg, not_own_negation}
 use Rattle.sv_solve.specs.Lists.{Assigned, EachOpen}
 use Rattle.sv_solve.specs.Search.{IsSettled, Implies, ImpliedFrom, IsConsistent}
-use Rattle.sv_solve.proofs.Places.{place_of, stands_is, stands_take}
+use Rattle.sv_solve.proofs.Places.{place_of, stands_is}
 
 -- what stands at an earlier place stands among the literals before a later one
 pub stands_before : (xs : List ℤ) (i j : ℕ) (l : ℤ) → i < j → j ≤ length xs → get_or xs i (pos 0) ≡ l → stands l (take j xs) ≡ true
@@ -29,31 +29,12 @@ consistent_from xs o some l e =
     other)
     (cases_order p.0 q.0))
 
-pub consistent_take : (xs : List ℤ) (n : ℕ) → IsConsistent xs → IsConsistent (take n xs)
-consistent_take xs n c l e = false_from_ne_true (stands (neg_ℤ l) (take n xs)) (λ f. false≢true (sym (c l (stands_take l xs n e)) ∙ stands_take (neg_ℤ l) xs n f))
-
-pub each_open_push : (xs now : List ℤ) (l : ℤ) → EachOpen xs → IsOpen xs l → now ≡ xs ++ l ∷ [] → EachOpen now
-each_open_push xs now l o new is =
-    subst EachOpen (sym is)
-    (λ i h. let size : length (xs ++ l ∷ []) ≡ length xs + 1 = length_push xs l in
-    ⊎_elim
-    (λ last. subst (λ z. IsOpen (take i (xs ++ l ∷ [])) z) (sym (get_or_push xs l (pos 0) i (sym last))) (subst (λ z. IsOpen z l) (sym (take_at xs (l ∷ []) i (sym last))) new))
-    (λ other. let below : i < length xs = ⊎_elim (λ lt. lt) (λ gt. absurd (omega arith)) other in
-    subst (λ z. IsOpen (take i (xs ++ l ∷ [])) z) (sym (get_or_append_left xs (l ∷ []) (pos 0) i below)) (subst (λ z. IsOpen z (get_or xs i (pos 0))) (sym (take-append-le i xs (l ∷ []) (omega arith))) (o i below)))
-    (cases_order i (length xs)))
-
 pub at_rest : (clauses : List (List ℤ)) (literals : List ℤ) → IsConsistent literals → All (IsSettled literals) clauses → IsAtRest clauses literals
 at_rest clauses literals c all = record { consistent = c; each = all }
 
 -- a trail that goes on from one that goes on
 pub older_more : (first cur new : List ℤ) → take (length first) cur ≡ first → take (length cur) new ≡ cur → length first ≤ length cur → take (length first) new ≡ first
 older_more first cur new e f h = sym (take-take (length first) (length cur) new h) ∙ ap (take (length first)) f ∙ e
-
--- what a trail was before a decision
-pub back_to : (old new pushed : List ℤ) (l : ℤ) (mark : ℕ) → pushed ≡ old ++ l ∷ [] → take (length pushed) new ≡ pushed → mark ≡ length old → take mark new ≡ old
-back_to old new pushed l mark is older at =
-    let longer : length pushed ≡ length old + 1 = ap length is ∙ length_push old l in
-    sym (take-take mark (length pushed) new (omega arith)) ∙ ap (take mark) (older ∙ is) ∙ take_at old (l ∷ []) mark (sym at)
 
 module _ (clauses : List (List ℤ)) where
   implied_at : (reasons reasons' : List ℕ) (xs xs' : List ℤ) (i : ℕ) → get_or reasons' i 0 ≡ get_or reasons i 0 → take i xs' ≡ take i xs → get_or xs' i (pos 0) ≡ get_or xs i (pos 0)

@@ -157,11 +157,6 @@ listed_from_times : (w : Watching) → length w.lists ≡ 2 * w.variables + 2
 unfolding times
 listed_from_times w size counted = record { size = size; counted = counted }
 
--- the lists of no clauses
-pub listed_none : (w : Watching) → length w.lists ≡ 2 * w.variables + 2 → w.pairs ≡ [] → ((code : ℕ) → get_or w.lists code [] ≡ []) → IsListed w
-listed_none w size none empty =
-    listed_from_times w size (λ code place h. ap (times place) (empty code) ∙ times-nil place ∙ sym (ap (λ z. times_watched (pair_at z place) code) none))
-
 some_of : (o : Option Pair) (code : ℕ) → 0 < times_watched o code → (P : Pair → Type 0) → IfSome o P → (was : Pair) × (o ≡ Some was) × P was
 some_of None code h P p = absurd (omega arith)
 some_of (Some pair) code h P p = (pair, refl, p)

@@ -1,17 +1,16 @@
-//! The trees of source texts, and what they mean.
+//! The trees of source texts, in the form that the grammar gives them.
 //!
-//! A contract sees a tree by its plain form, as `module_tree` of `specs/Tree.antt` gives it. What a text means as a design is a
-//! cycle system (`specs/Meaning.antt`); which texts are read so far is said in `specs/Form.antt` and `specs/Spelling.antt`.
-//! What follows for them is stated in `src/laws.rt`: one trace, noninterference, and that zeros show a leak.
+//! A contract sees a tree by its plain form, as the functions of `specs/Tree.antt` give it: lists of bytes stand for names and
+//! lists for vectors. `specs/Shape.antt` says which trees a text can have.
 #![tactic(auto)]
 
-mod expression;
-mod laws;
-mod module;
+mod declarations;
+mod expressions;
+mod modules;
+mod statements;
 
-pub use expression::Expr;
-pub use laws::{
-    first_form_has_one_trace, flowing_form_is_noninterferent, flows_by_declared_pairs,
-    leak_falsifies_its_obligation,
-};
-pub use module::{Decl, DeclKind, Item, Module, Point, Stmt};
+pub use declarations::{Decl, DeclKind, LabelText, MemLabel, Memory, Param, Span};
+pub use expressions::Expr;
+pub use modules::{Instance, Item, LatticeText, Links, MapText, Module, Overrides, Text};
+pub use statements::{Arm, Select, Stmt, Target};
+pub use std::alloc::AllocError as OutOfMemory;

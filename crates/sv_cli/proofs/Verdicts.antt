@@ -5,19 +5,19 @@ use Rattle.std.specs.List.{list_all, find}
 use Rattle.std.proofs.lemmas.Bool.{and_parts, both_ways, cases_order}
 use Rattle.std.specs.Prelude.{Result, Ok, Err, IfOk, IfSome}
 use Rattle.std.specs.declared.alloc.AllocError.{AllocError}
-use Rattle.sv_ast.specs.declared.module.Module.{Module}
-use Rattle.sv_ast.specs.Tree.{ModuleTree, module_tree}
-use Rattle.sv_ast.specs.Meaning.{label_of, flows, signals, is_input, is_register}
-use Rattle.sv_ast.specs.Form.{is_first_form}
-use Rattle.sv_ast.specs.Spelling.{Means}
-use Rattle.sv_ast.specs.Obligations.{Obligation, Values, obligations, flow_holds, Falsifies, zeros}
-use Rattle.sv_ast.proofs.OneTrace.{first_form_one_trace}
-use Rattle.sv_ast.proofs.Flow.{flowing_form_noninterferent}
-use Rattle.sv_ast.proofs.Leak.{leak_falsifies}
-use Rattle.sv_flow.specs.declared.leak.Leak.{Leak}
-use Rattle.sv_flow.specs.declared.leak.Finding.{Finding}
-use Rattle.sv_flow.specs.declared.leak.Finding.TheVariants.{Holds, Leaks}
-use Rattle.sv_flow.specs.Leak.{IsFirstLeak, IsFinding}
+use Rattle.sv_first_ast.specs.declared.module.Module.{Module}
+use Rattle.sv_first_ast.specs.Tree.{ModuleTree, module_tree}
+use Rattle.sv_first_ast.specs.Meaning.{label_of, flows, signals, is_input, is_register}
+use Rattle.sv_first_ast.specs.Form.{is_first_form}
+use Rattle.sv_first_ast.specs.Spelling.{Means}
+use Rattle.sv_first_ast.specs.Obligations.{Obligation, Values, obligations, flow_holds, Falsifies, zeros}
+use Rattle.sv_first_ast.proofs.OneTrace.{first_form_one_trace}
+use Rattle.sv_first_ast.proofs.Flow.{flowing_form_noninterferent}
+use Rattle.sv_first_ast.proofs.Leak.{leak_falsifies}
+use Rattle.sv_first_flow.specs.declared.leak.Leak.{Leak}
+use Rattle.sv_first_flow.specs.declared.leak.Finding.{Finding}
+use Rattle.sv_first_flow.specs.declared.leak.Finding.TheVariants.{Holds, Leaks}
+use Rattle.sv_first_flow.specs.Leak.{IsFirstLeak, IsFinding}
 use Rattle.sv_cli.specs.declared.report.Report.{Report}
 use Rattle.sv_cli.specs.declared.outcome.Outcome.{Outcome}
 use Rattle.sv_cli.specs.declared.outcome.Outcome.TheVariants.{Done}

@@ -3,11 +3,11 @@ use Rattle.std.specs.Prelude.{◌≡◌, ℕ, ◌+◌, ◌<◌, ◌≤◌, not, 
 use Rattle.std.specs.List.{list_all, find}
 use Rattle.sv_num.specs.declared.faults.Place.{Place}
 use Rattle.sv_system.specs.System.{Noninterferent, HasOneTrace}
-use Rattle.sv_ast.specs.Tree.{ModuleTree}
-use Rattle.sv_ast.specs.Meaning.{label_of, flows, system}
-use Rattle.sv_ast.specs.Form.{is_first_form}
-use Rattle.sv_ast.specs.Spelling.{Means}
-use Rattle.sv_ast.specs.Obligations.{Obligation, Values, obligations, flow_holds, Falsifies, zeros}
+use Rattle.sv_first_ast.specs.Tree.{ModuleTree}
+use Rattle.sv_first_ast.specs.Meaning.{label_of, flows, system}
+use Rattle.sv_first_ast.specs.Form.{is_first_form}
+use Rattle.sv_first_ast.specs.Spelling.{Means}
+use Rattle.sv_first_ast.specs.Obligations.{Obligation, Values, obligations, flow_holds, Falsifies, zeros}
 use Rattle.sv_cli.specs.declared.outcome.UsageKind.{UsageKind}
 use Rattle.sv_cli.specs.declared.outcome.Valuation.{Valuation}
 use Rattle.sv_cli.specs.declared.outcome.Outcome.{Outcome}

@@ -1,8 +1,8 @@
 -- What a report has to be.
 use Rattle.sv_io.specs.Cabinet.{bytes_under}
 use Rattle.std.specs.Prelude.{◌≡◌, ℕ, Bool, IsTrue, List, Option, Some, length, replicate}
-use Rattle.sv_ast.specs.Obligations.{Values}
-use Rattle.sv_flow.specs.declared.leak.Leak.{Leak}
+use Rattle.sv_first_ast.specs.Obligations.{Values}
+use Rattle.sv_first_flow.specs.declared.leak.Leak.{Leak}
 use Rattle.sv_cli.specs.declared.outcome.Outcome.{Outcome}
 use Rattle.sv_cli.specs.declared.outcome.Outcome.TheVariants.{Done}
 use Rattle.sv_cli.specs.Answer.{Answer, answer_of, IsVerdict, KeepsSecrets}

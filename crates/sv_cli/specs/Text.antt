@@ -1,9 +1,9 @@
 -- The texts that the program writes. Each line ends with a line feed.
 use Rattle.std.specs.Prelude.{ℕ, Bool, false, List, [], ◌∷◌, ◌++◌, codes, decimal, filter, if◌then◌else◌}
 use Rattle.std.specs.Fmt.{digits}
-use Rattle.sv_ast.specs.Tree.{ModuleTree}
-use Rattle.sv_ast.specs.Meaning.{signals, is_input, is_register}
-use Rattle.sv_ast.specs.Obligations.{Obligation, Values}
+use Rattle.sv_first_ast.specs.Tree.{ModuleTree}
+use Rattle.sv_first_ast.specs.Meaning.{signals, is_input, is_register}
+use Rattle.sv_first_ast.specs.Obligations.{Obligation, Values}
 use Rattle.sv_cli.specs.declared.outcome.UsageKind.{UsageKind}
 use Rattle.sv_cli.specs.declared.outcome.UsageKind.TheVariants.{NoCommand, UnknownCommand, Words}
 

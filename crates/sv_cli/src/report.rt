@@ -8,7 +8,7 @@ use crate::outcome::{Broken, Outcome, UsageKind, Valuation};
 use crate::text;
 use std::alloc::{AllocError, Global};
 use sv_first::read_module;
-use sv_flow::{Finding, Leak, check};
+use sv_first_flow::{Finding, Leak, check};
 use sv_num::{Place, Refusal};
 
 // An outcome, and all that is to be written with it.

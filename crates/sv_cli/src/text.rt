@@ -6,7 +6,7 @@ ghost use Rattle.sv_cli.specs.Answer.{values_of};
 
 use crate::outcome::{UsageKind, Valuation};
 use std::alloc::{AllocError, Global};
-use sv_flow::Leak;
+use sv_first_flow::Leak;
 use sv_num::Name;
 
 fn usage_name(kind: UsageKind) -> &'static str

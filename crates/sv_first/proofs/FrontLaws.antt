@@ -5,8 +5,8 @@ use Rattle.std.specs.List.{list_all, prefix_len}
 use Rattle.std.proofs.Math.Numerals.{one-add}
 use Rattle.std.proofs.lemmas.Bool.{and_parts, and_from, or_left, not_from_false, cond-true, not-true, false≢true}
 use Rattle.std.proofs.lemmas.List.{take_at}
-use Rattle.sv_ast.specs.Names.{holds}
-use Rattle.sv_ast.specs.Spelling.{begins_word, continues_word, begins_with_more_word, first_signs, is_word, is_longest, is_token}
+use Rattle.sv_first_ast.specs.Names.{holds}
+use Rattle.sv_first_ast.specs.Spelling.{begins_word, continues_word, begins_with_more_word, first_signs, is_word, is_longest, is_token}
 use Rattle.sv_first.specs.declared.token.TokenKind.{TokenKind}
 use Rattle.sv_first.specs.declared.token.Front.{Front}
 use Rattle.sv_first.specs.Signs.{sign_at}

@@ -4,13 +4,13 @@ use Rattle.std.specs.Prelude.{codes}
 use Rattle.std.specs.List.{list_all, flat_map}
 use Rattle.std.proofs.lemmas.Bool.{and_parts, ltb-true, false≢true, true≢false, not-true}
 use Rattle.std.proofs.lemmas.List.{map-append, length-append, length-map}
-use Rattle.sv_ast.specs.declared.module.Decl.{Decl}
-use Rattle.sv_ast.specs.declared.module.DeclKind.{DeclKind}
-use Rattle.sv_ast.specs.declared.module.DeclKind.TheVariants as kind
-use Rattle.sv_ast.specs.declared.module.Point.{Point}
-use Rattle.sv_ast.specs.declared.module.Point.TheVariants.{Low, High}
-use Rattle.sv_ast.specs.Tree.{ExpressionTree, assignment, ItemTree, declared, continuous, clocked, ModuleTree}
-use Rattle.sv_ast.specs.Spelling.{reserved, is_name, is_token, is_expression, expression_tokens, kind_tokens, point_name, label_tokens, declaration_tokens, port_tokens, item_tokens, module_tokens, is_port_kind, is_port, is_statement, is_item, is_shaped}
+use Rattle.sv_first_ast.specs.declared.module.Decl.{Decl}
+use Rattle.sv_first_ast.specs.declared.module.DeclKind.{DeclKind}
+use Rattle.sv_first_ast.specs.declared.module.DeclKind.TheVariants as kind
+use Rattle.sv_first_ast.specs.declared.module.Point.{Point}
+use Rattle.sv_first_ast.specs.declared.module.Point.TheVariants.{Low, High}
+use Rattle.sv_first_ast.specs.Tree.{ExpressionTree, assignment, ItemTree, declared, continuous, clocked, ModuleTree}
+use Rattle.sv_first_ast.specs.Spelling.{reserved, is_name, is_token, is_expression, expression_tokens, kind_tokens, point_name, label_tokens, declaration_tokens, port_tokens, item_tokens, module_tokens, is_port_kind, is_port, is_statement, is_item, is_shaped}
 use Rattle.sv_first.specs.declared.token.TokenKind.{TokenKind}
 use Rattle.sv_first.specs.declared.token.TokenKind.TheVariants as kinds
 use Rattle.sv_first.specs.Tokens.{Lexeme}

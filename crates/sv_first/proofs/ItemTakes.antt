@@ -6,13 +6,13 @@ use Rattle.std.specs.Str.{bytes_eq}
 use Rattle.std.proofs.lemmas.Bool.{and_from, lt-ltb}
 use Rattle.std.proofs.lemmas.List.{append-nil}
 use Rattle.std.proofs.lemmas.Slice.Eq.{bytes_eq-Decides}
-use Rattle.sv_ast.specs.declared.module.Decl.{Decl}
-use Rattle.sv_ast.specs.declared.module.DeclKind.{DeclKind}
-use Rattle.sv_ast.specs.declared.module.DeclKind.TheVariants as kind
-use Rattle.sv_ast.specs.declared.module.Point.{Point}
-use Rattle.sv_ast.specs.declared.module.Point.TheVariants.{Low, High}
-use Rattle.sv_ast.specs.Tree.{StatementTree, assignment, ItemTree, declared, continuous, clocked, ModuleTree}
-use Rattle.sv_ast.specs.Spelling.{is_name, kind_tokens, point_name, label_tokens, declaration_tokens, port_tokens, statement_tokens, item_tokens, module_tokens, is_port_kind, is_port, is_statement, is_item, is_shaped}
+use Rattle.sv_first_ast.specs.declared.module.Decl.{Decl}
+use Rattle.sv_first_ast.specs.declared.module.DeclKind.{DeclKind}
+use Rattle.sv_first_ast.specs.declared.module.DeclKind.TheVariants as kind
+use Rattle.sv_first_ast.specs.declared.module.Point.{Point}
+use Rattle.sv_first_ast.specs.declared.module.Point.TheVariants.{Low, High}
+use Rattle.sv_first_ast.specs.Tree.{StatementTree, assignment, ItemTree, declared, continuous, clocked, ModuleTree}
+use Rattle.sv_first_ast.specs.Spelling.{is_name, kind_tokens, point_name, label_tokens, declaration_tokens, port_tokens, statement_tokens, item_tokens, module_tokens, is_port_kind, is_port, is_statement, is_item, is_shaped}
 use Rattle.sv_first.specs.declared.token.TokenKind.TheVariants as kinds
 use Rattle.sv_first.specs.Tokens.{Lexeme, AreLexed, texts_of}
 use Rattle.sv_first.specs.Reading.{◌>>=◌, where_read, token_at, name_at, end_at}

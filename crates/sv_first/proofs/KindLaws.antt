@@ -5,8 +5,8 @@ use Rattle.std.specs.Option.{option_map_or}
 use Rattle.std.specs.Str.{bytes_eq}
 use Rattle.std.proofs.lemmas.Bool.{eqb-true, and_parts, and_from, not_from_false, not-true, cond-true, cond-false, cond_both, false_from_ne_true, both_ways, false≢true}
 use Rattle.std.proofs.lemmas.Slice.Eq.{bytes_eq-Decides}
-use Rattle.sv_ast.specs.Names.{holds}
-use Rattle.sv_ast.specs.Spelling.{reserved, first_signs, is_word, is_token, is_name}
+use Rattle.sv_first_ast.specs.Names.{holds}
+use Rattle.sv_first_ast.specs.Spelling.{reserved, first_signs, is_word, is_token, is_name}
 use Rattle.sv_first.specs.declared.token.TokenKind.{TokenKind}
 use Rattle.sv_first.specs.declared.token.TokenKind.TheVariants as kinds
 use Rattle.sv_first.specs.declared.token.Front.{Front}

@@ -1,8 +1,8 @@
 -- One step of the loops that read ports and items.
 use Rattle.std.proofs.Common.{◌≡◌, ℕ, suc, ◌+◌, ◌-◌, ◌<◌, ◌≤◌, List, [], ◌∷◌, ◌++◌, length, Option, Some, None, refl, sym, ap, ◌∙◌, append_assoc, arith}
 use Rattle.std.proofs.lemmas.List.{append-nil, length-map}
-use Rattle.sv_ast.specs.declared.module.Decl.{Decl}
-use Rattle.sv_ast.specs.Tree.{ItemTree}
+use Rattle.sv_first_ast.specs.declared.module.Decl.{Decl}
+use Rattle.sv_first_ast.specs.Tree.{ItemTree}
 use Rattle.sv_first.specs.declared.token.TokenKind.TheVariants as kinds
 use Rattle.sv_first.specs.declared.token.Token.{Token}
 use Rattle.sv_first.specs.declared.stop.Stop.{Stop}

@@ -5,7 +5,7 @@ use Rattle.std.specs.Option.{ok_or}
 use Rattle.std.specs.List.{list_all}
 use Rattle.std.proofs.lemmas.Bool.{eqb-true, and_parts, and_from, or_cases, both_ways}
 use Rattle.std.proofs.lemmas.List.{take_at, drop_at, take-append-drop, append-nil, drop_more, drop_all, drop-drop, map_push}
-use Rattle.sv_ast.specs.Spelling.{is_blank, is_longest, is_token, Reads}
+use Rattle.sv_first_ast.specs.Spelling.{is_blank, is_longest, is_token, Reads}
 use Rattle.sv_first.specs.declared.token.Front.{Front}
 use Rattle.sv_first.specs.declared.stop.Stop.{Stop}
 use Rattle.sv_first.specs.declared.token.Token.{Token}

@@ -4,8 +4,8 @@ use Rattle.std.specs.Prelude.{IsTrue, IfSome, codes}
 use Rattle.std.specs.Str.{bytes_eq}
 use Rattle.std.proofs.lemmas.Bool.{eqb-true, or_cases, or_parts, or_from, false_from_ne_true, false≢true}
 use Rattle.std.proofs.lemmas.Slice.Eq.{bytes_eq-Decides}
-use Rattle.sv_ast.specs.Names.{holds}
-use Rattle.sv_ast.specs.Spelling.{signs, first_signs, is_longest, is_token}
+use Rattle.sv_first_ast.specs.Names.{holds}
+use Rattle.sv_first_ast.specs.Spelling.{signs, first_signs, is_longest, is_token}
 use Rattle.sv_first.specs.declared.token.TokenKind.{TokenKind}
 use Rattle.sv_first.specs.declared.token.TokenKind.TheVariants as kinds
 use Rattle.sv_first.specs.declared.token.Front.{Front}

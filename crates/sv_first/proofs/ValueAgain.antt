@@ -7,9 +7,9 @@ use Rattle.std.proofs.lemmas.List.{map-append}
 use Rattle.sv_num.specs.declared.operators.UnOp.TheVariants as unop
 use Rattle.sv_num.specs.declared.operators.BinOp.{BinOp}
 use Rattle.sv_num.specs.declared.operators.BinOp.TheVariants as binop
-use Rattle.sv_ast.specs.Tree.{ExpressionTree, named, unary, binary}
-use Rattle.sv_ast.specs.Form.{reads}
-use Rattle.sv_ast.specs.Spelling.{first_signs, is_name, is_token, binary_sign, binary_level, expression_tokens, level, is_nested, is_expression}
+use Rattle.sv_first_ast.specs.Tree.{ExpressionTree, named, unary, binary}
+use Rattle.sv_first_ast.specs.Form.{reads}
+use Rattle.sv_first_ast.specs.Spelling.{first_signs, is_name, is_token, binary_sign, binary_level, expression_tokens, level, is_nested, is_expression}
 use Rattle.sv_first.specs.declared.token.TokenKind.{TokenKind}
 use Rattle.sv_first.specs.declared.token.TokenKind.TheVariants as kinds
 use Rattle.sv_first.specs.Tokens.{Lexeme}

@@ -6,9 +6,9 @@ use Rattle.std.proofs.lemmas.Bool.{and_parts, and_from, le-leb, lt-ltb}
 use Rattle.std.proofs.lemmas.List.{length-append, append-nil}
 use Rattle.sv_num.specs.declared.operators.BinOp.{BinOp}
 use Rattle.sv_num.specs.declared.operators.BinOp.TheVariants as binop
-use Rattle.sv_ast.specs.Tree.{ExpressionTree, named}
-use Rattle.sv_ast.specs.Form.{reads}
-use Rattle.sv_ast.specs.Spelling.{is_name, binary_sign, binary_level, expression_tokens, level, is_nested, is_expression}
+use Rattle.sv_first_ast.specs.Tree.{ExpressionTree, named}
+use Rattle.sv_first_ast.specs.Form.{reads}
+use Rattle.sv_first_ast.specs.Spelling.{is_name, binary_sign, binary_level, expression_tokens, level, is_nested, is_expression}
 use Rattle.sv_first.specs.declared.token.TokenKind.{TokenKind}
 use Rattle.sv_first.specs.declared.token.TokenKind.TheVariants as kinds
 use Rattle.sv_first.specs.Tokens.{Lexeme, IsLexed, AreLexed, texts_of}

@@ -3,9 +3,9 @@ use Rattle.std.proofs.Common.{◌≡◌, ℕ, true, List, [], ◌∷◌, Some, N
 use Rattle.std.specs.Prelude.{IfOk, IsErrOf}
 use Rattle.std.specs.List.{list_all}
 use Rattle.std.proofs.lemmas.Bool.{and_from}
-use Rattle.sv_ast.specs.declared.module.Module.{Module}
-use Rattle.sv_ast.specs.Tree.{ModuleTree, module_tree}
-use Rattle.sv_ast.specs.Spelling.{Reads, Means, is_token, module_tokens}
+use Rattle.sv_first_ast.specs.declared.module.Module.{Module}
+use Rattle.sv_first_ast.specs.Tree.{ModuleTree, module_tree}
+use Rattle.sv_first_ast.specs.Spelling.{Reads, Means, is_token, module_tokens}
 use Rattle.sv_first.specs.declared.token.TokenKind.{TokenKind}
 use Rattle.sv_first.specs.declared.stop.Stop.{Stop}
 use Rattle.sv_first.specs.declared.stop.Stop.TheVariants as stops

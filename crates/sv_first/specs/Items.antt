@@ -1,12 +1,12 @@
 -- How a module is read.
 use Rattle.std.specs.Prelude.{ℕ, zero, suc, false, if◌then◌else◌, List, [], ◌∷◌, length, Option, Some, None, codes}
 use Rattle.std.specs.Str.{bytes_eq}
-use Rattle.sv_ast.specs.declared.module.Decl.{Decl}
-use Rattle.sv_ast.specs.declared.module.DeclKind.{DeclKind}
-use Rattle.sv_ast.specs.declared.module.DeclKind.TheVariants as kind
-use Rattle.sv_ast.specs.declared.module.Point.{Point}
-use Rattle.sv_ast.specs.declared.module.Point.TheVariants.{Low, High}
-use Rattle.sv_ast.specs.Tree.{StatementTree, assignment, ItemTree, declared, continuous, clocked, ModuleTree}
+use Rattle.sv_first_ast.specs.declared.module.Decl.{Decl}
+use Rattle.sv_first_ast.specs.declared.module.DeclKind.{DeclKind}
+use Rattle.sv_first_ast.specs.declared.module.DeclKind.TheVariants as kind
+use Rattle.sv_first_ast.specs.declared.module.Point.{Point}
+use Rattle.sv_first_ast.specs.declared.module.Point.TheVariants.{Low, High}
+use Rattle.sv_first_ast.specs.Tree.{StatementTree, assignment, ItemTree, declared, continuous, clocked, ModuleTree}
 use Rattle.sv_first.specs.declared.token.TokenKind.TheVariants as kinds
 use Rattle.sv_first.specs.Tokens.{Lexeme}
 use Rattle.sv_first.specs.Reading.{◌>>=◌, where_read, token_at, name_at, end_at}

@@ -2,7 +2,7 @@
 use Rattle.std.specs.Prelude.{◌≡◌, ℕ, if◌then◌else◌, IsTrue, List, [], ◌∷◌, map, take, Option, Some, None}
 use Rattle.std.specs.Option.{option_map_or}
 use Rattle.std.specs.List.{prefix_len, slice_range, AllByRecursion}
-use Rattle.sv_ast.specs.Spelling.{begins_word, continues_word, is_word, is_token}
+use Rattle.sv_first_ast.specs.Spelling.{begins_word, continues_word, is_word, is_token}
 use Rattle.sv_first.specs.declared.token.TokenKind.{TokenKind}
 use Rattle.sv_first.specs.declared.token.TokenKind.TheVariants as kinds
 use Rattle.sv_first.specs.declared.token.Token.{Token}

@@ -3,13 +3,13 @@ use Rattle.std.specs.Prelude.{ℕ, zero, suc, ◌+◌, if◌then◌else◌, List
 use Rattle.sv_num.specs.declared.operators.UnOp.TheVariants as unop
 use Rattle.sv_num.specs.declared.operators.BinOp.{BinOp}
 use Rattle.sv_num.specs.declared.operators.BinOp.TheVariants as binop
-use Rattle.sv_ast.specs.Tree.{ExpressionTree, named, unary, binary}
+use Rattle.sv_first_ast.specs.Tree.{ExpressionTree, named, unary, binary}
 use Rattle.sv_first.specs.declared.token.TokenKind.{TokenKind}
 use Rattle.sv_first.specs.declared.token.TokenKind.TheVariants as kinds
 use Rattle.sv_first.specs.Tokens.{Lexeme}
 use Rattle.sv_first.specs.Reading.{◌>>=◌, same_kind}
 use Rattle.std.specs.Option.{option_map}
-use Rattle.sv_ast.specs.Tree.{expression_tree}
+use Rattle.sv_first_ast.specs.Tree.{expression_tree}
 use Rattle.sv_first.specs.declared.values.Left as values
 use Rattle.sv_first.specs.declared.values.State as held
 use Rattle.sv_first.specs.declared.values.State.TheVariants as states

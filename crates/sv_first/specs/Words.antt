@@ -1,8 +1,8 @@
 -- What a word is.
 use Rattle.std.specs.Prelude.{ℕ, if◌then◌else◌, List, codes}
 use Rattle.std.specs.Str.{bytes_eq}
-use Rattle.sv_ast.specs.Names.{holds}
-use Rattle.sv_ast.specs.Spelling.{reserved}
+use Rattle.sv_first_ast.specs.Names.{holds}
+use Rattle.sv_first_ast.specs.Spelling.{reserved}
 use Rattle.sv_first.specs.declared.token.TokenKind.{TokenKind}
 use Rattle.sv_first.specs.declared.token.TokenKind.TheVariants as kinds
 

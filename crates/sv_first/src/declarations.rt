@@ -8,7 +8,7 @@ use crate::reading::{behind, expect, read_name, read_name_text};
 use crate::stop::Stop;
 use crate::token::{Token, TokenKind};
 use std::alloc::Global;
-use sv_ast::{Decl, DeclKind, Point};
+use sv_first_ast::{Decl, DeclKind, Point};
 
 // What a port is.
 #[tactic(auto, unfolding(crate::specs::Items::port_kind_at))]

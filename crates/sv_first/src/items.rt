@@ -1,6 +1,6 @@
 // The items of a module.
 ghost use Rattle.std.specs.Prelude.{◌≡◌, ℕ, List, map};
-ghost use Rattle.sv_ast.specs.Tree.{item_tree, statement_tree};
+ghost use Rattle.sv_first_ast.specs.Tree.{item_tree, statement_tree};
 ghost use Rattle.sv_first.specs.Tokens.{lexemes};
 ghost use Rattle.sv_first.specs.Reading.{Gives};
 ghost use Rattle.sv_first.specs.Items.{clock_at, clocked_at, continuous_at, item_at, items_of, signal_at, statement_at};
@@ -11,7 +11,7 @@ use crate::stop::Stop;
 use crate::token::{Token, TokenKind};
 use crate::values::read_value;
 use std::alloc::Global;
-use sv_ast::{Item, Stmt};
+use sv_first_ast::{Item, Stmt};
 use sv_num::Name;
 
 // A declaration of a signal.

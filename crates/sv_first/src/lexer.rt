@@ -1,6 +1,6 @@
 // From bytes to tokens.
 ghost use Rattle.std.specs.Prelude.{◌≡◌, ◌<◌, ◌≤◌, ℕ, List, length, map, IfOk, IfSome, IsErrOf, ⊤};
-ghost use Rattle.sv_ast.specs.Spelling.{Reads};
+ghost use Rattle.sv_first_ast.specs.Spelling.{Reads};
 ghost use Rattle.sv_first.specs.Tokens.{AreLexed, IsLexed, front_at, lexemes, texts};
 
 use crate::signs::sign_at;

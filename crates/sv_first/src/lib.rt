@@ -1,6 +1,6 @@
 //! Texts of the first form, from bytes to trees.
 //!
-//! [`read_module`] reads one module of one-bit signals. What bytes mean a module is said in `specs/Spelling.antt` of `sv_ast`:
+//! [`read_module`] reads one module of one-bit signals. What bytes mean a module is said in `specs/Spelling.antt` of `sv_first_ast`:
 //! exactly these are read, each as the one module that it means.
 //!
 //! Bytes become tokens (`lexer`), and tokens a tree, from left to right. The definitions in `specs/` say how the private functions

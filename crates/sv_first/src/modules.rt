@@ -1,7 +1,7 @@
 // A whole text.
 ghost use Rattle.std.specs.Prelude.{◌≡◌, List, IfOk, IfSome, IfNone, IsErrOf};
-ghost use Rattle.sv_ast.specs.Spelling.{Means};
-ghost use Rattle.sv_ast.specs.Tree.{ModuleTree, module_tree};
+ghost use Rattle.sv_first_ast.specs.Spelling.{Means};
+ghost use Rattle.sv_first_ast.specs.Tree.{ModuleTree, module_tree};
 ghost use Rattle.sv_first.specs.Tokens.{lexemes};
 ghost use Rattle.sv_first.specs.Reading.{Gives};
 ghost use Rattle.sv_first.specs.Items.{module_at};
@@ -13,7 +13,7 @@ use crate::reading::{expect, expect_end, read_name};
 use crate::stop::Stop;
 use crate::token::{Token, TokenKind};
 use std::alloc::Global;
-use sv_ast::Module;
+use sv_first_ast::Module;
 use sv_num::OutOfMemory;
 
 // The module that all of the tokens are.

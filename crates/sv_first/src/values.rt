@@ -1,7 +1,7 @@
 // Expressions, up to the `;` behind them.
 ghost use Rattle.std.specs.Prelude.{◌≡◌, ◌+◌, ◌<◌, ◌≤◌, ◌^◌, List, IfOk, Option, Some, None};
 ghost use Rattle.std.specs.Option.{option_map};
-ghost use Rattle.sv_ast.specs.Tree.{expression_tree, named};
+ghost use Rattle.sv_first_ast.specs.Tree.{expression_tree, named};
 ghost use Rattle.sv_first.specs.Tokens.{lexemes};
 ghost use Rattle.sv_first.specs.Reading.{Gives};
 ghost use Rattle.sv_first.specs.Values.{empty, inversions_of, inverted, joined, left_of, operand, operator, state_of, step, up_to_or, value_at, whole, with_and, with_or, with_xor};
@@ -10,7 +10,7 @@ use crate::reading::{same_kind, text_of};
 use crate::stop::Stop;
 use crate::token::{Token, TokenKind};
 use std::alloc::{AllocError, Global};
-use sv_ast::Expr;
+use sv_first_ast::Expr;
 use sv_num::{BinOp, Name, UnOp};
 
 // How many tokens an expression has at most.

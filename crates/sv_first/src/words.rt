@@ -1,8 +1,8 @@
 // Words.
 ghost use Rattle.std.specs.Prelude.{◌≡◌, map};
 ghost use Rattle.std.specs.List.{prefix_len};
-ghost use Rattle.sv_ast.specs.Names.{holds};
-ghost use Rattle.sv_ast.specs.Spelling.{begins_word, continues_word, is_blank, reserved};
+ghost use Rattle.sv_first_ast.specs.Names.{holds};
+ghost use Rattle.sv_first_ast.specs.Spelling.{begins_word, continues_word, is_blank, reserved};
 ghost use Rattle.sv_first.specs.Words.{word_kind};
 
 use crate::token::TokenKind;

@@ -1,7 +1,7 @@
 use Rattle.std.proofs.Common.{◌≡◌, ◌++◌, ◌∷◌, [], sym, ap, length, map}
 use Rattle.std.proofs.lemmas.List.{map_push}
 use Rattle.std.proofs.lemmas.Result.{err_from_is_err_and}
-use Rattle.sv_ast.specs.Tree.{item_tree}
+use Rattle.sv_first_ast.specs.Tree.{item_tree}
 use Rattle.sv_first.specs.Tokens.{lexemes}
 use Rattle.sv_first.proofs.ListSteps.{Fails-stop, items_begin, items_end, items_last, items_more, items_stop}
 use Rattle.sv_first.proofs.items.read_items.Goals as goal

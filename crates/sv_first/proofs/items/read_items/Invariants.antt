@@ -1,5 +1,5 @@
 use Rattle.std.proofs.Common.{◌≡◌, ◌-◌, length, map}
-use Rattle.sv_ast.specs.Tree.{item_tree}
+use Rattle.sv_first_ast.specs.Tree.{item_tree}
 use Rattle.sv_first.specs.Tokens.{lexemes}
 use Rattle.sv_first.specs.Items.{items_at, items_of}
 use Rattle.sv_first.proofs.ListSteps.{with_front}

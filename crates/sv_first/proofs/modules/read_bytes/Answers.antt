@@ -1,7 +1,7 @@
 use Rattle.std.proofs.Common.{◌≡◌, Result, Err, sym, ap, subst, ◌∙◌}
 use Rattle.std.proofs.lemmas.Result.{err_from_is_err_and}
-use Rattle.sv_ast.specs.Tree.{module_tree}
-use Rattle.sv_ast.specs.Spelling.{module_tokens}
+use Rattle.sv_first_ast.specs.Tree.{module_tree}
+use Rattle.sv_first_ast.specs.Spelling.{module_tokens}
 use Rattle.sv_first.specs.Tokens.{lexemes}
 use Rattle.sv_first.specs.Reading.{Gives}
 use Rattle.sv_first.specs.Items.{module_at}

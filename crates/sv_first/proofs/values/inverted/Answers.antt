@@ -1,6 +1,6 @@
 use Rattle.std.proofs.Common.{◌≡◌, ℕ, ap, ◌∙◌, arith, add-one}
 use Rattle.sv_num.specs.declared.operators.UnOp.TheVariants.{Invert}
-use Rattle.sv_ast.specs.Tree.{expression_tree, unary}
+use Rattle.sv_first_ast.specs.Tree.{expression_tree, unary}
 use Rattle.sv_first.specs.Values.{inverted}
 use Rattle.sv_first.proofs.values.inverted.Goals as goal
 

@@ -1,5 +1,5 @@
 use Rattle.std.proofs.Common.{◌≡◌}
-use Rattle.sv_ast.specs.Tree.{expression_tree}
+use Rattle.sv_first_ast.specs.Tree.{expression_tree}
 use Rattle.sv_first.specs.Values.{inverted}
 use Rattle.sv_first.proofs.values.inverted.Given as goal
 

@@ -1,7 +1,7 @@
 use Rattle.std.proofs.Common.{◌≡◌, ℕ, List, ◌+◌, ◌<◌, Some, sym, ap, subst, ◌∙◌, get_or, arith}
 use Rattle.std.proofs.lemmas.List.{take_rest}
 use Rattle.std.proofs.lemmas.Result.{err_from_is_err_and}
-use Rattle.sv_ast.specs.Tree.{expression_tree}
+use Rattle.sv_first_ast.specs.Tree.{expression_tree}
 use Rattle.sv_first.specs.declared.token.TokenKind.TheVariants.{Module}
 use Rattle.sv_first.specs.declared.token.Token.{Token}
 use Rattle.sv_first.specs.Tokens.{lexeme, lexemes}

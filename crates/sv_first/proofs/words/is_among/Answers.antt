@@ -2,7 +2,7 @@ use Rattle.std.proofs.Common.{◌≡◌, ℕ, List, [], ◌∷◌, Bor, map, ref
 use Rattle.std.specs.List.{list_any}
 use Rattle.std.specs.Str.{bytes_eq}
 use Rattle.std.proofs.lemmas.Cmp.{nat_list_eq_equiv}
-use Rattle.sv_ast.specs.Names.{holds}
+use Rattle.sv_first_ast.specs.Names.{holds}
 use Rattle.sv_first.proofs.words.is_among.Goals as goal
 
 -- `==` the other way round

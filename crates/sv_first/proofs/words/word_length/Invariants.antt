@@ -1,6 +1,6 @@
 use Rattle.std.proofs.Common.{◌≡◌, ◌+◌, drop}
 use Rattle.std.specs.List.{prefix_len}
-use Rattle.sv_ast.specs.Spelling.{continues_word}
+use Rattle.sv_first_ast.specs.Spelling.{continues_word}
 use Rattle.sv_first.proofs.words.word_length.Given as goal
 
 abbrev pub invariant-loop-byte : goal.invariant-loop-byte

@@ -1,0 +1,15 @@
+//! Flat designs: the signals and processes of a whole instance tree, by number, with typed expressions.
+//!
+//! A contract sees a design by its plain form, as `design_of` of `specs/Design.antt` gives it.
+#![tactic(auto)]
+
+mod designs;
+mod expressions;
+mod signals;
+mod statements;
+
+pub use designs::{Flat, ProcKind, Process};
+pub use expressions::{FExpr, FNode};
+pub use signals::{SigId, SigKind, Signal};
+pub use statements::{FStmt, Piece};
+pub use std::alloc::AllocError as OutOfMemory;

@@ -1,1 +1,3 @@
 pub mod Tree
+pub mod Scopes
+pub mod Values

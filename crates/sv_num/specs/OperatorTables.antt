@@ -1,5 +1,5 @@
 -- The operators of expressions (IEEE 1364-2005, clause 5): spelling, operator, level from the tightest on, and class.
-use Rattle.std.specs.Prelude.{ℕ, List, [], ◌∷◌, take, codes}
+use Rattle.std.specs.Prelude.{ℕ, List, [], ◌∷◌, ◌++◌, length, take, codes}
 use Rattle.sv_num.specs.declared.operators.BinOp.{BinOp}
 use Rattle.sv_num.specs.declared.operators.BinOp.TheVariants.{Mul, Div, Rem, Add, Sub, Shl, Shr, SignShl, SignShr, Lt, Le, Gt, Ge, Eq, Ne, And, Xor, Xnor, Or, LogicAnd, LogicOr}
 use Rattle.sv_num.specs.declared.operators.UnOp.{UnOp}
@@ -15,6 +15,17 @@ binary_spelling row = take row.length row.spelling
 
 abbrev pub unary_spelling : UnRow → List ℕ
 unary_spelling row = take row.length row.spelling
+
+-- a spelling in a field of three bytes, filled with 0, and its length
+abbrev pub field_of : List ℕ → List ℕ × ℕ
+field_of spelling = (take 3 (spelling ++ 0 ∷ 0 ∷ 0 ∷ []), length spelling)
+
+-- a row's whole field, and the length that it gives
+abbrev pub binary_field : BinRow → List ℕ × ℕ
+binary_field row = (row.spelling, row.length)
+
+abbrev pub unary_field : UnRow → List ℕ × ℕ
+unary_field row = (row.spelling, row.length)
 
 -- what a row says
 abbrev pub binary_row : BinRow → List ℕ × BinOp × ℕ × OpClass

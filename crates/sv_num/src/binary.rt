@@ -4,9 +4,9 @@ ghost use Rattle.std.specs.Int.{int_shr};
 ghost use Rattle.sv_num.specs.Vectors.{width_of, is_signed, value_of, number_of, reduced};
 ghost use Rattle.sv_num.specs.BinaryValues.{class_of, HaveOneType, HasDivisor, result_width, result_signed, binary_value};
 
+use crate::low_bits::{inverted, low_bits, negated, shifted_right};
 use crate::operators::BinOp;
 use crate::vectors::Bits;
-use crate::words::{inverted, low_bits, negated, shifted_right};
 
 /// The value that a binary operator gives. Both operands of an operator other than a shift, `&&` and `||` have one width
 /// and sign, and a divisor is not 0.

@@ -1,6 +1,7 @@
 // Where a text breaks a rule, and what a stage answers then.
 ghost use Rattle.std.specs.Prelude.{◌≡◌};
 ghost use Rattle.sv_num.specs.declared.faults.Fault.TheVariants.{OutOfMemory};
+ghost use Rattle.sv_num.specs.Faults.{Refuses};
 
 use crate::names::Name;
 use std::alloc::{AllocError, AllocFailed};
@@ -30,6 +31,19 @@ pub enum Fault {
     /// Memory ran out.
     #[error("out of memory")]
     OutOfMemory,
+}
+
+impl Fault {
+    /// The fault of a text that breaks the rule with this number, at a place, with names.
+    pub fn broken(number: u16, place: Place, names: Vec<Name>) -> Fault
+        ensures { Refuses result number place names.items }
+    {
+        Fault::Rule(Refusal {
+            number,
+            place,
+            names,
+        })
+    }
 }
 
 impl From<AllocError> for Fault {

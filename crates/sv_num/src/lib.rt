@@ -6,13 +6,13 @@
 
 mod binary;
 mod faults;
+mod low_bits;
 mod names;
 mod operator_tables;
 mod operators;
 mod parts;
 mod unary;
 mod vectors;
-mod words;
 
 pub use binary::apply_binary;
 pub use faults::{Fault, Place, Refusal};

@@ -5,7 +5,7 @@ ghost use Rattle.std.specs.List.{Contains};
 ghost use Rattle.sv_num.specs.declared.operators.BinOp.{BinOp};
 ghost use Rattle.sv_num.specs.declared.operators.UnOp.{UnOp};
 ghost use Rattle.sv_num.specs.BinaryValues.{class_of};
-ghost use Rattle.sv_num.specs.OperatorTables.{binary_row, unary_row, binary_spelling, unary_spelling, binary_table, unary_table};
+ghost use Rattle.sv_num.specs.OperatorTables.{binary_row, unary_row, binary_spelling, unary_spelling, binary_field, unary_field, field_of, binary_table, unary_table};
 
 use crate::operators::{BinOp, OpClass, UnOp};
 
@@ -95,6 +95,8 @@ pub const UNARY: [UnRow; 11] = unary_rows![
 pub fn tables_are_whole()
     ensures binary { map binary_row BINARY ≡ binary_table }
     ensures unary { map unary_row UNARY ≡ unary_table }
+    ensures binary_fields { map binary_field BINARY ≡ map (λ row. field_of row.0) binary_table }
+    ensures unary_fields { map unary_field UNARY ≡ map (λ row. field_of row.0) unary_table }
     ensures classes { map (λ row. row.class) BINARY ≡ map (λ row. class_of row.op) BINARY }
     ensures each_binary { (op : BinOp) → Contains (map (λ row. row.op) BINARY) op }
     ensures each_unary { (op : UnOp) → Contains (map (λ row. row.op) UNARY) op }

@@ -2,8 +2,8 @@
 ghost use Rattle.std.specs.Prelude.{◌≡◌, ◌+◌, ◌-◌, ◌*◌, ◌/◌, ◌%◌, ◌^◌, ◌<◌, ◌≤◌, false};
 ghost use Rattle.sv_num.specs.Vectors.{width_of, is_signed, value_of, as_number, number_of, reduced};
 
+use crate::low_bits::{inverted, low_bits};
 use crate::vectors::Bits;
-use crate::words::{inverted, low_bits};
 
 /// The value in a wider type: the new bits are copies of the highest bit where the new type is signed, and else 0.
 pub fn extend(a: Bits, width: u8, signed: bool) -> Bits

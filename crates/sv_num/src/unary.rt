@@ -3,9 +3,9 @@ ghost use Rattle.std.specs.Prelude.{◌≡◌, ◌-◌, ◌%◌, ◌^◌, ◌<�
 ghost use Rattle.sv_num.specs.Vectors.{width_of, is_signed, value_of, is_true};
 ghost use Rattle.sv_num.specs.UnaryValues.{gives_one_bit, unary_value};
 
+use crate::low_bits::{inverted, low_bits, negated};
 use crate::operators::UnOp;
 use crate::vectors::Bits;
-use crate::words::{inverted, low_bits, negated};
 
 /// The value that a unary operator gives. `!` and the reductions give one bit without sign, the other operators a value
 /// of the operand's type.

@@ -1,7 +1,7 @@
 // Values of a length and sign.
 ghost use Rattle.std.specs.Prelude.{◌≡◌, ◌↔◌, ◌^◌, ◌<◌, ◌≤◌, IsSome, IfSome, unsigned_abs, false};
 
-use crate::words::{low_bits, negated};
+use crate::low_bits::{low_bits, negated};
 
 /// A value of 1 to 64 bits, with the sign of its type. A value is kept without sign, below 2 to the width.
 #[derive(Clone, Copy, Debug, PartialEq, Eq)]

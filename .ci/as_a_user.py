@@ -1,0 +1,102 @@
+#!/usr/bin/env python3
+"""Runs what a user runs, through ./secv, and compares whole outputs and statuses with what stands in the repository.
+
+Every design of examples/ against the .out file beside it, every command that README.md shows with its output, and the answers
+to wrong words, missing files and failing outputs. The last line is 'N passed, M failed'.
+"""
+import os
+import re
+import subprocess
+import sys
+import tempfile
+
+TOP = os.path.dirname(os.path.dirname(os.path.abspath(__file__)))
+SECV = os.path.join(TOP, "secv")
+STATUS = {"accepted": 0, "refused": 1, "usage": 2, "unknown": 3}
+passed = failed = 0
+
+
+def run(words, stdout=subprocess.PIPE, before=None):
+    return subprocess.run([SECV, *words], cwd=TOP, stdin=subprocess.DEVNULL, stdout=stdout, stderr=subprocess.PIPE,
+                          preexec_fn=before)
+
+
+def compare(what, got, wanted):
+    global passed, failed
+    if got == wanted:
+        passed += 1
+        return
+    failed += 1
+    print(f"{what}\n  wanted {wanted!r}\n  got    {got!r}")
+
+
+def status_of(text):
+    return STATUS.get(text.split(b" ")[0].strip().decode(), 0)
+
+
+def examples():
+    folder = os.path.join(TOP, "examples")
+    for name in sorted(os.listdir(folder)):
+        if name.endswith(".v"):
+            with open(os.path.join(folder, name[:-2] + ".out"), "rb") as file:
+                wanted = file.read()
+            answer = run(["check", os.path.join("examples", name)])
+            compare(f"secv check examples/{name}", (answer.stdout, answer.returncode), (wanted, status_of(wanted)))
+
+
+def shown_in_readme():
+    """The commands of README's console blocks: a line '$ ./secv WORDS' and the lines up to the next one or the block's end."""
+    with open(os.path.join(TOP, "README.md"), encoding="utf-8") as file:
+        text = file.read()
+    shown = 0
+    for block in re.findall(r"^```console\n(.*?)^```$", text, re.M | re.S):
+        for words, wanted in re.findall(r"^\$ \./secv ([^\n]*)\n((?:[^$\n][^\n]*\n)*)", block, re.M):
+            answer = run(words.split())
+            compare(f"README: secv {words}", (answer.stdout, answer.returncode), (wanted.encode(), status_of(wanted.encode())))
+            shown += 1
+    compare("README shows commands", shown > 0, True)
+
+
+def words_and_faults():
+    help_text = run(["--help"])
+    compare("--help is a text", (help_text.stdout.startswith(b"secv "), help_text.returncode), (True, 0))
+    version = run(["--version"])
+    compare("--version", (version.stdout, version.returncode), (b"secv 0.1.0\n", 0))
+    for words, kind in [([], "no-command"), (["chekc", "f"], "unknown-command"), (["check"], "words"), (["check", "--f"], "words"),
+                        (["check", "f", "g"], "words"), (["--help", "more"], "unknown-command"), ([b"\xff"], "words")]:
+        answer = run(words)
+        compare(f"words {words}", (answer.stdout, answer.returncode), (f"usage {kind}\n".encode(), 2))
+        compare(f"words {words} are explained", answer.stderr != b"", True)
+    with tempfile.TemporaryDirectory() as folder:
+        for name, path in [("a missing file", os.path.join(folder, "none.v")), ("a directory", folder)]:
+            answer = run(["check", path])
+            compare(name, (answer.stdout, answer.returncode), (b"", 4))
+            compare(f"{name} is explained", path.encode() in answer.stderr and answer.stderr.count(b"\n") == 1, True)
+        other = os.path.join(folder, "other.v")
+        with open(other, "w", encoding="ascii") as file:
+            file.write("module m(input [7:0] a, output y); assign y = a == 3; endmodule\n")
+        answer = run(["check", other])
+        compare("a text that is not built", (answer.stdout, answer.returncode), (b"refused 199 not-built 1:1\n", 1))
+    for words in (["check", "examples/and.v"], ["--help"]):
+        with open("/dev/full", "wb") as full:
+            answer = run(words, stdout=full)
+        compare(f"a full device, {words}", answer.returncode, 5)
+        compare(f"a full device is explained, {words}", answer.stderr.count(b"\n"), 1)
+        answer = run(words, stdout=None, before=lambda: os.close(1))
+        compare(f"a closed output, {words}", answer.returncode, 5)
+    answer = subprocess.run([SECV, "check", "examples/leak.v"], cwd=TOP, stdout=subprocess.PIPE, stderr=None,
+                            preexec_fn=lambda: os.close(2))
+    compare("a closed standard error", (answer.stdout, answer.returncode), (b"refused flow 1 y from k\nin k 0\n", 1))
+
+
+def main():
+    if run(["--version"]).returncode:
+        sys.exit("secv could not be built:\n" + run(["--version"]).stderr.decode(errors="replace"))
+    examples()
+    shown_in_readme()
+    words_and_faults()
+    print(f"{passed} passed, {failed} failed")
+    sys.exit(1 if failed else 0)
+
+
+main()

@@ -2,3 +2,4 @@ pub mod FlowLemmas
 pub mod TableLemmas
 pub mod BoundLemmas
 pub mod OrderLemmas
+pub mod MapLemmas

@@ -86,19 +86,36 @@ fn reads_a_map(rt: HostRuntime) -> Result<(), Fail> {
     let short = [Point(2), Point(0)].to_vec(rt.alloc())?;
     assert!(rt; LabelMap::new(2, short).is_none());
     let map = LabelMap::new(2, rows).ok_or("no map")?;
-    assert_eq!(rt; map.width(), 2);
+    assert_eq!(rt; map.widths(), (2, None));
     assert_eq!(rt; map.rows().len(), 4);
     assert_eq!(rt; map.row(3), Point(3));
     let same = map.copy(rt.alloc())?;
     assert_eq!(rt; same.row(0), Point(2));
     let label = Label::Table {
         map: 0,
-        selector: 1,
+        first: 1,
+        second: None,
     };
     assert_eq!(rt; crate::label_at(&[map], &label, &[9, 2, 0]), Point(1));
     assert_eq!(rt;
         crate::label_at(&[], &Label::Point(Point(7)), &[]),
         Point(7)
     );
+    Ok(())
+}
+
+#[test]
+fn reads_a_map_of_pairs(rt: HostRuntime) -> Result<(), Fail> {
+    let rows = [5, 1, 2, 3, 4, 0, 6, 7].map(Point).to_vec(rt.alloc())?;
+    let map = LabelMap::pair(1, 2, rows).ok_or("no map")?;
+    assert_eq!(rt; map.widths(), (1, Some(2)));
+    let label = Label::Table {
+        map: 0,
+        first: 2,
+        second: Some(0),
+    };
+    assert_eq!(rt; crate::label_at(&[map], &label, &[2, 9, 1]), Point(6));
+    let two = [Point(0), Point(1)].to_vec(rt.alloc())?;
+    assert!(rt; LabelMap::pair(1, 0, two).is_none());
     Ok(())
 }

@@ -10,19 +10,10 @@ use Rattle.std.proofs.lemmas.Bool.{cases_eq, and_parts, and_from}
 use Rattle.std.proofs.lemmas.List.{get_or_default}
 use Rattle.sv_lattice.specs.Flows.{IsJoin, HasJoin, HasMeet, IsApart, EachPair, IsFirstWithout}
 use Rattle.sv_lattice.specs.Tables.{flow_test, FlowsTo, IsWithin, IsPreorder, IsFirstNot}
-
--- of two bits, the less is 1 where both are
-min_test : (x y : ℕ) → x < 2 → y < 2 → (min x y == 1) ≡ (x == 1 && y == 1)
-min_test zero zero p q = refl
-min_test zero (suc zero) p q = refl
-min_test (suc zero) zero p q = refl
-min_test (suc zero) (suc zero) p q = refl
-min_test (suc (suc x)) y p q = absurd (omega arith)
-min_test zero (suc (suc y)) p q = absurd (omega arith)
-min_test (suc zero) (suc (suc y)) p q = absurd (omega arith)
+use Rattle.sv_lattice.proofs.TableLemmas.{on_bits}
 
 and_test : (r s b : ℕ) → (bit_at (bit_and r s) b == 1) ≡ (bit_at r b == 1 && bit_at s b == 1)
-and_test r s b = ap (λ n. n == 1) (bit_at_and r s b) ∙ min_test (bit_at r b) (bit_at s b) (bit_at-lt r b) (bit_at-lt s b)
+and_test r s b = ap (λ n. n == 1) (bit_at_and r s b) ∙ on_bits min ◌&&◌ refl refl refl refl (bit_at r b) (bit_at s b) (bit_at-lt r b) (bit_at-lt s b)
 
 -- bits with the same tests are the same
 same_bit : (x y : ℕ) → x < 2 → y < 2 → (x == 1) ≡ (y == 1) → x ≡ y

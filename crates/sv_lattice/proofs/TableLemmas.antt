@@ -9,18 +9,21 @@ use Rattle.sv_lattice.specs.Flows.{Flows, EachPair}
 use Rattle.sv_lattice.specs.Tables.{flow_test, FlowsTo, IsWithin, IsTableOf}
 use Rattle.sv_lattice.proofs.FlowLemmas.{flows_alone, flows_on, flows_over, flows_back, FlowsOver}
 
--- of two bits, the greater is 1 where one of them is
-max_test : (x y : ℕ) → x < 2 → y < 2 → (max x y == 1) ≡ (x == 1 || y == 1)
-max_test zero zero p q = refl
-max_test zero (suc zero) p q = refl
-max_test (suc zero) zero p q = refl
-max_test (suc zero) (suc zero) p q = refl
-max_test (suc (suc x)) y p q = absurd (omega arith)
-max_test zero (suc (suc y)) p q = absurd (omega arith)
-max_test (suc zero) (suc (suc y)) p q = absurd (omega arith)
+-- where an operation on numbers does on each two bits what an operation on tests does, it does so on any two numbers below 2
+pub on_bits : (number : ℕ → ℕ → ℕ) (test : Bool → Bool → Bool)
+    → (number 0 0 == 1) ≡ test false false → (number 0 1 == 1) ≡ test false true
+    → (number 1 0 == 1) ≡ test true false → (number 1 1 == 1) ≡ test true true
+    → (x y : ℕ) → x < 2 → y < 2 → (number x y == 1) ≡ test (x == 1) (y == 1)
+on_bits number test neither second first both zero zero p q = neither
+on_bits number test neither second first both zero (suc zero) p q = second
+on_bits number test neither second first both (suc zero) zero p q = first
+on_bits number test neither second first both (suc zero) (suc zero) p q = both
+on_bits number test neither second first both (suc (suc x)) y p q = absurd (omega arith)
+on_bits number test neither second first both zero (suc (suc y)) p q = absurd (omega arith)
+on_bits number test neither second first both (suc zero) (suc (suc y)) p q = absurd (omega arith)
 
 pub or_test : (r s b : ℕ) → (bit_at (bit_or r s) b == 1) ≡ (bit_at r b == 1 || bit_at s b == 1)
-or_test r s b = ap (λ n. n == 1) (bit_at_or r s b) ∙ max_test (bit_at r b) (bit_at s b) (bit_at-lt r b) (bit_at-lt s b)
+or_test r s b = ap (λ n. n == 1) (bit_at_or r s b) ∙ on_bits max ◌||◌ refl refl refl refl (bit_at r b) (bit_at s b) (bit_at-lt r b) (bit_at-lt s b)
 
 -- ---- the table of no pair
 

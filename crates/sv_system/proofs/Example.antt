@@ -11,10 +11,10 @@ use Rattle.sv_system.proofs.OneTarget.{OneTarget, one_still_targets, one_targets
 use Rattle.sv_system.proofs.Noninterference.{noninterference}
 use Rattle.sv_system.proofs.OneTrace.{one_trace}
 
-data Wire : Type 0 where
+pub data Wire : Type 0 where
   mode secret copy kept : Wire
 
-abbrev same : Wire → Wire → Bool
+abbrev pub same : Wire → Wire → Bool
 same mode mode = true
 same secret secret = true
 same copy copy = true
@@ -22,23 +22,23 @@ same kept kept = true
 same _ _ = false
 
 -- `true` is the higher point
-abbrev flows : Bool → Bool → Bool
+abbrev pub flows : Bool → Bool → Bool
 flows false b = true
 flows true b = b
 
-abbrev is_input : Wire → Bool
+abbrev pub is_input : Wire → Bool
 is_input mode = true
 is_input secret = true
 is_input copy = false
 is_input kept = false
 
-abbrev is_register : Wire → Bool
+abbrev pub is_register : Wire → Bool
 is_register mode = false
 is_register secret = false
 is_register copy = false
 is_register kept = true
 
-abbrev label : Wire → (Wire → ℕ) → Bool
+abbrev pub label : Wire → (Wire → ℕ) → Bool
 label mode e = false
 label secret e = eqb (e mode) 1
 label copy e = eqb (e mode) 1
@@ -47,7 +47,7 @@ label kept e = true
 abbrev copying : Driver Wire
 copying = record { target = copy; value = λ (e : Wire → ℕ). e secret }
 
-abbrev example : System Wire Bool
+abbrev pub example : System Wire Bool
 example = record {
   signals = mode ∷ secret ∷ copy ∷ kept ∷ [];
   is_input = is_input;
@@ -59,14 +59,14 @@ example = record {
   flows = flows;
 }
 
-within : (s : Wire) → Contains example.signals s
+pub within : (s : Wire) → Contains example.signals s
 within mode = (0, omega arith, refl)
 within secret = (1, omega arith, refl)
 within copy = (2, omega arith, refl)
 within kept = (3, omega arith, refl)
 
 -- what one element contains
-only : {X : Type 0} (x y : X) → Contains (x ∷ []) y → x ≡ y
+pub only : {X : Type 0} (x y : X) → Contains (x ∷ []) y → x ≡ y
 only x y at = ⊎_elim (λ e. e) (λ none. absurd (Contains-nil y none)) (Contains-cases x [] y at)
 
 same_is : (s t : Wire) → IsTrue (same s t) → s ≡ t
@@ -215,8 +215,8 @@ ordered = record {
 }
 
 -- so both theorems speak of it
-example_is_noninterferent : Noninterferent example
+pub example_is_noninterferent : Noninterferent example
 example_is_noninterferent = noninterference example guarded
 
-example_has_one_trace : HasOneTrace example
+pub example_has_one_trace : HasOneTrace example
 example_has_one_trace = one_trace example ordered

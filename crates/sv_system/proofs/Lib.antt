@@ -6,3 +6,13 @@ pub mod Settling
 pub mod OneTrace
 pub mod OneTarget
 pub mod Example
+pub mod Pointwise
+pub mod JoinedCycles
+pub mod JoinedTraces
+pub mod JoinedViews
+pub mod Places
+pub mod Ranks
+pub mod Orders
+pub mod ManyTargets
+pub mod JoinedExample
+pub mod OrdersExample

@@ -50,6 +50,11 @@ module _ {X Y : Type 0} (f : X → Y) where
       (λ inside. let found = Contains-from_map xs z inside in (found.0, Contains-later y xs found.0 found.1, found.2))
       (Contains-cases (f y) (map f xs) z at)
 
+-- two maps one after the other are one
+pub map_map : {A B C : Type 0} (f : B → C) (g : A → B) (xs : List A) → map f (map g xs) ≡ map (λ x. f (g x)) xs
+map_map f g [] = refl
+map_map f g (x ∷ xs) = ap (λ ys. f (g x) ∷ ys) (map_map f g xs)
+
 -- the elements that pass a test, each with its value
 abbrev pub told : {X : Type 0} → (X → Bool) → (X → ℕ) → List X → List (X × ℕ)
 told test value xs = map (λ x. (x, value x)) (filter test xs)
@@ -70,11 +75,15 @@ module _ {X : Type 0} where
   told_step true f x xs = refl
   told_step false f x xs = refl
 
+  -- what a list tells begins with what its first element does
+  pub told_next : (test : X → Bool) (value : X → ℕ) (x : X) (xs : List X) → told test value (x ∷ xs) ≡ cond (test x) ((x, value x) ∷ told test value xs) (told test value xs)
+  told_next test value x xs = told_step (test x) (λ y. (y, value y)) x (filter test xs)
+
   -- tests that agree, and values that agree where the tests pass, tell the same
   pub told_same : (p q : X → Bool) (g h : X → ℕ) (xs : List X) → ((x : X) → Contains xs x → p x ≡ q x) → ((x : X) → Contains xs x → IsTrue (p x) → g x ≡ h x) → told p g xs ≡ told q h xs
   told_same p q g h [] tests values = refl
   told_same p q g h (x ∷ xs) tests values =
-      told_step (p x) (λ y. (y, g y)) x (filter p xs)
+      told_next p g x xs
       ∙ told_first (p x) (q x) x (g x) (h x) (told p g xs) (told q h xs) (tests x (Contains-head x xs)) (values x (Contains-head x xs))
       (told_same p q g h xs (λ y at. tests y (Contains-later x xs y at)) (λ y at. values y (Contains-later x xs y at)))
-      ∙ sym (told_step (q x) (λ y. (y, h y)) x (filter q xs))
+      ∙ sym (told_next q h x xs)

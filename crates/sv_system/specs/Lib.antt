@@ -1,2 +1,4 @@
 pub mod System
 pub mod Facts
+pub mod Joining
+pub mod Schedules

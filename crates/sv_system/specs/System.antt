@@ -6,6 +6,10 @@ use Rattle.std.specs.Prelude.{◌≡◌, ℕ, ◌<◌, ◌^◌, Bool, ◌&&◌, 
 abbrev pub Environment : Type 0 → Type 0
 Environment Signal = Signal → ℕ
 
+-- what one run of a process does to an environment
+abbrev pub Run : Type 0 → Type 0
+Run Signal = (Signal → ℕ) → (Signal → ℕ)
+
 pub record System (Signal Point : Type 0) : Type 0 where
   -- the signals in order, clocks left out
   pub signals : List Signal

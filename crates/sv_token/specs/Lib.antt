@@ -1,1 +1,10 @@
 pub mod Lexemes
+pub mod Bytes
+pub mod Fronts
+pub mod Words
+pub mod Gaps
+pub mod Numerals
+pub mod Signs
+pub mod Tokens
+pub mod Spans
+pub mod Lexed

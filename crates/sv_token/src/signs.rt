@@ -10,7 +10,7 @@ pub struct Operator {
     pub unary: Option<u8>,
 }
 
-/// A sign (IEEE 1364-2005, clause 3.3 for operators).
+/// A sign (IEEE 1364-2005, clause 3).
 #[derive(Clone, Copy, Debug, PartialEq, Eq)]
 pub enum SignKind {
     /// A spelling of the operator tables. `<=` is one, also where it assigns.

@@ -1,0 +1,7 @@
+mod Agreement
+mod Computed
+mod NumberExamples
+mod SignExamples
+mod SpanExamples
+mod TextExamples
+mod WordExamples

@@ -1,1 +1,10 @@
 mod ValueExamples
+mod SmallTrees
+mod InstanceExamples
+mod RunExamples
+mod LabelExamples
+mod DesignExamples
+mod PartExamples
+mod Reaching
+mod PathNames
+mod RunFrames

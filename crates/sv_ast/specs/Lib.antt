@@ -1,3 +1,11 @@
 pub mod Tree
 pub mod Scopes
 pub mod Values
+pub mod Instances
+pub mod Reach
+pub mod Runs
+pub mod Parts
+pub mod ClockPaths
+pub mod Processes
+pub mod SourceLabels
+pub mod Meaning

@@ -1,0 +1,138 @@
+-- Lattices, label maps and labels of small texts.
+use Prim.Native.String.{String}
+use Rattle.std.proofs.Common.{◌≡◌, ℕ, Bool, true, false, List, [], ◌∷◌, Option, Some, None, map, refl, arith}
+use Rattle.std.specs.Prelude.{codes}
+use Rattle.sv_ast.specs.Tree.{LabelTree, point_label, table_label, MapTree, TextTree}
+use Rattle.sv_ast.specs.Reach.{Leads, here, step}
+use Rattle.sv_ast.specs.SourceLabels.{points, pairs, flows, least, is_key, row_at, map_named, label_point}
+use Rattle.sv_ast.proofs.SmallTrees.{somewhere, bits, lattice_with, key, map_with, row, values_are, names}
+
+-- labelmap Dom [0:0] 0: L; default: H; endlabelmap
+abbrev domains : MapTree
+domains = map_with "Dom" None (row (key 0) None "L" ∷ []) (Some "H")
+
+-- labelmap Two [0:0] [0:0] 0, 0: L; default: H; endlabelmap
+abbrev two : MapTree
+two = map_with "Two" (bits 1) (row (key 0) (Some (key 0)) "L" ∷ []) (Some "H")
+
+-- a text without a lattice
+abbrev plain : TextTree
+plain = record { lattice = None; maps = domains ∷ two ∷ []; modules = [] }
+
+abbrev with_lattice : List String → List (String × String) → TextTree
+with_lattice ps qs = record { lattice = Some (lattice_with ps qs); maps = []; modules = [] }
+
+abbrev flow : TextTree → String → String → Bool
+flow text a b = flows text (codes a) (codes b)
+
+pub points_without_a_lattice : points plain ≡ names "L H"
+points_without_a_lattice = refl
+
+pub low_flows_to_high : flow plain "L" "H" ≡ true
+low_flows_to_high = refl
+
+pub high_does_not_flow_to_low : flow plain "H" "L" ≡ false
+high_does_not_flow_to_low = refl
+
+pub high_flows_to_itself : flow plain "H" "H" ≡ true
+high_flows_to_itself = refl
+
+pub low_is_least : least plain ≡ codes "L"
+low_is_least = refl
+
+-- lattice point P, Q, R, T; P <= Q; P <= R; Q <= T; R <= T; endlattice
+abbrev diamond : TextTree
+diamond = with_lattice ("P" ∷ "Q" ∷ "R" ∷ "T" ∷ []) (("P", "Q") ∷ ("P", "R") ∷ ("Q", "T") ∷ ("R", "T") ∷ [])
+
+pub two_pairs_lead_on : flow diamond "P" "T" ≡ true
+two_pairs_lead_on = refl
+
+pub beside_each_other : flow diamond "Q" "R" ≡ false
+beside_each_other = refl
+
+pub not_downwards : flow diamond "T" "Q" ≡ false
+not_downwards = refl
+
+pub the_least_of_four : least diamond ≡ codes "P"
+the_least_of_four = refl
+
+pub two_steps : Leads (pairs diamond) (codes "P") (codes "T")
+two_steps = step (0, omega arith, refl) (step (2, omega arith, refl) here)
+
+-- the longest way through four points, whose pairs stand in the other order
+abbrev chain : TextTree
+chain = with_lattice ("D" ∷ "C" ∷ "B" ∷ "A" ∷ []) (("C", "D") ∷ ("B", "C") ∷ ("A", "B") ∷ [])
+
+pub three_pairs_lead_on : flow chain "A" "D" ≡ true
+three_pairs_lead_on = refl
+
+pub the_least_stands_last : least chain ≡ codes "A"
+the_least_stands_last = refl
+
+pub one_point_is_least : least (with_lattice ("A" ∷ []) []) ≡ codes "A"
+one_point_is_least = refl
+
+-- a key is read by its own sign: 1'sb1 is -1
+pub a_negative_key :
+    is_key (record { value = record { width = 1; signed = true; value = 1; sized = true }; place = somewhere }) 1
+    ≡ false
+a_negative_key = refl
+
+pub an_unsigned_key :
+    is_key (record { value = record { width = 1; signed = false; value = 1; sized = true }; place = somewhere }) 1
+    ≡ true
+an_unsigned_key = refl
+
+pub another_key : is_key (key 2) 1 ≡ false
+another_key = refl
+
+pub row_of_a_key : row_at domains 0 None ≡ Some (codes "L")
+row_of_a_key = refl
+
+pub all_other_keys : row_at domains 1 None ≡ Some (codes "H")
+all_other_keys = refl
+
+pub no_row : row_at (map_with "Hole" None (row (key 0) None "L" ∷ []) None) 1 None ≡ None
+no_row = refl
+
+pub rows_of_pairs : map (λ (v : ℕ × ℕ). row_at two v.0 (Some v.1)) ((0, 0) ∷ (0, 1) ∷ (1, 0) ∷ (1, 1) ∷ [])
+    ≡ Some (codes "L") ∷ Some (codes "H") ∷ Some (codes "H") ∷ Some (codes "H") ∷ []
+rows_of_pairs = refl
+
+pub a_second_value_for_one_range : row_at domains 0 (Some 0) ≡ Some (codes "H")
+a_second_value_for_one_range = refl
+
+pub the_map_of_a_name : map_named plain (codes "Two") ≡ Some two
+the_map_of_a_name = refl
+
+pub no_map_of_a_name : map_named plain (codes "Par") ≡ None
+no_map_of_a_name = refl
+
+pub without_a_label : label_point diamond (values_are []) None ≡ codes "P"
+without_a_label = refl
+
+pub a_declared_point : label_point plain (values_are []) (Some (point_label (codes "H") somewhere))
+    ≡ codes "H"
+a_declared_point = refl
+
+abbrev by_turn : Option LabelTree
+by_turn = Some (table_label (codes "Dom") (codes "turn") None somewhere)
+
+pub the_row_of_turn : label_point plain (values_are (("turn", 0) ∷ [])) by_turn ≡ codes "L"
+the_row_of_turn = refl
+
+pub the_other_row_of_turn : label_point plain (values_are (("turn", 1) ∷ [])) by_turn ≡ codes "H"
+the_other_row_of_turn = refl
+
+-- {Two(p, q)}
+abbrev by_both : Option LabelTree
+by_both = Some (table_label (codes "Two") (codes "p") (Some (codes "q")) somewhere)
+
+pub a_pair_of_zeros : label_point plain (values_are []) by_both ≡ codes "L"
+a_pair_of_zeros = refl
+
+pub the_second_selector_counts : label_point plain (values_are (("q", 1) ∷ [])) by_both ≡ codes "H"
+the_second_selector_counts = refl
+
+pub the_first_selector_counts : label_point plain (values_are (("p", 1) ∷ [])) by_both ≡ codes "H"
+the_first_selector_counts = refl

@@ -1,0 +1,23 @@
+-- What is contained in two lists one after the other.
+use Rattle.std.proofs.Common.{List, [], ◌∷◌, ◌++◌, ◌⊎◌, inl, inr, ⊎_elim, subst}
+use Rattle.std.specs.Prelude.{Contains}
+use Rattle.sv_system.proofs.Lists.{Contains-head, Contains-later, Contains-nil, Contains-cases}
+
+module _ {X : Type 0} where
+  pub Contains-left : (xs ys : List X) (x : X) → Contains xs x → Contains (xs ++ ys) x
+  Contains-left [] ys x at = absurd (Contains-nil x at)
+  Contains-left (z ∷ xs) ys x at = ⊎_elim
+      (λ e. subst (Contains (z ∷ xs ++ ys)) e (Contains-head z (xs ++ ys)))
+      (λ inside. Contains-later z (xs ++ ys) x (Contains-left xs ys x inside))
+      (Contains-cases z xs x at)
+
+  pub Contains-right : (xs ys : List X) (x : X) → Contains ys x → Contains (xs ++ ys) x
+  Contains-right [] ys x at = at
+  Contains-right (z ∷ xs) ys x at = Contains-later z (xs ++ ys) x (Contains-right xs ys x at)
+
+  pub Contains-either : (xs ys : List X) (x : X) → Contains (xs ++ ys) x → Contains xs x ⊎ Contains ys x
+  Contains-either [] ys x at = inr at
+  Contains-either (z ∷ xs) ys x at = ⊎_elim
+      (λ e. inl (subst (Contains (z ∷ xs)) e (Contains-head z xs)))
+      (λ inside. ⊎_elim (λ l. inl (Contains-later z xs x l)) (λ r. inr r) (Contains-either xs ys x inside))
+      (Contains-cases z (xs ++ ys) x at)

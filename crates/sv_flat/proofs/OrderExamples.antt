@@ -1,0 +1,67 @@
+-- Draws, rounds and ordered runs by computation.
+use Rattle.std.proofs.Common.{◌≡◌, ℕ, true, false, List, [], ◌∷◌, refl}
+use Rattle.std.specs.Prelude.{◌%◌, codes, map, slice_index}
+use Rattle.std.specs.List.{range_with_len}
+use Rattle.sv_num.specs.declared.operators.UnOp.TheVariants as unop
+use Rattle.sv_system.specs.System.{Environment}
+use Rattle.sv_flat.specs.declared.signals.SigKind.TheVariants.{TopInput, Output, Net}
+use Rattle.sv_flat.specs.Design.{TypedTree, typed, unary, continuous, FlatDesign}
+use Rattle.sv_flat.specs.Schedules.{next_state, drawn, round, after_schedule, after_rounds, is_quiet, starting, with_inputs}
+use Rattle.sv_flat.proofs.Forms.{at, declares, sets, named, process, over_two_points}
+
+abbrev invert : TypedTree → TypedTree
+invert e = typed 1 false (unary unop.Invert e)
+
+-- module m(input a, output y); wire p, q; assign y = ~q; assign q = ~p; assign p = ~a; endmodule
+abbrev inverters : FlatDesign
+inverters = over_two_points
+    (declares (codes "a") 1 TopInput (at 1 16) ∷ declares (codes "y") 1 Output (at 1 26) ∷ declares (codes "p") 1 Net (at 2 8)
+    ∷ declares (codes "q") 1 Net (at 2 11) ∷ [])
+    (process continuous (at 3 10) (sets 1 (at 3 10) (invert (named 3 (at 3 15))))
+    ∷ process continuous (at 4 10) (sets 3 (at 4 10) (invert (named 2 (at 4 15))))
+    ∷ process continuous (at 5 10) (sets 2 (at 5 10) (invert (named 0 (at 5 15))))
+    ∷ [])
+
+-- a, y, p and q
+abbrev values : Environment ℕ → List ℕ
+values e = map e (range_with_len 0 4)
+
+-- the first draw from 10 and from 11 is 1 modulo 3, so the process of q runs last
+pub first_draw : drawn (next_state 10) % 3 ≡ 1
+first_draw = refl
+
+pub first_draw_of_next_cycle : drawn (next_state 11) % 3 ≡ 1
+first_draw_of_next_cycle = refl
+
+pub q_runs_last : slice_index (round 3 10).order 2 ≡ 1
+q_runs_last = refl
+
+-- the runs of p, q and y in this order settle all
+pub in_order : values (after_schedule inverters (2 ∷ 1 ∷ 0 ∷ []) (with_inputs inverters (λ s. 1) (λ s. 0))) ≡ 1 ∷ 0 ∷ 0 ∷ 1 ∷ []
+in_order = refl
+
+-- cycle 0 takes one round under the number 10
+abbrev begun : Environment ℕ
+begun = with_inputs inverters (λ s. 0) (starting inverters (λ s. 0))
+
+pub not_quiet_before : is_quiet inverters begun ≡ false
+not_quiet_before = refl
+
+pub one_round : is_quiet inverters (after_rounds inverters 10 1 begun) ≡ true
+one_round = refl
+
+pub settled : values (after_rounds inverters 10 1 begun) ≡ 0 ∷ 1 ∷ 1 ∷ 0 ∷ []
+settled = refl
+
+-- cycle 1 goes on from there with a = 1, and takes two
+abbrev next : Environment ℕ
+next = with_inputs inverters (λ s. 1) (after_rounds inverters 10 1 begun)
+
+pub not_quiet_after_one : is_quiet inverters (after_rounds inverters 11 1 next) ≡ false
+not_quiet_after_one = refl
+
+pub two_rounds : is_quiet inverters (after_rounds inverters 11 2 next) ≡ true
+two_rounds = refl
+
+pub settled_again : values (after_rounds inverters 11 2 next) ≡ 1 ∷ 0 ∷ 0 ∷ 1 ∷ []
+settled_again = refl

@@ -1,0 +1,9 @@
+pub mod Computing
+pub mod SmallTexts
+pub mod RuleExamples
+pub mod OrderExamples
+pub mod StepExamples
+pub mod DesignExamples
+pub mod WalkLemmas
+pub mod DeclarationLemmas
+pub mod LatticeLemmas

@@ -1,0 +1,16 @@
+pub mod Walks
+pub mod Rules
+pub mod Names
+pub mod TypedExpressions
+pub mod ExpressionSteps
+pub mod Targets
+pub mod CaseChains
+pub mod Statements
+pub mod Declarations
+pub mod Lattices
+pub mod LabelMaps
+pub mod LabelSteps
+pub mod Overrides
+pub mod Links
+pub mod InstanceSteps
+pub mod Texts

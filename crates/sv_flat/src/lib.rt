@@ -5,11 +5,13 @@
 
 mod designs;
 mod expressions;
+mod laws;
 mod signals;
 mod statements;
 
 pub use designs::{Flat, ProcKind, Process};
 pub use expressions::{FExpr, FNode};
+pub use laws::admitted_designs_are_scheduled;
 pub use signals::{SigId, SigKind, Signal};
 pub use statements::{FStmt, Piece};
 pub use std::alloc::AllocError as OutOfMemory;

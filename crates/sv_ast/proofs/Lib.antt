@@ -1,3 +1,19 @@
+pub mod GrammarReads
+pub mod GrammarReadsExpressions
+pub mod GrammarReadsStatements
+pub mod GrammarReadsModules
+pub mod GrammarComputed
+pub mod GrammarWider
+pub mod GrammarWiderTexts
+pub mod GrammarNesting
+pub mod GrammarOneToken
+pub mod GrammarOneOperand
+pub mod GrammarOneExpression
+pub mod GrammarOneBefore
+pub mod GrammarLaws
+mod GrammarExamples
+mod GrammarTexts
+mod GrammarRefusals
 mod ValueExamples
 mod SmallTrees
 mod InstanceExamples

@@ -1,4 +1,11 @@
 pub mod Tree
+pub mod GrammarForms
+pub mod GrammarGroups
+pub mod GrammarExpressions
+pub mod GrammarStatements
+pub mod GrammarDeclarations
+pub mod GrammarModules
+pub mod GrammarRules
 pub mod Scopes
 pub mod Values
 pub mod Instances

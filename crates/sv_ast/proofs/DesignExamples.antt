@@ -1,15 +1,16 @@
 -- Cycle systems of small texts.
 use Prim.Native.String.{String}
 use Rattle.std.proofs.Common.{◌≡◌, ℕ, true, false, List, [], ◌∷◌, Some, None, map, length, refl}
-use Rattle.std.specs.Prelude.{codes, fold, filter}
+use Rattle.std.specs.Prelude.{codes, fold, filter, flat_map, not, ◌==◌}
 use Rattle.sv_num.specs.declared.operators.UnOp.TheVariants as unop
 use Rattle.sv_num.specs.declared.operators.BinOp.TheVariants as binop
 use Rattle.sv_system.specs.System.{System, Environment}
 use Rattle.sv_ast.specs.declared.declarations.DeclKind.TheVariants as kind
-use Rattle.sv_ast.specs.Tree.{ExpressionTree, unary, part_of, named_overrides, ordered_overrides, named_links, ordered_links, point_label, table_label, if_only, case_of, no_arms, declared, ModuleTree, TextTree}
+use Rattle.sv_ast.specs.Tree.{ExpressionTree, unary, part_of, named_overrides, ordered_overrides, named_links, ordered_links, point_label, table_label, if_only, case_of, no_arms, declared, ItemTree, ModuleTree, TextTree}
 use Rattle.sv_ast.specs.Values.{value, sign_of}
 use Rattle.sv_ast.specs.Runs.{run}
 use Rattle.sv_ast.specs.Parts.{Path, parts_from}
+use Rattle.sv_ast.specs.Processes.{processes_from}
 use Rattle.sv_ast.specs.Meaning.{system}
 use Rattle.sv_ast.proofs.SmallTrees.{somewhere, decimal_of, sized_of, name, op, to, to_part, puts, begin_end, either, arm, bits, declaration_with, declares, input, output, output_reg, parameter_with, assigns_to, whenever, on_edge, link, sets, stands, module_with, text_of, key, map_with, row, names, paths, paths_are, gets, gets_later}
 
@@ -39,7 +40,7 @@ sums = text_of (module_with "m" []
 
 pub the_length_of_the_target : after_all (system sums None) (paths_are (("a", 255) ∷ ("b", 1) ∷ []))
     ≡ 255 ∷ 1 ∷ 256 ∷ 0 ∷ []
-unfolding system parts_from run value sign_of
+unfolding system parts_from processes_from run value sign_of
 the_length_of_the_target = refl
 
 pub signals_in_order : (system sums None).signals ≡ paths "a b s h"
@@ -67,12 +68,12 @@ nested = text_of (module_with "m" []
 
 pub both_are_one : after_all (system nested None) (paths_are (("a", 1) ∷ ("b", 1) ∷ []))
     ≡ 1 ∷ 1 ∷ 1 ∷ 4 ∷ []
-unfolding system parts_from run value sign_of
+unfolding system parts_from processes_from run value sign_of
 both_are_one = refl
 
 pub the_first_is_one : after_all (system nested None) (paths_are (("a", 1) ∷ []))
     ≡ 1 ∷ 0 ∷ 2 ∷ 4 ∷ []
-unfolding system parts_from run value sign_of
+unfolding system parts_from processes_from run value sign_of
 the_first_is_one = refl
 
 -- `reg` alone makes no register
@@ -82,7 +83,7 @@ no_register = refl
 
 pub the_second_is_one : after_all (system nested None) (paths_are (("b", 1) ∷ []))
     ≡ 0 ∷ 1 ∷ 3 ∷ 4 ∷ []
-unfolding system parts_from run value sign_of
+unfolding system parts_from processes_from run value sign_of
 the_second_is_one = refl
 
 -- A complete case.
@@ -98,7 +99,7 @@ turned = text_of (module_with "m" [] (input (bits 2) "s" ∷ output_reg (bits 2)
 
 pub complete_case : map (λ s. after_all (system turned None) (paths_are (("s", s) ∷ []))) (0 ∷ 1 ∷ 2 ∷ 3 ∷ [])
     ≡ (0 ∷ 3 ∷ []) ∷ (1 ∷ 2 ∷ []) ∷ (2 ∷ 1 ∷ []) ∷ (3 ∷ 0 ∷ []) ∷ []
-unfolding system parts_from run value sign_of
+unfolding system parts_from processes_from run value sign_of
 complete_case = refl
 
 -- Two instances with their own parameters and registers.
@@ -143,7 +144,7 @@ two_registers = refl
 
 -- the links of `clk` are no processes
 pub four_links : length (system two_counters None).processes ≡ 4
-unfolding system parts_from
+unfolding system parts_from processes_from
 four_links = refl
 
 abbrev both_full : ℕ → Environment Path
@@ -152,15 +153,15 @@ both_full en = paths_are (("en", en) ∷ ("u.en", en) ∷ ("v.en", en) ∷ ("u.q
 pub links_carry_values :
     after_all (system two_counters None) (paths_are (("en", 1) ∷ ("u.q", 15) ∷ ("v.q", 15) ∷ []))
     ≡ 1 ∷ 15 ∷ 15 ∷ 1 ∷ 15 ∷ 1 ∷ 15 ∷ []
-unfolding system parts_from run value sign_of
+unfolding system parts_from processes_from run value sign_of
 links_carry_values = refl
 
 pub each_counts_at_its_width : stepped (system two_counters None) (both_full 1) ≡ 0 ∷ 16 ∷ []
-unfolding system parts_from run value sign_of
+unfolding system parts_from processes_from run value sign_of
 each_counts_at_its_width = refl
 
 pub registers_keep_their_values : stepped (system two_counters None) (both_full 0) ≡ 15 ∷ 15 ∷ []
-unfolding system parts_from run value sign_of
+unfolding system parts_from processes_from run value sign_of
 registers_keep_their_values = refl
 
 -- under the module asked for
@@ -180,7 +181,7 @@ literals = text_of (module_with "m" []
 
 pub literals_are_sized : after_all (system literals None) (paths_are [])
     ≡ 0xff ∷ 0xffffffffffffffff ∷ 1 ∷ 1 ∷ []
-unfolding system parts_from run value sign_of
+unfolding system parts_from processes_from run value sign_of
 literals_are_sized = refl
 
 -- Joins and parts on the left: {c, s} = a + b, and p from the low half of a and the high half of b.
@@ -201,7 +202,7 @@ pieces_on_the_left = text_of (module_with "m" []
 pub a_carry_and_two_halves :
     after_all (system pieces_on_the_left None) (paths_are (("a", 15) ∷ ("b", 1) ∷ []))
     ≡ 15 ∷ 1 ∷ 0 ∷ 1 ∷ 3 ∷ []
-unfolding system parts_from run value sign_of
+unfolding system parts_from processes_from run value sign_of
 a_carry_and_two_halves = refl
 
 -- Earlier values: t = h; z = t; t = a; y = t;
@@ -216,7 +217,7 @@ earlier_values = text_of (module_with "m" []
 
 pub each_read_in_its_place : after_all (system earlier_values None) (paths_are (("h", 1) ∷ []))
     ≡ 0 ∷ 1 ∷ 0 ∷ 1 ∷ 0 ∷ []
-unfolding system parts_from run value sign_of
+unfolding system parts_from processes_from run value sign_of
 each_read_in_its_place = refl
 
 -- Labels: {Dom(p)} q and {Two(p, q)} d.
@@ -285,5 +286,55 @@ the_selector_outside = refl
 
 -- the empty link is no process
 pub one_link : length (system lanes None).processes ≡ 1
-unfolding system parts_from
+unfolding system parts_from processes_from
 one_link = refl
+
+-- The order of the processes: item by item, of an instance its links and then what stands inside it.
+
+-- module s(input i, output o); wire m = ~i; assign o = ~m; endmodule
+abbrev two_inverters : ModuleTree
+two_inverters = module_with "s" [] (input None "i" ∷ output None "o" ∷ [])
+    (declared (record (declares kind.Wire None "m") { value = Some (unary unop.Invert somewhere (name "i")) })
+    ∷ assigns_to "o" (unary unop.Invert somewhere (name "m")) ∷ [])
+
+abbrev inverters_between : String → String → String → ItemTree
+inverters_between t i o = stands "s" (named_overrides []) t (ordered_links (name i ∷ name o ∷ []))
+
+-- module t(input a, output y); wire x, z; s u(x, z), v(z, y), w(a, x); endmodule
+abbrev three_instances : TextTree
+three_instances = text_of (two_inverters
+    ∷ module_with "t" [] (input None "a" ∷ output None "y" ∷ [])
+    (declared (declares kind.Wire None "x") ∷ declared (declares kind.Wire None "z")
+    ∷ inverters_between "u" "x" "z" ∷ inverters_between "v" "z" "y"
+    ∷ inverters_between "w" "a" "x" ∷ [])
+    ∷ [])
+
+-- the signals that each process changes, process by process, each from the same environment
+abbrev changed_in_order : Design → Environment Path → List Path
+changed_in_order d e = flat_map (λ f. filter (λ s. not (f e s == e s)) d.signals) d.processes
+
+-- in this environment every process changes its target
+pub order_of_the_walk :
+    changed_in_order (system three_instances None)
+    (paths_are (("a", 1) ∷ ("y", 1) ∷ ("x", 1) ∷ ("z", 1) ∷ []))
+    ≡ paths "u.i z u.m u.o v.i y v.m v.o w.i x w.m w.o"
+unfolding system parts_from processes_from run value sign_of
+order_of_the_walk = refl
+
+-- module t(input clk, input d, output y, output z); reg q; assign y = q;
+-- always @(posedge clk) q <= d; s u(q, z); wire w = d; endmodule
+-- an `assign`, an instance and a `wire` in textual order; what is clocked is none of the processes
+abbrev items_between : TextTree
+items_between = text_of (two_inverters
+    ∷ module_with "t" [] (input None "clk" ∷ input None "d" ∷ output None "y" ∷ output None "z" ∷ [])
+    (declared (declares kind.Reg None "q") ∷ assigns_to "y" (name "q")
+    ∷ on_edge "clk" (gets_later "q" (name "d")) ∷ inverters_between "u" "q" "z"
+    ∷ declared (record (declares kind.Wire None "w") { value = Some (name "d") }) ∷ [])
+    ∷ [])
+
+pub order_of_items :
+    changed_in_order (system items_between None)
+    (paths_are (("d", 1) ∷ ("y", 1) ∷ ("z", 1) ∷ ("u.i", 1) ∷ ("u.m", 1) ∷ ("u.o", 0) ∷ []))
+    ≡ paths "y u.i z u.m w"
+unfolding system parts_from processes_from run value sign_of
+order_of_items = refl

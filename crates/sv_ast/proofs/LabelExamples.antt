@@ -1,10 +1,13 @@
 -- Lattices, label maps and labels of small texts.
 use Prim.Native.String.{String}
-use Rattle.std.proofs.Common.{◌≡◌, ℕ, Bool, true, false, List, [], ◌∷◌, Option, Some, None, map, refl, arith}
-use Rattle.std.specs.Prelude.{codes}
+use Rattle.std.proofs.Common.{◌≡◌, ℕ, Bool, true, false, List, [], ◌∷◌, Option, Some, None, map, ◌⊎◌, inl, inr, ⊎_elim, refl, subst, arith}
+use Rattle.std.specs.Prelude.{codes, Contains}
+use Rattle.std.proofs.lemmas.Bool.{false≢true}
+use Rattle.sv_system.proofs.Lists.{Contains-head, Contains-later, Contains-cases, Contains-nil}
 use Rattle.sv_ast.specs.Tree.{LabelTree, point_label, table_label, MapTree, TextTree}
 use Rattle.sv_ast.specs.Reach.{Leads, here, step}
-use Rattle.sv_ast.specs.SourceLabels.{points, pairs, flows, least, is_key, row_at, map_named, label_point}
+use Rattle.sv_ast.specs.SourceLabels.{points, pairs, Flows, flows, least, IsJoin, IsMeet, PointsAreLattice, is_key, row_at, map_named, label_point}
+use Rattle.sv_ast.proofs.Reaching.{HasKnownPoints, flows_by_pairs}
 use Rattle.sv_ast.proofs.SmallTrees.{somewhere, bits, lattice_with, key, map_with, row, values_are, names}
 
 -- labelmap Dom [0:0] 0: L; default: H; endlabelmap
@@ -39,6 +42,74 @@ high_flows_to_itself = refl
 
 pub low_is_least : least plain ≡ codes "L"
 low_is_least = refl
+
+-- The points L and H are a lattice.
+
+-- each point is one of the two
+low_or_high : (a : List ℕ) → Contains (points plain) a → (codes "L" ≡ a) ⊎ (codes "H" ≡ a)
+low_or_high a at = ⊎_elim inl
+    (λ later. ⊎_elim inr (λ none. absurd (Contains-nil a none)) (Contains-cases (codes "H") [] a later))
+    (Contains-cases (codes "L") (codes "H" ∷ []) a at)
+
+-- what holds of L and of H holds of every point
+of_both : (P : List ℕ → Type 0) → P (codes "L") → P (codes "H") → (a : List ℕ) → Contains (points plain) a → P a
+of_both P low high a at = ⊎_elim (λ e. subst P e low) (λ e. subst P e high) (low_or_high a at)
+
+-- both are points
+low_point : Contains (points plain) (codes "L")
+low_point = Contains-head (codes "L") (codes "H" ∷ [])
+
+high_point : Contains (points plain) (codes "H")
+high_point = Contains-later (codes "L") (codes "H" ∷ []) (codes "H") (Contains-head (codes "H") [])
+
+-- the declared pair ends at a point
+ends_are_points : HasKnownPoints plain
+ends_are_points a b at = ⊎_elim
+    (λ e. subst (λ (p : List ℕ × List ℕ). Contains (points plain) p.1) e high_point)
+    (λ none. absurd (Contains-nil (a, b) none))
+    (Contains-cases (codes "L", codes "H") [] (a, b) at)
+
+-- a point is a join where it is the least of those that both flow to
+joined : {a b c : List ℕ} → Contains (points plain) c → Flows plain a c → Flows plain b c
+    → ((d : List ℕ) → Flows plain a d → Flows plain b d → Flows plain c d) → IsJoin plain a b c
+joined at first second others =
+    record { is_point = at; above_first = first; above_second = second; below_others = λ d dt. others d }
+
+-- and a meet where it is the greatest of those that flow to both
+met : {a b c : List ℕ} → Contains (points plain) c → Flows plain c a → Flows plain c b
+    → ((d : List ℕ) → Flows plain d a → Flows plain d b → Flows plain d c) → IsMeet plain a b c
+met at first second others =
+    record { is_point = at; below_first = first; below_second = second; above_others = λ d dt. others d }
+
+low_to_high : Flows plain (codes "L") (codes "H")
+low_to_high = step (0, omega arith, refl) here
+
+-- the test of flows decides it
+not_high_to_low : Flows plain (codes "H") (codes "L") → ⊥
+not_high_to_low way = false≢true ((flows_by_pairs plain ends_are_points (codes "H") (codes "L")).1 way)
+
+pub low_and_high_are_a_lattice : PointsAreLattice plain
+low_and_high_are_a_lattice = record {
+  apart = λ a b at bt. of_both (λ x. Flows plain x b → Flows plain b x → x ≡ b)
+      (of_both (λ y. Flows plain (codes "L") y → Flows plain y (codes "L") → codes "L" ≡ y)
+      (λ there back. refl) (λ there back. absurd (not_high_to_low back)) b bt)
+      (of_both (λ y. Flows plain (codes "H") y → Flows plain y (codes "H") → codes "H" ≡ y)
+      (λ there back. absurd (not_high_to_low there)) (λ there back. refl) b bt) a at;
+  joins = λ a b at bt. of_both (λ x. (c : List ℕ) × IsJoin plain x b c)
+      (of_both (λ y. (c : List ℕ) × IsJoin plain (codes "L") y c)
+      (codes "L", joined low_point here here (λ d first second. first))
+      (codes "H", joined high_point low_to_high here (λ d first second. second)) b bt)
+      (of_both (λ y. (c : List ℕ) × IsJoin plain (codes "H") y c)
+      (codes "H", joined high_point here low_to_high (λ d first second. first))
+      (codes "H", joined high_point here here (λ d first second. first)) b bt) a at;
+  meets = λ a b at bt. of_both (λ x. (c : List ℕ) × IsMeet plain x b c)
+      (of_both (λ y. (c : List ℕ) × IsMeet plain (codes "L") y c)
+      (codes "L", met low_point here here (λ d first second. first))
+      (codes "L", met low_point here low_to_high (λ d first second. first)) b bt)
+      (of_both (λ y. (c : List ℕ) × IsMeet plain (codes "H") y c)
+      (codes "L", met low_point low_to_high here (λ d first second. second))
+      (codes "H", met high_point here here (λ d first second. first)) b bt) a at;
+}
 
 -- lattice point P, Q, R, T; P <= Q; P <= R; Q <= T; R <= T; endlattice
 abbrev diamond : TextTree

@@ -11,6 +11,7 @@ pub mod GrammarOneOperand
 pub mod GrammarOneExpression
 pub mod GrammarOneBefore
 pub mod GrammarLaws
+mod SyntaxLaws
 mod GrammarExamples
 mod GrammarTexts
 mod GrammarRefusals

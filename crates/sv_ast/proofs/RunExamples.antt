@@ -183,9 +183,11 @@ unfolding value sign_of
 five_bits = refl
 
 pub a_whole_target : target_width sum_scope (to "s") ≡ 4
+unfolding value
 a_whole_target = refl
 
 pub a_bit : target_width sum_scope (to_bit "s" 3) ≡ 1
+unfolding value
 a_bit = refl
 
 pub three_bits : target_width sum_scope (to_part "s" 3 1) ≡ 3

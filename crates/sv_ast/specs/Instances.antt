@@ -1,15 +1,13 @@
--- What an instance of a module is made of: parameters with their values, signals with their types, and links (IEEE
--- 1364-2005, clauses 12.1 to 12.3). A look-up may find nothing; such texts are refused.
-use Rattle.std.specs.Prelude.{ℕ, ◌+◌, Bool, true, false, not, if◌then◌else◌, List, [], ◌∷◌, ◌++◌, map, filter, find, zip, filter_map, flat_map, Option, Some, None, option_map, option_and_then, option_to_list, unwrap_or}
+-- What an instance of a module is made of: parameters with values, signals with types, and links
+-- (IEEE 1364-2005, clauses 12.1 to 12.3). A look-up may find nothing; such texts are refused.
+use Rattle.std.specs.Prelude.{ℕ, ◌+◌, Bool, true, false, not, if◌then◌else◌, List, [], ◌∷◌, ◌++◌, map, filter, find, zip, filter_map, flat_map, Option, Some, None, option_and_then, option_to_list, unwrap_or}
 use Rattle.std.specs.List.{list_any}
 use Rattle.std.specs.Str.{bytes_eq}
+-- `entry`: what a list says of a name
+pub use Rattle.sv_token.specs.Bytes.{entry}
 use Rattle.sv_ast.specs.Scopes.{Scope, Number, Binding, parameter, signal}
 use Rattle.sv_ast.specs.Tree.{ExpressionTree, named, SpanTree, DeclarationTree, ParameterTree, NamedOverride, OverrideTrees, named_overrides, ordered_overrides, NamedLink, LinkTrees, named_links, ordered_links, InstanceTree, ItemTree, parameter_item, declared, instance_item, ModuleTree}
-use Rattle.sv_ast.specs.Values.{natural, extended, constant_of, whole_number}
-
--- what a list says of a name: its first entry
-abbrev pub entry : {X : Type 0} → List (List ℕ × X) → List ℕ → Option X
-entry entries n = option_map (λ e. e.1) (find (λ e. bytes_eq n e.0) entries)
+use Rattle.sv_ast.specs.Values.{extended, constant_of, bound_of}
 
 -- Modules and their top (clause 12.1.1).
 
@@ -40,7 +38,7 @@ abbrev pub only : {X : Type 0} → List X → Option X
 only (x ∷ []) = Some x
 only _ = None
 
--- the top module: the one asked for, or else the only one without instances of it (this project's profile)
+-- the top module: the one asked for (this project's profile), or else the only uninstanced one
 abbrev pub top_module : List ModuleTree → (asked : Option (List ℕ)) → Option ModuleTree
 top_module modules (Some n) = module_named modules n
 top_module modules None = only (uninstanced modules)
@@ -57,8 +55,8 @@ abbrev pub parameter_of : ItemTree → Option ParameterTree
 parameter_of (parameter_item p) = Some p
 parameter_of _ = None
 
--- the parameters that an instance may set, in textual order: those of the header or, where it has none, those of the
--- body that are not local (this project's profile)
+-- the parameters that an instance may set, in textual order: those of the header or, where it has
+-- none, those of the body that are not local (this project's profile)
 abbrev pub open_parameters : ModuleTree → List ParameterTree
 open_parameters m = if is_empty m.parameters
     then filter (λ (p : ParameterTree). not p.local) (filter_map parameter_of m.items)
@@ -66,17 +64,18 @@ open_parameters m = if is_empty m.parameters
 
 -- the parameters that an instance sets, each with its value: a constant of the instance outside
 abbrev pub settings : (outer : Scope) → ModuleTree → OverrideTrees → List (List ℕ × Number)
-settings outer m (named_overrides os) = map (λ (o : NamedOverride). (o.name, constant_of outer o.value)) os
+settings outer m (named_overrides os) =
+    map (λ (o : NamedOverride). (o.name, constant_of outer o.value)) os
 settings outer m (ordered_overrides es) =
     zip (map (λ (p : ParameterTree). p.name) (open_parameters m)) (map (constant_of outer) es)
 
 -- the length that a range gives, 1 without one (clause 4.3.1)
 abbrev pub span_width : Scope → Option SpanTree → ℕ
-span_width scope (Some span) = natural (whole_number scope span.high) + 1
+span_width scope (Some span) = bound_of scope span.high + 1
 span_width scope None = 1
 
--- a parameter's value from its final one: without a range as it is, with one converted as in an assignment to that
--- range (clause 4.10.1)
+-- a parameter's value from its final one: without a range as it is, with one converted as in an
+-- assignment to that range (clause 4.10.1)
 abbrev pub in_range : Scope → (signed : Bool) → Option SpanTree → (final : Number) → Number
 in_range scope signed None final = final
 in_range scope signed (Some span) final = record {
@@ -103,8 +102,8 @@ binding_of set scope (declared d) = Some (d.name, signal (span_width scope d.spa
 binding_of set scope _ = None
 
 -- the bindings of some items after the earlier ones, each item in the scope of those before it
-abbrev pub bindings_after : List (List ℕ × Number) → (earlier : List (List ℕ × Binding)) → List ItemTree
-    → List (List ℕ × Binding)
+abbrev pub bindings_after : List (List ℕ × Number) → (earlier : List (List ℕ × Binding))
+    → List ItemTree → List (List ℕ × Binding)
 bindings_after set earlier [] = earlier
 bindings_after set earlier (i ∷ is) =
     bindings_after set (earlier ++ option_to_list (binding_of set (entry earlier) i)) is
@@ -123,10 +122,12 @@ scope_of set m = entry (bindings set m)
 abbrev pub port_named : ModuleTree → List ℕ → Option DeclarationTree
 port_named m n = find (λ (d : DeclarationTree). bytes_eq n d.name) m.ports
 
--- the ports that an instance links, in textual order: each with its expression, or none where the link is empty
+-- the ports that an instance links, in textual order: each with its expression, or none where the
+-- link is empty
 abbrev pub linked_ports : ModuleTree → LinkTrees → List (List ℕ × Option ExpressionTree)
 linked_ports m (named_links ls) = map (λ (l : NamedLink). (l.name, l.value)) ls
-linked_ports m (ordered_links es) = zip (map (λ (d : DeclarationTree). d.name) m.ports) (map Some es)
+linked_ports m (ordered_links es) =
+    zip (map (λ (d : DeclarationTree). d.name) m.ports) (map Some es)
 
 -- the name that an expression is, where it is a whole name
 abbrev pub whole_name : ExpressionTree → Option (List ℕ)
@@ -140,4 +141,5 @@ is_signal _ = false
 
 -- the signal that an expression names as a whole
 abbrev pub whole_signal : Scope → ExpressionTree → Option (List ℕ)
-whole_signal scope e = option_and_then (λ n. if is_signal (scope n) then Some n else None) (whole_name e)
+whole_signal scope e =
+    option_and_then (λ n. if is_signal (scope n) then Some n else None) (whole_name e)

@@ -6,6 +6,7 @@ pub mod GrammarStatements
 pub mod GrammarDeclarations
 pub mod GrammarModules
 pub mod GrammarRules
+pub mod GrammarMeaning
 pub mod Scopes
 pub mod Values
 pub mod Instances

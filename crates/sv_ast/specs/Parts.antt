@@ -1,4 +1,4 @@
--- The instance tree of a text, as a list of its instances in the order of the walk (IEEE 1364-2005, clause 12.1).
+-- The instances of a text as a list, in the order of the walk (IEEE 1364-2005, clause 12.1).
 use Rattle.std.specs.Prelude.{ℕ, zero, suc, Bool, List, [], ◌∷◌, ◌++◌, map, filter_map, flat_map, Option, Some, None, option_map}
 use Rattle.std.specs.Option.{option_map_or}
 use Rattle.std.specs.Str.{bytes_eq}
@@ -113,4 +113,5 @@ links_to outer inner i = filter_map (port_link outer inner) (linked_ports inner.
 -- the links of the instances that stand in a part
 abbrev pub links_of : List ModuleTree → Part → List PortLink
 links_of modules p =
-    flat_map (λ i. option_map_or (λ inner. links_to p inner i) (child modules p i) []) (instances p.definition)
+    flat_map (λ i. option_map_or (λ inner. links_to p inner i) (child modules p i) [])
+    (instances p.definition)

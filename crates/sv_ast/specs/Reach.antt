@@ -17,5 +17,6 @@ abbrev pub led_on : {X : Type 0} → (same : X → X → Bool) → List (X × X)
 led_on same pairs xs = xs ++ map (λ pair. pair.1) (filter (λ pair. holds same xs pair.0) pairs)
 
 -- what is reached from a list in at most so many steps
-abbrev pub reached : {X : Type 0} → (same : X → X → Bool) → List (X × X) → (steps : ℕ) → List X → List X
+abbrev pub reached : {X : Type 0} → (same : X → X → Bool) → List (X × X) → (steps : ℕ) → List X
+    → List X
 reached same pairs steps xs = iterate (led_on same pairs) steps xs

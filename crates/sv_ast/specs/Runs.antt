@@ -1,13 +1,14 @@
--- What a run of a statement does to the signals of its instance (IEEE 1364-2005, clauses 6 and 9). The signals have their
--- values by name.
-use Rattle.std.specs.Prelude.{ℕ, max, ◌+◌, ◌-◌, ◌*◌, ◌/◌, ◌%◌, ◌^◌, Bool, true, false, cond, ◌==◌, ◌&&◌, if◌then◌else◌, List, [], ◌∷◌, ◌++◌, map, fold}
+-- What a run of a statement does to the signals of its instance (IEEE 1364-2005, clauses 6 and 9).
+-- The signals have their values by name.
+use Rattle.std.specs.Prelude.{ℕ, max, ◌+◌, ◌*◌, ◌/◌, ◌%◌, ◌^◌, Bool, true, false, cond, ◌==◌, ◌&&◌, if◌then◌else◌, List, [], ◌∷◌, ◌++◌, map, fold}
 use Rattle.std.specs.List.{list_any}
 use Rattle.std.specs.Str.{bytes_eq}
+use Rattle.sv_num.specs.declared.faults.Place.{Place}
 use Rattle.sv_num.specs.Vectors.{is_true}
 use Rattle.sv_system.specs.Facts.{put}
-use Rattle.sv_ast.specs.Scopes.{Scope, width_of}
-use Rattle.sv_ast.specs.Tree.{ExpressionTree, Selection, whole, bit_at, part_from, TargetTree, StatementTree, null, assignment, block, if_only, if_else, case_of, StatementTrees, no_statements, more_statements, ArmTrees, no_arms, more_arms}
-use Rattle.sv_ast.specs.Values.{natural, length_of, sign_of, value, own_value, whole_number, assigned_value}
+use Rattle.sv_ast.specs.Scopes.{Scope}
+use Rattle.sv_ast.specs.Tree.{ExpressionTree, named, bit_of, part_of, Selection, whole, bit_at, part_from, TargetTree, StatementTree, null, assignment, block, if_only, if_else, case_of, StatementTrees, no_statements, more_statements, ArmTrees, no_arms, more_arms}
+use Rattle.sv_ast.specs.Values.{length_of, sign_of, value, own_value, bound_of, assigned_value}
 
 -- the values of an instance's signals, and the updates that are pending, the oldest first
 pub record Running : Type 0 where
@@ -15,7 +16,8 @@ pub record Running : Type 0 where
   pub updates : List (List ℕ × ℕ)
 
 -- the value of a name's last update, or the old value where there is none
-abbrev pub last_update : {Name : Type 0} → (Name → Name → Bool) → Name → (old : ℕ) → List (Name × ℕ) → ℕ
+abbrev pub last_update : {Name : Type 0} → (Name → Name → Bool) → Name → (old : ℕ)
+    → List (Name × ℕ) → ℕ
 last_update same n old [] = old
 last_update same n old (u ∷ us) = last_update same n (cond (same u.0 n) u.1 old) us
 
@@ -25,19 +27,15 @@ pending r n = last_update bytes_eq n (r.environment n) r.updates
 
 -- Targets and their pieces (clauses 6.1.2 and 9.2).
 
--- how many bits the bounds of a part span
-abbrev pub part_width : Scope → (high low : ExpressionTree) → ℕ
-part_width scope h l = natural (whole_number scope h) + 1 - natural (whole_number scope l)
+-- the selected bits of a signal, as an expression
+abbrev pub selected : List ℕ → Place → Selection → ExpressionTree
+selected n p whole = named n p
+selected n p (bit_at i) = bit_of n p i
+selected n p (part_from h l) = part_of n p h l
 
--- how many bits of a signal are selected, where it has the given width
-abbrev pub selected_width : Scope → (width : ℕ) → Selection → ℕ
-selected_width scope width whole = width
-selected_width scope width (bit_at i) = 1
-selected_width scope width (part_from h l) = part_width scope h l
-
--- how many bits a target has
+-- how many bits a target has: the length of the expression that it is
 abbrev pub target_width : Scope → TargetTree → ℕ
-target_width scope t = selected_width scope (width_of (scope t.name)) t.selection
+target_width scope t = length_of scope (selected t.name t.place t.selection)
 
 -- the bits of all targets together
 abbrev pub targets_width : Scope → List TargetTree → ℕ
@@ -47,28 +45,34 @@ targets_width scope (t ∷ ts) = target_width scope t + targets_width scope ts
 -- each target with its piece of a value: the last target has the lowest bits
 abbrev pub pieces : Scope → List TargetTree → (value : ℕ) → List (TargetTree × ℕ)
 pieces scope [] v = []
-pieces scope (t ∷ ts) v = (t, v / 2 ^ targets_width scope ts % 2 ^ target_width scope t) ∷ pieces scope ts v
+pieces scope (t ∷ ts) v =
+    (t, v / 2 ^ targets_width scope ts % 2 ^ target_width scope t) ∷ pieces scope ts v
 
 -- a value with so many bits from `low` up replaced by a piece
 abbrev pub with_bits : (low count old piece : ℕ) → ℕ
-with_bits low count old piece = old % 2 ^ low + piece * 2 ^ low + old / 2 ^ (low + count) * 2 ^ (low + count)
+with_bits low count old piece =
+    old % 2 ^ low + piece * 2 ^ low + old / 2 ^ (low + count) * 2 ^ (low + count)
 
--- a signal's old value with the selected bits replaced by a piece
-abbrev pub replaced : Scope → Selection → (old piece : ℕ) → ℕ
-replaced scope whole old piece = piece
-replaced scope (bit_at i) old piece = with_bits (natural (whole_number scope i)) 1 old piece
-replaced scope (part_from h l) old piece = with_bits (natural (whole_number scope l)) (part_width scope h l) old piece
+-- a signal's old value with the selected bits, so many, replaced by a piece
+abbrev pub replaced : Scope → (count : ℕ) → Selection → (old piece : ℕ) → ℕ
+replaced scope count whole old piece = piece
+replaced scope count (bit_at i) old piece = with_bits (bound_of scope i) count old piece
+replaced scope count (part_from h l) old piece = with_bits (bound_of scope l) count old piece
 
--- A blocking assignment puts a piece into its target's bits. A nonblocking one appends an update of the signal: its last
--- pending value, or else its present one, with the target's bits replaced.
+-- a signal's old value with a target's bits replaced by a piece
+abbrev pub with_piece : Scope → TargetTree → (old piece : ℕ) → ℕ
+with_piece scope t old piece = replaced scope (target_width scope t) t.selection old piece
+
+-- A blocking assignment puts a piece into its target's bits. A nonblocking one appends an update of
+-- the signal: its last pending value, or else its present one, with the target's bits replaced.
 abbrev pub assign_piece : Scope → (blocking : Bool) → Running → TargetTree × ℕ → Running
 assign_piece scope true r (t, piece) = record {
-  environment = put bytes_eq t.name (replaced scope t.selection (r.environment t.name) piece) r.environment;
+  environment = put bytes_eq t.name (with_piece scope t (r.environment t.name) piece) r.environment;
   updates = r.updates;
 }
 assign_piece scope false r (t, piece) = record {
   environment = r.environment;
-  updates = r.updates ++ (t.name, replaced scope t.selection (pending r t.name) piece) ∷ [];
+  updates = r.updates ++ (t.name, with_piece scope t (pending r t.name) piece) ∷ [];
 }
 
 -- an assignment: the value of its right side in pieces, put one after the other in textual order
@@ -76,7 +80,8 @@ abbrev pub assign : Scope → (blocking : Bool) → List TargetTree → Expressi
 assign scope blocking ts e r = fold (assign_piece scope blocking) r
     (pieces scope ts (assigned_value scope r.environment (targets_width scope ts) e))
 
--- The common type of a case: selector and items are sized to the longest, and signed only if all are (clause 9.5).
+-- The common type of a case: selector and items are sized to the longest, and signed only if all
+-- are (clause 9.5).
 
 -- the greatest length of some items
 abbrev pub items_length : Scope → List ExpressionTree → ℕ
@@ -91,7 +96,8 @@ items_sign scope (e ∷ es) = sign_of scope e && items_sign scope es
 -- the greatest length of the items of all arms
 abbrev pub arms_length : Scope → ArmTrees → ℕ
 arms_length scope no_arms = 0
-arms_length scope (more_arms p items body arms) = max (items_length scope items) (arms_length scope arms)
+arms_length scope (more_arms p items body arms) =
+    max (items_length scope items) (arms_length scope arms)
 
 -- whether all items of all arms are signed
 abbrev pub arms_sign : Scope → ArmTrees → Bool
@@ -107,8 +113,8 @@ abbrev pub case_sign : Scope → (selector : ExpressionTree) → ArmTrees → Bo
 case_sign scope e arms = sign_of scope e && arms_sign scope arms
 
 -- whether an item has the selector's value at the common length and sign
-abbrev pub has_item : Scope → (environment : List ℕ → ℕ) → (length : ℕ) → (signed : Bool) → (selector : ℕ)
-    → List ExpressionTree → Bool
+abbrev pub has_item : Scope → (environment : List ℕ → ℕ) → (length : ℕ) → (signed : Bool)
+    → (selector : ℕ) → List ExpressionTree → Bool
 has_item scope environment n s v items =
     list_any (λ (item : ExpressionTree). value scope environment item n s == v) items
 
@@ -118,10 +124,12 @@ unfoldable mutual
   run scope null r = r
   run scope (assignment ts p blocking e) r = assign scope blocking ts e r
   run scope (block ss) r = run_each scope ss r
-  run scope (if_only p c first) r = if is_true (own_value scope r.environment c) then run scope first r else r
+  run scope (if_only p c first) r =
+      if is_true (own_value scope r.environment c) then run scope first r else r
   run scope (if_else p c first second) r =
       if is_true (own_value scope r.environment c) then run scope first r else run scope second r
-  run scope (case_of p e arms) r = run_arms scope (case_length scope e arms) (case_sign scope e arms)
+  run scope (case_of p e arms) r = run_arms scope
+      (case_length scope e arms) (case_sign scope e arms)
       (value scope r.environment e (case_length scope e arms) (case_sign scope e arms))
       arms (run_default scope arms r) r
 
@@ -130,9 +138,9 @@ unfoldable mutual
   run_each scope no_statements r = r
   run_each scope (more_statements s ss) r = run_each scope ss (run scope s r)
 
-  -- the first arm in textual order that has an item with the selector's value, or else what is given
-  pub run_arms : Scope → (length : ℕ) → (signed : Bool) → (selector : ℕ) → ArmTrees → (otherwise : Running)
-      → Running → Running
+  -- the first arm in textual order with an item of the selector's value, or else what is given
+  pub run_arms : Scope → (length : ℕ) → (signed : Bool) → (selector : ℕ) → ArmTrees
+      → (otherwise : Running) → Running → Running
   run_arms scope n s v no_arms otherwise r = otherwise
   run_arms scope n s v (more_arms p items body arms) otherwise r =
       if has_item scope r.environment n s v items

@@ -1,5 +1,6 @@
--- Length, sign and value of source expressions (IEEE 1364-2005, clauses 5.4 and 5.5). A length and a sign are pushed down to an
--- operand or are its own; a value is a whole number, taken modulo 2^length.
+-- Length, sign and value of source expressions (IEEE 1364-2005, clauses 5.4 and 5.5). A length and
+-- a sign are pushed down to an operand or are its own; a value is a whole number, taken modulo
+-- 2^length.
 use Rattle.std.specs.Prelude.{ℕ, zero, suc, max, ◌+◌, ◌-◌, ◌*◌, ◌/◌, ◌%◌, ◌^◌, Bool, false, ◌&&◌, nat_lt, if◌then◌else◌, List, ℤ, pos, negsuc}
 use Rattle.sv_num.specs.declared.operators.BinOp.{BinOp}
 use Rattle.sv_num.specs.declared.operators.OpClass.{OpClass}
@@ -10,20 +11,25 @@ use Rattle.sv_num.specs.BinaryValues.{class_of, binary_value}
 use Rattle.sv_ast.specs.Scopes.{Scope, Number, width_of, is_signed, value_of}
 use Rattle.sv_ast.specs.Tree.{ExpressionTree, ExpressionTrees, literal, named, bit_of, part_of, unary, binary, choice, join, replication, no_expressions, more_expressions}
 
--- a value at a greater length: with copies of its sign bit where the pushed type is signed, else with zeros (clause 5.5.4)
+-- a value at a greater length: with copies of its sign bit where the pushed type is signed, else
+-- with zeros (clause 5.5.2)
 abbrev pub extended : (signed : Bool) → (from to value : ℕ) → ℕ
 extended signed from to value = reduced to (as_number from signed value)
 
--- bit k of a value of some bits, 0 outside (this project's profile)
+-- bit k of a value of some bits (clause 5.2.1), 0 outside (this project's profile)
 abbrev pub bit_or_zero : (width value : ℕ) → ℤ → ℕ
 bit_or_zero width value (pos k) = if nat_lt k width then value / 2 ^ k % 2 else 0
 bit_or_zero width value (negsuc k) = 0
 
--- the bits of a value from `high` down to `low`
-abbrev pub bits_between : (high low value : ℕ) → ℕ
-bits_between high low value = value / 2 ^ low % 2 ^ (high + 1 - low)
+-- how many bits stand from `high` down to `low`
+abbrev pub span_of : (high low : ℕ) → ℕ
+span_of high low = high + 1 - low
 
--- a value of some bits written so many times
+-- the bits of a value from `high` down to `low` (clause 5.2.1)
+abbrev pub bits_between : (high low value : ℕ) → ℕ
+bits_between high low value = value / 2 ^ low % 2 ^ span_of high low
+
+-- a value of some bits written so many times (clause 5.1.14)
 abbrev pub repeated : (count width value : ℕ) → ℕ
 repeated zero width value = 0
 repeated (suc k) width value = repeated k width value * 2 ^ width + value
@@ -37,9 +43,15 @@ natural (negsuc n) = 0
 abbrev pub at_own : (length : ℕ) → (signed : Bool) → (value : ℕ → Bool → ℕ) → ℤ
 at_own n s v = as_number n s (v n s)
 
+-- likewise as a count or a bound
+abbrev pub bound_at_own : (length : ℕ) → (signed : Bool) → (value : ℕ → Bool → ℕ) → ℕ
+bound_at_own n s v = natural (at_own n s v)
+
 -- the environment of constants, in which no signal has a value
 abbrev pub nowhere : List ℕ → ℕ
 nowhere n = 0
+
+-- Operators.
 
 -- the sign of a binary operator's result, from its operands' (clause 5.5.1)
 abbrev pub binary_sign : OpClass → (left right : Bool) → Bool
@@ -55,7 +67,39 @@ binary_length Compare left right = 1
 binary_length Logical left right = 1
 binary_length Shift left right = left
 
--- an expression's sign (clause 5.5.1): signed only if all its pushed operands are; selects, joins and comparisons are not
+-- an operand: its own length and sign, and its value at each length and sign
+pub record Operand : Type 0 where
+  pub length : ℕ
+  pub signed : Bool
+  pub value : ℕ → Bool → ℕ
+
+-- the operand of this length, sign and value
+abbrev pub operand : (length : ℕ) → (signed : Bool) → (value : ℕ → Bool → ℕ) → Operand
+operand n s v = record { length = n; signed = s; value = v }
+
+-- an operand's value at its own length and sign
+abbrev pub alone : Operand → ℕ
+alone a = a.value a.length a.signed
+
+-- a binary operator's result where a length and a sign are pushed down to both operands
+abbrev pub pushed_result : BinOp → (length : ℕ) → (signed : Bool) → (left right : Operand) → ℕ
+pushed_result op n s a b = binary_value op n s (a.value n s) (b.value n s)
+
+-- a binary operator's result at a length and sign (clauses 5.4.1 and 5.5.2): they are pushed down
+-- to both operands, or to the left one of a shift; the operands of a comparison have a type in
+-- common, all others their own
+abbrev pub binary_result : BinOp → OpClass → (length : ℕ) → (signed : Bool)
+    → (left right : Operand) → ℕ
+binary_result op Context n s a b = pushed_result op n s a b
+binary_result op Compare n s a b =
+    pushed_result op (max a.length b.length) (a.signed && b.signed) a b
+binary_result op Logical n s a b = binary_value op n s (alone a) (alone b)
+binary_result op Shift n s a b = binary_value op n s (a.value n s) (alone b)
+
+-- Expressions.
+
+-- an expression's sign (clause 5.5.1): signed only if all its pushed operands are; selects, joins
+-- and comparisons are not
 unfoldable pub sign_of : Scope → ExpressionTree → Bool
 sign_of scope (literal l p) = l.signed
 sign_of scope (named n p) = is_signed (scope n)
@@ -67,31 +111,23 @@ sign_of scope (choice p c a b) = sign_of scope a && sign_of scope b
 sign_of scope (join p es) = false
 sign_of scope (replication p k es) = false
 
--- the value of a binary operator's result at a length and sign, where the operands' values are given: pushed, at the type of a
--- comparison, or each at its own
-abbrev pub binary_result : BinOp → OpClass → (length : ℕ) → (signed : Bool) → (left right : (length : ℕ) → (signed : Bool) → ℕ)
-    → (own_left own_right : ℕ) → (sign_left sign_right : Bool) → ℕ
-binary_result op Context n s a b own_a own_b sign_a sign_b = binary_value op n s (a n s) (b n s)
-binary_result op Compare n s a b own_a own_b sign_a sign_b =
-    binary_value op (max own_a own_b) (sign_a && sign_b) (a (max own_a own_b) (sign_a && sign_b)) (b (max own_a own_b) (sign_a && sign_b))
-binary_result op Logical n s a b own_a own_b sign_a sign_b = binary_value op n s (a own_a sign_a) (b own_b sign_b)
-binary_result op Shift n s a b own_a own_b sign_a sign_b = binary_value op n s (a n s) (b own_b sign_b)
-
 unfoldable mutual
   -- an expression's own length (clause 5.4.1)
   pub length_of : Scope → ExpressionTree → ℕ
   length_of scope (literal l p) = l.width
   length_of scope (named n p) = width_of (scope n)
   length_of scope (bit_of n p i) = 1
-  length_of scope (part_of n p h l) =
-      natural (at_own (length_of scope h) (sign_of scope h) (value scope nowhere h)) + 1
-      - natural (at_own (length_of scope l) (sign_of scope l) (value scope nowhere l))
+  length_of scope (part_of n p h l) = span_of
+      (bound_at_own (length_of scope h) (sign_of scope h) (value scope nowhere h))
+      (bound_at_own (length_of scope l) (sign_of scope l) (value scope nowhere l))
   length_of scope (unary op p e) = if gives_one_bit op then 1 else length_of scope e
-  length_of scope (binary op p a b) = binary_length (class_of op) (length_of scope a) (length_of scope b)
+  length_of scope (binary op p a b) =
+      binary_length (class_of op) (length_of scope a) (length_of scope b)
   length_of scope (choice p c a b) = max (length_of scope a) (length_of scope b)
   length_of scope (join p es) = joined_length scope es
   length_of scope (replication p k es) =
-      natural (at_own (length_of scope k) (sign_of scope k) (value scope nowhere k)) * joined_length scope es
+      bound_at_own (length_of scope k) (sign_of scope k) (value scope nowhere k)
+      * joined_length scope es
 
   -- the sum of the own lengths
   pub joined_length : Scope → ExpressionTrees → ℕ
@@ -99,35 +135,40 @@ unfoldable mutual
   joined_length scope (more_expressions e es) = length_of scope e + joined_length scope es
 
   -- the value at a length and sign, where the signals have the given values
-  pub value : Scope → (environment : List ℕ → ℕ) → ExpressionTree → (length : ℕ) → (signed : Bool) → ℕ
+  pub value : Scope → (environment : List ℕ → ℕ) → ExpressionTree
+      → (length : ℕ) → (signed : Bool) → ℕ
   value scope environment (literal l p) n s = extended s l.width n l.value
-  value scope environment (named m p) n s = extended s (width_of (scope m)) n (value_of (scope m) (environment m))
+  value scope environment (named m p) n s =
+      extended s (width_of (scope m)) n (value_of (scope m) (environment m))
   value scope environment (bit_of m p i) n s = bit_or_zero (width_of (scope m)) (environment m)
       (at_own (length_of scope i) (sign_of scope i) (value scope environment i))
   value scope environment (part_of m p h l) n s = bits_between
-      (natural (at_own (length_of scope h) (sign_of scope h) (value scope nowhere h)))
-      (natural (at_own (length_of scope l) (sign_of scope l) (value scope nowhere l)))
+      (bound_at_own (length_of scope h) (sign_of scope h) (value scope nowhere h))
+      (bound_at_own (length_of scope l) (sign_of scope l) (value scope nowhere l))
       (environment m)
   value scope environment (unary op p e) n s =
       if gives_one_bit op
-      then unary_value op (length_of scope e) (sign_of scope e) (value scope environment e (length_of scope e) (sign_of scope e))
+      then unary_value op (length_of scope e) (sign_of scope e)
+      (value scope environment e (length_of scope e) (sign_of scope e))
       else unary_value op n s (value scope environment e n s)
-  value scope environment (binary op p a b) n s = binary_result op (class_of op) n s (value scope environment a) (value scope environment b)
-      (length_of scope a) (length_of scope b) (sign_of scope a) (sign_of scope b)
+  value scope environment (binary op p a b) n s = binary_result op (class_of op) n s
+      (operand (length_of scope a) (sign_of scope a) (value scope environment a))
+      (operand (length_of scope b) (sign_of scope b) (value scope environment b))
   value scope environment (choice p c a b) n s =
       if is_true (value scope environment c (length_of scope c) (sign_of scope c))
       then value scope environment a n s
       else value scope environment b n s
   value scope environment (join p es) n s = joined_value scope environment es
   value scope environment (replication p k es) n s = repeated
-      (natural (at_own (length_of scope k) (sign_of scope k) (value scope nowhere k)))
+      (bound_at_own (length_of scope k) (sign_of scope k) (value scope nowhere k))
       (joined_length scope es) (joined_value scope environment es)
 
   -- the parts at their own lengths one behind the other, the first the highest (clause 5.1.14)
   pub joined_value : Scope → (environment : List ℕ → ℕ) → ExpressionTrees → ℕ
   joined_value scope environment no_expressions = 0
   joined_value scope environment (more_expressions e es) =
-      value scope environment e (length_of scope e) (sign_of scope e) * 2 ^ joined_length scope es + joined_value scope environment es
+      value scope environment e (length_of scope e) (sign_of scope e) * 2 ^ joined_length scope es
+      + joined_value scope environment es
 
 -- the value at its own length and sign
 abbrev pub own_value : Scope → (environment : List ℕ → ℕ) → ExpressionTree → ℕ
@@ -135,12 +176,22 @@ own_value scope environment e = value scope environment e (length_of scope e) (s
 
 -- a constant: its value at its own length and sign, which no signal changes
 abbrev pub constant_of : Scope → ExpressionTree → Number
-constant_of scope e = record { width = length_of scope e; signed = sign_of scope e; value = own_value scope nowhere e }
+constant_of scope e = record {
+  width = length_of scope e;
+  signed = sign_of scope e;
+  value = own_value scope nowhere e;
+}
 
 -- a constant as a whole number, read by its own sign
 abbrev pub whole_number : Scope → ExpressionTree → ℤ
 whole_number scope e = at_own (length_of scope e) (sign_of scope e) (value scope nowhere e)
 
--- the value of a right side for targets of so many bits in all (clause 5.4.1): taken at the larger of both lengths, then cut
+-- a constant as a count or a bound
+abbrev pub bound_of : Scope → ExpressionTree → ℕ
+bound_of scope e = natural (whole_number scope e)
+
+-- the value of a right side for targets of so many bits in all (clauses 5.4.1 and 5.5.3): taken at
+-- the larger of both lengths and with its own sign, then cut
 abbrev pub assigned_value : Scope → (environment : List ℕ → ℕ) → (width : ℕ) → ExpressionTree → ℕ
-assigned_value scope environment width e = value scope environment e (max (length_of scope e) width) (sign_of scope e) % 2 ^ width
+assigned_value scope environment width e =
+    value scope environment e (max (length_of scope e) width) (sign_of scope e) % 2 ^ width

@@ -6,11 +6,13 @@
 
 mod declarations;
 mod expressions;
+mod laws;
 mod modules;
 mod statements;
 
 pub use declarations::{Decl, DeclKind, LabelText, MemLabel, Memory, Param, Span};
 pub use expressions::Expr;
+pub use laws::{meanings_break_no_rule, syntax_is_broken_once};
 pub use modules::{Instance, Item, LatticeText, Links, MapText, Module, Overrides, Text};
 pub use statements::{Arm, Select, Stmt, Target};
 pub use std::alloc::AllocError as OutOfMemory;

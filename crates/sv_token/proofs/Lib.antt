@@ -1,4 +1,4 @@
-mod Agreement
+pub mod Agreement
 mod Computed
 mod NumberExamples
 mod SignExamples

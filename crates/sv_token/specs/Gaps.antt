@@ -1,4 +1,5 @@
--- What stands between tokens (IEEE 1364-2005, clause 3): beside blanks, comments and the lines of two directives.
+-- What stands between tokens (IEEE 1364-2005, clause 3): beside blanks, comments, and the lines of
+-- two directives (clause 19), which are passed over (this project's profile).
 use Rattle.std.specs.Prelude.{ℕ, ◌+◌, if◌then◌else◌, List, [], ◌∷◌, drop, take_while, Option, Some, None, option_map, codes}
 use Rattle.std.specs.List.{list_any, position_or_len}
 use Rattle.std.specs.Option.{option_map_or}

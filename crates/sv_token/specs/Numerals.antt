@@ -1,5 +1,7 @@
--- Numbers (IEEE 1364-2005, clause 3.5). A plain decimal has 32 bits and is signed. A based literal has the length
--- that it says, or else 32 bits, and is signed where it says so.
+-- Numbers (IEEE 1364-2005, clause 3.5). A plain decimal is signed. A based literal has the length
+-- that it says, and is signed where it says so. This project's profile: numbers without a length
+-- have 32 bits and are below 2^32, lengths are 1 to 64, values below 2^128, and no blanks stand
+-- within a number.
 use Rattle.std.specs.Prelude.{ℕ, ◌+◌, ◌-◌, ◌*◌, ◌%◌, ◌^◌, Bool, true, false, not, ◌&&◌, ◌||◌, nat_eq, nat_le, nat_lt, if◌then◌else◌, List, [], ◌∷◌, length, drop, filter, find, fold, take_while, Option, Some, None, option_map, is_some, unwrap_or, codes}
 use Rattle.std.specs.List.{list_any, list_all}
 use Rattle.std.specs.Option.{option_map_or}

@@ -1,3 +1,5 @@
+pub mod Rows
+pub mod Members
 pub mod GrammarReads
 pub mod GrammarReadsExpressions
 pub mod GrammarReadsStatements

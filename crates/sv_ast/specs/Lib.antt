@@ -1,4 +1,6 @@
 pub mod Tree
+pub mod Views
+pub mod Shape
 pub mod GrammarForms
 pub mod GrammarGroups
 pub mod GrammarExpressions

@@ -1,6 +1,14 @@
 // What declarations declare.
+ghost use Rattle.std.specs.Prelude.{◌≡◌, map};
+ghost use Rattle.sv_ast.specs.Shape.{is_shaped_span, is_port_kind, is_port, is_inner, is_shaped_declaration};
+ghost use Rattle.sv_ast.specs.Shape.{is_shaped_parameter, are_header_parameters, are_ports, is_shaped_memory, is_plain_span};
+ghost use Rattle.sv_ast.specs.Tree.{SpanTree, LabelTree, DeclarationTree, ParameterTree, MemoryLabelTree, MemoryTree};
+ghost use Rattle.sv_ast.specs.Views.{span_tree, label_tree, declaration_tree, parameter_tree, memory_label_tree, memory_tree};
 
+use crate::copies::Copied;
 use crate::expressions::Expr;
+use crate::shapes::Shaped;
+use std::alloc::{AllocError, Global};
 use sv_num::{Name, Place};
 use sv_token::Lit;
 
@@ -78,4 +86,212 @@ pub struct Memory {
     pub place: Place,
     pub first: Lit,
     pub last: Lit,
+}
+
+impl Copied for Span {
+    ghost Form = { SpanTree };
+
+    ghost form = { span_tree };
+
+    fn copy(&self, alloc: Global) -> Result<Span, AllocError> {
+        Ok(Span {
+            high: self.high.copy(alloc)?,
+            low: self.low.copy(alloc)?,
+        })
+    }
+}
+
+impl Copied for LabelText {
+    ghost Form = { LabelTree };
+
+    ghost form = { label_tree };
+
+    fn copy(&self, alloc: Global) -> Result<LabelText, AllocError> {
+        match self {
+            LabelText::Point(name, place) => Ok(LabelText::Point(name.copy(alloc)?, *place)),
+            LabelText::Table(map, first, second, place) => Ok(LabelText::Table(
+                map.copy(alloc)?,
+                first.copy(alloc)?,
+                second.copy(alloc)?,
+                *place,
+            )),
+        }
+    }
+}
+
+impl Copied for Decl {
+    ghost Form = { DeclarationTree };
+
+    ghost form = { declaration_tree };
+
+    fn copy(&self, alloc: Global) -> Result<Decl, AllocError> {
+        Ok(Decl {
+            kind: self.kind,
+            signed: self.signed,
+            span: self.span.copy(alloc)?,
+            label: self.label.copy(alloc)?,
+            name: self.name.copy(alloc)?,
+            place: self.place,
+            value: self.value.copy(alloc)?,
+        })
+    }
+}
+
+impl Copied for Param {
+    ghost Form = { ParameterTree };
+
+    ghost form = { parameter_tree };
+
+    fn copy(&self, alloc: Global) -> Result<Param, AllocError> {
+        Ok(Param {
+            local: self.local,
+            signed: self.signed,
+            span: self.span.copy(alloc)?,
+            name: self.name.copy(alloc)?,
+            place: self.place,
+            value: self.value.copy(alloc)?,
+        })
+    }
+}
+
+impl Copied for MemLabel {
+    ghost Form = { MemoryLabelTree };
+
+    ghost form = { memory_label_tree };
+
+    fn copy(&self, alloc: Global) -> Result<MemLabel, AllocError> {
+        match self {
+            MemLabel::Point(name, place) => Ok(MemLabel::Point(name.copy(alloc)?, *place)),
+            MemLabel::ByIndex(name, place) => Ok(MemLabel::ByIndex(name.copy(alloc)?, *place)),
+        }
+    }
+}
+
+impl Copied for Memory {
+    ghost Form = { MemoryTree };
+
+    ghost form = { memory_tree };
+
+    fn copy(&self, alloc: Global) -> Result<Memory, AllocError> {
+        Ok(Memory {
+            signed: self.signed,
+            span: self.span.copy(alloc)?,
+            label: self.label.copy(alloc)?,
+            name: self.name.copy(alloc)?,
+            place: self.place,
+            first: self.first,
+            last: self.last,
+        })
+    }
+}
+
+impl Span {
+    // Whether both bounds are numbers.
+    pub(crate) fn is_plain(&self) -> bool
+        ensures { result ≡ is_plain_span (span_tree self.now) }
+    {
+        self.high.is_number() && self.low.is_number()
+    }
+}
+
+impl Shaped for Span {
+    ghost Form = { SpanTree };
+
+    ghost form = { span_tree };
+
+    ghost shaped = { is_shaped_span };
+
+    fn is_shaped(&self) -> bool {
+        self.high.is_shaped() && self.low.is_shaped()
+    }
+}
+
+impl DeclKind {
+    // Whether it is the kind of a port.
+    fn is_port(self) -> bool
+        ensures { result ≡ is_port_kind self }
+    {
+        match self {
+            DeclKind::Input | DeclKind::OutputWire | DeclKind::OutputReg => true,
+            DeclKind::Wire | DeclKind::Reg => false,
+        }
+    }
+}
+
+impl Decl {
+    // Whether it can be a port.
+    fn is_port(&self) -> bool
+        ensures { result ≡ is_port (declaration_tree self.now) }
+    {
+        self.kind.is_port() && self.value.is_none()
+    }
+
+    // Whether it can be an item.
+    pub(crate) fn is_inner(&self) -> bool
+        ensures { result ≡ is_inner (declaration_tree self.now) }
+    {
+        match self.kind {
+            DeclKind::Input | DeclKind::OutputWire | DeclKind::OutputReg => false,
+            DeclKind::Wire => true,
+            DeclKind::Reg => self.value.is_none(),
+        }
+    }
+}
+
+impl Shaped for Decl {
+    ghost Form = { DeclarationTree };
+
+    ghost form = { declaration_tree };
+
+    ghost shaped = { is_shaped_declaration };
+
+    fn is_shaped(&self) -> bool {
+        self.span.is_shaped() && self.value.is_shaped()
+    }
+}
+
+impl Shaped for Param {
+    ghost Form = { ParameterTree };
+
+    ghost form = { parameter_tree };
+
+    ghost shaped = { is_shaped_parameter };
+
+    fn is_shaped(&self) -> bool {
+        self.span.is_shaped() && self.value.is_shaped()
+    }
+}
+
+impl Shaped for Memory {
+    ghost Form = { MemoryTree };
+
+    ghost form = { memory_tree };
+
+    ghost shaped = { is_shaped_memory };
+
+    fn is_shaped(&self) -> bool {
+        self.span.is_shaped()
+    }
+}
+
+pub(crate) fn are_header_params(params: &[Param]) -> bool
+    ensures { result ≡ are_header_parameters (map parameter_tree params.now) }
+{
+    for param in params {
+        if param.local {
+            return false;
+        }
+    }
+    true
+}
+
+pub(crate) fn are_ports(decls: &[Decl]) -> bool
+    ensures { result ≡ are_ports (map declaration_tree decls.now) }
+{
+    for decl in decls {
+        if !decl.is_port() {
+            return false;
+        }
+    }
+    true
 }

@@ -1,8 +1,18 @@
 // Modules and whole texts.
+ghost use Rattle.std.specs.Prelude.{◌≡◌, IfOk};
+ghost use Rattle.sv_ast.specs.Shape.{is_shaped_override, are_shaped_overrides, is_shaped_link, are_shaped_links, is_shaped_instance};
+ghost use Rattle.sv_ast.specs.Shape.{is_shaped_item, is_shaped_module, is_shaped_map, is_shaped};
+ghost use Rattle.sv_ast.specs.Tree.{PlacedName, NamedOverride, OverrideTrees, NamedLink, LinkTrees, InstanceTree, ItemTree};
+ghost use Rattle.sv_ast.specs.Tree.{ModuleTree, PairTree, LatticeTree, RowTree, MapTree};
+ghost use Rattle.sv_ast.specs.Views.{placed_name, named_override, override_trees, named_link, link_trees, instance_tree, item_tree};
+ghost use Rattle.sv_ast.specs.Views.{module_tree, pair_tree, lattice_tree, row_tree, map_tree, text_tree};
 
-use crate::declarations::{Decl, Memory, Param, Span};
+use crate::copies::Copied;
+use crate::declarations::{Decl, Memory, Param, Span, are_header_params, are_ports};
 use crate::expressions::Expr;
-use crate::statements::{Stmt, Target};
+use crate::shapes::Shaped;
+use crate::statements::{Stmt, Target, are_whole_targets};
+use std::alloc::{AllocError, Global};
 use sv_num::{Name, Place};
 use sv_token::Lit;
 
@@ -104,4 +114,334 @@ pub struct Text {
     pub lattice: Option<LatticeText>,
     pub maps: Vec<MapText>,
     pub modules: Vec<Module>,
+}
+
+impl Module {
+    /// A second tree that is equal. It fails where memory runs out.
+    pub fn copy(&self, alloc: Global) -> Result<Module, AllocError>
+        ensures { IfOk result (λ copy. module_tree copy ≡ module_tree self.now) }
+    {
+        Ok(Module {
+            name: self.name.copy(alloc)?,
+            place: self.place,
+            params: self.params.copy(alloc)?,
+            ports: self.ports.copy(alloc)?,
+            items: self.items.copy(alloc)?,
+        })
+    }
+}
+
+impl Text {
+    /// A second tree that is equal. It fails where memory runs out.
+    pub fn copy(&self, alloc: Global) -> Result<Text, AllocError>
+        ensures { IfOk result (λ copy. text_tree copy ≡ text_tree self.now) }
+    {
+        Ok(Text {
+            lattice: self.lattice.copy(alloc)?,
+            maps: self.maps.copy(alloc)?,
+            modules: self.modules.copy(alloc)?,
+        })
+    }
+
+    /// Whether the grammar can give the text: every join, replication and `case` in it has at least one member, and a `case` at
+    /// most one default; ports have the kind of a port and no value, other declarations are a `wire` or a `reg`, and only a
+    /// `wire` has a value; header parameters are not local; the ranges of label maps are plain numbers; and no list of targets
+    /// is empty, those of an `assign` being whole.
+    pub fn is_shaped(&self) -> bool
+        ensures { result ≡ is_shaped (text_tree self.now) }
+    {
+        self.maps.is_shaped() && self.modules.is_shaped()
+    }
+}
+
+impl Copied for (Name, Place) {
+    ghost Form = { PlacedName };
+
+    ghost form = { placed_name };
+
+    fn copy(&self, alloc: Global) -> Result<(Name, Place), AllocError> {
+        Ok((self.0.copy(alloc)?, self.1))
+    }
+}
+
+impl Copied for (Name, Place, Expr) {
+    ghost Form = { NamedOverride };
+
+    ghost form = { named_override };
+
+    fn copy(&self, alloc: Global) -> Result<(Name, Place, Expr), AllocError> {
+        Ok((self.0.copy(alloc)?, self.1, self.2.copy(alloc)?))
+    }
+}
+
+impl Copied for Overrides {
+    ghost Form = { OverrideTrees };
+
+    ghost form = { override_trees };
+
+    fn copy(&self, alloc: Global) -> Result<Overrides, AllocError> {
+        match self {
+            Overrides::Named(values) => Ok(Overrides::Named(values.copy(alloc)?)),
+            Overrides::Ordered(values) => Ok(Overrides::Ordered(values.copy(alloc)?)),
+        }
+    }
+}
+
+impl Copied for (Name, Place, Option<Expr>) {
+    ghost Form = { NamedLink };
+
+    ghost form = { named_link };
+
+    fn copy(&self, alloc: Global) -> Result<(Name, Place, Option<Expr>), AllocError> {
+        Ok((self.0.copy(alloc)?, self.1, self.2.copy(alloc)?))
+    }
+}
+
+impl Copied for Links {
+    ghost Form = { LinkTrees };
+
+    ghost form = { link_trees };
+
+    fn copy(&self, alloc: Global) -> Result<Links, AllocError> {
+        match self {
+            Links::Named(links) => Ok(Links::Named(links.copy(alloc)?)),
+            Links::Ordered(links) => Ok(Links::Ordered(links.copy(alloc)?)),
+        }
+    }
+}
+
+impl Copied for Instance {
+    ghost Form = { InstanceTree };
+
+    ghost form = { instance_tree };
+
+    fn copy(&self, alloc: Global) -> Result<Instance, AllocError> {
+        Ok(Instance {
+            module: self.module.copy(alloc)?,
+            place: self.place,
+            overrides: self.overrides.copy(alloc)?,
+            name: self.name.copy(alloc)?,
+            name_place: self.name_place,
+            links: self.links.copy(alloc)?,
+        })
+    }
+}
+
+impl Copied for Item {
+    ghost Form = { ItemTree };
+
+    ghost form = { item_tree };
+
+    fn copy(&self, alloc: Global) -> Result<Item, AllocError> {
+        match self {
+            Item::Param(param) => Ok(Item::Param(param.copy(alloc)?)),
+            Item::Decl(decl) => Ok(Item::Decl(decl.copy(alloc)?)),
+            Item::Memory(memory) => Ok(Item::Memory(memory.copy(alloc)?)),
+            Item::Assign {
+                targets,
+                place,
+                value,
+            } => Ok(Item::Assign {
+                targets: targets.copy(alloc)?,
+                place: *place,
+                value: value.copy(alloc)?,
+            }),
+            Item::Release {
+                target,
+                place,
+                value,
+                point,
+                point_place,
+            } => Ok(Item::Release {
+                target: target.copy(alloc)?,
+                place: *place,
+                value: value.copy(alloc)?,
+                point: point.copy(alloc)?,
+                point_place: *point_place,
+            }),
+            Item::Always { place, clock, body } => Ok(Item::Always {
+                place: *place,
+                clock: clock.copy(alloc)?,
+                body: body.copy(alloc)?,
+            }),
+            Item::Invariant(place, expr) => Ok(Item::Invariant(*place, expr.copy(alloc)?)),
+            Item::Instance(instance) => Ok(Item::Instance(instance.copy(alloc)?)),
+        }
+    }
+}
+
+impl Copied for Module {
+    ghost Form = { ModuleTree };
+
+    ghost form = { module_tree };
+
+    fn copy(&self, alloc: Global) -> Result<Module, AllocError> {
+        Module::copy(self, alloc)
+    }
+}
+
+impl Copied for (Name, Place, Name, Place) {
+    ghost Form = { PairTree };
+
+    ghost form = { pair_tree };
+
+    fn copy(&self, alloc: Global) -> Result<(Name, Place, Name, Place), AllocError> {
+        Ok((self.0.copy(alloc)?, self.1, self.2.copy(alloc)?, self.3))
+    }
+}
+
+impl Copied for LatticeText {
+    ghost Form = { LatticeTree };
+
+    ghost form = { lattice_tree };
+
+    fn copy(&self, alloc: Global) -> Result<LatticeText, AllocError> {
+        Ok(LatticeText {
+            place: self.place,
+            points: self.points.copy(alloc)?,
+            pairs: self.pairs.copy(alloc)?,
+        })
+    }
+}
+
+impl Copied for MapRow {
+    ghost Form = { RowTree };
+
+    ghost form = { row_tree };
+
+    fn copy(&self, alloc: Global) -> Result<MapRow, AllocError> {
+        Ok((self.0, self.1, self.2, self.3.copy(alloc)?))
+    }
+}
+
+impl Copied for MapText {
+    ghost Form = { MapTree };
+
+    ghost form = { map_tree };
+
+    fn copy(&self, alloc: Global) -> Result<MapText, AllocError> {
+        Ok(MapText {
+            name: self.name.copy(alloc)?,
+            place: self.place,
+            span: self.span.copy(alloc)?,
+            second: self.second.copy(alloc)?,
+            rows: self.rows.copy(alloc)?,
+            other: self.other.copy(alloc)?,
+        })
+    }
+}
+
+impl Shaped for (Name, Place, Expr) {
+    ghost Form = { NamedOverride };
+
+    ghost form = { named_override };
+
+    ghost shaped = { is_shaped_override };
+
+    fn is_shaped(&self) -> bool {
+        self.2.is_shaped()
+    }
+}
+
+impl Shaped for Overrides {
+    ghost Form = { OverrideTrees };
+
+    ghost form = { override_trees };
+
+    ghost shaped = { are_shaped_overrides };
+
+    fn is_shaped(&self) -> bool {
+        match self {
+            Overrides::Named(values) => values.is_shaped(),
+            Overrides::Ordered(values) => values.is_shaped(),
+        }
+    }
+}
+
+impl Shaped for (Name, Place, Option<Expr>) {
+    ghost Form = { NamedLink };
+
+    ghost form = { named_link };
+
+    ghost shaped = { is_shaped_link };
+
+    fn is_shaped(&self) -> bool {
+        self.2.is_shaped()
+    }
+}
+
+impl Shaped for Links {
+    ghost Form = { LinkTrees };
+
+    ghost form = { link_trees };
+
+    ghost shaped = { are_shaped_links };
+
+    fn is_shaped(&self) -> bool {
+        match self {
+            Links::Named(links) => links.is_shaped(),
+            Links::Ordered(links) => links.is_shaped(),
+        }
+    }
+}
+
+impl Shaped for Instance {
+    ghost Form = { InstanceTree };
+
+    ghost form = { instance_tree };
+
+    ghost shaped = { is_shaped_instance };
+
+    fn is_shaped(&self) -> bool {
+        self.overrides.is_shaped() && self.links.is_shaped()
+    }
+}
+
+impl Shaped for Item {
+    ghost Form = { ItemTree };
+
+    ghost form = { item_tree };
+
+    ghost shaped = { is_shaped_item };
+
+    fn is_shaped(&self) -> bool {
+        match self {
+            Item::Param(param) => param.is_shaped(),
+            Item::Decl(decl) => decl.is_inner() && decl.is_shaped(),
+            Item::Memory(memory) => memory.is_shaped(),
+            Item::Assign { targets, value, .. } => are_whole_targets(targets) && value.is_shaped(),
+            Item::Release { value, .. } => value.is_shaped(),
+            Item::Always { body, .. } => body.is_shaped(),
+            Item::Invariant(_, expr) => expr.is_shaped(),
+            Item::Instance(instance) => instance.is_shaped(),
+        }
+    }
+}
+
+impl Shaped for Module {
+    ghost Form = { ModuleTree };
+
+    ghost form = { module_tree };
+
+    ghost shaped = { is_shaped_module };
+
+    fn is_shaped(&self) -> bool {
+        are_header_params(&self.params)
+            && self.params.is_shaped()
+            && are_ports(&self.ports)
+            && self.ports.is_shaped()
+            && self.items.is_shaped()
+    }
+}
+
+impl Shaped for MapText {
+    ghost Form = { MapTree };
+
+    ghost form = { map_tree };
+
+    ghost shaped = { is_shaped_map };
+
+    fn is_shaped(&self) -> bool {
+        self.span.is_plain() && self.second.as_ref().is_none_or(|span| span.is_plain())
+    }
 }

@@ -1,6 +1,15 @@
 // Statements.
+ghost use Rattle.std.specs.Prelude.{◌≡◌, ◌&&◌, nat_le, map, IfOk};
+ghost use Rattle.std.specs.List.{list_all};
+ghost use Rattle.sv_ast.specs.Shape.{is_whole, is_whole_target, is_shaped_selection, is_shaped_target, are_shaped_targets, are_whole_targets};
+ghost use Rattle.sv_ast.specs.Shape.{is_shaped_statement, are_shaped_statements, has_arm, default_count, are_shaped_arms};
+ghost use Rattle.sv_ast.specs.Tree.{Selection, TargetTree, StatementTree};
+ghost use Rattle.sv_ast.specs.Views.{selection_of, target_tree, statement_tree, statement_trees, statements_of, arm_tree, arm_trees, arms_of};
 
+use crate::copies::Copied;
 use crate::expressions::Expr;
+use crate::shapes::Shaped;
+use std::alloc::{AllocError, Global};
 use sv_num::{Name, Place};
 
 /// Which bits of a signal an assignment changes.
@@ -60,4 +69,292 @@ pub enum Stmt {
         selector: Expr,
         arms: Vec<Arm>,
     },
+}
+
+impl Copied for Select {
+    ghost Form = { Selection };
+
+    ghost form = { selection_of };
+
+    fn copy(&self, alloc: Global) -> Result<Select, AllocError> {
+        match self {
+            Select::Whole => Ok(Select::Whole),
+            Select::Bit(index) => Ok(Select::Bit(index.copy(alloc)?)),
+            Select::Part(high, low) => Ok(Select::Part(high.copy(alloc)?, low.copy(alloc)?)),
+        }
+    }
+}
+
+impl Copied for Target {
+    ghost Form = { TargetTree };
+
+    ghost form = { target_tree };
+
+    fn copy(&self, alloc: Global) -> Result<Target, AllocError> {
+        Ok(Target {
+            name: self.name.copy(alloc)?,
+            place: self.place,
+            select: self.select.copy(alloc)?,
+        })
+    }
+}
+
+impl Stmt {
+    /// A second tree that is equal. It fails where memory runs out.
+    #[cycle(statement_copy)]
+    pub fn copy(&self, alloc: Global) -> Result<Stmt, AllocError>
+        ensures { IfOk result (λ copy. statement_tree copy ≡ statement_tree self.now) }
+    {
+        match self {
+            Stmt::Null => Ok(Stmt::Null),
+            Stmt::Assign {
+                targets,
+                place,
+                blocking,
+                value,
+            } => Ok(Stmt::Assign {
+                targets: targets.copy(alloc)?,
+                place: *place,
+                blocking: *blocking,
+                value: value.copy(alloc)?,
+            }),
+            Stmt::Block(stmts) => Ok(Stmt::Block(copies(stmts, alloc)?)),
+            Stmt::If {
+                place,
+                cond,
+                yes,
+                no: None,
+            } => Ok(Stmt::If {
+                place: *place,
+                cond: cond.copy(alloc)?,
+                yes: boxed(yes, alloc)?,
+                no: None,
+            }),
+            Stmt::If {
+                place,
+                cond,
+                yes,
+                no: Some(no),
+            } => Ok(Stmt::If {
+                place: *place,
+                cond: cond.copy(alloc)?,
+                yes: boxed(yes, alloc)?,
+                no: Some(boxed(no, alloc)?),
+            }),
+            Stmt::Case {
+                place,
+                selector,
+                arms,
+            } => Ok(Stmt::Case {
+                place: *place,
+                selector: selector.copy(alloc)?,
+                arms: arm_copies(arms, alloc)?,
+            }),
+        }
+    }
+}
+
+// A copy in a box of its own.
+#[cycle(statement_copy)]
+fn boxed(stmt: &Stmt, alloc: Global) -> Result<Box<Stmt>, AllocError>
+    ensures { IfOk result (λ copy. statement_tree copy.value ≡ statement_tree stmt.now) }
+{
+    Ok(Box::new(alloc, stmt.copy(alloc)?)?)
+}
+
+// A copy of each statement, in order.
+#[cycle(statement_copy)]
+fn copies(stmts: &[Stmt], alloc: Global) -> Result<Vec<Stmt>, AllocError>
+    ensures { IfOk result (λ copies. statement_trees copies.items ≡ statement_trees stmts.now) }
+{
+    let mut copies = Vec::with_capacity(alloc, stmts.len())?;
+    for stmt in stmts {
+        copies.push(stmt.copy(alloc)?)?;
+    }
+    Ok(copies)
+}
+
+// A copy of each arm, in order.
+#[cycle(statement_copy)]
+fn arm_copies(arms: &[Arm], alloc: Global) -> Result<Vec<Arm>, AllocError>
+    ensures { IfOk result (λ copies. arm_trees copies.items ≡ arm_trees arms.now) }
+{
+    let mut copies = Vec::with_capacity(alloc, arms.len())?;
+    for arm in arms {
+        copies.push(arm.copy(alloc)?)?;
+    }
+    Ok(copies)
+}
+
+impl Arm {
+    // A second arm that is equal.
+    #[cycle(statement_copy)]
+    fn copy(&self, alloc: Global) -> Result<Arm, AllocError>
+        ensures { IfOk result (λ copy. arm_tree copy ≡ arm_tree self.now) }
+    {
+        Ok(Arm {
+            place: self.place,
+            items: self.items.copy(alloc)?,
+            body: self.body.copy(alloc)?,
+        })
+    }
+}
+
+impl Copied for Stmt {
+    ghost Form = { StatementTree };
+
+    ghost form = { statement_tree };
+
+    fn copy(&self, alloc: Global) -> Result<Stmt, AllocError> {
+        Stmt::copy(self, alloc)
+    }
+}
+
+impl Select {
+    pub(crate) fn is_whole(&self) -> bool
+        ensures { result ≡ is_whole (selection_of self.now) }
+    {
+        matches!(self, Select::Whole)
+    }
+}
+
+impl Shaped for Select {
+    ghost Form = { Selection };
+
+    ghost form = { selection_of };
+
+    ghost shaped = { is_shaped_selection };
+
+    fn is_shaped(&self) -> bool {
+        match self {
+            Select::Whole => true,
+            Select::Bit(index) => index.is_shaped(),
+            Select::Part(high, low) => high.is_shaped() && low.is_shaped(),
+        }
+    }
+}
+
+impl Shaped for Target {
+    ghost Form = { TargetTree };
+
+    ghost form = { target_tree };
+
+    ghost shaped = { is_shaped_target };
+
+    fn is_shaped(&self) -> bool {
+        self.select.is_shaped()
+    }
+}
+
+// Whether they can be the targets of an assignment.
+fn are_shaped_targets(targets: &Vec<Target>) -> bool
+    ensures { result ≡ are_shaped_targets (map target_tree targets.now.items) }
+{
+    !targets.is_empty() && targets.is_shaped()
+}
+
+// Whether they can be the targets of an `assign`.
+pub(crate) fn are_whole_targets(targets: &[Target]) -> bool
+    ensures { result ≡ are_whole_targets (map target_tree targets.now) }
+{
+    !targets.is_empty() && are_whole(targets)
+}
+
+fn are_whole(targets: &[Target]) -> bool
+    ensures { result ≡ list_all is_whole_target (map target_tree targets.now) }
+{
+    for target in targets {
+        if !target.select.is_whole() {
+            return false;
+        }
+    }
+    true
+}
+
+impl Stmt {
+    // Whether the grammar can give the tree.
+    #[cycle(statement_shape)]
+    pub(crate) fn is_shaped(&self) -> bool
+        ensures { result ≡ is_shaped_statement (statement_tree self.now) }
+    {
+        match self {
+            Stmt::Null => true,
+            Stmt::Assign { targets, value, .. } => are_shaped_targets(targets) && value.is_shaped(),
+            Stmt::Block(stmts) => are_shaped_statements(stmts),
+            Stmt::If {
+                cond,
+                yes,
+                no: None,
+                ..
+            } => cond.is_shaped() && yes.is_shaped(),
+            Stmt::If {
+                cond,
+                yes,
+                no: Some(no),
+                ..
+            } => { cond.is_shaped() && yes.is_shaped() && no.is_shaped() }
+            Stmt::Case { selector, arms, .. } => selector.is_shaped() && are_shaped_arms(arms),
+        }
+    }
+}
+
+#[cycle(statement_shape)]
+fn are_shaped_statements(stmts: &[Stmt]) -> bool
+    ensures { result ≡ are_shaped_statements (statements_of (statement_trees stmts.now)) }
+{
+    for stmt in stmts {
+        if !stmt.is_shaped() {
+            return false;
+        }
+    }
+    true
+}
+
+// Whether they can be the arms of a case.
+#[cycle(statement_shape)]
+fn are_shaped_arms(arms: &[Arm]) -> bool
+    ensures { let trees = arms_of (arm_trees arms.now) in
+        result ≡ (has_arm trees && nat_le (default_count trees) 1 && are_shaped_arms trees) }
+{
+    if arms.is_empty() {
+        return false;
+    }
+    have_one_default(arms) && is_each_shaped(arms)
+}
+
+#[cycle(statement_shape)]
+fn is_each_shaped(arms: &[Arm]) -> bool
+    ensures { result ≡ are_shaped_arms (arms_of (arm_trees arms.now)) }
+{
+    for arm in arms {
+        if !arm.items.is_shaped() || !arm.body.is_shaped() {
+            return false;
+        }
+    }
+    true
+}
+
+// Whether at most one of them is a default.
+fn have_one_default(arms: &[Arm]) -> bool
+    ensures { result ≡ nat_le (default_count (arms_of (arm_trees arms.now))) 1 }
+{
+    let mut defaults: usize = 0;
+    for arm in arms {
+        if arm.items.is_empty() {
+            defaults += 1;
+        }
+    }
+    defaults <= 1
+}
+
+impl Shaped for Stmt {
+    ghost Form = { StatementTree };
+
+    ghost form = { statement_tree };
+
+    ghost shaped = { is_shaped_statement };
+
+    fn is_shaped(&self) -> bool {
+        Stmt::is_shaped(self)
+    }
 }

@@ -1,3 +1,4 @@
+pub mod Rows
 pub mod Forms
 pub mod OrderExamples
 pub mod RuleExamples

@@ -5,6 +5,7 @@ pub mod Blocks
 pub mod Breaches
 pub mod Clocks
 pub mod Design
+pub mod Views
 pub mod Drivers
 pub mod FlatSystem
 pub mod Loops

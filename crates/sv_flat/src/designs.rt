@@ -1,8 +1,13 @@
 // Whole designs.
+ghost use Rattle.std.specs.Prelude.{◌≡◌, IfOk};
+ghost use Rattle.sv_flat.specs.Design.{ProcessForm, InvariantForm};
+ghost use Rattle.sv_flat.specs.Views.{process_form, invariant_form, design_of};
 
+use crate::copies::Copied;
 use crate::expressions::FExpr;
 use crate::signals::{SigId, Signal};
 use crate::statements::FStmt;
+use std::alloc::{AllocError, Global};
 use sv_lattice::{LabelMap, Lattice, Point};
 use sv_num::{Name, Place};
 
@@ -41,4 +46,75 @@ pub struct Flat {
     pub points: Vec<Name>,
     pub maps: Vec<LabelMap>,
     pub invariants: Vec<(Place, FExpr)>,
+}
+
+impl Process {
+    /// A second process that is equal. It fails where memory runs out.
+    pub fn copy(&self, alloc: Global) -> Result<Process, AllocError>
+        ensures { IfOk result (λ copy. process_form copy ≡ process_form self.now) }
+    {
+        Ok(Process {
+            place: self.place,
+            kind: self.kind,
+            body: self.body.copy(alloc)?,
+        })
+    }
+}
+
+impl Copied for Process {
+    ghost Form = { ProcessForm };
+
+    ghost form = { process_form };
+
+    fn copy(&self, alloc: Global) -> Result<Process, AllocError> {
+        Process::copy(self, alloc)
+    }
+}
+
+impl Copied for (Place, FExpr) {
+    ghost Form = { InvariantForm };
+
+    ghost form = { invariant_form };
+
+    fn copy(&self, alloc: Global) -> Result<(Place, FExpr), AllocError> {
+        Ok((self.0, self.1.copy(alloc)?))
+    }
+}
+
+impl Flat {
+    /// A second design that is equal. It fails where memory runs out.
+    pub fn copy(&self, alloc: Global) -> Result<Flat, AllocError>
+        ensures { IfOk result (λ copy. design_of copy ≡ design_of self.now) }
+    {
+        Ok(Flat {
+            signals: self.signals.copy(alloc)?,
+            processes: self.processes.copy(alloc)?,
+            lattice: self.lattice.copy(alloc)?,
+            points: copy_names(&self.points, alloc)?,
+            maps: copy_maps(&self.maps, alloc)?,
+            invariants: self.invariants.copy(alloc)?,
+        })
+    }
+}
+
+// A copy of each name, in order.
+fn copy_names(names: &[Name], alloc: Global) -> Result<Vec<Name>, AllocError>
+    ensures { IfOk result (λ copies. copies.items ≡ names.now) }
+{
+    let mut copies = Vec::with_capacity(alloc, names.len())?;
+    for name in names {
+        copies.push(name.copy(alloc)?)?;
+    }
+    Ok(copies)
+}
+
+// A copy of each label map, in order.
+fn copy_maps(maps: &[LabelMap], alloc: Global) -> Result<Vec<LabelMap>, AllocError>
+    ensures { IfOk result (λ copies. copies.items ≡ maps.now) }
+{
+    let mut copies = Vec::with_capacity(alloc, maps.len())?;
+    for map in maps {
+        copies.push(map.copy(alloc)?)?;
+    }
+    Ok(copies)
 }

@@ -1,6 +1,9 @@
 // Typed expressions.
+ghost use Rattle.std.specs.Prelude.{◌≡◌, IfOk};
+ghost use Rattle.sv_flat.specs.Views.{typed_tree, typed_trees, node_tree};
 
 use crate::signals::SigId;
+use std::alloc::{AllocError, Global};
 use sv_num::{BinOp, Place, UnOp};
 
 /// An expression with the length in bits and the sign that its context gives it (IEEE 1364-2005, clauses 5.4 and 5.5).
@@ -46,4 +49,92 @@ pub enum FNode {
     Mend(SigId, Box<FExpr>, u8, u8, Box<FExpr>),
     /// The bits of an expression's value from the first number down to the second.
     Slice(Box<FExpr>, u8, u8),
+}
+
+impl FExpr {
+    /// A second expression that is equal. It fails where memory runs out.
+    // The calls go as deep as the tree.
+    #[cycle(expression_copy)]
+    pub fn copy(&self, alloc: Global) -> Result<FExpr, AllocError>
+        ensures { IfOk result (λ copy. typed_tree copy ≡ typed_tree self.now) }
+    {
+        Ok(FExpr {
+            width: self.width,
+            signed: self.signed,
+            node: self.node.copy(alloc)?,
+        })
+    }
+}
+
+impl FNode {
+    // A second node that is equal.
+    #[cycle(expression_copy)]
+    fn copy(&self, alloc: Global) -> Result<FNode, AllocError>
+        ensures { IfOk result (λ copy. node_tree copy ≡ node_tree self.now) }
+    {
+        match self {
+            FNode::Number(value) => Ok(FNode::Number(*value)),
+            FNode::Signal(signal, place) => Ok(FNode::Signal(*signal, *place)),
+            FNode::Bit(signal, place, index) => {
+                Ok(FNode::Bit(*signal, *place, boxed(index, alloc)?))
+            }
+            FNode::Part(signal, place, high, low) => Ok(FNode::Part(*signal, *place, *high, *low)),
+            FNode::Unary(op, operand) => Ok(FNode::Unary(*op, boxed(operand, alloc)?)),
+            FNode::Binary(op, left, right) => Ok(FNode::Binary(
+                *op,
+                boxed(left, alloc)?,
+                boxed(right, alloc)?,
+            )),
+            FNode::Choice(place, cond, yes, no) => Ok(FNode::Choice(
+                *place,
+                boxed(cond, alloc)?,
+                boxed(yes, alloc)?,
+                boxed(no, alloc)?,
+            )),
+            FNode::Join(parts) => Ok(FNode::Join(copies(parts, alloc)?)),
+            FNode::Repeat(count, parts) => Ok(FNode::Repeat(*count, copies(parts, alloc)?)),
+            FNode::Held(signal, value) => Ok(FNode::Held(*signal, boxed(value, alloc)?)),
+            FNode::HeldBit(signal, place, value, index) => Ok(FNode::HeldBit(
+                *signal,
+                *place,
+                boxed(value, alloc)?,
+                boxed(index, alloc)?,
+            )),
+            FNode::HeldPart(signal, place, value, high, low) => Ok(FNode::HeldPart(
+                *signal,
+                *place,
+                boxed(value, alloc)?,
+                *high,
+                *low,
+            )),
+            FNode::Mend(signal, old, high, low, piece) => Ok(FNode::Mend(
+                *signal,
+                boxed(old, alloc)?,
+                *high,
+                *low,
+                boxed(piece, alloc)?,
+            )),
+            FNode::Slice(value, high, low) => Ok(FNode::Slice(boxed(value, alloc)?, *high, *low)),
+        }
+    }
+}
+
+// A copy in a box of its own.
+#[cycle(expression_copy)]
+fn boxed(expr: &FExpr, alloc: Global) -> Result<Box<FExpr>, AllocError>
+    ensures { IfOk result (λ copy. typed_tree copy.value ≡ typed_tree expr.now) }
+{
+    Ok(Box::new(alloc, expr.copy(alloc)?)?)
+}
+
+// A copy of each expression, in order.
+#[cycle(expression_copy)]
+fn copies(exprs: &[FExpr], alloc: Global) -> Result<Vec<FExpr>, AllocError>
+    ensures { IfOk result (λ copies. typed_trees copies.items ≡ typed_trees exprs.now) }
+{
+    let mut copies = Vec::with_capacity(alloc, exprs.len())?;
+    for expr in exprs {
+        copies.push(expr.copy(alloc)?)?;
+    }
+    Ok(copies)
 }

@@ -1,8 +1,9 @@
 //! Flat designs: the signals and processes of a whole instance tree, by number, with typed expressions.
 //!
-//! A contract sees a design by its plain form, as `design_of` of `specs/Design.antt` gives it.
+//! A contract sees a design by its plain form, as `design_of` of `specs/Views.antt` gives it.
 #![tactic(auto)]
 
+mod copies;
 mod designs;
 mod expressions;
 mod laws;
@@ -15,3 +16,6 @@ pub use laws::admitted_designs_are_scheduled;
 pub use signals::{SigId, SigKind, Signal};
 pub use statements::{FStmt, Piece};
 pub use std::alloc::AllocError as OutOfMemory;
+
+#[cfg(test)]
+mod tests;

@@ -1,5 +1,10 @@
 // Signals.
+ghost use Rattle.std.specs.Prelude.{◌≡◌, IfOk};
+ghost use Rattle.sv_flat.specs.Design.{SignalForm};
+ghost use Rattle.sv_flat.specs.Views.{signal_form};
 
+use crate::copies::Copied;
+use std::alloc::{AllocError, Global};
 use sv_lattice::Label;
 use sv_num::{Name, Place};
 
@@ -33,4 +38,30 @@ pub struct Signal {
     pub kind: SigKind,
     pub label: Label,
     pub place: Place,
+}
+
+impl Signal {
+    /// A second signal that is equal. It fails where memory runs out.
+    pub fn copy(&self, alloc: Global) -> Result<Signal, AllocError>
+        ensures { IfOk result (λ copy. signal_form copy ≡ signal_form self.now) }
+    {
+        Ok(Signal {
+            name: self.name.copy(alloc)?,
+            width: self.width,
+            signed: self.signed,
+            kind: self.kind,
+            label: self.label,
+            place: self.place,
+        })
+    }
+}
+
+impl Copied for Signal {
+    ghost Form = { SignalForm };
+
+    ghost form = { signal_form };
+
+    fn copy(&self, alloc: Global) -> Result<Signal, AllocError> {
+        Signal::copy(self, alloc)
+    }
 }

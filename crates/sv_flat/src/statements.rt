@@ -1,7 +1,10 @@
 // Statements over typed expressions.
+ghost use Rattle.std.specs.Prelude.{◌≡◌, IfOk};
+ghost use Rattle.sv_flat.specs.Views.{flat_statement, flat_statements};
 
 use crate::expressions::FExpr;
 use crate::signals::SigId;
+use std::alloc::{AllocError, Global};
 use sv_num::Place;
 
 /// What an assignment does to one target: the signal's bits from `high` down to `low` get the value's bits from `from` up.
@@ -35,4 +38,59 @@ pub enum FStmt {
         yes: Box<FStmt>,
         no: Box<FStmt>,
     },
+}
+
+impl FStmt {
+    /// A second statement that is equal. It fails where memory runs out.
+    // The calls go as deep as the tree. The `if`s of one `case` are at most 256 deep.
+    #[cycle(statement_copy)]
+    pub fn copy(&self, alloc: Global) -> Result<FStmt, AllocError>
+        ensures { IfOk result (λ copy. flat_statement copy ≡ flat_statement self.now) }
+    {
+        match self {
+            FStmt::Assign {
+                pieces,
+                place,
+                blocking,
+                value,
+            } => Ok(FStmt::Assign {
+                pieces: pieces.as_slice().to_vec(alloc)?,
+                place: *place,
+                blocking: *blocking,
+                value: value.copy(alloc)?,
+            }),
+            FStmt::Block(stmts) => Ok(FStmt::Block(copies(stmts, alloc)?)),
+            FStmt::If {
+                place,
+                cond,
+                yes,
+                no,
+            } => Ok(FStmt::If {
+                place: *place,
+                cond: cond.copy(alloc)?,
+                yes: boxed(yes, alloc)?,
+                no: boxed(no, alloc)?,
+            }),
+        }
+    }
+}
+
+// A copy in a box of its own.
+#[cycle(statement_copy)]
+fn boxed(stmt: &FStmt, alloc: Global) -> Result<Box<FStmt>, AllocError>
+    ensures { IfOk result (λ copy. flat_statement copy.value ≡ flat_statement stmt.now) }
+{
+    Ok(Box::new(alloc, stmt.copy(alloc)?)?)
+}
+
+// A copy of each statement, in order.
+#[cycle(statement_copy)]
+fn copies(stmts: &[FStmt], alloc: Global) -> Result<Vec<FStmt>, AllocError>
+    ensures { IfOk result (λ copies. flat_statements copies.items ≡ flat_statements stmts.now) }
+{
+    let mut copies = Vec::with_capacity(alloc, stmts.len())?;
+    for stmt in stmts {
+        copies.push(stmt.copy(alloc)?)?;
+    }
+    Ok(copies)
 }

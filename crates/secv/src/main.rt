@@ -1,11 +1,18 @@
 //! The program `secv`: the real files and streams, and one call of `run`.
 #![tactic(auto)]
 
+ghost use Rattle.std.specs.Prelude.{◌≡◌, ◌⊎◌};
+ghost use Rattle.sv_cli.specs.Command.{words_of};
+ghost use Rattle.secv.specs.Ends.{IsShown, Ends};
+
+mod messages;
+
+use messages::{explain, explain_output, explain_words};
 use std::io::{self, ErrorKind};
 use std::process::ExitCode;
 use std::rt::Files;
-use sv_cli::{Outcome, run};
-use sv_io::{FileCabinet, StdSink, StdSource};
+use sv_cli::run;
+use sv_io::{FileCabinet, StdSink, StdSource, put_all};
 
 const HELP: &str =
     "secv checks designs in SecVerilog: Verilog in which every signal has a security label.
@@ -30,22 +37,15 @@ const WRITE_FAULT: u8 = 5;
 const OUT_OF_MEMORY: u8 = 6;
 
 fn main(rt: HostRuntime) -> ExitCode {
-    ExitCode::from(answer(&rt))
-}
-
-// The exit status of one call of the program.
-fn answer(rt: &HostRuntime) -> u8 {
-    match words_of(rt) {
-        Ok(words) => match words.as_slice() {
-            [word] if word.as_str() == "--help" => print(rt, HELP, DONE),
-            [word] if word.as_str() == "--version" => print(rt, VERSION, DONE),
-            words => check(rt, words),
-        },
+    let status = match words_of(&rt) {
+        Ok(words) => answer(&rt, &words),
         Err(error) if error.kind() == ErrorKind::InvalidData => {
-            print(rt, "usage words\n", WRONG_WORDS)
+            explain_words(&rt, "an argument is not UTF-8");
+            print(&rt, "usage words\n", WRONG_WORDS)
         }
         Err(_) => OUT_OF_MEMORY,
-    }
+    };
+    ExitCode::from(status)
 }
 
 // The words after the program's name. One that is not UTF-8 is `InvalidData`.
@@ -54,14 +54,36 @@ fn words_of(rt: &HostRuntime) -> io::Result<Vec<String>> {
     Ok(words)
 }
 
-fn print(rt: &HostRuntime, text: &str, status: u8) -> u8 {
-    match rt.print(text) {
-        Ok(()) => status,
-        Err(_) => WRITE_FAULT,
+// The exit status for these words.
+fn answer(rt: &HostRuntime, words: &[String]) -> u8
+    ensures shown { IsShown (words_of words.now) → (result ≡ 0) ⊎ (result ≡ 5) }
+    ensures ends { (IsShown (words_of words.now) → ⊥) → Ends (words_of words.now) result }
+{
+    match words {
+        [word] if word.as_str() == "--help" => print(rt, HELP, DONE),
+        [word] if word.as_str() == "--version" => print(rt, VERSION, DONE),
+        words => check(rt, words),
     }
 }
 
-fn check(rt: &HostRuntime, words: &[String]) -> u8 {
+// The status, or that of a write fault.
+fn print(rt: &HostRuntime, text: &str, status: u8) -> u8
+    ensures { (result ≡ status) ⊎ (result ≡ 5) }
+{
+    let mut out = StdSink::new(rt.stdout());
+    match put_all(&mut out, text.as_bytes()) {
+        Ok(()) => status,
+        Err(_) => {
+            explain_output(rt, out.last_error());
+            WRITE_FAULT
+        }
+    }
+}
+
+// The status of what `run` answers over the real files and streams.
+fn check(rt: &HostRuntime, words: &[String]) -> u8
+    ensures { Ends (words_of words.now) result }
+{
     let Ok(files) = rt.clone() else {
         return OUT_OF_MEMORY;
     };
@@ -69,19 +91,6 @@ fn check(rt: &HostRuntime, words: &[String]) -> u8 {
     let mut input = StdSource::new(rt.stdin());
     let mut out = StdSink::new(rt.stdout());
     let outcome = run(rt.alloc(), words, &mut cabinet, &mut input, &mut out);
-    explain(rt, words, &outcome);
+    explain(rt, words, &outcome, cabinet.last_error(), out.last_error());
     outcome.status()
-}
-
-// One line for a person where no verdict could be given.
-fn explain(rt: &HostRuntime, words: &[String], outcome: &Outcome) {
-    let _ = match outcome {
-        Outcome::ReadFault => match words {
-            [_, file, ..] => eprintln!(rt; "secv: the file {file} could not be read"),
-            _ => Ok(()),
-        },
-        Outcome::WriteFault => rt.eprintln("secv: the output could not be written"),
-        Outcome::OutOfMemory => rt.eprintln("secv: memory ran out"),
-        _ => Ok(()),
-    };
 }

@@ -1,2 +1,3 @@
 pub mod Verdicts
+mod Unfalsified
 pub mod Telling

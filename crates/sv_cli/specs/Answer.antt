@@ -1,5 +1,5 @@
 -- What the program answers, and when.
-use Rattle.std.specs.Prelude.{◌≡◌, ℕ, ◌+◌, ◌<◌, ◌≤◌, not, IsTrue, List, [], length, take, slice_get, Option, Some, None, MatchOption}
+use Rattle.std.specs.Prelude.{◌≡◌, ℕ, ◌+◌, ◌<◌, ◌≤◌, ◌⊎◌, ◌++◌, ◌∷◌, not, IsTrue, List, [], length, take, slice_get, Option, Some, None, MatchOption}
 use Rattle.std.specs.List.{list_all, find}
 use Rattle.sv_num.specs.declared.faults.Place.{Place}
 use Rattle.sv_system.specs.System.{Noninterferent, HasOneTrace}
@@ -13,7 +13,8 @@ use Rattle.sv_cli.specs.declared.outcome.Valuation.{Valuation}
 use Rattle.sv_cli.specs.declared.outcome.Outcome.{Outcome}
 use Rattle.sv_cli.specs.declared.outcome.Outcome.TheVariants as outcome
 use Rattle.sv_cli.specs.declared.outcome.Broken.TheVariants as broken
-use Rattle.sv_cli.specs.Command.{usage_of}
+use Rattle.sv_io.specs.Exchange.{Exchange, fetched, whole, too_long}
+use Rattle.sv_cli.specs.Command.{usage_of, file_of}
 use Rattle.sv_cli.specs.Text.{usage_text, accepted_text, not_built_text, file_size_text, leak_text}
 
 -- the exit status
@@ -88,7 +89,18 @@ IsVerdict text (limit_passed number names) printed = (largest_file < length text
 IsVerdict text (falsified number v) printed = IsFalsified text number v printed
 IsVerdict text (misused kind) printed = ⊥
 
--- What the program answers to these words, where FILE holds this text, and what it prints.
+-- One fetch of FILE was made, and it handed out this text: all of it or, where FILE is larger than the largest file, its first
+-- bytes, one more than are allowed.
+abbrev pub ReadsFile : List ℕ → List ℕ → List Exchange → List Exchange → Type 0
+ReadsFile file text old new = ((new ≡ old ++ fetched file (whole text) ∷ []) × (length text ≤ largest_file))
+    ⊎ ((new ≡ old ++ fetched file (too_long text) ∷ []) × (length text ≡ largest_file + 1))
+
+-- What passes between the program and the cabinet for these words, where the text is read: the one fetch of FILE, and nothing
+-- where the words are no command.
+abbrev pub Reads : List (List ℕ) → List ℕ → List Exchange → List Exchange → Type 0
+Reads words text old new = MatchOption (usage_of words) (ReadsFile (file_of words) text old new) (λ kind. new ≡ old)
+
+-- What the program answers to these words and the text that it reads, and what it prints.
 abbrev pub IsAnswer : List (List ℕ) → List ℕ → Answer → List ℕ → Type 0
 IsAnswer words text answer printed = MatchOption (usage_of words) (IsVerdict text answer printed) (λ kind. (answer ≡ misused kind) × (printed ≡ usage_text kind))
 

@@ -1,6 +1,5 @@
 -- What a report has to be.
-use Rattle.sv_io.specs.Cabinet.{bytes_under}
-use Rattle.std.specs.Prelude.{◌≡◌, ℕ, Bool, IsTrue, List, Option, Some, length, replicate}
+use Rattle.std.specs.Prelude.{◌≡◌, ℕ, List, Some, length, replicate}
 use Rattle.sv_first_ast.specs.Obligations.{Values}
 use Rattle.sv_first_flow.specs.declared.leak.Leak.{Leak}
 use Rattle.sv_cli.specs.declared.outcome.Outcome.{Outcome}
@@ -22,7 +21,3 @@ pub record Decides (text : List ℕ) (outcome : Outcome) (printed : List ℕ) : 
   pub verdict : IsVerdict text answer printed
   pub only : (other : Answer) (others : List ℕ) → IsVerdict text other others → (other ≡ answer) × (others ≡ printed)
   pub secrets : outcome ≡ Done → KeepsSecrets text
-
--- the text is what the cabinet holds under the name, where it tells what it holds
-abbrev pub IsTold : Bool → (List ℕ → Option (List ℕ)) → List ℕ → List ℕ → Type 0
-IsTold tells held file text = IsTrue tells → text ≡ bytes_under held file

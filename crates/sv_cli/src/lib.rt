@@ -4,12 +4,14 @@
 //! text's cycle meaning that look alike to a level have equal views for it at every cycle.
 #![tactic(auto)]
 
+mod arguments;
+mod laws;
 mod outcome;
 mod report;
 mod text;
 mod top;
-mod words;
 
+pub use laws::flow_holds_where_nothing_falsifies_it;
 pub use outcome::{Broken, Outcome, UsageKind, Valuation};
 pub use top::run;
 

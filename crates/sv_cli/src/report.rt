@@ -18,7 +18,7 @@ pub struct Report {
     pub text: Vec<u8>,
 }
 
-pub fn misused(alloc: Global, kind: UsageKind) -> Result<Report, AllocError>
+pub fn report_of_misuse(alloc: Global, kind: UsageKind) -> Result<Report, AllocError>
     ensures answer { IfOk result (λ report. answer_of report.outcome ≡ Some (misused kind)) }
     ensures text { IfOk result (λ report. report.text.items ≡ usage_text kind) }
 {
@@ -29,7 +29,7 @@ pub fn misused(alloc: Global, kind: UsageKind) -> Result<Report, AllocError>
     })
 }
 
-pub fn file_too_large(alloc: Global) -> Result<Report, AllocError>
+pub fn report_of_large_file(alloc: Global) -> Result<Report, AllocError>
     ensures answer { IfOk result (λ report. answer_of report.outcome ≡ Some (limit_passed 701 [])) }
     ensures text { IfOk result (λ report. report.text.items ≡ file_size_text) }
 {
@@ -40,7 +40,7 @@ pub fn file_too_large(alloc: Global) -> Result<Report, AllocError>
     })
 }
 
-fn not_built(alloc: Global) -> Result<Report, AllocError>
+fn report_of_unbuilt_form(alloc: Global) -> Result<Report, AllocError>
     ensures answer { IfOk result (λ report. answer_of report.outcome ≡ Some (rule_broken 199 (record { line = 1; column = 1 }) [])) }
     ensures text { IfOk result (λ report. report.text.items ≡ not_built_text) }
 {
@@ -56,7 +56,7 @@ fn not_built(alloc: Global) -> Result<Report, AllocError>
     })
 }
 
-fn holding(alloc: Global, count: u32) -> Result<Report, AllocError>
+fn report_of_acceptance(alloc: Global, count: u32) -> Result<Report, AllocError>
     ensures answer { IfOk result (λ report. answer_of report.outcome ≡ Some accepted) }
     ensures text { IfOk result (λ report. report.text.items ≡ accepted_text count) }
 {
@@ -80,7 +80,7 @@ fn zeros(alloc: Global, leak: &Leak) -> Result<Valuation, AllocError>
     })
 }
 
-fn failing(alloc: Global, leak: &Leak) -> Result<Report, AllocError>
+fn report_of_leak(alloc: Global, leak: &Leak) -> Result<Report, AllocError>
     ensures answer { IfOk result (λ report. answer_of report.outcome ≡ Some (falsified leak.now.obligation (zeros_for leak.now))) }
     ensures text { IfOk result (λ report. report.text.items ≡ flow_text leak.now.obligation leak.now.target leak.now.read leak.now.clocked leak.now.registers.items leak.now.inputs.items (zeros_for leak.now)) }
 {
@@ -98,11 +98,11 @@ pub fn report_on(alloc: Global, bytes: &[u8]) -> Result<Report, AllocError>
     ensures { IfOk result (λ report. Decides bytes.now report.outcome report.text.items) }
 {
     let Some(module) = read_module(alloc, bytes)? else {
-        return not_built(alloc);
+        return report_of_unbuilt_form(alloc);
     };
     match check(alloc, &module)? {
-        None => not_built(alloc),
-        Some(Finding::Holds(count)) => holding(alloc, count),
-        Some(Finding::Leaks(leak)) => failing(alloc, &leak),
+        None => report_of_unbuilt_form(alloc),
+        Some(Finding::Holds(count)) => report_of_acceptance(alloc, count),
+        Some(Finding::Leaks(leak)) => report_of_leak(alloc, &leak),
     }
 }

@@ -1,15 +1,16 @@
 // The top call.
-ghost use Rattle.std.specs.Prelude.{◌≡◌, ◌++◌, ℕ, List, IsTrue, None, Some, IfOk, IfErr, IfSome, IfNone, IsSome, MatchOption, ⊤};
-ghost use Rattle.sv_io.specs.Cabinet.{bytes_under};
+ghost use Rattle.std.specs.Prelude.{◌≡◌, ◌∷◌, ◌++◌, ◌+◌, ◌≤◌, ℕ, List, [], IsTrue, None, Some, Err, IfOk, IfErr, IfSome, IfNone, IsSome, IsErrOf, MatchOption, length, take, vec_len, ⊤};
+ghost use Rattle.sv_io.specs.Cabinet.{bytes_under, IfLong};
 ghost use Rattle.sv_io.specs.Count.{Rose};
+ghost use Rattle.sv_io.specs.Exchange.{Fetched, nothing, fetched, fetched_of, whole};
 ghost use Rattle.sv_io.specs.Sink.{WritesFront};
 ghost use Rattle.sv_cli.specs.Command.{words_of, usage_of, file_of};
-ghost use Rattle.sv_cli.specs.Answer.{Answer, answer_of, misused, IsAnswer, IsVerdict, KeepsSecrets};
-ghost use Rattle.sv_cli.specs.Report.{Decides, IsTold};
+ghost use Rattle.sv_cli.specs.Answer.{Answer, answer_of, misused, largest_file, ReadsFile, Reads, IsAnswer, IsVerdict, KeepsSecrets};
+ghost use Rattle.sv_cli.specs.Report.{Decides};
 
+use crate::arguments::read_words;
 use crate::outcome::Outcome;
-use crate::report::{Report, file_too_large, misused, report_on};
-use crate::words::read_words;
+use crate::report::{Report, report_of_large_file, report_of_misuse, report_on};
 use std::alloc::Global;
 use sv_io::{Cabinet, FetchFault, PutFault, Sink, Source, put_all};
 
@@ -23,7 +24,9 @@ enum NoReport {
     OutOfMemory,
 }
 
-/// Does what the words ask: `check FILE` checks the file's text. It answers, and writes, as the definitions of `Answer` say.
+/// Does what the words ask: `check FILE` checks the file's text. It fetches FILE once, judges what that fetch handed out, and writes
+/// the answer, as the definitions of `Answer` say. What it says of a text holds for every cabinet and sink, those of the real system
+/// among them.
 pub fn run<C: Cabinet, S: Source, K: Sink>(
     alloc: Global,
     words: &[String],
@@ -31,23 +34,37 @@ pub fn run<C: Cabinet, S: Source, K: Sink>(
     input: &mut S,
     out: &mut K,
 ) -> Outcome
-    // The headline: an accepted text keeps its secrets.
+    // The headline: the text that the one fetch of FILE handed out keeps its secrets where it is accepted.
     ensures noninterference { result ≡ Outcome.Done →
-        (text : List ℕ) × IsTold C.tells (C.held cabinet.old) (file_of (words_of words.now)) text × KeepsSecrets text }
+        (text : List ℕ) × (C.exchanges cabinet.new ≡ C.exchanges cabinet.old ++ fetched (file_of (words_of words.now)) (whole text) ∷ [])
+        × KeepsSecrets text }
 
-    // The answer is that of the words and the text, and the whole of what is defined was written.
+    // The answer is that of the words and the text that was read, and the whole of what is defined was accepted by the output.
     ensures answer { IfSome (answer_of result)
-        (λ a. (text printed : List ℕ) × IsTold C.tells (C.held cabinet.old) (file_of (words_of words.now)) text
+        (λ a. (text printed : List ℕ) × Reads (words_of words.now) text (C.exchanges cabinet.old) (C.exchanges cabinet.new)
         × IsAnswer (words_of words.now) text a printed
-        × (IsTrue K.tells → K.written out.new ≡ K.written out.old ++ printed)) }
+        × (K.accepted out.new ≡ K.accepted out.old ++ printed)) }
     // No other answer is that of the words and the text.
-    ensures only { IsTrue C.tells → (a : Answer) (printed : List ℕ) →
-        IsAnswer (words_of words.now) (bytes_under (C.held cabinet.old) (file_of (words_of words.now))) a printed →
+    ensures only { (text : List ℕ) (a : Answer) (printed : List ℕ) →
+        Reads (words_of words.now) text (C.exchanges cabinet.old) (C.exchanges cabinet.new) →
+        IsAnswer (words_of words.now) text a printed →
         IfSome (answer_of result) (λ b. b ≡ a) }
-    // Without an answer a front of what is defined was written.
-    ensures front { IsTrue C.tells → IsTrue K.tells → (a : Answer) (printed : List ℕ) →
-        IsAnswer (words_of words.now) (bytes_under (C.held cabinet.old) (file_of (words_of words.now))) a printed →
-        IfNone (answer_of result) (WritesFront (K.written out.old) printed (K.written out.new)) }
+    // Without an answer a front of what is defined was accepted, and nothing where nothing was read.
+    ensures front { (text : List ℕ) (a : Answer) (printed : List ℕ) →
+        Reads (words_of words.now) text (C.exchanges cabinet.old) (C.exchanges cabinet.new) →
+        IsAnswer (words_of words.now) text a printed →
+        IfNone (answer_of result) (WritesFront (K.accepted out.old) printed (K.accepted out.new)) }
+    ensures silent { C.exchanges cabinet.new ≡ C.exchanges cabinet.old ++ fetched (file_of (words_of words.now)) nothing ∷ [] →
+        K.accepted out.new ≡ K.accepted out.old }
+
+    // FILE is fetched once, and nothing else passes between the program and the cabinet.
+    ensures one_fetch { MatchOption (usage_of (words_of words.now))
+        ((got : Fetched) × (C.exchanges cabinet.new ≡ C.exchanges cabinet.old ++ fetched (file_of (words_of words.now)) got ∷ []))
+        (λ kind. C.exchanges cabinet.new ≡ C.exchanges cabinet.old) }
+    // What was read is what FILE held, or the front of it that shows that it is too large.
+    ensures told { IsTrue C.tells → usage_of (words_of words.now) ≡ None → (text : List ℕ) →
+        ReadsFile (file_of (words_of words.now)) text (C.exchanges cabinet.old) (C.exchanges cabinet.new) →
+        text ≡ take (largest_file + 1) (bytes_under (C.held cabinet.old) (file_of (words_of words.now))) }
 
     // Words that are no command are never taken for one, nor a command for such words.
     ensures usage { MatchOption (usage_of (words_of words.now)) ⊤
@@ -58,12 +75,13 @@ pub fn run<C: Cabinet, S: Source, K: Sink>(
     ensures write_fault { result ≡ Outcome.WriteFault → Rose (K.faults out.old) (K.faults out.new) }
 
     ensures cabinet_unchanged { (name : List ℕ) → C.held cabinet.new name ≡ C.held cabinet.old name }
-    ensures input_untouched { S.left input.new ≡ S.left input.old }
+    ensures input_left { S.left input.new ≡ S.left input.old }
+    ensures input_untouched { S.given input.new ≡ S.given input.old }
 {
     let _ = input;
     match read_words(words) {
         Ok(file) => check_file(alloc, file, cabinet, out),
-        Err(kind) => match misused(alloc, kind) {
+        Err(kind) => match report_of_misuse(alloc, kind) {
             Ok(report) => send(out, report),
             Err(_) => Outcome::OutOfMemory,
         },
@@ -77,16 +95,25 @@ fn check_file<C: Cabinet, K: Sink>(
     out: &mut K,
 ) -> Outcome
     ensures noninterference { result ≡ Outcome.Done →
-        (text : List ℕ) × IsTold C.tells (C.held cabinet.old) file.now text × KeepsSecrets text }
+        (text : List ℕ) × (C.exchanges cabinet.new ≡ C.exchanges cabinet.old ++ fetched file.now (whole text) ∷ []) × KeepsSecrets text }
     ensures answer { IfSome (answer_of result)
-        (λ a. (text printed : List ℕ) × IsTold C.tells (C.held cabinet.old) file.now text × IsVerdict text a printed
-        × (IsTrue K.tells → K.written out.new ≡ K.written out.old ++ printed)) }
-    ensures only { IsTrue C.tells → (a : Answer) (printed : List ℕ) →
-        IsVerdict (bytes_under (C.held cabinet.old) file.now) a printed →
+        (λ a. (text printed : List ℕ) × ReadsFile file.now text (C.exchanges cabinet.old) (C.exchanges cabinet.new)
+        × IsVerdict text a printed
+        × (K.accepted out.new ≡ K.accepted out.old ++ printed)) }
+    ensures only { (text : List ℕ) (a : Answer) (printed : List ℕ) →
+        ReadsFile file.now text (C.exchanges cabinet.old) (C.exchanges cabinet.new) →
+        IsVerdict text a printed →
         IfSome (answer_of result) (λ b. b ≡ a) }
-    ensures front { IsTrue C.tells → IsTrue K.tells → (a : Answer) (printed : List ℕ) →
-        IsVerdict (bytes_under (C.held cabinet.old) file.now) a printed →
-        IfNone (answer_of result) (WritesFront (K.written out.old) printed (K.written out.new)) }
+    ensures front { (text : List ℕ) (a : Answer) (printed : List ℕ) →
+        ReadsFile file.now text (C.exchanges cabinet.old) (C.exchanges cabinet.new) →
+        IsVerdict text a printed →
+        IfNone (answer_of result) (WritesFront (K.accepted out.old) printed (K.accepted out.new)) }
+    ensures silent { C.exchanges cabinet.new ≡ C.exchanges cabinet.old ++ fetched file.now nothing ∷ [] →
+        K.accepted out.new ≡ K.accepted out.old }
+    ensures one_fetch { (got : Fetched) × (C.exchanges cabinet.new ≡ C.exchanges cabinet.old ++ fetched file.now got ∷ []) }
+    ensures told { IsTrue C.tells → (text : List ℕ) →
+        ReadsFile file.now text (C.exchanges cabinet.old) (C.exchanges cabinet.new) →
+        text ≡ take (largest_file + 1) (bytes_under (C.held cabinet.old) file.now) }
     ensures read_fault { result ≡ Outcome.ReadFault →
         Rose (C.fetch_faults cabinet.old file.now) (C.fetch_faults cabinet.new file.now) }
     ensures write_fault { result ≡ Outcome.WriteFault → Rose (K.faults out.old) (K.faults out.new) }
@@ -105,18 +132,22 @@ fn report_on_file<C: Cabinet>(
     cabinet: &mut C,
 ) -> Result<Report, NoReport>
     ensures report { IfOk result
-        (λ report. (text : List ℕ) × IsTold C.tells (C.held cabinet.old) file.now text
+        (λ report. (text : List ℕ) × ReadsFile file.now text (C.exchanges cabinet.old) (C.exchanges cabinet.new)
         × Decides text report.outcome report.text.items) }
+    ensures one_fetch { (got : Fetched) × (C.exchanges cabinet.new ≡ C.exchanges cabinet.old ++ fetched file.now got ∷ []) }
+    ensures told { IsTrue C.tells → (text : List ℕ) →
+        ReadsFile file.now text (C.exchanges cabinet.old) (C.exchanges cabinet.new) →
+        text ≡ take (largest_file + 1) (bytes_under (C.held cabinet.old) file.now) }
     ensures unread { result ≡ Err NoReport.Unread →
         Rose (C.fetch_faults cabinet.old file.now) (C.fetch_faults cabinet.new file.now) }
     ensures cabinet_unchanged { (name : List ℕ) → C.held cabinet.new name ≡ C.held cabinet.old name }
 {
-    match cabinet.fetch(alloc, file, LARGEST_FILE) {
+    match fetch_text(alloc, file, cabinet) {
         Ok(bytes) => match report_on(alloc, &bytes) {
             Ok(report) => Ok(report),
             Err(_) => Err(NoReport::OutOfMemory),
         },
-        Err(FetchFault::Long(_)) => match file_too_large(alloc) {
+        Err(FetchFault::Long(_)) => match report_of_large_file(alloc) {
             Ok(report) => Ok(report),
             Err(_) => Err(NoReport::OutOfMemory),
         },
@@ -125,15 +156,28 @@ fn report_on_file<C: Cabinet>(
     }
 }
 
-// Writes a report. Its outcome is the answer where all of it was written.
+// The text of the file, where it is within the limit.
+fn fetch_text<C: Cabinet>(alloc: Global, file: &str, cabinet: &mut C) -> Result<Vec<u8>, FetchFault>
+    ensures exchange { C.exchanges cabinet.new ≡ C.exchanges cabinet.old ++ fetched file.now (fetched_of result) ∷ [] }
+    ensures within { IfOk result (λ bytes. vec_len bytes ≤ largest_file) }
+    ensures long_length { IfLong result (λ bytes. length bytes ≡ largest_file + 1) }
+    ensures told { IsTrue C.tells → (text : List ℕ) →
+        ReadsFile file.now text (C.exchanges cabinet.old) (C.exchanges cabinet.new) →
+        text ≡ take (largest_file + 1) (bytes_under (C.held cabinet.old) file.now) }
+    ensures failed { IsErrOf result FetchFault.Failed →
+        Rose (C.fetch_faults cabinet.old file.now) (C.fetch_faults cabinet.new file.now) }
+    ensures unchanged { (name : List ℕ) → C.held cabinet.new name ≡ C.held cabinet.old name }
+{
+    cabinet.fetch(alloc, file, LARGEST_FILE)
+}
+
+// Writes a report. Its outcome is the answer where all of it was accepted.
 fn send<K: Sink>(out: &mut K, report: Report) -> Outcome
     requires { IsSome (answer_of report.outcome) }
     ensures answered { IfSome (answer_of result) (λ a. answer_of report.outcome ≡ Some a) }
     ensures done { result ≡ Outcome.Done → report.outcome ≡ Outcome.Done }
-    ensures whole { IsTrue K.tells →
-        IfSome (answer_of result) (λ _. K.written out.new ≡ K.written out.old ++ report.text.items) }
-    ensures front { IsTrue K.tells →
-        IfNone (answer_of result) (WritesFront (K.written out.old) report.text.items (K.written out.new)) }
+    ensures whole { IfSome (answer_of result) (λ _. K.accepted out.new ≡ K.accepted out.old ++ report.text.items) }
+    ensures front { IfNone (answer_of result) (WritesFront (K.accepted out.old) report.text.items (K.accepted out.new)) }
     ensures no_read { result ≡ Outcome.ReadFault → ⊥ }
     ensures write_fault { result ≡ Outcome.WriteFault → Rose (K.faults out.old) (K.faults out.new) }
 {

@@ -1,4 +1,4 @@
--- What parts of a text that are written one after another add up to.
+-- What parts of a text that are accepted one after another add up to.
 use Rattle.std.proofs.Common.{◌≡◌, ℕ, List, [], ◌++◌, refl, arith}
 use Rattle.std.proofs.lemmas.Grind.{common_steps}
 use Rattle.sv_io.specs.Sink.{WritesFront}
@@ -9,7 +9,7 @@ writes_front_more old text more new wrote = record {
   front = wrote.front;
   rest = wrote.rest ++ more;
   whole = grind (arith, common_steps, wrote.whole);
-  written = wrote.written;
+  accepted = wrote.accepted;
 }
 
 -- a whole text and then the front of the next
@@ -18,16 +18,16 @@ writes_front_after old text between more new whole wrote = record {
   front = text ++ wrote.front;
   rest = wrote.rest;
   whole = grind (arith, common_steps, wrote.whole);
-  written = grind (arith, common_steps, wrote.written, whole);
+  accepted = grind (arith, common_steps, wrote.accepted, whole);
 }
 
--- nothing was written: the front of every text
+-- nothing was accepted: the front of every text
 pub writes_front_none : (old text new : List ℕ) → new ≡ old → WritesFront old text new
 writes_front_none old text new same = record {
   front = [];
   rest = text;
   whole = refl;
-  written = grind (arith, common_steps, same);
+  accepted = grind (arith, common_steps, same);
 }
 
 -- the whole text is a front of it
@@ -36,5 +36,5 @@ writes_front_whole old text new whole = record {
   front = text;
   rest = [];
   whole = grind (arith, common_steps);
-  written = whole;
+  accepted = whole;
 }

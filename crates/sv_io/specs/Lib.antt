@@ -1,6 +1,10 @@
 pub mod Cabinet
+pub mod Called
 pub mod Count
+pub mod Exchange
+pub mod ExchangeCode
 pub mod Files
 pub mod Mem
 pub mod Sink
 pub mod Sure
+pub mod System

@@ -1,13 +1,18 @@
 -- What the objects in memory that fail on demand hold, and which of their calls fail.
-use Rattle.std.specs.Prelude.{ℕ, List, Option, drop}
+use Rattle.std.specs.Prelude.{ℕ, List, Option, take, drop}
 use Rattle.sv_io.specs.declared.mem.MemCabinet.{MemCabinet}
 use Rattle.sv_io.specs.declared.mem.MemSource.{MemSource}
 use Rattle.sv_io.specs.declared.mem.MemSink.{MemSink}
+use Rattle.sv_io.specs.Exchange.{Exchange}
 use Rattle.sv_io.specs.Files.{files_held, count_of}
 
 -- the bytes under each name
 abbrev pub mem_held : MemCabinet → List ℕ → Option (List ℕ)
 mem_held cabinet name = files_held cabinet.files name
+
+-- all calls so far
+abbrev pub mem_exchanges : MemCabinet → List Exchange
+mem_exchanges cabinet = cabinet.exchanges.calls
 
 -- how often fetches of each name have failed
 abbrev pub fetch_faults_of : MemCabinet → List ℕ → ℕ
@@ -28,6 +33,10 @@ cabinet_failing cabinet = cabinet.calls.failing.items
 abbrev pub mem_left : MemSource → List ℕ
 mem_left source = drop source.at source.all.items
 
+-- the bytes that were given
+abbrev pub mem_given : MemSource → List ℕ
+mem_given source = take source.at source.all.items
+
 -- how many takes there were, how many of them failed, and the numbers of those that fail
 abbrev pub source_calls : MemSource → ℕ
 source_calls source = source.calls.made
@@ -42,9 +51,9 @@ source_failing source = source.calls.failing.items
 abbrev pub source_most : MemSource → ℕ
 source_most source = source.most
 
--- the bytes that were written
-abbrev pub mem_written : MemSink → List ℕ
-mem_written sink = sink.all.items
+-- the bytes that were accepted
+abbrev pub mem_accepted : MemSink → List ℕ
+mem_accepted sink = sink.all.items
 
 -- how many puts there were, how many of them failed, and the numbers of those that fail
 abbrev pub sink_calls : MemSink → ℕ

@@ -5,6 +5,7 @@
 mod calls;
 mod faults;
 mod files;
+mod history;
 mod mem;
 mod pieces;
 mod sure;

@@ -1,12 +1,14 @@
-ghost use Rattle.std.specs.Prelude.{◌≡◌, ◌≢◌, ℕ, ◌+◌, ◌<◌, ◌≤◌, ◌↔◌, ◌⊎◌, Bool, true, IsTrue, [], List, ◌++◌, take, length, min, Option, None, Some, Ok, Err, IfOk, OnOk, OnErr, IsOk, IsErr, IsErrOf, vec_len};
+ghost use Rattle.std.specs.Prelude.{◌≡◌, ◌≢◌, ℕ, ◌+◌, ◌<◌, ◌≤◌, ◌↔◌, ◌⊎◌, Bool, true, IsTrue, [], List, ◌∷◌, ◌++◌, take, length, min, Option, None, Some, Ok, Err, IfOk, OnOk, OnErr, IsOk, IsErr, IsErrOf, vec_len};
 ghost use Rattle.std.specs.Option.{option_copied};
 ghost use Rattle.sv_io.specs.Cabinet.{bytes_under, IfLong, KeepsOrBegins};
 ghost use Rattle.sv_io.specs.Count.{Rose, one_more, is_failing};
+ghost use Rattle.sv_io.specs.Exchange.{fetched, stored, fetched_of, is_done};
 
 use super::OutOfMemory;
 use super::calls::Calls;
 use super::faults::{Failed, FetchFault, PutFault, StoreFault};
 use super::files::{Counts, Files, copy_within, count_one, file_named, put_file};
+use super::history::{Call, Exchanges};
 use super::pieces::copy_front;
 use super::traits::{Cabinet, Sink, Source};
 use std::alloc::Global;
@@ -19,15 +21,17 @@ pub struct MemCabinet {
     fetches: Counts,
     stores: Counts,
     calls: Calls,
+    exchanges: Exchanges,
     alloc: Global,
 }
 
 impl MemCabinet {
-    ghost use Rattle.sv_io.specs.Mem.{mem_held, fetch_faults_of, store_faults_of, cabinet_calls, cabinet_failing};
+    ghost use Rattle.sv_io.specs.Mem.{mem_exchanges, mem_held, fetch_faults_of, store_faults_of, cabinet_calls, cabinet_failing};
 
     /// A cabinet that holds no name. The calls whose numbers stand in `failing` will fail; numbers of
     /// calls stop at the greatest u64.
     pub fn new(alloc: Global, failing: Vec<u32>) -> MemCabinet
+        ensures no_exchange { mem_exchanges result ≡ [] }
         ensures holds_none { (name : List ℕ) → mem_held result name ≡ None }
         ensures no_fetch_failed { (name : List ℕ) → fetch_faults_of result name ≡ 0 }
         ensures no_store_failed { (name : List ℕ) → store_faults_of result name ≡ 0 }
@@ -39,6 +43,7 @@ impl MemCabinet {
             fetches: Counts::new(alloc),
             stores: Counts::new(alloc),
             calls: Calls::new(failing),
+            exchanges: Exchanges::new(),
             alloc,
         }
     }
@@ -61,10 +66,42 @@ impl MemCabinet {
             fetch_faults_of self.new other ≡ fetch_faults_of self.old other }
         ensures store_counts { (other : List ℕ) →
             store_faults_of self.new other ≡ store_faults_of self.old other }
+        ensures exchanges { mem_exchanges self.new ≡ mem_exchanges self.old }
         ensures calls { cabinet_calls self.new ≡ cabinet_calls self.old }
         ensures failing { cabinet_failing self.new ≡ cabinet_failing self.old }
     {
         put_file(&mut self.files, self.alloc, name, bytes)
+    }
+
+    // Keeps what a fetch of the name answers.
+    fn fetched(
+        &mut self,
+        name: &str,
+        answer: Result<Vec<u8>, FetchFault>,
+    ) -> Result<Vec<u8>, FetchFault>
+        ensures same { result ≡ answer }
+        ensures exchange { mem_exchanges self.new ≡
+            mem_exchanges self.old ++ fetched name.now (fetched_of answer) ∷ [] }
+        ensures rest { self.new ≡ record self.old { exchanges = self.new.exchanges } }
+    {
+        self.exchanges = self.exchanges.and(&Call::Fetch(name, &answer));
+        answer
+    }
+
+    // Keeps what a store of the bytes under the name answers.
+    fn stored(
+        &mut self,
+        name: &str,
+        bytes: &[u8],
+        answer: Result<(), StoreFault>,
+    ) -> Result<(), StoreFault>
+        ensures same { result ≡ answer }
+        ensures exchange { mem_exchanges self.new ≡
+            mem_exchanges self.old ++ stored name.now bytes.now (is_done answer) ∷ [] }
+        ensures rest { self.new ≡ record self.old { exchanges = self.new.exchanges } }
+    {
+        self.exchanges = self.exchanges.and(&Call::Store(name, bytes, &answer));
+        answer
     }
 
     // Counts a failed fetch of the name.
@@ -106,7 +143,9 @@ impl MemCabinet {
 }
 
 impl Cabinet for MemCabinet {
-    ghost use Rattle.sv_io.specs.Mem.{mem_held, fetch_faults_of, store_faults_of, cabinet_calls, cabinet_failing};
+    ghost use Rattle.sv_io.specs.Mem.{mem_exchanges, mem_held, fetch_faults_of, store_faults_of, cabinet_calls, cabinet_failing};
+
+    ghost exchanges = { mem_exchanges };
 
     ghost tells = { true };
 
@@ -118,6 +157,9 @@ impl Cabinet for MemCabinet {
 
     fn fetch(&mut self, alloc: Global, name: &str, limit: u64) -> Result<Vec<u8>, FetchFault>
         requires { limit < 18446744073709551615 }
+
+        ensures exchange { mem_exchanges self.new ≡
+            mem_exchanges self.old ++ fetched name.now (fetched_of result) ∷ [] }
 
         ensures whole { IfOk result
             (λ bytes. bytes.items ≡ bytes_under (mem_held self.old) name.now) }
@@ -153,15 +195,25 @@ impl Cabinet for MemCabinet {
             store_faults_of self.new other ≡ store_faults_of self.old other }
     {
         if self.calls.next_fails() {
-            return Err(self.fetch_failed(name));
+            let fault = self.fetch_failed(name);
+            return self.fetched(name, Err(fault));
         }
         match file_named(&self.files, name) {
-            Some(bytes) => copy_within(alloc, bytes, limit),
-            None => Err(self.fetch_failed(name)),
+            Some(bytes) => {
+                let copy = copy_within(alloc, bytes, limit);
+                self.fetched(name, copy)
+            }
+            None => {
+                let fault = self.fetch_failed(name);
+                self.fetched(name, Err(fault))
+            }
         }
     }
 
     fn store(&mut self, name: &str, bytes: &[u8]) -> Result<(), StoreFault>
+        ensures exchange { mem_exchanges self.new ≡
+            mem_exchanges self.old ++ stored name.now bytes.now (is_done result) ∷ [] }
+
         ensures stored { OnOk result (mem_held self.new name.now ≡ Some bytes.now) }
         ensures refused { OnErr result (mem_held self.new name.now ≡ mem_held self.old name.now) }
         ensures others { (other : List ℕ) → other ≢ name.now →
@@ -188,11 +240,12 @@ impl Cabinet for MemCabinet {
             fetch_faults_of self.new other ≡ fetch_faults_of self.old other }
     {
         if self.calls.next_fails() {
-            return Err(self.store_failed(name));
+            let fault = self.store_failed(name);
+            return self.stored(name, bytes, Err(fault));
         }
         match self.hold(name, bytes) {
-            Ok(()) => Ok(()),
-            Err(OutOfMemory) => Err(StoreFault::OutOfMemory),
+            Ok(()) => self.stored(name, bytes, Ok(())),
+            Err(OutOfMemory) => self.stored(name, bytes, Err(StoreFault::OutOfMemory)),
         }
     }
 }
@@ -210,12 +263,13 @@ pub struct MemSource {
 }
 
 impl MemSource {
-    ghost use Rattle.sv_io.specs.Mem.{mem_left, source_calls, source_faults, source_failing, source_most};
+    ghost use Rattle.sv_io.specs.Mem.{mem_given, mem_left, source_calls, source_faults, source_failing, source_most};
 
     /// A source with these bytes left, of which a take moves at most `most`. The takes whose numbers
     /// stand in `failing` will fail; numbers of takes stop at the greatest u64.
     pub fn new(bytes: Vec<u8>, failing: Vec<u32>, most: usize) -> MemSource
         requires { 1 ≤ most }
+        ensures none_given { mem_given result ≡ [] }
         ensures left { mem_left result ≡ bytes.items }
         ensures no_call { source_calls result ≡ 0 }
         ensures no_fault { source_faults result ≡ 0 }
@@ -233,7 +287,9 @@ impl MemSource {
 }
 
 impl Source for MemSource {
-    ghost use Rattle.sv_io.specs.Mem.{mem_left, source_calls, source_faults, source_failing, source_most};
+    ghost use Rattle.sv_io.specs.Mem.{mem_given, mem_left, source_calls, source_faults, source_failing, source_most};
+
+    ghost given = { mem_given };
 
     ghost tells = { true };
 
@@ -245,6 +301,9 @@ impl Source for MemSource {
         ensures moved { IfOk result (λ count. count ≡
             min (source_most self.old) (min (length (mem_left self.old)) (length buf.old))) }
         ensures within { IfOk result (λ count. count ≤ length buf.new) }
+        ensures given { IfOk result (λ count.
+            mem_given self.new ≡ mem_given self.old ++ take count buf.new) }
+        ensures none_given { OnErr result (mem_given self.new ≡ mem_given self.old) }
         ensures taken { IfOk result (λ count.
             mem_left self.old ≡ take count buf.new ++ mem_left self.new) }
         ensures end { 0 < length buf.old →
@@ -284,13 +343,13 @@ pub struct MemSink {
 }
 
 impl MemSink {
-    ghost use Rattle.sv_io.specs.Mem.{mem_written, sink_calls, sink_faults, sink_failing, sink_most};
+    ghost use Rattle.sv_io.specs.Mem.{mem_accepted, sink_calls, sink_faults, sink_failing, sink_most};
 
-    /// A sink to which nothing was written. A put moves at most `most` bytes. The puts whose numbers
+    /// A sink that accepted nothing. A put moves at most `most` bytes. The puts whose numbers
     /// stand in `failing` will fail; numbers of puts stop at the greatest u64.
     pub fn new(alloc: Global, failing: Vec<u32>, most: usize) -> MemSink
         requires { 1 ≤ most }
-        ensures written { mem_written result ≡ [] }
+        ensures accepted { mem_accepted result ≡ [] }
         ensures no_call { sink_calls result ≡ 0 }
         ensures no_fault { sink_faults result ≡ 0 }
         ensures failing { sink_failing result ≡ failing.items }
@@ -304,20 +363,18 @@ impl MemSink {
         }
     }
 
-    /// What was written.
+    /// What was accepted.
     pub fn bytes(&self) -> &[u8]
-        ensures { result.now ≡ mem_written self.now }
+        ensures { result.now ≡ mem_accepted self.now }
     {
         self.all.as_slice()
     }
 }
 
 impl Sink for MemSink {
-    ghost use Rattle.sv_io.specs.Mem.{mem_written, sink_calls, sink_faults, sink_failing, sink_most};
+    ghost use Rattle.sv_io.specs.Mem.{mem_accepted, sink_calls, sink_faults, sink_failing, sink_most};
 
-    ghost tells = { true };
-
-    ghost written = { mem_written };
+    ghost accepted = { mem_accepted };
 
     ghost faults = { sink_faults };
 
@@ -325,9 +382,9 @@ impl Sink for MemSink {
         requires { 0 < length piece.now }
         ensures moved { IfOk result (λ count. count ≡ min (length piece.now) (sink_most self.old)) }
         ensures some { IfOk result (λ count. 0 < count) }
-        ensures written { IfOk result (λ count.
-            mem_written self.new ≡ mem_written self.old ++ take count piece.now) }
-        ensures refused { OnErr result (mem_written self.new ≡ mem_written self.old) }
+        ensures accepted { IfOk result (λ count.
+            mem_accepted self.new ≡ mem_accepted self.old ++ take count piece.now) }
+        ensures refused { OnErr result (mem_accepted self.new ≡ mem_accepted self.old) }
 
         // It fails exactly where its number is one that fails, and then the count goes up by one.
         ensures number { sink_calls self.new ≡ one_more (sink_calls self.old) }

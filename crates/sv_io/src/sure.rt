@@ -4,6 +4,7 @@ ghost use Rattle.std.specs.Option.{option_copied};
 use super::OutOfMemory;
 use super::faults::{Failed, FetchFault, PutFault, StoreFault};
 use super::files::{Files, copy_within, file_named, put_file};
+use super::history::{Call, Exchanges};
 use super::pieces::copy_front;
 use super::traits::{Cabinet, Sink, Source};
 use std::alloc::Global;
@@ -12,18 +13,21 @@ use std::alloc::Global;
 #[derive(Drop)]
 pub struct SureCabinet {
     files: Files,
+    exchanges: Exchanges,
     alloc: Global,
 }
 
 impl SureCabinet {
-    ghost use Rattle.sv_io.specs.Sure.{sure_held};
+    ghost use Rattle.sv_io.specs.Sure.{sure_exchanges, sure_held};
 
     /// A cabinet that holds no name.
     pub fn new(alloc: Global) -> SureCabinet
-        ensures { (name : List ℕ) → sure_held result name ≡ None }
+        ensures no_exchange { sure_exchanges result ≡ [] }
+        ensures holds_none { (name : List ℕ) → sure_held result name ≡ None }
     {
         SureCabinet {
             files: Files::new(alloc),
+            exchanges: Exchanges::new(),
             alloc,
         }
     }
@@ -35,20 +39,23 @@ impl SureCabinet {
         file_named(&self.files, name)
     }
 
-    /// Puts the bytes under the name. Refused, it changes nothing.
+    /// Puts the bytes under the name. It is no exchange. Refused, it changes nothing.
     pub fn hold(&mut self, name: &str, bytes: &[u8]) -> Result<(), OutOfMemory>
         ensures held { OnOk result (sure_held self.new name.now ≡ Some bytes.now) }
         ensures others { (other : List ℕ) → other ≢ name.now →
             sure_held self.new other ≡ sure_held self.old other }
         ensures refused { OnErr result
             ((other : List ℕ) → sure_held self.new other ≡ sure_held self.old other) }
+        ensures exchanges { sure_exchanges self.new ≡ sure_exchanges self.old }
     {
         put_file(&mut self.files, self.alloc, name, bytes)
     }
 }
 
 impl Cabinet for SureCabinet {
-    ghost use Rattle.sv_io.specs.Sure.{sure_held};
+    ghost use Rattle.sv_io.specs.Sure.{sure_exchanges, sure_held};
+
+    ghost exchanges = { sure_exchanges };
 
     ghost tells = { true };
 
@@ -59,14 +66,18 @@ impl Cabinet for SureCabinet {
     ghost store_faults = { λ _ _. 0 };
 
     fn fetch(&mut self, alloc: Global, name: &str, limit: u64) -> Result<Vec<u8>, FetchFault> {
-        copy_within(alloc, self.bytes(name).unwrap_or(&[]), limit)
+        let answer = copy_within(alloc, self.bytes(name).unwrap_or(&[]), limit);
+        self.exchanges = self.exchanges.and(&Call::Fetch(name, &answer));
+        answer
     }
 
     fn store(&mut self, name: &str, bytes: &[u8]) -> Result<(), StoreFault> {
-        match self.hold(name, bytes) {
+        let answer = match self.hold(name, bytes) {
             Ok(()) => Ok(()),
             Err(OutOfMemory) => Err(StoreFault::OutOfMemory),
-        }
+        };
+        self.exchanges = self.exchanges.and(&Call::Store(name, bytes, &answer));
+        answer
     }
 }
 
@@ -79,18 +90,21 @@ pub struct SureSource {
 }
 
 impl SureSource {
-    ghost use Rattle.sv_io.specs.Sure.{sure_left};
+    ghost use Rattle.sv_io.specs.Sure.{sure_given, sure_left};
 
     /// A source with these bytes left.
     pub fn new(bytes: Vec<u8>) -> SureSource
-        ensures { sure_left result ≡ bytes.items }
+        ensures none_given { sure_given result ≡ [] }
+        ensures left { sure_left result ≡ bytes.items }
     {
         SureSource { all: bytes, at: 0 }
     }
 }
 
 impl Source for SureSource {
-    ghost use Rattle.sv_io.specs.Sure.{sure_left};
+    ghost use Rattle.sv_io.specs.Sure.{sure_given, sure_left};
+
+    ghost given = { sure_given };
 
     ghost tells = { true };
 
@@ -112,31 +126,29 @@ pub struct SureSink {
 }
 
 impl SureSink {
-    ghost use Rattle.sv_io.specs.Sure.{sure_written};
+    ghost use Rattle.sv_io.specs.Sure.{sure_accepted};
 
-    /// A sink to which nothing was written.
+    /// A sink that accepted nothing.
     pub fn new(alloc: Global) -> SureSink
-        ensures { sure_written result ≡ [] }
+        ensures { sure_accepted result ≡ [] }
     {
         SureSink {
             all: Vec::new(alloc),
         }
     }
 
-    /// What was written.
+    /// What was accepted.
     pub fn bytes(&self) -> &[u8]
-        ensures { result.now ≡ sure_written self.now }
+        ensures { result.now ≡ sure_accepted self.now }
     {
         self.all.as_slice()
     }
 }
 
 impl Sink for SureSink {
-    ghost use Rattle.sv_io.specs.Sure.{sure_written};
+    ghost use Rattle.sv_io.specs.Sure.{sure_accepted};
 
-    ghost tells = { true };
-
-    ghost written = { sure_written };
+    ghost accepted = { sure_accepted };
 
     ghost faults = { λ _. 0 };
 

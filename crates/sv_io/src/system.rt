@@ -1,6 +1,11 @@
-ghost use Rattle.std.specs.Prelude.{◌≡◌, ℕ, ◌<◌, ◌≤◌, false, List, [], None, IfSome, length};
+ghost use Rattle.std.specs.Prelude.{◌≡◌, ◌≢◌, ℕ, ◌+◌, ◌<◌, ◌≤◌, Bool, false, List, [], ◌∷◌, ◌++◌, take, None, Some, IfOk, OnOk, OnErr, IsErr, IsErrOf, IsTrue, length, vec_len};
+ghost use Rattle.std.specs.Option.{is_some};
+ghost use Rattle.std.specs.Io.KnownBytes.{Keeps, Appends, Consumes};
+ghost use Rattle.sv_io.specs.Cabinet.{IfLong};
+ghost use Rattle.sv_io.specs.Count.{Rose};
 
 use super::faults::{Failed, FetchFault, PutFault, StoreFault};
+use super::history::{Call, Exchanges, Passed, Piece};
 use super::traits::{Cabinet, Sink, Source};
 use std::alloc::Global;
 use std::io::{ErrorKind, Read, Write};
@@ -13,37 +18,55 @@ use std::{fs, io};
 pub struct FileCabinet<R: Files> {
     runtime: R,
     faults: u64,
+    last_error: Option<io::Error>,
+    exchanges: Exchanges,
 }
 
 impl<R: Files> FileCabinet<R> {
+    ghost use Rattle.sv_io.specs.System.{file_exchanges, file_faults, file_failed};
+
     /// Over the files that the runtime reaches.
     pub fn new(runtime: R) -> FileCabinet<R>
-        ensures fetches { (name : List ℕ) →
-            ⟦<FileCabinet<R> as Cabinet>⟧.fetch_faults result name ≡ 0 }
-        ensures stores { (name : List ℕ) →
-            ⟦<FileCabinet<R> as Cabinet>⟧.store_faults result name ≡ 0 }
+        ensures no_exchange { file_exchanges result ≡ [] }
+        ensures no_fault { file_faults result ≡ 0 }
+        ensures no_error { file_failed result ≡ false }
     {
-        FileCabinet { runtime, faults: 0 }
+        FileCabinet {
+            runtime,
+            faults: 0,
+            last_error: None,
+            exchanges: Exchanges::new(),
+        }
     }
-}
 
-impl<R: Files> Cabinet for FileCabinet<R> {
-    ghost tells = { false };
+    /// The error of the system at the last call that failed, None where none did. It is there for the messages that a
+    /// program shows to a person.
+    pub fn last_error(&self) -> Option<&io::Error>
+        ensures { is_some result ≡ file_failed self.now }
+    {
+        self.last_error.as_ref()
+    }
 
-    ghost held = { λ _ _. None };
-
-    ghost fetch_faults = { λ cabinet _. cabinet.faults };
-
-    ghost store_faults = { λ cabinet _. cabinet.faults };
-
-    fn fetch(&mut self, alloc: Global, name: &str, limit: u64) -> Result<Vec<u8>, FetchFault> {
+    // All the bytes of the file, or the first of them where they are more than the limit.
+    fn read(&mut self, alloc: Global, name: &str, limit: u64) -> Result<Vec<u8>, FetchFault>
+        requires { limit < 18446744073709551615 }
+        ensures within { IfOk result (λ bytes. vec_len bytes ≤ limit) }
+        ensures long_length { IfLong result (λ bytes. length bytes ≡ limit + 1) }
+        ensures failed { IsErrOf result FetchFault.Failed →
+            Rose (file_faults self.old) (file_faults self.new) }
+        ensures counts { file_faults self.old ≤ file_faults self.new }
+        ensures cause { IsErrOf result FetchFault.Failed → IsTrue (file_failed self.new) }
+        ensures exchanges { file_exchanges self.new ≡ file_exchanges self.old }
+    {
         let mut bytes = Vec::new(alloc);
         if let Err(error) = read_front(&self.runtime, name, limit + 1, &mut bytes) {
-            self.faults = self.faults.saturating_add(1);
-            return match error.kind() {
-                ErrorKind::OutOfMemory => Err(FetchFault::OutOfMemory),
-                _ => Err(FetchFault::Failed),
+            let fault = match error.kind() {
+                ErrorKind::OutOfMemory => FetchFault::OutOfMemory,
+                _ => FetchFault::Failed,
             };
+            self.faults = self.faults.saturating_add(1);
+            self.last_error = Some(error);
+            return Err(fault);
         }
         if bytes.len() as u64 <= limit {
             return Ok(bytes);
@@ -52,14 +75,47 @@ impl<R: Files> Cabinet for FileCabinet<R> {
         Err(FetchFault::Long(bytes))
     }
 
-    fn store(&mut self, name: &str, bytes: &[u8]) -> Result<(), StoreFault> {
+    // Puts the bytes into the file, in place of what was there.
+    fn write(&mut self, name: &str, bytes: &[u8]) -> Result<(), StoreFault>
+        ensures failed { IsErrOf result StoreFault.Failed →
+            Rose (file_faults self.old) (file_faults self.new) }
+        ensures counts { file_faults self.old ≤ file_faults self.new }
+        ensures exchanges { file_exchanges self.new ≡ file_exchanges self.old }
+    {
         match fs::write(&self.runtime, name, bytes) {
             Ok(()) => Ok(()),
-            Err(_) => {
+            Err(error) => {
                 self.faults = self.faults.saturating_add(1);
+                self.last_error = Some(error);
                 Err(StoreFault::Failed)
             }
         }
+    }
+}
+
+impl<R: Files> Cabinet for FileCabinet<R> {
+    ghost use Rattle.sv_io.specs.System.{file_exchanges, file_faults};
+
+    ghost exchanges = { file_exchanges };
+
+    ghost tells = { false };
+
+    ghost held = { λ _ _. None };
+
+    ghost fetch_faults = { λ cabinet _. file_faults cabinet };
+
+    ghost store_faults = { λ cabinet _. file_faults cabinet };
+
+    fn fetch(&mut self, alloc: Global, name: &str, limit: u64) -> Result<Vec<u8>, FetchFault> {
+        let answer = self.read(alloc, name, limit);
+        self.exchanges = self.exchanges.and(&Call::Fetch(name, &answer));
+        answer
+    }
+
+    fn store(&mut self, name: &str, bytes: &[u8]) -> Result<(), StoreFault> {
+        let answer = self.write(name, bytes);
+        self.exchanges = self.exchanges.and(&Call::Store(name, bytes, &answer));
+        answer
     }
 }
 
@@ -74,28 +130,60 @@ fn read_front(files: &impl Files, name: &str, most: u64, bytes: &mut Vec<u8>) ->
 pub struct StdSource<R: Read> {
     reader: R,
     faults: u64,
+    given: Passed,
 }
 
 impl<R: Read> StdSource<R> {
+    ghost use Rattle.sv_io.specs.System.{source_reader, source_given, source_faults};
+
     /// Over a reader, as the runtime's `stdin()`.
     pub fn new(reader: R) -> StdSource<R>
-        ensures { ⟦<StdSource<R> as Source>⟧.faults result ≡ 0 }
+        ensures reader { source_reader result ≡ reader }
+        ensures none_given { source_given result ≡ [] }
+        ensures no_fault { source_faults result ≡ 0 }
     {
-        StdSource { reader, faults: 0 }
+        StdSource {
+            reader,
+            faults: 0,
+            given: Passed::new(),
+        }
     }
 }
 
 impl<R: Read> Source for StdSource<R> {
+    ghost use Rattle.sv_io.specs.System.{source_reader, source_given, source_faults};
+
+    ghost given = { source_given };
+
     ghost tells = { false };
 
     ghost left = { λ _. [] };
 
-    ghost faults = { λ source. source.faults };
+    ghost faults = { source_faults };
 
-    fn take(&mut self, buf: &mut [u8]) -> Result<usize, Failed> {
+    fn take(&mut self, buf: &mut [u8]) -> Result<usize, Failed>
+        ensures within { IfOk result (λ count. count ≤ length buf.new) }
+        ensures given { IfOk result
+            (λ count. source_given self.new ≡ source_given self.old ++ take count buf.new) }
+        ensures none_given { OnErr result (source_given self.new ≡ source_given self.old) }
+        ensures failed { IsErr result → Rose (source_faults self.old) (source_faults self.new) }
+        ensures counts { source_faults self.old ≤ source_faults self.new }
+
+        // What is given is what the reader gave, where it is known what a reader gives.
+        ensures read { IfOk result (λ count.
+            Consumes (R.remaining (source_reader self.old)) (R.remaining (source_reader self.new))
+            (take count buf.new)) }
+        ensures none_read { OnErr result
+            (Keeps (R.remaining (source_reader self.old)) (R.remaining (source_reader self.new))) }
+    {
         match read_some(&mut self.reader, buf) {
-            Some(count) => Ok(count),
-            None => {
+            Ok(count) => {
+                self.given = self.given.and(&Piece {
+                    bytes: &buf[..count],
+                });
+                Ok(count)
+            }
+            Err(_) => {
                 self.faults = self.faults.saturating_add(1);
                 Err(Failed)
             }
@@ -103,66 +191,114 @@ impl<R: Read> Source for StdSource<R> {
     }
 }
 
-// One read, begun again where a signal cut it off. None where the system fails.
-fn read_some(reader: &mut impl Read, buf: &mut [u8]) -> Option<usize>
-    ensures { IfSome result (λ count. count ≤ length buf.new) }
+// One read, begun again where a signal cut it off.
+fn read_some<R: Read>(reader: &mut R, buf: &mut [u8]) -> io::Result<usize>
+    ensures within { IfOk result (λ count. count ≤ length buf.new) }
+    ensures read { IfOk result
+        (λ count. Consumes (R.remaining reader.old) (R.remaining reader.new) (take count buf.new)) }
+    ensures none_read { OnErr result (Keeps (R.remaining reader.old) (R.remaining reader.new)) }
 {
     for _ in 0..u64::MAX {
         match reader.read(buf) {
-            Ok(count) => return Some(count),
             Err(error) if error.kind() == ErrorKind::Interrupted => {}
-            Err(_) => return None,
+            answer => return answer,
         }
     }
-    None
+    Err(io::Error::from(ErrorKind::Interrupted))
 }
 
-/// Standard output, or another writer. What was written is not told.
+/// Standard output, or another writer. What it held before is not told.
 #[derive(Drop)]
 pub struct StdSink<W: Write> {
     writer: W,
     faults: u64,
+    last_error: Option<io::Error>,
+    accepted: Passed,
 }
 
 impl<W: Write> StdSink<W> {
+    ghost use Rattle.sv_io.specs.System.{sink_writer, sink_accepted, sink_faults, sink_failed};
+
     /// Over a writer that keeps no bytes back, as the runtime's `stdout()`.
     pub fn new(writer: W) -> StdSink<W>
-        ensures { ⟦<StdSink<W> as Sink>⟧.faults result ≡ 0 }
+        ensures writer { sink_writer result ≡ writer }
+        ensures none_accepted { sink_accepted result ≡ [] }
+        ensures no_fault { sink_faults result ≡ 0 }
+        ensures no_error { sink_failed result ≡ false }
     {
-        StdSink { writer, faults: 0 }
+        StdSink {
+            writer,
+            faults: 0,
+            last_error: None,
+            accepted: Passed::new(),
+        }
+    }
+
+    /// The error of the system at the last put that failed, None where none did. It is there for the messages that a
+    /// program shows to a person.
+    pub fn last_error(&self) -> Option<&io::Error>
+        ensures { is_some result ≡ sink_failed self.now }
+    {
+        self.last_error.as_ref()
     }
 }
 
 impl<W: Write> Sink for StdSink<W> {
-    ghost tells = { false };
+    ghost use Rattle.sv_io.specs.System.{sink_writer, sink_accepted, sink_faults, sink_failed};
 
-    ghost written = { λ _. [] };
+    ghost accepted = { sink_accepted };
 
-    ghost faults = { λ sink. sink.faults };
+    ghost faults = { sink_faults };
 
-    fn put(&mut self, piece: &[u8]) -> Result<usize, PutFault> {
+    fn put(&mut self, piece: &[u8]) -> Result<usize, PutFault>
+        requires { 0 < length piece.now }
+        ensures some { IfOk result (λ count. 0 < count) }
+        ensures within { IfOk result (λ count. count ≤ length piece.now) }
+        ensures accepted { IfOk result
+            (λ count. sink_accepted self.new ≡ sink_accepted self.old ++ take count piece.now) }
+        ensures refused { OnErr result (sink_accepted self.new ≡ sink_accepted self.old) }
+        ensures failed { IsErrOf result PutFault.Failed →
+            Rose (sink_faults self.old) (sink_faults self.new) }
+        ensures counts { sink_faults self.old ≤ sink_faults self.new }
+
+        // What is accepted is what the writer took, where it is known what a writer holds.
+        ensures written { IfOk result (λ count.
+            Appends (W.contents (sink_writer self.old)) (W.contents (sink_writer self.new))
+            (take count piece.now)) }
+        ensures none_written { OnErr result
+            (Keeps (W.contents (sink_writer self.old)) (W.contents (sink_writer self.new))) }
+        ensures cause { IsErr result → IsTrue (sink_failed self.new) }
+    {
         match write_some(&mut self.writer, piece) {
-            Some(count) => Ok(count),
-            None => {
+            Ok(count) => {
+                self.accepted = self.accepted.and(&Piece {
+                    bytes: &piece[..count],
+                });
+                Ok(count)
+            }
+            Err(error) => {
                 self.faults = self.faults.saturating_add(1);
+                self.last_error = Some(error);
                 Err(PutFault::Failed)
             }
         }
     }
 }
 
-// One write, begun again where a signal cut it off. None where the system fails or takes nothing.
-fn write_some(writer: &mut impl Write, piece: &[u8]) -> Option<usize>
-    ensures some { IfSome result (λ count. 0 < count) }
-    ensures within { IfSome result (λ count. count ≤ length piece.now) }
+// One write, begun again where a signal cut it off. It fails where the system fails or takes nothing.
+fn write_some<W: Write>(writer: &mut W, piece: &[u8]) -> io::Result<usize>
+    ensures some { IfOk result (λ count. 0 < count) }
+    ensures within { IfOk result (λ count. count ≤ length piece.now) }
+    ensures written { IfOk result (λ count.
+        Appends (W.contents writer.old) (W.contents writer.new) (take count piece.now)) }
+    ensures none_written { OnErr result (Keeps (W.contents writer.old) (W.contents writer.new)) }
 {
     for _ in 0..u64::MAX {
         match writer.write(piece) {
-            Ok(0) => return None,
-            Ok(count) => return Some(count),
+            Ok(0) => return Err(io::Error::from(ErrorKind::WriteZero)),
             Err(error) if error.kind() == ErrorKind::Interrupted => {}
-            Err(_) => return None,
+            answer => return answer,
         }
     }
-    None
+    Err(io::Error::from(ErrorKind::Interrupted))
 }

@@ -103,7 +103,9 @@ fn files_are_read_and_written(rt: HostRuntime) -> Result<(), Fail> {
     );
     fs::remove_file(&rt, PATH)?;
 
+    assert!(rt; cabinet.last_error().is_none());
     assert_eq!(rt; cabinet.fetch(alloc, PATH, 4), Err(FetchFault::Failed));
+    assert_eq!(rt; cause(cabinet.last_error()), Some(ErrorKind::NotFound));
     assert_eq!(rt;
         cabinet.store("missing/file", b"text"),
         Err(StoreFault::Failed)
@@ -113,7 +115,7 @@ fn files_are_read_and_written(rt: HostRuntime) -> Result<(), Fail> {
     Ok(())
 }
 
-// A stream that is cut off by a signal at first, then moves one byte, then nothing, and then fails.
+// A stream that is cut off by a signal at first, then moves one byte, then nothing, then one more, and then fails.
 #[derive(Drop)]
 struct Fitful {
     calls: u8,
@@ -124,7 +126,7 @@ impl Fitful {
         self.calls = self.calls.saturating_add(1);
         match self.calls {
             1 => Err(io::Error::from(ErrorKind::Interrupted)),
-            2 => Ok(true),
+            2 | 4 => Ok(true),
             3 => Ok(false),
             _ => Err(io::Error::from(ErrorKind::BrokenPipe)),
         }
@@ -149,15 +151,27 @@ impl Write for Fitful {
     }
 }
 
+fn cause(error: Option<&io::Error>) -> Option<ErrorKind> {
+    match error {
+        Some(error) => Some(error.kind()),
+        None => None,
+    }
+}
+
 #[test]
 fn a_stream_that_breaks_is_a_fault(rt: HostRuntime) {
     let mut input = StdSource::new(Fitful { calls: 0 });
     let mut buf = [0u8; 4];
     assert_eq!(rt; input.take(&mut buf), Ok(1));
     assert_eq!(rt; input.take(&mut buf), Ok(0));
+    assert_eq!(rt; input.take(&mut buf), Ok(1));
     assert_eq!(rt; input.take(&mut buf), Err(Failed));
     let mut output = StdSink::new(Fitful { calls: 0 });
     assert_eq!(rt; output.put(b"ab"), Ok(1));
+    assert!(rt; output.last_error().is_none());
     assert_eq!(rt; output.put(b"ab"), Err(PutFault::Failed));
+    assert_eq!(rt; cause(output.last_error()), Some(ErrorKind::WriteZero));
+    assert_eq!(rt; output.put(b"ab"), Ok(1));
     assert_eq!(rt; output.put(b"ab"), Err(PutFault::Failed));
+    assert_eq!(rt; cause(output.last_error()), Some(ErrorKind::BrokenPipe));
 }

@@ -1,6 +1,7 @@
-ghost use Rattle.std.specs.Prelude.{◌≡◌, ◌≢◌, ℕ, ◌+◌, ◌<◌, ◌≤◌, ◌↔◌, Bool, IsTrue, List, [], ◌++◌, take, length, Option, Some, Ok, Err, IfOk, OnOk, OnErr, IsErr, IsErrOf, vec_len};
+ghost use Rattle.std.specs.Prelude.{◌≡◌, ◌≢◌, ℕ, ◌+◌, ◌<◌, ◌≤◌, ◌↔◌, Bool, IsTrue, List, [], ◌∷◌, ◌++◌, take, length, Option, Some, Ok, Err, IfOk, OnOk, OnErr, IsErr, IsErrOf, vec_len};
 ghost use Rattle.sv_io.specs.Cabinet.{bytes_under, IfLong, KeepsOrBegins};
 ghost use Rattle.sv_io.specs.Count.{Rose};
+ghost use Rattle.sv_io.specs.Exchange.{Exchange, fetched, stored, fetched_of, is_done};
 ghost use Rattle.sv_io.specs.Sink.{WritesFront};
 
 use super::faults::{Failed, FetchFault, PutFault, StoreFault};
@@ -8,6 +9,9 @@ use std::alloc::Global;
 
 /// Bytes under names, as files are.
 pub trait Cabinet {
+    // All calls of the object so far, in order, and what each handed out or took.
+    ghost exchanges: { Self → List Exchange };
+
     // Whether objects of this type tell what they hold.
     ghost tells: { Bool };
 
@@ -24,6 +28,9 @@ pub trait Cabinet {
     /// It changes nothing that is held.
     fn fetch(&mut self, alloc: Global, name: &str, limit: u64) -> Result<Vec<u8>, FetchFault>
         requires { limit < 18446744073709551615 }
+
+        ensures exchange { exchanges self.new ≡
+            exchanges self.old ++ fetched name.now (fetched_of result) ∷ [] }
 
         ensures whole { IsTrue tells →
             IfOk result (λ bytes. bytes.items ≡ bytes_under (held self.old) name.now) }
@@ -47,6 +54,9 @@ pub trait Cabinet {
 
     /// Puts the bytes under the name, in place of what was there.
     fn store(&mut self, name: &str, bytes: &[u8]) -> Result<(), StoreFault>
+        ensures exchange { exchanges self.new ≡
+            exchanges self.old ++ stored name.now bytes.now (is_done result) ∷ [] }
+
         ensures stored { IsTrue tells → OnOk result (held self.new name.now ≡ Some bytes.now) }
         ensures refused { IsTrue tells →
             OnErr result
@@ -64,6 +74,9 @@ pub trait Cabinet {
 
 /// Bytes that are taken piece by piece, as from standard input.
 pub trait Source {
+    // All bytes that the object gave so far.
+    ghost given: { Self → List ℕ };
+
     // Whether objects of this type tell the bytes that are left.
     ghost tells: { Bool };
 
@@ -77,6 +90,8 @@ pub trait Source {
     /// is the end of the input. A take that fails takes nothing.
     fn take(&mut self, buf: &mut [u8]) -> Result<usize, Failed>
         ensures within { IfOk result (λ count. count ≤ length buf.new) }
+        ensures given { IfOk result (λ count. given self.new ≡ given self.old ++ take count buf.new) }
+        ensures none_given { OnErr result (given self.new ≡ given self.old) }
         ensures taken { IsTrue tells →
             IfOk result (λ count. left self.old ≡ take count buf.new ++ left self.new) }
         ensures end { IsTrue tells →
@@ -88,33 +103,29 @@ pub trait Source {
 
 /// Where bytes are put piece by piece, as to standard output.
 pub trait Sink {
-    // Whether objects of this type tell what was written.
-    ghost tells: { Bool };
-
-    // All the bytes written so far, where the type tells them.
-    ghost written: { Self → List ℕ };
+    // All bytes that the object accepted so far.
+    ghost accepted: { Self → List ℕ };
 
     // How often a put has failed.
     ghost faults: { Self → ℕ };
 
-    /// Writes the front of the piece, at least one byte, and says how many. Refused, it writes nothing.
+    /// Accepts the front of the piece, at least one byte, and says how many. Refused, it accepts nothing.
     fn put(&mut self, piece: &[u8]) -> Result<usize, PutFault>
         requires { 0 < length piece.now }
         ensures some { IfOk result (λ count. 0 < count) }
         ensures within { IfOk result (λ count. count ≤ length piece.now) }
-        ensures written { IsTrue tells →
-            IfOk result (λ count. written self.new ≡ written self.old ++ take count piece.now) }
-        ensures refused { IsTrue tells → OnErr result (written self.new ≡ written self.old) }
+        ensures accepted { IfOk result
+            (λ count. accepted self.new ≡ accepted self.old ++ take count piece.now) }
+        ensures refused { OnErr result (accepted self.new ≡ accepted self.old) }
         ensures failed { IsErrOf result PutFault.Failed → Rose (faults self.old) (faults self.new) }
         ensures counts { faults self.old ≤ faults self.new };
 }
 
-/// Writes the whole piece. Refused, it has written the front of the piece.
+/// Puts the whole piece. Refused, the front of the piece was accepted.
 pub fn put_all<K: Sink>(out: &mut K, piece: &[u8]) -> Result<(), PutFault>
-    ensures whole { IsTrue K.tells →
-        OnOk result (K.written out.new ≡ K.written out.old ++ piece.now) }
-    ensures refused { IsTrue K.tells →
-        OnErr result (WritesFront (K.written out.old) piece.now (K.written out.new)) }
+    ensures whole { OnOk result (K.accepted out.new ≡ K.accepted out.old ++ piece.now) }
+    ensures refused { OnErr result
+        (WritesFront (K.accepted out.old) piece.now (K.accepted out.new)) }
     ensures failed { IsErrOf result PutFault.Failed → Rose (K.faults out.old) (K.faults out.new) }
     ensures counts { K.faults out.old ≤ K.faults out.new }
 {

@@ -8,3 +8,4 @@ pub mod Signs
 pub mod Tokens
 pub mod Spans
 pub mod Lexed
+pub mod Views

@@ -1,13 +1,13 @@
 -- Draws, rounds and ordered runs by computation.
-use Rattle.std.proofs.Common.{◌≡◌, ℕ, true, false, List, [], ◌∷◌, refl}
-use Rattle.std.specs.Prelude.{◌%◌, codes, map, slice_index}
+use Rattle.std.proofs.Common.{◌≡◌, ℕ, true, false, List, [], ◌∷◌, refl, subst, arith}
+use Rattle.std.specs.Prelude.{◌%◌, codes, map, slice_index, IsFalse}
 use Rattle.std.specs.List.{range_with_len}
 use Rattle.sv_num.specs.declared.operators.UnOp.TheVariants as unop
 use Rattle.sv_system.specs.System.{Environment}
-use Rattle.sv_flat.specs.declared.signals.SigKind.TheVariants.{TopInput, Output, Net}
-use Rattle.sv_flat.specs.Design.{TypedTree, typed, unary, continuous, FlatDesign}
-use Rattle.sv_flat.specs.Schedules.{next_state, drawn, round, after_schedule, after_rounds, is_quiet, starting, with_inputs}
-use Rattle.sv_flat.proofs.Forms.{at, declares, sets, named, process, over_two_points}
+use Rattle.sv_flat.specs.declared.signals.SigKind.TheVariants.{TopInput, Output, OutputReg, Net}
+use Rattle.sv_flat.specs.Design.{TypedTree, typed, unary, continuous, clocked, FlatDesign}
+use Rattle.sv_flat.specs.Schedules.{next_state, drawn, round, after_schedule, after_rounds, is_quiet, IsRoundCount, is_order, after_tick, tick_order, starting, with_inputs, OrderedRun}
+use Rattle.sv_flat.proofs.Forms.{at, declares, sets, later, named, process, over_two_points}
 
 abbrev invert : TypedTree → TypedTree
 invert e = typed 1 false (unary unop.Invert e)
@@ -65,3 +65,71 @@ two_rounds = refl
 
 pub settled_again : values (after_rounds inverters 11 2 next) ≡ 1 ∷ 0 ∷ 0 ∷ 1 ∷ []
 settled_again = refl
+
+-- ---- the ordered run of both cycles
+
+-- nothing is clocked, so the tick leaves what cycle 0 has settled
+abbrev ticked : Environment ℕ
+ticked = after_tick inverters (tick_order inverters 0) (after_rounds inverters 10 1 begun)
+
+abbrev raised : Environment ℕ
+raised = with_inputs inverters (λ s. 1) ticked
+
+one_round_in_cycle_0 : IsRoundCount inverters 10 begun 1
+one_round_in_cycle_0 = record { some = omega arith; quiet = refl; before = λ k a b. absurd (omega (arith, a, b)) }
+
+two_rounds_in_cycle_1 : IsRoundCount inverters 11 raised 2
+two_rounds_in_cycle_1 = record {
+  some = omega arith;
+  quiet = refl;
+  before = λ k a b. let is : 1 ≡ k = omega (arith, a, b) in
+      subst (λ k. IsFalse (is_quiet inverters (after_rounds inverters 11 k raised))) is refl;
+}
+
+-- the inputs 0 and 1 under the order number 10 take 3 rounds
+pub three_rounds : OrderedRun inverters 10 (λ s. 0) ((λ s. 0) ∷ (λ s. 1) ∷ [])
+    (after_rounds inverters 10 1 begun ∷ after_rounds inverters 11 2 raised ∷ []) 3
+three_rounds = record {
+  counts = 1 ∷ 2 ∷ [];
+  runs = (one_round_in_cycle_0, λ s. refl, (two_rounds_in_cycle_1, λ s. refl, tt));
+  summed = refl;
+}
+
+pub no_rounds_without_cycles : OrderedRun inverters 10 (λ s. 0) [] [] 0
+no_rounds_without_cycles = record { counts = []; runs = tt; summed = refl }
+
+-- ---- ticks
+
+-- module m(input c, output reg p, output reg q); always @(posedge c) p <= q; always @(posedge c) q <= p; endmodule
+abbrev exchange : FlatDesign
+exchange = over_two_points
+    (declares (codes "c") 1 TopInput (at 1 16) ∷ declares (codes "p") 1 OutputReg (at 1 30)
+    ∷ declares (codes "q") 1 OutputReg (at 1 44) ∷ [])
+    (process (clocked 0) (at 1 48) (later 1 (at 1 68) (named 2 (at 1 73)))
+    ∷ process (clocked 0) (at 1 76) (later 2 (at 1 96) (named 1 (at 1 101)))
+    ∷ [])
+
+pub even_order : tick_order exchange 2 ≡ 0 ∷ 1 ∷ []
+even_order = refl
+
+pub odd_order : tick_order exchange 3 ≡ 1 ∷ 0 ∷ []
+odd_order = refl
+
+pub both_are_orders : map (is_order exchange) (tick_order exchange 2 ∷ tick_order exchange 3 ∷ []) ≡ true ∷ true ∷ []
+both_are_orders = refl
+
+-- one twice, one left out, one too many, and a number that no clocked process has
+pub no_orders :
+    map (is_order exchange) ((0 ∷ 0 ∷ []) ∷ (1 ∷ []) ∷ (1 ∷ 0 ∷ 1 ∷ []) ∷ (2 ∷ 0 ∷ 1 ∷ []) ∷ [])
+    ≡ false ∷ false ∷ false ∷ false ∷ []
+no_orders = refl
+
+-- c, p and q: the registers exchange their values by either order
+abbrev ticks_to : (order : List ℕ) → List ℕ
+ticks_to order = map (after_tick exchange order (slice_index (0 ∷ 1 ∷ 0 ∷ []))) (range_with_len 0 3)
+
+pub exchanged : ticks_to (0 ∷ 1 ∷ []) ≡ 0 ∷ 0 ∷ 1 ∷ []
+exchanged = refl
+
+pub exchanged_in_reverse : ticks_to (1 ∷ 0 ∷ []) ≡ 0 ∷ 0 ∷ 1 ∷ []
+exchanged_in_reverse = refl

@@ -1,15 +1,25 @@
 -- The rules of flat designs by computation: of each a design that breaks it, and one that does not.
-use Rattle.std.proofs.Common.{◌≡◌, ℕ, true, false, List, [], ◌∷◌, Some, refl}
-use Rattle.std.specs.Prelude.{codes, map}
+use Rattle.std.proofs.Common.{◌≡◌, ℕ, true, false, List, [], ◌∷◌, Option, Some, None, refl}
+use Rattle.std.specs.Prelude.{codes, map, if◌then◌else◌}
 use Rattle.sv_num.specs.declared.operators.UnOp.TheVariants as unop
 use Rattle.sv_flat.specs.declared.signals.SigKind.TheVariants.{TopInput, Input, Output, Net, Reg, OutputReg}
 use Rattle.sv_flat.specs.Design.{TypedTree, typed, constant, read, read_bit, unary, join, no_parts, more_parts, FlatStatement, nothing, assign, branch, continuous, port_in, combinational, clocked, FlatDesign}
-use Rattle.sv_flat.specs.Breaches.{breach, first_breach}
+use Rattle.sv_flat.specs.Breaches.{Breach, breach, comes_before}
 use Rattle.sv_flat.specs.Admission.{breaches, names_of, IsAdmitted}
 use Rattle.sv_flat.specs.Loops.{is_circle, is_read_order, loop_breach}
 use Rattle.sv_flat.specs.Reads.{reads_for, depth, order}
 use Rattle.sv_flat.specs.Clocks.{clocks}
 use Rattle.sv_flat.proofs.Forms.{at, declares, part, sets, later, named, sequence, process, over_two_points}
+
+-- the breach that comes first, after one in hand
+abbrev first_from : Breach → List Breach → Breach
+first_from a [] = a
+first_from a (b ∷ bs) = first_from (if comes_before b a then b else a) bs
+
+-- the breach that comes first, if there is one
+abbrev first_breach : List Breach → Option Breach
+first_breach [] = None
+first_breach (b ∷ bs) = Some (first_from b bs)
 
 -- a design breaks a rule first at a place, and with a signal
 abbrev breaks : FlatDesign → (number line column signal : ℕ) → Type 0
@@ -32,6 +42,10 @@ assigned_as columns = over_two_points
 
 pub assigned_twice : breaks (assigned_as (47 ∷ 50 ∷ [])) 601 1 50 2
 assigned_twice = refl
+
+-- a third time: the place further to the left comes first
+pub assigned_thrice : breaks (assigned_as (47 ∷ 50 ∷ 53 ∷ [])) 601 1 50 2
+assigned_thrice = refl
 
 pub assigned_once : keeps (assigned_as (47 ∷ []))
 assigned_once = refl

@@ -1,4 +1,5 @@
--- Which flat designs have a meaning: those that break none of the rules 601 to 607.
+-- Which flat designs have a meaning: those that break none of the rules 601 to 607 (this project's
+-- profile).
 use Rattle.std.specs.Prelude.{◌≡◌, ◌⊎◌, ℕ, IsFalse, List, [], ◌++◌, map, Contains}
 use Rattle.sv_num.specs.declared.faults.Place.{Place}
 use Rattle.sv_flat.specs.Design.{FlatDesign}

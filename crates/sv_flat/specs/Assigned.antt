@@ -1,4 +1,4 @@
--- Which signals, and which of their bits, a statement assigns.
+-- Which signals, and which of their bits, a statement assigns (this project's profile).
 use Rattle.std.specs.Prelude.{ℕ, Bool, false, ◌==◌, ◌&&◌, ◌||◌, nat_le}
 use Rattle.std.specs.List.{list_any}
 use Rattle.sv_flat.specs.Design.{PieceForm, FlatStatement, nothing, after, assign, branch}

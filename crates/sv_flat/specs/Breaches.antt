@@ -1,5 +1,5 @@
--- Broken rules, and which of them comes first.
-use Rattle.std.specs.Prelude.{ℕ, Bool, ◌==◌, ◌&&◌, ◌||◌, nat_lt, if◌then◌else◌, List, [], ◌∷◌, Option, Some, None, slice_index}
+-- Broken rules, and which of them comes first (this project's profile).
+use Rattle.std.specs.Prelude.{ℕ, Bool, ◌==◌, ◌&&◌, ◌||◌, nat_lt, List, [], ◌∷◌, slice_index}
 use Rattle.sv_num.specs.declared.faults.Place.{Place}
 
 -- a rule that is broken, by its number: where, and with which signals
@@ -27,13 +27,3 @@ comes_before a b =
     (then_by a.place.line b.place.line
     (then_by a.place.column b.place.column
     (nat_lt (first_signal a) (first_signal b))))
-
--- the breach that comes first, after one in hand
-abbrev pub first_from : Breach → List Breach → Breach
-first_from a [] = a
-first_from a (b ∷ bs) = first_from (if comes_before b a then b else a) bs
-
--- the breach that comes first, if there is one
-abbrev pub first_breach : List Breach → Option Breach
-first_breach [] = None
-first_breach (b ∷ bs) = Some (first_from b bs)

@@ -1,5 +1,5 @@
 -- Clocks: the signals after `posedge`, and what instances link to them by whole names (IEEE
--- 1364-2005, clauses 9 and 12; that there is one clock, and that it is used as nothing else, is
+-- 1364-2005, clauses 9.7.2 and 12.3; that there is one clock, and that it is used as nothing else, is
 -- this project's profile).
 use Rattle.std.specs.Prelude.{ℕ, Bool, true, false, ◌==◌, ◌&&◌, ◌||◌, not, nat_lt, List, [], ◌∷◌, length, map, filter, Option, Some, None, is_none, option_map, if◌then◌else◌}
 use Rattle.std.specs.List.{list_any, list_all, filter_map, range_with_len}

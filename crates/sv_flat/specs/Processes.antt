@@ -1,4 +1,4 @@
--- The signals and processes of a flat design.
+-- The signals and processes of a flat design (this project's profile).
 use Rattle.std.specs.Prelude.{ℕ, Bool, true, false, ◌&&◌, List, length, filter}
 use Rattle.std.specs.List.{list_any, range_with_len}
 use Rattle.sv_num.specs.declared.faults.Place.{Place}

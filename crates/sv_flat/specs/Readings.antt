@@ -1,4 +1,5 @@
--- What expressions and statements read.
+-- What expressions and statements read (this project's profile; what `@*` waits for by IEEE 1364-2005,
+-- clause 9.7.5, is not used).
 use Rattle.std.specs.Prelude.{ℕ, ◌-◌, Bool, true, false, ◌==◌, ◌&&◌, ◌||◌, nat_le, if◌then◌else◌, List, [], ◌∷◌, ◌++◌, map, ℤ, pos, negsuc}
 use Rattle.std.specs.List.{list_any, range_with_len}
 use Rattle.sv_num.specs.declared.faults.Place.{Place}

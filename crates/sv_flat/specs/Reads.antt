@@ -1,4 +1,4 @@
--- The signals read for a signal, and the depth at which it stands.
+-- The signals read for a signal, and the depth at which it stands (this project's profile).
 use Rattle.std.specs.Prelude.{ℕ, ◌+◌, zero, suc, max, Bool, ◌==◌, ◌&&◌, ◌||◌, not, if◌then◌else◌, List, [], ◌∷◌, length, map, flat_map, fold, replicate, slice_index}
 use Rattle.std.specs.List.{list_any, range_with_len}
 use Rattle.sv_flat.specs.Design.{ProcessForm, FlatDesign}

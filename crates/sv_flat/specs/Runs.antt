@@ -22,8 +22,8 @@ abbrev pub with_piece : List SignalForm → PieceForm → (right old : ℕ) → 
 with_piece signals piece right old =
     replaced_bits (signal_width signals piece.signal) piece.high piece.low old (right / 2 ^ piece.from)
 
--- a piece of a blocking assignment changes the environment (clause 9.2); that of a nonblocking one
--- adds an update, which keeps what is pending of the signal's other bits
+-- a piece of a blocking assignment changes the environment (clause 9.2.1); that of a nonblocking
+-- one adds an update (clause 9.2.2), which keeps what is pending of the signal's other bits
 abbrev pub put_piece : List SignalForm → (blocking : Bool) → (right : ℕ) → Environment ℕ × Updates → PieceForm
     → Environment ℕ × Updates
 put_piece signals true right now piece =

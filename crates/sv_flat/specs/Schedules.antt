@@ -1,7 +1,7 @@
 -- Runs in a drawn order: which processes run when, under an order number (this project's profile;
 -- IEEE 1364-2005, clause 11 leaves the order of events at one time open).
-use Rattle.std.specs.Prelude.{◌≡◌, ℕ, zero, suc, ◌+◌, ◌-◌, ◌*◌, ◌/◌, ◌%◌, ◌^◌, ◌<◌, ◌≤◌, Bool, ◌==◌, if◌then◌else◌, IsTrue, IsFalse, List, [], ◌∷◌, length, map, reverse, swap, slice_index_or}
-use Rattle.std.specs.List.{list_all, range_with_len}
+use Rattle.std.specs.Prelude.{◌≡◌, ℕ, zero, suc, ◌+◌, ◌-◌, ◌*◌, ◌/◌, ◌%◌, ◌^◌, ◌<◌, ◌≤◌, Bool, ◌==◌, ◌&&◌, nat_lt, if◌then◌else◌, IsTrue, IsFalse, List, [], ◌∷◌, length, map, reverse, swap, slice_get, slice_index_or, count_by, sum}
+use Rattle.std.specs.List.{list_all, filter_map, range_with_len}
 use Rattle.sv_system.specs.System.{Environment}
 use Rattle.sv_system.specs.Schedules.{after_runs}
 use Rattle.sv_flat.specs.Design.{ProcessForm, FlatDesign}
@@ -74,6 +74,32 @@ pub record IsRoundCount (design : FlatDesign) (number : ℕ) (environment : Envi
   pub quiet : IsTrue (is_quiet design (after_rounds design number count environment))
   pub before : (k : ℕ) → 1 ≤ k → k < count → IsFalse (is_quiet design (after_rounds design number k environment))
 
+-- ---- ticks
+
+abbrev pub clocked_count : FlatDesign → ℕ
+clocked_count design = length (clocked_processes design)
+
+-- whether the list has the number of each clocked process once, and no other number
+abbrev pub is_order : FlatDesign → List ℕ → Bool
+is_order design order =
+    list_all (λ k. nat_lt k (clocked_count design)) order
+    && list_all (λ k. count_by (λ m. m == k) order == 1) (range_with_len 0 (clocked_count design))
+
+-- the clocked processes with these numbers, in the order of the list
+abbrev pub in_order : FlatDesign → List ℕ → List ProcessForm
+in_order design order = filter_map (slice_get (clocked_processes design)) order
+
+-- The environment after a tick by an order: the processes run on the environment as it stands, and
+-- then all pending updates are made (IEEE 1364-2005, clause 11).
+abbrev pub after_tick : FlatDesign → List ℕ → Environment ℕ → Environment ℕ
+after_tick design order environment = after_edge design (in_order design order) environment
+
+-- a cycle's order: ascending in even cycles, descending in odd ones
+abbrev pub tick_order : FlatDesign → (cycle : ℕ) → List ℕ
+tick_order design cycle =
+    let ascending = range_with_len 0 (clocked_count design) in
+    if cycle % 2 == 0 then ascending else reverse ascending
+
 -- ---- ordered runs
 
 -- the registers as given, and 0 for every other signal
@@ -84,14 +110,9 @@ starting design registers s = if (flat_system design).is_register s then registe
 abbrev pub with_inputs : FlatDesign → (inputs environment : Environment ℕ) → Environment ℕ
 with_inputs design inputs environment s = if (flat_system design).is_input s then inputs s else environment s
 
--- the clocked processes run in ascending order in even cycles, and in descending order in odd ones
-abbrev pub edge_order : FlatDesign → (cycle : ℕ) → List ProcessForm
-edge_order design cycle =
-    if cycle % 2 == 0 then clocked_processes design else reverse (clocked_processes design)
-
 -- In each cycle the inputs are set, the rounds run under the order number plus the cycle's, and the
--- clocked processes run at the edge; all other values stay. The environments are those after the
--- rounds.
+-- clocked processes run by the cycle's order; all other values stay. The environments are those
+-- after the rounds.
 abbrev pub IsOrderedRun : FlatDesign → (number cycle : ℕ) → (before : Environment ℕ)
     → (inputs environments : List (Environment ℕ)) → (counts : List ℕ) → Type 0
 IsOrderedRun design number cycle before [] [] [] = Unit {0}
@@ -99,5 +120,14 @@ IsOrderedRun design number cycle before (i ∷ inputs) (e ∷ environments) (k �
     let drawn_by = (number + cycle) % 2 ^ 64 in
     IsRoundCount design drawn_by (with_inputs design i before) k
     × ((s : ℕ) → e s ≡ after_rounds design drawn_by k (with_inputs design i before) s)
-    × IsOrderedRun design number (cycle + 1) (after_edge design (edge_order design cycle) e) inputs environments counts
+    × IsOrderedRun design number (cycle + 1) (after_tick design (tick_order design cycle) e) inputs environments counts
 IsOrderedRun design number cycle before _ _ _ = ⊥
+
+-- The ordered run of a design from its starting registers, with every other signal 0 and the cycles
+-- numbered from 0: the counts of its rounds, one for each cycle, and their sum, which is 0 without
+-- cycles.
+pub record OrderedRun (design : FlatDesign) (number : ℕ) (registers : Environment ℕ)
+    (inputs environments : List (Environment ℕ)) (rounds : ℕ) : Type 0 where
+  pub counts : List ℕ
+  pub runs : IsOrderedRun design number 0 (starting design registers) inputs environments counts
+  pub summed : rounds ≡ sum counts

@@ -1,4 +1,4 @@
--- Sets of numbers, as lists in ascending order.
+-- Sets of numbers, as lists in ascending order (this project's profile).
 use Rattle.std.specs.Prelude.{ℕ, zero, suc, Bool, ◌==◌, ◌||◌, List, filter}
 use Rattle.std.specs.List.{list_any, range_with_len}
 

@@ -1,4 +1,4 @@
--- The lists of an admitted design, its clock and the process of a signal.
+-- The lists of an admitted design, its clock and the process of a signal (this project's profile).
 use Rattle.std.specs.Prelude.{ℕ, List, Option, find, position}
 use Rattle.sv_flat.specs.Design.{ProcessForm, FlatDesign}
 use Rattle.sv_flat.specs.Assigned.{assigns}

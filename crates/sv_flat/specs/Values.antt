@@ -44,15 +44,15 @@ parts_width (more_parts e es) = expression_width e + parts_width es
 -- ---- bits
 
 -- a value at another length: the new bits are copies of the highest bit where the type is signed,
--- else 0 (clause 5.5)
+-- else 0 (clause 5.5.2)
 abbrev pub extended : (signed : Bool) → (from to value : ℕ) → ℕ
 extended signed from to value = reduced to (as_number from signed value)
 
--- the bits of a value from `high` down to `low` (clause 5.2)
+-- the bits of a value from `high` down to `low` (clause 5.2.1)
 abbrev pub bits_between : (high low value : ℕ) → ℕ
 bits_between high low value = value / 2 ^ low % 2 ^ (high + 1 - low)
 
--- the bit of a value of some bits at an index (clause 5.2), and 0 outside of it (this project's
+-- the bit of a value of some bits at an index (clause 5.2.1), and 0 outside of it (this project's
 -- profile)
 abbrev pub bit_or_zero : (width value : ℕ) → (index : ℤ) → ℕ
 bit_or_zero width value (pos i) = if nat_lt i width then bit_at value i else 0
@@ -64,7 +64,7 @@ replaced_bits width high low value piece =
     value % 2 ^ width / 2 ^ (high + 1) * 2 ^ (high + 1)
     + (piece % 2 ^ (high + 1 - low) * 2 ^ low + value % 2 ^ low)
 
--- a value of some bits written so many times (clause 5.1)
+-- a value of some bits written so many times (clause 5.1.14)
 abbrev pub repeated : (count width value : ℕ) → ℕ
 repeated zero width value = 0
 repeated (suc count) width value = repeated count width value * 2 ^ width + value
@@ -106,7 +106,7 @@ abbrev mutual
       (replaced_bits (signal_width signals s) high low (value signals environment e) (value signals environment piece))
   node_value signals environment width signed (slice e high low) = bits_between high low (value signals environment e)
 
-  -- the parts one beside the other, the first with the highest bits (clause 5.1)
+  -- the parts one beside the other, the first with the highest bits (clause 5.1.14)
   pub joined : List SignalForm → Environment ℕ → TypedTrees → ℕ
   joined signals environment no_parts = 0
   joined signals environment (more_parts e es) =

@@ -6,7 +6,7 @@ use Rattle.sv_walk.specs.ExpressionSteps.{sized_parts, typed_walk, expression_wa
 use Rattle.sv_walk.specs.Targets.{selection_steps, target_steps, targets_steps, assignment_walk}
 use Rattle.sv_walk.specs.CaseChains.{item_length, item_sign, keeps_length, is_complete}
 use Rattle.sv_walk.specs.Statements.{items_walk, statement_walk}
-use Rattle.sv_walk.specs.Declarations.{range_steps, final_walk, parameter_walk, signal_walk, declaration_walk, declarations_walk}
+use Rattle.sv_walk.specs.Declarations.{range_steps, final_walk, parameter_walk, signal_walk, declaration_walk, declarations_walk, declared_until}
 use Rattle.sv_walk.specs.Lattices.{answered, pair_steps, order_steps, checked_order, lattice_walk}
 use Rattle.sv_walk.specs.LabelMaps.{rows_walk, default_walk, map_walk, maps_walk}
 use Rattle.sv_walk.specs.LabelSteps.{second_selector, second_fits, label_walk, given_label, labels_walk}
@@ -19,7 +19,7 @@ unfoldable pub computing : Unit {0}
 unfolding value sign_of each names_signal typed_of sized_parts typed_walk expression_walk constant_walk
     divisors asked selection_steps target_steps targets_steps assignment_walk item_length item_sign
     keeps_length is_complete items_walk statement_walk range_steps final_walk parameter_walk signal_walk
-    declaration_walk declarations_walk answered pair_steps order_steps checked_order lattice_walk
+    declaration_walk declarations_walk declared_until answered pair_steps order_steps checked_order lattice_walk
     rows_walk default_walk map_walk maps_walk second_selector second_fits label_walk given_label
     labels_walk named_walk ordered_walk overrides_walk input_link output_link link_walk optional_link named_links_walk
     ordered_links_walk links_walk value_walk assign_walk always_walk ports_of instance_walk item_walk

@@ -3,10 +3,10 @@ use Rattle.std.proofs.Common.{◌≡◌, [], ◌∷◌, Some, None, refl}
 use Rattle.std.specs.Prelude.{codes}
 use Rattle.sv_num.specs.declared.operators.BinOp.TheVariants as binop
 use Rattle.sv_ast.specs.declared.declarations.DeclKind.TheVariants as kind
-use Rattle.sv_ast.specs.Tree.{named_overrides, ordered_links, case_of, more_arms, no_arms, declared}
+use Rattle.sv_ast.specs.Tree.{named_overrides, ordered_links, named_links, case_of, more_arms, no_arms, declared}
 use Rattle.sv_walk.specs.Texts.{walk_of}
 use Rattle.sv_walk.proofs.Computing.{computing}
-use Rattle.sv_walk.proofs.SmallTexts.{at, name, decimal, bits, op, bit, joined, target, target_bit, gets, range, declares, input, output_reg, wire, wire_with, point_of, parameter, always, override, no_overrides, no_links, stands, module_of, placed, pair, lattice_of, row, map_tree, span, text_of, breaks}
+use Rattle.sv_walk.proofs.SmallTexts.{at, name, decimal, bits, op, bit, joined, target, target_bit, gets, range, declares, input, output, output_reg, wire, wire_with, point_of, parameter, assigns, always, override, no_overrides, no_links, link, stands, module_of, placed, pair, lattice_of, row, map_tree, span, text_of, breaks}
 
 -- The lattice and the maps.
 
@@ -227,7 +227,7 @@ unfolding computing
 links_before_the_inside = refl
 
 -- module m; s u(8'd1 / (8'd255 + 8'd1)); endmodule module s(input [15:0] i, input [z:0] j); endmodule
-pub the_width_of_a_port_in_a_broken_inside : (walk_of (
+pub the_width_of_a_port_before_a_broken_one : (walk_of (
     text_of None []
     (module_of "m" 8 [] []
     (stands "s" 11 no_overrides "u" 13
@@ -237,9 +237,37 @@ pub the_width_of_a_port_in_a_broken_inside : (walk_of (
     (input (range (decimal 15 66) (decimal 0 69)) "i" 72
     ∷ input (range (name "z" 82) (decimal 0 84)) "j" 87 ∷ [])
     [] ∷ [])) None).end
-    ≡ breaks 405 30 []
+    ≡ breaks 401 82 ("z" ∷ [])
 unfolding computing
-the_width_of_a_port_in_a_broken_inside = refl
+the_width_of_a_port_before_a_broken_one = refl
+
+-- module m(input x, output y); s u(.a(4'd8 / (4'd15 + 4'd1)), .b(x), .o(y)); endmodule
+-- module s(input [7:0] a, input [3:1] b, output o); assign o = a[0]; endmodule
+pub the_width_of_a_linked_port_before_a_broken_one : (walk_of (
+    text_of None []
+    (module_of "m" 8 [] (input None "x" 16 ∷ output None "y" 26 ∷ [])
+    (stands "s" 30 no_overrides "u" 32
+    (named_links
+    (link "a" 35 (op binop.Div 42 (bits 4 8 37) (op binop.Add 51 (bits 4 15 45) (bits 4 1 53)))
+    ∷ link "b" 62 (name "x" 64) ∷ link "o" 69 (name "y" 71) ∷ [])) ∷ [])
+    ∷ module_of "s" 93 []
+    (input (range (decimal 7 102) (decimal 0 104)) "a" 107
+    ∷ input (range (decimal 3 117) (decimal 1 119)) "b" 122 ∷ output None "o" 132 ∷ [])
+    (assigns (target "o" 143 ∷ []) 143 (bit "a" 147 (decimal 0 149)) ∷ []) ∷ [])) None).end
+    ≡ breaks 409 117 []
+unfolding computing
+the_width_of_a_linked_port_before_a_broken_one = refl
+
+-- module m; s u(4'd1 / (4'd8 + 4'd8)); endmodule module s(input [z:0] i); endmodule
+pub no_width_of_a_broken_port : (walk_of (
+    text_of None []
+    (module_of "m" 8 [] []
+    (stands "s" 11 no_overrides "u" 13
+    (ordered_links (op binop.Div 20 (bits 4 1 15) (op binop.Add 28 (bits 4 8 23) (bits 4 8 30)) ∷ [])) ∷ [])
+    ∷ module_of "s" 55 [] (input (range (name "z" 64) (decimal 0 66)) "i" 69 ∷ []) [] ∷ [])) None).end
+    ≡ breaks 405 28 []
+unfolding computing
+no_width_of_a_broken_port = refl
 
 -- module m; s u(8'd1 / (8'd255 + 8'd1)); endmodule module s(input [15:0] i); wire w = z; endmodule
 pub the_width_of_a_port : (walk_of (

@@ -1,6 +1,6 @@
 -- The walk of an instance's parameters and declarations, in textual order: of each its range, its value,
--- its name, and the number of signals (IEEE 1364-2005, clauses 4.2, 4.10 and 12.3).
-use Rattle.std.specs.Prelude.{ℕ, ◌+◌, Bool, false, not, ◌||◌, nat_lt, List, [], ◌∷◌, ◌++◌, length, Option, Some, None, if◌then◌else◌, ℤ, pos, negsuc, ◌==◌, ◌&&◌}
+-- its name, and the number of signals (IEEE 1364-2005, clauses 4.2, 4.3 for ranges, 4.10 and 12.3).
+use Rattle.std.specs.Prelude.{ℕ, ◌+◌, Bool, false, not, ◌||◌, nat_lt, List, [], ◌∷◌, ◌++◌, length, Option, Some, None, if◌then◌else◌, ℤ, pos, negsuc, ◌==◌, ◌&&◌, Ok, Err}
 use Rattle.std.specs.List.{join_with_byte}
 use Rattle.sv_lattice.specs.declared.labels.Label.TheVariants.{Point as Declared_point}
 use Rattle.sv_ast.specs.declared.declarations.DeclKind.{DeclKind}
@@ -111,6 +111,14 @@ declarations_walk base least site so_far [] = done so_far
 declarations_walk base least site so_far (item ∷ items) = do
   next ← declaration_walk base least site so_far item
   declarations_walk base least site next items
+
+-- what the items have declared up to the first that breaks a rule
+unfoldable pub declared_until : (base least : ℕ) → Site → Declared → List ItemTree → Declared
+declared_until base least site so_far [] = so_far
+declared_until base least site so_far (item ∷ items) = elim (declaration_walk base least site so_far item).end [
+  | Ok next ↦ declared_until base least site next items
+  | Err s ↦ so_far
+]
 
 abbrev pub nothing_declared : Declared
 nothing_declared = record { bindings = []; signals = [] }

@@ -1,6 +1,7 @@
 -- The rules that an expression is asked: 401 to 404 and 406 to 408 in a first walk, operands from left
 -- to right before their operator, then 405 in a second one at the lengths and signs that are pushed
--- down. Bounds, constant indices and counts are expressions of their own.
+-- down (IEEE 1364-2005, clauses 5.1.14, 5.2.1, 5.4 and 5.5; the rules' order is this project's profile).
+-- Bounds, constant indices and counts are expressions of their own.
 use Rattle.std.specs.Prelude.{ℕ, max, Bool, true, false, not, ◌==◌, ◌||◌, ◌&&◌, nat_lt, nat_le, ℤ, pos, negsuc}
 use Rattle.sv_num.specs.UnaryValues.{gives_one_bit}
 use Rattle.sv_num.specs.BinaryValues.{class_of}

@@ -9,13 +9,13 @@ use Rattle.sv_ast.specs.Tree.{ExpressionTree, TargetTree, StatementTree, PlacedN
 use Rattle.sv_ast.specs.Instances.{entry, module_named, all_items, is_signal}
 use Rattle.sv_ast.specs.Parts.{declarations}
 use Rattle.sv_flat.specs.Design.{SignalForm, ProcessForm, continuous as continuous_kind, combinational, clocked}
-use Rattle.sv_walk.specs.Walks.{Walk, done, ask, found, value_or, ◌>>=◌}
+use Rattle.sv_walk.specs.Walks.{Walk, done, ask, found, ◌>>=◌}
 use Rattle.sv_walk.specs.Rules.{unknown_module, twice, recursive, too_many, unknown_name}
 use Rattle.sv_walk.specs.Names.{Names, names_of}
 use Rattle.sv_walk.specs.ExpressionSteps.{expression_walk}
 use Rattle.sv_walk.specs.Targets.{assignment_walk}
 use Rattle.sv_walk.specs.Statements.{statement_walk}
-use Rattle.sv_walk.specs.Declarations.{Site, nothing_declared, declarations_walk}
+use Rattle.sv_walk.specs.Declarations.{Site, nothing_declared, declarations_walk, declared_until}
 use Rattle.sv_walk.specs.LabelSteps.{Tables, labels_walk}
 use Rattle.sv_walk.specs.Overrides.{overrides_walk}
 use Rattle.sv_walk.specs.Links.{Ports, whole_assignment, links_walk}
@@ -53,14 +53,14 @@ always_walk names built p (Some clock) s = do
   body ← statement_walk names s
   done (with_process built (record { place = p; kind = clocked (names.number clock.name); body = body }))
 
--- what the declarations of a module's header will say of its ports; where they break a rule, a port has
--- no width
+-- what the declarations of a module's header will say of its ports; a port whose declaration breaks a
+-- rule, and each after it, has no width
 unfoldable pub ports_of : (least : ℕ) → Site → (base : ℕ) → Ports
 ports_of least site base = record {
   base = base;
   master = site.master;
-  scope = entry (value_or (declarations_walk base least site nothing_declared
-      (map parameter_item site.master.parameters ++ map declared site.master.ports)).end nothing_declared).bindings;
+  scope = entry (declared_until base least site nothing_declared
+      (map parameter_item site.master.parameters ++ map declared site.master.ports)).bindings;
 }
 
 -- an instance: its module, its name, whether its module is around it, the limit, what it sets, its

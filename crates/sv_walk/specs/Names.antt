@@ -1,4 +1,5 @@
--- What names stand for inside one instance, as the walk has it: also with the numbers of signals.
+-- What names stand for inside one instance, as the walk has it: also with the numbers of signals (IEEE
+-- 1364-2005, clauses 3.7 and 12.7; the numbers, and what is in reach where, are this project's profile).
 use Rattle.std.specs.Prelude.{ℕ, ◌+◌, Bool, true, false, ◌||◌, List, [], ◌∷◌, Option, Some, None, if◌then◌else◌}
 use Rattle.std.specs.List.{list_any}
 use Rattle.std.specs.Str.{bytes_eq}

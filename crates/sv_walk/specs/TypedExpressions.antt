@@ -1,6 +1,6 @@
 -- The typed form of a source expression: a length and a sign are pushed down to each operand or are its
--- own (IEEE 1364-2005, clauses 5.4 and 5.5), names of signals are numbers, and constants stand as their
--- values.
+-- own (IEEE 1364-2005, clauses 5.4 and 5.5). Names of signals are numbers; literals, parameters and
+-- divisions stand as their values, other constant expressions as they are written.
 use Rattle.std.specs.Prelude.{ℕ, max, Bool, true, false, ◌||◌, ◌&&◌, Option, Some, None}
 use Rattle.sv_num.specs.declared.faults.Place.{Place}
 use Rattle.sv_num.specs.declared.operators.BinOp.{BinOp}

@@ -37,6 +37,8 @@ abbrev pub at_path : {X : Type 0} → List PartSignal → (PartSignal → X) →
 at_path ss said otherwise path =
     option_map_or said (find (λ s. same_path path (signal_path s)) ss) otherwise
 
+-- Later: the words of memories as signals, declared invariants as facts on environments, released values in what looks alike.
+
 -- the cycle system of some signals and processes
 abbrev pub system_of : TextTree → List PartSignal → List Process → System Path (List ℕ)
 system_of text ss ps = record {

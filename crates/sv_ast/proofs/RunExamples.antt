@@ -7,7 +7,8 @@ use Rattle.sv_num.specs.declared.operators.BinOp.TheVariants as binop
 use Rattle.sv_ast.specs.Scopes.{Scope}
 use Rattle.sv_ast.specs.Tree.{ExpressionTree, StatementTree, null, if_only, case_of, ArmTrees, no_arms}
 use Rattle.sv_ast.specs.Values.{value, sign_of}
-use Rattle.sv_ast.specs.Runs.{last_update, target_width, targets_width, pieces, with_bits, case_length, case_sign, run, assigned}
+use Rattle.sv_system.specs.System.{last_update}
+use Rattle.sv_ast.specs.Runs.{target_width, targets_width, pieces, with_bits, case_length, case_sign, run, assigned}
 use Rattle.sv_ast.proofs.SmallTrees.{somewhere, decimal_of, sized_of, name, op, to, to_bit, to_part, puts, posts, begin_end, either, arm, signals_are, values_are, gets, gets_later, names}
 
 -- the value of a name after a run with no updates pending, where the names have the given values before

@@ -7,7 +7,8 @@ use Rattle.std.specs.Str.{bytes_eq}
 pub use Rattle.sv_token.specs.Bytes.{entry}
 use Rattle.sv_ast.specs.Scopes.{Scope, Number, Binding, parameter, signal}
 use Rattle.sv_ast.specs.Tree.{ExpressionTree, named, SpanTree, DeclarationTree, ParameterTree, NamedOverride, OverrideTrees, named_overrides, ordered_overrides, NamedLink, LinkTrees, named_links, ordered_links, InstanceTree, ItemTree, parameter_item, declared, instance_item, ModuleTree}
-use Rattle.sv_ast.specs.Values.{extended, constant_of, bound_of}
+use Rattle.sv_num.specs.Parts.{extended}
+use Rattle.sv_ast.specs.Values.{constant_of, bound_of}
 
 -- Modules and their top (clause 12.1.1).
 

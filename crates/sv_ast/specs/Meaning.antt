@@ -4,10 +4,10 @@ use Rattle.std.specs.Prelude.{ℕ, Bool, false, not, ◌&&◌, List, map, filter
 use Rattle.std.specs.List.{list_any}
 use Rattle.std.specs.Option.{option_map_or}
 use Rattle.std.specs.Str.{bytes_eq}
-use Rattle.sv_system.specs.System.{System, Environment}
+use Rattle.sv_system.specs.System.{System, Environment, last_update}
 use Rattle.sv_ast.specs.Tree.{TextTree}
 use Rattle.sv_ast.specs.Instances.{is_empty}
-use Rattle.sv_ast.specs.Runs.{last_update, assigned}
+use Rattle.sv_ast.specs.Runs.{assigned}
 use Rattle.sv_ast.specs.Reach.{holds}
 use Rattle.sv_ast.specs.Parts.{Path, same_path, Part, parts, PartSignal, signal_path, signal_width, signals_of, links_of}
 use Rattle.sv_ast.specs.ClockPaths.{is_input_kind, clock_paths}

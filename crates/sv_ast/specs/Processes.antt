@@ -4,8 +4,7 @@ use Rattle.std.specs.Prelude.{ℕ, zero, suc, Bool, true, false, if◌then◌els
 use Rattle.std.specs.Option.{option_map_or}
 use Rattle.std.specs.Str.{bytes_eq}
 use Rattle.sv_num.specs.declared.faults.Place.{Place}
-use Rattle.sv_system.specs.System.{Environment}
-use Rattle.sv_system.specs.Facts.{put}
+use Rattle.sv_system.specs.System.{Environment, put}
 use Rattle.sv_ast.specs.Scopes.{width_of}
 use Rattle.sv_ast.specs.Tree.{ExpressionTree, named, whole, StatementTree, assignment, ItemTree, declared, continuous, released, always_item, instance_item, ModuleTree, TextTree}
 use Rattle.sv_ast.specs.Values.{assigned_value}

@@ -1,11 +1,11 @@
 -- What a run of a statement does to the signals of its instance (IEEE 1364-2005, clauses 6 and 9).
 -- The signals have their values by name.
-use Rattle.std.specs.Prelude.{ℕ, max, ◌+◌, ◌*◌, ◌/◌, ◌%◌, ◌^◌, Bool, true, false, cond, ◌==◌, ◌&&◌, if◌then◌else◌, List, [], ◌∷◌, ◌++◌, map, fold}
+use Rattle.std.specs.Prelude.{ℕ, max, ◌+◌, ◌*◌, ◌/◌, ◌%◌, ◌^◌, Bool, true, false, ◌==◌, ◌&&◌, if◌then◌else◌, List, [], ◌∷◌, ◌++◌, map, fold}
 use Rattle.std.specs.List.{list_any}
 use Rattle.std.specs.Str.{bytes_eq}
 use Rattle.sv_num.specs.declared.faults.Place.{Place}
 use Rattle.sv_num.specs.Vectors.{is_true}
-use Rattle.sv_system.specs.Facts.{put}
+use Rattle.sv_system.specs.System.{put, last_update}
 use Rattle.sv_ast.specs.Scopes.{Scope}
 use Rattle.sv_ast.specs.Tree.{ExpressionTree, named, bit_of, part_of, Selection, whole, bit_at, part_from, TargetTree, StatementTree, null, assignment, block, if_only, if_else, case_of, StatementTrees, no_statements, more_statements, ArmTrees, no_arms, more_arms}
 use Rattle.sv_ast.specs.Values.{length_of, sign_of, value, own_value, bound_of, assigned_value}
@@ -14,12 +14,6 @@ use Rattle.sv_ast.specs.Values.{length_of, sign_of, value, own_value, bound_of, 
 pub record Running : Type 0 where
   pub environment : List ℕ → ℕ
   pub updates : List (List ℕ × ℕ)
-
--- the value of a name's last update, or the old value where there is none
-abbrev pub last_update : {Name : Type 0} → (Name → Name → Bool) → Name → (old : ℕ)
-    → List (Name × ℕ) → ℕ
-last_update same n old [] = old
-last_update same n old (u ∷ us) = last_update same n (cond (same u.0 n) u.1 old) us
 
 -- the value that a name will have after the updates so far
 abbrev pub pending : Running → List ℕ → ℕ

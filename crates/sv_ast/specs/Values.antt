@@ -6,33 +6,11 @@ use Rattle.sv_num.specs.declared.operators.BinOp.{BinOp}
 use Rattle.sv_num.specs.declared.operators.OpClass.{OpClass}
 use Rattle.sv_num.specs.declared.operators.OpClass.TheVariants.{Context, Compare, Logical, Shift}
 use Rattle.sv_num.specs.Vectors.{as_number, reduced, is_true}
+use Rattle.sv_num.specs.Parts.{extended, span_of, bits_between, bit_or_zero, repeated}
 use Rattle.sv_num.specs.UnaryValues.{gives_one_bit, unary_value}
 use Rattle.sv_num.specs.BinaryValues.{class_of, binary_value}
 use Rattle.sv_ast.specs.Scopes.{Scope, Number, width_of, is_signed, value_of}
 use Rattle.sv_ast.specs.Tree.{ExpressionTree, ExpressionTrees, literal, named, bit_of, part_of, unary, binary, choice, join, replication, no_expressions, more_expressions}
-
--- a value at a greater length: with copies of its sign bit where the pushed type is signed, else
--- with zeros (clause 5.5.2)
-abbrev pub extended : (signed : Bool) → (from to value : ℕ) → ℕ
-extended signed from to value = reduced to (as_number from signed value)
-
--- bit k of a value of some bits (clause 5.2.1), 0 outside (this project's profile)
-abbrev pub bit_or_zero : (width value : ℕ) → ℤ → ℕ
-bit_or_zero width value (pos k) = if nat_lt k width then value / 2 ^ k % 2 else 0
-bit_or_zero width value (negsuc k) = 0
-
--- how many bits stand from `high` down to `low`
-abbrev pub span_of : (high low : ℕ) → ℕ
-span_of high low = high + 1 - low
-
--- the bits of a value from `high` down to `low` (clause 5.2.1)
-abbrev pub bits_between : (high low value : ℕ) → ℕ
-bits_between high low value = value / 2 ^ low % 2 ^ span_of high low
-
--- a value of some bits written so many times (clause 5.1.14)
-abbrev pub repeated : (count width value : ℕ) → ℕ
-repeated zero width value = 0
-repeated (suc k) width value = repeated k width value * 2 ^ width + value
 
 -- a count or a bound as a natural number; a negative one is refused
 abbrev pub natural : ℤ → ℕ

@@ -10,7 +10,8 @@ use Rattle.sv_first_ast.specs.Tree.{ExpressionTree, named, unary, binary, Statem
 use Rattle.sv_first_ast.specs.Meaning.{unary_value, binary_value, value, run, Process, process_of, processes, last_update}
 use Rattle.sv_first_ast.specs.Form.{reads, target_of, reads_of}
 use Rattle.sv_first_ast.specs.Spelling.{is_name, is_expression, is_statement, is_item, is_shaped}
-use Rattle.sv_system.specs.Facts.{put, Driver}
+use Rattle.sv_system.specs.System.{put}
+use Rattle.sv_system.specs.Facts.{Driver}
 use Rattle.sv_system.proofs.Lists.{Contains-head, Contains-later, Contains-cases, Contains-nil}
 use Rattle.sv_first_ast.proofs.Lists.{Contains-from_filter_map, list_all-at, name_same, name_itself}
 

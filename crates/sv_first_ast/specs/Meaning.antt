@@ -13,8 +13,7 @@ use Rattle.sv_first_ast.specs.declared.module.DeclKind.{DeclKind}
 use Rattle.sv_first_ast.specs.declared.module.DeclKind.TheVariants as kind
 use Rattle.sv_first_ast.specs.declared.module.Point.{Point}
 use Rattle.sv_first_ast.specs.declared.module.Point.TheVariants.{Low, High}
-use Rattle.sv_system.specs.System.{System}
-use Rattle.sv_system.specs.Facts.{put}
+use Rattle.sv_system.specs.System.{System, put}
 use Rattle.sv_first_ast.specs.Names.{holds}
 use Rattle.sv_first_ast.specs.Tree.{ExpressionTree, named, unary, binary, StatementTree, assignment, ItemTree, declared, continuous, clocked, ModuleTree}
 

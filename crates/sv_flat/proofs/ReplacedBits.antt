@@ -3,7 +3,7 @@ use Rattle.std.proofs.Common.{◌≡◌, ℕ, ◌+◌, ◌-◌, ◌*◌, ◌/◌
 use Rattle.std.specs.Int.{bit_at}
 use Rattle.std.proofs.lemmas.Nat.{pow_pos, pow-add, shr-shr, shr_split, field_of}
 use Rattle.std.proofs.lemmas.Nat.Bits.{bit_at_cat_low, bit_at_cat_high, same_from_bits_below}
-use Rattle.sv_flat.specs.Values.{bits_between, replaced_bits}
+use Rattle.sv_num.specs.Parts.{bits_between, replaced_bits}
 
 low_below : (x k : ℕ) → x % 2 ^ k < 2 ^ k
 low_below x k = mod-lt x (pow_pos k)

@@ -1,14 +1,14 @@
 -- Runs and clock edges keep each value at its signal's width.
 use Rattle.std.proofs.Common.{ℕ, ◌/◌, ◌^◌, ◌<◌, Bool, true, false, cond, ◌&&◌, ◌==◌, List, [], ◌∷◌, fold, ⊎_elim, refl, sym, subst}
-use Rattle.std.specs.Prelude.{Contains, IsTrue, flat_map}
+use Rattle.std.specs.Prelude.{Contains, IsTrue, flat_map, ◌==◌}
 use Rattle.std.specs.List.{list_all}
 use Rattle.std.proofs.lemmas.Bool.{eqb-true}
 use Rattle.sv_num.specs.Vectors.{is_true}
-use Rattle.sv_system.specs.System.{Environment}
+use Rattle.sv_system.specs.System.{Environment, last_update}
 use Rattle.sv_system.proofs.Lists.{Contains-head, Contains-later, Contains-nil, Contains-cases}
 use Rattle.sv_flat.specs.Design.{SignalForm, TypedTree, PieceForm, FlatStatement, nothing, after, assign, branch, ProcessForm, FlatDesign}
 use Rattle.sv_flat.specs.Values.{signal_width, value}
-use Rattle.sv_flat.specs.Runs.{Updates, last_update, with_piece, put_piece, run}
+use Rattle.sv_flat.specs.Runs.{Updates, with_piece, put_piece, run}
 use Rattle.sv_flat.specs.Soundness.{is_signal, piece_fits, well_formed, statement_sound, sound}
 use Rattle.sv_flat.specs.Processes.{is_clocked}
 use Rattle.sv_flat.specs.Clocks.{processes_of}
@@ -34,7 +34,7 @@ module _ (signals : List SignalForm) where
   BothFit now = AllFit now.0 × UpdatesFit now.1
 
   pub last_update_fits : (s old : ℕ) (us : Updates) → old < 2 ^ signal_width signals s → UpdatesFit us
-      → last_update s old us < 2 ^ signal_width signals s
+      → last_update ◌==◌ s old us < 2 ^ signal_width signals s
   last_update_fits s old [] fits each = fits
   last_update_fits s old (u ∷ us) fits each =
       last_update_fits s (cond (u.0 == s) u.1 old) us
@@ -63,7 +63,7 @@ module _ (signals : List SignalForm) where
       )
   piece_keeps false right v now p fine both =
       let inside = piece_lies_inside signals right p fine in
-      let pending = last_update p.signal (now.0 p.signal) now.1 in
+      let pending = last_update ◌==◌ p.signal (now.0 p.signal) now.1 in
       let new : ℕ × ℕ = (p.signal, with_piece signals p v pending) in
       let fits = replaced_below (signal_width signals p.signal) p.high p.low pending (v / 2 ^ p.from) inside.0 inside.1 in (
         both.0,

@@ -7,8 +7,7 @@ use Rattle.std.specs.List.{list_any, list_all}
 use Rattle.std.proofs.lemmas.Bool.{false≢true, or_left, or_right, eqb-true, eq-eqb}
 use Rattle.sv_num.specs.declared.faults.Place.{Place}
 use Rattle.sv_num.specs.Vectors.{is_true}
-use Rattle.sv_system.specs.System.{Environment}
-use Rattle.sv_system.specs.Facts.{put}
+use Rattle.sv_system.specs.System.{Environment, put}
 use Rattle.sv_system.proofs.Lists.{Contains-head, Contains-later, Contains-map}
 use Rattle.sv_flat.specs.Design.{SignalForm, TypedTree, PieceForm, FlatStatement, nothing, after, assign, branch}
 use Rattle.sv_flat.specs.Values.{signal_width, expression_width, value}

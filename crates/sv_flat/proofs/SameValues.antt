@@ -11,7 +11,8 @@ use Rattle.sv_num.specs.declared.faults.Place.{Place}
 use Rattle.sv_system.specs.System.{Environment}
 use Rattle.sv_system.proofs.Lists.{Contains-head, Contains-later, Contains-nil}
 use Rattle.sv_flat.specs.Design.{SignalForm, TypedTree, typed, NodeTree, constant, read, read_bit, read_part, unary, binary, choice, join, replication, held, held_bit, held_part, mend, slice, TypedTrees, no_parts, more_parts}
-use Rattle.sv_flat.specs.Values.{signal_width, expression_width, expression_signed, parts_width, extended, bits_between, bit_or_zero, replaced_bits, repeated, value, node_value, joined, number_of, cut_value}
+use Rattle.sv_num.specs.Parts.{extended, bits_between, bit_or_zero, replaced_bits, repeated}
+use Rattle.sv_flat.specs.Values.{signal_width, expression_width, expression_signed, parts_width, value, node_value, joined, number_of, cut_value}
 use Rattle.sv_flat.specs.Soundness.{is_one_to, is_signal, has_type, is_part_of, unary_typed, binary_typed, is_division, well_formed, node_well_formed, parts_well_formed}
 use Rattle.sv_flat.specs.Readings.{ReadForm, whole_read, bit_read, indexed_read, is_constant, is_constant_node, are_constant, reads, node_reads, parts_reads}
 use Rattle.sv_flat.proofs.Members.{Contains-left, Contains-right, Contains-either}

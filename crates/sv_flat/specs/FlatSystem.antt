@@ -1,7 +1,7 @@
 -- The cycle system of a flat design: its signals by their numbers, clocks and links to clocks left
 -- out.
-use Rattle.std.specs.Prelude.{ℕ, ◌&&◌, not, List, map, filter, flat_map, Some, None}
-use Rattle.sv_system.specs.System.{System, Environment}
+use Rattle.std.specs.Prelude.{ℕ, ◌==◌, ◌&&◌, not, List, map, filter, flat_map, Some, None}
+use Rattle.sv_system.specs.System.{System, Environment, last_update}
 use Rattle.sv_lattice.specs.declared.points.Point.{Point}
 use Rattle.sv_lattice.specs.declared.labels.Label.{Label}
 use Rattle.sv_lattice.specs.declared.labels.Label.TheVariants.{Point as Declared, Table}
@@ -10,7 +10,7 @@ use Rattle.sv_lattice.specs.Labels.{map_of}
 use Rattle.sv_lattice.specs.Tables.{flow_test}
 use Rattle.sv_flat.specs.Design.{ProcessForm, FlatDesign}
 use Rattle.sv_flat.specs.Values.{signal_of, signal_width}
-use Rattle.sv_flat.specs.Runs.{Updates, run_alone, updates_of, last_update}
+use Rattle.sv_flat.specs.Runs.{Updates, run_alone, updates_of}
 use Rattle.sv_flat.specs.Processes.{is_clocked, is_top_input, is_register, signals_that}
 use Rattle.sv_flat.specs.Clocks.{is_clock, processes_of}
 
@@ -34,7 +34,7 @@ all_updates design processes environment =
 -- the environment after these clocked processes have run on it: what has an update has its last one
 -- (IEEE 1364-2005, clause 11)
 abbrev pub after_edge : FlatDesign → List ProcessForm → Environment ℕ → Environment ℕ
-after_edge design processes environment s = last_update s (environment s) (all_updates design processes environment)
+after_edge design processes environment s = last_update ◌==◌ s (environment s) (all_updates design processes environment)
 
 -- the label in an environment: the declared point, or the map's row at the value of the selector or
 -- of the pair of selectors (SecVerilog, ASPLOS 2015)

@@ -2,19 +2,14 @@
 -- of updates that wait for the end of the time step.
 use Rattle.std.specs.Prelude.{ℕ, ◌/◌, ◌^◌, Bool, true, false, ◌==◌, if◌then◌else◌, List, [], ◌∷◌, ◌++◌, fold}
 use Rattle.sv_num.specs.Vectors.{is_true}
-use Rattle.sv_system.specs.System.{Environment}
-use Rattle.sv_system.specs.Facts.{put}
+use Rattle.sv_system.specs.System.{Environment, put, last_update}
 use Rattle.sv_flat.specs.Design.{SignalForm, PieceForm, FlatStatement, nothing, after, assign, branch}
-use Rattle.sv_flat.specs.Values.{signal_width, value, replaced_bits}
+use Rattle.sv_num.specs.Parts.{replaced_bits}
+use Rattle.sv_flat.specs.Values.{signal_width, value}
 
 -- the signals that are to be changed, each with its new value, the oldest update first
 abbrev pub Updates : Type 0
 Updates = List (ℕ × ℕ)
-
--- the value of the last update of a signal, or the old value where there is none
-abbrev pub last_update : ℕ → (old : ℕ) → Updates → ℕ
-last_update s old [] = old
-last_update s old (u ∷ us) = last_update s (if u.0 == s then u.1 else old) us
 
 -- a signal's old value in which the bits of the piece are those that it takes from the value of the
 -- right side
@@ -29,7 +24,7 @@ abbrev pub put_piece : List SignalForm → (blocking : Bool) → (right : ℕ) �
 put_piece signals true right now piece =
     (put ◌==◌ piece.signal (with_piece signals piece right (now.0 piece.signal)) now.0, now.1)
 put_piece signals false right now piece =
-    let pending = last_update piece.signal (now.0 piece.signal) now.1 in
+    let pending = last_update ◌==◌ piece.signal (now.0 piece.signal) now.1 in
     (now.0, now.1 ++ (piece.signal, with_piece signals piece right pending) ∷ [])
 
 -- An assignment takes the value of its right side once, and then puts its pieces in textual order.

@@ -1,9 +1,9 @@
 -- What a typed expression gives in an environment (IEEE 1364-2005, clause 5). The environment gives
 -- each signal, by its number, a value; every operand stands at the length and sign that clauses 5.4
 -- and 5.5 give it.
-use Rattle.std.specs.Prelude.{ℕ, ◌+◌, ◌-◌, ◌*◌, ◌/◌, ◌%◌, ◌^◌, zero, suc, Bool, false, List, [], nat_lt, if◌then◌else◌, ℤ, pos, negsuc, slice_index_or}
-use Rattle.std.specs.Int.{bit_at}
-use Rattle.sv_num.specs.Vectors.{as_number, reduced, is_true}
+use Rattle.std.specs.Prelude.{ℕ, ◌+◌, ◌*◌, ◌%◌, ◌^◌, Bool, false, List, [], if◌then◌else◌, ℤ, slice_index_or}
+use Rattle.sv_num.specs.Vectors.{as_number, is_true}
+use Rattle.sv_num.specs.Parts.{extended, bits_between, bit_or_zero, replaced_bits, repeated}
 use Rattle.sv_num.specs.UnaryValues.{unary_value}
 use Rattle.sv_num.specs.BinaryValues.{binary_value}
 use Rattle.sv_system.specs.System.{Environment}
@@ -40,34 +40,6 @@ expression_signed (typed width signed node) = signed
 abbrev pub parts_width : TypedTrees → ℕ
 parts_width no_parts = 0
 parts_width (more_parts e es) = expression_width e + parts_width es
-
--- ---- bits
-
--- a value at another length: the new bits are copies of the highest bit where the type is signed,
--- else 0 (clause 5.5.2)
-abbrev pub extended : (signed : Bool) → (from to value : ℕ) → ℕ
-extended signed from to value = reduced to (as_number from signed value)
-
--- the bits of a value from `high` down to `low` (clause 5.2.1)
-abbrev pub bits_between : (high low value : ℕ) → ℕ
-bits_between high low value = value / 2 ^ low % 2 ^ (high + 1 - low)
-
--- the bit of a value of some bits at an index (clause 5.2.1), and 0 outside of it (this project's
--- profile)
-abbrev pub bit_or_zero : (width value : ℕ) → (index : ℤ) → ℕ
-bit_or_zero width value (pos i) = if nat_lt i width then bit_at value i else 0
-bit_or_zero width value (negsuc i) = 0
-
--- a value of some bits in which those from `high` down to `low` are the low bits of a piece
-abbrev pub replaced_bits : (width high low value piece : ℕ) → ℕ
-replaced_bits width high low value piece =
-    value % 2 ^ width / 2 ^ (high + 1) * 2 ^ (high + 1)
-    + (piece % 2 ^ (high + 1 - low) * 2 ^ low + value % 2 ^ low)
-
--- a value of some bits written so many times (clause 5.1.14)
-abbrev pub repeated : (count width value : ℕ) → ℕ
-repeated zero width value = 0
-repeated (suc count) width value = repeated count width value * 2 ^ width + value
 
 -- ---- values
 

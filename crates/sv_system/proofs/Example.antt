@@ -4,8 +4,8 @@ use Rattle.std.specs.Prelude.{Contains, IsTrue}
 use Rattle.std.specs.List.{IsDistinct}
 use Rattle.std.proofs.lemmas.Bool.{true≢false, false≢true}
 use Rattle.std.proofs.lemmas.List.Elements.{Contains-append_right}
-use Rattle.sv_system.specs.System.{System, Environment, IsStill, Noninterferent, HasOneTrace}
-use Rattle.sv_system.specs.Facts.{IsCombinational, Guarded, Driver, put, Ordered}
+use Rattle.sv_system.specs.System.{System, Environment, IsStill, Noninterferent, HasOneTrace, put}
+use Rattle.sv_system.specs.Facts.{IsCombinational, Guarded, Driver, Ordered}
 use Rattle.sv_system.proofs.Lists.{Contains-head, Contains-nil, Contains-cases}
 use Rattle.sv_system.proofs.OneTarget.{OneTarget, one_still_targets, one_targets_still}
 use Rattle.sv_system.proofs.Noninterference.{noninterference}

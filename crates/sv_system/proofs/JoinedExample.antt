@@ -2,8 +2,7 @@
 use Rattle.std.proofs.Common.{◌≡◌, ℕ, zero, suc, ◌<◌, Bool, true, false, eqb, [], ◌∷◌, refl, ap, subst, ⊎_elim, arith}
 use Rattle.std.specs.Prelude.{Contains, IsTrue}
 use Rattle.std.proofs.lemmas.Bool.{false≢true, cases_Bool, cond-false, eqb-true}
-use Rattle.sv_system.specs.System.{System, Environment, Run, Noninterferent, HasOneTrace}
-use Rattle.sv_system.specs.Facts.{put}
+use Rattle.sv_system.specs.System.{System, Environment, Run, Noninterferent, HasOneTrace, put}
 use Rattle.sv_system.specs.Joining.{SameRun, Joined}
 use Rattle.sv_system.proofs.Lists.{Contains-head}
 use Rattle.sv_system.proofs.Example.{Wire, mode, secret, copy, kept, same, flows, example, within, only}

@@ -2,8 +2,8 @@
 use Rattle.std.proofs.Common.{◌≡◌, ℕ, List, sym, ◌∙◌}
 use Rattle.std.specs.Prelude.{Bool, true, Contains, IsTrue}
 use Rattle.std.proofs.lemmas.List.Elements.{All-weaker, All-contains, All-contains_itself}
-use Rattle.sv_system.specs.System.{System, Environment, IsStill}
-use Rattle.sv_system.specs.Facts.{Driver, put}
+use Rattle.sv_system.specs.System.{System, Environment, IsStill, put}
+use Rattle.sv_system.specs.Facts.{Driver}
 use Rattle.sv_system.proofs.Runs.{put_at, put_same}
 
 -- a process changes one target, to its driver's value

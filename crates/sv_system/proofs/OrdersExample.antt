@@ -5,8 +5,8 @@ use Rattle.std.specs.Prelude.{Contains, IsTrue, flat_map}
 use Rattle.std.specs.List.{IsDistinct}
 use Rattle.std.proofs.lemmas.Bool.{true≢false, false≢true}
 use Rattle.std.proofs.lemmas.List.Elements.{All-replicate}
-use Rattle.sv_system.specs.System.{System, Environment, Run}
-use Rattle.sv_system.specs.Facts.{IsCombinational, Driver, put, Ordered}
+use Rattle.sv_system.specs.System.{System, Environment, Run, put}
+use Rattle.sv_system.specs.Facts.{IsCombinational, Driver, Ordered}
 use Rattle.sv_system.specs.Schedules.{after_runs, runs_at, IsRound, IsTheSettled, RestIsSettled, RoundsSettle, Block, Scheduled}
 use Rattle.sv_system.proofs.Lists.{Contains-nil, Contains-cases}
 use Rattle.sv_system.proofs.Orders.{rest_is_settled, enough_rounds_settle}

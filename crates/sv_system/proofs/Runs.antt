@@ -6,8 +6,8 @@ use Rattle.std.proofs.lemmas.Bool.{cases_Bool, cond-true, cond-false, cond_both,
 use Rattle.std.proofs.lemmas.List.{map-append}
 use Rattle.std.proofs.lemmas.List.Elements.{All-from_recursion, All-contains, Contains-append_right}
 use Rattle.std.proofs.lemmas.Map.Keys.{IsDistinct-head, IsDistinct-tail}
-use Rattle.sv_system.specs.System.{Environment}
-use Rattle.sv_system.specs.Facts.{Driver, put}
+use Rattle.sv_system.specs.System.{Environment, put}
+use Rattle.sv_system.specs.Facts.{Driver}
 use Rattle.sv_system.proofs.Lists.{Contains-head, Contains-later, Contains-cases, Contains-nil}
 
 abbrev pub targets : {Signal : Type 0} → List (Driver Signal) → List Signal

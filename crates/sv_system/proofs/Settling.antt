@@ -5,8 +5,8 @@ use Rattle.std.specs.List.{IsDistinct}
 use Rattle.std.proofs.lemmas.Bool.{cond-true, cond-false, cond_both}
 use Rattle.std.proofs.lemmas.List.{map-append}
 use Rattle.std.proofs.lemmas.List.Elements.{All-weaker, Contains-append_left}
-use Rattle.sv_system.specs.System.{System, Environment, Fits, Settled, KindFits}
-use Rattle.sv_system.specs.Facts.{IsCombinational, Driver, put, Ordered}
+use Rattle.sv_system.specs.System.{System, Environment, Fits, Settled, KindFits, put}
+use Rattle.sv_system.specs.Facts.{IsCombinational, Driver, Ordered}
 use Rattle.sv_system.proofs.Lists.{Contains-head, Contains-later, Contains-from_map}
 use Rattle.sv_system.proofs.Runs.{targets, run, cut_at, run_leaves, final_target, final_earlier}
 use Rattle.sv_system.proofs.OneCycle.{one_kind}

@@ -1,5 +1,5 @@
 -- The facts on a system from which noninterference and the one trace follow. Each kind of design supplies its own.
-use Rattle.std.specs.Prelude.{◌≡◌, ℕ, ◌<◌, ◌^◌, Bool, true, false, IsTrue, List, ◌∷◌, ◌++◌, map, Contains, cond}
+use Rattle.std.specs.Prelude.{◌≡◌, ℕ, ◌<◌, ◌^◌, Bool, true, false, IsTrue, List, ◌∷◌, ◌++◌, map, Contains}
 use Rattle.std.specs.List.{IsDistinct}
 use Rattle.sv_system.specs.System.{System, Environment, IsStill, Fits, KindFits}
 
@@ -43,11 +43,7 @@ pub record Guarded {Signal Point : Type 0} (system : System Signal Point) : Type
 -- a signal that a process drives, and the value that a run of that process gives it in an environment
 pub record Driver (Signal : Type 0) : Type 0 where
   pub target : Signal
-  pub value : (Signal → ℕ) → ℕ
-
--- the environment with one signal changed
-abbrev pub put : {Signal : Type 0} → (Signal → Signal → Bool) → Signal → ℕ → Environment Signal → Environment Signal
-put same target value environment = λ s. cond (same target s) value (environment s)
+  pub value : Environment Signal → ℕ
 
 -- Each combinational signal has one driver, and the drivers stand in an order in which each value is a function of inputs, registers
 -- and the targets before it. The order is not that of the processes, and a process may drive several targets.

@@ -47,7 +47,7 @@ RoundsSettle {Signal} system = (start : Environment Signal) (rounds : List (List
 -- a combinational process: the signals that it assigns, and a run of it
 pub record Block (Signal : Type 0) : Type 0 where
   pub targets : List Signal
-  pub run : (Signal → ℕ) → (Signal → ℕ)
+  pub run : Run Signal
 
 -- What each process changes, and from what.
 pub record Scheduled {Signal Point : Type 0} (system : System Signal Point) : Type 0 where

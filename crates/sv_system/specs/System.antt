@@ -1,6 +1,6 @@
 -- The cycle meaning of a synchronous design, said once for every kind of signal name: a path in a source text, a number in
 -- a flat design. A system knows of a process only that it changes an environment, and of a signal that it has a value and a label.
-use Rattle.std.specs.Prelude.{◌≡◌, ℕ, ◌<◌, ◌^◌, Bool, ◌&&◌, IsTrue, List, [], ◌∷◌, map, filter, take, length, All}
+use Rattle.std.specs.Prelude.{◌≡◌, ℕ, ◌<◌, ◌^◌, Bool, true, ◌&&◌, IsTrue, cond, List, [], ◌∷◌, map, filter, take, length, All}
 
 -- what gives each signal a value
 abbrev pub Environment : Type 0 → Type 0
@@ -8,7 +8,16 @@ Environment Signal = Signal → ℕ
 
 -- what one run of a process does to an environment
 abbrev pub Run : Type 0 → Type 0
-Run Signal = (Signal → ℕ) → (Signal → ℕ)
+Run Signal = Environment Signal → Environment Signal
+
+-- the environment with one signal changed
+abbrev pub put : {Signal : Type 0} → (Signal → Signal → Bool) → Signal → ℕ → Environment Signal → Environment Signal
+put same target value environment = λ s. cond (same target s) value (environment s)
+
+-- the value of a signal's last update, or the old value where there is none; the oldest update stands first
+abbrev pub last_update : {Signal : Type 0} → (Signal → Signal → Bool) → Signal → (old : ℕ) → List (Signal × ℕ) → ℕ
+last_update same s old [] = old
+last_update same s old (u ∷ us) = last_update same s (cond (same u.0 s) u.1 old) us
 
 pub record System (Signal Point : Type 0) : Type 0 where
   -- the signals in order, clocks left out
@@ -19,12 +28,12 @@ pub record System (Signal Point : Type 0) : Type 0 where
   pub is_register : Signal → Bool
   -- in bits
   pub width : Signal → ℕ
-  -- one run of each combinational process, as a change of an environment
-  pub processes : List ((Signal → ℕ) → (Signal → ℕ))
+  -- one run of each combinational process, in order, as a change of an environment
+  pub processes : List (Run Signal)
   -- each register's value after the clock edge
-  pub next : (Signal → ℕ) → (Signal → ℕ)
+  pub next : Environment Signal → Environment Signal
   -- a signal's label in an environment
-  pub label : Signal → (Signal → ℕ) → Point
+  pub label : Signal → Environment Signal → Point
   -- whether what has the first label may go where the second stands
   pub flows : Point → Point → Bool
 
@@ -57,7 +66,7 @@ seen kind system level environment = map (λ s. (s, environment s)) (filter (λ 
 
 -- all that a level sees in one cycle (SecVerilog's observer): the signals whose label flows to it, each with its value
 abbrev pub view : {Signal Point : Type 0} → System Signal Point → Point → Environment Signal → List (Signal × ℕ)
-view system level environment = map (λ s. (s, environment s)) (filter (λ s. system.flows (system.label s environment) level) system.signals)
+view system level environment = seen (λ s. true) system level environment
 
 -- two traces that agree on what a level may know: the registers at the start, and the inputs in every cycle
 pub record LookAlike {Signal Point : Type 0} (system : System Signal Point) (level : Point) (first second : List (Environment Signal)) : Type 0 where
@@ -67,7 +76,7 @@ pub record LookAlike {Signal Point : Type 0} (system : System Signal Point) (lev
 
 -- any two traces that look alike to a level have equal views for it at every cycle
 abbrev pub Noninterferent : {Signal Point : Type 0} → System Signal Point → Type 0
-Noninterferent {Signal} {Point} system = (level : Point) (start1 start2 : Signal → ℕ) (inputs1 inputs2 first second : List (Signal → ℕ))
+Noninterferent {Signal} {Point} system = (level : Point) (start1 start2 : Environment Signal) (inputs1 inputs2 first second : List (Environment Signal))
     → IsTrace system start1 inputs1 first → IsTrace system start2 inputs2 second → LookAlike system level first second
     → map (view system level) first ≡ map (view system level) second
 
@@ -88,6 +97,6 @@ KindFits kind system environment = All (λ s. IsTrue (kind s) → environment s 
 
 -- each start and each list of inputs, all of them fitting, has exactly one trace
 abbrev pub HasOneTrace : {Signal Point : Type 0} → System Signal Point → Type 0
-HasOneTrace {Signal} system = (start : Signal → ℕ) (inputs : List (Signal → ℕ)) → KindFits system.is_register system start → All (KindFits system.is_input system) inputs
-    → (trace : List (Signal → ℕ)) × IsTrace system start inputs trace
-    × ((other : List (Signal → ℕ)) → IsTrace system start inputs other → SameTraces system trace other)
+HasOneTrace {Signal} system = (start : Environment Signal) (inputs : List (Environment Signal)) → KindFits system.is_register system start → All (KindFits system.is_input system) inputs
+    → (trace : List (Environment Signal)) × IsTrace system start inputs trace
+    × ((other : List (Environment Signal)) → IsTrace system start inputs other → SameTraces system trace other)

@@ -14,7 +14,8 @@ use Rattle.sv_num.specs.BinaryValues.{class_of}
 use Rattle.sv_ast.specs.Scopes.{Scope}
 use Rattle.sv_ast.specs.Tree.{ExpressionTree, literal, named, bit_of, part_of, unary, binary, choice, join, replication, ArmTrees, no_arms, more_arms}
 use Rattle.sv_ast.specs.Instances.{is_empty}
-use Rattle.sv_ast.specs.Values.{nowhere, extended, length_of, sign_of, value}
+use Rattle.sv_num.specs.Parts.{extended}
+use Rattle.sv_ast.specs.Values.{nowhere, length_of, sign_of, value}
 use Rattle.sv_flat.specs.Design.{TypedTree, typed, binary as binary_node, FlatStatement, nothing, branch}
 use Rattle.sv_walk.specs.Walks.{value_or, ◌>>=◌, done}
 use Rattle.sv_walk.specs.Names.{Names}

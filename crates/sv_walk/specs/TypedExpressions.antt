@@ -11,7 +11,8 @@ use Rattle.sv_num.specs.UnaryValues.{gives_one_bit}
 use Rattle.sv_num.specs.BinaryValues.{class_of}
 use Rattle.sv_ast.specs.Scopes.{Scope, Binding, parameter, signal}
 use Rattle.sv_ast.specs.Tree.{ExpressionTree, ExpressionTrees, literal, named, bit_of, part_of, unary, binary, choice, join, replication, no_expressions, more_expressions}
-use Rattle.sv_ast.specs.Values.{natural, nowhere, extended, length_of, sign_of, value, whole_number}
+use Rattle.sv_num.specs.Parts.{extended}
+use Rattle.sv_ast.specs.Values.{natural, nowhere, length_of, sign_of, value, whole_number}
 use Rattle.sv_flat.specs.Design.{TypedTree, NodeTree, TypedTrees, no_parts, more_parts}
 use Rattle.sv_flat.specs.Design.{typed, constant, read, read_bit, read_part, unary as unary_node, binary as binary_node, choice as choice_node, join as join_node, replication as replication_node}
 use Rattle.sv_ast.specs.Instances.{is_signal}

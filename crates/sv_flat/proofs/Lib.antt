@@ -1,4 +1,7 @@
 pub mod Rows
+pub mod BitFacts
+pub mod Parts
+pub mod NodeForms
 pub mod Forms
 pub mod OrderExamples
 pub mod RuleExamples

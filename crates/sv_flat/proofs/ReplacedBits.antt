@@ -5,7 +5,7 @@ use Rattle.std.proofs.lemmas.Nat.{pow_pos, pow-add, shr-shr, shr_split, field_of
 use Rattle.std.proofs.lemmas.Nat.Bits.{bit_at_cat_low, bit_at_cat_high, same_from_bits_below}
 use Rattle.sv_num.specs.Parts.{bits_between, replaced_bits}
 
-low_below : (x k : ℕ) → x % 2 ^ k < 2 ^ k
+pub low_below : (x k : ℕ) → x % 2 ^ k < 2 ^ k
 low_below x k = mod-lt x (pow_pos k)
 
 -- a value and its low bits have the same low bits
@@ -31,7 +31,7 @@ same_bits_between high low x y same =
     ∙ sym (bit_at_low (y / 2 ^ low) (high + 1 - low) i below))
 
 -- two numbers one beside the other
-beside_below : (a b j k : ℕ) → a < 2 ^ j → b < 2 ^ k → a * 2 ^ k + b < 2 ^ (j + k)
+pub beside_below : (a b j k : ℕ) → a < 2 ^ j → b < 2 ^ k → a * 2 ^ k + b < 2 ^ (j + k)
 beside_below a b j k a_below b_below =
     let most = mul-le-mul_right {m = a + 1} {n = 2 ^ j} (2 ^ k) (omega arith) in
     let is = pow-add 2 j k in

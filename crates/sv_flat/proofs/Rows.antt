@@ -1,5 +1,5 @@
 -- A vector of a tree's own kind, which stands in the tree as a row, has the plain forms of its items.
-use Rattle.std.proofs.Common.{◌≡◌, refl, sym, ap, ◌∙◌}
+use Rattle.std.proofs.Common.{◌≡◌, false, List, refl, sym, ap, ◌∙◌}
 use Rattle.std.specs.declared.alloc.Global.{Global}
 use Rattle.std.specs.declared.vec.Vec.{Vec}
 use Rattle.sv_flat.specs.declared.expressions.FExpr.{FExpr}
@@ -7,7 +7,8 @@ use Rattle.sv_flat.specs.declared.expressions.FNode.{Row_of-FExpr, end_of-FExpr,
 use Rattle.sv_flat.specs.declared.expressions.FNode.TheBlock.{hidden-the_row-FExpr-0}
 use Rattle.sv_flat.specs.declared.statements.FStmt.{FStmt, Row_of-FStmt, end_of-FStmt, more_of-FStmt, items-the_row-FStmt, items_hidden-the_row-FStmt-0}
 use Rattle.sv_flat.specs.declared.statements.FStmt.TheBlock.{hidden-the_row-FStmt-0}
-use Rattle.sv_flat.specs.Design.{typed, more_parts, after}
+use Rattle.sv_flat.specs.Design.{SignalForm, typed, more_parts, after}
+use Rattle.sv_flat.specs.Soundness.{is_one_assignment}
 use Rattle.sv_flat.specs.Views.{node_tree, typed_trees, row_parts, parts_of, flat_statement, flat_statements, row_chain, chain_of}
 
 row_parts-items : (n : _) (row : Row_of-FExpr n) → row_parts row ≡ parts_of (typed_trees (items-the_row-FExpr n row))
@@ -43,3 +44,8 @@ pub same_chains :
     flat_statements v.items ≡ flat_statements w.items →
     row_chain (hidden-the_row-FStmt-0 v) ≡ row_chain (hidden-the_row-FStmt-0 w)
 same_chains v w same = row_chain-hidden v ∙ ap chain_of same ∙ sym (row_chain-hidden w)
+
+-- a block is no assignment
+pub no_assignment : (signals : List SignalForm) (n : _) (row : Row_of-FStmt n) → is_one_assignment signals (row_chain row) ≡ false
+no_assignment signals _ end_of-FStmt = refl
+no_assignment signals _ (more_of-FStmt s row) = refl

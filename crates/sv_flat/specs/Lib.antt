@@ -3,6 +3,7 @@ pub mod Assigned
 pub mod Assignments
 pub mod Blocks
 pub mod Breaches
+pub mod ByNumber
 pub mod Clocks
 pub mod Design
 pub mod Views

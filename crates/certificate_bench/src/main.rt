@@ -1,7 +1,7 @@
 //! Makes a certificate of a number of resolutions, reads it and checks it.
 //!
-//! Its words are how many resolutions, how many of them a step has, and `time` where the processor time is to be told.
-//! `bench/certificate.sh` prints the rates.
+//! Its words are how many resolutions, how many of them a step has, and `time` where the processor
+//! time is to be told. `bench/certificate.sh` prints the rates.
 #![tactic(auto)]
 
 ghost use Rattle.std.specs.Prelude.{◌<◌};
@@ -38,7 +38,8 @@ fn main(rt: HostRuntime) -> Result<()> {
     run(&rt, rt.alloc(), resolutions - 1, each, timed)
 }
 
-// A chain of implications, from its first variable to the negation of its last, with this many links.
+// A chain of implications, from its first variable to the negation of its last, with this many
+// links.
 fn run(
     rt: &(impl Print + CpuClock),
     alloc: Global,

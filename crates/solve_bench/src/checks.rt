@@ -9,33 +9,23 @@ use sv_solve::is_within;
 pub fn are_within(variables: u32, clauses: &[Clause]) -> bool
     ensures { IsTrue result → All (IsWithin variables) clauses.now }
 {
-    let mut place = 0;
-    'clauses: while place < clauses.len() {
-        if !is_within(variables, &clauses[place]) {
-            return false;
-        }
-        place += 1;
-    }
-    true
+    clauses.iter().all(|clause| is_within(variables, clause))
 }
 
 /// Whether values make all clauses true.
 pub fn are_true(values: &[bool], clauses: &[Clause]) -> bool {
-    'clauses: for clause in clauses {
-        if !is_true(values, clause.literals()) {
-            return false;
-        }
-    }
-    true
+    clauses
+        .iter()
+        .all(|clause| is_true(values, clause.literals()))
 }
 
 // Whether values make one of these literals true.
 fn is_true(values: &[bool], literals: &[i32]) -> bool {
-    'literals: for literal in literals {
-        let variable = literal.unsigned_abs() as usize;
-        if 0 < variable && variable <= values.len() && values[variable - 1] == (*literal > 0) {
-            return true;
-        }
-    }
-    false
+    literals.iter().any(|literal| holds(values, *literal))
+}
+
+// Whether values make a literal true.
+fn holds(values: &[bool], literal: i32) -> bool {
+    let variable = literal.unsigned_abs() as usize;
+    0 < variable && variable <= values.len() && values[variable - 1] == (literal > 0)
 }

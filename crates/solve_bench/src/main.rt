@@ -1,20 +1,30 @@
-//! Reads clauses in DIMACS form from its standard input and tells what the solver answers within a budget.
+//! Reads clauses in DIMACS form from its standard input, one instance after another, and tells what
+//! the solver answers to each within a budget.
 //!
-//! Its words are the budget, and `check` where the answer is to be checked. `bench/solve.sh` prints its times.
+//! Its words are the budget, and `check` where each answer is to be checked, and told without the
+//! number of its steps. `bench/solve.sh` prints its times. What its `stdin` holds was decided
+//! outside this program.
 #![tactic(auto)]
 
+ghost use Rattle.std.specs.Prelude.{◌≤◌};
+
 mod checks;
-#[cfg(test)]
-mod tests;
 
 use crate::checks::{are_true, are_within};
 use anyhow::{Context, Result, ensure};
-use std::alloc::Global;
+use std::alloc::{AllocError, Global};
 use std::io::{BufRead, BufReader};
 use std::{env, io};
 use sv_clause::{Clause, Log};
 use sv_proof::check_log;
 use sv_solve::{Solved, solve};
+
+// Clauses over variables from 1 on.
+#[derive(Drop)]
+struct Instance {
+    variables: u32,
+    clauses: Vec<Clause>,
+}
 
 fn main(rt: HostRuntime) -> Result<()> {
     let mut words = env::args(&rt)?;
@@ -28,40 +38,83 @@ fn main(rt: HostRuntime) -> Result<()> {
         budget > 0 && budget <= 4_000_000_000,
         "a budget from 1 to 4000000000"
     );
-    let checks = words.next().is_some();
+    let is_checked = words.next().is_some();
     let alloc = rt.alloc();
-    let clauses = read_clauses(&rt, alloc)?;
-    let variables = last_variable(&clauses);
-    ensure!(are_within(variables, &clauses), "a literal is out of range");
-    match solve(alloc, variables, &clauses, budget)? {
+    let instances = read_instances(&rt, alloc)?;
+    'instances: for instance in &instances {
+        tell(&rt, alloc, instance, budget, is_checked)?;
+    }
+    Ok(())
+}
+
+// Tells what the solver answers to an instance.
+fn tell(
+    rt: &impl Print,
+    alloc: Global,
+    instance: &Instance,
+    budget: u32,
+    is_checked: bool,
+) -> Result<()>
+    requires some { 1 ≤ budget }
+    requires most { budget ≤ 4000000000 }
+{
+    let clauses = instance.clauses.as_slice();
+    ensure!(
+        are_within(instance.variables, clauses),
+        "a literal is out of range"
+    );
+    match solve(alloc, instance.variables, clauses, budget)? {
         Solved::Found(values) => {
-            ensure!(!checks || are_true(&values, &clauses), "a clause is false");
+            ensure!(
+                !is_checked || are_true(&values, clauses),
+                "a clause is false"
+            );
             println!(rt; "found")?;
         }
-        Solved::Refuted(log) => {
-            if checks {
-                check(alloc, &clauses, &log)?;
-            }
-            println!(rt; "refuted in {} steps", log.steps.len())?;
+        Solved::Refuted(log) if is_checked => {
+            check(alloc, clauses, &log)?;
+            println!(rt; "refuted")?;
         }
+        Solved::Refuted(log) => println!(rt; "refuted in {} steps", log.steps.len())?,
         Solved::Spent(log) => println!(rt; "spent {} steps", log.steps.len())?,
     }
     Ok(())
 }
 
-// Reads clauses.
-fn read_clauses(rt: &impl Input, alloc: Global) -> Result<Vec<Clause>> {
-    let mut clauses: Vec<Clause> = Vec::new(alloc);
+// Reads instances, each of which begins with its line `p cnf VARIABLES CLAUSES`.
+fn read_instances(rt: &impl Input, alloc: Global) -> Result<Vec<Instance>> {
+    let mut instances: Vec<Instance> = Vec::new(alloc);
     let mut literals: Vec<i32> = Vec::new(alloc);
     'lines: for line in BufReader::new(alloc, rt.reader())?.lines(alloc) {
         let line = line?;
         let text = line.as_str();
-        if !text.starts_with('c') && !text.starts_with('p') {
-            read_line(alloc, text, &mut literals, &mut clauses)?;
+        if text.starts_with('c') {
+            continue 'lines;
         }
+        if text.starts_with('p') {
+            ensure!(literals.is_empty(), "a clause has no end");
+            instances
+                .push(begin_instance(alloc, text)?)
+                .map_err(AllocError::from)?;
+            continue 'lines;
+        }
+        let instance = instances.last_mut().context("no line p cnf stands first")?;
+        read_line(alloc, text, &mut literals, &mut instance.clauses)?;
     }
-    ensure!(literals.is_empty(), "the last clause has no end");
-    Ok(clauses)
+    ensure!(literals.is_empty(), "a clause has no end");
+    Ok(instances)
+}
+
+// The instance of a line `p cnf VARIABLES CLAUSES`, with no clause yet.
+fn begin_instance(alloc: Global, text: &str) -> Result<Instance> {
+    let mut words = text.split_whitespace();
+    let _p = words.next();
+    let _cnf = words.next();
+    let variables = words.next().context("how many variables?")?.parse::<u32>()?;
+    Ok(Instance {
+        variables,
+        clauses: Vec::new(alloc),
+    })
 }
 
 // Reads the literals of one line, after those of a clause that began before it.
@@ -78,24 +131,13 @@ fn read_line(
             literals.push(literal)?;
             continue 'words;
         }
-        // a clause with a variable in both signs says nothing
+        // a clause with a variable in both polarities says nothing
         if let Some(clause) = Clause::new(alloc, literals.as_slice())? {
             clauses.push(clause)?;
         }
         literals.clear();
     }
     Ok(())
-}
-
-// The highest variable of the clauses.
-fn last_variable(clauses: &[Clause]) -> u32 {
-    let mut last = 0;
-    'clauses: for clause in clauses {
-        if let Some(literal) = clause.literals().last() {
-            last = literal.unsigned_abs().max(last);
-        }
-    }
-    last
 }
 
 // Checks that a log refutes the clauses.

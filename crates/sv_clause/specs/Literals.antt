@@ -20,7 +20,7 @@ Ascend above (literal ∷ literals) = (above < unsigned_abs literal) × (unsigne
 abbrev pub IsClause : List ℤ → Type 0
 IsClause literals = Ascend 0 literals
 
--- these literals make no clause: one is 0 or the least number of 32 bits, or a variable stands in both signs
+-- these literals make no clause: one is 0 or the least number of 32 bits, or a variable stands in both polarities
 abbrev pub MakeNoClause : List ℤ → Type 0
 MakeNoClause literals = (literal : ℤ) × IsTrue (stands literal literals)
     × ((literal ≡ pos 0) ⊎ (unsigned_abs literal ≡ 2 ^ 31) ⊎ IsTrue (stands (neg_ℤ literal) literals))

@@ -1,7 +1,8 @@
 //! Clauses, resolution and logs of resolution, and what they show.
 //!
-//! A contract sees a [`Clause`] as the list of its literals. `specs/` says on plain lists when values make a clause true, what a
-//! resolvent is, when a log refutes clauses, and what unit resolution reaches; the laws tie them together.
+//! A contract sees a [`Clause`] as the list of its literals. `specs/` says on plain lists when
+//! values make a clause true, what a resolvent is, when a log refutes clauses, and what unit
+//! resolution reaches; the laws tie them together.
 #![tactic(auto)]
 
 mod clause;

@@ -1,9 +1,11 @@
 // The check of a log.
-ghost use Rattle.std.specs.Prelude.{◌≡◌, ◌↔◌, ◌<◌, ◌^◌, ℤ, List, ◌++◌, length, map, IsTrue, IfOk, IfErr, OnOk};
+ghost use Rattle.std.specs.Prelude.{◌≡◌, ◌↔◌, ◌<◌, ◌^◌, ℤ, List, ◌++◌, length, map, IsTrue, IfOk};
+ghost use Rattle.std.specs.Prelude.{IfErr, OnOk};
 ghost use Rattle.std.specs.Bool.{IsFalse};
 ghost use Rattle.std.specs.Option.{option_copied};
 ghost use Rattle.sv_clause.specs.Literals.{IsClause, SameLiterals, HaveNoSolution};
-ghost use Rattle.sv_clause.specs.Logs.{plain_step, plain_log, clauses_of, numbered, ResolvesTo, IsDerived, EndsEmpty, Refutes};
+ghost use Rattle.sv_clause.specs.Logs.{plain_step, plain_log, clauses_of, numbered, ResolvesTo};
+ghost use Rattle.sv_clause.specs.Logs.{IsDerived, EndsEmpty, Refutes};
 ghost use Rattle.sv_proof.specs.Checking.{HasFault};
 ghost use Rattle.sv_proof.specs.declared.check.LogFault.TheVariants.{OutOfMemory};
 
@@ -34,8 +36,8 @@ impl From<AllocError> for LogFault {
     }
 }
 
-/// Whether the log refutes the clauses: each step is derived from them and the steps before it, and the last one is empty.
-/// Then no values make all the clauses true, whoever made the log.
+/// Whether the log refutes the clauses: each step is derived from them and the steps before it, and
+/// the last one is empty. Then no values make all the clauses true, whoever made the log.
 pub fn check_log(alloc: Global, clauses: &[Clause], log: &Log) -> Result<(), LogFault>
     requires { length log.now.steps.items < 2 ^ 32 }
     ensures refutes { OnOk result (Refutes clauses.now (plain_log log.now)) }
@@ -65,7 +67,8 @@ fn ends_empty(steps: &[Derived]) -> bool
     }
 }
 
-// Whether the step is derived from the clauses and the earlier steps. The two buffers hold the clauses on the way.
+// Whether the step is derived from the clauses and the earlier steps. The two buffers hold the
+// clauses on the way.
 fn is_derived(
     clauses: &[Clause],
     earlier: &[Derived],
@@ -96,7 +99,8 @@ fn resolves_to(
     spare: &mut Vec<i32>,
 ) -> Result<bool, AllocError>
     ensures { IfOk result (λ yes. IsTrue yes ↔
-        ResolvesTo (clauses.now ++ clauses_of (map plain_step earlier.now)) from.now chain.now clause.now) }
+        ResolvesTo (clauses.now ++ clauses_of (map plain_step earlier.now))
+        from.now chain.now clause.now) }
 {
     work.clear();
     work.extend_from_slice(from.literals())?;
@@ -126,9 +130,11 @@ fn resolve_chain(
     ensures normal { IfOk result (λ done. IsTrue done → IsClause work.new.items) }
     ensures done { IfOk result (λ done. IsTrue done → (clause : List ℤ) →
         SameLiterals work.new.items clause ↔
-        ResolvesTo (clauses.now ++ clauses_of (map plain_step earlier.now)) work.old.items chain.now clause) }
+        ResolvesTo (clauses.now ++ clauses_of (map plain_step earlier.now))
+        work.old.items chain.now clause) }
     ensures stuck { IfOk result (λ done. IsFalse done → (clause : List ℤ) →
-        ResolvesTo (clauses.now ++ clauses_of (map plain_step earlier.now)) work.old.items chain.now clause → ⊥) }
+        ResolvesTo (clauses.now ++ clauses_of (map plain_step earlier.now))
+        work.old.items chain.now clause → ⊥) }
 {
     'chain: for number in chain {
         let Some(next) = numbered(clauses, earlier, *number) else {
@@ -144,7 +150,8 @@ fn resolve_chain(
 
 // The clause of a number: from 1, the clauses and then those of the earlier steps.
 fn numbered<'a>(clauses: &'a [Clause], earlier: &'a [Derived], number: u64) -> Option<&'a Clause>
-    ensures { option_copied result ≡ numbered (clauses.now ++ clauses_of (map plain_step earlier.now)) number }
+    ensures { option_copied result ≡
+        numbered (clauses.now ++ clauses_of (map plain_step earlier.now)) number }
 {
     if number == 0 {
         return None;

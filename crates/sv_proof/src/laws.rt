@@ -5,5 +5,6 @@ ghost use Rattle.sv_proof.specs.Certificate.{proof_text, AreLogs};
 
 /// Lists of logs that have the same certificate are the same.
 pub fn one_certificate_each()
-    ensures { (first second : List (List Step)) → AreLogs first → AreLogs second → proof_text first ≡ proof_text second → first ≡ second }
+    ensures { (first second : List (List Step)) → AreLogs first → AreLogs second →
+        proof_text first ≡ proof_text second → first ≡ second }
 {}

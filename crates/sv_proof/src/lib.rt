@@ -1,11 +1,12 @@
-//! Certificates: their text, and the check that a log of resolution refutes clauses, whoever made it.
+//! Certificates: their text, and the check that a log of resolution refutes clauses, whoever made
+//! it.
 #![tactic(auto)]
 
 mod check;
+mod fields;
 mod laws;
 mod read;
 mod steps;
-mod words;
 mod write;
 
 pub use check::{LogFault, check_log};

@@ -1,13 +1,14 @@
 // The text of certificates, as it is read.
-ghost use Rattle.std.specs.Prelude.{◌≡◌, ◌+◌, ◌<◌, ◌≤◌, ◌^◌, List, length, map, IfOk, IfErr, MatchResult};
+ghost use Rattle.std.specs.Prelude.{◌≡◌, ◌+◌, ◌<◌, ◌≤◌, ◌^◌, List, length, map, IfOk, IfErr};
+ghost use Rattle.std.specs.Prelude.{MatchResult};
 ghost use Rattle.sv_clause.specs.Logs.{Step, plain_step};
 ghost use Rattle.sv_proof.specs.Certificate.{plain_logs, log_lines, proof_text, AreLogs};
 ghost use Rattle.sv_proof.specs.Reading.{BeginWithSteps, BeginWithLogs, StepsFault, LogsFault};
 ghost use Rattle.sv_proof.specs.Lines.{IsFault};
 ghost use Rattle.sv_proof.specs.declared.read.ProofFault.TheVariants.{OutOfMemory};
 
+use crate::fields::{is_line, split_first};
 use crate::steps::{read_counted, read_log_line, read_step};
-use crate::words::{is_line, split_first};
 use std::alloc::{AllocError, AllocFailed, Global};
 use sv_clause::{Derived, Log};
 use thiserror::Error;
@@ -15,7 +16,8 @@ use thiserror::Error;
 /// Why bytes are no certificate.
 #[derive(Clone, Copy, Debug, PartialEq, Eq, Error)]
 pub enum ProofFault {
-    /// This line, counted from 1, is the first that breaks the text. A missing line has the number that it would have.
+    /// This line, counted from 1, is the first that breaks the text. A missing line has the number
+    /// that it would have.
     #[error("line {0} breaks the certificate")]
     Text(u64),
     /// Memory ran out.
@@ -39,7 +41,8 @@ impl<T: Drop> From<AllocFailed<T>> for ProofFault {
     }
 }
 
-/// The logs of a certificate. `Text` says the first line that breaks the text; the caller keeps the bytes.
+/// The logs of a certificate. `Text` says the first line that breaks the text; the caller keeps the
+/// bytes.
 pub fn read_proof(alloc: Global, bytes: &[u8]) -> Result<Vec<Log>, ProofFault>
     ensures logs { IfOk result (λ logs. AreLogs (plain_logs logs.items)) }
     ensures text { IfOk result (λ logs. bytes.now ≡ proof_text (plain_logs logs.items)) }
@@ -47,7 +50,8 @@ pub fn read_proof(alloc: Global, bytes: &[u8]) -> Result<Vec<Log>, ProofFault>
 
     // What was written is read as the logs that were written, unless memory runs out.
     ensures again { (logs : List (List Step)) → AreLogs logs → bytes.now ≡ proof_text logs →
-        MatchResult result (λ found. plain_logs found.items ≡ logs) (λ fault. fault ≡ ProofFault.OutOfMemory) }
+        MatchResult result (λ found. plain_logs found.items ≡ logs)
+        (λ fault. fault ≡ ProofFault.OutOfMemory) }
 {
     read_text(alloc, bytes)
 }
@@ -102,9 +106,11 @@ struct ReadSteps<'a> {
 fn read_logs(alloc: Global, bytes: &[u8], count: u64) -> Result<ReadLogs<'_>, ProofFault>
     requires bytes { length bytes.now < 2 ^ 63 }
     requires count { count < 2 ^ 32 }
-    ensures logs { IfOk result (λ read. BeginWithLogs bytes.now (plain_logs read.logs.items) read.rest.now) }
+    ensures logs { IfOk result (λ read.
+        BeginWithLogs bytes.now (plain_logs read.logs.items) read.rest.now) }
     ensures count { IfOk result (λ read. length (plain_logs read.logs.items) ≡ count) }
-    ensures line { IfOk result (λ read. read.line ≡ 3 + length (log_lines 1 (plain_logs read.logs.items))) }
+    ensures line { IfOk result (λ read. read.line ≡
+        3 + length (log_lines 1 (plain_logs read.logs.items))) }
     ensures room { IfOk result (λ read. read.line + length read.rest.now ≤ 3 + length bytes.now) }
     ensures fault { IfErr result (LogsFault bytes.now count) }
 {
@@ -135,10 +141,12 @@ fn read_steps(
     first: u64,
 ) -> Result<ReadSteps<'_>, ProofFault>
     requires { first + length bytes.now < 2 ^ 64 }
-    ensures steps { IfOk result (λ read. BeginWithSteps bytes.now (map plain_step read.steps.items) read.rest.now) }
+    ensures steps { IfOk result (λ read.
+        BeginWithSteps bytes.now (map plain_step read.steps.items) read.rest.now) }
     ensures count { IfOk result (λ read. length (map plain_step read.steps.items) ≡ count) }
     ensures line { IfOk result (λ read. read.line ≡ first + count) }
-    ensures room { IfOk result (λ read. read.line + length read.rest.now ≤ first + length bytes.now) }
+    ensures room { IfOk result (λ read.
+        read.line + length read.rest.now ≤ first + length bytes.now) }
     ensures fault { IfErr result (StepsFault bytes.now count first) }
 {
     let mut steps = Vec::new(alloc);

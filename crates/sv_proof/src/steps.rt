@@ -1,52 +1,50 @@
 // The lines of logs and steps.
-ghost use Rattle.std.specs.Prelude.{◌≡◌, ℕ, ◌<◌, ◌^◌, ℤ, List, ◌++◌, decimal, codes, IfOk, IfSome, IsNone};
+ghost use Rattle.std.specs.Prelude.{◌≡◌, ℕ, ◌<◌, ◌^◌, ℤ, List, ◌++◌, decimal, codes, IfOk, IfSome};
+ghost use Rattle.std.specs.Prelude.{IsNone};
 ghost use Rattle.sv_clause.specs.Literals.{IsClause};
 ghost use Rattle.sv_clause.specs.Logs.{Step, plain_step};
-ghost use Rattle.sv_proof.specs.Certificate.{word, literal_words, number_words, step_line, log_line, IsChain, IsWritable};
+ghost use Rattle.sv_proof.specs.Certificate.{word, literal_words, number_words, step_line};
+ghost use Rattle.sv_proof.specs.Certificate.{log_line, IsChain, IsWritable};
 
-use crate::words::{is_line, read_literal, read_number, split_first, without_prefix};
+use crate::fields::{is_line, read_below, read_literal, read_number, split_first, without_prefix};
 use std::alloc::{AllocError, Global};
 use sv_clause::{Clause, Derived};
 
-// The number below 2 ^ 32 that stands behind a prefix.
+// One more than the highest count of steps and of logs.
+const COUNTS: u64 = 1 << 32;
+
+/// The number below 2 ^ 32 that stands behind a prefix.
 pub fn read_counted(line: &[u8], prefix: &[u8]) -> Option<u64>
-    ensures some { IfSome result (λ count. (line.now ≡ prefix.now ++ decimal count) × (count < 2 ^ 32)) }
-    ensures none { IsNone result → (count : ℕ) → count < 2 ^ 32 → line.now ≡ prefix.now ++ decimal count → ⊥ }
+    ensures some { IfSome result (λ count. (line.now ≡ prefix.now ++ decimal count) ×
+        (count < 2 ^ 32)) }
+    ensures none { IsNone result → (count : ℕ) → count < 2 ^ 32 → line.now ≡ prefix.now ++
+        decimal count → ⊥ }
 {
     let rest = without_prefix(line, prefix)?;
-    read_count(rest)
+    read_below(rest, COUNTS)
 }
 
-// The number below 2 ^ 32 that is written so.
-fn read_count(word: &[u8]) -> Option<u64>
-    ensures some { IfSome result (λ count. (word.now ≡ decimal count) × (count < 2 ^ 32)) }
-    ensures none { IsNone result → (count : ℕ) → count < 2 ^ 32 → word.now ≡ decimal count → ⊥ }
-{
-    let count = read_number(word)?;
-    if count > 4_294_967_295 {
-        return None;
-    }
-    Some(count)
-}
-
-// How many steps follow the line of the log with this number.
+/// How many steps follow the line of the log with this number.
 pub fn read_log_line(line: &[u8], number: u64) -> Option<u64>
     ensures some { IfSome result (λ steps. (line.now ≡ log_line number steps) × (steps < 2 ^ 32)) }
-    ensures none { IsNone result → (steps : ℕ) → steps < 2 ^ 32 → line.now ≡ log_line number steps → ⊥ }
+    ensures none { IsNone result → (steps : ℕ) → steps < 2 ^ 32 → line.now ≡ log_line number steps →
+        ⊥ }
 {
     let rest = without_prefix(line, b"o ")?;
     let (word, rest) = split_first(rest, b' ')?;
     if read_number(word)? != number {
         return None;
     }
-    read_count(rest)
+    read_below(rest, COUNTS)
 }
 
-// The step of a line.
+/// The step of a line.
 pub fn read_step(alloc: Global, line: &[u8]) -> Result<Option<Derived>, AllocError>
-    ensures some { IfOk result (λ found. IfSome found (λ step. line.now ≡ step_line (plain_step step))) }
+    ensures some { IfOk result (λ found.
+        IfSome found (λ step. line.now ≡ step_line (plain_step step))) }
     ensures writable { IfOk result (λ found. IfSome found (λ step. IsWritable (plain_step step))) }
-    ensures none { IfOk result (λ found. IsNone found → (step : Step) → IsWritable step → line.now ≡ step_line step → ⊥) }
+    ensures none { IfOk result (λ found. IsNone found → (step : Step) → IsWritable step → line.now ≡
+        step_line step → ⊥) }
 {
     let Some((literals, rest)) = read_literals(alloc, line)? else {
         return Ok(None);
@@ -91,7 +89,8 @@ fn read_literals(alloc: Global, line: &[u8]) -> Result<Option<(Vec<i32>, &[u8])>
 
 // The numbers of a chain up to the 0 that ends the line.
 fn read_chain(alloc: Global, text: &[u8]) -> Result<Option<Vec<u64>>, AllocError>
-    ensures some { IfOk result (λ found. IfSome found (λ chain. text.now ≡ number_words chain.items ++ codes "0")) }
+    ensures some { IfOk result (λ found.
+        IfSome found (λ chain. text.now ≡ number_words chain.items ++ codes "0")) }
     ensures numbers { IfOk result (λ found. IfSome found (λ chain. IsChain chain.items)) }
     ensures none { IfOk result (λ found. IsNone found →
         (chain : List ℕ) → IsChain chain → text.now ≡ number_words chain ++ codes "0" → ⊥) }

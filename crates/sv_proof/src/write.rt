@@ -1,16 +1,18 @@
 // The text of certificates, as it is written.
-ghost use Rattle.std.specs.Prelude.{◌≡◌, ℕ, ◌<◌, ◌^◌, List, [], ◌∷◌, ◌++◌, map, length, decimal, IfOk, OnOk};
+ghost use Rattle.std.specs.Prelude.{◌≡◌, ℕ, ◌<◌, ◌^◌, List, [], ◌∷◌, ◌++◌, map, length, decimal};
+ghost use Rattle.std.specs.Prelude.{IfOk, OnOk};
 ghost use Rattle.std.specs.List.{flat_map};
 ghost use Rattle.std.specs.Fmt.{signed_decimal};
 ghost use Rattle.sv_clause.specs.Logs.{plain_step, plain_log};
-ghost use Rattle.sv_proof.specs.Certificate.{plain_logs, word, step_line, log_lines, text_of, proof_text};
+ghost use Rattle.sv_proof.specs.Certificate.{plain_logs, word, step_line, log_lines, text_of};
+ghost use Rattle.sv_proof.specs.Certificate.{proof_text};
 
 use itoa::Buffer;
 use std::alloc::{AllocError, Global};
 use sv_clause::{Derived, Log};
 
-/// The certificate of logs, one for each obligation in order. `read_proof` gives the logs again where every chain has at least
-/// one number and none is 0.
+/// The certificate of logs, one for each obligation in order. `read_proof` gives the logs again
+/// where every chain has at least one number and none is 0.
 pub fn write_proof(alloc: Global, logs: &[Log]) -> Result<Vec<u8>, AllocError>
     ensures { IfOk result (λ text. text.items ≡ proof_text (plain_logs logs.now)) }
 {
@@ -23,7 +25,8 @@ pub fn write_proof(alloc: Global, logs: &[Log]) -> Result<Vec<u8>, AllocError>
 }
 
 fn push_logs(text: &mut Vec<u8>, logs: &[Log]) -> Result<(), AllocError>
-    ensures { OnOk result (text.new.items ≡ text.old.items ++ text_of (log_lines 1 (plain_logs logs.now))) }
+    ensures { OnOk result (text.new.items ≡ text.old.items ++
+        text_of (log_lines 1 (plain_logs logs.now))) }
 {
     let mut number: u64 = 1;
     'logs: for log in logs {
@@ -39,7 +42,8 @@ fn push_logs(text: &mut Vec<u8>, logs: &[Log]) -> Result<(), AllocError>
 }
 
 fn push_steps(text: &mut Vec<u8>, steps: &[Derived]) -> Result<(), AllocError>
-    ensures { OnOk result (text.new.items ≡ text.old.items ++ text_of (map step_line (map plain_step steps.now))) }
+    ensures { OnOk result (text.new.items ≡ text.old.items ++
+        text_of (map step_line (map plain_step steps.now))) }
 {
     'steps: for step in steps {
         push_literals(text, step.clause.literals())?;
@@ -61,7 +65,8 @@ fn push_literals(text: &mut Vec<u8>, literals: &[i32]) -> Result<(), AllocError>
 }
 
 fn push_numbers(text: &mut Vec<u8>, numbers: &[u64]) -> Result<(), AllocError>
-    ensures { OnOk result (text.new.items ≡ text.old.items ++ flat_map (λ number. word (decimal number)) numbers.now) }
+    ensures { OnOk result (text.new.items ≡ text.old.items ++
+        flat_map (λ number. word (decimal number)) numbers.now) }
 {
     'numbers: for number in numbers {
         push_number(text, *number)?;
@@ -117,8 +122,8 @@ mod tests {
         logs.push(first)?;
         logs.push(second)?;
         let text = write_proof(alloc, &logs)?;
-        let want =
-            b"secv-proof 1\nobligations 2\no 1 2\n-1 2 0 3 18446744073709551615 0\n0 3 5 6 0\no 2 0\nend\n";
+        let want = b"secv-proof 1\nobligations 2\no 1 2\n-1 2 0 3 18446744073709551615 0\n\
+              0 3 5 6 0\no 2 0\nend\n";
         assert_eq!(rt; text.as_slice(), want.as_slice());
         Ok(())
     }

@@ -1,4 +1,4 @@
--- A lesson has one literal left once the newest decision is taken back.
+-- A learned has one literal left once the newest decision is taken back.
 use Rattle.std.proofs.Common.{◌≡◌, ℕ, ◌-◌, ◌<◌, ◌≤◌, ℤ, pos, neg_ℤ, List, sym, ap, ◌∙◌, length, take, get_or, arith, Option, Some, None}
 use Rattle.std.specs.Prelude.{MatchOption}
 use Rattle.std.proofs.lemmas.Bool.{false≢true}
@@ -7,7 +7,7 @@ use Rattle.sv_clause.specs.Logs.{numbered}
 use Rattle.sv_clause.specs.Units.{IsOpen}
 use Rattle.sv_clause.proofs.Merging.{neg-neg}
 use Rattle.sv_solve.specs.Lists.{EachOpen}
-use Rattle.sv_solve.specs.Lessons.{IsLatest, IsAsserting, IsDraft}
+use Rattle.sv_solve.specs.ConflictClauses.{IsLatest, IsAsserting, IsDraft}
 use Rattle.sv_solve.specs.Search.{OthersFalse, Implies}
 use Rattle.sv_solve.proofs.Clauses.{one_literal}
 use Rattle.sv_solve.proofs.Drafts.{draft_others}

@@ -36,7 +36,7 @@ one_literal xs x up only =
     absurd (omega (arith, far)))
     (cases_lt (length xs) 2)
 
--- no variable stands in a clause in both signs
+-- no variable stands in a clause in both polarities
 pub one_sign : (l : ℤ) (xs : List ℤ) → IsClause xs → stands l xs ≡ true → stands (neg_ℤ l) xs ≡ true → ⊥
 one_sign l xs up e f =
     let p = place_of l xs e in

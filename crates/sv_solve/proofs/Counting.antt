@@ -15,7 +15,7 @@ use Rattle.sv_solve.specs.Search.{IsClauseOf}
 use Rattle.sv_solve.specs.Answers.{AreDifferent}
 use Rattle.sv_solve.proofs.Clauses.{one_sign}
 
--- whether a variable stands in a clause, and in which sign
+-- whether a variable stands in a clause, and in which polarity
 digit : ℕ → List ℤ → ℕ
 digit v clause = cond (stands (pos v) clause) 1 (cond (stands (neg_ℤ (pos v)) clause) 2 0)
 

@@ -255,8 +255,8 @@ module _ (clauses : List (List ℤ)) (trail : List ℤ) where
       derive_unseen chain (first ∷ []) seen mark p low (omega arith) none (derive_keep chain [] (first ∷ []) seen (p + 1) p refl small here refl d)
 
   -- a clause of which one literal is left at rest is new
-  pub lesson_new : (lesson : List ℤ) (first : ℤ) (mark : ℕ) → IsAtRest clauses (take mark trail) → stands first lesson ≡ true → IsOpen (take mark trail) first → OthersFalse (take mark trail) lesson first → IsNew clauses lesson
-  lesson_new lesson first mark rest member o others = (take mark trail, first, record { rest = rest; member = member; open_left = o; others = others })
+  pub learned_new : (learned : List ℤ) (first : ℤ) (mark : ℕ) → IsAtRest clauses (take mark trail) → stands first learned ≡ true → IsOpen (take mark trail) first → OthersFalse (take mark trail) learned first → IsNew clauses learned
+  learned_new learned first mark rest member o others = (take mark trail, first, record { rest = rest; member = member; open_left = o; others = others })
 
   -- the clause of a number is settled at rest
   settled_number : (literals : List ℤ) (n : ℕ) (clause : List ℤ) → IsAtRest clauses literals → numbered clauses n ≡ Some clause → IsSettled literals clause

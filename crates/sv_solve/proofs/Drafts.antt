@@ -1,4 +1,4 @@
--- A lesson while it is drafted.
+-- A learned while it is drafted.
 use Rattle.std.proofs.Common.{◌≡◌, ℕ, ◌+◌, ◌-◌, ◌<◌, ◌≤◌, true, false, ℤ, pos, neg_ℤ, List, [], ◌∷◌, ◌++◌, refl, sym, ap, ◌∙◌, ⊎_elim, length, take, get_or, arith}
 use Rattle.std.specs.Ordering.{int_eq}
 use Rattle.sv_clause.specs.Literals.{stands, SameLiterals}
@@ -6,7 +6,7 @@ use Rattle.sv_clause.specs.Units.{IsOpen}
 use Rattle.sv_clause.proofs.Standing.{same_from_int_eq, int_eq-same, cases_int}
 use Rattle.sv_clause.proofs.Merging.{neg-neg}
 use Rattle.sv_solve.specs.Lists.{EachOpen}
-use Rattle.sv_solve.specs.Lessons.{BecameFalse, IsDraft}
+use Rattle.sv_solve.specs.ConflictClauses.{BecameFalse, IsDraft}
 use Rattle.sv_solve.specs.Search.{OthersFalse}
 use Rattle.sv_solve.proofs.Places.{stands_push_old, stands_push_new, stands_push_cases, stands_is, not_stands_take_le, or_nothing}
 use Rattle.sv_solve.proofs.Trails.{stands_before}

@@ -10,13 +10,18 @@ use Rattle.sv_clause.specs.Logs.{numbered}
 use Rattle.sv_clause.specs.Units.{IsAtRest, HasOneIn}
 use Rattle.sv_solve.specs.Lists.{Assigned}
 use Rattle.sv_solve.specs.Search.{IsSettled, IsConsistent, IsImpliedAt, ImpliedFrom}
-use Rattle.sv_solve.specs.Known.{Known, clauses_known}
+use Rattle.sv_solve.specs.Known.{clauses_known}
 use Rattle.sv_solve.specs.Watching.{Watching, IsListed, IsPairOf, IsFitting, IsHeld, AllHeld, IsSettledAt, UnitsTrue, pair_at}
-use Rattle.sv_solve.specs.States.{IsReasoned, IsLevel, IsSearching}
+use Rattle.sv_solve.specs.States.{IsReasoned, IsLevel, SearchState, IsSearching}
 use Rattle.sv_solve.specs.declared.watches.Pair.{Pair}
+use Rattle.sv_solve.specs.declared.state.State.TheInside.{Inside}
 use Rattle.sv_solve.proofs.Places.{stands_take}
 use Rattle.sv_solve.proofs.Trails.{at_rest}
 use Rattle.sv_solve.proofs.Ascending.{before_place, ascend_take}
+
+-- the state of the search that the solver holds
+abbrev pub state_of : Inside → SearchState
+state_of s = record { known = s.known; trail = s.trail; decisions = s.decisions.items; watching = s.watches; propagated = s.propagated }
 
 -- what stands in one list stands in the other
 abbrev pub Within : List ℤ → List ℤ → Type 0
@@ -43,11 +48,11 @@ rest_of clauses pairs literals fit held units consistent =
     (λ k d h. subst (IsSettled literals) (get_or_default clauses k [] d h) (settled_pair (get_or clauses k []) literals (pair_at pairs k) (fit.each k h) (held k) (units k [] h)))
 
 -- a list that is propagated in full is at rest
-pub rest_here : (known : Known) (trail : Assigned) (decisions : List ℕ) (watching : Watching) (propagated : ℕ) → IsSearching known trail decisions watching propagated → IsConsistent trail.literals
-    → propagated ≡ length trail.literals → IsAtRest (clauses_known known) trail.literals
-rest_here known trail decisions watching propagated s consistent all =
-    rest_of (clauses_known known) watching.pairs trail.literals s.fitting
-    (subst (λ z. AllHeld watching.pairs z trail.literals) (take_all propagated trail.literals (omega arith)) s.held)
+pub rest_here : (state : SearchState) → IsSearching state → IsConsistent state.trail.literals
+    → state.propagated ≡ length state.trail.literals → IsAtRest (clauses_known state.known) state.trail.literals
+rest_here state s consistent all =
+    rest_of (clauses_known state.known) state.watching.pairs state.trail.literals s.fitting
+    (subst (λ z. AllHeld state.watching.pairs z state.trail.literals) (take_all state.propagated state.trail.literals (omega arith)) s.held)
     s.units consistent
 
 pub agree : (xs ys : List ℤ) (n : ℕ) → take (length xs) ys ≡ xs → n ≤ length xs → take n ys ≡ take n xs
@@ -98,49 +103,49 @@ pub level_stays : (clauses : List (List ℤ)) (pairs : List (Option Pair)) (xs y
 level_stays clauses pairs xs ys d same level = level_moves clauses pairs pairs xs ys d same (subst (λ z. AllHeld pairs z z) (sym same) level.settled) level
 
 -- the state after more was propagated
-pub after_propagate : (known : Known) (trail now : Assigned) (decisions : List ℕ) (watching next : Watching) (propagated upto : ℕ) (clauses : List (List ℤ)) → IsSearching known trail decisions watching propagated → clauses ≡ clauses_known known
-    → IsFitting clauses next.pairs → IsListed next → next.variables ≡ watching.variables → propagated ≤ upto → upto ≤ length now.literals → AllHeld next.pairs (take upto now.literals) now.literals
-    → ((place : ℕ) → place ≤ propagated → IsSettledAt watching.pairs trail.literals place → IsSettledAt next.pairs now.literals place)
-    → take (length trail.literals) now.literals ≡ trail.literals → length trail.literals ≤ length now.literals → ((place : ℕ) → place < length trail.literals → get_or now.reasons place 0 ≡ get_or trail.reasons place 0)
-    → ImpliedFrom clauses now (length trail.literals) → now.variables ≡ trail.variables → IsSearching known now decisions next upto
-after_propagate known trail now decisions watching next propagated upto clauses s is fit listed same_watch low high held settled older longer reasons implied same_trail =
+pub after_propagate : (state : SearchState) (now : Assigned) (next : Watching) (upto : ℕ) (clauses : List (List ℤ)) → IsSearching state → clauses ≡ clauses_known state.known
+    → IsFitting clauses next.pairs → IsListed next → next.variables ≡ state.watching.variables → state.propagated ≤ upto → upto ≤ length now.literals → AllHeld next.pairs (take upto now.literals) now.literals
+    → ((place : ℕ) → place ≤ state.propagated → IsSettledAt state.watching.pairs state.trail.literals place → IsSettledAt next.pairs now.literals place)
+    → take (length state.trail.literals) now.literals ≡ state.trail.literals → length state.trail.literals ≤ length now.literals → ((place : ℕ) → place < length state.trail.literals → get_or now.reasons place 0 ≡ get_or state.trail.reasons place 0)
+    → ImpliedFrom clauses now (length state.trail.literals) → now.variables ≡ state.trail.variables → IsSearching (record state { trail = now; watching = next; propagated = upto })
+after_propagate state now next upto clauses s is fit listed same_watch low high held settled older longer reasons implied same_trail =
     record {
       small = s.small;
       trail_variables = same_trail ∙ s.trail_variables;
       watch_variables = same_watch ∙ s.watch_variables;
       fitting = subst (λ z. IsFitting z next.pairs) is fit;
       listed = listed;
-      units = units_more (clauses_known known) trail.literals now.literals (within_longer trail.literals now.literals older) s.units;
+      units = units_more (clauses_known state.known) state.trail.literals now.literals (within_longer state.trail.literals now.literals older) s.units;
       progress = high;
       held = held;
       reasoned = λ place h. ⊎_elim
-          (reasoned_older (clauses_known known) (clauses_known known) trail now decisions decisions (λ n c e. e) older reasons (λ p e. e) s.reasoned place)
+          (reasoned_older (clauses_known state.known) (clauses_known state.known) state.trail now state.decisions state.decisions (λ n c e. e) older reasons (λ p e. e) s.reasoned place)
           (λ past. inr (subst (λ z. IsImpliedAt z now place) is (implied place past h)))
-          (cases_lt place (length trail.literals));
+          (cases_lt place (length state.trail.literals));
       ascend = s.ascend;
-      below = λ k d h. let b = s.below k d h in let small : get_or decisions k d < length trail.literals = b.0 in let early : get_or decisions k d ≤ propagated = b.1 in (omega arith, omega arith);
+      below = λ k d h. let b = s.below k d h in let small : get_or state.decisions k d < length state.trail.literals = b.0 in let early : get_or state.decisions k d ≤ state.propagated = b.1 in (omega arith, omega arith);
       levels = λ k d h.
           let b = s.below k d h in
-          let e = get_or decisions k d in
-          let small : e < length trail.literals = b.0 in
-          level_moves (clauses_known known) watching.pairs next.pairs trail.literals now.literals e (agree trail.literals now.literals e older (omega arith)) (settled e b.1 (s.levels k d h).settled) (s.levels k d h);
+          let e = get_or state.decisions k d in
+          let small : e < length state.trail.literals = b.0 in
+          level_moves (clauses_known state.known) state.watching.pairs next.pairs state.trail.literals now.literals e (agree state.trail.literals now.literals e older (omega arith)) (settled e b.1 (s.levels k d h).settled) (s.levels k d h);
     }
 
 -- the state after a decision, made where all was propagated
-pub after_decide : (known : Known) (trail now : Assigned) (decisions later : List ℕ) (watching : Watching) (propagated : ℕ) (l : ℤ) (n : ℕ) → IsSearching known trail decisions watching propagated → IsConsistent trail.literals
-    → propagated ≡ length trail.literals → now.literals ≡ trail.literals ++ l ∷ [] → now.reasons ≡ set trail.reasons (length trail.literals) n → now.variables ≡ trail.variables → later ≡ decisions ++ length trail.literals ∷ []
-    → IsSearching known now later watching propagated
-after_decide known trail now decisions later watching propagated l n s consistent all is set_is same_trail later_is =
-    let clauses = clauses_known known in
-    let xs = trail.literals in
+pub after_decide : (state : SearchState) (now : Assigned) (later : List ℕ) (l : ℤ) (n : ℕ) → IsSearching state → IsConsistent state.trail.literals
+    → state.propagated ≡ length state.trail.literals → now.literals ≡ state.trail.literals ++ l ∷ [] → now.reasons ≡ set state.trail.reasons (length state.trail.literals) n → now.variables ≡ state.trail.variables → later ≡ state.decisions ++ length state.trail.literals ∷ []
+    → IsSearching (record state { trail = now; decisions = later })
+after_decide state now later l n s consistent all is set_is same_trail later_is =
+    let clauses = clauses_known state.known in
+    let xs = state.trail.literals in
     let size : length now.literals ≡ length xs + 1 = ap length is ∙ length_push xs l in
     let older : take (length xs) now.literals ≡ xs = ap (take (length xs)) is ∙ take_at xs (l ∷ []) (length xs) refl in
     let more : Within xs now.literals = within_longer xs now.literals older in
     let whole : take (length xs) xs ≡ xs = take_all (length xs) xs (omega arith) in
-    let held : AllHeld watching.pairs xs xs = subst (λ z. AllHeld watching.pairs z xs) (take_all propagated xs (omega arith)) s.held in
-    let newest : IsLevel clauses watching.pairs xs (length xs) =
-    record { settled = subst (λ z. AllHeld watching.pairs z z) (sym whole) held; units = subst (UnitsTrue clauses) (sym whole) s.units; rest = subst (IsAtRest clauses) (sym whole) (rest_here known trail decisions watching propagated s consistent all) } in
-    let IsBelow : ℕ → Type 0 = λ d. (d < length now.literals) × (d ≤ propagated) in
+    let held : AllHeld state.watching.pairs xs xs = subst (λ z. AllHeld state.watching.pairs z xs) (take_all state.propagated xs (omega arith)) s.held in
+    let newest : IsLevel clauses state.watching.pairs xs (length xs) =
+    record { settled = subst (λ z. AllHeld state.watching.pairs z z) (sym whole) held; units = subst (UnitsTrue clauses) (sym whole) s.units; rest = subst (IsAtRest clauses) (sym whole) (rest_here state s consistent all) } in
+    let IsBelow : ℕ → Type 0 = λ d. (d < length now.literals) × (d ≤ state.propagated) in
     record {
       small = s.small;
       trail_variables = same_trail ∙ s.trail_variables;
@@ -149,32 +154,32 @@ after_decide known trail now decisions later watching propagated l n s consisten
       listed = s.listed;
       units = units_more clauses xs now.literals more s.units;
       progress = omega arith;
-      held = λ place. is_held_more (take propagated now.literals) xs now.literals (pair_at watching.pairs place) more
-          (subst (λ z. IsHeld z xs (pair_at watching.pairs place)) (sym (agree xs now.literals propagated older (omega arith))) (s.held place));
+      held = λ place. is_held_more (take state.propagated now.literals) xs now.literals (pair_at state.watching.pairs place) more
+          (subst (λ z. IsHeld z xs (pair_at state.watching.pairs place)) (sym (agree xs now.literals state.propagated older (omega arith))) (s.held place));
       reasoned = λ place h. ⊎_elim
-          (reasoned_older clauses clauses trail now decisions later (λ m c e. e) older
-          (λ p lt. ap (λ z. get_or z p 0) set_is ∙ get_or-set_other trail.reasons (length xs) p n 0 (λ e. absurd (omega arith)))
-          (λ p e. subst (λ z. Contains z p) (sym later_is) (Contains-append_left decisions (length xs ∷ []) p e)) s.reasoned place)
-          (λ past. let here : length xs ≡ place = omega arith in inl (subst (λ z. Contains z place) (sym later_is) (subst (Contains (decisions ++ length xs ∷ [])) here (Contains-push decisions (length xs)))))
+          (reasoned_older clauses clauses state.trail now state.decisions later (λ m c e. e) older
+          (λ p lt. ap (λ z. get_or z p 0) set_is ∙ get_or-set_other state.trail.reasons (length xs) p n 0 (λ e. absurd (omega arith)))
+          (λ p e. subst (λ z. Contains z p) (sym later_is) (Contains-append_left state.decisions (length xs ∷ []) p e)) s.reasoned place)
+          (λ past. let here : length xs ≡ place = omega arith in inl (subst (λ z. Contains z place) (sym later_is) (subst (Contains (state.decisions ++ length xs ∷ [])) here (Contains-push state.decisions (length xs)))))
           (cases_lt place (length xs));
-      ascend = subst (AllPairs ◌<◌) (sym later_is) (all_pairs_push ◌<◌ decisions (length xs) s.ascend (λ k d h. (s.below k d h).0));
+      ascend = subst (AllPairs ◌<◌) (sym later_is) (all_pairs_push ◌<◌ state.decisions (length xs) s.ascend (λ k d h. (s.below k d h).0));
       below = subst (All IsBelow) (sym later_is)
-          (All-push IsBelow decisions (length xs) (λ k d h. let small : get_or decisions k d < length xs = (s.below k d h).0 in (omega arith, (s.below k d h).1)) (omega arith, omega arith));
-      levels = subst (All (IsLevel clauses watching.pairs now.literals)) (sym later_is)
-          (All-push (IsLevel clauses watching.pairs now.literals) decisions (length xs)
-          (λ k d h. let small : get_or decisions k d < length xs = (s.below k d h).0 in level_stays clauses watching.pairs xs now.literals (get_or decisions k d) (agree xs now.literals (get_or decisions k d) older (omega arith)) (s.levels k d h))
-          (level_stays clauses watching.pairs xs now.literals (length xs) (agree xs now.literals (length xs) older (omega arith)) newest));
+          (All-push IsBelow state.decisions (length xs) (λ k d h. let small : get_or state.decisions k d < length xs = (s.below k d h).0 in (omega arith, (s.below k d h).1)) (omega arith, omega arith));
+      levels = subst (All (IsLevel clauses state.watching.pairs now.literals)) (sym later_is)
+          (All-push (IsLevel clauses state.watching.pairs now.literals) state.decisions (length xs)
+          (λ k d h. let small : get_or state.decisions k d < length xs = (s.below k d h).0 in level_stays clauses state.watching.pairs xs now.literals (get_or state.decisions k d) (agree xs now.literals (get_or state.decisions k d) older (omega arith)) (s.levels k d h))
+          (level_stays clauses state.watching.pairs xs now.literals (length xs) (agree xs now.literals (length xs) older (omega arith)) newest));
     }
 
 -- the state after the trail is taken back to a place
-shorten : (known : Known) (trail now : Assigned) (decisions later : List ℕ) (watching : Watching) (propagated upto back : ℕ) → IsSearching known trail decisions watching propagated
-    → now.literals ≡ take back trail.literals → now.reasons ≡ trail.reasons → now.variables ≡ trail.variables → back ≤ length trail.literals → upto ≤ back
-    → AllHeld watching.pairs (take upto trail.literals) (take back trail.literals) → UnitsTrue (clauses_known known) (take back trail.literals)
-    → All (λ d. (d < back) × (d ≤ upto)) later → ((place : ℕ) → place < back → Contains decisions place → Contains later place) → AllPairs ◌<◌ later → All (IsLevel (clauses_known known) watching.pairs trail.literals) later
-    → IsSearching known now later watching upto
-shorten known trail now decisions later watching propagated upto back s short same_reasons same_trail most early held units below kept ascend levels =
-    let clauses = clauses_known known in
-    let xs = trail.literals in
+cut_back : (state : SearchState) (now : Assigned) (later : List ℕ) (upto back : ℕ) → IsSearching state
+    → now.literals ≡ take back state.trail.literals → now.reasons ≡ state.trail.reasons → now.variables ≡ state.trail.variables → back ≤ length state.trail.literals → upto ≤ back
+    → AllHeld state.watching.pairs (take upto state.trail.literals) (take back state.trail.literals) → UnitsTrue (clauses_known state.known) (take back state.trail.literals)
+    → All (λ d. (d < back) × (d ≤ upto)) later → ((place : ℕ) → place < back → Contains state.decisions place → Contains later place) → AllPairs ◌<◌ later → All (IsLevel (clauses_known state.known) state.watching.pairs state.trail.literals) later
+    → IsSearching (record state { trail = now; decisions = later; propagated = upto })
+cut_back state now later upto back s short same_reasons same_trail most early held units below kept ascend levels =
+    let clauses = clauses_known state.known in
+    let xs = state.trail.literals in
     let size : length now.literals ≡ back = ap length short ∙ length-take-le back xs most in
     let same : (n : ℕ) → n ≤ back → take n now.literals ≡ take n xs = λ n h. ap (take n) short ∙ take-take n back xs h in
     record {
@@ -185,57 +190,57 @@ shorten known trail now decisions later watching propagated upto back s short sa
       listed = s.listed;
       units = subst (UnitsTrue clauses) (sym short) units;
       progress = omega arith;
-      held = subst (λ z. AllHeld watching.pairs z now.literals) (sym (same upto early)) (subst (AllHeld watching.pairs (take upto xs)) (sym short) held);
+      held = subst (λ z. AllHeld state.watching.pairs z now.literals) (sym (same upto early)) (subst (AllHeld state.watching.pairs (take upto xs)) (sym short) held);
       reasoned = λ place h. let small : place < back = omega arith in ⊎_elim (λ decided. inl (kept place small decided))
-          (λ implied. inr (implied_moves clauses clauses trail now place (λ n c e. e) (ap (λ z. get_or z place 0) same_reasons) (same place (omega arith)) (ap (λ z. get_or z place (pos 0)) short ∙ get_or-take back xs place (pos 0) small) implied))
+          (λ implied. inr (implied_moves clauses clauses state.trail now place (λ n c e. e) (ap (λ z. get_or z place 0) same_reasons) (same place (omega arith)) (ap (λ z. get_or z place (pos 0)) short ∙ get_or-take back xs place (pos 0) small) implied))
           (s.reasoned place (omega arith));
       ascend = ascend;
       below = λ k d h. let lower : get_or later k d < back = (below k d h).0 in (omega arith, (below k d h).1);
-      levels = λ k d h. let lower : get_or later k d < back = (below k d h).0 in level_stays clauses watching.pairs xs now.literals (get_or later k d) (same (get_or later k d) (omega arith)) (levels k d h);
+      levels = λ k d h. let lower : get_or later k d < back = (below k d h).0 in level_stays clauses state.watching.pairs xs now.literals (get_or later k d) (same (get_or later k d) (omega arith)) (levels k d h);
     }
 
 -- where a decision is the first that is taken back, what stands below its level stays
-pub keep_below : (known : Known) (trail now : Assigned) (decisions : List ℕ) (watching : Watching) (propagated upto back n : ℕ) → IsSearching known trail decisions watching propagated
-    → now.literals ≡ take back trail.literals → now.reasons ≡ trail.reasons → now.variables ≡ trail.variables → n < length decisions → back ≡ get_or decisions n 0 → upto ≡ min propagated back
-    → IsSearching known now (take n decisions) watching upto
-keep_below known trail now decisions watching propagated upto back n s short same_reasons same_trail some first least =
-    let clauses = clauses_known known in
+pub keep_below : (state : SearchState) (now : Assigned) (upto back n : ℕ) → IsSearching state
+    → now.literals ≡ take back state.trail.literals → now.reasons ≡ state.trail.reasons → now.variables ≡ state.trail.variables → n < length state.decisions → back ≡ get_or state.decisions n 0 → upto ≡ min state.propagated back
+    → IsSearching (record state { trail = now; decisions = take n state.decisions; propagated = upto })
+keep_below state now upto back n s short same_reasons same_trail some first least =
+    let clauses = clauses_known state.known in
     let b = s.below n 0 some in
-    let lower : get_or decisions n 0 < length trail.literals = b.0 in
-    let early : get_or decisions n 0 ≤ propagated = b.1 in
+    let lower : get_or state.decisions n 0 < length state.trail.literals = b.0 in
+    let early : get_or state.decisions n 0 ≤ state.propagated = b.1 in
     let same : upto ≡ back = omega arith in
-    let level : IsLevel clauses watching.pairs trail.literals back = subst (IsLevel clauses watching.pairs trail.literals) (sym first) (s.levels n 0 some) in
-    let size : length (take n decisions) ≡ n = length-take-le n decisions (omega arith) in
-    shorten known trail now decisions (take n decisions) watching propagated upto back s short same_reasons same_trail (omega arith) (omega arith)
-    (subst (λ z. AllHeld watching.pairs (take z trail.literals) (take back trail.literals)) (sym same) level.settled)
+    let level : IsLevel clauses state.watching.pairs state.trail.literals back = subst (IsLevel clauses state.watching.pairs state.trail.literals) (sym first) (s.levels n 0 some) in
+    let size : length (take n state.decisions) ≡ n = length-take-le n state.decisions (omega arith) in
+    cut_back state now (take n state.decisions) upto back s short same_reasons same_trail (omega arith) (omega arith)
+    (subst (λ z. AllHeld state.watching.pairs (take z state.trail.literals) (take back state.trail.literals)) (sym same) level.settled)
     level.units
     (λ k d h. let low : k < n = omega arith in
-    let less : get_or decisions k d < get_or decisions n d = s.ascend k n d low some in
-    let here : get_or decisions n d ≡ get_or decisions n 0 = get_or_default decisions n d 0 some in
-    let at : get_or (take n decisions) k d ≡ get_or decisions k d = get_or-take n decisions k d low in
+    let less : get_or state.decisions k d < get_or state.decisions n d = s.ascend k n d low some in
+    let here : get_or state.decisions n d ≡ get_or state.decisions n 0 = get_or_default state.decisions n d 0 some in
+    let at : get_or (take n state.decisions) k d ≡ get_or state.decisions k d = get_or-take n state.decisions k d low in
     (omega arith, omega arith))
-    (λ place h e. before_place decisions n place s.ascend some (omega arith) e)
-    (ascend_take decisions n s.ascend (omega arith))
-    (λ k d h. let low : k < n = omega arith in subst (IsLevel clauses watching.pairs trail.literals) (sym (get_or-take n decisions k d low)) (s.levels k d (omega arith)))
+    (λ place h e. before_place state.decisions n place s.ascend some (omega arith) e)
+    (ascend_take state.decisions n s.ascend (omega arith))
+    (λ k d h. let low : k < n = omega arith in subst (IsLevel clauses state.watching.pairs state.trail.literals) (sym (get_or-take n state.decisions k d low)) (s.levels k d (omega arith)))
 
 -- above the newest decision each literal was implied
-pub implied_above : (known : Known) (trail : Assigned) (decisions : List ℕ) (watching : Watching) (propagated mark : ℕ) → IsSearching known trail decisions watching propagated → 0 < length decisions → mark ≡ get_or decisions (length decisions - 1) 0
-    → ImpliedFrom (clauses_known known) trail (mark + 1)
-implied_above known trail decisions watching propagated mark s some last i low h =
+pub implied_above : (state : SearchState) (mark : ℕ) → IsSearching state → 0 < length state.decisions → mark ≡ get_or state.decisions (length state.decisions - 1) 0
+    → ImpliedFrom (clauses_known state.known) state.trail (mark + 1)
+implied_above state mark s some last i low h =
     ⊎_elim
     (λ decided. let k = decided.0 in
-    let small : k < length decisions = decided.1 in
-    let at : get_or decisions k 0 ≡ i = get_or_default decisions k 0 i small ∙ decided.2 in
-    ⊎_elim (λ less. let more : get_or decisions k 0 < get_or decisions (length decisions - 1) 0 = s.ascend k (length decisions - 1) 0 less (omega arith) in absurd (omega arith))
-    (λ ge. let same : k ≡ length decisions - 1 = omega arith in let here : get_or decisions k 0 ≡ get_or decisions (length decisions - 1) 0 = ap (λ z. get_or decisions z 0) same in absurd (omega arith))
-    (cases_lt k (length decisions - 1)))
+    let small : k < length state.decisions = decided.1 in
+    let at : get_or state.decisions k 0 ≡ i = get_or_default state.decisions k 0 i small ∙ decided.2 in
+    ⊎_elim (λ less. let more : get_or state.decisions k 0 < get_or state.decisions (length state.decisions - 1) 0 = s.ascend k (length state.decisions - 1) 0 less (omega arith) in absurd (omega arith))
+    (λ ge. let same : k ≡ length state.decisions - 1 = omega arith in let here : get_or state.decisions k 0 ≡ get_or state.decisions (length state.decisions - 1) 0 = ap (λ z. get_or state.decisions z 0) same in absurd (omega arith))
+    (cases_lt k (length state.decisions - 1)))
     (λ implied. implied)
     (s.reasoned i h)
 
-pub rest_below : (known : Known) (trail : Assigned) (decisions : List ℕ) (watching : Watching) (propagated mark : ℕ) → IsSearching known trail decisions watching propagated → 0 < length decisions → mark ≡ get_or decisions (length decisions - 1) 0
-    → IsAtRest (clauses_known known) (take mark trail.literals)
-rest_below known trail decisions watching propagated mark s some last =
-    subst (λ z. IsAtRest (clauses_known known) (take z trail.literals)) (sym last) (s.levels (length decisions - 1) 0 (omega arith)).rest
+pub rest_below : (state : SearchState) (mark : ℕ) → IsSearching state → 0 < length state.decisions → mark ≡ get_or state.decisions (length state.decisions - 1) 0
+    → IsAtRest (clauses_known state.known) (take mark state.trail.literals)
+rest_below state mark s some last =
+    subst (λ z. IsAtRest (clauses_known state.known) (take z state.trail.literals)) (sym last) (s.levels (length state.decisions - 1) 0 (omega arith)).rest
 
 pub when_none : {X : Type 0} (found : Option X) (P : Type 0) → is_some found ≡ false → IfNone found P → P
 when_none None P none h = h

@@ -5,9 +5,9 @@ pub mod Clauses
 pub mod Trails
 pub mod Seeing
 pub mod Deriving
-pub mod Lessons
+pub mod Learned
 pub mod Drafts
-pub mod Shortening
+pub mod Minimizing
 pub mod Asserting
 pub mod Counting
 pub mod Knowing

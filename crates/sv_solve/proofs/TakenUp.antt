@@ -8,10 +8,10 @@ use Rattle.sv_clause.specs.Literals.{stands}
 use Rattle.sv_clause.specs.Units.{HasOneIn}
 use Rattle.sv_solve.specs.Lists.{Assigned}
 use Rattle.sv_solve.specs.Search.{IsClauseOf, Implies, IsImpliedAt}
-use Rattle.sv_solve.specs.Lessons.{IsLatest, IsAsserting}
+use Rattle.sv_solve.specs.ConflictClauses.{IsLatest, IsAsserting}
 use Rattle.sv_solve.specs.Known.{Known, clauses_known}
 use Rattle.sv_solve.specs.Watching.{Watching, IsListed, IsPairOf, IsPairWithin, IsFitting, IsHeld, AllHeld, UnitsTrue, pair_at}
-use Rattle.sv_solve.specs.States.{IsLevel, IsSearching}
+use Rattle.sv_solve.specs.States.{IsLevel, SearchState, IsSearching}
 use Rattle.sv_solve.specs.declared.watches.Pair.{Pair}
 use Rattle.sv_solve.proofs.Places.{place_of, stands_take, stands_take_le, not_stands_take, stands_push_new}
 use Rattle.sv_solve.proofs.Clauses.{of_member, implies_at, get_at, slice_get_at}
@@ -130,14 +130,14 @@ level_more clauses pairs xs clause first other keep d fit a open_first low level
     }
 
 -- the state after a new clause is taken up
-pub after_take_up : (known next : Known) (trail now : Assigned) (decisions : List ℕ) (watching watched : Watching) (propagated : ℕ) (clause : List ℤ) (first : ℤ) (other : Option ℤ) (keep : ℕ) → IsSearching known trail decisions watching propagated
-    → IsAsserting trail.literals (length trail.literals) clause first other keep → All (λ d. d < keep) decisions → clauses_known next ≡ clauses_known known ++ clause ∷ [] → next.variables ≡ known.variables
-    → watched.pairs ≡ watching.pairs ++ pair_with first other ∷ [] → IsListed watched → watched.variables ≡ watching.variables → now.literals ≡ trail.literals ++ first ∷ []
-    → now.reasons ≡ set trail.reasons (length trail.literals) (length (clauses_known known) + 1) → length trail.literals < length now.reasons → now.variables ≡ trail.variables → IsSearching next now decisions watched propagated
-after_take_up known next trail now decisions watching watched propagated clause first other keep s a lower next_is same_known pairs_is listed same_watch is set_is room same_trail =
-    let clauses = clauses_known known in
-    let xs = trail.literals in
-    let pairs = watching.pairs ++ pair_with first other ∷ [] in
+pub after_take_up : (state : SearchState) (next : Known) (now : Assigned) (watched : Watching) (clause : List ℤ) (first : ℤ) (other : Option ℤ) (keep : ℕ) → IsSearching state
+    → IsAsserting state.trail.literals (length state.trail.literals) clause first other keep → All (λ d. d < keep) state.decisions → clauses_known next ≡ clauses_known state.known ++ clause ∷ [] → next.variables ≡ state.known.variables
+    → watched.pairs ≡ state.watching.pairs ++ pair_with first other ∷ [] → IsListed watched → watched.variables ≡ state.watching.variables → now.literals ≡ state.trail.literals ++ first ∷ []
+    → now.reasons ≡ set state.trail.reasons (length state.trail.literals) (length (clauses_known state.known) + 1) → length state.trail.literals < length now.reasons → now.variables ≡ state.trail.variables → IsSearching (record state { known = next; trail = now; watching = watched })
+after_take_up state next now watched clause first other keep s a lower next_is same_known pairs_is listed same_watch is set_is room same_trail =
+    let clauses = clauses_known state.known in
+    let xs = state.trail.literals in
+    let pairs = state.watching.pairs ++ pair_with first other ∷ [] in
     let more = clauses ++ clause ∷ [] in
     let size : length now.literals ≡ length xs + 1 = ap length is ∙ length_push xs first in
     let older : take (length xs) now.literals ≡ xs = ap (take (length xs)) is ∙ take_at xs (first ∷ []) (length xs) refl in
@@ -149,25 +149,25 @@ after_take_up known next trail now decisions watching watched propagated clause 
       trail_variables = same_trail ∙ s.trail_variables ∙ sym same_known;
       watch_variables = same_watch ∙ s.watch_variables ∙ sym same_known;
       fitting = subst (λ z. IsFitting z watched.pairs) (sym next_is) (subst (IsFitting more) (sym pairs_is)
-          (fitting_push clauses watching.pairs clause (pair_with first other) s.fitting (new_pair_of xs clause first other keep a.member a.latest)));
+          (fitting_push clauses state.watching.pairs clause (pair_with first other) s.fitting (new_pair_of xs clause first other keep a.member a.latest)));
       listed = listed;
       units = subst (λ z. UnitsTrue z now.literals) (sym next_is)
           (All-push (λ c. length c < 2 → HasOneIn now.literals c) clauses clause (units_more clauses xs now.literals (within_longer xs now.literals older) s.units) (λ short. one));
       progress = omega (arith, s.progress);
-      held = subst (λ z. AllHeld z (take propagated now.literals) now.literals) (sym pairs_is) (held_more watching.pairs xs now.literals propagated first other older s.progress open_first true_first s.held);
+      held = subst (λ z. AllHeld z (take state.propagated now.literals) now.literals) (sym pairs_is) (held_more state.watching.pairs xs now.literals state.propagated first other older s.progress open_first true_first s.held);
       reasoned = λ place h. ⊎_elim
-          (reasoned_older clauses (clauses_known next) trail now decisions decisions (subst (SameNumbers clauses) (sym next_is) (same_numbers clauses clause)) older
-          (λ p lt. ap (λ z. get_or z p 0) set_is ∙ get_or-set_other trail.reasons (length xs) p (length clauses + 1) 0 (λ e. absurd (omega arith)))
+          (reasoned_older clauses (clauses_known next) state.trail now state.decisions state.decisions (subst (SameNumbers clauses) (sym next_is) (same_numbers clauses clause)) older
+          (λ p lt. ap (λ z. get_or z p 0) set_is ∙ get_or-set_other state.trail.reasons (length xs) p (length clauses + 1) 0 (λ e. absurd (omega arith)))
           (λ p e. e) s.reasoned place)
           (λ past. inr (subst (λ z. IsImpliedAt z now place) (sym next_is)
-          (implied_push more trail now first (length clauses + 1) is set_is room (new_implied clauses xs clause first other keep a) (length xs) (implied_past more trail (length xs) (omega arith)) place past h)))
+          (implied_push more state.trail now first (length clauses + 1) is set_is room (new_implied clauses xs clause first other keep a) (length xs) (implied_past more state.trail (length xs) (omega arith)) place past h)))
           (cases_lt place (length xs));
       ascend = s.ascend;
-      below = λ k d h. let small : get_or decisions k d < length xs = (s.below k d h).0 in (omega arith, (s.below k d h).1);
-      levels = subst (λ z. All (IsLevel z watched.pairs now.literals) decisions) (sym next_is) (subst (λ z. All (IsLevel more z now.literals) decisions) (sym pairs_is)
-          (λ k d h. let e = get_or decisions k d in
+      below = λ k d h. let small : get_or state.decisions k d < length xs = (s.below k d h).0 in (omega arith, (s.below k d h).1);
+      levels = subst (λ z. All (IsLevel z watched.pairs now.literals) state.decisions) (sym next_is) (subst (λ z. All (IsLevel more z now.literals) state.decisions) (sym pairs_is)
+          (λ k d h. let e = get_or state.decisions k d in
           let small : e < length xs = (s.below k d h).0 in
-          level_stays more pairs xs now.literals e (agree xs now.literals e older (omega arith)) (level_more clauses watching.pairs xs clause first other keep e s.fitting a open_first (lower k d h) (s.levels k d h))));
+          level_stays more pairs xs now.literals e (agree xs now.literals e older (omega arith)) (level_more clauses state.watching.pairs xs clause first other keep e s.fitting a open_first (lower k d h) (s.levels k d h))));
     }
 
 latest_back : (trail now clause : List ℤ) (first : ℤ) (other : Option ℤ) (keep n : ℕ) → now ≡ take n trail → keep ≤ n → IsLatest trail clause first keep other → IsLatest now clause first keep other

@@ -2,7 +2,7 @@ pub mod Codes
 pub mod Lists
 pub mod Search
 pub mod Conflicts
-pub mod Lessons
+pub mod ConflictClauses
 pub mod Known
 pub mod Answers
 pub mod Values

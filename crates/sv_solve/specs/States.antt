@@ -7,7 +7,7 @@ use Rattle.sv_solve.specs.Known.{Known, clauses_known}
 use Rattle.sv_solve.specs.Watching.{Watching, IsListed, IsFitting, AllHeld, IsSettledAt, UnitsTrue}
 use Rattle.sv_solve.specs.declared.watches.Pair.{Pair}
 
--- what is known, the true literals in order, the places of the decisions among them, and how many have been propagated
+-- what a contract sees of that: what is known, the trail, the places of its decisions, and how many literals have been propagated
 pub record Searching : Type 0 where
   pub known : Known
   pub trail : Assigned
@@ -25,17 +25,25 @@ pub record IsLevel (clauses : List (List ℤ)) (pairs : List (Option Pair)) (lit
   pub units : UnitsTrue clauses (take decision literals)
   pub rest : IsAtRest clauses (take decision literals)
 
+-- the state of the search: what is known, the trail, the places of its decisions, the watched literals, and how many literals have been propagated
+pub record SearchState : Type 0 where
+  pub known : Known
+  pub trail : Assigned
+  pub decisions : List ℕ
+  pub watching : Watching
+  pub propagated : ℕ
+
 -- the clauses are watched; what was propagated is settled; and every level stands on clauses at rest
-pub record IsSearching (known : Known) (trail : Assigned) (decisions : List ℕ) (watching : Watching) (propagated : ℕ) : Type 0 where
-  pub small : known.variables < 2 ^ 31
-  pub trail_variables : trail.variables ≡ known.variables
-  pub watch_variables : watching.variables ≡ known.variables
-  pub fitting : IsFitting (clauses_known known) watching.pairs
-  pub listed : IsListed watching
-  pub units : UnitsTrue (clauses_known known) trail.literals
-  pub progress : propagated ≤ length trail.literals
-  pub held : AllHeld watching.pairs (take propagated trail.literals) trail.literals
-  pub reasoned : IsReasoned (clauses_known known) trail decisions
-  pub ascend : AllPairs ◌<◌ decisions
-  pub below : All (λ decision. (decision < length trail.literals) × (decision ≤ propagated)) decisions
-  pub levels : All (IsLevel (clauses_known known) watching.pairs trail.literals) decisions
+pub record IsSearching (state : SearchState) : Type 0 where
+  pub small : state.known.variables < 2 ^ 31
+  pub trail_variables : state.trail.variables ≡ state.known.variables
+  pub watch_variables : state.watching.variables ≡ state.known.variables
+  pub fitting : IsFitting (clauses_known state.known) state.watching.pairs
+  pub listed : IsListed state.watching
+  pub units : UnitsTrue (clauses_known state.known) state.trail.literals
+  pub progress : state.propagated ≤ length state.trail.literals
+  pub held : AllHeld state.watching.pairs (take state.propagated state.trail.literals) state.trail.literals
+  pub reasoned : IsReasoned (clauses_known state.known) state.trail state.decisions
+  pub ascend : AllPairs ◌<◌ state.decisions
+  pub below : All (λ decision. (decision < length state.trail.literals) × (decision ≤ state.propagated)) state.decisions
+  pub levels : All (IsLevel (clauses_known state.known) state.watching.pairs state.trail.literals) state.decisions

@@ -1,5 +1,6 @@
-// What the solver knows.
-ghost use Rattle.std.specs.Prelude.{◌≡◌, ◌<◌, ◌≤◌, ◌^◌, ℤ, ◌∷◌, [], ◌++◌, All, IsTrue, IfOk, OnOk, unsigned_abs, min};
+// The clauses that the solver knows.
+ghost use Rattle.std.specs.Prelude.{◌≡◌, ◌<◌, ◌≤◌, ◌^◌, ℤ, ◌∷◌, [], ◌++◌, All, IsTrue, IfOk, OnOk};
+ghost use Rattle.std.specs.Prelude.{unsigned_abs, min};
 ghost use Rattle.sv_clause.specs.Literals.{stands};
 ghost use Rattle.sv_clause.specs.Logs.{plain_step, plain_log, IsDerived, AllDerived};
 ghost use Rattle.sv_clause.specs.Units.{IsNew};
@@ -12,7 +13,8 @@ use std::alloc::{AllocError, Global};
 use std::marker::Model;
 use sv_clause::{Clause, Derived, Log};
 
-/// The clauses that were given and the steps that were learned, each derived from those before it and new to them.
+/// The clauses that were given and the conflict clauses that were learned, each a step derived from
+/// those before it and new to them.
 #[derive(Drop)]
 pub struct Knowledge {
     kept: Vec<KeptClause>,
@@ -28,9 +30,18 @@ impl Model for Knowledge {
 
     ghost Value = { Known };
 
-    ghost view = { λ k. record { given = take k.given k.kept.items; steps = map plain_step k.steps.items; variables = k.variables } };
+    ghost view = { λ k. record {
+      given = take k.given k.kept.items;
+      steps = map plain_step k.steps.items;
+      variables = k.variables;
+    } };
 
-    ghost invariant = { λ k. (k.given ≤ length k.kept.items) × IsKnown (record { given = take k.given k.kept.items; steps = map plain_step k.steps.items; variables = k.variables }) k.kept.items };
+    ghost invariant = { λ k. (k.given ≤ length k.kept.items) ×
+        IsKnown (record {
+          given = take k.given k.kept.items;
+          steps = map plain_step k.steps.items;
+          variables = k.variables;
+        }) k.kept.items };
 }
 
 impl Knowledge {
@@ -62,7 +73,7 @@ impl Knowledge {
         self.variables
     }
 
-    /// All clauses.
+    /// All clauses: those given, and the conflict clauses after them.
     pub fn clauses(&self) -> &[KeptClause]
         ensures value { result.now ≡ clauses_known self.now }
         ensures of { All (IsClauseOf self.now.variables) result.now }
@@ -70,7 +81,7 @@ impl Knowledge {
         self.kept.as_slice()
     }
 
-    /// Learns a step.
+    /// Takes up a conflict clause with the chain that derives it.
     pub fn learn(self, alloc: Global, step: Derived) -> Result<Knowledge, AllocError>
         requires derived { IsDerived (clauses_known self) (plain_step step) }
         requires new { IsNew (clauses_known self) step.clause }
@@ -102,6 +113,7 @@ impl Knowledge {
         ensures derived { AllDerived self.given self.steps }
         ensures each_new { EachNew self.given self.steps }
     {
+        // brings the invariant: every step is derived and new, every clause of the variables
         let _ = &self.kept;
         let Knowledge { steps, .. } = self;
         Log { steps }
@@ -113,6 +125,7 @@ impl Knowledge {
         ensures derived { AllDerived self.given self.steps }
         ensures each_new { EachNew self.given self.steps }
     {
+        // brings the invariant: every step is derived and new
         let _ = &self.kept;
         let Knowledge { mut steps, .. } = self;
         steps.push(step)?;

@@ -1,5 +1,6 @@
 // Lists of literals that tell at once whether a literal stands in them, and where.
-ghost use Rattle.std.specs.Prelude.{◌≡◌, ◌+◌, ◌-◌, ◌*◌, ◌<◌, ◌≤◌, ◌^◌, ℤ, pos, List, [], ◌∷◌, ◌++◌, length, take, IsTrue, IfOk, OnOk, OnErr, slice_index_or};
+ghost use Rattle.std.specs.Prelude.{◌≡◌, ◌+◌, ◌-◌, ◌*◌, ◌<◌, ◌≤◌, ◌^◌, ℤ, pos, List, [], ◌∷◌, ◌++◌};
+ghost use Rattle.std.specs.Prelude.{length, take, IsTrue, IfOk, OnOk, OnErr, slice_index_or};
 ghost use Rattle.std.specs.Bool.{IsFalse};
 ghost use Rattle.sv_clause.specs.Literals.{stands};
 ghost use Rattle.sv_solve.specs.Codes.{IsOf};
@@ -48,8 +49,10 @@ impl LiteralList {
     pub fn len(&self) -> usize
         ensures value { result ≡ length self.now.literals }
         ensures room { length self.now.literals ≤ 2 * self.now.variables + 2 }
-        ensures of { (literal : ℤ) → IsTrue (stands literal self.now.literals) → IsOf self.now.variables literal }
+        ensures of { (literal : ℤ) → IsTrue (stands literal self.now.literals) →
+            IsOf self.now.variables literal }
     {
+        // brings the bound on how many marks there are
         let _room = self.marks.len();
         self.literals.len()
     }
@@ -105,10 +108,11 @@ impl LiteralList {
         Ok(())
     }
 
-    /// Takes the last literal away.
+    // Takes the last literal away.
     fn pop(&mut self)
         requires { 0 < length self.old.literals }
-        ensures literals { self.new.literals ≡ take (length self.old.literals - 1) self.old.literals }
+        ensures literals { self.new.literals ≡
+            take (length self.old.literals - 1) self.old.literals }
         ensures variables { self.new.variables ≡ self.old.variables }
     {
         if let Some(literal) = self.literals.pop() {

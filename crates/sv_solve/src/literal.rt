@@ -1,10 +1,12 @@
-// Literals as numbers that index tables.
-ghost use Rattle.std.specs.Prelude.{◌≡◌, ◌≢◌, ◌<◌, ◌≤◌, ◌^◌, ℤ, pos, neg_ℤ, unsigned_abs, IsTrue, ◌↔◌};
+// Literals as codes that index tables.
+ghost use Rattle.std.specs.Prelude.{◌≡◌, ◌≢◌, ◌<◌, ◌≤◌, ◌^◌, ℤ, pos, neg_ℤ, unsigned_abs, IsTrue};
+ghost use Rattle.std.specs.Prelude.{◌↔◌};
 ghost use Rattle.sv_solve.specs.Codes.{code_of};
 
 use std::marker::Model;
 
-/// A literal: twice its variable, and one more where it is negated. A contract sees it signed.
+/// Literal: twice its variable, and one more where it is negated. A contract sees it as the signed
+/// number of clauses.
 #[derive(Clone, Copy, Debug)]
 pub struct Literal {
     code: u32,
@@ -63,7 +65,14 @@ impl Literal {
         }
     }
 
-    /// The other literal of its variable.
+    /// Its variable.
+    pub fn variable(&self) -> u32
+        ensures { result ≡ unsigned_abs self.now }
+    {
+        self.signed().unsigned_abs()
+    }
+
+    /// Negation: the other literal of its variable.
     pub fn negated(&self) -> Literal
         ensures { result ≡ neg_ℤ self.now }
     {
@@ -75,14 +84,14 @@ impl Literal {
         Literal { code }
     }
 
-    /// Its place in tables.
+    /// Its code, which is its place in tables.
     pub fn index(&self) -> usize
         ensures { result ≡ code_of self.now }
     {
         self.code as usize
     }
 
-    /// Whether it is another one.
+    /// Whether two literals are the same.
     pub fn is(&self, other: &Literal) -> bool
         ensures { IsTrue result ↔ (self.now ≡ other.now) }
     {

@@ -1,4 +1,4 @@
-// A search for values: decisions, and what follows from them, until a clause is false.
+// The search up to one conflict: decisions and unit propagation until a clause is false.
 ghost use Rattle.std.specs.Prelude.{◌≡◌, IfOk, OnOk};
 ghost use Rattle.sv_solve.specs.Known.{clauses_known};
 ghost use Rattle.sv_solve.specs.Conflicts.{IsConflict};
@@ -18,11 +18,12 @@ pub enum Outcome {
     Found(Trail),
     /// The empty clause is derived.
     Refuted(Log),
-    /// A new clause is derived.
+    /// A conflict clause is learned.
     Learned(State),
 }
 
-/// Decides until a clause is false, and learns from that, or until all variables are assigned.
+/// Decides and propagates until a clause is false, and learns from that, or until all variables are
+/// assigned.
 pub fn search(
     alloc: Global,
     state: State,

@@ -1,9 +1,12 @@
-// The solver.
-ghost use Rattle.std.specs.Prelude.{◌≡◌, ℕ, ℤ, ◌+◌, ◌^◌, ◌<◌, ◌≤◌, List, All, IfOk, IsTrue, length, ◌↔◌};
+// Conflict-driven clause learning, up to a budget of conflict clauses.
+ghost use Rattle.std.specs.Prelude.{◌≡◌, ◌↔◌, ℕ, ℤ, ◌+◌, ◌^◌, ◌<◌, ◌≤◌, List, All, IfOk, IsTrue};
+ghost use Rattle.std.specs.Prelude.{length, unsigned_abs};
 ghost use Rattle.sv_clause.specs.Literals.{Satisfies};
 ghost use Rattle.sv_clause.specs.Logs.{Refutes};
 ghost use Rattle.sv_clause.specs.Units.{IsSpentLog, IsUnitConflict};
-ghost use Rattle.sv_solve.specs.Answers.{IsWithin, value_of, OnlyLastIsEmpty, AreDifferent, WhereFound, WhereRefuted, WhereSpent, IsNotSpent, IsAnswer};
+ghost use Rattle.sv_solve.specs.Answers.{IsWithin, value_of, OnlyLastIsEmpty, AreDifferent};
+ghost use Rattle.sv_solve.specs.Answers.{WhereFound, WhereRefuted, WhereSpent};
+ghost use Rattle.sv_solve.specs.Answers.{IsNotSpent, IsAnswer};
 ghost use Rattle.sv_solve.specs.Values.{AreValues};
 ghost use Rattle.sv_solve.specs.Outcomes.{IsSpending};
 
@@ -44,7 +47,8 @@ fn values_under(alloc: Global, variables: u32, trail: &Trail) -> Result<Vec<bool
     Ok(values)
 }
 
-// Answers where the budget is spent: all decisions are taken back, and what is true without them is looked at once more.
+// Answers where the budget is spent: backjumps over all decision levels, and propagates once more
+// without decisions.
 fn spend(
     alloc: Global,
     state: State,
@@ -54,7 +58,7 @@ fn spend(
     requires { seen.old.variables ≡ state.known.variables }
     ensures { IfOk result (IsSpending state.known) }
 {
-    let (state, found) = state.go_back(order, 0).propagate()?;
+    let (state, found) = state.backjump(order, 0).propagate()?;
     match found {
         Some(conflict) => Ok(Solved::Refuted(state.refute(alloc, seen, conflict)?)),
         None => Ok(Solved::Spent(state.finish())),
@@ -91,7 +95,7 @@ fn answer(
     spend(alloc, state, &mut seen, &mut order)
 }
 
-/// Decides clauses over variables from 1 on, with at most `budget` learned steps.
+/// Decides clauses over variables from 1 on, with at most `budget` conflict clauses.
 ///
 /// Nothing says how long it takes; it keeps all that it learns.
 pub fn solve(
@@ -111,7 +115,8 @@ pub fn solve(
     ensures spent { IfOk result (WhereSpent (λ steps. IsSpentLog clauses.now steps budget)) }
     ensures spent_different { IfOk result (WhereSpent AreDifferent) }
     ensures large_budget_never_spent { 3 ^ variables ≤ budget → IfOk result IsNotSpent }
-    ensures units_never_spent { (literals : List ℤ) → IsUnitConflict clauses.now literals → IfOk result IsNotSpent }
+    ensures units_never_spent { (literals : List ℤ) → IsUnitConflict clauses.now literals →
+        IfOk result IsNotSpent }
 {
     answer(alloc, variables, clauses, budget)
 }
@@ -120,15 +125,15 @@ pub fn solve(
 pub fn is_within(variables: u32, clause: &Clause) -> bool
     ensures { IsTrue result ↔ IsWithin variables clause.now }
 {
-    let literals = clause.literals();
-    let mut place = 0;
-    'literals: while place < literals.len() {
-        if literals[place].unsigned_abs() > variables {
-            return false;
-        }
-        place += 1;
-    }
-    true
+    are_within(variables, clause.literals())
+}
+
+fn are_within(variables: u32, literals: &[i32]) -> bool
+    ensures { IsTrue result ↔ All (λ literal. unsigned_abs literal ≤ variables) literals.now }
+{
+    literals
+        .iter()
+        .all(|literal| literal.unsigned_abs() <= variables)
 }
 
 #[cfg(test)]

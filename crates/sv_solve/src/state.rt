@@ -1,19 +1,22 @@
-// The state of the search: what is known, what is true, and where to look for what follows.
-ghost use Rattle.std.specs.Prelude.{◌≡◌, ℕ, ◌+◌, ◌*◌, ◌<◌, ◌≤◌, ◌^◌, [], ◌∷◌, ◌++◌, length, take, All, AllPairs, IsTrue, IfOk, OnOk, IfSome, IfNone, MatchOption, min, slice_index_or};
+// The state of the search: the known clauses, the trail with its decision levels, and the watched
+// literals.
+ghost use Rattle.std.specs.Prelude.{◌≡◌, ℕ, ◌+◌, ◌*◌, ◌<◌, ◌≤◌, ◌^◌, [], ◌∷◌, ◌++◌, length, take};
+ghost use Rattle.std.specs.Prelude.{All, AllPairs, IsTrue, IfOk, OnOk, IfSome, IfNone, MatchOption};
+ghost use Rattle.std.specs.Prelude.{min, slice_index_or};
 ghost use Rattle.std.specs.Bool.{IsFalse};
 ghost use Rattle.sv_clause.specs.Literals.{IsClause};
 ghost use Rattle.sv_clause.specs.Logs.{plain_step, IsDerived};
 ghost use Rattle.sv_clause.specs.Units.{IsAtRest, IsNew, IsOpen};
 ghost use Rattle.sv_solve.specs.Codes.{IsOf};
 ghost use Rattle.sv_solve.specs.Search.{IsClauseOf, ImpliedFrom};
-ghost use Rattle.sv_solve.specs.Lessons.{IsAsserting};
+ghost use Rattle.sv_solve.specs.ConflictClauses.{IsAsserting};
 ghost use Rattle.sv_solve.specs.Watching.{IsListed, IsPairOf, IsFitting, UnitsTrue};
 ghost use Rattle.sv_solve.specs.Conflicts.{IsConflict};
 ghost use Rattle.sv_solve.specs.Known.{clauses_known};
 ghost use Rattle.sv_solve.specs.Answers.{IsWithin};
 ghost use Rattle.sv_solve.specs.Outcomes.{IsBegun, IsRefutation, IsSpent};
 
-use crate::analysis::{Lesson, learn, refute};
+use crate::analysis::{ConflictClause, learn, refute};
 use crate::kept::KeptClause;
 use crate::knowledge::Knowledge;
 use crate::lists::LiteralList;
@@ -25,13 +28,17 @@ use std::alloc::{AllocError, Global};
 use std::marker::Model;
 use sv_clause::{Clause, Log};
 
-/// The clauses that are known, the trail with the places of its decisions, and the watched literals.
+/// State of the search: the clauses that are known, the trail, the places on it of the decisions,
+/// and the watched literals. A decision level is what stands on the trail from one decision to the
+/// next.
 #[derive(Drop)]
 pub struct State {
     known: Knowledge,
     trail: Trail,
+    // one decision a level, the newest last
     decisions: Vec<usize>,
     watches: Watches,
+    // how many literals of the trail have been propagated
     propagated: usize,
 }
 
@@ -40,9 +47,20 @@ impl Model for State {
 
     ghost Value = { Searching };
 
-    ghost view = { λ s. record { known = s.known; trail = s.trail; decisions = s.decisions.items; propagated = s.propagated } };
+    ghost view = { λ s. record {
+      known = s.known;
+      trail = s.trail;
+      decisions = s.decisions.items;
+      propagated = s.propagated;
+    } };
 
-    ghost invariant = { λ s. IsSearching s.known s.trail s.decisions.items s.watches s.propagated };
+    ghost invariant = { λ s. IsSearching (record {
+      known = s.known;
+      trail = s.trail;
+      decisions = s.decisions.items;
+      watching = s.watches;
+      propagated = s.propagated;
+    }) };
 }
 
 /// How a search begins.
@@ -68,14 +86,16 @@ fn first_pair(clause: &[Literal]) -> Option<Pair>
     })
 }
 
-// The pair that a learned clause watches: the literal that is left, and of its others the one that became false last.
+// The watched literals of a conflict clause: the asserting one, and of its others the one that
+// became false last.
 fn pair_of(first: Literal, other: Option<Literal>) -> Option<Pair>
-    ensures { MatchOption other (result ≡ None) (λ literal. result ≡ Some (record { one = first; other = literal })) }
+    ensures { MatchOption other (result ≡ None) (λ literal. result ≡
+        Some (record { one = first; other = literal })) }
 {
     other.map(|other| Pair { one: first, other })
 }
 
-// Watches two literals of each clause.
+// Watched literals: the first two of each clause.
 fn attach_all(watches: &mut Watches, clauses: &[KeptClause]) -> Result<(), AllocError>
     requires clauses { All (IsClauseOf watches.old.variables) clauses.now }
     requires empty { watches.old.pairs ≡ [] }
@@ -90,11 +110,13 @@ fn attach_all(watches: &mut Watches, clauses: &[KeptClause]) -> Result<(), Alloc
     Ok(())
 }
 
-// Makes the literal of each clause of one literal true: gives the place of a clause that is false, if there is one.
+// Unit clauses: makes the literal of each true, and gives the place of a clause that is false, if
+// there is one.
 fn assume_units(clauses: &[KeptClause], trail: &mut Trail) -> Result<Option<usize>, AllocError>
     requires clauses { All (IsClauseOf trail.old.variables) clauses.now }
     requires empty { trail.old.literals ≡ [] }
-    ensures conflict { IfOk result (λ found. IfSome found (IsConflict clauses.now trail.new.literals)) }
+    ensures conflict { IfOk result (λ found.
+        IfSome found (IsConflict clauses.now trail.new.literals)) }
     ensures units { IfOk result (λ found. IfNone found (UnitsTrue clauses.now trail.new.literals)) }
     ensures implied { OnOk result (ImpliedFrom clauses.now trail.new 0) }
     ensures variables { OnOk result (trail.new.variables ≡ trail.old.variables) }
@@ -117,7 +139,7 @@ fn assume_units(clauses: &[KeptClause], trail: &mut Trail) -> Result<Option<usiz
     Ok(None)
 }
 
-// Which decision is the first from a place of the trail on.
+// The lowest decision level whose decision stands from a place of the trail on.
 fn first_from(decisions: &[usize], keep: usize) -> usize
     requires { AllPairs ◌<◌ decisions.now }
     ensures within { result ≤ length decisions.now }
@@ -158,21 +180,24 @@ impl State {
         }))
     }
 
-    /// The literals that are true.
+    /// The trail.
     pub fn trail(&self) -> &Trail
         ensures value { result.now ≡ self.now.trail }
         ensures small { self.now.trail.variables < 2 ^ 31 }
         ensures room { length self.now.trail.literals ≤ 2 * self.now.known.variables + 2 }
         ensures variables { self.now.trail.variables ≡ self.now.known.variables }
         ensures clauses { All (IsClauseOf self.now.known.variables) (clauses_known self.now.known) }
-        ensures rest { self.now.propagated ≡ length self.now.trail.literals → IsAtRest (clauses_known self.now.known) self.now.trail.literals }
+        ensures rest { self.now.propagated ≡ length self.now.trail.literals →
+            IsAtRest (clauses_known self.now.known) self.now.trail.literals }
     {
+        // brings that the trail is consistent and has no more literals than there are
         let _len = self.trail.len();
+        // brings that each known clause is of the variables
         let _clauses = self.known.clauses();
         &self.trail
     }
 
-    /// Whether a decision is there.
+    /// Whether there is a decision level.
     pub fn has_decided(&self) -> bool
         ensures some { IsTrue result → 0 < length self.now.decisions }
         ensures none { IsFalse result → self.now.decisions ≡ [] }
@@ -180,14 +205,19 @@ impl State {
         self.decisions.len() > 0
     }
 
-    /// Propagates until all true literals are, or a clause is false: gives its place.
+    /// Unit propagation until all literals of the trail are propagated, or a clause is false: gives
+    /// its place.
     pub fn propagate(self) -> Result<(State, Option<usize>), AllocError>
         ensures known { IfOk result (λ pair. pair.0.known ≡ self.known) }
         ensures decisions { IfOk result (λ pair. pair.0.decisions ≡ self.decisions) }
-        ensures older { IfOk result (λ pair. take (length self.trail.literals) pair.0.trail.literals ≡ self.trail.literals) }
-        ensures longer { IfOk result (λ pair. length self.trail.literals ≤ length pair.0.trail.literals) }
-        ensures rest { IfOk result (λ pair. IfNone pair.1 (pair.0.propagated ≡ length pair.0.trail.literals)) }
-        ensures conflict { IfOk result (λ pair. IfSome pair.1 (IsConflict (clauses_known self.known) pair.0.trail.literals)) }
+        ensures older { IfOk result (λ pair.
+            take (length self.trail.literals) pair.0.trail.literals ≡ self.trail.literals) }
+        ensures longer { IfOk result (λ pair.
+            length self.trail.literals ≤ length pair.0.trail.literals) }
+        ensures rest { IfOk result (λ pair.
+            IfNone pair.1 (pair.0.propagated ≡ length pair.0.trail.literals)) }
+        ensures conflict { IfOk result (λ pair.
+            IfSome pair.1 (IsConflict (clauses_known self.known) pair.0.trail.literals)) }
     {
         let State {
             known,
@@ -212,14 +242,16 @@ impl State {
         Ok((state, conflict))
     }
 
-    /// Makes an open literal true by a decision.
+    /// Decision: makes an open literal true, at a new decision level.
     pub fn decide(self, literal: &Literal) -> Result<State, AllocError>
         requires of { IsOf self.trail.variables literal.now }
         requires new { IsOpen self.trail.literals literal.now }
         requires propagated { self.propagated ≡ length self.trail.literals }
         ensures known { IfOk result (λ state. state.known ≡ self.known) }
-        ensures literals { IfOk result (λ state. state.trail.literals ≡ self.trail.literals ++ literal.now ∷ []) }
-        ensures decisions { IfOk result (λ state. state.decisions ≡ self.decisions ++ length self.trail.literals ∷ []) }
+        ensures literals { IfOk result (λ state. state.trail.literals ≡ self.trail.literals ++
+            literal.now ∷ []) }
+        ensures decisions { IfOk result (λ state. state.decisions ≡ self.decisions ++
+            length self.trail.literals ∷ []) }
     {
         let State {
             known,
@@ -239,14 +271,16 @@ impl State {
         })
     }
 
-    /// Takes the decisions from a place of the trail on back, and what follows from them.
-    pub fn go_back(self, order: &mut Order, keep: usize) -> State
+    /// Backjump: takes the decision levels back whose decisions stand from a place of the trail on.
+    pub fn backjump(self, order: &mut Order, keep: usize) -> State
         requires { keep ≤ length self.trail.literals }
         ensures known { result.known ≡ self.known }
         ensures trail_variables { result.trail.variables ≡ self.trail.variables }
-        ensures older { result.trail.literals ≡ take (length result.trail.literals) self.trail.literals }
+        ensures older { result.trail.literals ≡
+            take (length result.trail.literals) self.trail.literals }
         ensures keeps { keep ≤ length result.trail.literals }
-        ensures goes { All (λ decision. keep ≤ decision → length result.trail.literals ≤ decision) self.decisions }
+        ensures goes { All (λ decision. keep ≤ decision →
+            length result.trail.literals ≤ decision) self.decisions }
         ensures decisions { All (λ decision. decision < keep) result.decisions }
     {
         let first = first_from(&self.decisions, keep);
@@ -262,7 +296,7 @@ impl State {
         } = self;
         let back = decisions[first];
         decisions.truncate(first);
-        order.take_back(&trail, back);
+        order.release(&trail, back);
         trail.truncate(back);
         State {
             known,
@@ -273,15 +307,17 @@ impl State {
         }
     }
 
-    // Takes up a new clause, and makes the literal true that is left of it.
-    fn take_up(self, alloc: Global, lesson: Lesson) -> Result<State, AllocError>
-        requires derived { IsDerived (clauses_known self.known) (plain_step lesson.step) }
-        requires new { IsNew (clauses_known self.known) lesson.step.clause }
-        requires of { IsClauseOf self.known.variables lesson.step.clause }
-        requires asserting { IsAsserting self.trail.literals (length self.trail.literals) lesson.step.clause lesson.first lesson.other lesson.keep }
-        requires decisions { All (λ decision. decision < lesson.keep) self.decisions }
+    // Takes up a conflict clause, and makes its asserting literal true by it.
+    fn take_up(self, alloc: Global, learned: ConflictClause) -> Result<State, AllocError>
+        requires derived { IsDerived (clauses_known self.known) (plain_step learned.step) }
+        requires new { IsNew (clauses_known self.known) learned.step.clause }
+        requires of { IsClauseOf self.known.variables learned.step.clause }
+        requires asserting { IsAsserting self.trail.literals (length self.trail.literals)
+            learned.step.clause learned.asserting learned.other learned.keep }
+        requires decisions { All (λ decision. decision < learned.keep) self.decisions }
         ensures given { IfOk result (λ state. state.known.given ≡ self.known.given) }
-        ensures steps { IfOk result (λ state. length state.known.steps ≡ length self.known.steps + 1) }
+        ensures steps { IfOk result (λ state. length state.known.steps ≡
+            length self.known.steps + 1) }
         ensures variables { IfOk result (λ state. state.known.variables ≡ self.known.variables) }
     {
         let State {
@@ -291,15 +327,15 @@ impl State {
             mut watches,
             propagated,
         } = self;
-        let Lesson {
+        let ConflictClause {
             step,
-            first,
+            asserting,
             other,
             ..
-        } = lesson;
-        watches.attach(pair_of(first, other))?;
+        } = learned;
+        watches.attach(pair_of(asserting, other))?;
         let known = known.learn(alloc, step)?;
-        trail.push(&first, known.clauses().len() as u64)?;
+        trail.push(&asserting, known.clauses().len() as u64)?;
         Ok(State {
             known,
             trail,
@@ -309,7 +345,8 @@ impl State {
         })
     }
 
-    /// Learns from a false clause, and goes back to where what it learned makes a literal true.
+    /// Learns a conflict clause from a false clause, and backjumps to where it makes its asserting
+    /// literal true.
     pub fn learn(
         self,
         alloc: Global,
@@ -321,12 +358,13 @@ impl State {
         requires conflict { IsConflict (clauses_known self.known) self.trail.literals conflict }
         requires variables { seen.old.variables ≡ self.known.variables }
         ensures given { IfOk result (λ state. state.known.given ≡ self.known.given) }
-        ensures steps { IfOk result (λ state. length state.known.steps ≡ length self.known.steps + 1) }
+        ensures steps { IfOk result (λ state. length state.known.steps ≡
+            length self.known.steps + 1) }
         ensures variables { IfOk result (λ state. state.known.variables ≡ self.known.variables) }
         ensures seen { OnOk result (seen.new.variables ≡ seen.old.variables) }
     {
         let mark = self.decisions[self.decisions.len() - 1];
-        let lesson = learn(
+        let learned = learn(
             alloc,
             self.known.clauses(),
             &self.trail,
@@ -334,8 +372,8 @@ impl State {
             conflict,
             mark,
         )?;
-        order.note(seen);
-        self.go_back(order, lesson.keep).take_up(alloc, lesson)
+        order.bump(seen);
+        self.backjump(order, learned.keep).take_up(alloc, learned)
     }
 
     /// The log that refutes the clauses, where one is false and nothing was decided.
@@ -356,19 +394,20 @@ impl State {
         known.finish_with(step)
     }
 
-    /// The trail.
+    /// The trail alone.
     pub fn into_trail(self) -> Trail
         ensures { result ≡ self.trail }
     {
         self.trail
     }
 
-    /// The log of all that was learned, where all clauses are at rest.
+    /// The log of all conflict clauses, where all clauses are at rest.
     pub fn finish(self) -> Log
         requires { self.propagated ≡ length self.trail.literals }
         ensures { IsSpent self.known result }
     {
         let State { known, trail, .. } = self;
+        // brings that the trail is consistent
         let _len = trail.len();
         known.finish()
     }

@@ -1,5 +1,7 @@
-// The literals that are true, in the order in which they became so, each with its reason.
-ghost use Rattle.std.specs.Prelude.{◌≡◌, ◌+◌, ◌-◌, ◌*◌, ◌<◌, ◌≤◌, ◌^◌, ℤ, pos, List, [], ◌∷◌, ◌++◌, length, take, IsTrue, IfOk, OnOk, slice_index_or, slice_set};
+// The trail: the literals that are true, in the order in which they became so, each with its
+// reason.
+ghost use Rattle.std.specs.Prelude.{◌≡◌, ◌+◌, ◌-◌, ◌*◌, ◌<◌, ◌≤◌, ◌^◌, ℤ, pos, List, [], ◌∷◌, ◌++◌};
+ghost use Rattle.std.specs.Prelude.{length, take, IsTrue, IfOk, OnOk, slice_index_or, slice_set};
 ghost use Rattle.std.specs.Bool.{IsFalse};
 ghost use Rattle.sv_clause.specs.Literals.{stands};
 ghost use Rattle.sv_clause.specs.Units.{IsOpen};
@@ -12,7 +14,8 @@ use crate::literal::Literal;
 use std::alloc::{AllocError, Global};
 use std::marker::Model;
 
-/// The true literals in order. A literal that a clause made true has that clause's number, from 1, beside it.
+/// Trail: the true literals in order. A literal that a clause made true has that clause's number,
+/// from 1, beside it as its reason.
 #[derive(Drop)]
 pub struct Trail {
     assigned: LiteralList,
@@ -24,7 +27,11 @@ impl Model for Trail {
 
     ghost Value = { Assigned };
 
-    ghost view = { λ t. record { literals = t.assigned.literals; reasons = t.reasons.items; variables = t.assigned.variables } };
+    ghost view = { λ t. record {
+      literals = t.assigned.literals;
+      reasons = t.reasons.items;
+      variables = t.assigned.variables;
+    } };
 
     ghost invariant = { λ t. IsTrail t.assigned.literals t.reasons.items t.assigned.variables };
 }
@@ -47,7 +54,8 @@ impl Trail {
         ensures room { length self.now.literals ≤ 2 * self.now.variables + 2 }
         ensures each_open { EachOpen self.now.literals }
         ensures consistent { IsConsistent self.now.literals }
-        ensures of { (literal : ℤ) → IsTrue (stands literal self.now.literals) → IsOf self.now.variables literal }
+        ensures of { (literal : ℤ) → IsTrue (stands literal self.now.literals) →
+            IsOf self.now.variables literal }
     {
         self.assigned.len()
     }
@@ -61,11 +69,12 @@ impl Trail {
         self.assigned.at(place)
     }
 
-    /// The number of the clause that made the literal at a place true.
+    /// Reason: the number of the clause that made the literal at a place true. A decision has 0.
     pub fn reason(&self, place: usize) -> u64
         requires { place < length self.now.literals }
         ensures { result ≡ slice_index_or self.now.reasons place 0 }
     {
+        // brings that there are no more literals than room for reasons
         let _room = self.assigned.len();
         self.reasons[place]
     }
@@ -109,12 +118,14 @@ impl Trail {
         requires of { IsOf self.old.variables literal.now }
         requires new { IsOpen self.old.literals literal.now }
         ensures literals { OnOk result (self.new.literals ≡ self.old.literals ++ literal.now ∷ []) }
-        ensures reasons { OnOk result (self.new.reasons ≡ slice_set self.old.reasons (length self.old.literals) reason) }
+        ensures reasons { OnOk result (self.new.reasons ≡
+            slice_set self.old.reasons (length self.old.literals) reason) }
         ensures variables { self.new.variables ≡ self.old.variables }
         ensures room { OnOk result (length self.old.literals < length self.new.reasons) }
     {
         let place = self.assigned.len();
         self.assigned.push(literal)?;
+        // brings that there are still no more literals than room for reasons
         let _room = self.assigned.len();
         self.reasons[place] = reason;
         Ok(())

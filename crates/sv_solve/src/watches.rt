@@ -1,12 +1,17 @@
-// Watched literals: two of each clause, and for each literal the clauses to look at once it is false.
-ghost use Rattle.std.specs.Prelude.{◌≡◌, ◌≢◌, ℕ, ◌+◌, ◌<◌, ◌≤◌, ◌^◌, [], ◌∷◌, ◌++◌, length, take, All, IsTrue, IfOk, OnOk, IfSome, IfNone, Some, slice_index, slice_index_or, slice_set, neg_ℤ};
+// Watched literals: two of each clause, and for each literal the clauses to look at once it is
+// false.
+ghost use Rattle.std.specs.Prelude.{◌≡◌, ◌≢◌, ℕ, ◌+◌, ◌<◌, ◌≤◌, ◌^◌, [], ◌∷◌, ◌++◌, length, take};
+ghost use Rattle.std.specs.Prelude.{All, IsTrue, IfOk, OnOk, IfSome, IfNone, Some, slice_index};
+ghost use Rattle.std.specs.Prelude.{slice_index_or, slice_set, neg_ℤ};
 ghost use Rattle.std.specs.Bool.{IsFalse};
 ghost use Rattle.std.specs.List.{swap_remove};
 ghost use Rattle.sv_clause.specs.Literals.{stands};
 ghost use Rattle.sv_solve.specs.Search.{IsClauseOf, ImpliedFrom, OthersFalse, IsConsistent};
 ghost use Rattle.sv_solve.specs.Conflicts.{IsConflict};
 ghost use Rattle.sv_solve.specs.Codes.{IsOf};
-ghost use Rattle.sv_solve.specs.Watching.{IsListed, IsFitting, IsPairWithin, AllHeld, IsSettledAt, HasInPair, ArePair, watching_list, pair_at, Proceeds, IsDemand};
+ghost use Rattle.sv_solve.specs.Watching.{IsListed, IsFitting, IsPairWithin, AllHeld, IsSettledAt};
+ghost use Rattle.sv_solve.specs.Watching.{HasInPair, ArePair, watching_list, pair_at, Proceeds};
+ghost use Rattle.sv_solve.specs.Watching.{IsDemand};
 
 use crate::kept::KeptClause;
 use crate::literal::Literal;
@@ -14,7 +19,7 @@ use crate::trail::Trail;
 use std::alloc::{AllocError, Global};
 use std::marker::Model;
 
-/// The two watched literals of a clause.
+/// Watched literals: the two of a clause.
 #[derive(Clone, Copy, Debug)]
 pub struct Pair {
     /// One of them.
@@ -37,7 +42,7 @@ impl Pair {
     }
 }
 
-/// The places of the clauses that watch one literal.
+// The places of the clauses that watch one literal.
 #[derive(Drop)]
 struct WatchList {
     places: Vec<usize>,
@@ -88,7 +93,8 @@ impl WatchList {
     }
 }
 
-/// For each clause of two or more literals the two that it watches, and for each literal the clauses that watch it.
+/// Watched literals of all clauses: for each clause of two or more literals the two that it
+/// watches, and for each literal the clauses that watch it.
 #[derive(Drop)]
 pub struct Watches {
     pairs: Vec<Option<Pair>>,
@@ -101,7 +107,11 @@ impl Model for Watches {
 
     ghost Value = { Watching };
 
-    ghost view = { λ w. record { pairs = w.pairs.items; lists = w.lists.items; variables = w.variables } };
+    ghost view = { λ w. record {
+      pairs = w.pairs.items;
+      lists = w.lists.items;
+      variables = w.variables;
+    } };
 }
 
 // A literal of the clause other than the kept one that is not false, if there is one.
@@ -109,7 +119,8 @@ fn next_watch(clause: &[Literal], trail: &Trail, kept: &Literal) -> Option<Liter
     requires { IsClauseOf trail.now.variables clause.now }
     ensures member { IfSome result (λ literal. IsTrue (stands literal clause.now)) }
     ensures another { IfSome result (λ literal. literal ≢ kept.now) }
-    ensures not_false { IfSome result (λ literal. IsFalse (stands (neg_ℤ literal) trail.now.literals)) }
+    ensures not_false { IfSome result (λ literal.
+        IsFalse (stands (neg_ℤ literal) trail.now.literals)) }
     ensures none { IfNone result (OthersFalse trail.now.literals clause.now kept.now) }
 {
     let mut place = 0;
@@ -198,9 +209,14 @@ impl Watches {
         requires falsified { IsOf self.old.variables falsified.now }
         requires index { index < length (watching_list self.old falsified.now) }
         requires one { (pair.one ≢ falsified.now) × IsOf self.old.variables pair.one }
-        requires other { IfSome (pair_at self.old.pairs (slice_index (watching_list self.old falsified.now) index)) (λ old. ArePair old falsified.now pair.other) }
-        ensures pairs { OnOk result (self.new.pairs ≡ slice_set self.old.pairs (slice_index (watching_list self.old falsified.now) index) (Some pair)) }
-        ensures list { OnOk result (watching_list self.new falsified.now ≡ swap_remove (watching_list self.old falsified.now) index 0) }
+        requires other { IfSome (pair_at self.old.pairs
+            (slice_index (watching_list self.old falsified.now) index)) (λ old.
+            ArePair old falsified.now pair.other) }
+        ensures pairs { OnOk result (self.new.pairs ≡
+            slice_set self.old.pairs (slice_index (watching_list self.old falsified.now) index)
+            (Some pair)) }
+        ensures list { OnOk result (watching_list self.new falsified.now ≡
+            swap_remove (watching_list self.old falsified.now) index 0) }
         ensures listed { OnOk result (IsListed self.new) }
         ensures variables { OnOk result (self.new.variables ≡ self.old.variables) }
     {
@@ -212,7 +228,8 @@ impl Watches {
         Ok(())
     }
 
-    // Looks at the clauses in the list of a literal that became false: gives the place of a false one, if it meets one.
+    // Looks at the clauses in the list of a literal that became false: gives the place of a false
+    // one, if it meets one.
     fn visit(
         &mut self,
         clauses: &[KeptClause],
@@ -226,9 +243,12 @@ impl Watches {
         requires of { IsOf self.old.variables falsified.now }
         requires falsified { IsTrue (stands (neg_ℤ falsified.now) trail.old.literals) }
         requires consistent { IsConsistent trail.old.literals }
-        ensures proceeds { OnOk result (Proceeds clauses.now self.old trail.old self.new trail.new) }
-        ensures visited { IfOk result (λ found. IfNone found (AllHeld self.new.pairs (neg_ℤ falsified.now ∷ []) trail.new.literals)) }
-        ensures conflict { IfOk result (λ found. IfSome found (IsConflict clauses.now trail.new.literals)) }
+        ensures proceeds { OnOk result
+            (Proceeds clauses.now self.old trail.old self.new trail.new) }
+        ensures visited { IfOk result (λ found.
+            IfNone found (AllHeld self.new.pairs (neg_ℤ falsified.now ∷ []) trail.new.literals)) }
+        ensures conflict { IfOk result (λ found.
+            IfSome found (IsConflict clauses.now trail.new.literals)) }
     {
         let code = falsified.index();
         let mut index = 0;
@@ -259,8 +279,9 @@ impl Watches {
         Ok(None)
     }
 
-    /// Looks at the clauses that watch a negation of the trail's literals from a place on, and makes true what they make true: gives
-    /// the place of a false clause, if it meets one.
+    /// Unit propagation: looks at the clauses that watch a negation of the trail's literals from a
+    /// place on, and makes true what they imply. Gives the place of a false clause, if it meets
+    /// one.
     pub fn propagate(
         &mut self,
         clauses: &[KeptClause],
@@ -276,14 +297,22 @@ impl Watches {
         ensures fitting { OnOk result (IsFitting clauses.now self.new.pairs) }
         ensures listed { OnOk result (IsListed self.new) }
         ensures variables { OnOk result (self.new.variables ≡ self.old.variables) }
-        ensures held { OnOk result (AllHeld self.new.pairs (take from trail.new.literals) trail.new.literals) }
-        ensures settled { OnOk result ((place : ℕ) → place ≤ from → IsSettledAt self.old.pairs trail.old.literals place → IsSettledAt self.new.pairs trail.new.literals place) }
-        ensures rest { IfOk result (λ found. IfNone found (AllHeld self.new.pairs trail.new.literals trail.new.literals)) }
-        ensures conflict { IfOk result (λ found. IfSome found (IsConflict clauses.now trail.new.literals)) }
-        ensures older { OnOk result (take (length trail.old.literals) trail.new.literals ≡ trail.old.literals) }
+        ensures held { OnOk result (AllHeld self.new.pairs (take from trail.new.literals)
+            trail.new.literals) }
+        ensures settled { OnOk result ((place : ℕ) → place ≤ from →
+            IsSettledAt self.old.pairs trail.old.literals place →
+            IsSettledAt self.new.pairs trail.new.literals place) }
+        ensures rest { IfOk result (λ found.
+            IfNone found (AllHeld self.new.pairs trail.new.literals trail.new.literals)) }
+        ensures conflict { IfOk result (λ found.
+            IfSome found (IsConflict clauses.now trail.new.literals)) }
+        ensures older { OnOk result (take (length trail.old.literals) trail.new.literals ≡
+            trail.old.literals) }
         ensures longer { OnOk result (length trail.old.literals ≤ length trail.new.literals) }
-        ensures reasons { OnOk result ((place : ℕ) → place < length trail.old.literals → slice_index_or trail.new.reasons place 0 ≡ slice_index_or trail.old.reasons place 0) }
-        ensures implied { OnOk result (ImpliedFrom clauses.now trail.new (length trail.old.literals)) }
+        ensures reasons { OnOk result ((place : ℕ) → place < length trail.old.literals →
+            slice_index_or trail.new.reasons place 0 ≡ slice_index_or trail.old.reasons place 0) }
+        ensures implied { OnOk result (ImpliedFrom clauses.now trail.new
+            (length trail.old.literals)) }
         ensures trail_variables { OnOk result (trail.new.variables ≡ trail.old.variables) }
     {
         let mut head = from;

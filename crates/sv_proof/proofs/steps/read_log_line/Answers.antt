@@ -23,4 +23,4 @@ returns-clause-none c =
     λ none n small e.
     let fits : c.args.number < 2 ^ 64 = search rules in
     let parts = log_parts c.args.line.now c.in_ok-rest.rest.now c.in_ok-word.word.now c.in_ok-word.rest.now c.args.number n fits c.in_ok-rest.ensures.some c.in_ok-word.ensures.some.0 c.in_ok-word.ensures.some.1 e in
-    c.read_count.ensures.none none n small parts.1
+    c.read_below.ensures.none none n small parts.1

@@ -4,24 +4,24 @@ use Rattle.sv_clause.specs.Logs.{ChainGives}
 use Rattle.sv_clause.specs.Units.{IsOpen}
 use Rattle.sv_clause.proofs.Merging.{neg-neg}
 use Rattle.sv_solve.specs.Codes.{IsOf}
-use Rattle.sv_solve.specs.Lessons.{IsDraft}
+use Rattle.sv_solve.specs.ConflictClauses.{IsDraft}
 use Rattle.sv_solve.specs.Search.{AllFalse, Derives}
 use Rattle.sv_solve.proofs.Asserting.{asserting}
 use Rattle.sv_solve.proofs.Clauses.{numbered_at, of_neg}
-use Rattle.sv_solve.proofs.Deriving.{derive_start, derive_first, later_start, lesson_new, chain_like}
+use Rattle.sv_solve.proofs.Deriving.{derive_start, derive_first, later_start, learned_new, chain_like}
 use Rattle.sv_solve.proofs.Drafts.{draft_like, draft_late, draft_others}
-use Rattle.sv_solve.proofs.Lessons.{lesson_makes, lesson_clause_of}
+use Rattle.sv_solve.proofs.Learned.{learned_makes, learned_clause_of}
 use Rattle.sv_solve.proofs.Places.{stands_is, not_stands_take_le}
 use Rattle.sv_solve.proofs.analysis.learn.Goals as goal
 use Rattle.sv_solve.proofs.analysis.learn.Goals.{After-negated-first, In_ok-draft, In_ok-clause}
 
-pub resolve_to_one-requires-clause-derives : goal.resolve_to_one-requires-clause-derives
-resolve_to_one-requires-clause-derives c =
+pub resolve_to_first_uip-requires-clause-derives : goal.resolve_to_first_uip-requires-clause-derives
+resolve_to_first_uip-requires-clause-derives c =
     derive_start c.args.clauses.now c.args.trail.now.literals c.begin.new.chain.items (c.args.conflict + 1) (get_or c.args.clauses.now c.args.conflict []) c.begin.new.seen.literals
     c.in_ok-begin.ensures.chain (numbered_at c.args.clauses.now c.args.conflict c.requires.conflict) c.requires.all_false c.in_ok-begin.ensures.seen
 
-pub resolve_to_one-requires-clause-later : goal.resolve_to_one-requires-clause-later
-resolve_to_one-requires-clause-later c =
+pub resolve_to_first_uip-requires-clause-later : goal.resolve_to_first_uip-requires-clause-later
+resolve_to_first_uip-requires-clause-later c =
     later_start c.args.clauses.now c.args.trail.now.literals c.begin.new.seen.literals (get_or c.args.clauses.now c.args.conflict []) c.args.mark (c.args.conflict + 1)
     c.len-len.ensures.consistent c.requires.rest (numbered_at c.args.clauses.now c.args.conflict c.requires.conflict) c.requires.all_false c.in_ok-begin.ensures.seen
 
@@ -44,21 +44,21 @@ open_first c =
       not_stands_take_le (neg_ℤ c.negated-first.result) trail c.args.mark place c.in_ok-place.ensures.from (ap (λ z. stands z (take place trail)) (back c) ∙ o.0),
     )
 
-pub shorten-requires-clause-mark : goal.shorten-requires-clause-mark
-shorten-requires-clause-mark c = omega (arith, c.in_ok-place.ensures.from, c.in_ok-place.ensures.to)
+pub minimize-requires-clause-mark : goal.minimize-requires-clause-mark
+minimize-requires-clause-mark c = omega (arith, c.in_ok-place.ensures.from, c.in_ok-place.ensures.to)
 
-pub shorten-requires-clause-first : goal.shorten-requires-clause-first
-shorten-requires-clause-first c = first_false (goal.at.shorten-requires-clause-first c).After-negated-first
+pub minimize-requires-clause-first : goal.minimize-requires-clause-first
+minimize-requires-clause-first c = first_false (goal.at.minimize-requires-clause-first c).After-negated-first
 
-pub shorten-requires-clause-open_first : goal.shorten-requires-clause-open_first
-shorten-requires-clause-open_first c = open_first (goal.at.shorten-requires-clause-open_first c).After-negated-first
+pub minimize-requires-clause-open_first : goal.minimize-requires-clause-open_first
+minimize-requires-clause-open_first c = open_first (goal.at.minimize-requires-clause-open_first c).After-negated-first
 
-pub shorten-requires-clause-derives : goal.shorten-requires-clause-derives
-shorten-requires-clause-derives c =
+pub minimize-requires-clause-derives : goal.minimize-requires-clause-derives
+minimize-requires-clause-derives c =
     let trail = c.args.trail.now.literals in
-    let seen = c.resolve_to_one.new.seen.literals in
-    subst (λ z. Derives c.args.clauses.now c.resolve_to_one.new.chain.items (z ∷ []) seen trail c.args.mark) (sym (first_is (goal.at.shorten-requires-clause-derives c).After-negated-first))
-    (derive_first c.args.clauses.now trail c.resolve_to_one.new.chain.items seen c.args.mark c.in_ok-place.place c.in_ok-place.ensures.from c.in_ok-place.ensures.to c.in_ok-place.ensures.here c.in_ok-place.ensures.none c.in_ok-place.ensures.derives)
+    let seen = c.resolve_to_first_uip.new.seen.literals in
+    subst (λ z. Derives c.args.clauses.now c.resolve_to_first_uip.new.chain.items (z ∷ []) seen trail c.args.mark) (sym (first_is (goal.at.minimize-requires-clause-derives c).After-negated-first))
+    (derive_first c.args.clauses.now trail c.resolve_to_first_uip.new.chain.items seen c.args.mark c.in_ok-place.place c.in_ok-place.ensures.from c.in_ok-place.ensures.to c.in_ok-place.ensures.here c.in_ok-place.ensures.none c.in_ok-place.ensures.derives)
 
 all_false : (c : In_ok-draft) → stands (neg_ℤ c.negated-first.result) c.args.trail.now.literals ≡ true → IsOpen (take c.args.mark c.args.trail.now.literals) c.negated-first.result
     → AllFalse c.args.trail.now.literals c.in_ok-draft.draft.literals.items
@@ -69,7 +69,7 @@ all_false c wrong free l e =
 pub clause_of-requires : goal.clause_of-requires
 clause_of-requires c =
     let a = (goal.at.clause_of-requires c).After-negated-first in
-    λ none. lesson_makes c.args.trail.now.variables c.in_ok-draft.draft.literals.items c.args.trail.now.literals c.requires.small c.len-len.ensures.consistent c.len-len.ensures.of
+    λ none. learned_makes c.args.trail.now.variables c.in_ok-draft.draft.literals.items c.args.trail.now.literals c.requires.small c.len-len.ensures.consistent c.len-len.ensures.of
     (all_false (goal.at.clause_of-requires c).In_ok-draft (first_false a) (open_first a)) (subst MakeNoClause c.deref.ensures.value none)
 
 same : (c : In_ok-clause) → SameLiterals c.in_ok-clause.clause c.in_ok-draft.draft.literals.items
@@ -84,21 +84,21 @@ pub returns-clause-derived : goal.returns-clause-derived
 returns-clause-derived c =
     let s = same (goal.at.returns-clause-derived c).In_ok-clause in
     subst (λ chain. ChainGives c.args.clauses.now chain c.in_ok-clause.clause) (sym c.shrink_to_fit.ensures.items)
-    (chain_like c.args.clauses.now c.shorten.new.chain.items c.in_ok-draft.draft.literals.items c.in_ok-clause.clause (λ l. sym (s l)) c.in_ok-draft.ensures.derives)
+    (chain_like c.args.clauses.now c.minimize.new.chain.items c.in_ok-draft.draft.literals.items c.in_ok-clause.clause (λ l. sym (s l)) c.in_ok-draft.ensures.derives)
 
 pub returns-clause-new : goal.returns-clause-new
 returns-clause-new c =
     let trail = c.args.trail.now.literals in
     let d = drafted (goal.at.returns-clause-new c).In_ok-clause in
     let size : c.args.mark ≤ length trail = omega (arith, c.in_ok-place.ensures.from, c.in_ok-place.ensures.to) in
-    lesson_new c.args.clauses.now trail c.in_ok-clause.clause c.negated-first.result c.args.mark c.requires.rest d.member (open_first (goal.at.returns-clause-new c).After-negated-first)
+    learned_new c.args.clauses.now trail c.in_ok-clause.clause c.negated-first.result c.args.mark c.requires.rest d.member (open_first (goal.at.returns-clause-new c).After-negated-first)
     (draft_others trail c.negated-first.result c.args.mark c.in_ok-clause.clause 0 c.in_ok-draft.draft.keep c.args.mark size d.early (omega arith) d)
 
 pub returns-clause-of : goal.returns-clause-of
 returns-clause-of c =
     let s = same (goal.at.returns-clause-of c).In_ok-clause in
     let a = (goal.at.returns-clause-of c).After-negated-first in
-    lesson_clause_of c.args.trail.now.variables c.in_ok-clause.clause c.in_ok-draft.draft.literals.items c.args.trail.now.literals c.in_ok-clause.ensures.normal s c.len-len.ensures.of
+    learned_clause_of c.args.trail.now.variables c.in_ok-clause.clause c.in_ok-draft.draft.literals.items c.args.trail.now.literals c.in_ok-clause.ensures.normal s c.len-len.ensures.of
     (all_false (goal.at.returns-clause-of c).In_ok-draft (first_false a) (open_first a))
 
 pub returns-clause-first : goal.returns-clause-first

@@ -1,0 +1,175 @@
+#!/bin/sh
+# Runs the gate from nothing on a clone of the last commit, and prints what it cost: a crate a line, the processor minutes of
+# its proof, of its tests' proof, of its wrong bodies and of its programs, and its lines of code; then the sum, and the longest
+# chain of crates, each of which waits for the one before it. With names of crates it does so for these and those below them.
+#
+# `rt ci` prints no times, so the processor time of each process below it is read twice a second. What a process spends after
+# the last reading is in the sum's `other`, which is the whole processor time less what was read.
+#
+# gate.sh --slow NAME.. prints the ten functions of each crate that cost most instead. `rt ci` names no function, so this is
+# `rt check` with one job, and a function's cost is the processor time between the line of the one before it and its own, with the
+# lemmas that are checked on the way. `rt check` begins with what this machine kept of the same crate, and the first line says how
+# many functions were checked anew: all of them where nothing was kept.
+set -eu
+top=$(CDPATH='' cd -- "$(dirname -- "$0")/.." && pwd -P)
+work=$(mktemp -d)
+trap 'rm -rf "$work"' EXIT
+git clone -q "$top" "$work/copy"
+cd "$work/copy"
+python3 - "$work" "$@" <<'PY'
+import collections, os, re, resource, subprocess, sys, time
+
+work, names = sys.argv[1], sys.argv[2:]
+TICK = os.sysconf("SC_CLK_TCK")
+PARTS = ("proof", "tests", "edits", "programs")
+
+
+def crates():
+    """The crates of crates.txt with those that each stands on."""
+    found = {}
+    with open("crates.txt", encoding="utf-8") as file:
+        for line in file:
+            words = line.split("#")[0].replace(":", " : ").split()
+            if ":" in words:
+                found[words[0]] = words[words.index(":") + 1:]
+    return {name: [dep for dep in deps if dep in found] for name, deps in found.items()}
+
+
+def lines_of(name):
+    """The lines of its src that are not empty, tests and contracts among them."""
+    count = 0
+    for at, _, files in os.walk(f"crates/{name}/src"):
+        for file in files:
+            with open(os.path.join(at, file), "rb") as text:
+                count += sum(1 for line in text if line.strip())
+    return count
+
+
+def processes():
+    """Each process: its parent, its processor seconds, when it started, and the seconds of its children that have ended."""
+    found = {}
+    for entry in os.listdir("/proc"):
+        if entry.isdigit():
+            try:
+                with open(f"/proc/{entry}/stat", encoding="utf-8", errors="replace") as file:
+                    fields = file.read().rpartition(")")[2].split()
+            except OSError:
+                continue
+            own, ended = int(fields[11]) + int(fields[12]), int(fields[13]) + int(fields[14])
+            found[int(entry)] = int(fields[1]), own / TICK, fields[19], ended / TICK
+    return found
+
+
+def spent_below(root):
+    """The processor seconds of a process and of all below it, those that have ended among them."""
+    seen = processes()
+    return sum(seen[pid][1] + seen[pid][3] for pid in [root, *below(seen, root)] if pid in seen)
+
+
+def below(all_of_them, root):
+    """The processes below one."""
+    children = collections.defaultdict(list)
+    for pid, (parent, *_) in all_of_them.items():
+        children[parent].append(pid)
+    found, left = [], [root]
+    while left:
+        for pid in children[left.pop()]:
+            found.append(pid)
+            left.append(pid)
+    return found
+
+
+def part_of(pid):
+    """The crate and the part of the gate that a process works at, if it can be told."""
+    try:
+        place = os.readlink(f"/proc/{pid}/cwd")
+        with open(f"/proc/{pid}/cmdline", encoding="utf-8", errors="replace") as file:
+            words = file.read().split("\0")
+    except OSError:
+        return None
+    if "--crate-name" not in words:
+        # a linker or a compiler works in the crate's folder, and a program or its tests are named by their path
+        ran = re.search(r"/crates/([a-z0-9_]+)(?:/|$)", place) or re.search(r"/rt-run-[^/]*/bin/([a-z0-9_]+?)(?:_tests)?(?: |$)", " ".join(words))
+        return (ran.group(1), "programs") if ran else None
+    name = words[words.index("--crate-name") + 1]
+    if "/rt-edit" in place:
+        return name, "edits"
+    if "--crate-checked" in words:
+        return name, "programs"
+    return name, "tests" if "--test" in words else "proof"
+
+
+def gate():
+    log = open(f"{work}/log", "w+", encoding="utf-8", errors="replace")
+    child = subprocess.Popen(["rt", "ci", *names, "--anew"], stdout=log, stderr=subprocess.STDOUT, stdin=subprocess.DEVNULL)
+    start, seconds, knows = time.time(), {}, {}
+    while child.poll() is None:
+        seen = processes()
+        for pid in below(seen, child.pid):
+            key = pid, seen[pid][2]
+            knows[key] = part_of(pid) or knows.get(key)
+            seconds[key] = seen[pid][1]
+        time.sleep(0.5)
+    used = resource.getrusage(resource.RUSAGE_CHILDREN)
+    log.seek(0)
+    said = log.read()
+    told = collections.Counter()
+    for key, spent in seconds.items():
+        if knows[key]:
+            told[knows[key]] += spent
+    table(told, used.ru_utime + used.ru_stime, time.time() - start)
+    last = said.rstrip("\n").rpartition("\n")[2]
+    print(last)
+    if child.returncode:
+        print(said[-4000:])
+    return child.returncode
+
+
+def table(told, whole, passed):
+    every = {name: deps for name, deps in crates().items() if any(told[name, part] for part in PARTS)}
+    every = {name: [dep for dep in deps if dep in every] for name, deps in every.items()}
+    row = "{:<20}" + "{:>10}" * (len(PARTS) + 1) + "{:>8}"
+    print(row.format("processor minutes", *PARTS, "all", "lines"))
+    for name in every:
+        spent = [told[name, part] / 60 for part in PARTS]
+        print(row.format(name, *(f"{it:.1f}" for it in spent), f"{sum(spent):.1f}", lines_of(name)))
+    sums = [sum(told[name, part] for name in every) / 60 for part in PARTS]
+    print(row.format("sum", *(f"{it:.1f}" for it in sums), f"{sum(sums):.1f}", sum(lines_of(name) for name in every)))
+    print(f"other {whole / 60 - sum(sums):.1f}, in all {whole / 60:.1f} processor minutes in {passed / 60:.1f} minutes on {os.cpu_count()} processors")
+    # a crate waits for the proofs of those below it, and its own proof and tests run side by side
+    longest = {}
+    for name in sorted(every, key=lambda it: len(reach(every, it))):
+        before = max((longest[dep] for dep in every[name]), default=(0, []))
+        longest[name] = before[0] + told[name, "proof"] / 60, before[1] + [name]
+    minutes, chain = max(longest.values(), default=(0, []))
+    print(f"longest chain {minutes:.1f} processor minutes of proofs: {' '.join(chain)}")
+
+
+def reach(every, name):
+    found = {name}
+    for dep in every[name]:
+        found |= reach(every, dep)
+    return found
+
+
+def slow():
+    for name in names[1:]:
+        child = subprocess.Popen(["rt", "check", "--jobs", "1"], cwd=f"crates/{name}", stdout=subprocess.PIPE, stderr=subprocess.STDOUT,
+                                 stdin=subprocess.DEVNULL, text=True, errors="replace")
+        last, costs, ends = 0.0, [], ""
+        for line in child.stdout:
+            ends, now = line.rstrip("\n"), spent_below(child.pid)
+            checked = re.match(r"checked (\S+), \d+ of \d+", line)
+            if checked:
+                costs.append((now - last, checked.group(1)))
+            last = now
+        print(f"{name}: {len(costs)} functions checked anew; {ends}")
+        for seconds, function in sorted(costs, reverse=True)[:10]:
+            print(f"{seconds:8.1f} s  {function}")
+        if child.wait():
+            return 1
+    return 0
+
+
+sys.exit(slow() if names[:1] == ["--slow"] else gate())
+PY

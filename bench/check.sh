@@ -1,14 +1,19 @@
 #!/bin/sh
 # Times `secv check` on texts of 1/8, 1/4, 1/2 and the whole of the size limit, and iverilog on the largest.
 # Prints a table; then how the time grows where the text doubles (asked: at most 2.3); last, secv's time and memory against
-# iverilog's on the largest text (asked: at most a quarter), where iverilog is installed.
+# iverilog's on the largest text (asked: at most a quarter), where iverilog is installed. Memory is the greatest resident size that
+# GNU time tells (`/usr/bin/time`): what this script itself has does not count.
 set -eu
+if ! [ -x /usr/bin/time ]; then
+    echo "check.sh: GNU time is missing; on Debian and Ubuntu it is the package 'time'" >&2
+    exit 1
+fi
 top=$(CDPATH='' cd -- "$(dirname -- "$0")/.." && pwd -P)
 work=$(mktemp -d)
 trap 'rm -rf "$work"' EXIT
 "$top/secv" --version >/dev/null
 python3 - "$top" "$work" <<'PY'
-import os, random, shutil, subprocess, sys, time
+import os, random, re, shutil, subprocess, sys, time
 
 top, work = sys.argv[1], sys.argv[2]
 secv = os.path.join(top, "secv")
@@ -41,15 +46,17 @@ def text(size):
 def run(words):
     """The least time of five runs, in seconds, and the greatest resident memory, in MB."""
     best, most = None, 0
+    told = os.path.join(work, "told")
     for _ in range(5):
         start = time.perf_counter()
-        child = subprocess.Popen(words, stdout=subprocess.DEVNULL, stderr=subprocess.DEVNULL)
-        _, status, usage = os.wait4(child.pid, 0)
+        child = subprocess.run(["/usr/bin/time", "-v", "-o", told, *words], stdout=subprocess.DEVNULL, stderr=subprocess.DEVNULL)
         took = time.perf_counter() - start
-        if status:
-            sys.exit(f"{words} ended with {status}")
+        if child.returncode:
+            sys.exit(f"{words} ended with {child.returncode}")
+        with open(told) as file:
+            memory = int(re.search(r"Maximum resident set size \(kbytes\): (\d+)", file.read()).group(1))
         best = took if best is None else min(best, took)
-        most = max(most, usage.ru_maxrss / 1024)
+        most = max(most, memory / 1024)
     return best, most
 
 

@@ -22,7 +22,8 @@ usage:
   secv --help        print this text
   secv --version     print the version
 
-exit status: 0 accepted, 1 refused, 2 wrong words, 4 unreadable file, 5 unwritable output, 6 out of memory
+exit status: 0 accepted, 1 refused, 2 wrong words, 4 unreadable file, 5 unwritable output,
+             6 out of memory
 ";
 
 const VERSION: &str = "secv 0.1.0\n";

@@ -1,14 +1,17 @@
-// What is said to a person on standard error, one line each. Where it cannot be said nothing else changes.
+// What is said to a person on standard error, one line each. Where it cannot be said nothing else
+// changes.
 
 use std::io;
 use sv_cli::{Broken, Outcome, UsageKind};
+use sv_num::{Place, Refusal};
 
 const UNBUILT: &str =
     "secv: only modules of one-bit signals are read so far; docs/language.md says which";
 
 const MEMORY: &str = "secv: memory ran out";
 
-/// What stood in the way of a verdict, or what else than the printed answer a person may want to know.
+/// What stood in the way of a verdict, or what else than the printed answer a person may want to
+/// know.
 pub fn explain(
     rt: &HostRuntime,
     words: &[String],
@@ -18,9 +21,7 @@ pub fn explain(
 ) {
     match outcome {
         Outcome::Done => {}
-        Outcome::Refused(Broken::Rule(refusal)) if refusal.number == 199 => {
-            let _ = rt.eprintln(UNBUILT);
-        }
+        Outcome::Refused(Broken::Rule(refusal)) => explain_rule(rt, words, refusal),
         Outcome::Refused(_) => {}
         Outcome::Usage(kind) => explain_usage(rt, words, *kind),
         Outcome::ReadFault => explain_file(rt, words, file_error),
@@ -29,6 +30,26 @@ pub fn explain(
             let _ = rt.eprintln(MEMORY);
         }
     }
+}
+
+// What is wrong at the place of a broken rule.
+fn explain_rule(rt: &HostRuntime, words: &[String], refusal: &Refusal) {
+    let fault = match refusal.number {
+        101 => "no token begins with this byte",
+        102 => "this is no number, or too large a one",
+        103 => "this comment has no end",
+        104 => "this form of Verilog is left out",
+        _ => {
+            let _ = rt.eprintln(UNBUILT);
+            return;
+        }
+    };
+    let [_, file, ..] = words else {
+        return;
+    };
+    let name = file.as_str().escape_debug();
+    let Place { line, column } = refusal.place;
+    let _ = eprintln!(rt; "secv: {name}:{line}:{column}: {fault}; docs/language.md says more");
 }
 
 fn explain_usage(rt: &HostRuntime, words: &[String], kind: UsageKind) {

@@ -1,3 +1,7 @@
-pub mod Verdicts
+mod RuleLaws
+mod Congruence
+mod Verdicts
+mod OneVerdict
+pub mod Deciding
 mod Unfalsified
 pub mod Telling

@@ -8,14 +8,15 @@ use Rattle.sv_io.specs.declared.faults.FetchFault.TheVariants.{Long, Failed, Out
 use Rattle.sv_io.specs.Cabinet.{IfLong}
 use Rattle.sv_io.specs.Exchange.{Fetched, whole, too_long, nothing, Exchange, fetched, fetched_of}
 use Rattle.sv_io.specs.Sink.{WritesFront}
+use Rattle.sv_cli.specs.declared.report.Report.{Report}
 use Rattle.sv_cli.specs.declared.outcome.UsageKind.{UsageKind}
 use Rattle.sv_cli.specs.declared.outcome.Outcome.{Outcome}
 use Rattle.sv_cli.specs.declared.outcome.Outcome.TheVariants.{Done}
 use Rattle.sv_cli.specs.Command.{usage_of, file_of}
-use Rattle.sv_cli.specs.Text.{file_size_text, usage_text}
+use Rattle.sv_cli.specs.Text.{limit_text, usage_text}
 use Rattle.sv_cli.specs.Answer.{Answer, answer_of, accepted, limit_passed, misused, largest_file, IsAccepted, ReadsFile, Reads, IsVerdict, IsAnswer, KeepsSecrets}
 use Rattle.sv_cli.specs.Report.{Decides}
-use Rattle.sv_cli.proofs.Verdicts.{decides_large}
+use Rattle.sv_cli.proofs.Deciding.{decides_large}
 
 -- what two equal growths by one fetch handed out is the same
 one_exchange : (file : List ℕ) (got other : Fetched) (old new : List Exchange) → new ≡ old ++ fetched file got ∷ [] → new ≡ old ++ fetched file other ∷ [] → got ≡ other
@@ -54,15 +55,22 @@ told_by (Err (Long bytes)) file held old new exchange is_whole within long_lengt
 told_by (Err OutOfMemory) file held old new exchange is_whole within long_length long_front text reads = absurd (reads_none file text old new reads exchange)
 
 -- a text that a fetch handed out is decided: the whole of it, or the front of one that is too large
-pub whole_decided : (file : List ℕ) (bytes : Vec ℕ) (outcome : Outcome) (printed : List ℕ) (old new : List Exchange) → new ≡ old ++ fetched file (whole bytes.items) ∷ []
+whole_decided : (file : List ℕ) (bytes : Vec ℕ) (outcome : Outcome) (printed : List ℕ) (old new : List Exchange) → new ≡ old ++ fetched file (whole bytes.items) ∷ []
     → vec_len bytes ≤ largest_file → Decides bytes.items outcome printed → (text : List ℕ) × ReadsFile file text old new × Decides text outcome printed
 whole_decided file bytes outcome printed old new exchange within decides =
     let small : length bytes.items ≤ largest_file = grind (arith, within) in
     (bytes.items, inl (exchange, small), decides)
 
+-- so is a report on it
+pub whole_reported : {E : Type 0} (file : List ℕ) (bytes : Vec ℕ) (r : Result Report E) (old new : List Exchange) → new ≡ old ++ fetched file (whole bytes.items) ∷ []
+    → vec_len bytes ≤ largest_file → IfOk r (λ p. Decides bytes.items p.outcome p.text.items)
+    → IfOk r (λ p. (text : List ℕ) × ReadsFile file text old new × Decides text p.outcome p.text.items)
+whole_reported file bytes (Ok p) old new exchange within decides = whole_decided file bytes p.outcome p.text.items old new exchange within decides
+whole_reported file bytes (Err e) old new exchange within decides = tt
+
 pub large_decided : (fault : FetchFault) (bytes : Vec ℕ) (file : List ℕ) (outcome : Outcome) (printed : List ℕ) (old new : List Exchange) → fault ≡ Long bytes
     → (let r : Result (Vec ℕ) FetchFault = Err fault in new ≡ old ++ fetched file (fetched_of r) ∷ []) → (let r : Result (Vec ℕ) FetchFault = Err fault in IfLong r (λ b. length b ≡ largest_file + 1))
-    → answer_of outcome ≡ Some (limit_passed 701 []) → printed ≡ file_size_text → (text : List ℕ) × ReadsFile file text old new × Decides text outcome printed
+    → answer_of outcome ≡ Some (limit_passed 701 []) → printed ≡ limit_text 701 [] → (text : List ℕ) × ReadsFile file text old new × Decides text outcome printed
 large_decided fault bytes file outcome printed old new long exchange long_length gives prints =
     let e = subst (λ (f : FetchFault). let r : Result (Vec ℕ) FetchFault = Err f in new ≡ old ++ fetched file (fetched_of r) ∷ []) long exchange in
     let l = subst (λ (f : FetchFault). let r : Result (Vec ℕ) FetchFault = Err f in IfLong r (λ b. length b ≡ largest_file + 1)) long long_length in

@@ -3,6 +3,8 @@ use Rattle.std.specs.Prelude.{◌≡◌, ℕ, ◌+◌, ◌<◌, ◌≤◌, ◌�
 use Rattle.std.specs.List.{list_all, find}
 use Rattle.sv_num.specs.declared.faults.Place.{Place}
 use Rattle.sv_system.specs.System.{Noninterferent, HasOneTrace}
+use Rattle.sv_token.specs.Lexemes.{Placed}
+use Rattle.sv_token.specs.Tokens.{AreTokensOf, BreaksLexis}
 use Rattle.sv_first_ast.specs.Tree.{ModuleTree}
 use Rattle.sv_first_ast.specs.Meaning.{label_of, flows, system}
 use Rattle.sv_first_ast.specs.Form.{is_first_form}
@@ -15,7 +17,7 @@ use Rattle.sv_cli.specs.declared.outcome.Outcome.TheVariants as outcome
 use Rattle.sv_cli.specs.declared.outcome.Broken.TheVariants as broken
 use Rattle.sv_io.specs.Exchange.{Exchange, fetched, whole, too_long}
 use Rattle.sv_cli.specs.Command.{usage_of, file_of}
-use Rattle.sv_cli.specs.Text.{usage_text, accepted_text, not_built_text, file_size_text, leak_text}
+use Rattle.sv_cli.specs.Text.{usage_text, accepted_text, refusal_text, limit_text, leak_text}
 
 -- the exit status
 abbrev pub status_of : Outcome → ℕ
@@ -52,11 +54,30 @@ answer_of outcome.OutOfMemory = None
 abbrev pub largest_file : ℕ
 largest_file = 1048576
 
+-- the text is tokens, with gaps between them: it breaks no rule on tokens
+abbrev pub HasTokens : List ℕ → Type 0
+HasTokens text = (ts : List Placed) × AreTokensOf text ts
+
 -- the text is of the first form, and means the module
 pub record IsFirstForm (text : List ℕ) (m : ModuleTree) : Type 0 where
   pub within : length text ≤ largest_file
+  pub tokens : HasTokens text
   pub means : Means text m
   pub form : IsTrue (is_first_form m)
+
+-- The text is tokens and of no form that is read so far. This is told at its first place, whatever it is.
+pub record IsNotBuilt (text : List ℕ) (number : ℕ) (place : Place) (names : List (List ℕ)) : Type 0 where
+  pub tokens : HasTokens text
+  pub no_form : (m : ModuleTree) → IsFirstForm text m → ⊥
+  pub numbered : number ≡ 199
+  pub placed : place ≡ record { line = 1; column = 1 }
+  pub nameless : names ≡ []
+
+-- The first rule that a text within the limit breaks: one on tokens, at the first place where it breaks one, or else 199.
+pub record IsRefused (text : List ℕ) (number : ℕ) (place : Place) (names : List (List ℕ)) (printed : List ℕ) : Type 0 where
+  pub within : length text ≤ largest_file
+  pub broken : BreaksLexis number names place text ⊎ IsNotBuilt text number place names
+  pub prints : printed ≡ refusal_text number place names
 
 -- every obligation of the text's module holds
 pub record IsAccepted (text printed : List ℕ) : Type 0 where
@@ -83,9 +104,8 @@ pub record IsFalsified (text : List ℕ) (number : ℕ) (v : Values) (printed : 
 -- What `check` answers for a text, and what it prints.
 abbrev pub IsVerdict : List ℕ → Answer → List ℕ → Type 0
 IsVerdict text accepted printed = IsAccepted text printed
-IsVerdict text (rule_broken number place names) printed = (length text ≤ largest_file) × ((m : ModuleTree) → IsFirstForm text m → ⊥)
-    × (number ≡ 199) × (place ≡ record { line = 1; column = 1 }) × (names ≡ []) × (printed ≡ not_built_text)
-IsVerdict text (limit_passed number names) printed = (largest_file < length text) × (number ≡ 701) × (names ≡ []) × (printed ≡ file_size_text)
+IsVerdict text (rule_broken number place names) printed = IsRefused text number place names printed
+IsVerdict text (limit_passed number names) printed = (largest_file < length text) × (number ≡ 701) × (names ≡ []) × (printed ≡ limit_text number names)
 IsVerdict text (falsified number v) printed = IsFalsified text number v printed
 IsVerdict text (misused kind) printed = ⊥
 

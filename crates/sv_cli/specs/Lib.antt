@@ -1,4 +1,5 @@
 pub mod Command
+pub mod Rules
 pub mod Text
 pub mod Answer
 pub mod Report

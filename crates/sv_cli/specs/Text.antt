@@ -1,11 +1,13 @@
 -- The texts that the program writes. Each line ends with a line feed.
 use Rattle.std.specs.Prelude.{ℕ, Bool, false, List, [], ◌∷◌, ◌++◌, codes, decimal, filter, if◌then◌else◌}
 use Rattle.std.specs.Fmt.{digits}
+use Rattle.sv_num.specs.declared.faults.Place.{Place}
 use Rattle.sv_first_ast.specs.Tree.{ModuleTree}
 use Rattle.sv_first_ast.specs.Meaning.{signals, is_input, is_register}
 use Rattle.sv_first_ast.specs.Obligations.{Obligation, Values}
 use Rattle.sv_cli.specs.declared.outcome.UsageKind.{UsageKind}
 use Rattle.sv_cli.specs.declared.outcome.UsageKind.TheVariants.{NoCommand, UnknownCommand, Words}
+use Rattle.sv_cli.specs.Rules.{rule_name}
 
 abbrev pub usage_name : UsageKind → List ℕ
 usage_name NoCommand = codes "no-command"
@@ -18,12 +20,20 @@ usage_text kind = codes "usage " ++ usage_name kind ++ codes "\n"
 abbrev pub accepted_text : ℕ → List ℕ
 accepted_text count = codes "accepted " ++ decimal count ++ codes " obligations\n"
 
--- the text is of no form that is read so far
-abbrev pub not_built_text : List ℕ
-not_built_text = codes "refused 199 not-built 1:1\n"
+-- names, each after a blank
+abbrev pub names_text : List (List ℕ) → List ℕ
+names_text [] = []
+names_text (name ∷ names) = codes " " ++ name ++ names_text names
 
-abbrev pub file_size_text : List ℕ
-file_size_text = codes "refused 701 file-size\n"
+-- a broken rule, where it is broken, and the names that go with it
+abbrev pub refusal_text : ℕ → Place → List (List ℕ) → List ℕ
+refusal_text number place names =
+    codes "refused " ++ decimal number ++ codes " " ++ rule_name number ++ codes " "
+    ++ decimal place.line ++ codes ":" ++ decimal place.column ++ names_text names ++ codes "\n"
+
+-- a limit that is passed
+abbrev pub limit_text : ℕ → List (List ℕ) → List ℕ
+limit_text number names = codes "refused " ++ decimal number ++ codes " " ++ rule_name number ++ names_text names ++ codes "\n"
 
 -- a line for each name with its value in lower-case hexadecimal
 abbrev pub value_lines : List ℕ → List (List ℕ) → List ℕ → List ℕ

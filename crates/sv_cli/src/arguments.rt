@@ -4,7 +4,7 @@ ghost use Rattle.sv_cli.specs.Command.{words_of, usage_of, file_of, is_file_name
 
 use crate::outcome::UsageKind;
 
-// FILE of `check FILE`, or what is wrong with the words.
+/// FILE of `check FILE`, or what is wrong with the words.
 pub fn read_words(words: &[String]) -> Result<&str, UsageKind>
     ensures { MatchResult result
         (λ file. (usage_of (words_of words.now) ≡ None) × (file.now ≡ file_of (words_of words.now)))

@@ -1,13 +1,24 @@
 // What follows from the meaning of texts, as contracts of functions that do nothing.
 
-ghost use Rattle.std.specs.Prelude.{◌↔◌, IsTrue};
+ghost use Rattle.std.specs.Prelude.{◌≡◌, ◌↔◌, ℕ, List, IsTrue};
+ghost use Rattle.sv_cli.specs.Answer.{Answer, IsVerdict};
 ghost use Rattle.sv_first_ast.specs.Form.{is_first_form};
 ghost use Rattle.sv_first_ast.specs.Obligations.{Obligation, Values, flow_holds, Falsifies};
 ghost use Rattle.sv_first_ast.specs.Spelling.{is_shaped};
 ghost use Rattle.sv_first_ast.specs.Tree.{ModuleTree};
 
-/// The labels of an obligation's reads flow to its target's exactly where no values falsify the obligation.
+/// The labels of an obligation's reads flow to its target's exactly where no values falsify the
+/// obligation.
 pub fn flow_holds_where_nothing_falsifies_it()
-    ensures { (m : ModuleTree) → IsTrue (is_shaped m) → IsTrue (is_first_form m) → (o : Obligation) →
+    ensures { (m : ModuleTree) → IsTrue (is_shaped m) → IsTrue (is_first_form m) →
+        (o : Obligation) →
         IsTrue (flow_holds m o) ↔ ((v : Values) → Falsifies m v o → ⊥) }
+{}
+
+/// Each text has exactly one verdict, and one text that is printed for it.
+pub fn each_text_has_one_verdict()
+    ensures { (text : List ℕ) →
+        (answer : Answer) × (printed : List ℕ) × IsVerdict text answer printed
+        × ((other : Answer) (others : List ℕ) → IsVerdict text other others →
+            (other ≡ answer) × (others ≡ printed)) }
 {}

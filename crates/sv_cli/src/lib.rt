@@ -1,17 +1,19 @@
 //! The top call: what `secv` does with its words, a cabinet of files, an input and an output.
 //!
-//! `run` answers as `specs/Answer.antt` says. Where it answers `Done`, no secret reaches a public signal: any two traces of the
-//! text's cycle meaning that look alike to a level have equal views for it at every cycle.
+//! `run` answers as `specs/Answer.antt` says. Where it answers `Done`, no secret reaches a public
+//! signal: any two traces of the text's cycle meaning that look alike to a level have equal views
+//! for it at every cycle.
 #![tactic(auto)]
 
 mod arguments;
 mod laws;
 mod outcome;
 mod report;
+mod rules;
 mod text;
 mod top;
 
-pub use laws::flow_holds_where_nothing_falsifies_it;
+pub use laws::{each_text_has_one_verdict, flow_holds_where_nothing_falsifies_it};
 pub use outcome::{Broken, Outcome, UsageKind, Valuation};
 pub use top::run;
 

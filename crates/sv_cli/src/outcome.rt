@@ -16,11 +16,15 @@ pub enum UsageKind {
     Words,
 }
 
-/// Values of the registers and inputs in a cycle, and of the inputs in the next, each in signal order.
+/// Values of the registers and inputs in a cycle, and of the inputs in the next, each in signal
+/// order.
 #[derive(Debug, Drop)]
 pub struct Valuation {
+    /// Of the registers.
     pub regs: Vec<u64>,
+    /// Of the inputs.
     pub inputs: Vec<u64>,
+    /// Of the inputs of the next cycle.
     pub next_inputs: Vec<u64>,
 }
 

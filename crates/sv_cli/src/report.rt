@@ -1,7 +1,9 @@
 // What is answered, and the text that says so.
-ghost use Rattle.std.specs.Prelude.{◌≡◌, ◌≤◌, [], Some, IfOk, length, replicate};
-ghost use Rattle.sv_cli.specs.Text.{usage_text, accepted_text, not_built_text, file_size_text, flow_text};
-ghost use Rattle.sv_cli.specs.Answer.{answer_of, accepted, rule_broken, limit_passed, falsified, misused, largest_file};
+ghost use Rattle.std.specs.Prelude.{◌≡◌, ◌≤◌, [], Some, IfOk, IfSome, IfNone, length, replicate};
+ghost use Rattle.sv_token.specs.Tokens.{BreaksLexis};
+ghost use Rattle.sv_cli.specs.Text.{usage_text, accepted_text, refusal_text, limit_text, flow_text};
+ghost use Rattle.sv_cli.specs.Answer.{answer_of, accepted, rule_broken, limit_passed, falsified};
+ghost use Rattle.sv_cli.specs.Answer.{misused, largest_file, HasTokens};
 ghost use Rattle.sv_cli.specs.Report.{Decides, zeros_for};
 
 use crate::outcome::{Broken, Outcome, UsageKind, Valuation};
@@ -9,15 +11,17 @@ use crate::text;
 use std::alloc::{AllocError, Global};
 use sv_first::read_module;
 use sv_first_flow::{Finding, Leak, check};
-use sv_num::{Place, Refusal};
+use sv_num::{Fault, Place, Refusal};
+use sv_token::lex;
 
-// An outcome, and all that is to be written with it.
+/// An outcome, and all that is to be written with it.
 #[derive(Drop)]
 pub struct Report {
     pub outcome: Outcome,
     pub text: Vec<u8>,
 }
 
+/// Of words that are no command.
 pub fn report_of_misuse(alloc: Global, kind: UsageKind) -> Result<Report, AllocError>
     ensures answer { IfOk result (λ report. answer_of report.outcome ≡ Some (misused kind)) }
     ensures text { IfOk result (λ report. report.text.items ≡ usage_text kind) }
@@ -29,31 +33,48 @@ pub fn report_of_misuse(alloc: Global, kind: UsageKind) -> Result<Report, AllocE
     })
 }
 
+/// Of a file that is larger than the largest.
 pub fn report_of_large_file(alloc: Global) -> Result<Report, AllocError>
     ensures answer { IfOk result (λ report. answer_of report.outcome ≡ Some (limit_passed 701 [])) }
-    ensures text { IfOk result (λ report. report.text.items ≡ file_size_text) }
+    ensures text { IfOk result (λ report. report.text.items ≡ limit_text 701 []) }
 {
-    let text = Vec::from_slice(alloc, b"refused 701 file-size\n")?;
+    let text = text::limit_text(alloc, 701, &[])?;
     Ok(Report {
         outcome: Outcome::Refused(Broken::Limit(701, Vec::new(alloc))),
         text,
     })
 }
 
-fn report_of_unbuilt_form(alloc: Global) -> Result<Report, AllocError>
-    ensures answer { IfOk result (λ report. answer_of report.outcome ≡ Some (rule_broken 199 (record { line = 1; column = 1 }) [])) }
-    ensures text { IfOk result (λ report. report.text.items ≡ not_built_text) }
+fn report_of_refusal(alloc: Global, refusal: Refusal) -> Result<Report, AllocError>
+    ensures answer { IfOk result
+        (λ report. answer_of report.outcome ≡
+        Some (rule_broken refusal.number refusal.place refusal.names.items)) }
+    ensures text { IfOk result
+        (λ report. report.text.items ≡
+        refusal_text refusal.number refusal.place refusal.names.items) }
 {
-    let text = Vec::from_slice(alloc, b"refused 199 not-built 1:1\n")?;
-    let refusal = Refusal {
-        number: 199,
-        place: Place { line: 1, column: 1 },
-        names: Vec::new(alloc),
-    };
+    let text = text::refusal_text(alloc, &refusal)?;
     Ok(Report {
         outcome: Outcome::Refused(Broken::Rule(refusal)),
         text,
     })
+}
+
+fn report_of_unbuilt_form(alloc: Global) -> Result<Report, AllocError>
+    ensures answer { IfOk result
+        (λ report. answer_of report.outcome ≡
+        Some (rule_broken 199 (record { line = 1; column = 1 }) [])) }
+    ensures text { IfOk result
+        (λ report. report.text.items ≡ refusal_text 199 (record { line = 1; column = 1 }) []) }
+{
+    report_of_refusal(
+        alloc,
+        Refusal {
+            number: 199,
+            place: Place { line: 1, column: 1 },
+            names: Vec::new(alloc),
+        },
+    )
 }
 
 fn report_of_acceptance(alloc: Global, count: u32) -> Result<Report, AllocError>
@@ -69,9 +90,12 @@ fn report_of_acceptance(alloc: Global, count: u32) -> Result<Report, AllocError>
 
 // All values are 0: labels without selectors fail at any values.
 fn zeros(alloc: Global, leak: &Leak) -> Result<Valuation, AllocError>
-    ensures registers { IfOk result (λ v. v.regs.items ≡ replicate (length leak.now.registers.items) 0) }
-    ensures inputs { IfOk result (λ v. v.inputs.items ≡ replicate (length leak.now.inputs.items) 0) }
-    ensures next_inputs { IfOk result (λ v. v.next_inputs.items ≡ replicate (length leak.now.inputs.items) 0) }
+    ensures registers { IfOk result
+        (λ v. v.regs.items ≡ replicate (length leak.now.registers.items) 0) }
+    ensures inputs { IfOk result
+        (λ v. v.inputs.items ≡ replicate (length leak.now.inputs.items) 0) }
+    ensures next_inputs { IfOk result
+        (λ v. v.next_inputs.items ≡ replicate (length leak.now.inputs.items) 0) }
 {
     Ok(Valuation {
         regs: vec![in alloc; 0; leak.registers.len()]?,
@@ -81,8 +105,13 @@ fn zeros(alloc: Global, leak: &Leak) -> Result<Valuation, AllocError>
 }
 
 fn report_of_leak(alloc: Global, leak: &Leak) -> Result<Report, AllocError>
-    ensures answer { IfOk result (λ report. answer_of report.outcome ≡ Some (falsified leak.now.obligation (zeros_for leak.now))) }
-    ensures text { IfOk result (λ report. report.text.items ≡ flow_text leak.now.obligation leak.now.target leak.now.read leak.now.clocked leak.now.registers.items leak.now.inputs.items (zeros_for leak.now)) }
+    ensures answer { IfOk result
+        (λ report. answer_of report.outcome ≡
+        Some (falsified leak.now.obligation (zeros_for leak.now))) }
+    ensures text { IfOk result
+        (λ report. report.text.items ≡
+        flow_text leak.now.obligation leak.now.target leak.now.read leak.now.clocked
+        leak.now.registers.items leak.now.inputs.items (zeros_for leak.now)) }
 {
     let values = zeros(alloc, leak)?;
     let text = text::leak_text(alloc, leak, &values)?;
@@ -92,9 +121,24 @@ fn report_of_leak(alloc: Global, leak: &Leak) -> Result<Report, AllocError>
     })
 }
 
-// The answer to a text within the limit.
-pub fn report_on(alloc: Global, bytes: &[u8]) -> Result<Report, AllocError>
+// The first rule on tokens that a text breaks.
+fn broken_lexis(alloc: Global, bytes: &[u8]) -> Result<Option<Refusal>, AllocError>
     requires { length bytes.now ≤ largest_file }
+    ensures broken { IfOk result
+        (λ found. IfSome found (λ r. BreaksLexis r.number r.names.items r.place bytes.now)) }
+    ensures none { IfOk result (λ found. IfNone found (HasTokens bytes.now)) }
+{
+    match lex(alloc, bytes) {
+        Ok(_) => Ok(None),
+        Err(Fault::Rule(refusal)) => Ok(Some(refusal)),
+        Err(Fault::OutOfMemory) => Err(AllocError),
+    }
+}
+
+// The answer to a text of tokens within the limit.
+fn report_on_tokens(alloc: Global, bytes: &[u8]) -> Result<Report, AllocError>
+    requires within { length bytes.now ≤ largest_file }
+    requires tokens { HasTokens bytes.now }
     ensures { IfOk result (λ report. Decides bytes.now report.outcome report.text.items) }
 {
     let Some(module) = read_module(alloc, bytes)? else {
@@ -104,5 +148,16 @@ pub fn report_on(alloc: Global, bytes: &[u8]) -> Result<Report, AllocError>
         None => report_of_unbuilt_form(alloc),
         Some(Finding::Holds(count)) => report_of_acceptance(alloc, count),
         Some(Finding::Leaks(leak)) => report_of_leak(alloc, &leak),
+    }
+}
+
+/// The answer to a text within the limit.
+pub fn report_on(alloc: Global, bytes: &[u8]) -> Result<Report, AllocError>
+    requires { length bytes.now ≤ largest_file }
+    ensures { IfOk result (λ report. Decides bytes.now report.outcome report.text.items) }
+{
+    match broken_lexis(alloc, bytes)? {
+        Some(refusal) => report_of_refusal(alloc, refusal),
+        None => report_on_tokens(alloc, bytes),
     }
 }

@@ -13,8 +13,9 @@ const REGISTER: &str =
 const SECRET_REGISTER: &str =
     "module m(input clk, input {H} k, output reg {H} r); always @(posedge clk) r <= k; endmodule\n";
 
-const WIRE: &str =
-    "module m(input a, input {H} b, output {H} y); wire {H} w; assign w = a ^ b; assign y = ~w | a; endmodule\n";
+const WIRE: &str = "module m(input a, input {H} b, output {H} y);
+  wire {H} w; assign w = a ^ b; assign y = ~w | a; endmodule
+";
 
 const SUM: &str = "module m(input a, output y); assign y = a + a; endmodule\n";
 
@@ -55,6 +56,10 @@ fn every_row_has_its_whole_output(rt: HostRuntime) -> Result<(), Fail> {
         ("check f", WIRE, 0, "accepted 2 obligations\n"),
         ("check f", SUM, 1, "refused 199 not-built 1:1\n"),
         ("check f", "", 1, "refused 199 not-built 1:1\n"),
+        ("check f", "\n module ' m;", 1, "refused 101 bad-byte 2:9\n"),
+        ("check f", "endmodule (\n ;; 65'h0", 1, "refused 102 bad-number 2:5\n"),
+        ("check f", "/* a */ /* b", 1, "refused 103 open-comment 1:9\n"),
+        ("check f", "initial 1.5", 1, "refused 104 unsupported 1:9 real\n"),
         ("", GATE, 2, "usage no-command\n"),
         ("chekc f", GATE, 2, "usage unknown-command\n"),
         ("check", GATE, 2, "usage words\n"),

@@ -1,13 +1,15 @@
 // The texts that the program writes.
 ghost use Rattle.std.specs.Prelude.{◌≡◌, ◌++◌, ◌∷◌, IfOk, OnOk, codes, decimal, false, length};
 ghost use Rattle.std.specs.Fmt.{digits};
-ghost use Rattle.sv_cli.specs.Text.{usage_name, usage_text, accepted_text, value_lines, flow_text};
+ghost use Rattle.sv_cli.specs.Text.{usage_name, usage_text, accepted_text, names_text};
+ghost use Rattle.sv_cli.specs.Text.{refusal_text, limit_text, value_lines, flow_text};
 ghost use Rattle.sv_cli.specs.Answer.{values_of};
 
 use crate::outcome::{UsageKind, Valuation};
+use crate::rules::rule_name;
 use std::alloc::{AllocError, Global};
 use sv_first_flow::Leak;
-use sv_num::Name;
+use sv_num::{Name, Place, Refusal};
 
 fn usage_name(kind: UsageKind) -> &'static str
     ensures { result.now ≡ usage_name kind }
@@ -19,6 +21,7 @@ fn usage_name(kind: UsageKind) -> &'static str
     }
 }
 
+/// What is wrong with the words.
 pub fn usage_text(alloc: Global, kind: UsageKind) -> Result<Vec<u8>, AllocError>
     ensures { IfOk result (λ text. text.items ≡ usage_text kind) }
 {
@@ -26,6 +29,7 @@ pub fn usage_text(alloc: Global, kind: UsageKind) -> Result<Vec<u8>, AllocError>
     Vec::from_slice(alloc, format!(in alloc; "usage {name}\n")?.as_bytes())
 }
 
+/// That so many obligations hold.
 pub fn accepted_text(alloc: Global, count: u32) -> Result<Vec<u8>, AllocError>
     ensures { IfOk result (λ text. text.items ≡ accepted_text count) }
 {
@@ -35,6 +39,45 @@ pub fn accepted_text(alloc: Global, count: u32) -> Result<Vec<u8>, AllocError>
     )
 }
 
+// Writes names, each after a blank.
+fn push_names(text: &mut Vec<u8>, names: &[Name]) -> Result<(), AllocError>
+    ensures { OnOk result (text.new.items ≡ text.old.items ++ names_text names.now) }
+{
+    for name in names {
+        text.push(b' ')?;
+        text.extend_from_slice(name.bytes())?;
+    }
+    Ok(())
+}
+
+/// A broken rule, where it is broken, and the names that go with it.
+pub fn refusal_text(alloc: Global, refusal: &Refusal) -> Result<Vec<u8>, AllocError>
+    ensures { IfOk result
+        (λ text. text.items ≡
+        refusal_text refusal.now.number refusal.now.place refusal.now.names.items) }
+{
+    let number = refusal.number;
+    let name = rule_name(number);
+    let Place { line, column } = refusal.place;
+    let before = format!(in alloc; "refused {number} {name} {line}:{column}")?;
+    let mut text = Vec::from_slice(alloc, before.as_bytes())?;
+    push_names(&mut text, &refusal.names)?;
+    text.push(b'\n')?;
+    Ok(text)
+}
+
+/// A limit that is passed, and the names that go with it.
+pub fn limit_text(alloc: Global, number: u16, names: &[Name]) -> Result<Vec<u8>, AllocError>
+    ensures { IfOk result (λ text. text.items ≡ limit_text number names.now) }
+{
+    let name = rule_name(number);
+    let before = format!(in alloc; "refused {number} {name}")?;
+    let mut text = Vec::from_slice(alloc, before.as_bytes())?;
+    push_names(&mut text, names)?;
+    text.push(b'\n')?;
+    Ok(text)
+}
+
 fn push_value_line(
     text: &mut Vec<u8>,
     alloc: Global,
@@ -42,7 +85,10 @@ fn push_value_line(
     name: &Name,
     value: u64,
 ) -> Result<(), AllocError>
-    ensures { OnOk result (text.new.items ≡ text.old.items ++ word.now ++ name.now ++ (codes " " ++ digits 16 false value ++ codes "\n")) }
+    ensures { OnOk result
+        (text.new.items ≡
+        text.old.items ++ word.now ++ name.now ++
+        (codes " " ++ digits 16 false value ++ codes "\n")) }
 {
     text.extend_from_slice(word.as_bytes())?;
     text.extend_from_slice(name.bytes())?;
@@ -50,6 +96,7 @@ fn push_value_line(
     Ok(())
 }
 
+/// Writes a line for each name with its value.
 pub fn push_value_lines(
     text: &mut Vec<u8>,
     alloc: Global,
@@ -58,7 +105,8 @@ pub fn push_value_lines(
     values: &[u64],
 ) -> Result<(), AllocError>
     requires { length names.now ≡ length values.now }
-    ensures { OnOk result (text.new.items ≡ text.old.items ++ value_lines word.now names.now values.now) }
+    ensures { OnOk result
+        (text.new.items ≡ text.old.items ++ value_lines word.now names.now values.now) }
 {
     for (i, name) in names.iter().enumerate() {
         push_value_line(text, alloc, word, name, values[i])?;
@@ -81,7 +129,10 @@ fn push_flow_line(
     target: &Name,
     read: &Name,
 ) -> Result<(), AllocError>
-    ensures { OnOk result (text.new.items ≡ text.old.items ++ (codes "refused flow " ++ decimal number ++ codes " ") ++ target.now ++ codes " from " ++ read.now ++ codes "\n") }
+    ensures { OnOk result
+        (text.new.items ≡ text.old.items
+        ++ (codes "refused flow " ++ decimal number ++ codes " ") ++ target.now
+        ++ codes " from " ++ read.now ++ codes "\n") }
 {
     let before = format!(in alloc; "refused flow {number} ")?;
     push_named(text, before.as_bytes(), target)?;
@@ -90,12 +141,15 @@ fn push_flow_line(
     Ok(())
 }
 
+/// An obligation that fails, and the values that show it.
 pub fn leak_text(alloc: Global, leak: &Leak, values: &Valuation) -> Result<Vec<u8>, AllocError>
     requires registers { length leak.now.registers.items ≡ length values.now.regs.items }
     requires inputs { length leak.now.inputs.items ≡ length values.now.inputs.items }
     requires next_inputs { length leak.now.inputs.items ≡ length values.now.next_inputs.items }
     ensures { IfOk result
-        (λ text. text.items ≡ flow_text leak.now.obligation leak.now.target leak.now.read leak.now.clocked leak.now.registers.items leak.now.inputs.items (values_of values.now)) }
+        (λ text. text.items ≡
+        flow_text leak.now.obligation leak.now.target leak.now.read leak.now.clocked
+        leak.now.registers.items leak.now.inputs.items (values_of values.now)) }
 {
     let mut text = Vec::new(alloc);
     push_flow_line(&mut text, alloc, leak.obligation, &leak.target, &leak.read)?;

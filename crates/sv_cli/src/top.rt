@@ -1,11 +1,14 @@
 // The top call.
-ghost use Rattle.std.specs.Prelude.{◌≡◌, ◌∷◌, ◌++◌, ◌+◌, ◌≤◌, ℕ, List, [], IsTrue, None, Some, Err, IfOk, IfErr, IfSome, IfNone, IsSome, IsErrOf, MatchOption, length, take, vec_len, ⊤};
+ghost use Rattle.std.specs.Prelude.{◌≡◌, ◌∷◌, ◌++◌, ◌+◌, ◌≤◌, ℕ, List, [], IsTrue, None, Some, Err};
+ghost use Rattle.std.specs.Prelude.{IfOk, IfErr, IfSome, IfNone, IsSome, IsErrOf, MatchOption};
+ghost use Rattle.std.specs.Prelude.{length, take, vec_len, ⊤};
 ghost use Rattle.sv_io.specs.Cabinet.{bytes_under, IfLong};
 ghost use Rattle.sv_io.specs.Count.{Rose};
 ghost use Rattle.sv_io.specs.Exchange.{Fetched, nothing, fetched, fetched_of, whole};
 ghost use Rattle.sv_io.specs.Sink.{WritesFront};
 ghost use Rattle.sv_cli.specs.Command.{words_of, usage_of, file_of};
-ghost use Rattle.sv_cli.specs.Answer.{Answer, answer_of, misused, largest_file, ReadsFile, Reads, IsAnswer, IsVerdict, KeepsSecrets};
+ghost use Rattle.sv_cli.specs.Answer.{Answer, answer_of, misused, largest_file, ReadsFile, Reads};
+ghost use Rattle.sv_cli.specs.Answer.{IsAnswer, IsVerdict, KeepsSecrets};
 ghost use Rattle.sv_cli.specs.Report.{Decides};
 
 use crate::arguments::read_words;
@@ -24,9 +27,9 @@ enum NoReport {
     OutOfMemory,
 }
 
-/// Does what the words ask: `check FILE` checks the file's text. It fetches FILE once, judges what that fetch handed out, and writes
-/// the answer, as the definitions of `Answer` say. What it says of a text holds for every cabinet and sink, those of the real system
-/// among them.
+/// Does what the words ask: `check FILE` checks the file's text. It fetches FILE once, judges what
+/// that fetch handed out, and writes the answer, as the definitions of `Answer` say. What it says
+/// of a text holds for every cabinet and sink, those of the real system among them.
 pub fn run<C: Cabinet, S: Source, K: Sink>(
     alloc: Global,
     words: &[String],
@@ -34,14 +37,19 @@ pub fn run<C: Cabinet, S: Source, K: Sink>(
     input: &mut S,
     out: &mut K,
 ) -> Outcome
-    // The headline: the text that the one fetch of FILE handed out keeps its secrets where it is accepted.
+    // The headline: the text that the one fetch of FILE handed out keeps its secrets where it is
+    // accepted.
     ensures noninterference { result ≡ Outcome.Done →
-        (text : List ℕ) × (C.exchanges cabinet.new ≡ C.exchanges cabinet.old ++ fetched (file_of (words_of words.now)) (whole text) ∷ [])
+        (text : List ℕ)
+        × (C.exchanges cabinet.new ≡
+        C.exchanges cabinet.old ++ fetched (file_of (words_of words.now)) (whole text) ∷ [])
         × KeepsSecrets text }
 
-    // The answer is that of the words and the text that was read, and the whole of what is defined was accepted by the output.
+    // The answer is that of the words and the text that was read, and the whole of what is defined
+    // was accepted by the output.
     ensures answer { IfSome (answer_of result)
-        (λ a. (text printed : List ℕ) × Reads (words_of words.now) text (C.exchanges cabinet.old) (C.exchanges cabinet.new)
+        (λ a. (text printed : List ℕ)
+        × Reads (words_of words.now) text (C.exchanges cabinet.old) (C.exchanges cabinet.new)
         × IsAnswer (words_of words.now) text a printed
         × (K.accepted out.new ≡ K.accepted out.old ++ printed)) }
     // No other answer is that of the words and the text.
@@ -49,35 +57,44 @@ pub fn run<C: Cabinet, S: Source, K: Sink>(
         Reads (words_of words.now) text (C.exchanges cabinet.old) (C.exchanges cabinet.new) →
         IsAnswer (words_of words.now) text a printed →
         IfSome (answer_of result) (λ b. b ≡ a) }
-    // Without an answer a front of what is defined was accepted, and nothing where nothing was read.
+    // Without an answer a front of what is defined was accepted, and nothing where nothing was
+    // read.
     ensures front { (text : List ℕ) (a : Answer) (printed : List ℕ) →
         Reads (words_of words.now) text (C.exchanges cabinet.old) (C.exchanges cabinet.new) →
         IsAnswer (words_of words.now) text a printed →
         IfNone (answer_of result) (WritesFront (K.accepted out.old) printed (K.accepted out.new)) }
-    ensures silent { C.exchanges cabinet.new ≡ C.exchanges cabinet.old ++ fetched (file_of (words_of words.now)) nothing ∷ [] →
+    ensures silent { C.exchanges cabinet.new ≡
+        C.exchanges cabinet.old ++ fetched (file_of (words_of words.now)) nothing ∷ [] →
         K.accepted out.new ≡ K.accepted out.old }
 
     // FILE is fetched once, and nothing else passes between the program and the cabinet.
     ensures one_fetch { MatchOption (usage_of (words_of words.now))
-        ((got : Fetched) × (C.exchanges cabinet.new ≡ C.exchanges cabinet.old ++ fetched (file_of (words_of words.now)) got ∷ []))
+        ((got : Fetched)
+        × (C.exchanges cabinet.new ≡
+        C.exchanges cabinet.old ++ fetched (file_of (words_of words.now)) got ∷ []))
         (λ kind. C.exchanges cabinet.new ≡ C.exchanges cabinet.old) }
     // What was read is what FILE held, or the front of it that shows that it is too large.
     ensures told { IsTrue C.tells → usage_of (words_of words.now) ≡ None → (text : List ℕ) →
-        ReadsFile (file_of (words_of words.now)) text (C.exchanges cabinet.old) (C.exchanges cabinet.new) →
-        text ≡ take (largest_file + 1) (bytes_under (C.held cabinet.old) (file_of (words_of words.now))) }
+        ReadsFile (file_of (words_of words.now)) text (C.exchanges cabinet.old)
+        (C.exchanges cabinet.new) →
+        text ≡ take (largest_file + 1)
+        (bytes_under (C.held cabinet.old) (file_of (words_of words.now))) }
 
     // Words that are no command are never taken for one, nor a command for such words.
     ensures usage { MatchOption (usage_of (words_of words.now)) ⊤
         (λ kind. IfSome (answer_of result) (λ a. a ≡ misused kind)) }
     ensures read_fault { result ≡ Outcome.ReadFault →
         (usage_of (words_of words.now) ≡ None)
-        × Rose (C.fetch_faults cabinet.old (file_of (words_of words.now))) (C.fetch_faults cabinet.new (file_of (words_of words.now))) }
+        × Rose (C.fetch_faults cabinet.old (file_of (words_of words.now)))
+        (C.fetch_faults cabinet.new (file_of (words_of words.now))) }
     ensures write_fault { result ≡ Outcome.WriteFault → Rose (K.faults out.old) (K.faults out.new) }
 
-    ensures cabinet_unchanged { (name : List ℕ) → C.held cabinet.new name ≡ C.held cabinet.old name }
+    ensures cabinet_unchanged { (name : List ℕ) →
+        C.held cabinet.new name ≡ C.held cabinet.old name }
     ensures input_left { S.left input.new ≡ S.left input.old }
     ensures input_untouched { S.given input.new ≡ S.given input.old }
 {
+    // No command reads the input yet.
     let _ = input;
     match read_words(words) {
         Ok(file) => check_file(alloc, file, cabinet, out),
@@ -95,9 +112,12 @@ fn check_file<C: Cabinet, K: Sink>(
     out: &mut K,
 ) -> Outcome
     ensures noninterference { result ≡ Outcome.Done →
-        (text : List ℕ) × (C.exchanges cabinet.new ≡ C.exchanges cabinet.old ++ fetched file.now (whole text) ∷ []) × KeepsSecrets text }
+        (text : List ℕ)
+        × (C.exchanges cabinet.new ≡ C.exchanges cabinet.old ++ fetched file.now (whole text) ∷ [])
+        × KeepsSecrets text }
     ensures answer { IfSome (answer_of result)
-        (λ a. (text printed : List ℕ) × ReadsFile file.now text (C.exchanges cabinet.old) (C.exchanges cabinet.new)
+        (λ a. (text printed : List ℕ)
+        × ReadsFile file.now text (C.exchanges cabinet.old) (C.exchanges cabinet.new)
         × IsVerdict text a printed
         × (K.accepted out.new ≡ K.accepted out.old ++ printed)) }
     ensures only { (text : List ℕ) (a : Answer) (printed : List ℕ) →
@@ -108,16 +128,19 @@ fn check_file<C: Cabinet, K: Sink>(
         ReadsFile file.now text (C.exchanges cabinet.old) (C.exchanges cabinet.new) →
         IsVerdict text a printed →
         IfNone (answer_of result) (WritesFront (K.accepted out.old) printed (K.accepted out.new)) }
-    ensures silent { C.exchanges cabinet.new ≡ C.exchanges cabinet.old ++ fetched file.now nothing ∷ [] →
+    ensures silent { C.exchanges cabinet.new ≡
+        C.exchanges cabinet.old ++ fetched file.now nothing ∷ [] →
         K.accepted out.new ≡ K.accepted out.old }
-    ensures one_fetch { (got : Fetched) × (C.exchanges cabinet.new ≡ C.exchanges cabinet.old ++ fetched file.now got ∷ []) }
+    ensures one_fetch { (got : Fetched)
+        × (C.exchanges cabinet.new ≡ C.exchanges cabinet.old ++ fetched file.now got ∷ []) }
     ensures told { IsTrue C.tells → (text : List ℕ) →
         ReadsFile file.now text (C.exchanges cabinet.old) (C.exchanges cabinet.new) →
         text ≡ take (largest_file + 1) (bytes_under (C.held cabinet.old) file.now) }
     ensures read_fault { result ≡ Outcome.ReadFault →
         Rose (C.fetch_faults cabinet.old file.now) (C.fetch_faults cabinet.new file.now) }
     ensures write_fault { result ≡ Outcome.WriteFault → Rose (K.faults out.old) (K.faults out.new) }
-    ensures cabinet_unchanged { (name : List ℕ) → C.held cabinet.new name ≡ C.held cabinet.old name }
+    ensures cabinet_unchanged { (name : List ℕ) →
+        C.held cabinet.new name ≡ C.held cabinet.old name }
 {
     match report_on_file(alloc, file, cabinet) {
         Ok(report) => send(out, report),
@@ -132,21 +155,21 @@ fn report_on_file<C: Cabinet>(
     cabinet: &mut C,
 ) -> Result<Report, NoReport>
     ensures report { IfOk result
-        (λ report. (text : List ℕ) × ReadsFile file.now text (C.exchanges cabinet.old) (C.exchanges cabinet.new)
+        (λ report. (text : List ℕ)
+        × ReadsFile file.now text (C.exchanges cabinet.old) (C.exchanges cabinet.new)
         × Decides text report.outcome report.text.items) }
-    ensures one_fetch { (got : Fetched) × (C.exchanges cabinet.new ≡ C.exchanges cabinet.old ++ fetched file.now got ∷ []) }
+    ensures one_fetch { (got : Fetched)
+        × (C.exchanges cabinet.new ≡ C.exchanges cabinet.old ++ fetched file.now got ∷ []) }
     ensures told { IsTrue C.tells → (text : List ℕ) →
         ReadsFile file.now text (C.exchanges cabinet.old) (C.exchanges cabinet.new) →
         text ≡ take (largest_file + 1) (bytes_under (C.held cabinet.old) file.now) }
     ensures unread { result ≡ Err NoReport.Unread →
         Rose (C.fetch_faults cabinet.old file.now) (C.fetch_faults cabinet.new file.now) }
-    ensures cabinet_unchanged { (name : List ℕ) → C.held cabinet.new name ≡ C.held cabinet.old name }
+    ensures cabinet_unchanged { (name : List ℕ) →
+        C.held cabinet.new name ≡ C.held cabinet.old name }
 {
     match fetch_text(alloc, file, cabinet) {
-        Ok(bytes) => match report_on(alloc, &bytes) {
-            Ok(report) => Ok(report),
-            Err(_) => Err(NoReport::OutOfMemory),
-        },
+        Ok(bytes) => report_on_text(alloc, &bytes),
         Err(FetchFault::Long(_)) => match report_of_large_file(alloc) {
             Ok(report) => Ok(report),
             Err(_) => Err(NoReport::OutOfMemory),
@@ -156,14 +179,46 @@ fn report_on_file<C: Cabinet>(
     }
 }
 
+// The report on a text that was fetched whole.
+fn report_on_text(alloc: Global, bytes: &[u8]) -> Result<Report, NoReport>
+    requires { length bytes.now ≤ largest_file }
+    ensures report { IfOk result
+        (λ report. Decides bytes.now report.outcome report.text.items) }
+    ensures read { IsErrOf result NoReport.Unread → ⊥ }
+{
+    match report_on(alloc, bytes) {
+        Ok(report) => Ok(report),
+        Err(_) => Err(NoReport::OutOfMemory),
+    }
+}
+
 // The text of the file, where it is within the limit.
 fn fetch_text<C: Cabinet>(alloc: Global, file: &str, cabinet: &mut C) -> Result<Vec<u8>, FetchFault>
-    ensures exchange { C.exchanges cabinet.new ≡ C.exchanges cabinet.old ++ fetched file.now (fetched_of result) ∷ [] }
+    ensures exchange { C.exchanges cabinet.new ≡
+        C.exchanges cabinet.old ++ fetched file.now (fetched_of result) ∷ [] }
     ensures within { IfOk result (λ bytes. vec_len bytes ≤ largest_file) }
     ensures long_length { IfLong result (λ bytes. length bytes ≡ largest_file + 1) }
     ensures told { IsTrue C.tells → (text : List ℕ) →
         ReadsFile file.now text (C.exchanges cabinet.old) (C.exchanges cabinet.new) →
         text ≡ take (largest_file + 1) (bytes_under (C.held cabinet.old) file.now) }
+    ensures failed { IsErrOf result FetchFault.Failed →
+        Rose (C.fetch_faults cabinet.old file.now) (C.fetch_faults cabinet.new file.now) }
+    ensures unchanged { (name : List ℕ) → C.held cabinet.new name ≡ C.held cabinet.old name }
+{
+    fetch_once(alloc, file, cabinet)
+}
+
+// What one fetch of the file hands out.
+fn fetch_once<C: Cabinet>(alloc: Global, file: &str, cabinet: &mut C) -> Result<Vec<u8>, FetchFault>
+    ensures exchange { C.exchanges cabinet.new ≡
+        C.exchanges cabinet.old ++ fetched file.now (fetched_of result) ∷ [] }
+    ensures whole { IsTrue C.tells →
+        IfOk result (λ bytes. bytes.items ≡ bytes_under (C.held cabinet.old) file.now) }
+    ensures within { IfOk result (λ bytes. vec_len bytes ≤ largest_file) }
+    ensures long_length { IfLong result (λ bytes. length bytes ≡ largest_file + 1) }
+    ensures long_front { IsTrue C.tells →
+        IfLong result
+        (λ bytes. bytes ≡ take (largest_file + 1) (bytes_under (C.held cabinet.old) file.now)) }
     ensures failed { IsErrOf result FetchFault.Failed →
         Rose (C.fetch_faults cabinet.old file.now) (C.fetch_faults cabinet.new file.now) }
     ensures unchanged { (name : List ℕ) → C.held cabinet.new name ≡ C.held cabinet.old name }
@@ -176,8 +231,10 @@ fn send<K: Sink>(out: &mut K, report: Report) -> Outcome
     requires { IsSome (answer_of report.outcome) }
     ensures answered { IfSome (answer_of result) (λ a. answer_of report.outcome ≡ Some a) }
     ensures done { result ≡ Outcome.Done → report.outcome ≡ Outcome.Done }
-    ensures whole { IfSome (answer_of result) (λ _. K.accepted out.new ≡ K.accepted out.old ++ report.text.items) }
-    ensures front { IfNone (answer_of result) (WritesFront (K.accepted out.old) report.text.items (K.accepted out.new)) }
+    ensures whole { IfSome (answer_of result)
+        (λ _. K.accepted out.new ≡ K.accepted out.old ++ report.text.items) }
+    ensures front { IfNone (answer_of result)
+        (WritesFront (K.accepted out.old) report.text.items (K.accepted out.new)) }
     ensures no_read { result ≡ Outcome.ReadFault → ⊥ }
     ensures write_fault { result ≡ Outcome.WriteFault → Rose (K.faults out.old) (K.faults out.new) }
 {

@@ -10,7 +10,7 @@ use Rattle.sv_first_ast.specs.Spelling.{begins_word, continues_word, begins_with
 use Rattle.sv_first.specs.declared.token.TokenKind.{TokenKind}
 use Rattle.sv_first.specs.declared.token.Front.{Front}
 use Rattle.sv_first.specs.Signs.{sign_at}
-use Rattle.sv_first.specs.Words.{word_kind}
+use Rattle.sv_first.specs.Identifiers.{word_kind}
 use Rattle.sv_first.specs.Tokens.{front_at, kind_of}
 use Rattle.sv_first.proofs.SignLaws.{IsFront, found, sign_takes, sign_again, sign_begins}
 

@@ -11,7 +11,7 @@ use Rattle.sv_first.specs.declared.token.TokenKind.{TokenKind}
 use Rattle.sv_first.specs.declared.token.TokenKind.TheVariants as kinds
 use Rattle.sv_first.specs.declared.token.Front.{Front}
 use Rattle.sv_first.specs.Signs.{sign_at}
-use Rattle.sv_first.specs.Words.{word_kind}
+use Rattle.sv_first.specs.Identifiers.{word_kind}
 use Rattle.sv_first.specs.Tokens.{Lexeme, kind_of}
 use Rattle.sv_first.specs.Reading.{rank, same_kind}
 use Rattle.sv_first.proofs.SignLaws.{any_sign}

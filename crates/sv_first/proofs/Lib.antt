@@ -10,3 +10,4 @@ pub mod ValueAgain
 pub mod ItemTakes
 pub mod ItemAgain
 pub mod Whole
+pub mod Readings

@@ -27,13 +27,13 @@ tokens_again (l ∷ ls) h = and_from (is_token l.text) _ h.0.token (tokens_again
 
 module _ (bytes : List ℕ) (ls : List Lexeme) (lexed : AreLexed ls) (reads : Reads bytes (texts_of ls)) (only : (others : List (List ℕ)) → Reads bytes others → others ≡ texts_of ls) where
   -- what is read is meant
-  read_is_meant : (m : ModuleTree) → module_at ls ≡ Some m → Means bytes m
+  pub read_is_meant : (m : ModuleTree) → module_at ls ≡ Some m → Means bytes m
   read_is_meant m h =
       let t = module_takes ls m lexed h in
       (subst (λ (ts : List (List ℕ)). Reads bytes ts) t.0 reads, t.1)
 
   -- what is meant is read
-  meant_is_read : (m : ModuleTree) → Means bytes m → module_at ls ≡ Some m
+  pub meant_is_read : (m : ModuleTree) → Means bytes m → module_at ls ≡ Some m
   meant_is_read m h =
       let e : module_tokens m ≡ texts_of ls = only (module_tokens m) h.0 in
       let spelled : list_all is_token (module_tokens m) ≡ true = subst (λ (ts : List (List ℕ)). list_all is_token ts ≡ true) (sym e) (tokens_again ls lexed) in

@@ -1,5 +1,5 @@
 pub mod Signs
-pub mod Words
+pub mod Identifiers
 pub mod Tokens
 pub mod Reading
 pub mod Values

@@ -8,7 +8,7 @@ use Rattle.sv_first.specs.declared.token.TokenKind.TheVariants as kinds
 use Rattle.sv_first.specs.declared.token.Token.{Token}
 use Rattle.sv_first.specs.declared.token.Front.{Front}
 use Rattle.sv_first.specs.Signs.{sign_at}
-use Rattle.sv_first.specs.Words.{word_kind}
+use Rattle.sv_first.specs.Identifiers.{word_kind}
 
 -- the token that begins the bytes, where one of the first form does
 abbrev pub front_at : List ℕ → Option Front

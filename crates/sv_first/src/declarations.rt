@@ -2,7 +2,8 @@
 ghost use Rattle.std.specs.Prelude.{◌≡◌, ℕ, List};
 ghost use Rattle.sv_first.specs.Tokens.{lexemes};
 ghost use Rattle.sv_first.specs.Reading.{Gives};
-ghost use Rattle.sv_first.specs.Items.{declaration_at, label_at, point_at, port_at, port_kind_at, ports_of, signal_kind_at};
+ghost use Rattle.sv_first.specs.Items.{declaration_at, label_at, point_at, port_at, port_kind_at};
+ghost use Rattle.sv_first.specs.Items.{ports_of, signal_kind_at};
 
 use crate::reading::{behind, expect, read_name, read_name_text};
 use crate::stop::Stop;
@@ -13,7 +14,8 @@ use sv_first_ast::{Decl, DeclKind, Point};
 // What a port is.
 #[tactic(auto, unfolding(crate::specs::Items::port_kind_at))]
 fn read_port_kind(tokens: &[Token]) -> Result<(DeclKind, &[Token]), Stop>
-    ensures { (bytes : List ℕ) → Gives (λ x. (x.0, lexemes bytes x.1.now)) result (port_kind_at (lexemes bytes tokens.now)) }
+    ensures { (bytes : List ℕ) →
+        Gives (λ x. (x.0, lexemes bytes x.1.now)) result (port_kind_at (lexemes bytes tokens.now)) }
 {
     if let Some(rest) = behind(TokenKind::Input, tokens) {
         return Ok((DeclKind::Input, rest));
@@ -28,7 +30,9 @@ fn read_port_kind(tokens: &[Token]) -> Result<(DeclKind, &[Token]), Stop>
 /// What a signal is that is declared among the items.
 #[tactic(auto, unfolding(crate::specs::Items::signal_kind_at))]
 pub fn read_signal_kind(tokens: &[Token]) -> Result<(DeclKind, &[Token]), Stop>
-    ensures { (bytes : List ℕ) → Gives (λ x. (x.0, lexemes bytes x.1.now)) result (signal_kind_at (lexemes bytes tokens.now)) }
+    ensures { (bytes : List ℕ) →
+        Gives (λ x. (x.0, lexemes bytes x.1.now)) result
+        (signal_kind_at (lexemes bytes tokens.now)) }
 {
     if let Some(rest) = behind(TokenKind::Wire, tokens) {
         return Ok((DeclKind::Wire, rest));
@@ -40,7 +44,8 @@ pub fn read_signal_kind(tokens: &[Token]) -> Result<(DeclKind, &[Token]), Stop>
 // A point of the lattice.
 #[tactic(auto, unfolding(crate::specs::Items::point_at))]
 fn read_point<'a>(bytes: &'a [u8], tokens: &'a [Token]) -> Result<(Point, &'a [Token]), Stop>
-    ensures { Gives (λ x. (x.0, lexemes bytes.now x.1.now)) result (point_at (lexemes bytes.now tokens.now)) }
+    ensures { Gives (λ x. (x.0, lexemes bytes.now x.1.now)) result
+        (point_at (lexemes bytes.now tokens.now)) }
 {
     let (text, rest) = read_name_text(bytes, tokens)?;
     if text == b"L".as_slice() {
@@ -58,7 +63,8 @@ fn read_label<'a>(
     bytes: &'a [u8],
     tokens: &'a [Token],
 ) -> Result<(Option<Point>, &'a [Token]), Stop>
-    ensures { Gives (λ x. (x.0, lexemes bytes.now x.1.now)) result (label_at (lexemes bytes.now tokens.now)) }
+    ensures { Gives (λ x. (x.0, lexemes bytes.now x.1.now)) result
+        (label_at (lexemes bytes.now tokens.now)) }
 {
     match behind(TokenKind::LeftBrace, tokens) {
         None => Ok((None, tokens)),
@@ -77,7 +83,8 @@ pub fn read_declaration<'a>(
     kind: DeclKind,
     tokens: &'a [Token],
 ) -> Result<(Decl, &'a [Token]), Stop>
-    ensures { Gives (λ x. (x.0, lexemes bytes.now x.1.now)) result (declaration_at kind (lexemes bytes.now tokens.now)) }
+    ensures { Gives (λ x. (x.0, lexemes bytes.now x.1.now)) result
+        (declaration_at kind (lexemes bytes.now tokens.now)) }
 {
     let (label, rest) = read_label(bytes, tokens)?;
     let (name, rest) = read_name(alloc, bytes, rest)?;
@@ -90,7 +97,8 @@ fn read_port<'a>(
     bytes: &'a [u8],
     tokens: &'a [Token],
 ) -> Result<(Decl, &'a [Token]), Stop>
-    ensures { Gives (λ x. (x.0, lexemes bytes.now x.1.now)) result (port_at (lexemes bytes.now tokens.now)) }
+    ensures { Gives (λ x. (x.0, lexemes bytes.now x.1.now)) result
+        (port_at (lexemes bytes.now tokens.now)) }
 {
     let (kind, rest) = read_port_kind(tokens)?;
     read_declaration(alloc, bytes, kind, rest)
@@ -102,7 +110,8 @@ pub fn read_ports<'a>(
     bytes: &'a [u8],
     tokens: &'a [Token],
 ) -> Result<(Vec<Decl>, &'a [Token]), Stop>
-    ensures { Gives (λ x. (x.0.items, lexemes bytes.now x.1.now)) result (ports_of (lexemes bytes.now tokens.now)) }
+    ensures { Gives (λ x. (x.0.items, lexemes bytes.now x.1.now)) result
+        (ports_of (lexemes bytes.now tokens.now)) }
 {
     let mut ports = Vec::new(alloc);
     let mut rest = tokens;

@@ -3,7 +3,8 @@ ghost use Rattle.std.specs.Prelude.{◌≡◌, ℕ, List, map};
 ghost use Rattle.sv_first_ast.specs.Tree.{item_tree, statement_tree};
 ghost use Rattle.sv_first.specs.Tokens.{lexemes};
 ghost use Rattle.sv_first.specs.Reading.{Gives};
-ghost use Rattle.sv_first.specs.Items.{clock_at, clocked_at, continuous_at, item_at, items_of, signal_at, statement_at};
+ghost use Rattle.sv_first.specs.Items.{clock_at, clocked_at, continuous_at, item_at, items_of};
+ghost use Rattle.sv_first.specs.Items.{signal_at, statement_at};
 
 use crate::declarations::{read_declaration, read_signal_kind};
 use crate::reading::{behind, expect, read_name};
@@ -21,7 +22,8 @@ fn read_signal<'a>(
     bytes: &'a [u8],
     tokens: &'a [Token],
 ) -> Result<(Item, &'a [Token]), Stop>
-    ensures { Gives (λ x. (item_tree x.0, lexemes bytes.now x.1.now)) result (signal_at (lexemes bytes.now tokens.now)) }
+    ensures { Gives (λ x. (item_tree x.0, lexemes bytes.now x.1.now)) result
+        (signal_at (lexemes bytes.now tokens.now)) }
 {
     let (kind, rest) = read_signal_kind(tokens)?;
     let (declaration, rest) = read_declaration(alloc, bytes, kind, rest)?;
@@ -36,7 +38,8 @@ fn read_continuous<'a>(
     bytes: &'a [u8],
     tokens: &'a [Token],
 ) -> Result<(Item, &'a [Token]), Stop>
-    ensures { Gives (λ x. (item_tree x.0, lexemes bytes.now x.1.now)) result (continuous_at (lexemes bytes.now tokens.now)) }
+    ensures { Gives (λ x. (item_tree x.0, lexemes bytes.now x.1.now)) result
+        (continuous_at (lexemes bytes.now tokens.now)) }
 {
     let (target, rest) = read_name(alloc, bytes, tokens)?;
     let rest = expect(TokenKind::Equals, rest)?;
@@ -51,7 +54,8 @@ fn read_clock<'a>(
     bytes: &'a [u8],
     tokens: &'a [Token],
 ) -> Result<(Name, &'a [Token]), Stop>
-    ensures { Gives (λ x. (x.0, lexemes bytes.now x.1.now)) result (clock_at (lexemes bytes.now tokens.now)) }
+    ensures { Gives (λ x. (x.0, lexemes bytes.now x.1.now)) result
+        (clock_at (lexemes bytes.now tokens.now)) }
 {
     let rest = expect(TokenKind::At, tokens)?;
     let rest = expect(TokenKind::LeftParenthesis, rest)?;
@@ -68,7 +72,8 @@ fn read_statement<'a>(
     bytes: &'a [u8],
     tokens: &'a [Token],
 ) -> Result<(Stmt, &'a [Token]), Stop>
-    ensures { Gives (λ x. (statement_tree x.0, lexemes bytes.now x.1.now)) result (statement_at (lexemes bytes.now tokens.now)) }
+    ensures { Gives (λ x. (statement_tree x.0, lexemes bytes.now x.1.now)) result
+        (statement_at (lexemes bytes.now tokens.now)) }
 {
     let (target, rest) = read_name(alloc, bytes, tokens)?;
     let rest = expect(TokenKind::Arrow, rest)?;
@@ -88,7 +93,8 @@ fn read_clocked<'a>(
     bytes: &'a [u8],
     tokens: &'a [Token],
 ) -> Result<(Item, &'a [Token]), Stop>
-    ensures { Gives (λ x. (item_tree x.0, lexemes bytes.now x.1.now)) result (clocked_at (lexemes bytes.now tokens.now)) }
+    ensures { Gives (λ x. (item_tree x.0, lexemes bytes.now x.1.now)) result
+        (clocked_at (lexemes bytes.now tokens.now)) }
 {
     let (clock, rest) = read_clock(alloc, bytes, tokens)?;
     let (body, rest) = read_statement(alloc, bytes, rest)?;
@@ -101,7 +107,8 @@ fn read_item<'a>(
     bytes: &'a [u8],
     tokens: &'a [Token],
 ) -> Result<(Item, &'a [Token]), Stop>
-    ensures { Gives (λ x. (item_tree x.0, lexemes bytes.now x.1.now)) result (item_at (lexemes bytes.now tokens.now)) }
+    ensures { Gives (λ x. (item_tree x.0, lexemes bytes.now x.1.now)) result
+        (item_at (lexemes bytes.now tokens.now)) }
 {
     if let Some(rest) = behind(TokenKind::Assign, tokens) {
         return read_continuous(alloc, bytes, rest);
@@ -118,7 +125,8 @@ pub fn read_items<'a>(
     bytes: &'a [u8],
     tokens: &'a [Token],
 ) -> Result<(Vec<Item>, &'a [Token]), Stop>
-    ensures { Gives (λ x. (map item_tree x.0.items, lexemes bytes.now x.1.now)) result (items_of (lexemes bytes.now tokens.now)) }
+    ensures { Gives (λ x. (map item_tree x.0.items, lexemes bytes.now x.1.now)) result
+        (items_of (lexemes bytes.now tokens.now)) }
 {
     let mut items = Vec::new(alloc);
     let mut rest = tokens;

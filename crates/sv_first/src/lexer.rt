@@ -6,7 +6,7 @@ ghost use Rattle.sv_first.specs.Tokens.{AreLexed, IsLexed, front_at, lexemes, te
 use crate::signs::sign_at;
 use crate::stop::Stop;
 use crate::token::{Front, Token};
-use crate::words::{begins_word, is_blank, word_kind, word_length};
+use crate::identifiers::{begins_word, is_blank, word_kind, word_length};
 use std::alloc::Global;
 
 // The token at the front.
@@ -32,9 +32,12 @@ fn front_at(bytes: &[u8]) -> Option<Front>
 /// The tokens of the bytes, the longest at each place.
 pub fn lex(alloc: Global, bytes: &[u8]) -> Result<Vec<Token>, Stop>
     ensures found { IfOk result (λ tokens. Reads bytes.now (texts bytes.now tokens.items)) }
-    ensures only { IfOk result (λ tokens. (others : List (List ℕ)) → Reads bytes.now others → others ≡ texts bytes.now tokens.items) }
+    ensures only { IfOk result
+        (λ tokens. (others : List (List ℕ)) → Reads bytes.now others →
+        others ≡ texts bytes.now tokens.items) }
     ensures kinds { IfOk result (λ tokens. AreLexed (lexemes bytes.now tokens.items)) }
-    ensures none { IsErrOf result Stop.NotRead → (others : List (List ℕ)) → Reads bytes.now others → ⊥ }
+    ensures none { IsErrOf result Stop.NotRead → (others : List (List ℕ)) → Reads bytes.now others →
+        ⊥ }
 {
     let mut tokens = Vec::new(alloc);
     let mut start = 0;

@@ -1,14 +1,17 @@
 //! Texts of the first form, from bytes to trees.
 //!
-//! [`read_module`] reads one module of one-bit signals. What bytes mean a module is said in `specs/Spelling.antt` of `sv_first_ast`:
-//! exactly these are read, each as the one module that it means.
+//! [`read_module`] reads one module of one-bit signals. What bytes mean a module is said in
+//! `specs/Spelling.antt` of `sv_first_ast`: exactly these are read, each as the one module that it
+//! means.
 //!
-//! Bytes become tokens (`lexer`), and tokens a tree, from left to right. The definitions in `specs/` say how the private functions
-//! do that, and are no part of what the crate promises.
+//! Bytes become tokens (`lexer`), and tokens a tree, from left to right. The definitions in
+//! `specs/` say how the private functions do that, and are no part of what the crate promises.
 #![tactic(auto)]
 
 mod declarations;
+mod identifiers;
 mod items;
+mod laws;
 mod lexer;
 mod modules;
 mod reading;
@@ -16,8 +19,8 @@ mod signs;
 mod stop;
 mod token;
 mod values;
-mod words;
 
+pub use laws::at_most_one_module_is_meant;
 pub use modules::read_module;
 
 #[cfg(test)]

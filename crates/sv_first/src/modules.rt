@@ -34,7 +34,8 @@ fn read_tokens(alloc: Global, bytes: &[u8], tokens: &[Token]) -> Result<Module, 
 // The module that the bytes mean.
 fn read_bytes(alloc: Global, bytes: &[u8]) -> Result<Module, Stop>
     ensures found { IfOk result (λ m. Means bytes.now (module_tree m)) }
-    ensures only { IfOk result (λ m. (other : ModuleTree) → Means bytes.now other → other ≡ module_tree m) }
+    ensures only { IfOk result
+        (λ m. (other : ModuleTree) → Means bytes.now other → other ≡ module_tree m) }
     ensures none { IsErrOf result Stop.NotRead → (m : ModuleTree) → Means bytes.now m → ⊥ }
 {
     let tokens = lex(alloc, bytes)?;
@@ -46,7 +47,9 @@ pub fn read_module(alloc: Global, bytes: &[u8]) -> Result<Option<Module>, OutOfM
     // What is read is what the bytes mean.
     ensures found { IfOk result (λ read. IfSome read (λ m. Means bytes.now (module_tree m))) }
     // They mean nothing else.
-    ensures only { IfOk result (λ read. IfSome read (λ m. (other : ModuleTree) → Means bytes.now other → other ≡ module_tree m)) }
+    ensures only { IfOk result
+        (λ read. IfSome read
+        (λ m. (other : ModuleTree) → Means bytes.now other → other ≡ module_tree m)) }
     // Where nothing is read they mean no module.
     ensures none { IfOk result (λ read. IfNone read ((m : ModuleTree) → Means bytes.now m → ⊥)) }
 {

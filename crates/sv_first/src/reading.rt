@@ -29,7 +29,9 @@ pub fn text_of(bytes: &[u8], token: Token) -> &[u8]
 /// The tokens behind one of the kind, if one comes.
 #[tactic(auto, unfolding(crate::specs::Reading::token_at))]
 pub fn behind(kind: TokenKind, tokens: &[Token]) -> Option<&[Token]>
-    ensures { (bytes : List ℕ) → option_map (λ rest. lexemes bytes rest.now) result ≡ token_at kind (lexemes bytes tokens.now) }
+    ensures { (bytes : List ℕ) →
+        option_map (λ rest. lexemes bytes rest.now) result ≡
+        token_at kind (lexemes bytes tokens.now) }
 {
     match tokens {
         [first, rest @ ..] if same_kind(first.kind, kind) => Some(rest),
@@ -39,7 +41,8 @@ pub fn behind(kind: TokenKind, tokens: &[Token]) -> Option<&[Token]>
 
 /// The tokens behind one of the kind, which has to come.
 pub fn expect(kind: TokenKind, tokens: &[Token]) -> Result<&[Token], Stop>
-    ensures { (bytes : List ℕ) → Gives (λ rest. lexemes bytes rest.now) result (token_at kind (lexemes bytes tokens.now)) }
+    ensures { (bytes : List ℕ) →
+        Gives (λ rest. lexemes bytes rest.now) result (token_at kind (lexemes bytes tokens.now)) }
 {
     match behind(kind, tokens) {
         Some(rest) => Ok(rest),
@@ -50,7 +53,8 @@ pub fn expect(kind: TokenKind, tokens: &[Token]) -> Result<&[Token], Stop>
 /// Nothing, where no token is left.
 #[tactic(auto, unfolding(crate::specs::Reading::end_at))]
 pub fn expect_end(tokens: &[Token]) -> Result<(), Stop>
-    ensures { (bytes : List ℕ) → Gives (λ nothing. nothing) result (end_at (lexemes bytes tokens.now)) }
+    ensures { (bytes : List ℕ) →
+        Gives (λ nothing. nothing) result (end_at (lexemes bytes tokens.now)) }
 {
     match tokens {
         [] => Ok(()),
@@ -64,7 +68,8 @@ pub fn read_name_text<'a>(
     bytes: &'a [u8],
     tokens: &'a [Token],
 ) -> Result<(&'a [u8], &'a [Token]), Stop>
-    ensures { Gives (λ x. (x.0.now, lexemes bytes.now x.1.now)) result (name_at (lexemes bytes.now tokens.now)) }
+    ensures { Gives (λ x. (x.0.now, lexemes bytes.now x.1.now)) result
+        (name_at (lexemes bytes.now tokens.now)) }
 {
     match tokens {
         [first, rest @ ..] if same_kind(first.kind, TokenKind::Name) => {
@@ -80,7 +85,8 @@ pub fn read_name<'a>(
     bytes: &'a [u8],
     tokens: &'a [Token],
 ) -> Result<(Name, &'a [Token]), Stop>
-    ensures { Gives (λ x. (x.0, lexemes bytes.now x.1.now)) result (name_at (lexemes bytes.now tokens.now)) }
+    ensures { Gives (λ x. (x.0, lexemes bytes.now x.1.now)) result
+        (name_at (lexemes bytes.now tokens.now)) }
 {
     let (text, rest) = read_name_text(bytes, tokens)?;
     Ok((Name::new(alloc, text)?, rest))

@@ -13,6 +13,12 @@ fn shape(alloc: Global, text: &[u8]) -> Result<Option<(u8, usize, usize)>, Alloc
     }
 }
 
+// What the text of `a_text_is_read_whole` is read as.
+const WHOLE: &str = "Module { name: Name { bytes: [109] }, ports: [\
+Decl { kind: Input, label: Some(High), name: Name { bytes: [97] } }, \
+Decl { kind: OutputWire, label: None, name: Name { bytes: [121] } }], items: [\
+Assign { target: Name { bytes: [121] }, value: Unary(Invert, Name(Name { bytes: [97] })) }] }";
+
 // A module whose one expression has this many operands, joined by `&`.
 fn product(alloc: Global, first: &[u8], others: usize) -> Result<Vec<u8>, AllocError> {
     let mut text = Vec::new(alloc);
@@ -23,6 +29,15 @@ fn product(alloc: Global, first: &[u8], others: usize) -> Result<Vec<u8>, AllocE
     }
     text.extend_from_slice(b"; endmodule")?;
     Ok(text)
+}
+
+#[test]
+fn a_text_is_read_whole(rt: HostRuntime) -> Result<(), Fail> {
+    let text = b"module m(input {H} a, output y); assign y = ~a; endmodule".as_slice();
+    let module = read_module(rt.alloc(), text)?.ok_or("nothing was read")?;
+    let shown = format!(in rt.alloc(); "{module:?}")?;
+    assert_eq!(rt; shown.as_str(), WHOLE);
+    Ok(())
 }
 
 #[test]
@@ -37,11 +52,15 @@ fn reads_modules(rt: HostRuntime) -> Result<(), Fail> {
             (b'm', 2, 1),
         ),
         (
-            b"module m(input clk, input {H} k, output reg {L} r); always @(posedge clk) r <= k; endmodule".as_slice(),
+            b"module m(input clk, input {H} k, output reg {L} r);
+                always @(posedge clk) r <= k; endmodule"
+                .as_slice(),
             (b'm', 3, 1),
         ),
         (
-            b"module m(input a, input {H} b, output {H} y); wire {H} w; assign w = a ^ b; assign y = ~w | a; endmodule".as_slice(),
+            b"module m(input a, input {H} b, output {H} y);
+                wire {H} w; assign w = a ^ b; assign y = ~w | a; endmodule"
+                .as_slice(),
             (b'm', 3, 3),
         ),
         (

@@ -4,7 +4,9 @@ ghost use Rattle.std.specs.Option.{option_map};
 ghost use Rattle.sv_first_ast.specs.Tree.{expression_tree, named};
 ghost use Rattle.sv_first.specs.Tokens.{lexemes};
 ghost use Rattle.sv_first.specs.Reading.{Gives};
-ghost use Rattle.sv_first.specs.Values.{empty, inversions_of, inverted, joined, left_of, operand, operator, state_of, step, up_to_or, value_at, whole, with_and, with_or, with_xor};
+ghost use Rattle.sv_first.specs.Values.{empty, inversions_of, inverted, joined, left_of, operand};
+ghost use Rattle.sv_first.specs.Values.{operator, state_of, step, up_to_or, up_to_xor, value_at};
+ghost use Rattle.sv_first.specs.Values.{whole, with_and, with_or, with_xor};
 
 use crate::reading::{same_kind, text_of};
 use crate::stop::Stop;
@@ -51,7 +53,9 @@ fn joined(
     left: Option<Expr>,
     operand: Expr,
 ) -> Result<Expr, AllocError>
-    ensures { IfOk result (λ e. expression_tree e ≡ joined operator (option_map expression_tree left) (expression_tree operand)) }
+    ensures { IfOk result
+        (λ e. expression_tree e ≡
+        joined operator (option_map expression_tree left) (expression_tree operand)) }
 {
     match left {
         None => Ok(operand),
@@ -80,17 +84,22 @@ impl Left {
             of_xor,
             of_and,
         } = self;
-        let product = joined(alloc, BinOp::And, of_and, operand)?;
         Ok(Left {
             of_or,
             of_xor,
-            of_and: Some(product),
+            of_and: Some(joined(alloc, BinOp::And, of_and, operand)?),
         })
     }
 
-    // What stands left of a `^` behind the operand.
-    fn with_xor(self, alloc: Global, operand: Expr) -> Result<Left, AllocError>
-        ensures { IfOk result (λ l. left_of l ≡ with_xor (left_of self) (expression_tree operand)) }
+    // What stands left of the latest `|`, and all that a `^` behind the operand has on its left.
+    fn up_to_xor(
+        self,
+        alloc: Global,
+        operand: Expr,
+    ) -> Result<(Option<Expr>, Expr), AllocError>
+        ensures before { IfOk result (λ x. option_map expression_tree x.0 ≡ (left_of self).of_or) }
+        ensures sum { IfOk result
+            (λ x. expression_tree x.1 ≡ up_to_xor (left_of self) (expression_tree operand)) }
     {
         let Left {
             of_or,
@@ -98,7 +107,14 @@ impl Left {
             of_and,
         } = self;
         let product = joined(alloc, BinOp::And, of_and, operand)?;
-        let sum = joined(alloc, BinOp::Xor, of_xor, product)?;
+        Ok((of_or, joined(alloc, BinOp::Xor, of_xor, product)?))
+    }
+
+    // What stands left of a `^` behind the operand.
+    fn with_xor(self, alloc: Global, operand: Expr) -> Result<Left, AllocError>
+        ensures { IfOk result (λ l. left_of l ≡ with_xor (left_of self) (expression_tree operand)) }
+    {
+        let (of_or, sum) = self.up_to_xor(alloc, operand)?;
         Ok(Left {
             of_or,
             of_xor: Some(sum),
@@ -108,15 +124,10 @@ impl Left {
 
     // The whole that ends with the operand.
     fn whole(self, alloc: Global, operand: Expr) -> Result<Expr, AllocError>
-        ensures { IfOk result (λ e. expression_tree e ≡ up_to_or (left_of self) (expression_tree operand)) }
+        ensures { IfOk result
+            (λ e. expression_tree e ≡ up_to_or (left_of self) (expression_tree operand)) }
     {
-        let Left {
-            of_or,
-            of_xor,
-            of_and,
-        } = self;
-        let product = joined(alloc, BinOp::And, of_and, operand)?;
-        let sum = joined(alloc, BinOp::Xor, of_xor, product)?;
+        let (of_or, sum) = self.up_to_xor(alloc, operand)?;
         joined(alloc, BinOp::Or, of_or, sum)
     }
 
@@ -134,7 +145,8 @@ impl Left {
 
     // Behind the operand.
     fn operator(self, alloc: Global, operand: Expr, kind: TokenKind) -> Result<State, Stop>
-        ensures is { Gives state_of result (operator (left_of self) (expression_tree operand) kind) }
+        ensures is { Gives state_of result
+            (operator (left_of self) (expression_tree operand) kind) }
         ensures few { IfOk result (λ s. inversions_of s ≡ 0) }
     {
         let left = match kind {
@@ -183,7 +195,8 @@ impl State {
     #[tactic(auto, unfolding(crate::specs::Values::step))]
     fn step(self, alloc: Global, kind: TokenKind, text: &[u8]) -> Result<State, Stop>
         requires { inversions_of self < 2 ^ 32 }
-        ensures is { Gives state_of result (step (state_of self) (record { kind = kind; text = text.now })) }
+        ensures is { Gives state_of result
+            (step (state_of self) (record { kind = kind; text = text.now })) }
         ensures few { IfOk result (λ s. inversions_of s ≤ inversions_of self + 1) }
     {
         match self {
@@ -210,7 +223,8 @@ pub fn read_value<'a>(
     bytes: &'a [u8],
     tokens: &'a [Token],
 ) -> Result<(Expr, &'a [Token]), Stop>
-    ensures { Gives (λ x. (expression_tree x.0, lexemes bytes.now x.1.now)) result (value_at (lexemes bytes.now tokens.now)) }
+    ensures { Gives (λ x. (expression_tree x.0, lexemes bytes.now x.1.now)) result
+        (value_at (lexemes bytes.now tokens.now)) }
 {
     let mut state = State::Before {
         left: Left::empty(),

@@ -9,7 +9,8 @@ ghost use Rattle.sv_first_ast.specs.Meaning as meaning;
 ghost use Rattle.sv_first_ast.specs.Form as form;
 ghost use Rattle.sv_first_ast.specs.Obligations as due;
 ghost use Rattle.sv_first_flow.specs.Leak.{IsFinding};
-ghost use Rattle.sv_first_flow.specs.Scope.{names_of, is_other_input, obligation, sources, IsLeakOf};
+ghost use Rattle.sv_first_flow.specs.Scope.{names_of, is_other_input, obligation, sources};
+ghost use Rattle.sv_first_flow.specs.Scope.{IsLeakOf};
 
 use crate::kind;
 use crate::leak::{Finding, Leak};
@@ -21,12 +22,13 @@ use sv_first_ast::{Decl, Expr, Point};
 use sv_num::{Name, OutOfMemory};
 
 impl<'a> Scope<'a> {
-    /// The right side for a target.
+    // The right side for a target.
     fn source(&self, targets: &IndexSet<Name>, name: &Name) -> &'a Expr
         requires first_form { IsTrue (form.is_first_form (module_tree self.now)) }
         requires keys { targets.now.keys ≡ form.targets (module_tree self.now) }
         requires driven { IsTrue (holds (form.targets (module_tree self.now)) name.now) }
-        ensures { form.reads (expression_tree result.now) ≡ sources (module_tree self.now) name.now }
+        ensures { form.reads (expression_tree result.now) ≡
+            sources (module_tree self.now) name.now }
     {
         let Some(index) = targets.get_index_of(name) else {
             unreachable!()
@@ -34,9 +36,11 @@ impl<'a> Scope<'a> {
         self.processes()[index].value
     }
 
-    /// Whether all that the expression reads may reach the point.
+    // Whether all that the expression reads may reach the point.
     fn all_flow(&self, value: &Expr, to: Point) -> bool
-        ensures { result ≡ list_all (λ r. meaning.flows (meaning.label_of (module_tree self.now) r) to) (form.reads (expression_tree value.now)) }
+        ensures { result ≡
+            list_all (λ r. meaning.flows (meaning.label_of (module_tree self.now) r) to)
+            (form.reads (expression_tree value.now)) }
     {
         match value {
             Expr::Name(read) => kind::flows(self.label(read), to),
@@ -45,22 +49,29 @@ impl<'a> Scope<'a> {
         }
     }
 
-    /// Whether the obligation of a driven signal holds.
+    // Whether the obligation of a driven signal holds.
     fn holds(&self, targets: &IndexSet<Name>, declaration: &Decl) -> bool
         requires first_form { IsTrue (form.is_first_form (module_tree self.now)) }
         requires keys { targets.now.keys ≡ form.targets (module_tree self.now) }
-        requires driven { IsTrue (holds (form.targets (module_tree self.now)) declaration.now.name) }
-        requires own { meaning.declaration (module_tree self.now) declaration.now.name ≡ Some declaration.now }
-        ensures { result ≡ due.flow_holds (module_tree self.now) (obligation (module_tree self.now) declaration.now.name) }
+        requires driven { IsTrue
+            (holds (form.targets (module_tree self.now)) declaration.now.name) }
+        requires own { meaning.declaration (module_tree self.now) declaration.now.name ≡
+            Some declaration.now }
+        ensures { result ≡
+            due.flow_holds (module_tree self.now)
+            (obligation (module_tree self.now) declaration.now.name) }
     {
         let value = self.source(targets, &declaration.name);
         self.all_flow(value, kind::label(declaration))
     }
 
-    /// The first signal that the expression reads and that may not reach the point.
+    // The first signal that the expression reads and that may not reach the point.
     fn first_leak(&self, value: &Expr, to: Point) -> Option<&'a Name>
         requires { IsTrue (form.is_first_form (module_tree self.now)) }
-        ensures { option_copied result ≡ find (λ r. not (meaning.flows (meaning.label_of (module_tree self.now) r) to)) (filter (holds (form.reads (expression_tree value.now))) (form.names (module_tree self.now))) }
+        ensures { option_copied result ≡
+            find (λ r. not (meaning.flows (meaning.label_of (module_tree self.now) r) to))
+            (filter (holds (form.reads (expression_tree value.now)))
+            (form.names (module_tree self.now))) }
     {
         for declaration in self.declarations() {
             if is_read(value, &declaration.name) && !kind::flows(kind::label(declaration), to) {
@@ -70,9 +81,12 @@ impl<'a> Scope<'a> {
         None
     }
 
-    /// The registers, in order.
+    // The registers, in order.
     fn registers(&self, alloc: Global) -> Result<Vec<Name>, OutOfMemory>
-        ensures { IfOk result (λ found. found.items ≡ names_of (filter (λ d. meaning.is_register_kind d.kind) (meaning.declarations (module_tree self.now)))) }
+        ensures { IfOk result
+            (λ found. found.items ≡
+            names_of (filter (λ d. meaning.is_register_kind d.kind)
+            (meaning.declarations (module_tree self.now)))) }
     {
         let mut found = Vec::new(alloc);
         for declaration in self.declarations() {
@@ -83,9 +97,12 @@ impl<'a> Scope<'a> {
         Ok(found)
     }
 
-    /// The inputs but the clock, in order.
+    // The inputs but the clock, in order.
     fn inputs(&self, alloc: Global) -> Result<Vec<Name>, OutOfMemory>
-        ensures { IfOk result (λ found. found.items ≡ names_of (filter (is_other_input (module_tree self.now)) (meaning.declarations (module_tree self.now)))) }
+        ensures { IfOk result
+            (λ found. found.items ≡
+            names_of (filter (is_other_input (module_tree self.now))
+            (meaning.declarations (module_tree self.now)))) }
     {
         let clock = self.first_clock();
         let mut found = Vec::new(alloc);
@@ -97,7 +114,7 @@ impl<'a> Scope<'a> {
         Ok(found)
     }
 
-    /// What is to be told of a driven signal whose obligation fails.
+    // What is to be told of a driven signal whose obligation fails.
     fn leak(
         &self,
         alloc: Global,
@@ -107,10 +124,14 @@ impl<'a> Scope<'a> {
     ) -> Result<Leak, OutOfMemory>
         requires first_form { IsTrue (form.is_first_form (module_tree self.now)) }
         requires keys { targets.now.keys ≡ form.targets (module_tree self.now) }
-        requires driven { IsTrue (holds (form.targets (module_tree self.now)) declaration.now.name) }
-        requires own { meaning.declaration (module_tree self.now) declaration.now.name ≡ Some declaration.now }
-        requires fails { due.flow_holds (module_tree self.now) (obligation (module_tree self.now) declaration.now.name) ≡ false }
-        ensures { IfOk result (λ leak. IsLeakOf (module_tree self.now) leak number declaration.now.name) }
+        requires driven { IsTrue
+            (holds (form.targets (module_tree self.now)) declaration.now.name) }
+        requires own { meaning.declaration (module_tree self.now) declaration.now.name ≡
+            Some declaration.now }
+        requires fails { due.flow_holds (module_tree self.now)
+            (obligation (module_tree self.now) declaration.now.name) ≡ false }
+        ensures { IfOk result
+            (λ leak. IsLeakOf (module_tree self.now) leak number declaration.now.name) }
     {
         let value = self.source(targets, &declaration.name);
         let Some(read) = self.first_leak(value, kind::label(declaration)) else {
@@ -151,7 +172,7 @@ impl<'a> Scope<'a> {
     }
 }
 
-/// Whether there is a clock, of this name.
+// Whether there is a clock, of this name.
 fn is_named(clock: Option<&Name>, name: &Name) -> bool
     ensures { result ≡ option_map_or (λ c. bytes_eq c name.now) (option_copied clock.entry) false }
 {

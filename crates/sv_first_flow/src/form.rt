@@ -7,20 +7,30 @@ ghost use Rattle.sv_first_ast.specs.Tree.{module_tree, expression_tree};
 ghost use Rattle.sv_first_ast.specs.Names.{holds};
 ghost use Rattle.sv_first_ast.specs.Meaning as meaning;
 ghost use Rattle.sv_first_ast.specs.Form as form;
-ghost use Rattle.sv_first_flow.specs.Scope.{plain_process, stands_after, has_order, is_driven, has_clocks, has_names};
+ghost use Rattle.sv_first_flow.specs.Scope.{plain_process, stands_after, has_order, is_driven};
+ghost use Rattle.sv_first_flow.specs.Scope.{has_clocks, has_names};
 
 use crate::kind;
 use crate::process::{Process, is_read};
 use crate::scope::{Scope, add_name};
 use indexmap::IndexSet;
 use std::alloc::Global;
-use sv_first_ast::Expr;
+use sv_first_ast::{Decl, Expr};
 use sv_num::{Name, OutOfMemory};
 
+// Whether the signal is an input or one of the targets.
+fn is_driven(targets: &IndexSet<Name>, declaration: &Decl) -> bool
+    ensures { result ≡ is_driven targets.now.keys declaration.now }
+{
+    kind::is_input(declaration.kind) || targets.contains(&declaration.name)
+}
+
 impl<'a> Scope<'a> {
-    /// Whether all names that the expression reads are declared.
+    // Whether all names that the expression reads are declared.
     fn declares_reads(&self, value: &Expr) -> bool
-        ensures { result ≡ list_all (holds (form.names (module_tree self.now))) (form.reads (expression_tree value.now)) }
+        ensures { result ≡
+            list_all (holds (form.names (module_tree self.now)))
+            (form.reads (expression_tree value.now)) }
     {
         match value {
             Expr::Name(read) => self.declares(read),
@@ -31,7 +41,7 @@ impl<'a> Scope<'a> {
         }
     }
 
-    /// Whether all names that the process uses are declared.
+    // Whether all names that the process uses are declared.
     fn declares_uses(&self, process: &Process) -> bool
         ensures { result ≡ form.uses_declared (module_tree self.now) (plain_process process.now) }
     {
@@ -44,17 +54,16 @@ impl<'a> Scope<'a> {
 
     /// Whether all names that processes use are declared.
     pub(crate) fn declares_all_uses(&self) -> bool
-        ensures { result ≡ list_all (form.uses_declared (module_tree self.now)) (meaning.processes (module_tree self.now)) }
+        ensures { result ≡
+            list_all (form.uses_declared (module_tree self.now))
+            (meaning.processes (module_tree self.now)) }
     {
-        for process in self.processes() {
-            if !self.declares_uses(process) {
-                return false;
-            }
-        }
-        true
+        self.processes()
+            .iter()
+            .all(|process| self.declares_uses(process))
     }
 
-    /// Whether the process drives what it may drive.
+    // Whether the process drives what it may drive.
     fn fits_target(&self, process: &Process) -> bool
         ensures { result ≡ form.target_fits (module_tree self.now) (plain_process process.now) }
     {
@@ -66,19 +75,20 @@ impl<'a> Scope<'a> {
 
     /// Whether each `assign` drives an output or a wire, and each clocked process a register.
     pub(crate) fn fits_all_targets(&self) -> bool
-        ensures { result ≡ list_all (form.target_fits (module_tree self.now)) (meaning.processes (module_tree self.now)) }
+        ensures { result ≡
+            list_all (form.target_fits (module_tree self.now))
+            (meaning.processes (module_tree self.now)) }
     {
-        for process in self.processes() {
-            if !self.fits_target(process) {
-                return false;
-            }
-        }
-        true
+        self.processes()
+            .iter()
+            .all(|process| self.fits_target(process))
     }
 
-    /// Whether the expression reads only inputs, registers and the targets that are given.
+    // Whether the expression reads only inputs, registers and the targets that are given.
     fn knows_reads(&self, targets: &IndexSet<Name>, value: &Expr) -> bool
-        ensures { result ≡ list_all (form.is_known (module_tree self.now) targets.now.keys) (form.reads (expression_tree value.now)) }
+        ensures { result ≡
+            list_all (form.is_known (module_tree self.now) targets.now.keys)
+            (form.reads (expression_tree value.now)) }
     {
         match value {
             Expr::Name(read) => {
@@ -91,18 +101,24 @@ impl<'a> Scope<'a> {
         }
     }
 
-    /// Whether the process may stand after those that drive the given targets.
+    // Whether the process may stand after those that drive the given targets.
     fn stands_after(&self, targets: &IndexSet<Name>, process: &Process) -> bool
-        ensures { result ≡ stands_after (module_tree self.now) targets.now.keys (plain_process process.now) }
+        ensures { result ≡
+            stands_after (module_tree self.now) targets.now.keys (plain_process process.now) }
     {
         process.clock.is_some() || self.knows_reads(targets, process.value)
     }
 
-    /// The targets in order; None where a signal has two drivers, or an `assign` reads the target of a later one.
+    /// The targets in order; None where a signal has two drivers, or an `assign` reads the target
+    /// of a later one.
     pub(crate) fn targets(&self, alloc: Global) -> Result<Option<IndexSet<Name>>, OutOfMemory>
-        ensures keys { IfOk result (λ found. IfSome found (λ targets. targets.keys ≡ form.targets (module_tree self.now))) }
-        ensures ordered { IfOk result (λ found. IfSome found (λ targets. IsTrue (has_order (module_tree self.now)))) }
-        ensures none { IfOk result (λ found. IfNone found (has_order (module_tree self.now) ≡ false)) }
+        ensures keys { IfOk result
+            (λ found. IfSome found
+            (λ targets. targets.keys ≡ form.targets (module_tree self.now))) }
+        ensures ordered { IfOk result
+            (λ found. IfSome found (λ targets. IsTrue (has_order (module_tree self.now)))) }
+        ensures none { IfOk result
+            (λ found. IfNone found (has_order (module_tree self.now) ≡ false)) }
     {
         let mut targets = IndexSet::new(alloc);
         for process in self.processes() {
@@ -118,14 +134,12 @@ impl<'a> Scope<'a> {
 
     /// Whether each output, wire and register is one of the targets.
     pub(crate) fn drives_all(&self, targets: &IndexSet<Name>) -> bool
-        ensures { result ≡ list_all (is_driven targets.now.keys) (meaning.declarations (module_tree self.now)) }
+        ensures { result ≡
+            list_all (is_driven targets.now.keys) (meaning.declarations (module_tree self.now)) }
     {
-        for declaration in self.declarations() {
-            if !kind::is_input(declaration.kind) && !targets.contains(&declaration.name) {
-                return false;
-            }
-        }
-        true
+        self.declarations()
+            .iter()
+            .all(|declaration| is_driven(targets, declaration))
     }
 
     /// The clock of the first clocked process.
@@ -140,7 +154,7 @@ impl<'a> Scope<'a> {
         None
     }
 
-    /// Whether all clocked processes name this clock.
+    // Whether all clocked processes name this clock.
     fn has_one_clock(&self, clock: &Name) -> bool
         ensures { result ≡ list_all (bytes_eq clock.now) (meaning.clocks (module_tree self.now)) }
     {
@@ -154,7 +168,7 @@ impl<'a> Scope<'a> {
         true
     }
 
-    /// Whether some process reads the name.
+    // Whether some process reads the name.
     fn reads(&self, name: &Name) -> bool
         ensures { result ≡ holds (form.all_reads (module_tree self.now)) name.now }
     {
@@ -166,7 +180,7 @@ impl<'a> Scope<'a> {
         false
     }
 
-    /// Whether the name is an input that may be a clock, and is read nowhere.
+    // Whether the name is an input that may be a clock, and is read nowhere.
     fn is_clock(&self, name: &Name) -> bool
         ensures { result ≡ form.is_clock (module_tree self.now) name.now }
     {
@@ -189,9 +203,14 @@ impl<'a> Scope<'a> {
         alloc: Global,
     ) -> Result<Option<IndexSet<Name>>, OutOfMemory>
         requires { IsTrue (has_names (module_tree self.now)) }
-        ensures keys { IfOk result (λ found. IfSome found (λ targets. targets.keys ≡ form.targets (module_tree self.now))) }
-        ensures first_form { IfOk result (λ found. IfSome found (λ targets. IsTrue (form.is_first_form (module_tree self.now)))) }
-        ensures none { IfOk result (λ found. IfNone found (form.is_first_form (module_tree self.now) ≡ false)) }
+        ensures keys { IfOk result
+            (λ found. IfSome found
+            (λ targets. targets.keys ≡ form.targets (module_tree self.now))) }
+        ensures first_form { IfOk result
+            (λ found. IfSome found
+            (λ targets. IsTrue (form.is_first_form (module_tree self.now)))) }
+        ensures none { IfOk result
+            (λ found. IfNone found (form.is_first_form (module_tree self.now) ≡ false)) }
     {
         if !self.declares_all_uses() {
             return Ok(None);

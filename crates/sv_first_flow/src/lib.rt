@@ -1,6 +1,7 @@
 //! Which modules are of the first form, and whether their labels keep every secret.
 //!
-//! It stands on the words of `sv_first_ast`: a module is seen as its tree, and the answers are those of `is_first_form` and `obligations`.
+//! It stands on the words of `sv_first_ast`: a module is seen as its tree, and the answers are
+//! those of `is_first_form` and `obligations`.
 #![tactic(auto)]
 
 mod answer;

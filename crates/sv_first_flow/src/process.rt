@@ -30,7 +30,7 @@ pub(crate) fn is_read(value: &Expr, name: &Name) -> bool
     }
 }
 
-/// The process that an item is, unless it is a declaration.
+// The process that an item is, unless it is a declaration.
 fn process_of_item(item: &Item) -> Option<Process<'_>>
     ensures { option_map plain_process result ≡ process_of (item_tree item.now) }
 {
@@ -60,7 +60,8 @@ fn process_of_item(item: &Item) -> Option<Process<'_>>
 
 /// The processes of a module, in textual order.
 pub(crate) fn processes(alloc: Global, module: &Module) -> Result<Vec<Process<'_>>, OutOfMemory>
-    ensures { IfOk result (λ found. plain_processes found.items ≡ processes (module_tree «module».now)) }
+    ensures { IfOk result
+        (λ found. plain_processes found.items ≡ processes (module_tree «module».now)) }
 {
     let mut found = Vec::new(alloc);
     for item in &module.items {

@@ -6,7 +6,8 @@ ghost use Rattle.sv_first_ast.specs.Tree.{module_tree};
 ghost use Rattle.sv_first_ast.specs.Names.{holds, all_differ};
 ghost use Rattle.sv_first_ast.specs.Meaning as meaning;
 ghost use Rattle.sv_first_ast.specs.Form as form;
-ghost use Rattle.sv_first_flow.specs.Scope.{plain_declarations, plain_processes, has_names, names_of};
+ghost use Rattle.sv_first_flow.specs.Scope.{plain_declarations, plain_processes, has_names};
+ghost use Rattle.sv_first_flow.specs.Scope.{names_of};
 ghost use Rattle.indexmap.specs.IndexSet.{insert_key};
 
 use crate::kind;
@@ -17,7 +18,7 @@ use std::marker::Model;
 use sv_first_ast::{Decl, Item, Module, Point};
 use sv_num::{Name, OutOfMemory};
 
-/// The most names that a module of the first form declares.
+// The most names that a module of the first form declares.
 const MOST_NAMES: usize = 4096;
 
 /// A module whose declared names all differ.
@@ -41,12 +42,15 @@ impl<'a> Model for Scope<'a> {
 
     ghost view = { λ s. s.«module».now };
 
-    ghost invariant = { λ s. IsScope (module_tree s.«module».now) s.names.keys s.declarations.items s.processes.items };
+    ghost invariant = { λ s. IsScope
+    (module_tree s.«module».now) s.names.keys s.declarations.items s.processes.items };
 }
 
-/// The declarations of a module: its ports, and then its other declarations.
+// The declarations of a module: its ports, and then its other declarations.
 fn declarations(alloc: Global, module: &Module) -> Result<Vec<&Decl>, OutOfMemory>
-    ensures { IfOk result (λ found. plain_declarations found.items ≡ meaning.declarations (module_tree «module».now)) }
+    ensures { IfOk result
+        (λ found. plain_declarations found.items ≡
+        meaning.declarations (module_tree «module».now)) }
 {
     let mut found = Vec::new(alloc);
     for port in &module.ports {
@@ -67,19 +71,26 @@ pub(crate) fn add_name(
     name: &Name,
 ) -> Result<bool, OutOfMemory>
     ensures new { IfOk result (λ new. new ≡ not (holds names.old.keys name.now)) }
-    ensures added { IfOk result (λ new. names.new.keys ≡ insert_key bytes_eq names.old.keys name.now) }
+    ensures added { IfOk result
+        (λ new. names.new.keys ≡ insert_key bytes_eq names.old.keys name.now) }
 {
     Ok(names.insert(name.copy(alloc)?)?)
 }
 
-/// The declared names in order; None where one is declared twice.
+// The declared names in order; None where one is declared twice.
 fn distinct_names(
     alloc: Global,
     declarations: &[&Decl],
 ) -> Result<Option<IndexSet<Name>>, OutOfMemory>
-    ensures some { IfOk result (λ found. IfSome found (λ names. names.keys ≡ names_of (plain_declarations declarations.now))) }
-    ensures differ { IfOk result (λ found. IfSome found (λ names. IsTrue (all_differ (names_of (plain_declarations declarations.now))))) }
-    ensures none { IfOk result (λ found. IfNone found (all_differ (names_of (plain_declarations declarations.now)) ≡ false)) }
+    ensures some { IfOk result
+        (λ found. IfSome found
+        (λ names. names.keys ≡ names_of (plain_declarations declarations.now))) }
+    ensures differ { IfOk result
+        (λ found. IfSome found
+        (λ names. IsTrue (all_differ (names_of (plain_declarations declarations.now))))) }
+    ensures none { IfOk result
+        (λ found. IfNone found
+        (all_differ (names_of (plain_declarations declarations.now)) ≡ false)) }
 {
     let mut names = IndexSet::new(alloc);
     for declaration in declarations {
@@ -94,8 +105,10 @@ impl<'a> Scope<'a> {
     /// The scope of a module; None where a name is declared twice, or more than 4,096 are.
     pub(crate) fn new(alloc: Global, module: &'a Module) -> Result<Option<Scope<'a>>, OutOfMemory>
         ensures some { IfOk result (λ found. IfSome found (λ scope. scope ≡ «module».now)) }
-        ensures named { IfOk result (λ found. IfSome found (λ scope. IsTrue (has_names (module_tree «module».now)))) }
-        ensures none { IfOk result (λ found. IfNone found (has_names (module_tree «module».now) ≡ false)) }
+        ensures named { IfOk result
+            (λ found. IfSome found (λ scope. IsTrue (has_names (module_tree «module».now)))) }
+        ensures none { IfOk result
+            (λ found. IfNone found (has_names (module_tree «module».now) ≡ false)) }
     {
         let declarations = declarations(alloc, module)?;
         let Some(names) = distinct_names(alloc, declarations.as_slice())? else {
@@ -127,7 +140,7 @@ impl<'a> Scope<'a> {
         self.processes.as_slice()
     }
 
-    /// The declaration of a name.
+    // The declaration of a name.
     fn declaration(&self, name: &Name) -> Option<&'a Decl>
         ensures { option_copied result ≡ meaning.declaration (module_tree self.now) name.now }
     {
@@ -144,7 +157,8 @@ impl<'a> Scope<'a> {
 
     /// Whether the name is declared as an input.
     pub(crate) fn is_input(&self, name: &Name) -> bool
-        ensures { result ≡ meaning.declared_as meaning.is_input_kind (module_tree self.now) name.now }
+        ensures { result ≡
+            meaning.declared_as meaning.is_input_kind (module_tree self.now) name.now }
     {
         match self.declaration(name) {
             Some(declaration) => kind::is_input(declaration.kind),
@@ -154,7 +168,8 @@ impl<'a> Scope<'a> {
 
     /// Whether the name is declared as a register.
     pub(crate) fn is_register(&self, name: &Name) -> bool
-        ensures { result ≡ meaning.declared_as meaning.is_register_kind (module_tree self.now) name.now }
+        ensures { result ≡
+            meaning.declared_as meaning.is_register_kind (module_tree self.now) name.now }
     {
         match self.declaration(name) {
             Some(declaration) => kind::is_register(declaration.kind),

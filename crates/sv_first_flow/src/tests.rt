@@ -18,7 +18,7 @@ fn read(alloc: Global, name: &[u8]) -> Result<Expr, OutOfMemory> {
     Ok(Expr::Name(Name::new(alloc, name)?))
 }
 
-/// `left & ~right`
+// `left & ~right`
 fn mask(alloc: Global, left: &[u8], right: &[u8]) -> Result<Expr, OutOfMemory> {
     let left = Box::new(alloc, read(alloc, left)?)?;
     let right = Box::new(alloc, read(alloc, right)?)?;
@@ -41,7 +41,7 @@ fn always(alloc: Global, clock: &[u8], target: &[u8], value: Expr) -> Result<Ite
     Ok(Item::Always { clock, body })
 }
 
-/// A module with the inputs `clk`, `a` and `k`, which is a secret, and the output `y`.
+// A module with the inputs `clk`, `a` and `k`, which is a secret, and the output `y`.
 fn module(alloc: Global, y: DeclKind, items: Vec<Item>) -> Result<Module, OutOfMemory> {
     let mut ports = Vec::new(alloc);
     ports.push(decl(alloc, DeclKind::Input, None, b"clk")?)?;
@@ -55,7 +55,7 @@ fn module(alloc: Global, y: DeclKind, items: Vec<Item>) -> Result<Module, OutOfM
     })
 }
 
-/// How many obligations hold, where all do.
+// How many obligations hold, where all do.
 fn held(alloc: Global, y: DeclKind, items: Vec<Item>) -> Result<Option<u32>, OutOfMemory> {
     match check(alloc, &module(alloc, y, items)?)? {
         Some(Finding::Holds(count)) => Ok(Some(count)),

@@ -16,8 +16,8 @@ impl Calls {
         Calls { failing, made: 0 }
     }
 
-    /// Numbers one more call, and says whether it is one that fails. Past the greatest u64 the calls
-    /// keep that number, which is none that fails.
+    /// Numbers one more call, and says whether it is one that fails. Past the greatest u64 the
+    /// calls keep that number, which is none that fails.
     pub fn next_fails(&mut self) -> bool
         ensures made { self.new.made ≡ one_more self.old.made }
         ensures failing { self.new.failing ≡ self.old.failing }

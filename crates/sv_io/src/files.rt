@@ -1,4 +1,5 @@
-ghost use Rattle.std.specs.Prelude.{◌≡◌, ◌≢◌, ℕ, ◌+◌, ◌<◌, ◌≤◌, List, take, length, min, Some, IfOk, OnOk, OnErr, IsErrOf, vec_len};
+ghost use Rattle.std.specs.Prelude.{◌≡◌, ◌≢◌, ℕ, ◌+◌, ◌<◌, ◌≤◌, List, take, length, min, Some};
+ghost use Rattle.std.specs.Prelude.{IfOk, OnOk, OnErr, IsErrOf, vec_len};
 ghost use Rattle.std.specs.Option.{option_copied};
 ghost use Rattle.sv_io.specs.Cabinet.{bytes_under, IfLong};
 ghost use Rattle.sv_io.specs.Count.{one_more};

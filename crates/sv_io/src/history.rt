@@ -1,5 +1,5 @@
-// What passed between the program and the outside. These values have no bytes, and their methods do nothing when the
-// program runs: only clauses read them.
+// What passed between the program and the outside. These values have no bytes, and their methods do
+// nothing when the program runs: only clauses read them.
 ghost use Rattle.std.specs.Prelude.{◌≡◌, ℕ, List, [], ◌∷◌, ◌++◌};
 ghost use Rattle.sv_io.specs.Exchange.{Exchange};
 ghost use Rattle.sv_io.specs.ExchangeCode.{exchanges_code};

@@ -1,5 +1,5 @@
-//! The outside of the checker: files by name, an input and an output, each as a trait that says what
-//! an object holds and how often it failed, with objects in memory and over the real system.
+//! The outside of the checker: files by name, an input and an output, each as a trait that says
+//! what an object holds and how often it failed, with objects in memory and over the real system.
 #![tactic(auto)]
 
 mod calls;

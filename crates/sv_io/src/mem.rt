@@ -1,4 +1,6 @@
-ghost use Rattle.std.specs.Prelude.{◌≡◌, ◌≢◌, ℕ, ◌+◌, ◌<◌, ◌≤◌, ◌↔◌, ◌⊎◌, Bool, true, IsTrue, [], List, ◌∷◌, ◌++◌, take, length, min, Option, None, Some, Ok, Err, IfOk, OnOk, OnErr, IsOk, IsErr, IsErrOf, vec_len};
+ghost use Rattle.std.specs.Prelude.{◌≡◌, ◌≢◌, ℕ, ◌+◌, ◌<◌, ◌≤◌, ◌↔◌, ◌⊎◌, Bool, true, IsTrue, []};
+ghost use Rattle.std.specs.Prelude.{List, ◌∷◌, ◌++◌, take, length, min, Option, None, Some, Ok};
+ghost use Rattle.std.specs.Prelude.{Err, IfOk, OnOk, OnErr, IsOk, IsErr, IsErrOf, vec_len};
 ghost use Rattle.std.specs.Option.{option_copied};
 ghost use Rattle.sv_io.specs.Cabinet.{bytes_under, IfLong, KeepsOrBegins};
 ghost use Rattle.sv_io.specs.Count.{Rose, one_more, is_failing};
@@ -13,8 +15,8 @@ use super::pieces::copy_front;
 use super::traits::{Cabinet, Sink, Source};
 use std::alloc::Global;
 
-/// A cabinet in memory. Its fetches and stores are numbered together from 1, and those whose numbers
-/// it was given fail. A fetch of a name that it does not hold fails too.
+/// A cabinet in memory. Its fetches and stores are numbered together from 1, and those whose
+/// numbers it was given fail. A fetch of a name that it does not hold fails too.
 #[derive(Drop)]
 pub struct MemCabinet {
     files: Files,
@@ -26,10 +28,11 @@ pub struct MemCabinet {
 }
 
 impl MemCabinet {
-    ghost use Rattle.sv_io.specs.Mem.{mem_exchanges, mem_held, fetch_faults_of, store_faults_of, cabinet_calls, cabinet_failing};
+    ghost use Rattle.sv_io.specs.Mem.{mem_exchanges, mem_held, fetch_faults_of, store_faults_of};
+    ghost use Rattle.sv_io.specs.Mem.{cabinet_calls, cabinet_failing};
 
-    /// A cabinet that holds no name. The calls whose numbers stand in `failing` will fail; numbers of
-    /// calls stop at the greatest u64.
+    /// A cabinet that holds no name. The calls whose numbers stand in `failing` will fail; numbers
+    /// of calls stop at the greatest u64.
     pub fn new(alloc: Global, failing: Vec<u32>) -> MemCabinet
         ensures no_exchange { mem_exchanges result ≡ [] }
         ensures holds_none { (name : List ℕ) → mem_held result name ≡ None }
@@ -143,7 +146,8 @@ impl MemCabinet {
 }
 
 impl Cabinet for MemCabinet {
-    ghost use Rattle.sv_io.specs.Mem.{mem_exchanges, mem_held, fetch_faults_of, store_faults_of, cabinet_calls, cabinet_failing};
+    ghost use Rattle.sv_io.specs.Mem.{mem_exchanges, mem_held, fetch_faults_of, store_faults_of};
+    ghost use Rattle.sv_io.specs.Mem.{cabinet_calls, cabinet_failing};
 
     ghost exchanges = { mem_exchanges };
 
@@ -263,10 +267,11 @@ pub struct MemSource {
 }
 
 impl MemSource {
-    ghost use Rattle.sv_io.specs.Mem.{mem_given, mem_left, source_calls, source_faults, source_failing, source_most};
+    ghost use Rattle.sv_io.specs.Mem.{mem_given, mem_left, source_calls, source_faults};
+    ghost use Rattle.sv_io.specs.Mem.{source_failing, source_most};
 
-    /// A source with these bytes left, of which a take moves at most `most`. The takes whose numbers
-    /// stand in `failing` will fail; numbers of takes stop at the greatest u64.
+    /// A source with these bytes left, of which a take moves at most `most`. The takes whose
+    /// numbers stand in `failing` will fail; numbers of takes stop at the greatest u64.
     pub fn new(bytes: Vec<u8>, failing: Vec<u32>, most: usize) -> MemSource
         requires { 1 ≤ most }
         ensures none_given { mem_given result ≡ [] }
@@ -284,10 +289,23 @@ impl MemSource {
             most,
         }
     }
+
+    // Moves on past so many bytes.
+    fn pass(&mut self, count: usize)
+        requires { self.old.at + count ≤ vec_len self.old.all }
+        ensures passed { self.new.at ≡ self.old.at + count }
+        ensures bytes { self.new.all ≡ self.old.all }
+        ensures calls { self.new.calls ≡ self.old.calls }
+        ensures faults { self.new.failed ≡ self.old.failed }
+        ensures most { self.new.most ≡ self.old.most }
+    {
+        self.at += count;
+    }
 }
 
 impl Source for MemSource {
-    ghost use Rattle.sv_io.specs.Mem.{mem_given, mem_left, source_calls, source_faults, source_failing, source_most};
+    ghost use Rattle.sv_io.specs.Mem.{mem_given, mem_left, source_calls, source_faults};
+    ghost use Rattle.sv_io.specs.Mem.{source_failing, source_most};
 
     ghost given = { mem_given };
 
@@ -327,7 +345,7 @@ impl Source for MemSource {
             return Err(Failed);
         }
         let count = copy_front(&self.all[self.at..], buf, self.most);
-        self.at += count;
+        self.pass(count);
         Ok(count)
     }
 }
@@ -343,7 +361,8 @@ pub struct MemSink {
 }
 
 impl MemSink {
-    ghost use Rattle.sv_io.specs.Mem.{mem_accepted, sink_calls, sink_faults, sink_failing, sink_most};
+    ghost use Rattle.sv_io.specs.Mem.{mem_accepted, sink_calls, sink_faults, sink_failing};
+    ghost use Rattle.sv_io.specs.Mem.{sink_most};
 
     /// A sink that accepted nothing. A put moves at most `most` bytes. The puts whose numbers
     /// stand in `failing` will fail; numbers of puts stop at the greatest u64.
@@ -372,7 +391,8 @@ impl MemSink {
 }
 
 impl Sink for MemSink {
-    ghost use Rattle.sv_io.specs.Mem.{mem_accepted, sink_calls, sink_faults, sink_failing, sink_most};
+    ghost use Rattle.sv_io.specs.Mem.{mem_accepted, sink_calls, sink_faults, sink_failing};
+    ghost use Rattle.sv_io.specs.Mem.{sink_most};
 
     ghost accepted = { mem_accepted };
 

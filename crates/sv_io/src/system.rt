@@ -1,4 +1,6 @@
-ghost use Rattle.std.specs.Prelude.{◌≡◌, ◌≢◌, ℕ, ◌+◌, ◌<◌, ◌≤◌, Bool, false, List, [], ◌∷◌, ◌++◌, take, None, Some, IfOk, OnOk, OnErr, IsErr, IsErrOf, IsTrue, length, vec_len};
+ghost use Rattle.std.specs.Prelude.{◌≡◌, ◌≢◌, ℕ, ◌+◌, ◌<◌, ◌≤◌, Bool, false, List, [], ◌∷◌, ◌++◌};
+ghost use Rattle.std.specs.Prelude.{take, None, Some, IfOk, OnOk, OnErr, IsErr, IsErrOf, IsTrue};
+ghost use Rattle.std.specs.Prelude.{length, vec_len};
 ghost use Rattle.std.specs.Option.{is_some};
 ghost use Rattle.std.specs.Io.KnownBytes.{Keeps, Appends, Consumes};
 ghost use Rattle.sv_io.specs.Cabinet.{IfLong};
@@ -39,8 +41,8 @@ impl<R: Files> FileCabinet<R> {
         }
     }
 
-    /// The error of the system at the last call that failed, None where none did. It is there for the messages that a
-    /// program shows to a person.
+    /// The error of the system at the last call that failed, None where none did. It is there for
+    /// the messages that a program shows to a person.
     pub fn last_error(&self) -> Option<&io::Error>
         ensures { is_some result ≡ file_failed self.now }
     {
@@ -234,8 +236,8 @@ impl<W: Write> StdSink<W> {
         }
     }
 
-    /// The error of the system at the last put that failed, None where none did. It is there for the messages that a
-    /// program shows to a person.
+    /// The error of the system at the last put that failed, None where none did. It is there for
+    /// the messages that a program shows to a person.
     pub fn last_error(&self) -> Option<&io::Error>
         ensures { is_some result ≡ sink_failed self.now }
     {
@@ -285,7 +287,8 @@ impl<W: Write> Sink for StdSink<W> {
     }
 }
 
-// One write, begun again where a signal cut it off. It fails where the system fails or takes nothing.
+// One write, begun again where a signal cut it off. It fails where the system fails or takes
+// nothing.
 fn write_some<W: Write>(writer: &mut W, piece: &[u8]) -> io::Result<usize>
     ensures some { IfOk result (λ count. 0 < count) }
     ensures within { IfOk result (λ count. count ≤ length piece.now) }

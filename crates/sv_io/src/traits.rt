@@ -1,4 +1,6 @@
-ghost use Rattle.std.specs.Prelude.{◌≡◌, ◌≢◌, ℕ, ◌+◌, ◌<◌, ◌≤◌, ◌↔◌, Bool, IsTrue, List, [], ◌∷◌, ◌++◌, take, length, Option, Some, Ok, Err, IfOk, OnOk, OnErr, IsErr, IsErrOf, vec_len};
+ghost use Rattle.std.specs.Prelude.{◌≡◌, ◌≢◌, ℕ, ◌+◌, ◌<◌, ◌≤◌, ◌↔◌, Bool, IsTrue, List, [], ◌∷◌};
+ghost use Rattle.std.specs.Prelude.{◌++◌, take, length, Option, Some, Ok, Err, IfOk, OnOk, OnErr};
+ghost use Rattle.std.specs.Prelude.{IsErr, IsErrOf, vec_len};
 ghost use Rattle.sv_io.specs.Cabinet.{bytes_under, IfLong, KeepsOrBegins};
 ghost use Rattle.sv_io.specs.Count.{Rose};
 ghost use Rattle.sv_io.specs.Exchange.{Exchange, fetched, stored, fetched_of, is_done};
@@ -24,8 +26,8 @@ pub trait Cabinet {
     // How often stores under each name have failed.
     ghost store_faults: { Self → List ℕ → ℕ };
 
-    /// All the bytes under the name, where there are at most `limit`. A name that is not held has none.
-    /// It changes nothing that is held.
+    /// All the bytes under the name, where there are at most `limit`. A name that is not held has
+    /// none. It changes nothing that is held.
     fn fetch(&mut self, alloc: Global, name: &str, limit: u64) -> Result<Vec<u8>, FetchFault>
         requires { limit < 18446744073709551615 }
 
@@ -86,11 +88,12 @@ pub trait Source {
     // How often a take has failed.
     ghost faults: { Self → ℕ };
 
-    /// Puts the next bytes at the front of `buf`, and says how many. For a `buf` that is not empty, 0
-    /// is the end of the input. A take that fails takes nothing.
+    /// Puts the next bytes at the front of `buf`, and says how many. For a `buf` that is not empty,
+    /// 0 is the end of the input. A take that fails takes nothing.
     fn take(&mut self, buf: &mut [u8]) -> Result<usize, Failed>
         ensures within { IfOk result (λ count. count ≤ length buf.new) }
-        ensures given { IfOk result (λ count. given self.new ≡ given self.old ++ take count buf.new) }
+        ensures given { IfOk result
+            (λ count. given self.new ≡ given self.old ++ take count buf.new) }
         ensures none_given { OnErr result (given self.new ≡ given self.old) }
         ensures taken { IsTrue tells →
             IfOk result (λ count. left self.old ≡ take count buf.new ++ left self.new) }
@@ -109,7 +112,8 @@ pub trait Sink {
     // How often a put has failed.
     ghost faults: { Self → ℕ };
 
-    /// Accepts the front of the piece, at least one byte, and says how many. Refused, it accepts nothing.
+    /// Accepts the front of the piece, at least one byte, and says how many. Refused, it accepts
+    /// nothing.
     fn put(&mut self, piece: &[u8]) -> Result<usize, PutFault>
         requires { 0 < length piece.now }
         ensures some { IfOk result (λ count. 0 < count) }

@@ -1,13 +1,14 @@
 use Rattle.std.proofs.Common.{List, ℕ, subst}
+use Rattle.std.specs.Prelude.{IfOk}
 use Rattle.sv_cli.specs.Report.{Decides}
-use Rattle.sv_cli.proofs.Telling.{whole_decided, large_decided}
+use Rattle.sv_cli.proofs.Telling.{whole_reported, large_decided}
 use Rattle.sv_cli.proofs.top.report_on_file.Goals as goal
 
-pub returns-in-Ok-report_on-clause-report : goal.returns-in-Ok-report_on-clause-report
-returns-in-Ok-report_on-clause-report g c =
-    whole_decided c.args.file.now c.in-Ok.bytes c.in-Ok-report_on.report.outcome c.in-Ok-report_on.report.text.items (g.C.Cabinet.exchanges c.args.cabinet.now) (g.C.Cabinet.exchanges c.fetch_text.new.cabinet)
+pub returns-in-Ok-clause-report : goal.returns-in-Ok-clause-report
+returns-in-Ok-clause-report g c =
+    whole_reported c.args.file.now c.in-Ok.bytes c.report_on_text.result (g.C.Cabinet.exchanges c.args.cabinet.now) (g.C.Cabinet.exchanges c.fetch_text.new.cabinet)
     c.in-Ok.ensures.exchange c.in-Ok.ensures.within
-    (subst (λ (t : List ℕ). Decides t c.in-Ok-report_on.report.outcome c.in-Ok-report_on.report.text.items) c.deref.ensures.value c.in-Ok-report_on.ensures)
+    (subst (λ (t : List ℕ). IfOk c.report_on_text.result (λ p. Decides t p.outcome p.text.items)) c.deref.ensures.value c.report_on_text.ensures.report)
 
 pub returns-in-Ok-report_of_large_file-clause-report : goal.returns-in-Ok-report_of_large_file-clause-report
 returns-in-Ok-report_of_large_file-clause-report g c =

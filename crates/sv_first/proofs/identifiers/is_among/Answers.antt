@@ -3,7 +3,7 @@ use Rattle.std.specs.List.{list_any}
 use Rattle.std.specs.Str.{bytes_eq}
 use Rattle.std.proofs.lemmas.Cmp.{nat_list_eq_equiv}
 use Rattle.sv_first_ast.specs.Names.{holds}
-use Rattle.sv_first.proofs.words.is_among.Goals as goal
+use Rattle.sv_first.proofs.identifiers.is_among.Goals as goal
 
 -- `==` the other way round
 flipped : (ws : List (Bor (List ℕ))) (t : List ℕ) → list_any (λ w. bytes_eq w.now t) ws ≡ holds (map (λ w. w.now) ws) t

@@ -1,9 +1,9 @@
-// Words.
+// Words: names, keywords and other reserved words (IEEE 1364-2005, clauses 3.7 and 3.8).
 ghost use Rattle.std.specs.Prelude.{◌≡◌, map};
 ghost use Rattle.std.specs.List.{prefix_len};
 ghost use Rattle.sv_first_ast.specs.Names.{holds};
 ghost use Rattle.sv_first_ast.specs.Spelling.{begins_word, continues_word, is_blank, reserved};
-ghost use Rattle.sv_first.specs.Words.{word_kind};
+ghost use Rattle.sv_first.specs.Identifiers.{word_kind};
 
 use crate::token::TokenKind;
 

@@ -1,0 +1,133 @@
+-- Each text has a verdict, and so exactly one.
+use Rattle.std.proofs.Common.{◌≡◌, ℕ, suc, zero, ◌+◌, ◌<◌, ◌≤◌, Bool, true, false, ◌&&◌, IsTrue, List, [], ◌∷◌, length, take, Some, ◌⊎◌, inl, inr, refl, sym, ◌∙◌, ap, arith}
+use Rattle.std.specs.Prelude.{not, slice_get}
+use Rattle.std.specs.List.{list_all, find}
+use Rattle.std.proofs.lemmas.Bool.{and_from, both_ways, cases_order}
+use Rattle.sv_token.proofs.Agreement.{has_tokens_or_break, HasTokens as Tokens, HasBreak}
+use Rattle.sv_first_ast.specs.Tree.{ModuleTree}
+use Rattle.sv_first_ast.specs.Form.{is_first_form}
+use Rattle.sv_first_ast.specs.Meaning.{label_of, flows}
+use Rattle.sv_first_ast.specs.Obligations.{Obligation, obligations, flow_holds, zeros}
+use Rattle.sv_first_ast.proofs.Leak.{leak_falsifies}
+use Rattle.sv_first.proofs.Readings.{MeansOne, MeansNone, one_or_none}
+use Rattle.sv_cli.specs.Text.{accepted_text, refusal_text, limit_text, leak_text}
+use Rattle.sv_cli.specs.Answer.{Answer, accepted, rule_broken, limit_passed, falsified, largest_file, HasTokens, IsFirstForm, IsVerdict}
+use Rattle.sv_cli.proofs.Verdicts.{verdict_is_one}
+use Rattle.sv_cli.proofs.Deciding.{start}
+
+-- ---- the first element that fails a test
+
+record IsFirstFailing {X : Type 0} (p : X → Bool) (xs : List X) (k : ℕ) (x : X) : Type 0 where
+  stands : slice_get xs k ≡ Some x
+  fails : p x ≡ false
+  earlier : list_all p (take k xs) ≡ true
+
+abbrev SomeFails : {X : Type 0} → (X → Bool) → List X → Type 0
+SomeFails {X} p xs = (k : ℕ) × (x : X) × IsFirstFailing p xs k x
+
+fails_here : {X : Type 0} (p : X → Bool) (x : X) (xs : List X) (b : Bool) → p x ≡ b → list_all p (x ∷ xs) ≡ false
+    → (list_all p xs ≡ false → SomeFails p xs) → SomeFails p (x ∷ xs)
+fails_here p x xs false is h later = (zero, x, record { stands = refl; fails = is; earlier = refl })
+fails_here p x xs true is h later =
+    let rest = later (sym (ap (λ (b : Bool). b && list_all p xs) is) ∙ h) in
+    (suc rest.0, rest.1, record { stands = rest.2.stands; fails = rest.2.fails; earlier = and_from (p x) _ is rest.2.earlier })
+
+some_fails : {X : Type 0} (p : X → Bool) (xs : List X) → list_all p xs ≡ false → SomeFails p xs
+some_fails p [] h = absurd cc
+some_fails p (x ∷ xs) h = fails_here p x xs (p x) refl h (some_fails p xs)
+
+-- the first element that fails is found
+abbrev IsFound : {X : Type 0} → (X → Bool) → List X → Type 0
+IsFound {X} p xs = (x : X) × (find (λ y. not (p y)) xs ≡ Some x)
+
+found_here : {X : Type 0} (p : X → Bool) (x : X) (xs : List X) (b : Bool) → p x ≡ b → list_all p (x ∷ xs) ≡ false
+    → (list_all p xs ≡ false → IsFound p xs) → IsFound p (x ∷ xs)
+found_here p x xs false is h later = (x, rw is refl)
+found_here p x xs true is h later = behind (later (sym (ap (λ (b : Bool). b && list_all p xs) is) ∙ h))
+  where
+    behind : IsFound p xs → IsFound p (x ∷ xs)
+    behind rest = (rest.0, rw is rest.1)
+
+found : {X : Type 0} (p : X → Bool) (xs : List X) → list_all p xs ≡ false → IsFound p xs
+found p [] h = absurd cc
+found p (x ∷ xs) h = found_here p x xs (p x) refl h (found p xs)
+
+-- ---- a verdict for each text
+
+abbrev HasVerdict : List ℕ → Type 0
+HasVerdict text = (answer : Answer) × (printed : List ℕ) × IsVerdict text answer printed
+
+-- of a text that is tokens and of no form that is read
+unbuilt : (text : List ℕ) → length text ≤ largest_file → HasTokens text → ((m : ModuleTree) → IsFirstForm text m → ⊥) → HasVerdict text
+unbuilt text within tokens none = (
+  rule_broken 199 start [],
+  refusal_text 199 start [],
+  record {
+    within = within;
+    broken = inr (record { tokens = tokens; no_form = none; numbered = refl; placed = refl; nameless = refl });
+    prints = refl;
+  },
+)
+
+-- of a text of the first form, by whether all obligations hold
+by_flows : (text : List ℕ) (m : ModuleTree) → IsFirstForm text m → (b : Bool) → list_all (flow_holds m) (obligations m) ≡ b → HasVerdict text
+by_flows text m form true holds = (accepted, accepted_text (length (obligations m)), record { tree = m; form = form; flows_hold = holds; prints = refl })
+by_flows text m form false leaks =
+    let first = some_fails (flow_holds m) (obligations m) leaks in
+    let failing = first.1 in
+    let read = found (λ r. flows (label_of m r) (label_of m failing.target)) failing.reads first.2.fails in (
+      falsified (first.0 + 1) (zeros m),
+      leak_text m (first.0 + 1) failing read.0 (zeros m),
+      record {
+        tree = m;
+        form = form;
+        before = first.0;
+        numbered = refl;
+        failing = failing;
+        among = first.2.stands;
+        earlier_hold = first.2.earlier;
+        falsifies = leak_falsifies m form.means.1 form.form failing first.2.fails;
+        zero = refl;
+        read = read.0;
+        first_read = read.1;
+        prints = refl;
+      },
+    )
+
+-- of a text that means one module, by whether it is of the first form
+by_form : (text : List ℕ) → length text ≤ largest_file → HasTokens text → (one : MeansOne text) → (b : Bool) → is_first_form one.0 ≡ b → HasVerdict text
+by_form text within tokens one true is =
+    let form : IsFirstForm text one.0 = record { within = within; tokens = tokens; means = one.1.means; form = is } in
+    by_flows text one.0 form (list_all (flow_holds one.0) (obligations one.0)) refl
+by_form text within tokens one false is = unbuilt text within tokens other
+  where
+    other : (m : ModuleTree) → IsFirstForm text m → ⊥
+    other m f = both_ways (is_first_form m) (ap is_first_form (one.1.only m f.means) ∙ is) f.form
+
+by_tokens : (text : List ℕ) → length text ≤ largest_file → Tokens text ⊎ HasBreak text → HasVerdict text
+by_tokens text within (inr broken) = (
+  rule_broken broken.0 broken.2 broken.1,
+  refusal_text broken.0 broken.2 broken.1,
+  record { within = within; broken = inl broken.3; prints = refl },
+)
+by_tokens text within (inl tokens) = by_meaning (one_or_none text)
+  where
+    by_meaning : MeansOne text ⊎ MeansNone text → HasVerdict text
+    by_meaning (inl one) = by_form text within tokens one (is_first_form one.0) refl
+    by_meaning (inr none) = unbuilt text within tokens (λ m f. none m f.means)
+
+within_or_not : (n m : ℕ) → (n ≤ m) ⊎ (m < n)
+within_or_not n m = elim (cases_order n m) [ inl e ↦ inl (omega arith) | inr d ↦ elim d [ inl l ↦ inl (omega arith) | inr l ↦ inr l ] ]
+
+has_verdict : (text : List ℕ) → HasVerdict text
+has_verdict text = by_size (within_or_not (length text) largest_file)
+  where
+    by_size : (length text ≤ largest_file) ⊎ (largest_file < length text) → HasVerdict text
+    by_size (inl within) = by_tokens text within (has_tokens_or_break text)
+    by_size (inr large) = (limit_passed 701 [], limit_text 701 [], (large, refl, refl, refl))
+
+pub one_verdict : (text : List ℕ) → (answer : Answer) × (printed : List ℕ) × IsVerdict text answer printed
+    × ((other : Answer) (others : List ℕ) → IsVerdict text other others → (other ≡ answer) × (others ≡ printed))
+one_verdict text =
+    let v = has_verdict text in
+    (v.0, v.1, v.2, verdict_is_one text v.0 v.1 v.2)

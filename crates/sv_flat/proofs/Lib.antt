@@ -2,6 +2,7 @@ pub mod Rows
 pub mod BitFacts
 pub mod Parts
 pub mod NodeForms
+pub mod NumberedRuns
 pub mod Forms
 pub mod OrderExamples
 pub mod RuleExamples

@@ -1,8 +1,9 @@
 -- Values of signals by number: the first value is that of signal 0.
-use Rattle.std.specs.Prelude.{◌≡◌, ℕ, ◌^◌, ◌<◌, List, length, map, slice_index}
-use Rattle.sv_system.specs.System.{Environment}
+use Rattle.std.specs.Prelude.{◌≡◌, ℕ, ◌^◌, ◌<◌, ◌≤◌, Bool, true, false, ◌==◌, ◌&&◌, not, List, [], ◌∷◌, length, map, slice_index}
+use Rattle.sv_system.specs.System.{Environment, last_update}
 use Rattle.sv_flat.specs.declared.signals.Signal.{Signal}
-use Rattle.sv_flat.specs.Design.{SignalForm}
+use Rattle.sv_flat.specs.Design.{SignalForm, FlatStatement, nothing, after, assign, branch}
+use Rattle.sv_flat.specs.Runs.{Updates}
 use Rattle.sv_flat.specs.Values.{signal_width}
 use Rattle.sv_flat.specs.Views.{signal_form}
 
@@ -18,3 +19,23 @@ by_number values s = slice_index values s
 pub record FitSignals (signals : List SignalForm) (values : List ℕ) : Type 0 where
   pub count : length values ≡ length signals
   pub each : (s : ℕ) → s < length signals → slice_index values s < 2 ^ signal_width signals s
+
+-- no signal has more bits than a word
+abbrev pub AreWords : List SignalForm → Type 0
+AreWords signals = (s : ℕ) → s < length signals → signal_width signals s ≤ 64
+
+-- the environment in which these updates are made
+abbrev pub updated : Environment ℕ → Updates → Environment ℕ
+updated environment updates s = last_update ◌==◌ s (environment s) updates
+
+-- every assignment of something is `<=`
+abbrev pub is_nonblocking : FlatStatement → Bool
+is_nonblocking nothing = true
+is_nonblocking (after first second) = is_nonblocking first && is_nonblocking second
+is_nonblocking (assign [] place blocking right) = true
+is_nonblocking (assign (piece ∷ pieces) place blocking right) = not blocking
+is_nonblocking (branch place condition first second) = is_nonblocking first && is_nonblocking second
+
+abbrev pub is_branch : FlatStatement → Bool
+is_branch (branch place condition first second) = true
+is_branch _ = false

@@ -5,8 +5,8 @@ ghost use Rattle.sv_num.specs.Parts.{extended, bits_between, bit_or_zero, replac
 
 use sv_num::{Bits, extend};
 
-// A value shifted down; 0 where the amount is 64 or more.
-fn shifted(value: u64, amount: u64) -> u64
+/// A value shifted down; 0 where the amount is 64 or more.
+pub(crate) fn shifted(value: u64, amount: u64) -> u64
     ensures { result ≡ value / 2 ^ amount }
 {
     if amount < 64 { value >> amount } else { 0 }

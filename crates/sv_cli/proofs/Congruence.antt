@@ -9,4 +9,3 @@ three f a a' b b' c c' e0 e1 e2 = cc
 
 pub four : {A B C D R : Type 0} (f : A → B → C → D → R) (a a' : A) (b b' : B) (c c' : C) (d d' : D) → a ≡ a' → b ≡ b' → c ≡ c' → d ≡ d' → f a b c d ≡ f a' b' c' d'
 four f a a' b b' c c' d d' e0 e1 e2 e3 = cc
-

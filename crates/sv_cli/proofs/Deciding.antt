@@ -1,5 +1,5 @@
 -- A report on a text decides it.
-use Rattle.std.proofs.Common.{◌≡◌, ℕ, ◌+◌, ◌<◌, ◌≤◌, Bool, false, IsTrue, List, [], length, Option, Some, None, refl, sym, ◌∙◌, ap, subst, inl, inr}
+use Rattle.std.proofs.Common.{◌≡◌, ℕ, ◌<◌, ◌≤◌, Bool, false, IsTrue, List, [], length, Option, Some, None, refl, sym, ◌∙◌, ap, subst, inl, inr}
 use Rattle.std.specs.Prelude.{Result, Ok, Err, IfOk, IfSome, IfNone, filter, replicate}
 use Rattle.std.specs.List.{list_all}
 use Rattle.std.proofs.lemmas.Bool.{both_ways}
@@ -11,7 +11,7 @@ use Rattle.sv_first_ast.specs.Tree.{ModuleTree, module_tree}
 use Rattle.sv_first_ast.specs.Meaning.{signals, is_input, is_register}
 use Rattle.sv_first_ast.specs.Form.{is_first_form}
 use Rattle.sv_first_ast.specs.Spelling.{Means}
-use Rattle.sv_first_ast.specs.Obligations.{Obligation, Values, obligations, flow_holds, Falsifies, zeros}
+use Rattle.sv_first_ast.specs.Obligations.{Values, obligations, flow_holds, Falsifies, zeros}
 use Rattle.sv_first_ast.proofs.OneTrace.{first_form_one_trace}
 use Rattle.sv_first_ast.proofs.Flow.{flowing_form_noninterferent}
 use Rattle.sv_first_ast.proofs.Leak.{leak_falsifies}

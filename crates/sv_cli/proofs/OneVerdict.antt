@@ -1,5 +1,5 @@
 -- Each text has a verdict, and so exactly one.
-use Rattle.std.proofs.Common.{◌≡◌, ℕ, suc, zero, ◌+◌, ◌<◌, ◌≤◌, Bool, true, false, ◌&&◌, IsTrue, List, [], ◌∷◌, length, take, Some, ◌⊎◌, inl, inr, refl, sym, ◌∙◌, ap, arith}
+use Rattle.std.proofs.Common.{◌≡◌, ℕ, suc, zero, ◌+◌, ◌<◌, ◌≤◌, Bool, true, false, ◌&&◌, List, [], ◌∷◌, length, take, Some, ◌⊎◌, inl, inr, refl, sym, ◌∙◌, ap, arith}
 use Rattle.std.specs.Prelude.{not, slice_get}
 use Rattle.std.specs.List.{list_all, find}
 use Rattle.std.proofs.lemmas.Bool.{and_from, both_ways, cases_order}
@@ -7,7 +7,7 @@ use Rattle.sv_token.proofs.Agreement.{has_tokens_or_break, HasTokens as Tokens, 
 use Rattle.sv_first_ast.specs.Tree.{ModuleTree}
 use Rattle.sv_first_ast.specs.Form.{is_first_form}
 use Rattle.sv_first_ast.specs.Meaning.{label_of, flows}
-use Rattle.sv_first_ast.specs.Obligations.{Obligation, obligations, flow_holds, zeros}
+use Rattle.sv_first_ast.specs.Obligations.{obligations, flow_holds, zeros}
 use Rattle.sv_first_ast.proofs.Leak.{leak_falsifies}
 use Rattle.sv_first.proofs.Readings.{MeansOne, MeansNone, one_or_none}
 use Rattle.sv_cli.specs.Text.{accepted_text, refusal_text, limit_text, leak_text}

@@ -1,5 +1,5 @@
 -- A text has one verdict, and one text is printed for it.
-use Rattle.std.proofs.Common.{◌≡◌, ℕ, suc, zero, ◌+◌, ◌<◌, ◌≤◌, Bool, true, false, IsTrue, List, [], ◌∷◌, length, take, Option, Some, ◌⊎◌, inl, inr, refl, sym, ◌∙◌, ap, subst, arith}
+use Rattle.std.proofs.Common.{◌≡◌, ℕ, suc, zero, ◌+◌, ◌<◌, Bool, true, false, List, [], ◌∷◌, length, take, Option, Some, ◌⊎◌, inl, inr, refl, sym, ◌∙◌, ap, subst, arith}
 use Rattle.std.specs.Prelude.{not, slice_get}
 use Rattle.std.specs.List.{list_all, find}
 use Rattle.std.proofs.lemmas.Bool.{and_parts, both_ways, cases_order}
@@ -11,7 +11,7 @@ use Rattle.sv_first_ast.specs.Meaning.{label_of, flows}
 use Rattle.sv_first_ast.specs.Obligations.{Obligation, Values, obligations, flow_holds, Falsifies, zeros}
 use Rattle.sv_first.proofs.Readings.{one_module}
 use Rattle.sv_cli.specs.Text.{accepted_text, refusal_text, limit_text, leak_text}
-use Rattle.sv_cli.specs.Answer.{Answer, accepted, rule_broken, limit_passed, falsified, misused, largest_file, IsFirstForm, IsNotBuilt, IsRefused, IsAccepted, IsFalsified, IsVerdict}
+use Rattle.sv_cli.specs.Answer.{Answer, accepted, rule_broken, limit_passed, falsified, misused, IsFirstForm, IsNotBuilt, IsRefused, IsAccepted, IsFalsified, IsVerdict}
 use Rattle.sv_cli.proofs.Congruence.{two, three, four}
 
 -- an element of a list passes what all pass
@@ -113,7 +113,7 @@ two_falsified : (text : List ℕ) (number number' : ℕ) (values values' : Value
 two_falsified text number number' values values' printed printed' v w =
     let same = same_module text w.tree v.tree w.form v.form in
     two_told v.tree number number' values values' printed printed' (told text number values printed v)
-        (subst (λ (m : ModuleTree). IsTold m number' values' printed') same (told text number' values' printed' w))
+    (subst (λ (m : ModuleTree). IsTold m number' values' printed') same (told text number' values' printed' w))
 
 -- where an obligation fails not all hold
 accepted_falsified : (text printed : List ℕ) (number : ℕ) (values : Values) (printed' : List ℕ) → IsAccepted text printed → IsFalsified text number values printed' → ⊥

@@ -20,5 +20,5 @@ pub fn each_text_has_one_verdict()
     ensures { (text : List ℕ) →
         (answer : Answer) × (printed : List ℕ) × IsVerdict text answer printed
         × ((other : Answer) (others : List ℕ) → IsVerdict text other others →
-            (other ≡ answer) × (others ≡ printed)) }
+        (other ≡ answer) × (others ≡ printed)) }
 {}

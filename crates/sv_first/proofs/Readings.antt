@@ -58,10 +58,13 @@ tokens_mean : (bytes : List ℕ) (ls : List Lexeme) → Reaches bytes ls [] → 
 tokens_mean bytes ls r (Some m) is =
     let reads = Reaches-whole bytes ls r in
     let one : (ts : List (List ℕ)) → Reads bytes ts → ts ≡ texts_of ls = λ ts h. Reaches-only bytes ls ts r h in
-    inl (m, record {
-      means = read_is_meant bytes ls r.lexed reads one m is;
-      only = λ other h. some_is other m (sym (meant_is_read bytes ls r.lexed reads one other h) ∙ is);
-    })
+    inl (
+      m,
+      record {
+        means = read_is_meant bytes ls r.lexed reads one m is;
+        only = λ other h. some_is other m (sym (meant_is_read bytes ls r.lexed reads one other h) ∙ is);
+      },
+    )
 tokens_mean bytes ls r None is =
     let reads = Reaches-whole bytes ls r in
     let one : (ts : List (List ℕ)) → Reads bytes ts → ts ≡ texts_of ls = λ ts h. Reaches-only bytes ls ts r h in

@@ -3,10 +3,10 @@ ghost use Rattle.std.specs.Prelude.{◌≡◌, ◌<◌, ◌≤◌, ℕ, List, le
 ghost use Rattle.sv_first_ast.specs.Spelling.{Reads};
 ghost use Rattle.sv_first.specs.Tokens.{AreLexed, IsLexed, front_at, lexemes, texts};
 
+use crate::identifiers::{begins_word, is_blank, word_kind, word_length};
 use crate::signs::sign_at;
 use crate::stop::Stop;
 use crate::token::{Front, Token};
-use crate::identifiers::{begins_word, is_blank, word_kind, word_length};
 use std::alloc::Global;
 
 // The token at the front.

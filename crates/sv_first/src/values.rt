@@ -92,11 +92,7 @@ impl Left {
     }
 
     // What stands left of the latest `|`, and all that a `^` behind the operand has on its left.
-    fn up_to_xor(
-        self,
-        alloc: Global,
-        operand: Expr,
-    ) -> Result<(Option<Expr>, Expr), AllocError>
+    fn up_to_xor(self, alloc: Global, operand: Expr) -> Result<(Option<Expr>, Expr), AllocError>
         ensures before { IfOk result (λ x. option_map expression_tree x.0 ≡ (left_of self).of_or) }
         ensures sum { IfOk result
             (λ x. expression_tree x.1 ≡ up_to_xor (left_of self) (expression_tree operand)) }

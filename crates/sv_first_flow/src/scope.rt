@@ -43,7 +43,7 @@ impl<'a> Model for Scope<'a> {
     ghost view = { λ s. s.«module».now };
 
     ghost invariant = { λ s. IsScope
-    (module_tree s.«module».now) s.names.keys s.declarations.items s.processes.items };
+        (module_tree s.«module».now) s.names.keys s.declarations.items s.processes.items };
 }
 
 // The declarations of a module: its ports, and then its other declarations.

@@ -70,7 +70,11 @@ fn a_sink_that_fails_keeps_the_front(rt: HostRuntime) -> Result<(), Fail> {
         let mut sink = MemSink::new(alloc, Vec::from_slice(alloc, &[number])?, 1);
         let fails = put_all(&mut sink, text) == Err(PutFault::Failed);
         assert_eq!(rt; fails, number < 4, "at put {number}");
-        assert_eq!(rt; sink.bytes(), &text[..number as usize - 1], "at put {number}");
+        assert_eq!(rt;
+            sink.bytes(),
+            &text[..number as usize - 1],
+            "at put {number}"
+        );
     }
     let mut sure = SureSink::new(alloc);
     put_all(&mut sure, text)?;

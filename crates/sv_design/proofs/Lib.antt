@@ -1,0 +1,9 @@
+pub mod Lookups
+pub mod Firsts
+pub mod BitFacts
+pub mod Sound
+pub mod WrongFacts
+pub mod WrongPieces
+pub mod NoteFacts
+pub mod DriverFacts
+pub mod ClockLinks

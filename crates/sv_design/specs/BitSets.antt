@@ -1,0 +1,40 @@
+-- Sets of bits of signals, as numbers by signal.
+use Rattle.std.specs.Prelude.{◌≡◌, ℕ, Bool, ◌==◌, nat_le, List, map, unwrap_or, IsTrue}
+use Rattle.std.specs.List.{list_any, list_all}
+use Rattle.sv_flat.specs.Assigned.{has_bit}
+use Rattle.std.specs.Int.{bit_at}
+use Rattle.std.specs.Ordering.{nat_cmp}
+use Rattle.std.specs.BTreeMap as tree
+use Rattle.sv_flat.specs.declared.statements.Piece.{Piece}
+use Rattle.sv_flat.specs.Design.{PieceForm}
+use Rattle.sv_flat.specs.Views.{piece_form}
+use Rattle.sv_flat.specs.Readings.{BitSet}
+use Rattle.sv_design.specs.declared.bits.Bits.{Bits}
+
+-- the bits of a signal that are in the set, as a number
+abbrev pub mask_in : Bits → ℕ → ℕ
+mask_in set s = unwrap_or (tree.get nat_cmp set.masks s) 0
+
+-- the number has the bit
+abbrev pub is_set : ℕ → ℕ → Bool
+is_set mask b = bit_at mask b == 1
+
+-- the set has the bit of the signal
+abbrev pub in_bits : Bits → BitSet
+in_bits set s b = is_set (mask_in set s) b
+
+-- two numbers have a bit in common
+abbrev pub SharesBit : ℕ → ℕ → Type 0
+SharesBit a b = (k : ℕ) × IsTrue (is_set a k) × IsTrue (is_set b k)
+
+-- the plain forms of pieces, in order
+abbrev pub piece_forms : List Piece → List PieceForm
+piece_forms pieces = map piece_form pieces
+
+-- no piece is empty
+abbrev pub none_empty : List PieceForm → Bool
+none_empty pieces = list_all (λ (p : PieceForm). nat_le p.low p.high) pieces
+
+-- the set has the bits of these pieces, and no others
+abbrev pub HoldsPieces : Bits → List PieceForm → Type 0
+HoldsPieces set pieces = ((s b : ℕ) → in_bits set s b ≡ list_any (has_bit s b) pieces) × IsTrue (none_empty pieces)

@@ -1,0 +1,63 @@
+// Sets of bits of signals, by what is in them.
+ghost use Rattle.std.specs.Prelude.{◌≡◌, ℕ, ◌<◌, ◌≤◌, ◌==◌, ◌&&◌, ◌||◌, nat_le, ◌↔◌, IsTrue, OnOk};
+ghost use Rattle.std.specs.List.{list_any};
+ghost use Rattle.sv_flat.specs.Assigned.{has_bit};
+ghost use Rattle.sv_design.specs.BitSets.{mask_in, is_set, in_bits, SharesBit};
+
+use std::alloc::{AllocError, Global};
+use std::collections::BTreeMap;
+use sv_flat::{Piece, SigId, Signal};
+
+/// A set of bits of signals: for each signal with a bit in it, those bits as a number.
+#[derive(Drop)]
+pub struct Bits {
+    masks: BTreeMap<u32, u64>,
+}
+
+/// The bits from high down to low, as a number.
+pub fn mask(high: u8, low: u8) -> u64
+    requires ordered { low ≤ high }
+    requires few { high < 64 }
+    ensures { (b : ℕ) → is_set result b ≡ (nat_le low b && nat_le b high) }
+{
+    let top: u64 = 1 << high;
+    let bottom: u64 = 1 << low;
+    top - bottom + top
+}
+
+/// Whether two numbers have a bit in common.
+pub fn share(first: u64, second: u64) -> bool
+    ensures { IsTrue result ↔ SharesBit first second }
+{
+    first & second != 0
+}
+
+impl Bits {
+    /// No bits.
+    pub fn new(alloc: Global) -> Bits
+        ensures { (s : ℕ) → mask_in result s ≡ 0 }
+    {
+        Bits {
+            masks: BTreeMap::new(alloc),
+        }
+    }
+
+    /// The bits of a signal that are in the set.
+    pub fn of(&self, signal: SigId) -> u64
+        ensures { result ≡ mask_in self.now signal.0 }
+    {
+        match self.masks.get(&signal.0) {
+            Some(mask) => *mask,
+            None => 0,
+        }
+    }
+
+    /// Puts bits of a signal into the set.
+    pub fn add(&mut self, signal: SigId, mask: u64) -> Result<(), AllocError>
+        ensures { OnOk result ((s b : ℕ) → in_bits self.new s b ≡ (in_bits self.old s b || ((signal.0 == s) && is_set mask b))) }
+    {
+        let bits = self.of(signal) | mask;
+        self.masks.insert(signal.0, bits)?;
+        Ok(())
+    }
+}

@@ -1,0 +1,55 @@
+// Clocks, and rule 602.
+ghost use Rattle.std.specs.Prelude.{◌≡◌, ◌<◌, length, slice_index_or, false, IsTrue};
+ghost use Rattle.std.specs.List.{list_any};
+ghost use Rattle.sv_flat.specs.Clocks.{is_clock_link, is_port_in};
+ghost use Rattle.sv_flat.specs.Design.{PieceForm};
+ghost use Rattle.sv_flat.specs.Processes.{is_top_kind};
+ghost use Rattle.sv_flat.specs.Soundness.{process_sound};
+ghost use Rattle.sv_flat.specs.Views.{design_of, process_form, process_kind};
+ghost use Rattle.sv_design.specs.BitSets.{piece_forms};
+ghost use Rattle.sv_design.specs.DriverTables.{AreClocks, AreTargets};
+
+use sv_flat::{FStmt, Flat, Piece, ProcKind, Process, SigKind};
+
+/// Whether a signal of the kind is an input of the top module.
+pub fn is_top(kind: SigKind) -> bool
+    ensures { result ≡ is_top_kind kind }
+{
+    matches!(kind, SigKind::TopInput)
+}
+
+// Whether some piece is one of a signal that the table has.
+fn is_any(pieces: &[Piece], table: &[bool]) -> bool
+    requires { AreTargets (length table.now) (piece_forms pieces.now) }
+    ensures { result ≡ list_any (λ (p : PieceForm). slice_index_or table.now p.signal false) (piece_forms pieces.now) }
+{
+    for piece in pieces {
+        if table[piece.signal.0 as usize] {
+            return true;
+        }
+    }
+    false
+}
+
+// Whether the process is a link to an input port.
+fn links_input(kind: ProcKind) -> bool
+    ensures { result ≡ is_port_in (process_kind kind) }
+{
+    matches!(kind, ProcKind::PortIn)
+}
+
+/// Whether the process is a link to a clock, which is no process.
+pub fn is_clock_link(flat: &Flat, process: &Process, clocks: &[bool]) -> bool
+    requires sound { IsTrue (process_sound (design_of flat.now) (process_form process.now)) }
+    requires clocks { AreClocks (design_of flat.now) clocks.now }
+    ensures { result ≡ is_clock_link (design_of flat.now) (process_form process.now) }
+{
+    if !links_input(process.kind) {
+        return false;
+    }
+    match &process.body {
+        FStmt::Assign { pieces, .. } => is_any(pieces, clocks),
+        FStmt::Block(_) => false,
+        FStmt::If { .. } => false,
+    }
+}

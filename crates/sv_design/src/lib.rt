@@ -1,0 +1,17 @@
+//! Admission: flat designs that break no rule, with what is worked out of them once.
+//!
+//! A contract sees an admitted design as the flat design that was admitted.
+#![tactic(auto)]
+
+mod assignments;
+mod bits;
+mod clocks;
+mod design;
+mod drivers;
+mod found;
+mod lists;
+mod processes;
+mod tables;
+
+pub use design::Design;
+pub use std::alloc::AllocError as OutOfMemory;

@@ -21,8 +21,12 @@ by_outcome ts stop done e = inl (text_of_form all_limits ts (text_of_run all_lim
 by_outcome ts stop (fails f []) e = inr (201, [], stop, end_breaks ts f stop e)
 by_outcome ts stop (fails f (t ∷ after)) e =
     let found = where_run_fails all_limits ts text_state f (t ∷ after) e in
-    inr (rule_number f found.0 (t ∷ after), rule_names f found.0 (t ∷ after), rule_place stop (t ∷ after),
-    failure_breaks ts found.0 (t ∷ after) f stop found.1 e)
+    inr (
+      rule_number f found.0 (t ∷ after),
+      rule_names f found.0 (t ∷ after),
+      rule_place stop (t ∷ after),
+      failure_breaks ts found.0 (t ∷ after) f stop found.1 e,
+    )
 
 pub means_or_breaks : (ts : List Placed) (stop : Place) → MeansOrBreaks ts stop
 means_or_breaks ts stop = by_outcome ts stop (run all_limits text_state ts) refl

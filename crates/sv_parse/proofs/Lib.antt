@@ -1,3 +1,5 @@
+pub mod ReadingExpressions
+pub mod ReadingLists
 pub mod ReadingOperators
 pub mod ExpressionForms
 pub mod ExpressionParts

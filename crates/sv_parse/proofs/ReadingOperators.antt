@@ -1,5 +1,5 @@
 -- What the rows of the table of binary operators say.
-use Rattle.std.proofs.Common.{◌≡◌, ℕ, List, subst, map, slice_get, option_map, option_and_then, Option, Some, None, refl, sym, ap, ◌∙◌}
+use Rattle.std.proofs.Common.{◌≡◌, ℕ, List, subst, slice_get, option_map, option_and_then, Option, Some, None, sym, ap, ◌∙◌}
 use Rattle.std.proofs.lemmas.Option.{slice_get-map}
 use Rattle.sv_num.specs.declared.operator_tables.TheConstants.{BINARY}
 use Rattle.sv_num.specs.declared.operator_tables.BinRow.{BinRow}

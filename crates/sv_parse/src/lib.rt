@@ -2,17 +2,21 @@
 //!
 //! What tokens mean, and where they break which rule, is said in `sv_ast`: `specs/GrammarRules.antt` and the other files of the
 //! grammar. Here stands a machine that follows the grammar token by token (`specs/Symbols.antt`, `specs/Machine.antt` and the tables
-//! beside them); that it follows it exactly is proved. Reading itself, from tokens to a tree, is not written yet: there is the first of it,
-//! single tokens, and the fault that a text has where reading stops.
+//! beside them); that it follows it exactly is proved. Of reading itself, from tokens to a tree, there are expressions, lists, and the
+//! fault that a text has where reading stops; the rest is not written yet.
 //!
 //! The files in `specs/` say how reading goes; what it means stands in `sv_ast`.
 #![tactic(auto)]
 
 mod cursor;
+mod expressions;
 mod faults;
 mod forms;
 mod laws;
+mod lists;
+mod nodes;
 mod operators;
+mod room;
 mod stop;
 mod words;
 

@@ -1,5 +1,4 @@
-use Rattle.std.proofs.Common.{◌≡◌, Some, None, sym}
-use Rattle.sv_ast.specs.GrammarForms.{binary_operator}
+use Rattle.std.proofs.Common.{◌≡◌, Some, sym}
 use Rattle.sv_parse.proofs.ReadingOperators.{row_operator}
 use Rattle.sv_parse.proofs.operators.binary_operator.Goals as goal
 

@@ -1,0 +1,12 @@
+pub mod EntryLemmas
+pub mod Sound
+pub mod SameValue
+pub mod Lengths
+pub mod WellFormed
+pub mod Low
+pub mod Constants
+pub mod Measures
+pub mod Named
+pub mod MRows
+pub mod Wholes
+pub mod Folds

@@ -1,0 +1,17 @@
+-- What a call answers for a walk: what it found, or the rule that is broken first, or that memory ran
+-- out.
+use Rattle.std.specs.Prelude.{◌≡◌, Result, Ok, Err}
+use Rattle.sv_num.specs.declared.faults.Refusal.{Refusal}
+use Rattle.sv_num.specs.declared.faults.Fault.{Fault}
+use Rattle.sv_num.specs.declared.faults.Fault.TheVariants.{Rule, OutOfMemory}
+use Rattle.sv_walk.specs.Walks.{Step}
+use Rattle.sv_walk.specs.Rules.{step}
+
+-- the step that a refusal names
+abbrev pub step_of : Refusal → Step
+step_of r = step r.number r.place r.names.items
+
+-- the fault is want of memory, or refuses by the step that the walk breaks
+abbrev pub IsBreach : {X : Type 0} → Result X Step → Fault → Type 0
+IsBreach end (Rule r) = end ≡ Err (step_of r)
+IsBreach end OutOfMemory = Unit {0}

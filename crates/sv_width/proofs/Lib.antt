@@ -5,8 +5,14 @@ pub mod Lengths
 pub mod WellFormed
 pub mod Low
 pub mod Constants
+pub mod Walked
 pub mod Measures
+pub mod Ends
 pub mod Named
 pub mod MRows
+pub mod Breaches
+pub mod FlatRows
 pub mod Wholes
 pub mod Folds
+pub mod Arms
+pub mod Rest

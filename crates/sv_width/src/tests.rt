@@ -1,11 +1,76 @@
-// What names stand for.
+// The worked rows: typed forms, constants and refusals. The values are those of the standard's rules, as Icarus Verilog gives them.
 use super::*;
+use std::alloc::{AllocError, Global};
 use std::test::Fail;
+use sv_ast::Expr;
 use sv_flat::SigId;
-use sv_num::{Bits, Name, Place};
+use sv_num::{BinOp, Bits, Fault, Name, Place, UnOp};
+use sv_token::Lit;
 
 fn at(column: u32) -> Place {
     Place { line: 1, column }
+}
+
+// A plain decimal of the text.
+fn decimal(value: u32, column: u32) -> Expr {
+    let bits = Bits::of_type(32, true, u64::from(value));
+    Expr::Number(Lit { bits, sized: false }, at(column))
+}
+
+// `8'shNN`
+fn byte(value: u8, column: u32) -> Expr {
+    let bits = Bits::of_type(8, true, u64::from(value));
+    Expr::Number(Lit { bits, sized: true }, at(column))
+}
+
+fn binary(alloc: Global, op: BinOp, left: Expr, right: Expr) -> Result<Expr, AllocError> {
+    Ok(Expr::Binary(op, at(9), Box::new(alloc, left)?, Box::new(alloc, right)?))
+}
+
+// 8'sh80 >>> 1 for a target of 16 bits: ffc0 once shifted
+#[test]
+fn pushes_lengths_and_signs(rt: HostRuntime) -> Result<(), Fail> {
+    let alloc = rt.alloc();
+    let expr = binary(alloc, BinOp::SignShr, byte(0x80, 1), decimal(1, 12))?;
+    let shaped = expr.is_shaped();
+    assert!(rt; shaped);
+    let typed = typed(alloc, &expr, &Scope::new(alloc), 16);
+    assert_eq!(rt;
+        format!(in alloc; "{typed:?}")?.as_str(),
+        "Ok(FExpr { width: 16, signed: true, node: Binary(SignShr, FExpr { width: 16, signed: true, node: Number(65408) }, FExpr { width: 32, signed: true, node: Number(1) }) })"
+    );
+    Ok(())
+}
+
+// -7 / 2
+#[test]
+fn divides_constants(rt: HostRuntime) -> Result<(), Fail> {
+    let alloc = rt.alloc();
+    let seven = Expr::Unary(UnOp::Minus, at(1), Box::new(alloc, decimal(7, 2))?);
+    let expr = binary(alloc, BinOp::Div, seven, decimal(2, 6))?;
+    let shaped = expr.is_shaped();
+    assert!(rt; shaped);
+    let value = constant(alloc, &expr, &Scope::new(alloc));
+    assert_eq!(rt;
+        format!(in alloc; "{value:?}")?.as_str(),
+        "Ok(Bits { width: 32, signed: true, value: 4294967293 })"
+    );
+    Ok(())
+}
+
+// 7 / 0
+#[test]
+fn refuses_a_divisor_of_0(rt: HostRuntime) -> Result<(), Fail> {
+    let alloc = rt.alloc();
+    let expr = binary(alloc, BinOp::Div, decimal(7, 1), decimal(0, 5))?;
+    let shaped = expr.is_shaped();
+    assert!(rt; shaped);
+    let value = constant(alloc, &expr, &Scope::new(alloc));
+    assert_eq!(rt;
+        format!(in alloc; "{value:?}")?.as_str(),
+        "Err(Rule(Refusal { number: 405, place: Place { line: 1, column: 5 }, names: [] }))"
+    );
+    Ok(())
 }
 
 #[test]

@@ -251,7 +251,7 @@ module _ (design : FlatDesign) (is_sound : IsTrue (sound design)) (admitted : Is
       (none_made (driver_fault design) (signal_numbers design) no_driver_faults s
       (range_has (length design.signals) s (ltb-true s (length design.signals) inside)))
 
-  extra_at : (b : Bool) (s : ℕ) → is_top_input design s ≡ b → IsTrue (is_signal design.signals s)
+  pub extra_at : (b : Bool) (s : ℕ) → is_top_input design s ≡ b → IsTrue (is_signal design.signals s)
       → slice_get (drivers (processes_of design) s) (cond b 0 1) ≡ None
   extra_at b s is inside = subst (λ c. slice_get (drivers (processes_of design) s) (cond c 0 1) ≡ None) is (no_extra s inside)
 

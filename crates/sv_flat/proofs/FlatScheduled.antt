@@ -39,14 +39,14 @@ module _ (design : FlatDesign) (is_sound : IsTrue (sound design)) (admitted : Is
   abbrev all_blocks : List (Block ℕ)
   all_blocks = map block_of (combinational_processes design)
 
-  in_processes : (p : ProcessForm) → Contains (combinational_processes design) p → Contains (processes_of design) p
+  pub in_processes : (p : ProcessForm) → Contains (combinational_processes design) p → Contains (processes_of design) p
   in_processes p at = (Contains-from_filter (λ (q : ProcessForm). not (is_clocked q.kind)) (processes_of design) p at).1
 
-  unclocked : (p : ProcessForm) → Contains (combinational_processes design) p → IsFalse (is_clocked p.kind)
+  pub unclocked : (p : ProcessForm) → Contains (combinational_processes design) p → IsFalse (is_clocked p.kind)
   unclocked p at = negated_true (is_clocked p.kind)
       (Contains-from_filter (λ (q : ProcessForm). not (is_clocked q.kind)) (processes_of design) p at).0
 
-  parts_of : (s : ℕ) → IsTrue (is_combinational design s)
+  pub parts_of : (s : ℕ) → IsTrue (is_combinational design s)
       → IsTrue (is_signal design.signals s) × IsFalse (is_top_input design s) × IsFalse (is_register design s) × IsFalse (is_clock design s)
   parts_of s comb =
       let three = is_top_input design s || is_register design s || is_clock design s in
@@ -59,7 +59,7 @@ module _ (design : FlatDesign) (is_sound : IsTrue (sound design)) (admitted : Is
       )
 
   -- the system's combinational signals are those of the design
-  to_system : (s : ℕ) → IsTrue (is_combinational design s) → IsCombinational (flat_system design) s
+  pub to_system : (s : ℕ) → IsTrue (is_combinational design s) → IsCombinational (flat_system design) s
   to_system s comb =
       let parts = parts_of s comb in
       record {
@@ -69,7 +69,7 @@ module _ (design : FlatDesign) (is_sound : IsTrue (sound design)) (admitted : Is
         no_register = parts.2;
       }
 
-  of_system : (s : ℕ) → IsCombinational (flat_system design) s → IsTrue (is_combinational design s)
+  pub of_system : (s : ℕ) → IsCombinational (flat_system design) s → IsTrue (is_combinational design s)
   of_system s is =
       let no_clock = negated_true (is_clock design s) (those_pass (length design.signals) (λ z. not (is_clock design z)) s is.among) in
       let below = those_below (length design.signals) (λ z. not (is_clock design z)) s is.among in
@@ -84,7 +84,7 @@ module _ (design : FlatDesign) (is_sound : IsTrue (sound design)) (admitted : Is
       (e f : Environment ℕ)
       (inputs : (t : ℕ) → IsTrue (is_top_input design t && not (is_clock design t)) → e t ≡ f t)
       (registers : (t : ℕ) → IsTrue (is_register design t) → e t ≡ f t)
-      (lower : (t : ℕ) → IsTrue (is_combinational design t) → depth design t < depth design s → e t ≡ f t) where
+      (lower : (t : ℕ) → IsFalse (assigns p.body t) → IsTrue (is_combinational design t) → depth design t < depth design s → e t ≡ f t) where
     process : Contains (processes_of design) p
     process = in_processes p at
 
@@ -107,8 +107,9 @@ module _ (design : FlatDesign) (is_sound : IsTrue (sound design)) (admitted : Is
         (second_of (assigns p.body t) (nat_le (depth design t) (depth design s)) want) in
         omega arith
 
-    given : (r : Reading) → Contains (process_readings design p) r → depth design r.name.signal < depth design s → Given r.name.signal
-    given r r_at falls =
+    given : (r : Reading) → Contains (process_readings design p) r → IsFalse (assigns p.body r.name.signal)
+        → depth design r.name.signal < depth design s → Given r.name.signal
+    given r r_at out falls =
         let x = r.name.signal in
         let no_clock = reads_no_clock design is_sound admitted p x process
         (some_from (λ (z : Reading). z.name.signal == x) (process_readings design p) r r_at (eq-eqb x x refl)) in
@@ -117,7 +118,7 @@ module _ (design : FlatDesign) (is_sound : IsTrue (sound design)) (admitted : Is
         (λ top. inputs x (and_true (is_top_input design x) (not (is_clock design x)) top (ap not no_clock)))
         (λ no_top. ⊎_elim
         (λ register. registers x register)
-        (λ no_register. lower x
+        (λ no_register. lower x out
         (and_true (is_signal design.signals x) (not (is_top_input design x || is_register design x || is_clock design x)) inside
         (none_of_three (is_top_input design x) (is_register design x) (is_clock design x) no_top no_register no_clock))
         falls)
@@ -135,10 +136,10 @@ module _ (design : FlatDesign) (is_sound : IsTrue (sound design)) (admitted : Is
           own_is_assigned design is_sound admitted p t process (unclocked p at)
               (first_of (assigns p.body t) (nat_le (depth design t) (depth design s)) want) r r_at served own,
         ))
-        (λ out. inl (out, given r r_at (below_target r r_at t want served)))
+        (λ out. inl (out, given r r_at out (below_target r r_at t want served)))
         (either_way (assigns p.body r.name.signal))
 
-    same_target : run_of design p e s ≡ run_of design p f s
+    pub same_target : run_of design p e s ≡ run_of design p f s
     same_target =
         let inside = assigned_is_signal design.signals p.body (body_is_sound design is_sound admitted p process) s assigned in
         let w = signal_width design.signals s in
@@ -165,7 +166,7 @@ module _ (design : FlatDesign) (is_sound : IsTrue (sound design)) (admitted : Is
   from_lower : (p : ProcessForm) → Contains (combinational_processes design) p → FromLower (block_of p)
   from_lower p at s target e f inputs registers lower =
       same_target p at s (those_pass (length design.signals) (assigns p.body) s target) e f inputs registers
-      (λ t comb falls. lower t (to_system t comb) falls)
+      (λ t out comb falls. lower t (to_system t comb) falls)
 
   leaves_others : (p : ProcessForm) → Contains (combinational_processes design) p → (e : Environment ℕ) (s : ℕ)
       → (Contains (signals_that design (assigns p.body)) s → ⊥) → run_of design p e s ≡ e s

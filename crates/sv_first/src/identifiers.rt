@@ -166,14 +166,10 @@ fn continues_word(byte: u8) -> bool
 pub fn word_length(bytes: &[u8]) -> usize
     ensures { result ≡ prefix_len continues_word bytes.now }
 {
-    let mut length = 0;
-    for byte in bytes {
-        if !continues_word(*byte) {
-            return length;
-        }
-        length += 1;
-    }
-    length
+    bytes
+        .iter()
+        .take_while(|byte| continues_word(**byte))
+        .count()
 }
 
 // Whether the word is one of those.

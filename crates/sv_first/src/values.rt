@@ -5,8 +5,8 @@ ghost use Rattle.sv_first_ast.specs.Tree.{expression_tree, named};
 ghost use Rattle.sv_first.specs.Tokens.{lexemes};
 ghost use Rattle.sv_first.specs.Reading.{Gives};
 ghost use Rattle.sv_first.specs.Values.{empty, inversions_of, inverted, joined, left_of, operand};
-ghost use Rattle.sv_first.specs.Values.{operator, state_of, step, up_to_or, up_to_xor, value_at};
-ghost use Rattle.sv_first.specs.Values.{whole, with_and, with_or, with_xor};
+ghost use Rattle.sv_first.specs.Values.{operator, state_of, step, up_to_and, up_to_or, up_to_xor};
+ghost use Rattle.sv_first.specs.Values.{value_at, whole, with_and, with_or, with_xor};
 
 use crate::reading::{same_kind, text_of};
 use crate::stop::Stop;
@@ -75,19 +75,35 @@ impl Left {
         }
     }
 
-    // What stands left of an `&` behind the operand.
-    fn with_and(self, alloc: Global, operand: Expr) -> Result<Left, AllocError>
-        ensures { IfOk result (λ l. left_of l ≡ with_and (left_of self) (expression_tree operand)) }
+    // What stands left of the latest `|` and of the latest `^`, and all that an `&` behind the
+    // operand has on its left.
+    fn up_to_and(
+        self,
+        alloc: Global,
+        operand: Expr,
+    ) -> Result<(Option<Expr>, Option<Expr>, Expr), AllocError>
+        ensures or { IfOk result (λ x. option_map expression_tree x.0 ≡ (left_of self).of_or) }
+        ensures xor { IfOk result (λ x. option_map expression_tree x.1 ≡ (left_of self).of_xor) }
+        ensures product { IfOk result
+            (λ x. expression_tree x.2 ≡ up_to_and (left_of self) (expression_tree operand)) }
     {
         let Left {
             of_or,
             of_xor,
             of_and,
         } = self;
+        Ok((of_or, of_xor, joined(alloc, BinOp::And, of_and, operand)?))
+    }
+
+    // What stands left of an `&` behind the operand.
+    fn with_and(self, alloc: Global, operand: Expr) -> Result<Left, AllocError>
+        ensures { IfOk result (λ l. left_of l ≡ with_and (left_of self) (expression_tree operand)) }
+    {
+        let (of_or, of_xor, product) = self.up_to_and(alloc, operand)?;
         Ok(Left {
             of_or,
             of_xor,
-            of_and: Some(joined(alloc, BinOp::And, of_and, operand)?),
+            of_and: Some(product),
         })
     }
 
@@ -97,12 +113,7 @@ impl Left {
         ensures sum { IfOk result
             (λ x. expression_tree x.1 ≡ up_to_xor (left_of self) (expression_tree operand)) }
     {
-        let Left {
-            of_or,
-            of_xor,
-            of_and,
-        } = self;
-        let product = joined(alloc, BinOp::And, of_and, operand)?;
+        let (of_or, of_xor, product) = self.up_to_and(alloc, operand)?;
         Ok((of_or, joined(alloc, BinOp::Xor, of_xor, product)?))
     }
 

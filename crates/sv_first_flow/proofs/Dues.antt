@@ -137,7 +137,7 @@ module _ (m : ModuleTree) (first : form.is_first_form m ≡ true) where
       (λ r h. not_from_false (holds (meaning.clocks m) r) (read_is_no_clock r (source_is_read n r h))) (form.names m))
 
   -- a fact of each declaration
-  each : (P : Decl → Type 0) → ((d : Decl) → meaning.declaration m d.name ≡ Some d → P d) → All P (meaning.declarations m)
+  pub each : (P : Decl → Type 0) → ((d : Decl) → meaning.declaration m d.name ≡ Some d → P d) → All P (meaning.declarations m)
   each P h = λ k e within.
       let d = get_or (meaning.declarations m) k e in
       h d (own (λ (x : Decl). x.name) (meaning.declarations m) k d names_differ (slice_get-get_or (meaning.declarations m) k e within))

@@ -1,7 +1,9 @@
 -- The first read that leaks, in the order of the declarations.
-use Rattle.std.proofs.Common.{◌≡◌, ℕ, ◌+◌, ◌<◌, Bool, true, false, not, ◌&&◌, List, ◌∷◌, filter, drop, find, length, get_or, Option, Some, None, unwrap_or, refl, ap, ◌∙◌, sym}
-use Rattle.std.specs.Borrow.{Bor}
-use Rattle.std.proofs.lemmas.Bool.{both_ways}
+use Rattle.std.proofs.Common.{◌≡◌, ℕ, Bool, true, false, cond, not, ◌&&◌, List, [], ◌∷◌, filter, find, Option, Some, None, unwrap_or, refl, ap, ◌∙◌, sym}
+use Rattle.std.specs.Option.{option_map}
+use Rattle.std.specs.List.{All}
+use Rattle.std.proofs.lemmas.Bool.{both_ways, and_parts}
+use Rattle.std.proofs.lemmas.List.Elements.{All-head, All-tail}
 use Rattle.sv_first_ast.specs.declared.module.Decl.{Decl}
 use Rattle.sv_first_ast.specs.declared.module.Point.{Point}
 use Rattle.sv_first_ast.specs.declared.module.Point.TheVariants.{Low}
@@ -10,9 +12,8 @@ use Rattle.sv_first_ast.specs.Tree.{ModuleTree}
 use Rattle.sv_first_ast.specs.Meaning as meaning
 use Rattle.sv_first_ast.specs.Form as form
 use Rattle.sv_first_ast.specs.Obligations as due
-use Rattle.sv_first_flow.specs.Scope.{plain_declarations, names_of, sources, obligation}
-use Rattle.sv_first_flow.proofs.Dues.{names_differ, own_reference, own_label, reads_among_names}
-use Rattle.sv_first_flow.proofs.Left.{next_name}
+use Rattle.sv_first_flow.specs.Scope.{names_of, sources, obligation}
+use Rattle.sv_first_flow.proofs.Dues.{each, own_label, reads_among_names}
 use Rattle.sv_first_flow.proofs.Members.{find_here, find_on, none_fails}
 
 -- the name leaks to the point
@@ -20,26 +21,33 @@ abbrev pub leaks : ModuleTree → Point → List ℕ → Bool
 leaks m to r = not (meaning.flows (meaning.label_of m r) to)
 
 module _ (m : ModuleTree) (first : form.is_first_form m ≡ true) where
-  module _ (is_read : List ℕ → Bool) (to from : Point) (ds : List (Bor Decl)) (i : ℕ) (d : Bor Decl) (are : plain_declarations ds ≡ meaning.declarations m)
-      (so_far : find (leaks m to) (filter is_read (names_of (plain_declarations (drop i ds)))) ≡ find (leaks m to) (filter is_read (form.names m)))
-      (within : i < length ds) (is : d ≡ get_or ds i d) (label : from ≡ unwrap_or d.now.label Low) where
-    next : names_of (plain_declarations (drop i ds)) ≡ d.now.name ∷ names_of (plain_declarations (drop (i + 1) ds))
-    next = next_name (λ e. e.now.name) (λ es. names_of (plain_declarations es)) (λ _ _. refl) ds i d within is
+  module _ (is_read : List ℕ → Bool) (to : Point) where
+    -- by its own label the declaration leaks, and it is read
+    abbrev pub is_leak : Decl → Bool
+    is_leak d = is_read d.name && not (meaning.flows (unwrap_or d.label Low) to)
 
-    leaks_by_label : leaks m to d.now.name ≡ not (meaning.flows from to)
-    leaks_by_label =
-        ap (λ (p : Point). not (meaning.flows p to)) (own_label m d.now (own_reference m ds i d (names_differ m first) are within is) ∙ sym label)
+    first_named : (ds : List Decl) → All (λ (d : Decl). meaning.label_of m d.name ≡ unwrap_or d.label Low) ds
+        → option_map (λ (d : Decl). d.name) (find is_leak ds) ≡ find (leaks m to) (filter is_read (names_of ds))
+    first_named [] h = refl
+    first_named (d ∷ ds) h =
+        by (is_leak d) refl (first_named ds (All-tail (λ (e : Decl). meaning.label_of m e.name ≡ unwrap_or e.label Low) d ds h))
+      where
+        by_label : leaks m to d.name ≡ not (meaning.flows (unwrap_or d.label Low) to)
+        by_label = ap (λ (p : Point). not (meaning.flows p to)) (All-head (λ (e : Decl). meaning.label_of m e.name ≡ unwrap_or e.label Low) d ds h)
 
-    pub leak_here : is_read d.now.name ≡ true → meaning.flows from to ≡ false → Some d.now.name ≡ find (leaks m to) (filter is_read (form.names m))
-    leak_here r h =
-        sym (sym so_far ∙ ap (λ (ns : List (List ℕ)). find (leaks m to) (filter is_read ns)) next
-        ∙ find_here (leaks m to) is_read d.now.name (names_of (plain_declarations (drop (i + 1) ds))) r (leaks_by_label ∙ ap not h))
+        by : (b : Bool) → is_leak d ≡ b → option_map (λ (e : Decl). e.name) (find is_leak ds) ≡ find (leaks m to) (filter is_read (names_of ds))
+            → option_map (λ (e : Decl). e.name) (find is_leak (d ∷ ds)) ≡ find (leaks m to) (filter is_read (names_of (d ∷ ds)))
+        by true e rest =
+            let both = and_parts (is_read d.name) (not (meaning.flows (unwrap_or d.label Low) to)) e in
+            ap (λ (b : Bool). option_map (λ (x : Decl). x.name) (cond b (Some d) (find is_leak ds))) e
+            ∙ sym (find_here (leaks m to) is_read d.name (names_of ds) both.0 (by_label ∙ both.1))
+        by false e rest =
+            ap (λ (b : Bool). option_map (λ (x : Decl). x.name) (cond b (Some d) (find is_leak ds))) e ∙ rest
+            ∙ sym (find_on (leaks m to) is_read d.name (names_of ds) (ap (λ (b : Bool). is_read d.name && b) by_label ∙ e))
 
-    pub leak_on : (is_read d.now.name && not (meaning.flows from to)) ≡ false
-        → find (leaks m to) (filter is_read (names_of (plain_declarations (drop (i + 1) ds)))) ≡ find (leaks m to) (filter is_read (form.names m))
-    leak_on h =
-        sym (find_on (leaks m to) is_read d.now.name (names_of (plain_declarations (drop (i + 1) ds))) (ap (λ (b : Bool). is_read d.now.name && b) leaks_by_label ∙ h))
-        ∙ sym (ap (λ (ns : List (List ℕ)). find (leaks m to) (filter is_read ns)) next) ∙ so_far
+    -- the first declaration that leaks has the name of the first leak
+    pub first_leak_named : option_map (λ (d : Decl). d.name) (find is_leak (meaning.declarations m)) ≡ find (leaks m to) (filter is_read (form.names m))
+    first_leak_named = first_named (meaning.declarations m) (each m first (λ (d : Decl). meaning.label_of m d.name ≡ unwrap_or d.label Low) (λ d is. own_label m d is))
 
   -- what was found among the names that the right side reads, for a declaration with its own point
   module _ (n : List ℕ) (to : Point) (reads : List (List ℕ)) (point : to ≡ meaning.label_of m n) (are : reads ≡ sources m n) where

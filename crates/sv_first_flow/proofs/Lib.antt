@@ -1,5 +1,6 @@
 pub mod Names
 pub mod Left
+pub mod Walks
 pub mod Lookups
 pub mod Order
 pub mod FirstForm

@@ -73,12 +73,10 @@ impl<'a> Scope<'a> {
             (filter (holds (form.reads (expression_tree value.now)))
             (form.names (module_tree self.now))) }
     {
-        for declaration in self.declarations() {
-            if is_read(value, &declaration.name) && !kind::flows(kind::label(declaration), to) {
-                return Some(&declaration.name);
-            }
-        }
-        None
+        let leaks = self.declarations().iter().find(|declaration| {
+            is_read(value, &declaration.name) && !kind::flows(kind::label(declaration), to)
+        });
+        leaks.map(|declaration| &declaration.name)
     }
 
     // The registers, in order.

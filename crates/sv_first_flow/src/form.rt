@@ -146,38 +146,29 @@ impl<'a> Scope<'a> {
     pub(crate) fn first_clock(&self) -> Option<&'a Name>
         ensures { option_copied result ≡ slice_get (meaning.clocks (module_tree self.now)) 0 }
     {
-        for process in self.processes() {
-            if process.clock.is_some() {
-                return process.clock;
-            }
-        }
-        None
+        self.processes()
+            .iter()
+            .filter_map(|process| process.clock)
+            .next()
     }
 
     // Whether all clocked processes name this clock.
     fn has_one_clock(&self, clock: &Name) -> bool
         ensures { result ≡ list_all (bytes_eq clock.now) (meaning.clocks (module_tree self.now)) }
     {
-        for process in self.processes() {
-            if let Some(other) = process.clock {
-                if clock != other {
-                    return false;
-                }
-            }
-        }
-        true
+        self.processes()
+            .iter()
+            .filter_map(|process| process.clock)
+            .all(|other| clock == other)
     }
 
     // Whether some process reads the name.
     fn reads(&self, name: &Name) -> bool
         ensures { result ≡ holds (form.all_reads (module_tree self.now)) name.now }
     {
-        for process in self.processes() {
-            if is_read(process.value, name) {
-                return true;
-            }
-        }
-        false
+        self.processes()
+            .iter()
+            .any(|process| is_read(process.value, name))
     }
 
     // Whether the name is an input that may be a clock, and is read nowhere.

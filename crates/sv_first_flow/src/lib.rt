@@ -1,7 +1,9 @@
 //! Which modules are of the first form, and whether their labels keep every secret.
 //!
-//! It stands on the words of `sv_first_ast`: a module is seen as its tree, and the answers are
-//! those of `is_first_form` and `obligations`.
+//! [`check`] takes a module and gives what its obligations come to. It stands on the words of
+//! `sv_first_ast`: a module is seen as its tree, and the answers are those of `is_first_form` and
+//! `obligations`. What a [`Finding`] says is in `specs/Leak.antt`; `specs/Scope.antt` says how the
+//! private functions go, and is no part of what the crate promises.
 #![tactic(auto)]
 
 mod answer;

@@ -1,29 +1,24 @@
-use Rattle.std.proofs.Common.{sym, refl}
-use Rattle.std.proofs.lemmas.Bool.{and_left, and_right, not_from_true}
+use Rattle.std.proofs.Common.{◌≡◌, List, find, rules, tests, ap, ◌∙◌}
+use Rattle.std.specs.Borrow.{Bor}
+use Rattle.std.specs.Option.{option_map, option_copied}
+use Rattle.std.proofs.lemmas.Iterator.{YieldsList-from_slice}
+use Rattle.std.proofs.lemmas.Iterator.Search.{find_from_yields_List}
+use Rattle.sv_first_ast.specs.declared.module.Decl.{Decl}
 use Rattle.sv_first_ast.specs.Names.{holds}
-use Rattle.sv_first_ast.specs.Form as form
 use Rattle.sv_first_ast.specs.Tree.{module_tree, expression_tree}
-use Rattle.sv_first_flow.proofs.Leaks.{leak_here, leak_on}
+use Rattle.sv_first_ast.specs.Form as form
+use Rattle.sv_first_flow.proofs.Walks.{first_name}
+use Rattle.sv_first_flow.proofs.Leaks.{is_leak, first_leak_named}
 use Rattle.sv_first_flow.proofs.scope.Scope.first_leak.Goals as goal
-use Rattle.sv_first_flow.proofs.scope.Scope.first_leak.Goals.{else-is_read-via-then-is_read+else-not-flows, else-is_read-via-else-is_read}
 
-pub returns-then-not-flows : goal.returns-then-not-flows
-returns-then-not-flows c =
-    leak_here (module_tree c.args.self.now) c.requires (holds (form.reads (expression_tree c.args.value.now))) c.args.to c.label.result
-    c.declarations-declaration-items.result.now c.loop-declaration.declaration-index c.declaration-item.result c.declarations-declaration-items.ensures
-    c.loop-declaration.invariant c.loop-declaration-test.true c.declaration-item.is c.label.ensures (sym c.if-is_read.ensures) (sym c.if-not-flows.ensures)
-
-pub loop-declaration-preserved : goal.loop-declaration-preserved
-loop-declaration-preserved c =
-    elim c.else-is_read.branch [
-      | else-is_read-via-then-is_read+else-not-flows w ↦
-          leak_on (module_tree c.args.self.now) c.requires (holds (form.reads (expression_tree c.args.value.now))) c.args.to w.label.result
-          c.declarations-declaration-items.result.now c.loop-declaration.declaration-index c.declaration-item.result c.declarations-declaration-items.ensures
-          c.loop-declaration.invariant c.loop-declaration-test.true c.declaration-item.is w.label.ensures
-          (and_right _ _ (not_from_true _ (sym w.if-not-flows.ensures)))
-      | else-is_read-via-else-is_read w ↦
-          leak_on (module_tree c.args.self.now) c.requires (holds (form.reads (expression_tree c.args.value.now))) c.args.to _
-          c.declarations-declaration-items.result.now c.loop-declaration.declaration-index c.declaration-item.result c.declarations-declaration-items.ensures
-          c.loop-declaration.invariant c.loop-declaration-test.true c.declaration-item.is refl
-          (and_left _ _ (sym w.if-is_read.ensures))
-    ]
+pub returns : goal.returns
+returns c =
+    let m = module_tree c.args.self.now in
+    let is_read = holds (form.reads (expression_tree c.args.value.now)) in
+    let found =
+    find_from_yields_List (λ (d : Bor Decl). is_leak m c.requires is_read c.args.to d.now) _ _ c.find-leaks.result c.find-leaks.ensures.ran
+    (YieldsList-from_slice c.declarations.result.now cc) (λ x b q k. search (rules, tests)) in
+    let named : option_copied c.map.result ≡ option_map (λ (d : Bor (Bor Decl)). d.now.now.name) c.find-leaks.result = search (rules, tests) in
+    named ∙ first_name (is_leak m c.requires is_read c.args.to) c.find-leaks.result c.declarations.result.now found
+    ∙ ap (λ (ds : List Decl). option_map (λ (d : Decl). d.name) (find (is_leak m c.requires is_read c.args.to) ds)) c.declarations.ensures
+    ∙ first_leak_named m c.requires is_read c.args.to

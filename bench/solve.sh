@@ -2,7 +2,12 @@
 # Decides pigeonholes, random clauses of three literals near the threshold, and pairs of circuits that compute the same, with
 # a budget of conflicts: the first word, 20000 unless given. Prints answers, conflicts, seconds and peak memory, beside those
 # of minisat where that is installed. Last come the ratios of the total times (asked: at most 3) and conflicts (at most 2), the
-# largest ratio of memory (at most 4), and what was spent though minisat needed less than half the budget (none).
+# largest ratio of memory (at most 4), and what was spent though minisat needed less than half the budget (none). Memory is the
+# greatest resident size that GNU time tells (`/usr/bin/time`).
+if ! [ -x /usr/bin/time ]; then
+    echo "solve.sh: GNU time is missing; on Debian and Ubuntu it is the package 'time'" >&2
+    exit 1
+fi
 top=$(CDPATH='' cd -- "$(dirname -- "$0")/.." && pwd -P)
 cd "$top/crates/solve_bench" || exit 1
 budget=${1:-20000}
@@ -11,15 +16,10 @@ rt run -- 20000 <stdin >out/build.log 2>&1 || { cat out/build.log; exit 1; }
 work=$(mktemp -d)
 trap 'rm -rf "$work"' EXIT
 
-# Runs a program on the clauses, and prints its seconds and its peak memory in kB, 0 where GNU time is not installed.
+# Runs a program on the clauses, and prints its seconds and its peak memory in kB.
 measure() {
-    echo 0 >"$work/memory"
     start=$(date +%s%N)
-    if [ -x /usr/bin/time ]; then
-        /usr/bin/time -q -o "$work/memory" -f %M "$@" <"$work/clauses" >"$work/answer" 2>/dev/null
-    else
-        "$@" <"$work/clauses" >"$work/answer" 2>/dev/null
-    fi
+    /usr/bin/time -q -o "$work/memory" -f %M "$@" <"$work/clauses" >"$work/answer" 2>/dev/null
     end=$(date +%s%N)
     echo "$start $end $(tail -n 1 "$work/memory")" | awk '{ printf "%.4f %d\n", ($2 - $1) / 1e9, $3 }'
 }

@@ -1,9 +1,0 @@
-pub mod Symbols
-pub mod ExpressionTable
-pub mod StatementTable
-pub mod ModuleTable
-pub mod Machine
-pub mod Reading
-pub mod Verdict
-pub mod Expectations
-pub mod Reads

@@ -1,0 +1,6 @@
+pub mod Halting
+pub mod ReadingExpressions
+pub mod ReadingLists
+pub mod ReadingOperators
+pub mod ReadingRuns
+pub mod RefusedTexts

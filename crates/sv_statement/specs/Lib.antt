@@ -1,0 +1,2 @@
+pub mod ReadingArms
+pub mod ReadingAssignments

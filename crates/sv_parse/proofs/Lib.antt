@@ -1,0 +1,8 @@
+pub mod DeclarationRuns
+pub mod ReadingDeclarations
+pub mod ReadingInstances
+pub mod ReadingItems
+pub mod ReadingMaps
+pub mod ReadingModules
+pub mod ReadingSymbols
+pub mod WholeTexts

@@ -1,0 +1,19 @@
+use Rattle.std.proofs.Common.{◌≤◌, [], ◌∷◌, length, map}
+use Rattle.sv_token.specs.Lexemes.{placed_tokens}
+use Rattle.sv_ast.specs.Tree.{RowTree}
+use Rattle.sv_ast.specs.Views.{row_tree}
+use Rattle.sv_ast.specs.GrammarModules.{IsRow}
+use Rattle.sv_grammar.specs.Symbols.{outer, rows}
+use Rattle.sv_grammar.specs.Reads.{Reads}
+use Rattle.sv_parse.proofs.ReadingItems.{AreOpenEach}
+use Rattle.sv_parse.proofs.label_maps.read_rows.Given as goal
+
+abbrev pub invariant-loop-alloc : goal.invariant-loop-alloc
+invariant-loop-alloc l = record {
+  are : AreOpenEach RowTree IsRow (map row_tree l.rows.items) (placed_tokens l.bytes l.tokens) (placed_tokens l.bytes l.rest);
+  shorter : length l.rest ≤ length l.tokens;
+  reads : Reads (outer rows ∷ []) (outer rows ∷ []) (placed_tokens l.bytes l.tokens) (placed_tokens l.bytes l.rest);
+}
+
+abbrev pub decreases-loop-alloc : goal.decreases-loop-alloc
+decreases-loop-alloc l = length l.rest

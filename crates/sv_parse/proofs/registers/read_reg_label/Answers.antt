@@ -1,0 +1,23 @@
+use Rattle.std.proofs.Common.{refl, [], ◌∷◌}
+use Rattle.sv_token.specs.declared.signs.SignKind.TheVariants as signs
+use Rattle.sv_read.proofs.Halting.{passed, stops_then}
+use Rattle.sv_grammar.proofs.ReadRows.{sign_taken}
+use Rattle.sv_grammar.specs.Symbols.{reg_label, plain_name, reg_label_end}
+use Rattle.sv_grammar.proofs.ReadSteps.{reads_then}
+use Rattle.sv_parse.proofs.ReadingDeclarations.{reg_label_is}
+use Rattle.sv_parse.proofs.registers.read_reg_label.Goals as goal
+
+pub returns-in_err-label-in-Some-clause-halts : goal.returns-in_err-label-in-Some-clause-halts
+returns-in_err-label-in-Some-clause-halts c =
+    passed _ _ _ c.from_residual.ensures.1
+    (stops_then _ _ _ _ _ (sign_taken reg_label signs.OpenBrace (plain_name ∷ reg_label_end ∷ []) _ _ refl (c.in-Some.ensures.is c.args.bytes.now))
+    (c.in_err-label-in-Some.ensures.halts))
+
+pub returns-in_ok-label-in-Some-clause-reads : goal.returns-in_ok-label-in-Some-clause-reads
+returns-in_ok-label-in-Some-clause-reads c =
+    reads_then _ _ _ _ _ _ (sign_taken reg_label signs.OpenBrace (plain_name ∷ reg_label_end ∷ []) _ _ refl (c.in-Some.ensures.is c.args.bytes.now))
+    (c.in_ok-label-in-Some.ensures.reads)
+
+pub returns-in_ok-label-in-Some-clause-is : goal.returns-in_ok-label-in-Some-clause-is
+returns-in_ok-label-in-Some-clause-is c =
+    reg_label_is _ _ _ _ (c.in-Some.ensures.is c.args.bytes.now) c.in_ok-label-in-Some.ensures.is

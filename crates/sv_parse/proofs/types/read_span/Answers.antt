@@ -1,0 +1,24 @@
+use Rattle.std.proofs.Common.{refl}
+use Rattle.sv_token.specs.declared.signs.SignKind.TheVariants as signs
+use Rattle.sv_read.proofs.Halting.{passed, stops_then}
+use Rattle.sv_grammar.proofs.ReadRows.{sign_taken}
+use Rattle.sv_grammar.specs.Symbols.{perhaps_range}
+use Rattle.sv_grammar.specs.ModuleTable.{value_range}
+use Rattle.sv_grammar.proofs.ReadSteps.{reads_then}
+use Rattle.sv_parse.proofs.ReadingDeclarations.{range_is}
+use Rattle.sv_parse.proofs.types.read_span.Goals as goal
+
+pub returns-in_err-span-in-Some-clause-halts : goal.returns-in_err-span-in-Some-clause-halts
+returns-in_err-span-in-Some-clause-halts c =
+    passed _ _ _ c.from_residual.ensures.1
+    (stops_then _ _ _ _ _ (sign_taken perhaps_range signs.OpenBracket value_range _ _ refl (c.in-Some.ensures.is c.args.bytes.now))
+    (c.in_err-span-in-Some.ensures.halts))
+
+pub returns-in_ok-span-in-Some-clause-reads : goal.returns-in_ok-span-in-Some-clause-reads
+returns-in_ok-span-in-Some-clause-reads c =
+    reads_then _ _ _ _ _ _ (sign_taken perhaps_range signs.OpenBracket value_range _ _ refl (c.in-Some.ensures.is c.args.bytes.now))
+    (c.in_ok-span-in-Some.ensures.reads)
+
+pub returns-in_ok-span-in-Some-clause-is : goal.returns-in_ok-span-in-Some-clause-is
+returns-in_ok-span-in-Some-clause-is c =
+    range_is _ _ _ _ (c.in-Some.ensures.is c.args.bytes.now) c.in_ok-span-in-Some.ensures.is

@@ -1,0 +1,36 @@
+-- What still has to come, symbol by symbol, behind parts of declarations.
+use Rattle.std.specs.Prelude.{List, [], ◌∷◌, ◌++◌}
+use Rattle.sv_token.specs.declared.signs.SignKind.TheVariants as signs
+use Rattle.sv_grammar.specs.Symbols.{Outer, punctuation, plain_name, perhaps_signed, perhaps_range, perhaps_label, perhaps_second_name, parameter_type, more_names, behind_reg_name}
+use Rattle.sv_grammar.specs.ModuleTable.{value, number_range, behind_selector}
+use Rattle.sv_parse.specs.declared.registers.RegLabel.{RegLabel}
+use Rattle.sv_parse.specs.declared.registers.RegLabel.TheVariants as reg_label
+
+-- the selectors of a label and the signs behind them
+abbrev pub table_end : List Outer
+table_end = plain_name ∷ perhaps_second_name ∷ behind_selector []
+
+-- sign, range and label of a declaration
+abbrev pub name_type : List Outer
+name_type = perhaps_signed ∷ perhaps_range ∷ perhaps_label ∷ []
+
+-- the name and the value of a parameter
+abbrev pub named_value : List Outer
+named_value = plain_name ∷ value []
+
+abbrev pub typed_value : List Outer
+typed_value = parameter_type ∷ named_value
+
+-- the bounds of a memory
+abbrev pub memory_bounds : List Outer
+memory_bounds = punctuation signs.OpenBracket ∷ number_range
+
+-- the bounds and the end of the item
+abbrev pub memory_end : List Outer
+memory_end = memory_bounds ++ punctuation signs.Semicolon ∷ []
+
+-- behind the name of a register or a memory, up to the end of the item
+abbrev pub behind_name : RegLabel → List Outer
+behind_name (reg_label.Table l) = more_names signs.Semicolon ∷ []
+behind_name (reg_label.ByIndex x p) = memory_end
+behind_name l = behind_reg_name ∷ []

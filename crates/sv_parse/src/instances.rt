@@ -1,0 +1,408 @@
+// Instances (IEEE 1364-2005, clause 12).
+ghost use Rattle.std.specs.Prelude.{◌≡◌, ◌<◌, ◌≤◌, ℕ, List, length, map, IfOk, IfErr, [], ◌∷◌};
+ghost use Rattle.std.specs.Option.{option_map};
+ghost use Rattle.sv_token.specs.Lexemes.{placed_tokens};
+ghost use Rattle.sv_token.specs.declared.signs.SignKind.TheVariants as signs;
+ghost use Rattle.sv_ast.specs.Tree as tree;
+ghost use Rattle.sv_ast.specs.Tree.{NamedOverride, NamedLink, InstanceTree};
+ghost use Rattle.sv_ast.specs.Views.{expression_tree, expression_trees, named_override, override_trees, named_link, link_trees, instance_tree, item_tree};
+ghost use Rattle.sv_ast.specs.GrammarForms.{◌⨾◌, given, perhaps, name_at, a_sign};
+ghost use Rattle.sv_ast.specs.GrammarDeclarations.{IsValue};
+ghost use Rattle.sv_ast.specs.GrammarModules.{IsNamedOverride, AreOverrides, IsNamedLink, AreLinks, IsNamedInstance, IsInstance, AreOfOneModule, AreInstances, all_as};
+ghost use Rattle.sv_ast.specs.GrammarRules.{all_limits};
+ghost use Rattle.sv_parse.specs.ReadingItems.{AreOpenOverrides, IsInstanceAs};
+ghost use Rattle.sv_grammar.specs.Symbols.{outer, punctuation, plain_name, expression, items, overrides, link, links, perhaps_overrides};
+ghost use Rattle.sv_grammar.specs.Reads.{Reads, NextIsNotSign, NextIsAnyName};
+ghost use Rattle.sv_read.specs.Expectations.{HaltsAs};
+
+use std::alloc::{AllocError, Global};
+use sv_ast::{Expr, Instance, Item, Links, Overrides};
+use sv_num::{Name, Place};
+use sv_read::cursor::{behind, expect_sign, read_name};
+use sv_read::expressions::read_expression;
+use sv_read::lists::{Expressions, Listed, read_list};
+use sv_read::stop::Stop;
+use sv_token::{SignKind, Token};
+
+// The name behind a dot, and the `(` behind it.
+fn read_dotted<'a>(
+    alloc: Global,
+    bytes: &[u8],
+    tokens: &'a [Token],
+) -> Result<(Name, Place, &'a [Token]), Stop>
+    ensures is { IfOk result (λ x. (a_sign signs.Dot ⨾ name_at x.0 x.1 ⨾ a_sign signs.OpenParenthesis) (placed_tokens bytes.now tokens.now) (placed_tokens bytes.now x.2.now)) }
+    ensures shorter { IfOk result (λ x. length x.2.now < length tokens.now) }
+    ensures reads { IfOk result (λ x. Reads (outer (punctuation signs.Dot) ∷ outer plain_name ∷ outer (punctuation signs.OpenParenthesis) ∷ []) [] (placed_tokens bytes.now tokens.now) (placed_tokens bytes.now x.2.now)) }
+    ensures halts { IfErr result (λ e. HaltsAs (outer (punctuation signs.Dot) ∷ outer plain_name ∷ outer (punctuation signs.OpenParenthesis) ∷ []) (placed_tokens bytes.now tokens.now) e) }
+{
+    let rest = expect_sign(SignKind::Dot, tokens)?;
+    let (name, place, rest) = read_name(alloc, bytes, rest)?;
+    let rest = expect_sign(SignKind::OpenParenthesis, rest)?;
+    Ok((name, place, rest))
+}
+
+// A parameter that is set by name.
+fn read_named_override<'a>(
+    alloc: Global,
+    bytes: &[u8],
+    tokens: &'a [Token],
+) -> Result<((Name, Place, Expr), &'a [Token]), Stop>
+    ensures is { IfOk result (λ x. IsNamedOverride all_limits (named_override x.0) (placed_tokens bytes.now tokens.now) (placed_tokens bytes.now x.1.now)) }
+    ensures shorter { IfOk result (λ x. length x.1.now < length tokens.now) }
+    ensures reads { IfOk result (λ x. Reads (outer (punctuation signs.Dot) ∷ outer plain_name ∷ outer (punctuation signs.OpenParenthesis) ∷ outer (expression 0) ∷ outer (punctuation signs.CloseParenthesis) ∷ []) [] (placed_tokens bytes.now tokens.now) (placed_tokens bytes.now x.1.now)) }
+    ensures halts { IfErr result (λ e. HaltsAs (outer (punctuation signs.Dot) ∷ outer plain_name ∷ outer (punctuation signs.OpenParenthesis) ∷ outer (expression 0) ∷ outer (punctuation signs.CloseParenthesis) ∷ []) (placed_tokens bytes.now tokens.now) e) }
+{
+    let (name, place, rest) = read_dotted(alloc, bytes, tokens)?;
+    let (value, rest) = read_expression(alloc, bytes, 0, rest)?;
+    let rest = expect_sign(SignKind::CloseParenthesis, rest)?;
+    Ok(((name, place, value), rest))
+}
+
+// Parameters that are set by name.
+struct NamedOverrides;
+
+impl Listed for NamedOverrides {
+    type Item = (Name, Place, Expr);
+
+    ghost Tree = { NamedOverride };
+
+    ghost tree = { named_override };
+
+    ghost First = { λ n. IsNamedOverride all_limits };
+
+    ghost Later = { λ n before. IsNamedOverride all_limits };
+
+    ghost Begins = { λ ts. Unit {0} };
+
+    ghost start = { λ n. outer (punctuation signs.Dot) ∷ outer plain_name ∷ outer (punctuation signs.OpenParenthesis) ∷ outer (expression 0) ∷ outer (punctuation signs.CloseParenthesis) ∷ [] };
+
+    ghost behind = { λ n. [] };
+
+    ghost next = { λ n. outer (punctuation signs.Dot) ∷ outer plain_name ∷ outer (punctuation signs.OpenParenthesis) ∷ outer (expression 0) ∷ outer (punctuation signs.CloseParenthesis) ∷ [] };
+
+    fn first<'a>(
+        alloc: Global,
+        bytes: &[u8],
+        _open: usize,
+        tokens: &'a [Token],
+    ) -> Result<((Name, Place, Expr), &'a [Token]), Stop> {
+        read_named_override(alloc, bytes, tokens)
+    }
+
+    fn later<'a>(
+        alloc: Global,
+        bytes: &[u8],
+        _open: usize,
+        _before: &(Name, Place, Expr),
+        tokens: &'a [Token],
+    ) -> Result<((Name, Place, Expr), &'a [Token]), Stop> {
+        read_named_override(alloc, bytes, tokens)
+    }
+}
+
+// The parameters that an instance sets, in parentheses of which the first is read.
+fn read_open_overrides<'a>(
+    alloc: Global,
+    bytes: &[u8],
+    tokens: &'a [Token],
+) -> Result<(Overrides, &'a [Token]), Stop>
+    ensures is { IfOk result (λ x. AreOpenOverrides (override_trees x.0) (placed_tokens bytes.now tokens.now) (placed_tokens bytes.now x.1.now)) }
+    ensures shorter { IfOk result (λ x. length x.1.now < length tokens.now) }
+    ensures reads { IfOk result (λ x. Reads (outer overrides ∷ []) (outer (punctuation signs.CloseParenthesis) ∷ []) (placed_tokens bytes.now tokens.now) (placed_tokens bytes.now x.1.now)) }
+    ensures halts { IfErr result (λ e. HaltsAs (outer overrides ∷ []) (placed_tokens bytes.now tokens.now) e) }
+{
+    match behind(SignKind::Dot, tokens) {
+        Some(_) => {
+            let (values, rest) = read_list::<NamedOverrides>(alloc, bytes, 0, tokens)?;
+            Ok((Overrides::Named(values), rest))
+        }
+        None => {
+            let (values, rest) = read_list::<Expressions>(alloc, bytes, 0, tokens)?;
+            Ok((Overrides::Ordered(values), rest))
+        }
+    }
+}
+
+// The parameters that an instance sets.
+fn read_overrides<'a>(
+    alloc: Global,
+    bytes: &[u8],
+    tokens: &'a [Token],
+) -> Result<(Overrides, &'a [Token]), Stop>
+    ensures is { IfOk result (λ x. AreOverrides all_limits (override_trees x.0) (placed_tokens bytes.now tokens.now) (placed_tokens bytes.now x.1.now)) }
+    ensures shorter { IfOk result (λ x. length x.1.now ≤ length tokens.now) }
+    ensures reads { IfOk result (λ x. Reads (outer perhaps_overrides ∷ []) [] (placed_tokens bytes.now tokens.now) (placed_tokens bytes.now x.1.now)) }
+    ensures halts { IfErr result (λ e. HaltsAs (outer perhaps_overrides ∷ []) (placed_tokens bytes.now tokens.now) e) }
+{
+    if let Some(rest) = behind(SignKind::Hash, tokens) {
+        let rest = expect_sign(SignKind::OpenParenthesis, rest)?;
+        let (overrides, rest) = read_open_overrides(alloc, bytes, rest)?;
+        let rest = expect_sign(SignKind::CloseParenthesis, rest)?;
+        return Ok((overrides, rest));
+    }
+    Ok((Overrides::Ordered(Vec::new(alloc)), tokens))
+}
+
+// What a port is linked to, behind its `(`, if to anything; and the tokens behind the `)`.
+fn read_link_value<'a>(
+    alloc: Global,
+    bytes: &[u8],
+    tokens: &'a [Token],
+) -> Result<(Option<Expr>, &'a [Token]), Stop>
+    ensures is { IfOk result (λ x. (perhaps (IsValue all_limits) (option_map expression_tree x.0) ⨾ a_sign signs.CloseParenthesis) (placed_tokens bytes.now tokens.now) (placed_tokens bytes.now x.1.now)) }
+    ensures shorter { IfOk result (λ x. length x.1.now < length tokens.now) }
+    ensures reads { IfOk result (λ x. Reads (outer link ∷ []) [] (placed_tokens bytes.now tokens.now) (placed_tokens bytes.now x.1.now)) }
+    ensures halts { IfErr result (λ e. HaltsAs (outer link ∷ []) (placed_tokens bytes.now tokens.now) e) }
+{
+    if let Some(rest) = behind(SignKind::CloseParenthesis, tokens) {
+        return Ok((None, rest));
+    }
+    let (value, rest) = read_expression(alloc, bytes, 0, tokens)?;
+    let rest = expect_sign(SignKind::CloseParenthesis, rest)?;
+    Ok((Some(value), rest))
+}
+
+// A port that is linked by name.
+fn read_named_link<'a>(
+    alloc: Global,
+    bytes: &[u8],
+    tokens: &'a [Token],
+) -> Result<((Name, Place, Option<Expr>), &'a [Token]), Stop>
+    ensures is { IfOk result (λ x. IsNamedLink all_limits (named_link x.0) (placed_tokens bytes.now tokens.now) (placed_tokens bytes.now x.1.now)) }
+    ensures shorter { IfOk result (λ x. length x.1.now < length tokens.now) }
+    ensures reads { IfOk result (λ x. Reads (outer (punctuation signs.Dot) ∷ outer plain_name ∷ outer (punctuation signs.OpenParenthesis) ∷ outer link ∷ []) [] (placed_tokens bytes.now tokens.now) (placed_tokens bytes.now x.1.now)) }
+    ensures halts { IfErr result (λ e. HaltsAs (outer (punctuation signs.Dot) ∷ outer plain_name ∷ outer (punctuation signs.OpenParenthesis) ∷ outer link ∷ []) (placed_tokens bytes.now tokens.now) e) }
+{
+    let (name, place, rest) = read_dotted(alloc, bytes, tokens)?;
+    let (value, rest) = read_link_value(alloc, bytes, rest)?;
+    Ok(((name, place, value), rest))
+}
+
+// Ports that are linked by name.
+struct NamedLinks;
+
+impl Listed for NamedLinks {
+    type Item = (Name, Place, Option<Expr>);
+
+    ghost Tree = { NamedLink };
+
+    ghost tree = { named_link };
+
+    ghost First = { λ n. IsNamedLink all_limits };
+
+    ghost Later = { λ n before. IsNamedLink all_limits };
+
+    ghost Begins = { λ ts. Unit {0} };
+
+    ghost start = { λ n. outer (punctuation signs.Dot) ∷ outer plain_name ∷ outer (punctuation signs.OpenParenthesis) ∷ outer link ∷ [] };
+
+    ghost behind = { λ n. [] };
+
+    ghost next = { λ n. outer (punctuation signs.Dot) ∷ outer plain_name ∷ outer (punctuation signs.OpenParenthesis) ∷ outer link ∷ [] };
+
+    fn first<'a>(
+        alloc: Global,
+        bytes: &[u8],
+        _open: usize,
+        tokens: &'a [Token],
+    ) -> Result<((Name, Place, Option<Expr>), &'a [Token]), Stop> {
+        read_named_link(alloc, bytes, tokens)
+    }
+
+    fn later<'a>(
+        alloc: Global,
+        bytes: &[u8],
+        _open: usize,
+        _before: &(Name, Place, Option<Expr>),
+        tokens: &'a [Token],
+    ) -> Result<((Name, Place, Option<Expr>), &'a [Token]), Stop> {
+        read_named_link(alloc, bytes, tokens)
+    }
+}
+
+// The ports that an instance links, and the `)` behind them.
+fn read_links<'a>(
+    alloc: Global,
+    bytes: &[u8],
+    tokens: &'a [Token],
+) -> Result<(Links, &'a [Token]), Stop>
+    ensures is { IfOk result (λ x. (AreLinks all_limits (link_trees x.0) ⨾ a_sign signs.CloseParenthesis) (placed_tokens bytes.now tokens.now) (placed_tokens bytes.now x.1.now)) }
+    ensures shorter { IfOk result (λ x. length x.1.now < length tokens.now) }
+    ensures reads { IfOk result (λ x. Reads (outer links ∷ []) [] (placed_tokens bytes.now tokens.now) (placed_tokens bytes.now x.1.now)) }
+    ensures halts { IfErr result (λ e. HaltsAs (outer links ∷ []) (placed_tokens bytes.now tokens.now) e) }
+{
+    if let Some(rest) = behind(SignKind::CloseParenthesis, tokens) {
+        return Ok((Links::Ordered(Vec::new(alloc)), rest));
+    }
+    let (links, rest) = read_some_links(alloc, bytes, tokens)?;
+    let rest = expect_sign(SignKind::CloseParenthesis, rest)?;
+    Ok((links, rest))
+}
+
+// The ports that an instance links, at least one.
+fn read_some_links<'a>(
+    alloc: Global,
+    bytes: &[u8],
+    tokens: &'a [Token],
+) -> Result<(Links, &'a [Token]), Stop>
+    ensures is { IfOk result (λ x. AreLinks all_limits (link_trees x.0) (placed_tokens bytes.now tokens.now) (placed_tokens bytes.now x.1.now)) }
+    ensures shorter { IfOk result (λ x. length x.1.now < length tokens.now) }
+    ensures reads { NextIsNotSign SignKind.CloseParenthesis (placed_tokens bytes.now tokens.now) → IfOk result (λ x. Reads (outer links ∷ []) (outer (punctuation signs.CloseParenthesis) ∷ []) (placed_tokens bytes.now tokens.now) (placed_tokens bytes.now x.1.now)) }
+    ensures halts { NextIsNotSign SignKind.CloseParenthesis (placed_tokens bytes.now tokens.now) → IfErr result (λ e. HaltsAs (outer links ∷ []) (placed_tokens bytes.now tokens.now) e) }
+{
+    match behind(SignKind::Dot, tokens) {
+        Some(_) => {
+            let (links, rest) = read_list::<NamedLinks>(alloc, bytes, 0, tokens)?;
+            Ok((Links::Named(links), rest))
+        }
+        None => {
+            let (links, rest) = read_list::<Expressions>(alloc, bytes, 0, tokens)?;
+            Ok((Links::Ordered(links), rest))
+        }
+    }
+}
+
+// The name and the links of an instance of the module with these values for its parameters.
+fn read_named_instance<'a>(
+    alloc: Global,
+    bytes: &[u8],
+    module: Name,
+    place: Place,
+    overrides: Overrides,
+    tokens: &'a [Token],
+) -> Result<(Instance, &'a [Token]), Stop>
+    ensures is { IfOk result (λ x. IsInstanceAs «module» place (override_trees overrides) (instance_tree x.0) (placed_tokens bytes.now tokens.now) (placed_tokens bytes.now x.1.now)) }
+    ensures shorter { IfOk result (λ x. length x.1.now < length tokens.now) }
+    ensures reads { IfOk result (λ x. Reads (outer plain_name ∷ outer (punctuation signs.OpenParenthesis) ∷ outer links ∷ []) [] (placed_tokens bytes.now tokens.now) (placed_tokens bytes.now x.1.now)) }
+    ensures halts { IfErr result (λ e. HaltsAs (outer plain_name ∷ outer (punctuation signs.OpenParenthesis) ∷ outer links ∷ []) (placed_tokens bytes.now tokens.now) e) }
+{
+    let (name, name_place, rest) = read_name(alloc, bytes, tokens)?;
+    let rest = expect_sign(SignKind::OpenParenthesis, rest)?;
+    let (links, rest) = read_links(alloc, bytes, rest)?;
+    let instance = Instance {
+        module,
+        place,
+        overrides,
+        name,
+        name_place,
+        links,
+    };
+    Ok((instance, rest))
+}
+
+// Second expressions that are equal.
+fn expressions_copy(alloc: Global, exprs: &[Expr]) -> Result<Vec<Expr>, AllocError>
+    ensures { IfOk result (λ copies. expression_trees copies.items ≡ expression_trees exprs.now) }
+{
+    let mut copies = Vec::with_capacity(alloc, exprs.len())?;
+    for expr in exprs {
+        copies.push(expr.copy(alloc)?)?;
+    }
+    Ok(copies)
+}
+
+// Second values that are equal.
+fn named_copy(
+    alloc: Global,
+    values: &[(Name, Place, Expr)],
+) -> Result<Vec<(Name, Place, Expr)>, AllocError>
+    ensures { IfOk result (λ copies. map named_override copies.items ≡ map named_override values.now) }
+{
+    let mut copies = Vec::with_capacity(alloc, values.len())?;
+    for (name, place, value) in values {
+        copies.push((name.copy(alloc)?, *place, value.copy(alloc)?))?;
+    }
+    Ok(copies)
+}
+
+// Second overrides that are equal.
+fn overrides_copy(alloc: Global, overrides: &Overrides) -> Result<Overrides, AllocError>
+    ensures { IfOk result (λ copy. override_trees copy ≡ override_trees overrides.now) }
+{
+    match overrides {
+        Overrides::Named(values) => Ok(Overrides::Named(named_copy(alloc, values)?)),
+        Overrides::Ordered(values) => Ok(Overrides::Ordered(expressions_copy(alloc, values)?)),
+    }
+}
+
+// Instances of one module.
+struct Instances;
+
+impl Listed for Instances {
+    type Item = Instance;
+
+    ghost Tree = { InstanceTree };
+
+    ghost tree = { instance_tree };
+
+    ghost First = { λ n. IsInstance all_limits };
+
+    ghost Later = { λ n before i. given (AreOfOneModule before i) (IsNamedInstance all_limits i) };
+
+    ghost Begins = { λ ts. Unit {0} };
+
+    ghost start = { λ n. outer plain_name ∷ outer perhaps_overrides ∷ outer plain_name ∷ outer (punctuation signs.OpenParenthesis) ∷ outer links ∷ [] };
+
+    ghost behind = { λ n. [] };
+
+    ghost next = { λ n. outer plain_name ∷ outer (punctuation signs.OpenParenthesis) ∷ outer links ∷ [] };
+
+    fn first<'a>(
+        alloc: Global,
+        bytes: &[u8],
+        _open: usize,
+        tokens: &'a [Token],
+    ) -> Result<(Instance, &'a [Token]), Stop> {
+        let (module, place, rest) = read_name(alloc, bytes, tokens)?;
+        let (overrides, rest) = read_overrides(alloc, bytes, rest)?;
+        let (instance, rest) = read_named_instance(alloc, bytes, module, place, overrides, rest)?;
+        Ok((instance, rest))
+    }
+
+    fn later<'a>(
+        alloc: Global,
+        bytes: &[u8],
+        _open: usize,
+        before: &Instance,
+        tokens: &'a [Token],
+    ) -> Result<(Instance, &'a [Token]), Stop> {
+        let module = before.module.copy(alloc)?;
+        let overrides = overrides_copy(alloc, &before.overrides)?;
+        let (instance, rest) = read_named_instance(
+            alloc,
+            bytes,
+            module,
+            before.place,
+            overrides,
+            tokens,
+        )?;
+        Ok((instance, rest))
+    }
+}
+
+// The items that the instances are.
+fn as_items(alloc: Global, instances: Vec<Instance>) -> Result<Vec<Item>, AllocError>
+    ensures { IfOk result (λ items. map item_tree items.items ≡ map tree.instance_item (map instance_tree instances.items)) }
+{
+    let mut items = Vec::with_capacity(alloc, instances.len())?;
+    for instance in instances {
+        items.push(Item::Instance(instance))?;
+    }
+    Ok(items)
+}
+
+/// The instances of an item that begins with the name of a module.
+pub fn read_instances<'a>(
+    alloc: Global,
+    bytes: &[u8],
+    tokens: &'a [Token],
+) -> Result<(Vec<Item>, &'a [Token]), Stop>
+    ensures is { IfOk result (λ x. all_as tree.instance_item (AreInstances all_limits) (map item_tree x.0.items) (placed_tokens bytes.now tokens.now) (placed_tokens bytes.now x.1.now)) }
+    ensures shorter { IfOk result (λ x. length x.1.now < length tokens.now) }
+    ensures reads { NextIsAnyName (placed_tokens bytes.now tokens.now) → IfOk result (λ x. Reads (outer items ∷ []) (outer (punctuation signs.Semicolon) ∷ outer items ∷ []) (placed_tokens bytes.now tokens.now) (placed_tokens bytes.now x.1.now)) }
+    ensures halts { NextIsAnyName (placed_tokens bytes.now tokens.now) → IfErr result (λ e. HaltsAs (outer items ∷ []) (placed_tokens bytes.now tokens.now) e) }
+{
+    let (instances, rest) = read_list::<Instances>(alloc, bytes, 0, tokens)?;
+    let items = as_items(alloc, instances)?;
+    Ok((items, rest))
+}

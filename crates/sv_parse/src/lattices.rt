@@ -1,0 +1,202 @@
+// Lattices (SecVerilog, ASPLOS 2015).
+ghost use Rattle.std.specs.Prelude.{◌<◌, ◌≤◌, ℕ, List, length, map, IfOk, IfErr, [], ◌∷◌};
+ghost use Rattle.sv_token.specs.Lexemes.{placed_tokens};
+ghost use Rattle.sv_token.specs.declared.signs.SignKind.TheVariants as signs;
+ghost use Rattle.sv_ast.specs.Tree.{PlacedName};
+ghost use Rattle.sv_ast.specs.Views.{placed_name, pair_tree, lattice_tree};
+ghost use Rattle.sv_ast.specs.GrammarForms.{◌⨾◌, a_sign, commas};
+ghost use Rattle.sv_ast.specs.GrammarModules.{IsPlacedName, pair, IsLatticeLine, IsLattice};
+ghost use Rattle.sv_parse.specs.ReadingItems.{IsOneMore, AreLines};
+ghost use Rattle.sv_ast.specs.GrammarStatements.{IsNext};
+ghost use Rattle.sv_grammar.specs.Symbols.{outer, punctuation, plain_name, more_names, perhaps_lattice, lattice_lines, less_equal};
+ghost use Rattle.sv_grammar.specs.Reads.{Reads, NextIsNotWord};
+ghost use Rattle.sv_read.specs.Expectations.{HaltsAs};
+
+use std::alloc::Global;
+use sv_ast::LatticeText;
+use sv_num::{BinOp, Name, Place};
+use sv_read::cursor::{behind_word, expect_sign, expect_word, read_name, unexpected};
+use sv_read::lists::{Listed, read_list};
+use sv_read::operators::operator_at;
+use sv_read::stop::Stop;
+use sv_token::{SignKind, Token, WordKind};
+
+// A name with its place.
+fn read_placed_name<'a>(
+    alloc: Global,
+    bytes: &[u8],
+    tokens: &'a [Token],
+) -> Result<((Name, Place), &'a [Token]), Stop>
+    ensures is { IfOk result (λ x. IsPlacedName (placed_name x.0) (placed_tokens bytes.now tokens.now) (placed_tokens bytes.now x.1.now)) }
+    ensures shorter { IfOk result (λ x. length x.1.now < length tokens.now) }
+    ensures reads { IfOk result (λ x. Reads (outer plain_name ∷ []) [] (placed_tokens bytes.now tokens.now) (placed_tokens bytes.now x.1.now)) }
+    ensures halts { IfErr result (λ e. HaltsAs (outer plain_name ∷ []) (placed_tokens bytes.now tokens.now) e) }
+{
+    let (name, place, rest) = read_name(alloc, bytes, tokens)?;
+    Ok(((name, place), rest))
+}
+
+// Points of one line.
+struct Points;
+
+impl Listed for Points {
+    type Item = (Name, Place);
+
+    ghost Tree = { PlacedName };
+
+    ghost tree = { placed_name };
+
+    ghost First = { λ n. IsPlacedName };
+
+    ghost Later = { λ n before. IsPlacedName };
+
+    ghost Begins = { λ ts. Unit {0} };
+
+    ghost start = { λ n. outer plain_name ∷ [] };
+
+    ghost behind = { λ n. [] };
+
+    ghost next = { λ n. outer plain_name ∷ [] };
+
+    fn first<'a>(
+        alloc: Global,
+        bytes: &[u8],
+        _open: usize,
+        tokens: &'a [Token],
+    ) -> Result<((Name, Place), &'a [Token]), Stop> {
+        read_placed_name(alloc, bytes, tokens)
+    }
+
+    fn later<'a>(
+        alloc: Global,
+        bytes: &[u8],
+        _open: usize,
+        _before: &(Name, Place),
+        tokens: &'a [Token],
+    ) -> Result<((Name, Place), &'a [Token]), Stop> {
+        read_placed_name(alloc, bytes, tokens)
+    }
+}
+
+// A declared pair: the first point flows to the second.
+type Pair = (Name, Place, Name, Place);
+
+// A pair, and its `;`.
+fn read_pair<'a>(
+    alloc: Global,
+    bytes: &[u8],
+    tokens: &'a [Token],
+) -> Result<(Pair, &'a [Token]), Stop>
+    ensures is { IfOk result (λ x. IsLatticeLine (pair (pair_tree x.0)) (placed_tokens bytes.now tokens.now) (placed_tokens bytes.now x.1.now)) }
+    ensures shorter { IfOk result (λ x. length x.1.now < length tokens.now) }
+    ensures reads { IfOk result (λ x. Reads (outer plain_name ∷ outer less_equal ∷ outer plain_name ∷ outer (punctuation signs.Semicolon) ∷ []) [] (placed_tokens bytes.now tokens.now) (placed_tokens bytes.now x.1.now)) }
+    ensures halts { IfErr result (λ e. HaltsAs (outer plain_name ∷ outer less_equal ∷ outer plain_name ∷ outer (punctuation signs.Semicolon) ∷ []) (placed_tokens bytes.now tokens.now) e) }
+{
+    let (lower, place, rest) = read_name(alloc, bytes, tokens)?;
+    let Some(rest) = operator_at(BinOp::Le, rest) else {
+        return Err(unexpected(rest));
+    };
+    let (upper, upper_place, rest) = read_name(alloc, bytes, rest)?;
+    let rest = expect_sign(SignKind::Semicolon, rest)?;
+    Ok(((lower, place, upper, upper_place), rest))
+}
+
+// The points of a line, behind `point`, and its `;`.
+fn read_points<'a>(
+    alloc: Global,
+    bytes: &[u8],
+    tokens: &'a [Token],
+) -> Result<(Vec<(Name, Place)>, &'a [Token]), Stop>
+    ensures is { IfOk result (λ x. (commas IsPlacedName (map placed_name x.0.items) ⨾ a_sign signs.Semicolon) (placed_tokens bytes.now tokens.now) (placed_tokens bytes.now x.1.now)) }
+    ensures shorter { IfOk result (λ x. length x.1.now < length tokens.now) }
+    ensures reads { IfOk result (λ x. Reads (outer plain_name ∷ outer (more_names signs.Semicolon) ∷ []) [] (placed_tokens bytes.now tokens.now) (placed_tokens bytes.now x.1.now)) }
+    ensures halts { IfErr result (λ e. HaltsAs (outer plain_name ∷ outer (more_names signs.Semicolon) ∷ []) (placed_tokens bytes.now tokens.now) e) }
+{
+    let (points, rest) = read_list::<Points>(alloc, bytes, 0, tokens)?;
+    let rest = expect_sign(SignKind::Semicolon, rest)?;
+    Ok((points, rest))
+}
+
+// The points and the pairs of the lines.
+#[derive(Drop)]
+struct Lines {
+    points: Vec<(Name, Place)>,
+    pairs: Vec<Pair>,
+}
+
+// One more line.
+fn read_line<'a>(
+    alloc: Global,
+    bytes: &[u8],
+    lines: Lines,
+    tokens: &'a [Token],
+) -> Result<(Lines, &'a [Token]), Stop>
+    ensures is { IfOk result (λ x. IsOneMore (map placed_name lines.points.items) (map pair_tree lines.pairs.items) (map placed_name x.0.points.items) (map pair_tree x.0.pairs.items) (placed_tokens bytes.now tokens.now) (placed_tokens bytes.now x.1.now)) }
+    ensures shorter { IfOk result (λ x. length x.1.now < length tokens.now) }
+    ensures reads { NextIsNotWord WordKind.Endlattice (placed_tokens bytes.now tokens.now) → IfOk result (λ x. Reads (outer lattice_lines ∷ []) (outer lattice_lines ∷ []) (placed_tokens bytes.now tokens.now) (placed_tokens bytes.now x.1.now)) }
+    ensures halts { NextIsNotWord WordKind.Endlattice (placed_tokens bytes.now tokens.now) → IfErr result (λ e. HaltsAs (outer lattice_lines ∷ []) (placed_tokens bytes.now tokens.now) e) }
+{
+    let Lines {
+        mut points,
+        mut pairs,
+    } = lines;
+    match behind_word(WordKind::Point, tokens) {
+        Some(rest) => {
+            let (mut more, rest) = read_points(alloc, bytes, rest)?;
+            points.append(&mut more)?;
+            Ok((Lines { points, pairs }, rest))
+        }
+        None => {
+            let (pair, rest) = read_pair(alloc, bytes, tokens)?;
+            pairs.push(pair)?;
+            Ok((Lines { points, pairs }, rest))
+        }
+    }
+}
+
+// The lines of a lattice, and its last word.
+fn read_lines<'a>(
+    alloc: Global,
+    bytes: &[u8],
+    tokens: &'a [Token],
+) -> Result<(Lines, &'a [Token]), Stop>
+    ensures is { IfOk result (λ x. AreLines (map placed_name x.0.points.items) (map pair_tree x.0.pairs.items) (placed_tokens bytes.now tokens.now) (placed_tokens bytes.now x.1.now)) }
+    ensures shorter { IfOk result (λ x. length x.1.now < length tokens.now) }
+    ensures reads { IfOk result (λ x. Reads (outer lattice_lines ∷ []) [] (placed_tokens bytes.now tokens.now) (placed_tokens bytes.now x.1.now)) }
+    ensures halts { IfErr result (λ e. HaltsAs (outer lattice_lines ∷ []) (placed_tokens bytes.now tokens.now) e) }
+{
+    let mut lines = Lines {
+        points: Vec::new(alloc),
+        pairs: Vec::new(alloc),
+    };
+    let mut rest = tokens;
+    loop {
+        if let Some(after) = behind_word(WordKind::Endlattice, rest) {
+            return Ok((lines, after));
+        }
+        let (more, behind) = read_line(alloc, bytes, lines, rest)?;
+        lines = more;
+        rest = behind;
+    }
+}
+
+/// A lattice.
+pub fn read_lattice<'a>(
+    alloc: Global,
+    bytes: &[u8],
+    tokens: &'a [Token],
+) -> Result<(LatticeText, &'a [Token]), Stop>
+    ensures is { IfOk result (λ x. IsLattice (lattice_tree x.0) (placed_tokens bytes.now tokens.now) (placed_tokens bytes.now x.1.now)) }
+    ensures shorter { IfOk result (λ x. length x.1.now < length tokens.now) }
+    ensures reads { IsNext WordKind.Lattice (placed_tokens bytes.now tokens.now) → IfOk result (λ x. Reads (outer perhaps_lattice ∷ []) [] (placed_tokens bytes.now tokens.now) (placed_tokens bytes.now x.1.now)) }
+    ensures halts { IsNext WordKind.Lattice (placed_tokens bytes.now tokens.now) → IfErr result (λ e. HaltsAs (outer perhaps_lattice ∷ []) (placed_tokens bytes.now tokens.now) e) }
+{
+    let (place, rest) = expect_word(WordKind::Lattice, tokens)?;
+    let (Lines { points, pairs }, rest) = read_lines(alloc, bytes, rest)?;
+    let lattice = LatticeText {
+        place,
+        points,
+        pairs,
+    };
+    Ok((lattice, rest))
+}

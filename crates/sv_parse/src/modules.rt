@@ -1,0 +1,246 @@
+// Modules and whole texts (IEEE 1364-2005, clause 12).
+ghost use Rattle.std.specs.Prelude.{◌<◌, ◌≤◌, List, [], ◌∷◌, length, map, IfOk, IfErr};
+ghost use Rattle.std.specs.Option.{option_map};
+ghost use Rattle.sv_token.specs.Lexemes.{placed_tokens};
+ghost use Rattle.sv_token.specs.declared.signs.SignKind.TheVariants as signs;
+ghost use Rattle.sv_token.specs.declared.keywords.WordKind.TheVariants as words;
+ghost use Rattle.sv_ast.specs.Views.{parameter_tree, declaration_tree, item_tree, module_tree, lattice_tree, map_tree, text_tree};
+ghost use Rattle.sv_ast.specs.GrammarForms.{◌⨾◌, perhaps, each, some, a_word, a_sign};
+ghost use Rattle.sv_ast.specs.GrammarModules.{AreItems, IsModule, IsLattice, IsMap};
+ghost use Rattle.sv_ast.specs.GrammarRules.{all_limits, TokensMean};
+ghost use Rattle.sv_grammar.specs.Symbols.{outer, one_module, perhaps_header_parameters, perhaps_ports, ports, items, perhaps_lattice, perhaps_maps};
+ghost use Rattle.sv_grammar.specs.Machine.{text_state};
+ghost use Rattle.sv_parse.specs.ReadingTexts.{FailsAs};
+ghost use Rattle.sv_grammar.specs.Reads.{Reads};
+ghost use Rattle.sv_read.specs.Expectations.{HaltsAs};
+ghost use Rattle.sv_parse.specs.ReadingItems.{AreParameterList, AreOpenPorts, ArePortList, IsHeaderOf};
+
+use crate::declarations::read_ports;
+use crate::items::read_item;
+use crate::label_maps::read_label_map;
+use crate::lattices::read_lattice;
+use crate::parameters::read_header_params;
+use std::alloc::Global;
+use sv_ast::{Decl, Item, LatticeText, MapText, Module, Param, Text};
+use sv_num::{Name, Place};
+use sv_read::cursor::{behind, behind_word, expect_sign, expect_word, read_name};
+use sv_read::stop::Stop;
+use sv_token::{SignKind, Token, WordKind};
+
+// The parameters of a header, if it has a list of them.
+fn read_parameter_list<'a>(
+    alloc: Global,
+    bytes: &[u8],
+    tokens: &'a [Token],
+) -> Result<(Vec<Param>, &'a [Token]), Stop>
+    ensures is { IfOk result (λ x. AreParameterList (map parameter_tree x.0.items) (placed_tokens bytes.now tokens.now) (placed_tokens bytes.now x.1.now)) }
+    ensures shorter { IfOk result (λ x. length x.1.now ≤ length tokens.now) }
+    ensures reads { IfOk result (λ x. Reads (outer perhaps_header_parameters ∷ []) [] (placed_tokens bytes.now tokens.now) (placed_tokens bytes.now x.1.now)) }
+    ensures halts { IfErr result (λ e. HaltsAs (outer perhaps_header_parameters ∷ []) (placed_tokens bytes.now tokens.now) e) }
+{
+    match behind(SignKind::Hash, tokens) {
+        Some(rest) => {
+            let rest = expect_sign(SignKind::OpenParenthesis, rest)?;
+            let (params, rest) = read_header_params(alloc, bytes, rest)?;
+            let rest = expect_sign(SignKind::CloseParenthesis, rest)?;
+            Ok((params, rest))
+        }
+        None => Ok((Vec::new(alloc), tokens)),
+    }
+}
+
+// The ports of a header, behind its `(`, and the `)`.
+fn read_open_ports<'a>(
+    alloc: Global,
+    bytes: &[u8],
+    tokens: &'a [Token],
+) -> Result<(Vec<Decl>, &'a [Token]), Stop>
+    ensures is { IfOk result (λ x. (AreOpenPorts (map declaration_tree x.0.items) ⨾ a_sign signs.CloseParenthesis) (placed_tokens bytes.now tokens.now) (placed_tokens bytes.now x.1.now)) }
+    ensures shorter { IfOk result (λ x. length x.1.now < length tokens.now) }
+    ensures reads { IfOk result (λ x. Reads (outer ports ∷ []) [] (placed_tokens bytes.now tokens.now) (placed_tokens bytes.now x.1.now)) }
+    ensures halts { IfErr result (λ e. HaltsAs (outer ports ∷ []) (placed_tokens bytes.now tokens.now) e) }
+{
+    if let Some(rest) = behind(SignKind::CloseParenthesis, tokens) {
+        return Ok((Vec::new(alloc), rest));
+    }
+    let (ports, rest) = read_ports(alloc, bytes, tokens)?;
+    let rest = expect_sign(SignKind::CloseParenthesis, rest)?;
+    Ok((ports, rest))
+}
+
+// The ports of a header, if it has a list of them.
+fn read_port_list<'a>(
+    alloc: Global,
+    bytes: &[u8],
+    tokens: &'a [Token],
+) -> Result<(Vec<Decl>, &'a [Token]), Stop>
+    ensures is { IfOk result (λ x. ArePortList (map declaration_tree x.0.items) (placed_tokens bytes.now tokens.now) (placed_tokens bytes.now x.1.now)) }
+    ensures shorter { IfOk result (λ x. length x.1.now ≤ length tokens.now) }
+    ensures reads { IfOk result (λ x. Reads (outer perhaps_ports ∷ []) [] (placed_tokens bytes.now tokens.now) (placed_tokens bytes.now x.1.now)) }
+    ensures halts { IfErr result (λ e. HaltsAs (outer perhaps_ports ∷ []) (placed_tokens bytes.now tokens.now) e) }
+{
+    match behind(SignKind::OpenParenthesis, tokens) {
+        Some(rest) => {
+            let (ports, rest) = read_open_ports(alloc, bytes, rest)?;
+            Ok((ports, rest))
+        }
+        None => Ok((Vec::new(alloc), tokens)),
+    }
+}
+
+// What stands before the items of a module.
+#[derive(Drop)]
+struct Header {
+    name: Name,
+    place: Place,
+    params: Vec<Param>,
+    ports: Vec<Decl>,
+}
+
+fn read_header<'a>(
+    alloc: Global,
+    bytes: &[u8],
+    tokens: &'a [Token],
+) -> Result<(Header, &'a [Token]), Stop>
+    ensures is { IfOk result (λ x. IsHeaderOf x.0.name x.0.place (map parameter_tree x.0.params.items) (map declaration_tree x.0.ports.items) (placed_tokens bytes.now tokens.now) (placed_tokens bytes.now x.1.now)) }
+    ensures shorter { IfOk result (λ x. length x.1.now < length tokens.now) }
+    ensures reads { IfOk result (λ x. Reads (outer one_module ∷ []) (outer items ∷ []) (placed_tokens bytes.now tokens.now) (placed_tokens bytes.now x.1.now)) }
+    ensures halts { IfErr result (λ e. HaltsAs (outer one_module ∷ []) (placed_tokens bytes.now tokens.now) e) }
+{
+    let (_word, rest) = expect_word(WordKind::Module, tokens)?;
+    let (name, place, rest) = read_name(alloc, bytes, rest)?;
+    let (params, rest) = read_parameter_list(alloc, bytes, rest)?;
+    let (ports, rest) = read_port_list(alloc, bytes, rest)?;
+    let rest = expect_sign(SignKind::Semicolon, rest)?;
+    let header = Header {
+        name,
+        place,
+        params,
+        ports,
+    };
+    Ok((header, rest))
+}
+
+// The items of a module, and its last word.
+fn read_items<'a>(
+    alloc: Global,
+    bytes: &[u8],
+    tokens: &'a [Token],
+) -> Result<(Vec<Item>, &'a [Token]), Stop>
+    ensures is { IfOk result (λ x. (AreItems all_limits (map item_tree x.0.items) ⨾ a_word words.Endmodule) (placed_tokens bytes.now tokens.now) (placed_tokens bytes.now x.1.now)) }
+    ensures shorter { IfOk result (λ x. length x.1.now < length tokens.now) }
+    ensures reads { IfOk result (λ x. Reads (outer items ∷ []) [] (placed_tokens bytes.now tokens.now) (placed_tokens bytes.now x.1.now)) }
+    ensures halts { IfErr result (λ e. HaltsAs (outer items ∷ []) (placed_tokens bytes.now tokens.now) e) }
+{
+    let mut items = Vec::new(alloc);
+    let mut rest = tokens;
+    loop {
+        if let Some(after) = behind_word(WordKind::Endmodule, rest) {
+            return Ok((items, after));
+        }
+        let (mut more, behind) = read_item(alloc, bytes, rest)?;
+        items.append(&mut more)?;
+        rest = behind;
+    }
+}
+
+// A module.
+fn read_module<'a>(
+    alloc: Global,
+    bytes: &[u8],
+    tokens: &'a [Token],
+) -> Result<(Module, &'a [Token]), Stop>
+    ensures is { IfOk result (λ x. IsModule all_limits (module_tree x.0) (placed_tokens bytes.now tokens.now) (placed_tokens bytes.now x.1.now)) }
+    ensures shorter { IfOk result (λ x. length x.1.now < length tokens.now) }
+    ensures reads { IfOk result (λ x. Reads (outer one_module ∷ []) [] (placed_tokens bytes.now tokens.now) (placed_tokens bytes.now x.1.now)) }
+    ensures halts { IfErr result (λ e. HaltsAs (outer one_module ∷ []) (placed_tokens bytes.now tokens.now) e) }
+{
+    let (header, rest) = read_header(alloc, bytes, tokens)?;
+    let (items, rest) = read_items(alloc, bytes, rest)?;
+    let Header {
+        name,
+        place,
+        params,
+        ports,
+    } = header;
+    let module = Module {
+        name,
+        place,
+        params,
+        ports,
+        items,
+    };
+    Ok((module, rest))
+}
+
+// The modules that the tokens are, at least one.
+fn modules(alloc: Global, bytes: &[u8], tokens: &[Token]) -> Result<Vec<Module>, Stop>
+    ensures are { IfOk result (λ modules. some (IsModule all_limits) (map module_tree modules.items) (placed_tokens bytes.now tokens.now) []) }
+    ensures fails { IfErr result (λ e. FailsAs (outer one_module ∷ []) (placed_tokens bytes.now tokens.now) e) }
+{
+    let mut modules = Vec::new(alloc);
+    let (first, mut rest) = read_module(alloc, bytes, tokens)?;
+    modules.push(first)?;
+    while !rest.is_empty() {
+        let (next, more) = read_module(alloc, bytes, rest)?;
+        modules.push(next)?;
+        rest = more;
+    }
+    Ok(modules)
+}
+
+// The lattice, if one comes.
+fn read_first_lattice<'a>(
+    alloc: Global,
+    bytes: &[u8],
+    tokens: &'a [Token],
+) -> Result<(Option<LatticeText>, &'a [Token]), Stop>
+    ensures is { IfOk result (λ x. perhaps IsLattice (option_map lattice_tree x.0) (placed_tokens bytes.now tokens.now) (placed_tokens bytes.now x.1.now)) }
+    ensures shorter { IfOk result (λ x. length x.1.now ≤ length tokens.now) }
+    ensures reads { IfOk result (λ x. Reads (outer perhaps_lattice ∷ []) [] (placed_tokens bytes.now tokens.now) (placed_tokens bytes.now x.1.now)) }
+    ensures halts { IfErr result (λ e. HaltsAs (outer perhaps_lattice ∷ []) (placed_tokens bytes.now tokens.now) e) }
+{
+    match behind_word(WordKind::Lattice, tokens) {
+        Some(_) => {
+            let (lattice, rest) = read_lattice(alloc, bytes, tokens)?;
+            Ok((Some(lattice), rest))
+        }
+        None => Ok((None, tokens)),
+    }
+}
+
+// The label maps.
+fn read_maps<'a>(
+    alloc: Global,
+    bytes: &[u8],
+    tokens: &'a [Token],
+) -> Result<(Vec<MapText>, &'a [Token]), Stop>
+    ensures is { IfOk result (λ x. each IsMap (map map_tree x.0.items) (placed_tokens bytes.now tokens.now) (placed_tokens bytes.now x.1.now)) }
+    ensures shorter { IfOk result (λ x. length x.1.now ≤ length tokens.now) }
+    ensures reads { IfOk result (λ x. Reads (outer perhaps_maps ∷ []) [] (placed_tokens bytes.now tokens.now) (placed_tokens bytes.now x.1.now)) }
+    ensures halts { IfErr result (λ e. HaltsAs (outer perhaps_maps ∷ []) (placed_tokens bytes.now tokens.now) e) }
+{
+    let mut maps = Vec::new(alloc);
+    let mut rest = tokens;
+    while let Some(_) = behind_word(WordKind::Labelmap, rest) {
+        let (map, more) = read_label_map(alloc, bytes, rest)?;
+        maps.push(map)?;
+        rest = more;
+    }
+    Ok((maps, rest))
+}
+
+/// The text that all of the tokens are.
+pub fn text(alloc: Global, bytes: &[u8], tokens: &[Token]) -> Result<Text, Stop>
+    ensures is { IfOk result (λ text. TokensMean (placed_tokens bytes.now tokens.now) (text_tree text)) }
+    ensures fails { IfErr result (λ e. FailsAs text_state (placed_tokens bytes.now tokens.now) e) }
+{
+    let (lattice, rest) = read_first_lattice(alloc, bytes, tokens)?;
+    let (maps, rest) = read_maps(alloc, bytes, rest)?;
+    let modules = modules(alloc, bytes, rest)?;
+    Ok(Text {
+        lattice,
+        maps,
+        modules,
+    })
+}

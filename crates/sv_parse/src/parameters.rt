@@ -1,0 +1,266 @@
+// Parameters (IEEE 1364-2005, clause 12.2).
+ghost use Rattle.std.specs.Prelude.{◌≡◌, ◌<◌, ◌≤◌, ℕ, List, length, map, IfOk, IfErr, [], ◌∷◌, ◌++◌, ◌⊎◌};
+ghost use Rattle.std.specs.Option.{option_map};
+ghost use Rattle.sv_token.specs.Lexemes.{placed_tokens};
+ghost use Rattle.sv_token.specs.declared.keywords.WordKind.TheVariants as words;
+ghost use Rattle.sv_token.specs.declared.signs.SignKind.TheVariants as signs;
+ghost use Rattle.sv_ast.specs.Tree as tree;
+ghost use Rattle.sv_ast.specs.Tree.{ParameterTree};
+ghost use Rattle.sv_ast.specs.Views.{span_tree, parameter_tree, item_tree};
+ghost use Rattle.sv_ast.specs.GrammarForms.{◌or◌, a_word};
+ghost use Rattle.sv_ast.specs.GrammarDeclarations.{IsParameterType, IsParameter, IsLaterParameter, AreParameters, IsHeaderParameter, AreHeaderParameters, parameter_word};
+ghost use Rattle.sv_ast.specs.GrammarModules.{all_as};
+ghost use Rattle.sv_ast.specs.GrammarRules.{all_limits};
+ghost use Rattle.sv_parse.specs.Reading.{IsParameterAs, IsTypedParameter};
+ghost use Rattle.sv_ast.specs.GrammarStatements.{IsNext};
+ghost use Rattle.sv_grammar.specs.Symbols.{outer, punctuation, parameter_type, items, more_parameters, header_parameter, later_header_parameter, more_header_parameters};
+ghost use Rattle.sv_grammar.specs.Machine.{outside_on};
+ghost use Rattle.sv_grammar.specs.Reads.{Reads};
+ghost use Rattle.sv_read.specs.Expectations.{HaltsAs};
+ghost use Rattle.sv_parse.specs.ReadingDeclarations.{named_value, typed_value};
+
+use crate::types::{read_open_span, span_copy};
+use std::alloc::{AllocError, Global};
+use sv_ast::{Item, Param, Span};
+use sv_read::cursor::{behind, behind_word, expect_sign, expect_word, read_name, unexpected};
+use sv_read::expressions::read_expression;
+use sv_read::lists::{Listed, read_list};
+use sv_read::stop::Stop;
+use sv_token::{SignKind, Token, WordKind};
+
+// The sign and the range of a parameter; without a range it has no sign.
+fn read_param_type<'a>(
+    alloc: Global,
+    bytes: &[u8],
+    tokens: &'a [Token],
+) -> Result<(bool, Option<Span>, &'a [Token]), Stop>
+    ensures is { IfOk result (λ x. IsParameterType all_limits x.0 (option_map span_tree x.1) (placed_tokens bytes.now tokens.now) (placed_tokens bytes.now x.2.now)) }
+    ensures shorter { IfOk result (λ x. length x.2.now ≤ length tokens.now) }
+    ensures reads { IfOk result (λ x. Reads (outer parameter_type ∷ []) [] (placed_tokens bytes.now tokens.now) (placed_tokens bytes.now x.2.now)) }
+    ensures halts { IfErr result (λ e. HaltsAs (outer parameter_type ∷ []) (placed_tokens bytes.now tokens.now) e) }
+{
+    if let Some(rest) = behind_word(WordKind::Signed, tokens) {
+        let rest = expect_sign(SignKind::OpenBracket, rest)?;
+        let (span, rest) = read_open_span(alloc, bytes, rest)?;
+        return Ok((true, Some(span), rest));
+    }
+    if let Some(rest) = behind(SignKind::OpenBracket, tokens) {
+        let (span, rest) = read_open_span(alloc, bytes, rest)?;
+        return Ok((false, Some(span), rest));
+    }
+    Ok((false, None, tokens))
+}
+
+// The name and the value of a parameter.
+fn read_named_param<'a>(
+    alloc: Global,
+    bytes: &[u8],
+    local: bool,
+    signed: bool,
+    span: Option<Span>,
+    tokens: &'a [Token],
+) -> Result<(Param, &'a [Token]), Stop>
+    ensures is { IfOk result (λ x. IsParameterAs local signed (option_map span_tree span) (parameter_tree x.0) (placed_tokens bytes.now tokens.now) (placed_tokens bytes.now x.1.now)) }
+    ensures shorter { IfOk result (λ x. length x.1.now < length tokens.now) }
+    ensures reads { IfOk result (λ x. Reads (outside_on named_value) [] (placed_tokens bytes.now tokens.now) (placed_tokens bytes.now x.1.now)) }
+    ensures halts { IfErr result (λ e. HaltsAs (outside_on named_value) (placed_tokens bytes.now tokens.now) e) }
+{
+    let (name, place, rest) = read_name(alloc, bytes, tokens)?;
+    let rest = expect_sign(SignKind::Equals, rest)?;
+    let (value, rest) = read_expression(alloc, bytes, 0, rest)?;
+    let param = Param {
+        local,
+        signed,
+        span,
+        name,
+        place,
+        value,
+    };
+    Ok((param, rest))
+}
+
+// A parameter, behind its word.
+fn read_typed_param<'a>(
+    alloc: Global,
+    bytes: &[u8],
+    local: bool,
+    tokens: &'a [Token],
+) -> Result<(Param, &'a [Token]), Stop>
+    ensures is { IfOk result (λ x. IsTypedParameter local (parameter_tree x.0) (placed_tokens bytes.now tokens.now) (placed_tokens bytes.now x.1.now)) }
+    ensures shorter { IfOk result (λ x. length x.1.now < length tokens.now) }
+    ensures reads { IfOk result (λ x. Reads (outside_on typed_value) [] (placed_tokens bytes.now tokens.now) (placed_tokens bytes.now x.1.now)) }
+    ensures halts { IfErr result (λ e. HaltsAs (outside_on typed_value) (placed_tokens bytes.now tokens.now) e) }
+{
+    let (signed, span, rest) = read_param_type(alloc, bytes, tokens)?;
+    let (param, rest) = read_named_param(alloc, bytes, local, signed, span, rest)?;
+    Ok((param, rest))
+}
+
+// A parameter with the word, sign and range of the one before it.
+fn read_param_alike<'a>(
+    alloc: Global,
+    bytes: &[u8],
+    before: &Param,
+    tokens: &'a [Token],
+) -> Result<(Param, &'a [Token]), Stop>
+    ensures is { IfOk result (λ x. IsLaterParameter all_limits (parameter_tree before.now) (parameter_tree x.0) (placed_tokens bytes.now tokens.now) (placed_tokens bytes.now x.1.now)) }
+    ensures shorter { IfOk result (λ x. length x.1.now < length tokens.now) }
+    ensures reads { IfOk result (λ x. Reads (outside_on named_value) [] (placed_tokens bytes.now tokens.now) (placed_tokens bytes.now x.1.now)) }
+    ensures halts { IfErr result (λ e. HaltsAs (outside_on named_value) (placed_tokens bytes.now tokens.now) e) }
+{
+    let span = span_copy(alloc, &before.span)?;
+    let (local, signed) = (before.local, before.signed);
+    let (param, rest) = read_named_param(alloc, bytes, local, signed, span, tokens)?;
+    Ok((param, rest))
+}
+
+// Whether the word that comes is `localparam`, not `parameter`.
+fn is_local(tokens: &[Token]) -> Result<(bool, &[Token]), Stop>
+    ensures is { (bytes : List ℕ) → IfOk result (λ x. a_word (parameter_word x.0) (placed_tokens bytes tokens.now) (placed_tokens bytes x.1.now)) }
+    ensures shorter { IfOk result (λ x. length x.1.now < length tokens.now) }
+    ensures reads { (bytes : List ℕ) → (IsNext words.Parameter (placed_tokens bytes tokens.now) ⊎ IsNext words.Localparam (placed_tokens bytes tokens.now)) → IfOk result (λ x. Reads (outer items ∷ []) (outside_on (typed_value ++ more_parameters ∷ items ∷ [])) (placed_tokens bytes tokens.now) (placed_tokens bytes x.1.now)) }
+    ensures halts { (bytes : List ℕ) → (IsNext words.Parameter (placed_tokens bytes tokens.now) ⊎ IsNext words.Localparam (placed_tokens bytes tokens.now)) → IfErr result (λ e. HaltsAs (outer items ∷ []) (placed_tokens bytes tokens.now) e) }
+{
+    if let Some(rest) = behind_word(WordKind::Parameter, tokens) {
+        return Ok((false, rest));
+    }
+    match behind_word(WordKind::Localparam, tokens) {
+        Some(rest) => Ok((true, rest)),
+        None => Err(unexpected(tokens)),
+    }
+}
+
+// The parameters of an item.
+struct Params;
+
+impl Listed for Params {
+    type Item = Param;
+
+    ghost Tree = { ParameterTree };
+
+    ghost tree = { parameter_tree };
+
+    ghost First = { λ n. IsParameter all_limits };
+
+    ghost Later = { λ n before. IsLaterParameter all_limits before };
+
+    ghost Begins = { λ ts. IsNext words.Parameter ts ⊎ IsNext words.Localparam ts };
+
+    ghost start = { λ n. outer items ∷ [] };
+
+    ghost behind = { λ n. outer more_parameters ∷ outer items ∷ [] };
+
+    ghost next = { λ n. outside_on named_value };
+
+    fn first<'a>(
+        alloc: Global,
+        bytes: &[u8],
+        _open: usize,
+        tokens: &'a [Token],
+    ) -> Result<(Param, &'a [Token]), Stop> {
+        let (local, rest) = is_local(tokens)?;
+        let (param, rest) = read_typed_param(alloc, bytes, local, rest)?;
+        Ok((param, rest))
+    }
+
+    fn later<'a>(
+        alloc: Global,
+        bytes: &[u8],
+        _open: usize,
+        before: &Param,
+        tokens: &'a [Token],
+    ) -> Result<(Param, &'a [Token]), Stop> {
+        read_param_alike(alloc, bytes, before, tokens)
+    }
+}
+
+// The parameters of a header.
+struct HeaderParams;
+
+impl Listed for HeaderParams {
+    type Item = Param;
+
+    ghost Tree = { ParameterTree };
+
+    ghost tree = { parameter_tree };
+
+    ghost First = { λ n. IsHeaderParameter all_limits };
+
+    ghost Later = { λ n before q. (IsHeaderParameter all_limits q or IsLaterParameter all_limits before q) };
+
+    ghost Begins = { λ ts. Unit {0} };
+
+    ghost start = { λ n. outer header_parameter ∷ [] };
+
+    ghost behind = { λ n. [] };
+
+    ghost next = { λ n. outer later_header_parameter ∷ [] };
+
+    fn first<'a>(
+        alloc: Global,
+        bytes: &[u8],
+        _open: usize,
+        tokens: &'a [Token],
+    ) -> Result<(Param, &'a [Token]), Stop> {
+        let (_place, rest) = expect_word(WordKind::Parameter, tokens)?;
+        let (param, rest) = read_typed_param(alloc, bytes, false, rest)?;
+        Ok((param, rest))
+    }
+
+    fn later<'a>(
+        alloc: Global,
+        bytes: &[u8],
+        _open: usize,
+        before: &Param,
+        tokens: &'a [Token],
+    ) -> Result<(Param, &'a [Token]), Stop> {
+        if let Some(rest) = behind_word(WordKind::Parameter, tokens) {
+            let (param, rest) = read_typed_param(alloc, bytes, false, rest)?;
+            return Ok((param, rest));
+        }
+        let (alike, rest) = read_param_alike(alloc, bytes, before, tokens)?;
+        Ok((alike, rest))
+    }
+}
+
+/// The parameters of a header, at least one.
+pub fn read_header_params<'a>(
+    alloc: Global,
+    bytes: &[u8],
+    tokens: &'a [Token],
+) -> Result<(Vec<Param>, &'a [Token]), Stop>
+    ensures is { IfOk result (λ x. AreHeaderParameters all_limits (map parameter_tree x.0.items) (placed_tokens bytes.now tokens.now) (placed_tokens bytes.now x.1.now)) }
+    ensures shorter { IfOk result (λ x. length x.1.now < length tokens.now) }
+    ensures reads { IfOk result (λ x. Reads (outer header_parameter ∷ outer more_header_parameters ∷ []) (outer (punctuation signs.CloseParenthesis) ∷ []) (placed_tokens bytes.now tokens.now) (placed_tokens bytes.now x.1.now)) }
+    ensures halts { IfErr result (λ e. HaltsAs (outer header_parameter ∷ outer more_header_parameters ∷ []) (placed_tokens bytes.now tokens.now) e) }
+{
+    let (params, rest) = read_list::<HeaderParams>(alloc, bytes, 0, tokens)?;
+    Ok((params, rest))
+}
+
+// The items that declare the parameters.
+fn declared(alloc: Global, params: Vec<Param>) -> Result<Vec<Item>, AllocError>
+    ensures { IfOk result (λ items. map item_tree items.items ≡ map tree.parameter_item (map parameter_tree params.items)) }
+{
+    let mut items = Vec::with_capacity(alloc, params.len())?;
+    for param in params {
+        items.push(Item::Param(param))?;
+    }
+    Ok(items)
+}
+
+/// The parameters of an item that begins with `parameter` or `localparam`.
+pub fn read_params<'a>(
+    alloc: Global,
+    bytes: &[u8],
+    tokens: &'a [Token],
+) -> Result<(Vec<Item>, &'a [Token]), Stop>
+    ensures is { IfOk result (λ x. all_as tree.parameter_item (AreParameters all_limits) (map item_tree x.0.items) (placed_tokens bytes.now tokens.now) (placed_tokens bytes.now x.1.now)) }
+    ensures shorter { IfOk result (λ x. length x.1.now < length tokens.now) }
+    ensures reads { (IsNext words.Parameter (placed_tokens bytes.now tokens.now) ⊎ IsNext words.Localparam (placed_tokens bytes.now tokens.now)) → IfOk result (λ x. Reads (outer items ∷ []) (outer (punctuation signs.Semicolon) ∷ outer items ∷ []) (placed_tokens bytes.now tokens.now) (placed_tokens bytes.now x.1.now)) }
+    ensures halts { (IsNext words.Parameter (placed_tokens bytes.now tokens.now) ⊎ IsNext words.Localparam (placed_tokens bytes.now tokens.now)) → IfErr result (λ e. HaltsAs (outer items ∷ []) (placed_tokens bytes.now tokens.now) e) }
+{
+    let (params, rest) = read_list::<Params>(alloc, bytes, 0, tokens)?;
+    let items = declared(alloc, params)?;
+    Ok((items, rest))
+}

@@ -1,0 +1,259 @@
+// Registers and memories (IEEE 1364-2005, clause 4; the forms of memories are this project's profile).
+ghost use Rattle.std.specs.Prelude.{◌≡◌, ◌<◌, ◌≤◌, ℕ, List, length, map, true, false, IfOk, IfErr, [], ◌∷◌};
+ghost use Rattle.std.specs.Option.{option_map};
+ghost use Rattle.sv_token.specs.Lexemes.{placed_tokens, literal_of};
+ghost use Rattle.sv_token.specs.declared.signs.SignKind.TheVariants as signs;
+ghost use Rattle.sv_token.specs.declared.keywords.WordKind.TheVariants as words;
+ghost use Rattle.sv_ast.specs.Tree as tree;
+ghost use Rattle.sv_ast.specs.Views.{span_tree, label_tree, memory_label_tree, memory_tree, declaration_tree, item_tree};
+ghost use Rattle.sv_ast.specs.GrammarForms.{◌⨾◌, ◌or◌, flag, perhaps, a_sign, a_number, in_brackets};
+ghost use Rattle.sv_ast.specs.GrammarStatements.{IsNext, only};
+ghost use Rattle.sv_ast.specs.GrammarDeclarations.{IsRange, AreSignals, IsMemory};
+ghost use Rattle.sv_ast.specs.GrammarModules.{all_as};
+ghost use Rattle.sv_ast.specs.GrammarRules.{all_limits};
+ghost use Rattle.sv_grammar.specs.Symbols.{outer, punctuation, plain_name, perhaps_signed, perhaps_range, reg_label, reg_label_end, label_selector, more_names, items};
+ghost use Rattle.sv_grammar.specs.Machine.{outside_on};
+ghost use Rattle.sv_grammar.specs.Reads.{Reads};
+ghost use Rattle.sv_read.specs.Expectations.{HaltsAs};
+ghost use Rattle.sv_parse.specs.ReadingDeclarations.{memory_bounds, memory_end, behind_name};
+ghost use Rattle.sv_parse.specs.ReadingItems.{IsRegLabelEnd, IsOpenRegLabel, IsRegLabel, MayBeMemory, MayBeSignal, memory_label_of, signal_label_of, IsMemoryAs};
+
+use crate::declarations::{Registers, declared};
+use crate::types::{is_signed, read_span, read_table_label};
+use std::alloc::Global;
+use sv_ast::{Decl, DeclKind, Item, LabelText, MemLabel, Memory, Span};
+use sv_num::{Name, Place};
+use sv_read::cursor::{behind, expect_sign, expect_word, read_name, read_number};
+use sv_read::lists::{one, read_list_from};
+use sv_read::stop::Stop;
+use sv_token::{Lit, SignKind, Token, WordKind};
+
+// The label behind `reg` and its range: that of a register or of a memory, or of a memory alone.
+#[derive(Drop)]
+enum RegLabel {
+    None,
+    Point(Name, Place),
+    Table(LabelText),
+    ByIndex(Name, Place),
+}
+
+// A label with a selector or an index, behind its map and the `(`.
+fn read_selected_label<'a>(
+    alloc: Global,
+    bytes: &[u8],
+    map: Name,
+    place: Place,
+    tokens: &'a [Token],
+) -> Result<(RegLabel, &'a [Token]), Stop>
+    ensures is { IfOk result (λ x. IsRegLabelEnd map place x.0 (placed_tokens bytes.now tokens.now) (placed_tokens bytes.now x.1.now)) }
+    ensures shorter { IfOk result (λ x. length x.1.now < length tokens.now) }
+    ensures reads { IfOk result (λ x. Reads (outer label_selector ∷ []) (outside_on (plain_name ∷ behind_name x.0)) (placed_tokens bytes.now tokens.now) (placed_tokens bytes.now x.1.now)) }
+    ensures halts { IfErr result (λ e. HaltsAs (outer label_selector ∷ []) (placed_tokens bytes.now tokens.now) e) }
+{
+    match behind(SignKind::Hash, tokens) {
+        Some(rest) => {
+            let rest = expect_sign(SignKind::CloseParenthesis, rest)?;
+            let rest = expect_sign(SignKind::CloseBrace, rest)?;
+            Ok((RegLabel::ByIndex(map, place), rest))
+        }
+        None => {
+            let (label, rest) = read_table_label(alloc, bytes, map, place, tokens)?;
+            Ok((RegLabel::Table(label), rest))
+        }
+    }
+}
+
+// A label, behind its brace.
+fn read_open_label<'a>(
+    alloc: Global,
+    bytes: &[u8],
+    tokens: &'a [Token],
+) -> Result<(RegLabel, &'a [Token]), Stop>
+    ensures is { IfOk result (λ x. IsOpenRegLabel x.0 (placed_tokens bytes.now tokens.now) (placed_tokens bytes.now x.1.now)) }
+    ensures shorter { IfOk result (λ x. length x.1.now < length tokens.now) }
+    ensures reads { IfOk result (λ x. Reads (outer plain_name ∷ outer reg_label_end ∷ []) (outside_on (plain_name ∷ behind_name x.0)) (placed_tokens bytes.now tokens.now) (placed_tokens bytes.now x.1.now)) }
+    ensures halts { IfErr result (λ e. HaltsAs (outer plain_name ∷ outer reg_label_end ∷ []) (placed_tokens bytes.now tokens.now) e) }
+{
+    let (name, place, rest) = read_name(alloc, bytes, tokens)?;
+    if let Some(rest) = behind(SignKind::OpenParenthesis, rest) {
+        let (label, rest) = read_selected_label(alloc, bytes, name, place, rest)?;
+        return Ok((label, rest));
+    }
+    let rest = expect_sign(SignKind::CloseBrace, rest)?;
+    Ok((RegLabel::Point(name, place), rest))
+}
+
+// A label, if one comes.
+fn read_reg_label<'a>(
+    alloc: Global,
+    bytes: &[u8],
+    tokens: &'a [Token],
+) -> Result<(RegLabel, &'a [Token]), Stop>
+    ensures is { IfOk result (λ x. IsRegLabel x.0 (placed_tokens bytes.now tokens.now) (placed_tokens bytes.now x.1.now)) }
+    ensures shorter { IfOk result (λ x. length x.1.now ≤ length tokens.now) }
+    ensures reads { IfOk result (λ x. Reads (outer reg_label ∷ []) (outside_on (plain_name ∷ behind_name x.0)) (placed_tokens bytes.now tokens.now) (placed_tokens bytes.now x.1.now)) }
+    ensures halts { IfErr result (λ e. HaltsAs (outer reg_label ∷ []) (placed_tokens bytes.now tokens.now) e) }
+{
+    match behind(SignKind::OpenBrace, tokens) {
+        Some(rest) => {
+            let (label, rest) = read_open_label(alloc, bytes, rest)?;
+            Ok((label, rest))
+        }
+        None => Ok((RegLabel::None, tokens)),
+    }
+}
+
+// What stands behind `reg` up to the name.
+#[derive(Drop)]
+struct RegType {
+    signed: bool,
+    span: Option<Span>,
+    label: RegLabel,
+}
+
+fn read_reg_type<'a>(
+    alloc: Global,
+    bytes: &[u8],
+    tokens: &'a [Token],
+) -> Result<(RegType, &'a [Token]), Stop>
+    ensures is { IfOk result (λ x. (flag words.Signed x.0.signed ⨾ perhaps (IsRange all_limits) (option_map span_tree x.0.span) ⨾ IsRegLabel x.0.label) (placed_tokens bytes.now tokens.now) (placed_tokens bytes.now x.1.now)) }
+    ensures shorter { IfOk result (λ x. length x.1.now ≤ length tokens.now) }
+    ensures reads { IfOk result (λ x. Reads (outer perhaps_signed ∷ outer perhaps_range ∷ outer reg_label ∷ []) (outside_on (plain_name ∷ behind_name x.0.label)) (placed_tokens bytes.now tokens.now) (placed_tokens bytes.now x.1.now)) }
+    ensures halts { IfErr result (λ e. HaltsAs (outer perhaps_signed ∷ outer perhaps_range ∷ outer reg_label ∷ []) (placed_tokens bytes.now tokens.now) e) }
+{
+    let (signed, rest) = is_signed(tokens);
+    let (span, rest) = read_span(alloc, bytes, rest)?;
+    let (label, rest) = read_reg_label(alloc, bytes, rest)?;
+    let reg_type = RegType {
+        signed,
+        span,
+        label,
+    };
+    Ok((reg_type, rest))
+}
+
+// Whether the first token behind the name begins the range of a memory.
+fn is_memory(label: &RegLabel, tokens: &[Token]) -> bool
+    ensures memory { result ≡ true → MayBeMemory label.now }
+    ensures signal { result ≡ false → MayBeSignal label.now }
+    ensures words { (bytes : List ℕ) → result ≡ true → Reads (outside_on (behind_name label.now)) (outside_on memory_end) (placed_tokens bytes tokens.now) (placed_tokens bytes tokens.now) }
+    ensures names { (bytes : List ℕ) → result ≡ false → Reads (outside_on (behind_name label.now)) (outer (more_names signs.Semicolon) ∷ []) (placed_tokens bytes tokens.now) (placed_tokens bytes tokens.now) }
+{
+    match label {
+        RegLabel::None | RegLabel::Point(..) => { behind(SignKind::OpenBracket, tokens).is_some() }
+        RegLabel::Table(_) => false,
+        RegLabel::ByIndex(..) => true,
+    }
+}
+
+// The label of a memory; no label of a register alone is one.
+fn memory_label(label: RegLabel) -> Option<MemLabel>
+    ensures { option_map memory_label_tree result ≡ memory_label_of label }
+{
+    match label {
+        RegLabel::None | RegLabel::Table(_) => None,
+        RegLabel::Point(point, place) => Some(MemLabel::Point(point, place)),
+        RegLabel::ByIndex(map, place) => Some(MemLabel::ByIndex(map, place)),
+    }
+}
+
+// The label of a register; no label of a memory alone is one.
+fn signal_label(label: RegLabel) -> Option<LabelText>
+    ensures { option_map label_tree result ≡ signal_label_of label }
+{
+    match label {
+        RegLabel::None | RegLabel::ByIndex(..) => None,
+        RegLabel::Point(point, place) => Some(LabelText::Point(point, place)),
+        RegLabel::Table(table) => Some(table),
+    }
+}
+
+// The first and the last number of a memory's words, in brackets.
+fn read_bounds(tokens: &[Token]) -> Result<((Lit, Lit), &[Token]), Stop>
+    ensures is { (bytes : List ℕ) → IfOk result (λ x. in_brackets (a_number (literal_of x.0.0) ⨾ a_sign signs.Colon ⨾ a_number (literal_of x.0.1)) (placed_tokens bytes tokens.now) (placed_tokens bytes x.1.now)) }
+    ensures shorter { IfOk result (λ x. length x.1.now < length tokens.now) }
+    ensures reads { (bytes : List ℕ) → IfOk result (λ x. Reads (outside_on memory_bounds) [] (placed_tokens bytes tokens.now) (placed_tokens bytes x.1.now)) }
+    ensures halts { (bytes : List ℕ) → IfErr result (λ e. HaltsAs (outside_on memory_bounds) (placed_tokens bytes tokens.now) e) }
+{
+    let rest = expect_sign(SignKind::OpenBracket, tokens)?;
+    let (first, _place, rest) = read_number(rest)?;
+    let rest = expect_sign(SignKind::Colon, rest)?;
+    let (last, _at, rest) = read_number(rest)?;
+    let rest = expect_sign(SignKind::CloseBracket, rest)?;
+    Ok(((first, last), rest))
+}
+
+// A memory, behind its name.
+fn read_memory(
+    of: RegType,
+    name: Name,
+    place: Place,
+    tokens: &[Token],
+) -> Result<(Memory, &[Token]), Stop>
+    ensures is { (bytes : List ℕ) → IfOk result (λ x. IsMemoryAs of.signed (option_map span_tree of.span) (memory_label_of of.label) name place (memory_tree x.0) (placed_tokens bytes tokens.now) (placed_tokens bytes x.1.now)) }
+    ensures shorter { IfOk result (λ x. length x.1.now < length tokens.now) }
+    ensures reads { (bytes : List ℕ) → IfOk result (λ x. Reads (outside_on memory_bounds) [] (placed_tokens bytes tokens.now) (placed_tokens bytes x.1.now)) }
+    ensures halts { (bytes : List ℕ) → IfErr result (λ e. HaltsAs (outside_on memory_bounds) (placed_tokens bytes tokens.now) e) }
+{
+    let ((first, last), rest) = read_bounds(tokens)?;
+    let RegType {
+        signed,
+        span,
+        label,
+    } = of;
+    let memory = Memory {
+        signed,
+        span,
+        label: memory_label(label),
+        name,
+        place,
+        first,
+        last,
+    };
+    Ok((memory, rest))
+}
+
+// The first register, behind its name.
+fn first_register(of: RegType, name: Name, place: Place) -> Decl
+    ensures { declaration_tree result ≡ record { kind = DeclKind.Reg; signed = of.signed; span = option_map span_tree of.span; label = signal_label_of of.label; name = name; place = place; value = None } }
+{
+    let RegType {
+        signed,
+        span,
+        label,
+    } = of;
+    Decl {
+        kind: DeclKind::Reg,
+        signed,
+        span,
+        label: signal_label(label),
+        name,
+        place,
+        value: None,
+    }
+}
+
+/// The registers of an item that begins with `reg`, or its memory.
+pub fn read_registers<'a>(
+    alloc: Global,
+    bytes: &[u8],
+    tokens: &'a [Token],
+) -> Result<(Vec<Item>, &'a [Token]), Stop>
+    ensures is { IfOk result (λ x. (all_as tree.declared (AreSignals all_limits) (map item_tree x.0.items) or all_as tree.memory_item (only (IsMemory all_limits)) (map item_tree x.0.items)) (placed_tokens bytes.now tokens.now) (placed_tokens bytes.now x.1.now)) }
+    ensures shorter { IfOk result (λ x. length x.1.now < length tokens.now) }
+    ensures reads { IsNext words.Reg (placed_tokens bytes.now tokens.now) → IfOk result (λ x. Reads (outer items ∷ []) (outer (punctuation signs.Semicolon) ∷ outer items ∷ []) (placed_tokens bytes.now tokens.now) (placed_tokens bytes.now x.1.now)) }
+    ensures halts { IsNext words.Reg (placed_tokens bytes.now tokens.now) → IfErr result (λ e. HaltsAs (outer items ∷ []) (placed_tokens bytes.now tokens.now) e) }
+{
+    let (_place, rest) = expect_word(WordKind::Reg, tokens)?;
+    let (of, rest) = read_reg_type(alloc, bytes, rest)?;
+    let (name, place, rest) = read_name(alloc, bytes, rest)?;
+    if is_memory(&of.label, rest) {
+        let (memory, rest) = read_memory(of, name, place, rest)?;
+        let items = one(alloc, Item::Memory(memory))?;
+        return Ok((items, rest));
+    }
+    let first = first_register(of, name, place);
+    let (decls, rest) = read_list_from::<Registers>(alloc, bytes, 0, first, rest)?;
+    let items = declared(alloc, decls)?;
+    Ok((items, rest))
+}

@@ -12,16 +12,20 @@ import tempfile
 
 TOP = os.path.dirname(os.path.dirname(os.path.abspath(__file__)))
 SECV = os.path.join(TOP, "secv")
-# Texts that break a rule on tokens, as docs/language.md shows them.
-LEXIS = [(b"module m; \x80", b"refused 101 bad-byte 1:11\n"), (b"8'q1", b"refused 101 bad-byte 1:2\n"), (b"a $ b", b"refused 101 bad-byte 1:3\n"),
-         (b"4294967296", b"refused 102 bad-number 1:1\n"), (b"12a", b"refused 102 bad-number 1:1\n"), (b"65'h0", b"refused 102 bad-number 1:1\n"),
-         (b"8'h_1", b"refused 102 bad-number 1:1\n"), (b"8'b2", b"refused 102 bad-number 1:1\n"),
-         (b"module m; /*/ endmodule", b"refused 103 open-comment 1:11\n"),
-         (b"\\a ", b"refused 104 unsupported 1:1 escaped-name\n"), (b'"a"', b"refused 104 unsupported 1:1 string\n"),
-         (b"$time", b"refused 104 unsupported 1:1 system-name\n"), (b"`define A 1", b"refused 104 unsupported 1:1 directive\n"),
-         (b"1.5", b"refused 104 unsupported 1:1 real\n"), (b"4'b1x", b"refused 104 unsupported 1:1 four-state\n"),
-         (b"a === b", b"refused 104 unsupported 1:3 case-equality\n"), (b"a ** b", b"refused 104 unsupported 1:3 power\n"),
-         (b"a[1+:1]", b"refused 104 unsupported 1:4 indexed-part\n"), (b"a -> b", b"refused 104 unsupported 1:3 event\n")]
+# Texts that break a rule on tokens or on the grammar, as docs/language.md shows them.
+SYNTAX = [(b"module m; \x80", b"refused 101 bad-byte 1:11\n"), (b"8'q1", b"refused 101 bad-byte 1:2\n"), (b"a $ b", b"refused 101 bad-byte 1:3\n"),
+          (b"4294967296", b"refused 102 bad-number 1:1\n"), (b"12a", b"refused 102 bad-number 1:1\n"), (b"65'h0", b"refused 102 bad-number 1:1\n"),
+          (b"8'h_1", b"refused 102 bad-number 1:1\n"), (b"8'b2", b"refused 102 bad-number 1:1\n"),
+          (b"module m; /*/ endmodule", b"refused 103 open-comment 1:11\n"),
+          (b"\\a ", b"refused 104 unsupported 1:1 escaped-name\n"), (b'"a"', b"refused 104 unsupported 1:1 string\n"),
+          (b"$time", b"refused 104 unsupported 1:1 system-name\n"), (b"`define A 1", b"refused 104 unsupported 1:1 directive\n"),
+          (b"1.5", b"refused 104 unsupported 1:1 real\n"), (b"4'b1x", b"refused 104 unsupported 1:1 four-state\n"),
+          (b"a === b", b"refused 104 unsupported 1:3 case-equality\n"), (b"a ** b", b"refused 104 unsupported 1:3 power\n"),
+          (b"a[1+:1]", b"refused 104 unsupported 1:4 indexed-part\n"), (b"a -> b", b"refused 104 unsupported 1:3 event\n"),
+          (b"", b"refused 201 unexpected 1:1\n"), (b"module m; endmodule end", b"refused 201 unexpected 1:21\n"),
+          (b"module m(a, b); endmodule", b"refused 202 unsupported 1:10 header-names\n"), (b"module m(inout a); endmodule", b"refused 202 unsupported 1:10 inout\n"),
+          (b"module m(input a, output y); assign y = " + b"-" * 65 + b"a; endmodule", b"refused 203 too-deep 1:105\n"),
+          (b"module m(input a, output y); assign y = " + b"a+" * 512 + b"a; endmodule", b"refused 204 too-long 1:1065\n")]
 STATUS = {"accepted": 0, "refused": 1, "usage": 2, "unknown": 3}
 passed = failed = 0
 
@@ -88,7 +92,7 @@ def words_and_faults():
         answer = run(["check", other])
         compare("a text that is not built", (answer.stdout, answer.returncode), (b"refused 199 not-built 1:1\n", 1))
         compare("it is explained", answer.stderr.count(b"\n"), 1)
-        for text, wanted in LEXIS:
+        for text, wanted in SYNTAX:
             with open(other, "wb") as file:
                 file.write(text)
             answer = run(["check", other])

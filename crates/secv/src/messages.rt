@@ -38,7 +38,10 @@ fn explain_rule(rt: &HostRuntime, words: &[String], refusal: &Refusal) {
         101 => "no token begins with this byte",
         102 => "this is no number, or too large a one",
         103 => "this comment has no end",
-        104 => "this form of Verilog is left out",
+        104 | 202 => "this form of Verilog is left out",
+        201 => "no text goes on with this token, or the text ends too early",
+        203 => "this opens a level too many: at most 64 may be open",
+        204 => "this is too long: an expression has at most 1,024 tokens, a case 256 arms",
         _ => {
             let _ = rt.eprintln(UNBUILT);
             return;

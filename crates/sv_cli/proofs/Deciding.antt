@@ -5,7 +5,7 @@ use Rattle.std.specs.List.{list_all}
 use Rattle.std.proofs.lemmas.Bool.{both_ways}
 use Rattle.std.specs.declared.alloc.AllocError.{AllocError}
 use Rattle.sv_num.specs.declared.faults.Place.{Place}
-use Rattle.sv_token.specs.Tokens.{BreaksLexis}
+use Rattle.sv_ast.specs.GrammarMeaning.{BreaksSyntax}
 use Rattle.sv_first_ast.specs.declared.module.Module.{Module}
 use Rattle.sv_first_ast.specs.Tree.{ModuleTree, module_tree}
 use Rattle.sv_first_ast.specs.Meaning.{signals, is_input, is_register}
@@ -24,7 +24,7 @@ use Rattle.sv_cli.specs.declared.report.Report.{Report}
 use Rattle.sv_cli.specs.declared.outcome.Outcome.{Outcome}
 use Rattle.sv_cli.specs.declared.outcome.Outcome.TheVariants.{Done}
 use Rattle.sv_cli.specs.Text.{accepted_text, flow_text, leak_text, refusal_text, limit_text}
-use Rattle.sv_cli.specs.Answer.{Answer, answer_of, accepted, rule_broken, limit_passed, falsified, largest_file, HasTokens, IsFirstForm, IsAccepted, IsVerdict, KeepsSecrets}
+use Rattle.sv_cli.specs.Answer.{Answer, answer_of, accepted, rule_broken, limit_passed, falsified, largest_file, HasTree, IsFirstForm, IsAccepted, IsVerdict, KeepsSecrets}
 use Rattle.sv_cli.specs.Report.{Decides, zeros_for}
 use Rattle.sv_cli.proofs.Congruence.{two, four}
 use Rattle.sv_cli.proofs.Verdicts.{verdict_is_one}
@@ -58,7 +58,7 @@ pub decides_large : (text : List ℕ) (outcome : Outcome) (printed : List ℕ) �
 decides_large text outcome printed large gives prints = decided text outcome printed (limit_passed 701 []) gives (large, refl, refl, prints)
 
 pub decides_broken : (text : List ℕ) (outcome : Outcome) (printed : List ℕ) (number : ℕ) (place : Place) (names : List (List ℕ)) → length text ≤ largest_file
-    → BreaksLexis number names place text → answer_of outcome ≡ Some (rule_broken number place names) → printed ≡ refusal_text number place names → Decides text outcome printed
+    → BreaksSyntax number names place text → answer_of outcome ≡ Some (rule_broken number place names) → printed ≡ refusal_text number place names → Decides text outcome printed
 decides_broken text outcome printed number place names within broken gives prints =
     decided text outcome printed (rule_broken number place names) gives (record { within = within; broken = inl broken; prints = prints })
 
@@ -66,12 +66,12 @@ decides_broken text outcome printed number place names within broken gives print
 abbrev pub start : Place
 start = record { line = 1; column = 1 }
 
-pub decides_unbuilt : (text : List ℕ) (outcome : Outcome) (printed : List ℕ) → length text ≤ largest_file → HasTokens text
+pub decides_unbuilt : (text : List ℕ) (outcome : Outcome) (printed : List ℕ) → length text ≤ largest_file → HasTree text
     → ((m : ModuleTree) → IsFirstForm text m → ⊥) → answer_of outcome ≡ Some (rule_broken 199 start []) → printed ≡ refusal_text 199 start [] → Decides text outcome printed
-decides_unbuilt text outcome printed within tokens no_form gives prints =
+decides_unbuilt text outcome printed within whole no_form gives prints =
     decided text outcome printed (rule_broken 199 start []) gives (record {
       within = within;
-      broken = inr (record { tokens = tokens; no_form = no_form; numbered = refl; placed = refl; nameless = refl });
+      broken = inr (record { whole = whole; no_form = no_form; numbered = refl; placed = refl; nameless = refl });
       prints = prints;
     })
 
@@ -121,19 +121,19 @@ decides_failing text m l outcome printed form leak gives prints =
 
 -- ---- reports
 
--- of a text that breaks a rule on tokens
-pub broken_reports : (text : List ℕ) → length text ≤ largest_file → (number : ℕ) (place : Place) (names : List (List ℕ)) → BreaksLexis number names place text
+-- of a text that breaks a rule on tokens or on the grammar
+pub broken_reports : (text : List ℕ) → length text ≤ largest_file → (number : ℕ) (place : Place) (names : List (List ℕ)) → BreaksSyntax number names place text
     → (r : Result Report AllocError) → IfOk r (λ p. answer_of p.outcome ≡ Some (rule_broken number place names)) → IfOk r (λ p. p.text.items ≡ refusal_text number place names)
     → IfOk r (λ p. Decides text p.outcome p.text.items)
 broken_reports text within number place names broken (Ok p) a t = decides_broken text p.outcome p.text.items number place names within broken a t
 broken_reports text within number place names broken (Err e) a t = tt
 
--- of a text of tokens that is not of the first form
-pub unbuilt_reports : (text : List ℕ) → length text ≤ largest_file → HasTokens text → ((m : ModuleTree) → IsFirstForm text m → ⊥)
+-- of a text that means a tree and is not of the first form
+pub unbuilt_reports : (text : List ℕ) → length text ≤ largest_file → HasTree text → ((m : ModuleTree) → IsFirstForm text m → ⊥)
     → (r : Result Report AllocError) → IfOk r (λ p. answer_of p.outcome ≡ Some (rule_broken 199 start [])) → IfOk r (λ p. p.text.items ≡ refusal_text 199 start [])
     → IfOk r (λ p. Decides text p.outcome p.text.items)
-unbuilt_reports text within tokens none (Ok p) a t = decides_unbuilt text p.outcome p.text.items within tokens none a t
-unbuilt_reports text within tokens none (Err e) a t = tt
+unbuilt_reports text within whole none (Ok p) a t = decides_unbuilt text p.outcome p.text.items within whole none a t
+unbuilt_reports text within whole none (Err e) a t = tt
 
 -- it means no module
 pub unread : (text : List ℕ) (read : Option Module) → read ≡ None → IfNone read ((m : ModuleTree) → Means text m → ⊥) → (m : ModuleTree) → IsFirstForm text m → ⊥
@@ -151,7 +151,7 @@ unformed text read m was_read means found is none n f =
     both_ways (is_first_form (module_tree m)) fails (ap is_first_form same ∙ f.form)
 
 -- What was read of a text, and what was found of its module, are given as the calls tell them.
-module _ (text : List ℕ) (within : length text ≤ largest_file) (tokens : HasTokens text) (read : Option Module) (m : Module) (was_read : read ≡ Some m)
+module _ (text : List ℕ) (within : length text ≤ largest_file) (whole : HasTree text) (read : Option Module) (m : Module) (was_read : read ≡ Some m)
     (means : IfSome read (λ r. Means text (module_tree r)))
     (found : Option Finding) (f : Finding) (was_found : found ≡ Some f)
     (finds : IfSome found (λ g. IsTrue (is_first_form (module_tree m)) × IsFinding (module_tree m) g)) (r : Result Report AllocError) where
@@ -159,7 +159,7 @@ module _ (text : List ℕ) (within : length text ≤ largest_file) (tokens : Has
   meant = subst (λ (o : Option Module). IfSome o (λ n. Means text (module_tree n))) was_read means
 
   form_is : IsTrue (is_first_form (module_tree m)) → IsFirstForm text (module_tree m)
-  form_is form = record { within = within; tokens = tokens; means = meant; form = form }
+  form_is form = record { within = within; whole = whole; means = meant; form = form }
 
   finding_is : (g : Finding) → f ≡ g → IsTrue (is_first_form (module_tree m)) × IsFinding (module_tree m) g
   finding_is g is = subst (λ (o : Option Finding). IfSome o (λ h. IsTrue (is_first_form (module_tree m)) × IsFinding (module_tree m) h)) (was_found ∙ ap Some is) finds

@@ -3,7 +3,7 @@ use Rattle.std.proofs.Common.{◌≡◌, ℕ, suc, zero, ◌+◌, ◌<◌, ◌�
 use Rattle.std.specs.Prelude.{not, slice_get}
 use Rattle.std.specs.List.{list_all, find}
 use Rattle.std.proofs.lemmas.Bool.{and_from, both_ways, cases_order}
-use Rattle.sv_token.proofs.Agreement.{has_tokens_or_break, HasTokens as Tokens, HasBreak}
+use Rattle.sv_grammar.proofs.Syntax.{MeansOrBreaksSyntax, text_or_rule}
 use Rattle.sv_first_ast.specs.Tree.{ModuleTree}
 use Rattle.sv_first_ast.specs.Form.{is_first_form}
 use Rattle.sv_first_ast.specs.Meaning.{label_of, flows}
@@ -11,7 +11,7 @@ use Rattle.sv_first_ast.specs.Obligations.{obligations, flow_holds, zeros}
 use Rattle.sv_first_ast.proofs.Leak.{leak_falsifies}
 use Rattle.sv_first.proofs.Readings.{MeansOne, MeansNone, one_or_none}
 use Rattle.sv_cli.specs.Text.{accepted_text, refusal_text, limit_text, leak_text}
-use Rattle.sv_cli.specs.Answer.{Answer, accepted, rule_broken, limit_passed, falsified, largest_file, HasTokens, IsFirstForm, IsVerdict}
+use Rattle.sv_cli.specs.Answer.{Answer, accepted, rule_broken, limit_passed, falsified, largest_file, HasTree, IsFirstForm, IsVerdict}
 use Rattle.sv_cli.proofs.Verdicts.{verdict_is_one}
 use Rattle.sv_cli.proofs.Deciding.{start}
 
@@ -57,14 +57,14 @@ found p (x ∷ xs) h = found_here p x xs (p x) refl h (found p xs)
 abbrev HasVerdict : List ℕ → Type 0
 HasVerdict text = (answer : Answer) × (printed : List ℕ) × IsVerdict text answer printed
 
--- of a text that is tokens and of no form that is read
-unbuilt : (text : List ℕ) → length text ≤ largest_file → HasTokens text → ((m : ModuleTree) → IsFirstForm text m → ⊥) → HasVerdict text
-unbuilt text within tokens none = (
+-- of a text that means a tree and is of no form that is read
+unbuilt : (text : List ℕ) → length text ≤ largest_file → HasTree text → ((m : ModuleTree) → IsFirstForm text m → ⊥) → HasVerdict text
+unbuilt text within whole none = (
   rule_broken 199 start [],
   refusal_text 199 start [],
   record {
     within = within;
-    broken = inr (record { tokens = tokens; no_form = none; numbered = refl; placed = refl; nameless = refl });
+    broken = inr (record { whole = whole; no_form = none; numbered = refl; placed = refl; nameless = refl });
     prints = refl;
   },
 )
@@ -95,26 +95,26 @@ by_flows text m form false leaks =
     )
 
 -- of a text that means one module, by whether it is of the first form
-by_form : (text : List ℕ) → length text ≤ largest_file → HasTokens text → (one : MeansOne text) → (b : Bool) → is_first_form one.0 ≡ b → HasVerdict text
-by_form text within tokens one true is =
-    let form : IsFirstForm text one.0 = record { within = within; tokens = tokens; means = one.1.means; form = is } in
+by_form : (text : List ℕ) → length text ≤ largest_file → HasTree text → (one : MeansOne text) → (b : Bool) → is_first_form one.0 ≡ b → HasVerdict text
+by_form text within whole one true is =
+    let form : IsFirstForm text one.0 = record { within = within; whole = whole; means = one.1.means; form = is } in
     by_flows text one.0 form (list_all (flow_holds one.0) (obligations one.0)) refl
-by_form text within tokens one false is = unbuilt text within tokens other
+by_form text within whole one false is = unbuilt text within whole other
   where
     other : (m : ModuleTree) → IsFirstForm text m → ⊥
     other m f = both_ways (is_first_form m) (ap is_first_form (one.1.only m f.means) ∙ is) f.form
 
-by_tokens : (text : List ℕ) → length text ≤ largest_file → Tokens text ⊎ HasBreak text → HasVerdict text
-by_tokens text within (inr broken) = (
+by_syntax : (text : List ℕ) → length text ≤ largest_file → MeansOrBreaksSyntax text → HasVerdict text
+by_syntax text within (inr broken) = (
   rule_broken broken.0 broken.2 broken.1,
   refusal_text broken.0 broken.2 broken.1,
   record { within = within; broken = inl broken.3; prints = refl },
 )
-by_tokens text within (inl tokens) = by_meaning (one_or_none text)
+by_syntax text within (inl whole) = by_meaning (one_or_none text)
   where
     by_meaning : MeansOne text ⊎ MeansNone text → HasVerdict text
-    by_meaning (inl one) = by_form text within tokens one (is_first_form one.0) refl
-    by_meaning (inr none) = unbuilt text within tokens (λ m f. none m f.means)
+    by_meaning (inl one) = by_form text within whole one (is_first_form one.0) refl
+    by_meaning (inr none) = unbuilt text within whole (λ m f. none m f.means)
 
 within_or_not : (n m : ℕ) → (n ≤ m) ⊎ (m < n)
 within_or_not n m = elim (cases_order n m) [ inl e ↦ inl (omega arith) | inr d ↦ elim d [ inl l ↦ inl (omega arith) | inr l ↦ inr l ] ]
@@ -123,7 +123,7 @@ has_verdict : (text : List ℕ) → HasVerdict text
 has_verdict text = by_size (within_or_not (length text) largest_file)
   where
     by_size : (length text ≤ largest_file) ⊎ (largest_file < length text) → HasVerdict text
-    by_size (inl within) = by_tokens text within (has_tokens_or_break text)
+    by_size (inl within) = by_syntax text within (text_or_rule text)
     by_size (inr large) = (limit_passed 701 [], limit_text 701 [], (large, refl, refl, refl))
 
 pub one_verdict : (text : List ℕ) → (answer : Answer) × (printed : List ℕ) × IsVerdict text answer printed

@@ -4,8 +4,8 @@ use Rattle.std.specs.Prelude.{not, slice_get}
 use Rattle.std.specs.List.{list_all, find}
 use Rattle.std.proofs.lemmas.Bool.{and_parts, both_ways, cases_order}
 use Rattle.sv_num.specs.declared.faults.Place.{Place}
-use Rattle.sv_token.specs.Tokens.{BreaksLexis}
-use Rattle.sv_token.proofs.Agreement.{not_both, break_is_one}
+use Rattle.sv_ast.specs.GrammarMeaning.{BreaksSyntax}
+use Rattle.sv_grammar.proofs.Syntax.{text_breaks_nothing, one_syntax_rule}
 use Rattle.sv_first_ast.specs.Tree.{ModuleTree}
 use Rattle.sv_first_ast.specs.Meaning.{label_of, flows}
 use Rattle.sv_first_ast.specs.Obligations.{Obligation, Values, obligations, flow_holds, Falsifies, zeros}
@@ -43,8 +43,8 @@ same_module text m n f g = one_module text m n f.means g.means
 no_refused : (text : List ℕ) (m : ModuleTree) → IsFirstForm text m → (number : ℕ) (place : Place) (names : List (List ℕ)) (printed : List ℕ) → IsRefused text number place names printed → ⊥
 no_refused text m form number place names printed v = sort v.broken
   where
-    sort : BreaksLexis number names place text ⊎ IsNotBuilt text number place names → ⊥
-    sort (inl broken) = not_both form.tokens.1 broken
+    sort : BreaksSyntax number names place text ⊎ IsNotBuilt text number place names → ⊥
+    sort (inl broken) = text_breaks_nothing text form.whole.0 form.whole.1 number names place broken
     sort (inr unbuilt) = unbuilt.no_form m form
 
 -- ---- the first obligation that fails
@@ -150,16 +150,20 @@ two_refused text n m p q ns ms printed printed' v w = sort v.broken w.broken
     together : ◌≡◌ {A = Refusal} (n, ns, p) (m, ms, q) → (rule_broken n p ns ≡ rule_broken m q ms) × (printed ≡ printed')
     together same = refused_alike n m ns ms p q printed printed' same v.prints w.prints
 
-    unbuilt : IsNotBuilt text n p ns → IsNotBuilt text m q ms → ◌≡◌ {A = Refusal} (n, ns, p) (m, ms, q)
-    unbuilt a b =
-        three (λ (n : ℕ) (ns : List (List ℕ)) (p : Place). let r : Refusal = (n, ns, p) in r) n m ns ms p q
-        (a.numbered ∙ sym b.numbered) (a.nameless ∙ sym b.nameless) (a.placed ∙ sym b.placed)
+    one : n ≡ m → ns ≡ ms → p ≡ q → ◌≡◌ {A = Refusal} (n, ns, p) (m, ms, q)
+    one numbers names places = three (λ (n : ℕ) (ns : List (List ℕ)) (p : Place). let r : Refusal = (n, ns, p) in r) n m ns ms p q numbers names places
 
-    sort : BreaksLexis n ns p text ⊎ IsNotBuilt text n p ns → BreaksLexis m ms q text ⊎ IsNotBuilt text m q ms
+    unbuilt : IsNotBuilt text n p ns → IsNotBuilt text m q ms → ◌≡◌ {A = Refusal} (n, ns, p) (m, ms, q)
+    unbuilt a b = one (a.numbered ∙ sym b.numbered) (a.nameless ∙ sym b.nameless) (a.placed ∙ sym b.placed)
+
+    broken : BreaksSyntax n ns p text → BreaksSyntax m ms q text → ◌≡◌ {A = Refusal} (n, ns, p) (m, ms, q)
+    broken a b = let same = one_syntax_rule text n m ns ms p q a b in one same.0 same.1 same.2
+
+    sort : BreaksSyntax n ns p text ⊎ IsNotBuilt text n p ns → BreaksSyntax m ms q text ⊎ IsNotBuilt text m q ms
         → (rule_broken n p ns ≡ rule_broken m q ms) × (printed ≡ printed')
-    sort (inl a) (inl b) = together (break_is_one a b)
-    sort (inl a) (inr b) = absurd (not_both b.tokens.1 a)
-    sort (inr a) (inl b) = absurd (not_both a.tokens.1 b)
+    sort (inl a) (inl b) = together (broken a b)
+    sort (inl a) (inr b) = absurd (text_breaks_nothing text b.whole.0 b.whole.1 n ns p a)
+    sort (inr a) (inl b) = absurd (text_breaks_nothing text a.whole.0 a.whole.1 m ms q b)
     sort (inr a) (inr b) = together (unbuilt a b)
 
 -- ---- any two verdicts

@@ -3,8 +3,8 @@ use Rattle.std.specs.Prelude.{◌≡◌, ℕ, ◌+◌, ◌<◌, ◌≤◌, ◌�
 use Rattle.std.specs.List.{list_all, find}
 use Rattle.sv_num.specs.declared.faults.Place.{Place}
 use Rattle.sv_system.specs.System.{Noninterferent, HasOneTrace}
-use Rattle.sv_token.specs.Lexemes.{Placed}
-use Rattle.sv_token.specs.Tokens.{AreTokensOf, BreaksLexis}
+use Rattle.sv_ast.specs.Tree.{TextTree}
+use Rattle.sv_ast.specs.GrammarMeaning.{Means as MeansText, BreaksSyntax}
 use Rattle.sv_first_ast.specs.Tree.{ModuleTree}
 use Rattle.sv_first_ast.specs.Meaning.{label_of, flows, system}
 use Rattle.sv_first_ast.specs.Form.{is_first_form}
@@ -54,29 +54,29 @@ answer_of outcome.OutOfMemory = None
 abbrev pub largest_file : ℕ
 largest_file = 1048576
 
--- the text is tokens, with gaps between them: it breaks no rule on tokens
-abbrev pub HasTokens : List ℕ → Type 0
-HasTokens text = (ts : List Placed) × AreTokensOf text ts
+-- the text means a tree: it breaks no rule on tokens or on the grammar
+abbrev pub HasTree : List ℕ → Type 0
+HasTree text = (tree : TextTree) × MeansText text tree
 
 -- the text is of the first form, and means the module
 pub record IsFirstForm (text : List ℕ) (m : ModuleTree) : Type 0 where
   pub within : length text ≤ largest_file
-  pub tokens : HasTokens text
+  pub whole : HasTree text
   pub means : Means text m
   pub form : IsTrue (is_first_form m)
 
--- The text is tokens and of no form that is read so far. This is told at its first place, whatever it is.
+-- The text means a tree and is of no form that is read so far. This is told at its first place, whatever it is.
 pub record IsNotBuilt (text : List ℕ) (number : ℕ) (place : Place) (names : List (List ℕ)) : Type 0 where
-  pub tokens : HasTokens text
+  pub whole : HasTree text
   pub no_form : (m : ModuleTree) → IsFirstForm text m → ⊥
   pub numbered : number ≡ 199
   pub placed : place ≡ record { line = 1; column = 1 }
   pub nameless : names ≡ []
 
--- The first rule that a text within the limit breaks: one on tokens, at the first place where it breaks one, or else 199.
+-- The first rule that a text within the limit breaks: one on tokens or on the grammar, at the first place where it breaks one, or else 199.
 pub record IsRefused (text : List ℕ) (number : ℕ) (place : Place) (names : List (List ℕ)) (printed : List ℕ) : Type 0 where
   pub within : length text ≤ largest_file
-  pub broken : BreaksLexis number names place text ⊎ IsNotBuilt text number place names
+  pub broken : BreaksSyntax number names place text ⊎ IsNotBuilt text number place names
   pub prints : printed ≡ refusal_text number place names
 
 -- every obligation of the text's module holds

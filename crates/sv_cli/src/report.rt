@@ -1,9 +1,9 @@
 // What is answered, and the text that says so.
 ghost use Rattle.std.specs.Prelude.{◌≡◌, ◌≤◌, [], Some, IfOk, IfSome, IfNone, length, replicate};
-ghost use Rattle.sv_token.specs.Tokens.{BreaksLexis};
+ghost use Rattle.sv_ast.specs.GrammarMeaning.{BreaksSyntax};
 ghost use Rattle.sv_cli.specs.Text.{usage_text, accepted_text, refusal_text, limit_text, flow_text};
 ghost use Rattle.sv_cli.specs.Answer.{answer_of, accepted, rule_broken, limit_passed, falsified};
-ghost use Rattle.sv_cli.specs.Answer.{misused, largest_file, HasTokens};
+ghost use Rattle.sv_cli.specs.Answer.{misused, largest_file, HasTree};
 ghost use Rattle.sv_cli.specs.Report.{Decides, zeros_for};
 
 use crate::outcome::{Broken, Outcome, UsageKind, Valuation};
@@ -12,7 +12,7 @@ use std::alloc::{AllocError, Global};
 use sv_first::read_module;
 use sv_first_flow::{Finding, Leak, check};
 use sv_num::{Fault, Place, Refusal};
-use sv_token::lex;
+use sv_parse::read_text;
 
 /// An outcome, and all that is to be written with it.
 #[derive(Drop)]
@@ -121,24 +121,24 @@ fn report_of_leak(alloc: Global, leak: &Leak) -> Result<Report, AllocError>
     })
 }
 
-// The first rule on tokens that a text breaks.
-fn broken_lexis(alloc: Global, bytes: &[u8]) -> Result<Option<Refusal>, AllocError>
+// The first rule on tokens or on the grammar that a text breaks.
+fn broken_syntax(alloc: Global, bytes: &[u8]) -> Result<Option<Refusal>, AllocError>
     requires { length bytes.now ≤ largest_file }
     ensures broken { IfOk result
-        (λ found. IfSome found (λ r. BreaksLexis r.number r.names.items r.place bytes.now)) }
-    ensures none { IfOk result (λ found. IfNone found (HasTokens bytes.now)) }
+        (λ found. IfSome found (λ r. BreaksSyntax r.number r.names.items r.place bytes.now)) }
+    ensures none { IfOk result (λ found. IfNone found (HasTree bytes.now)) }
 {
-    match lex(alloc, bytes) {
+    match read_text(alloc, bytes) {
         Ok(_) => Ok(None),
         Err(Fault::Rule(refusal)) => Ok(Some(refusal)),
         Err(Fault::OutOfMemory) => Err(AllocError),
     }
 }
 
-// The answer to a text of tokens within the limit.
-fn report_on_tokens(alloc: Global, bytes: &[u8]) -> Result<Report, AllocError>
+// The answer to a text within the limit that means a tree.
+fn report_on_tree(alloc: Global, bytes: &[u8]) -> Result<Report, AllocError>
     requires within { length bytes.now ≤ largest_file }
-    requires tokens { HasTokens bytes.now }
+    requires whole { HasTree bytes.now }
     ensures { IfOk result (λ report. Decides bytes.now report.outcome report.text.items) }
 {
     let Some(module) = read_module(alloc, bytes)? else {
@@ -156,8 +156,8 @@ pub fn report_on(alloc: Global, bytes: &[u8]) -> Result<Report, AllocError>
     requires { length bytes.now ≤ largest_file }
     ensures { IfOk result (λ report. Decides bytes.now report.outcome report.text.items) }
 {
-    match broken_lexis(alloc, bytes)? {
+    match broken_syntax(alloc, bytes)? {
         Some(refusal) => report_of_refusal(alloc, refusal),
-        None => report_on_tokens(alloc, bytes),
+        None => report_on_tree(alloc, bytes),
     }
 }

@@ -1,7 +1,10 @@
 use crate::*;
 use std::alloc::{AllocError, Global};
 use std::test::Fail;
+use sv_ast::{Expr, Item, Stmt, Text};
 use sv_io::{MemCabinet, MemSink, SureSource};
+use sv_num::BinOp;
+use sv_parse::read_text;
 
 const GATE: &str = "module m(input a, input b, output y); assign y = a & b; endmodule\n";
 
@@ -55,7 +58,19 @@ fn every_row_has_its_whole_output(rt: HostRuntime) -> Result<(), Fail> {
         ("check f", SECRET_REGISTER, 0, "accepted 1 obligations\n"),
         ("check f", WIRE, 0, "accepted 2 obligations\n"),
         ("check f", SUM, 1, "refused 199 not-built 1:1\n"),
-        ("check f", "", 1, "refused 199 not-built 1:1\n"),
+        ("check f", "", 1, "refused 201 unexpected 1:1\n"),
+        (
+            "check f",
+            "module m; endmodule end",
+            1,
+            "refused 201 unexpected 1:21\n",
+        ),
+        (
+            "check f",
+            "module m(a, b); endmodule",
+            1,
+            "refused 202 unsupported 1:10 header-names\n",
+        ),
         ("check f", "\n module ' m;", 1, "refused 101 bad-byte 2:9\n"),
         (
             "check f",
@@ -95,7 +110,10 @@ fn a_text_over_the_limit_is_refused(rt: HostRuntime) -> Result<(), Fail> {
     let mut text = vec![in rt.alloc(); b' '; 1_048_576]?;
     let (status, bytes) = called(rt.alloc(), "check f", &text, &[], &[])?;
     assert_eq!(rt; status, 1);
-    assert_eq!(rt; bytes.as_slice(), b"refused 199 not-built 1:1\n".as_slice());
+    assert_eq!(rt;
+        bytes.as_slice(),
+        b"refused 201 unexpected 1:1048577\n".as_slice()
+    );
     text.push(b' ')?;
     let (status, bytes) = called(rt.alloc(), "check f", &text, &[], &[])?;
     assert_eq!(rt; status, 1);
@@ -120,5 +138,44 @@ fn a_cabinet_that_fails_gives_a_read_fault(rt: HostRuntime) -> Result<(), Fail> 
     let (status, bytes) = called(rt.alloc(), "check f", GATE.as_bytes(), &[1], &[])?;
     assert_eq!(rt; status, 4);
     assert_eq!(rt; bytes.len(), 0);
+    Ok(())
+}
+
+// The body of the only item, which is a process.
+fn process_of(text: &Text) -> Option<&Stmt> {
+    match text.modules.first()?.items.last()? {
+        Item::Always { body, .. } => Some(body),
+        _ => None,
+    }
+}
+
+#[test]
+fn an_else_belongs_to_the_nearest_if(rt: HostRuntime) -> Result<(), Fail> {
+    let bytes = b"module m; always @* if (a) if (b) y = a; else y = b; endmodule";
+    let text = read_text(rt.alloc(), bytes.as_slice())?;
+    let nearest = match process_of(&text) {
+        Some(Stmt::If { yes, no: None, .. }) => matches!(&**yes, Stmt::If { no: Some(_), .. }),
+        _ => false,
+    };
+    assert!(rt; nearest);
+    Ok(())
+}
+
+#[test]
+fn minus_goes_from_left_to_right(rt: HostRuntime) -> Result<(), Fail> {
+    let bytes = b"module m; always @* y = a - b - c; endmodule";
+    let text = read_text(rt.alloc(), bytes.as_slice())?;
+    let from_left = match process_of(&text) {
+        Some(
+            Stmt::Assign {
+                value: Expr::Binary(BinOp::Sub, _, left, right),
+                ..
+            },
+        ) => {
+            matches!(&**left, Expr::Binary(BinOp::Sub, ..)) && matches!(&**right, Expr::Name(..))
+        }
+        _ => false,
+    };
+    assert!(rt; from_left);
     Ok(())
 }

@@ -1,0 +1,11 @@
+pub mod Exchange
+pub mod Limits
+pub mod ListLines
+pub mod Nodes
+pub mod Noninterference
+pub mod Obligations
+pub mod PathValues
+pub mod Paths
+pub mod Validity
+pub mod Wanted
+pub mod Views

@@ -1,0 +1,177 @@
+// The lines of `secv list`.
+ghost use Rattle.std.specs.Prelude.{◌≡◌, ℕ, ◌<◌, ◌∷◌, [], ◌++◌, map, length, All, codes, decimal, IfOk, OnOk};
+ghost use Rattle.sv_flat.specs.ByNumber.{signal_forms};
+ghost use Rattle.sv_obl.specs.ListLines.{blanked, name_of, place_text, frame_word, step_word, right_word, goal_words, list_line as line_of};
+ghost use Rattle.sv_obl.specs.Obligations.{flow, selector};
+ghost use Rattle.sv_obl.specs.Views.{step_form, goal_form, number_of, obligation_of, IsAmong};
+
+use crate::frames::Frame;
+use crate::queries::{Goal, Query, Step};
+use itoa::Buffer;
+use std::alloc::{AllocError, Global};
+use sv_flat::{SigId, Signal};
+use sv_num::Place;
+
+/// The line of an obligation with its number, as `secv list` prints it. The obligation names signals of the list alone.
+pub fn list_line(
+    alloc: Global,
+    signals: &[Signal],
+    number: u32,
+    query: &Query,
+) -> Result<Vec<u8>, AllocError>
+    requires among { IsAmong (length signals.now) (obligation_of query.now) }
+    ensures { IfOk result (λ line. line.items ≡ line_of (signal_forms signals.now) number (obligation_of query.now)) }
+{
+    let mut line = Vec::new(alloc);
+    push_number(&mut line, number)?;
+    push_goal(&mut line, signals, query)?;
+    line.push(b'\n')?;
+    Ok(line)
+}
+
+// What stands after the number.
+fn push_goal(line: &mut Vec<u8>, signals: &[Signal], query: &Query) -> Result<(), AllocError>
+    requires among { IsAmong (length signals.now) (obligation_of query.now) }
+    ensures { OnOk result (line.new.items ≡ line.old.items
+        ++ blanked (goal_words (signal_forms signals.now) (obligation_of query.now) (goal_form query.now.goal))) }
+{
+    match &query.goal {
+        Goal::Flow { target, frame } => push_flow(line, signals, *target, *frame, query),
+        Goal::Holds { frame, .. } => push_holds(line, *frame, query.right),
+        Goal::Selector { signal } => push_selector(line, signals, *signal, query),
+    }
+}
+
+#[tactic(auto, using(crate::proofs::ListLineFacts::flow_words))]
+fn push_flow(
+    line: &mut Vec<u8>,
+    signals: &[Signal],
+    target: SigId,
+    frame: Frame,
+    query: &Query,
+) -> Result<(), AllocError>
+    requires target { target.0 < length signals.now }
+    requires reads { All (λ s. s < length signals.now) (map number_of query.now.reads.items) }
+    ensures { OnOk result (line.new.items ≡ line.old.items
+        ++ blanked (goal_words (signal_forms signals.now) (obligation_of query.now) (flow target.0 frame))) }
+{
+    push_name(line, signals, target)?;
+    push_word(line, frame_bytes(frame))?;
+    push_steps(line, query.path.as_slice())?;
+    push_right(line, query.right)?;
+    push_reads(line, signals, query.reads.as_slice())
+}
+
+fn push_holds(line: &mut Vec<u8>, frame: Frame, right: Option<Place>) -> Result<(), AllocError>
+    ensures { OnOk result (line.new.items ≡
+        line.old.items ++ blanked (codes "invariant" ∷ frame_word frame ∷ right_word right ∷ [])) }
+{
+    push_word(line, b"invariant")?;
+    push_word(line, frame_bytes(frame))?;
+    push_right(line, right)
+}
+
+#[tactic(auto, using(crate::proofs::ListLineFacts::selector_words))]
+fn push_selector(
+    line: &mut Vec<u8>,
+    signals: &[Signal],
+    signal: SigId,
+    query: &Query,
+) -> Result<(), AllocError>
+    requires signal { signal.0 < length signals.now }
+    requires reads { All (λ s. s < length signals.now) (map number_of query.now.reads.items) }
+    ensures { OnOk result (line.new.items ≡ line.old.items
+        ++ blanked (goal_words (signal_forms signals.now) (obligation_of query.now) (selector signal.0))) }
+{
+    push_name(line, signals, signal)?;
+    push_word(line, b"now")?;
+    push_word(line, b"selector")?;
+    push_reads(line, signals, query.reads.as_slice())
+}
+
+fn frame_bytes(frame: Frame) -> &'static [u8]
+    ensures { result.now ≡ frame_word frame }
+{
+    match frame {
+        Frame::Now => b"now",
+        Frame::Next => b"next",
+    }
+}
+
+fn push_number(line: &mut Vec<u8>, number: u32) -> Result<(), AllocError>
+    ensures { OnOk result (line.new.items ≡ line.old.items ++ decimal number) }
+{
+    let mut buffer = Buffer::new();
+    line.extend_from_slice(buffer.format(number).as_bytes())?;
+    Ok(())
+}
+
+// A blank and a word.
+fn push_word(line: &mut Vec<u8>, word: &[u8]) -> Result<(), AllocError>
+    ensures { OnOk result (line.new.items ≡ line.old.items ++ codes " " ++ word.now) }
+{
+    line.push(b' ')?;
+    line.extend_from_slice(word)?;
+    Ok(())
+}
+
+fn push_name(line: &mut Vec<u8>, signals: &[Signal], signal: SigId) -> Result<(), AllocError>
+    requires known { signal.0 < length signals.now }
+    ensures { OnOk result (line.new.items ≡ line.old.items ++ codes " " ++ name_of (signal_forms signals.now) signal.0) }
+{
+    push_word(line, signals[signal.0 as usize].name.bytes())
+}
+
+fn push_place(line: &mut Vec<u8>, place: Place) -> Result<(), AllocError>
+    ensures { OnOk result (line.new.items ≡ line.old.items ++ place_text place) }
+{
+    push_number(line, place.line)?;
+    line.push(b':')?;
+    push_number(line, place.column)?;
+    Ok(())
+}
+
+fn push_step(line: &mut Vec<u8>, step: &Step) -> Result<(), AllocError>
+    ensures { OnOk result (line.new.items ≡ line.old.items ++ codes " " ++ step_word (step_form step.now)) }
+{
+    let sign: &[u8] = if step.truth { b"+" } else { b"-" };
+    push_word(line, sign)?;
+    push_place(line, step.place)?;
+    Ok(())
+}
+
+fn push_steps(line: &mut Vec<u8>, steps: &[Step]) -> Result<(), AllocError>
+    ensures { OnOk result (line.new.items ≡ line.old.items ++ blanked (map step_word (map step_form steps.now))) }
+{
+    'steps: for step in steps {
+        push_step(line, step)?;
+    }
+    Ok(())
+}
+
+fn push_right(line: &mut Vec<u8>, right: Option<Place>) -> Result<(), AllocError>
+    ensures { OnOk result (line.new.items ≡ line.old.items ++ codes " " ++ right_word right) }
+{
+    match right {
+        Some(place) => {
+            push_word(line, b"=")?;
+            push_place(line, place)?;
+        }
+        None => push_word(line, b"hold")?,
+    }
+    Ok(())
+}
+
+// The word `reads` and the names.
+#[tactic(auto, using(crate::proofs::ListLineFacts::known_at))]
+fn push_reads(line: &mut Vec<u8>, signals: &[Signal], reads: &[SigId]) -> Result<(), AllocError>
+    requires known { All (λ s. s < length signals.now) (map number_of reads.now) }
+    ensures { OnOk result (line.new.items ≡ line.old.items
+        ++ blanked (codes "reads" ∷ map (name_of (signal_forms signals.now)) (map number_of reads.now))) }
+{
+    push_word(line, b"reads")?;
+    'reads: for read in reads {
+        push_name(line, signals, *read)?;
+    }
+    Ok(())
+}

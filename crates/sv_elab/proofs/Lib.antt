@@ -1,0 +1,9 @@
+pub mod EarliestLemmas
+pub mod NameLemmas
+pub mod PairSteps
+pub mod LatticeTests
+pub mod LatticeEnds
+pub mod DeclaredLattices
+pub mod ModuleLemmas
+pub mod MapLemmas
+pub mod MapEnds

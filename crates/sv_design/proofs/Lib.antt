@@ -7,3 +7,10 @@ pub mod WrongPieces
 pub mod NoteFacts
 pub mod DriverFacts
 pub mod ClockLinks
+pub mod NameFacts
+pub mod EntryFacts
+pub mod PieceFacts
+pub mod PhaseFacts
+pub mod Passes
+pub mod BlockPasses
+pub mod DriverNumbers

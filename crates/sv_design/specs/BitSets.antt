@@ -1,5 +1,5 @@
 -- Sets of bits of signals, as numbers by signal.
-use Rattle.std.specs.Prelude.{◌≡◌, ℕ, Bool, ◌==◌, nat_le, List, map, unwrap_or, IsTrue}
+use Rattle.std.specs.Prelude.{◌≡◌, ◌<◌, ◌≤◌, ℕ, Bool, ◌==◌, ◌&&◌, not, nat_le, List, map, unwrap_or, All, IsTrue, IsFalse}
 use Rattle.std.specs.List.{list_any, list_all}
 use Rattle.sv_flat.specs.Assigned.{has_bit}
 use Rattle.std.specs.Int.{bit_at}
@@ -27,6 +27,18 @@ in_bits set s b = is_set (mask_in set s) b
 abbrev pub SharesBit : ℕ → ℕ → Type 0
 SharesBit a b = (k : ℕ) × IsTrue (is_set a k) × IsTrue (is_set b k)
 
+-- the first number has a bit that the second lacks
+abbrev pub LacksBit : ℕ → ℕ → Type 0
+LacksBit a b = (k : ℕ) × IsTrue (is_set a k) × IsFalse (is_set b k)
+
+-- the set has a bit of the signal
+abbrev pub has_some : Bits → ℕ → Bool
+has_some set s = not (mask_in set s == 0)
+
+-- entries of a map have the bit of the signal
+abbrev pub in_entries : List (ℕ × ℕ) → BitSet
+in_entries entries s b = list_any (λ (e : ℕ × ℕ). (e.0 == s) && is_set e.1 b) entries
+
 -- the plain forms of pieces, in order
 abbrev pub piece_forms : List Piece → List PieceForm
 piece_forms pieces = map piece_form pieces
@@ -34,6 +46,10 @@ piece_forms pieces = map piece_form pieces
 -- no piece is empty
 abbrev pub none_empty : List PieceForm → Bool
 none_empty pieces = list_all (λ (p : PieceForm). nat_le p.low p.high) pieces
+
+-- each piece has bits, all of them in a word
+abbrev pub AreOrdered : List PieceForm → Type 0
+AreOrdered pieces = All (λ (p : PieceForm). (p.low ≤ p.high) × (p.high < 64)) pieces
 
 -- the set has the bits of these pieces, and no others
 abbrev pub HoldsPieces : Bits → List PieceForm → Type 0

@@ -1,4 +1,7 @@
 pub mod Numbers
+pub mod ReadForms
+pub mod Scopes
+pub mod Phases
 pub mod Designs
 pub mod Tables
 pub mod Faults

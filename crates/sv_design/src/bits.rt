@@ -1,8 +1,8 @@
 // Sets of bits of signals, by what is in them.
-ghost use Rattle.std.specs.Prelude.{◌≡◌, ℕ, ◌<◌, ◌≤◌, ◌==◌, ◌&&◌, ◌||◌, nat_le, ◌↔◌, IsTrue, OnOk};
+ghost use Rattle.std.specs.Prelude.{◌≡◌, ℕ, ◌<◌, ◌≤◌, ◌==◌, ◌&&◌, ◌||◌, nat_le, ◌↔◌, IsTrue, IfOk, OnOk};
 ghost use Rattle.std.specs.List.{list_any};
 ghost use Rattle.sv_flat.specs.Assigned.{has_bit};
-ghost use Rattle.sv_design.specs.BitSets.{mask_in, is_set, in_bits, SharesBit};
+ghost use Rattle.sv_design.specs.BitSets.{mask_in, is_set, in_bits, SharesBit, LacksBit, has_some, piece_forms, AreOrdered};
 
 use std::alloc::{AllocError, Global};
 use std::collections::BTreeMap;
@@ -11,7 +11,7 @@ use sv_flat::{Piece, SigId, Signal};
 /// A set of bits of signals: for each signal with a bit in it, those bits as a number.
 #[derive(Drop)]
 pub struct Bits {
-    masks: BTreeMap<u32, u64>,
+    pub(crate) masks: BTreeMap<u32, u64>,
 }
 
 /// The bits from high down to low, as a number.
@@ -30,6 +30,13 @@ pub fn share(first: u64, second: u64) -> bool
     ensures { IsTrue result ↔ SharesBit first second }
 {
     first & second != 0
+}
+
+/// Whether the first number has a bit that the second lacks.
+pub fn lacks(first: u64, second: u64) -> bool
+    ensures { IsTrue result ↔ LacksBit first second }
+{
+    first & second != first
 }
 
 impl Bits {
@@ -59,5 +66,45 @@ impl Bits {
         let bits = self.of(signal) | mask;
         self.masks.insert(signal.0, bits)?;
         Ok(())
+    }
+
+    /// Whether the set has a bit of the signal.
+    pub fn has(&self, signal: SigId) -> bool
+        ensures { result ≡ has_some self.now signal.0 }
+    {
+        self.of(signal) != 0
+    }
+
+    /// Puts the bits of pieces into the set.
+    pub fn add_pieces(&mut self, pieces: &[Piece]) -> Result<(), AllocError>
+        requires { AreOrdered (piece_forms pieces.now) }
+        ensures { OnOk result ((s b : ℕ) → in_bits self.new s b ≡ (in_bits self.old s b || list_any (has_bit s b) (piece_forms pieces.now))) }
+    {
+        for piece in pieces {
+            self.add(piece.signal, mask(piece.high, piece.low))?;
+        }
+        Ok(())
+    }
+
+    /// Puts the bits of another set into this one.
+    pub fn add_all(&mut self, other: &Bits) -> Result<(), AllocError>
+        ensures { OnOk result ((s b : ℕ) → in_bits self.new s b ≡ (in_bits self.old s b || in_bits other.now s b)) }
+    {
+        for (signal, mask) in &other.masks {
+            self.add(SigId(*signal), *mask)?;
+        }
+        Ok(())
+    }
+
+    /// The bits that are in both sets.
+    pub fn common(&self, other: &Bits, alloc: Global) -> Result<Bits, AllocError>
+        ensures { IfOk result (λ both. (s b : ℕ) → in_bits both s b ≡ (in_bits self.now s b && in_bits other.now s b)) }
+    {
+        let mut both = Bits::new(alloc);
+        for (signal, mask) in &self.masks {
+            let signal = SigId(*signal);
+            both.add(signal, *mask & other.of(signal))?;
+        }
+        Ok(both)
     }
 }

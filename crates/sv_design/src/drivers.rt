@@ -1,7 +1,9 @@
 // Drivers, and the rules 603 and 604.
-ghost use Rattle.std.specs.Prelude.{not, ◌&&◌, is_none, if◌then◌else◌, [], ◌∷◌, ◌++◌, List, option_map, ◌≤◌, ◌+◌, ◌-◌, ◌^◌, ◌≡◌, ◌<◌, ◌==◌, length, IfOk, IsTrue};
+ghost use Rattle.std.specs.Prelude.{map, not, ◌&&◌, is_none, if◌then◌else◌, [], ◌∷◌, ◌++◌, List, option_map, ◌≤◌, ◌+◌, ◌-◌, ◌^◌, ◌≡◌, ◌<◌, ◌==◌, length, IfOk, IsTrue};
 ghost use Rattle.std.specs.List.{list_any, list_all};
-ghost use Rattle.sv_flat.specs.Design.{ProcessForm};
+ghost use Rattle.sv_flat.specs.Design.{ProcessForm, FlatDesign};
+ghost use Rattle.sv_flat.specs.Processes.{signal_numbers};
+ghost use Rattle.sv_flat.specs.SignalLists.{driver_of};
 ghost use Rattle.sv_flat.specs.Views.{design_of, process_form, flat_statement, flat_statements, chain_of};
 ghost use Rattle.sv_flat.specs.Soundness.{sound, process_sound};
 ghost use Rattle.sv_flat.specs.Assigned.{assigns};
@@ -217,4 +219,24 @@ pub fn first_undriven(flat: &Flat, clocks: &[bool], drivers: &Drivers) -> Option
         found = first_of(found, found_if(undriven, signal.place, SigId(i as u32)));
     }
     found
+}
+
+// The number of a driver.
+fn number_of(driver: Option<Driver>) -> Option<usize>
+    ensures { result ≡ option_map (λ d. d.process) driver }
+{
+    driver.map(|driver| driver.process)
+}
+
+/// For each signal, the number of its first driver.
+pub fn driver_numbers(alloc: Global, drivers: &Drivers) -> Result<Vec<Option<usize>>, AllocError>
+    ensures { IfOk result (λ numbers. (design : FlatDesign) → AreDriversOf design drivers.now
+        → numbers.items ≡ map (driver_of design) (signal_numbers design)) }
+{
+    let first = drivers.first.as_slice();
+    let mut numbers = Vec::with_capacity(alloc, first.len())?;
+    for i in 0..first.len() {
+        numbers.push(number_of(first[i]))?;
+    }
+    Ok(numbers)
 }

@@ -5,12 +5,15 @@
 
 mod assignments;
 mod bits;
+mod blocks;
 mod clocks;
 mod design;
 mod drivers;
 mod found;
 mod lists;
+mod names;
 mod processes;
+mod scopes;
 mod tables;
 
 pub use design::Design;

@@ -1,0 +1,321 @@
+// Rules 605 and 606: an `always @*` keeps nothing from one run to the next.
+ghost use Rattle.std.specs.Prelude.{◌≡◌, ◌≤◌, ◌<◌, ℕ, Bool, true, false, ◌&&◌, ◌||◌, nat_le, nat_lt, [], ◌∷◌, length, IfOk, IsTrue};
+ghost use Rattle.sv_flat.specs.Assigned.{assigns, always_assigns, can_assign};
+ghost use Rattle.sv_flat.specs.Blocks.{is_latched, latches, phase_faults};
+ghost use Rattle.sv_flat.specs.Design.{FlatStatement};
+ghost use Rattle.sv_flat.specs.Readings.{Reading, readings, readings_of};
+ghost use Rattle.sv_flat.specs.Soundness.{sound, statement_sound, well_formed};
+ghost use Rattle.sv_flat.specs.Views.{design_of, typed_tree, process_form, flat_statement, flat_statements, chain_of};
+ghost use Rattle.sv_design.specs.BitSets.{is_set, in_bits, has_some};
+ghost use Rattle.sv_design.specs.First.{FindsFirst};
+ghost use Rattle.sv_design.specs.declared.blocks.Asked.TheVariants.{Unassigned, Followed};
+ghost use Rattle.sv_design.specs.Phases.{is_wrong_read, bits_around, SameBits, is_early, IsAskedOf, FindsReads, latches_of, latches_in, phase_faults_of, phase_faults_in};
+ghost use Rattle.sv_design.specs.ReadForms.{read_form, read_forms, AreZeros};
+ghost use Rattle.sv_design.specs.Scopes.{in_scope};
+
+use crate::bits::{Bits, lacks, mask, share};
+use crate::found::{Found, first_of, found_if};
+use crate::names::{Read, names_in};
+use crate::scopes::Scope;
+use std::alloc::{AllocError, Global};
+use sv_flat::{FExpr, FStmt, Flat, ProcKind, Process, SigId};
+use sv_num::Place;
+
+/// What is asked of the reads of a block.
+#[derive(Clone, Copy)]
+pub enum Asked<'a> {
+    /// Whether one, of a signal with a bit in the set, has a bit that is not assigned yet.
+    Unassigned(&'a Bits),
+    /// Whether one has a bit that can be assigned again.
+    Followed,
+}
+
+// The bits of a signal of some width that are read, as a number.
+fn bits_read(width: u8, read: &Read) -> u64
+    requires { width ≤ 64 }
+    ensures { (b : ℕ) → is_set result b ≡ (nat_le read.now.low b && nat_le b read.now.high && nat_lt b width) }
+{
+    let width = u64::from(width);
+    if read.low > read.high || read.low >= width {
+        0
+    } else if read.high < width {
+        mask(read.high as u8, read.low as u8)
+    } else {
+        mask(width as u8 - 1, read.low as u8)
+    }
+}
+
+// Whether a read is wrong where some bits are around it.
+fn is_wrong(flat: &Flat, asked: Asked, read: &Read, around: &Scope) -> bool
+    requires sound { IsTrue (sound (design_of flat.now)) }
+    requires known { read.now.signal.0 < length flat.now.signals.items }
+    ensures { (body : FlatStatement) (reading : Reading) → IsAskedOf body asked.entry → reading.name ≡ read_form read.now
+        → SameBits (bits_around (is_early asked.entry) reading.assigned reading.follows) (in_scope around.now)
+        → result ≡ is_wrong_read (is_early asked.entry) (design_of flat.now).signals body reading }
+{
+    let bits = bits_read(flat.signals[read.signal.0 as usize].width, read);
+    let around = around.of(read.signal);
+    match asked {
+        Asked::Unassigned(assigned) => assigned.has(read.signal) & lacks(bits, around),
+        Asked::Followed => share(bits, around),
+    }
+}
+
+// The first wrong read of an expression.
+fn wrong_in(
+    alloc: Global,
+    flat: &Flat,
+    zeros: &[u64],
+    asked: Asked,
+    expr: &FExpr,
+    around: &Scope,
+) -> Result<Option<Found>, AllocError>
+    requires sound { IsTrue (sound (design_of flat.now)) }
+    requires zeros { AreZeros (length flat.now.signals.items) zeros.now }
+    requires formed { IsTrue (well_formed (design_of flat.now).signals (typed_tree expr.now)) }
+    ensures { IfOk result (λ found. (serves : ℕ → Bool)
+        → FindsReads (design_of flat.now).signals asked.entry (in_scope around.now) (readings_of (design_of flat.now).signals (typed_tree expr.now) serves) found) }
+{
+    let names = names_in(alloc, flat.signals.as_slice(), zeros, expr)?;
+    let mut found = None;
+    for read in &names {
+        let wrong = is_wrong(flat, asked, read, around);
+        found = first_of(found, found_if(wrong, read.place, read.signal));
+    }
+    Ok(found)
+}
+
+// The first read of a statement of a bit that is not assigned yet, of a signal with a bit in `assigned`, and the bits that every
+// path through the statement assigns.
+#[cycle(forward)]
+fn forward(
+    alloc: Global,
+    flat: &Flat,
+    zeros: &[u64],
+    assigned: &Bits,
+    stmt: &FStmt,
+    around: &Scope,
+) -> Result<(Option<Found>, Bits), AllocError>
+    requires sound { IsTrue (sound (design_of flat.now)) }
+    requires zeros { AreZeros (length flat.now.signals.items) zeros.now }
+    requires stmt { IsTrue (statement_sound (design_of flat.now).signals (flat_statement stmt.now)) }
+    ensures { IfOk result (λ both.
+        FindsReads (design_of flat.now).signals (Unassigned assigned.entry) (in_scope around.now) (readings (design_of flat.now).signals (flat_statement stmt.now)) both.0
+        × SameBits (in_bits both.1) (always_assigns (flat_statement stmt.now))) }
+{
+    let asked = Asked::Unassigned(assigned);
+    match stmt {
+        FStmt::Assign { pieces, value, .. } => {
+            let found = wrong_in(alloc, flat, zeros, asked, value, around)?;
+            let mut bits = Bits::new(alloc);
+            bits.add_pieces(pieces)?;
+            Ok((found, bits))
+        }
+        FStmt::Block(stmts) => forward_all(alloc, flat, zeros, assigned, stmts, around),
+        FStmt::If { cond, yes, no, .. } => {
+            let found = wrong_in(alloc, flat, zeros, asked, cond, around)?;
+            let (in_yes, by_yes) = forward(alloc, flat, zeros, assigned, yes, around)?;
+            let (in_no, by_no) = forward(alloc, flat, zeros, assigned, no, around)?;
+            let both = by_yes.common(&by_no, alloc)?;
+            Ok((first_of(first_of(found, in_yes), in_no), both))
+        }
+    }
+}
+
+// The same of some statements, one after the other.
+#[cycle(forward)]
+fn forward_all(
+    alloc: Global,
+    flat: &Flat,
+    zeros: &[u64],
+    assigned: &Bits,
+    stmts: &[FStmt],
+    around: &Scope,
+) -> Result<(Option<Found>, Bits), AllocError>
+    requires sound { IsTrue (sound (design_of flat.now)) }
+    requires zeros { AreZeros (length flat.now.signals.items) zeros.now }
+    requires stmts { IsTrue (statement_sound (design_of flat.now).signals (chain_of (flat_statements stmts.now))) }
+    ensures { IfOk result (λ both.
+        FindsReads (design_of flat.now).signals (Unassigned assigned.entry) (in_scope around.now) (readings (design_of flat.now).signals (chain_of (flat_statements stmts.now))) both.0
+        × SameBits (in_bits both.1) (always_assigns (chain_of (flat_statements stmts.now)))) }
+{
+    let mut found = None;
+    let mut here = Bits::new(alloc);
+    for stmt in stmts {
+        let around = Scope::Inside(&here, &*around);
+        let (other, bits) = forward(alloc, flat, zeros, assigned, stmt, &around)?;
+        found = first_of(found, other);
+        here.add_all(&bits)?;
+    }
+    Ok((found, here))
+}
+
+// The first read of a statement of a bit that can be assigned again, and the bits that the statement can assign.
+#[cycle(backward)]
+fn backward(
+    alloc: Global,
+    flat: &Flat,
+    zeros: &[u64],
+    stmt: &FStmt,
+    around: &Scope,
+) -> Result<(Option<Found>, Bits), AllocError>
+    requires sound { IsTrue (sound (design_of flat.now)) }
+    requires zeros { AreZeros (length flat.now.signals.items) zeros.now }
+    requires stmt { IsTrue (statement_sound (design_of flat.now).signals (flat_statement stmt.now)) }
+    ensures { IfOk result (λ both.
+        FindsReads (design_of flat.now).signals Followed (in_scope around.now) (readings (design_of flat.now).signals (flat_statement stmt.now)) both.0
+        × SameBits (in_bits both.1) (can_assign (flat_statement stmt.now))) }
+{
+    match stmt {
+        FStmt::Assign { pieces, value, .. } => {
+            let mut bits = Bits::new(alloc);
+            bits.add_pieces(pieces)?;
+            let inside = Scope::Inside(&bits, &*around);
+            let found = wrong_in(alloc, flat, zeros, Asked::Followed, value, &inside)?;
+            Ok((found, bits))
+        }
+        FStmt::Block(stmts) => backward_all(alloc, flat, zeros, stmts, around),
+        FStmt::If { cond, yes, no, .. } => {
+            let (in_yes, by_yes) = backward(alloc, flat, zeros, yes, around)?;
+            let (in_no, mut bits) = backward(alloc, flat, zeros, no, around)?;
+            bits.add_all(&by_yes)?;
+            let inside = Scope::Inside(&bits, &*around);
+            let found = wrong_in(alloc, flat, zeros, Asked::Followed, cond, &inside)?;
+            Ok((first_of(first_of(found, in_yes), in_no), bits))
+        }
+    }
+}
+
+// The same of some statements, one after the other.
+#[cycle(backward)]
+fn backward_all(
+    alloc: Global,
+    flat: &Flat,
+    zeros: &[u64],
+    stmts: &[FStmt],
+    around: &Scope,
+) -> Result<(Option<Found>, Bits), AllocError>
+    requires sound { IsTrue (sound (design_of flat.now)) }
+    requires zeros { AreZeros (length flat.now.signals.items) zeros.now }
+    requires stmts { IsTrue (statement_sound (design_of flat.now).signals (chain_of (flat_statements stmts.now))) }
+    ensures { IfOk result (λ both.
+        FindsReads (design_of flat.now).signals Followed (in_scope around.now) (readings (design_of flat.now).signals (chain_of (flat_statements stmts.now))) both.0
+        × SameBits (in_bits both.1) (can_assign (chain_of (flat_statements stmts.now)))) }
+{
+    let mut found = None;
+    let mut here = Bits::new(alloc);
+    for i in 0..stmts.len() {
+        let stmt = &stmts[stmts.len() - 1 - i];
+        let around = Scope::Inside(&here, &*around);
+        let (other, bits) = backward(alloc, flat, zeros, stmt, &around)?;
+        found = first_of(other, found);
+        here.add_all(&bits)?;
+    }
+    Ok((found, here))
+}
+
+// Whether a block assigns a bit of the signal, and some bit of it not on every path.
+fn is_latched(flat: &Flat, signal: SigId, assigned: &Bits, always: &Bits) -> bool
+    requires sound { IsTrue (sound (design_of flat.now)) }
+    ensures { (body : FlatStatement) → ((s : ℕ) → has_some assigned.now s ≡ assigns body s)
+        → SameBits (in_bits always.now) (always_assigns body) → result ≡ is_latched (design_of flat.now).signals body signal.0 }
+{
+    match flat.signals.get(signal.0 as usize) {
+        Some(declared) => {
+            let bits = mask(declared.width - 1, 0);
+            assigned.has(signal) & lacks(bits, always.of(signal))
+        }
+        None => false,
+    }
+}
+
+// The first signal that a block keeps from one run to the next.
+fn first_latch(flat: &Flat, place: Place, assigned: &Bits, always: &Bits) -> Option<Found>
+    requires sound { IsTrue (sound (design_of flat.now)) }
+    ensures { (body : FlatStatement) → IsTrue (statement_sound (design_of flat.now).signals body)
+        → ((s : ℕ) → has_some assigned.now s ≡ assigns body s) → SameBits (in_bits always.now) (always_assigns body)
+        → FindsFirst 605 (latches_of (design_of flat.now) place body) result }
+{
+    let mut found = None;
+    for signal in assigned.masks.keys() {
+        let signal = SigId(*signal);
+        let latched = is_latched(flat, signal, assigned, always);
+        found = first_of(found, found_if(latched, place, signal));
+    }
+    found
+}
+
+/// What breaks the rules 605 and 606 first.
+#[derive(Clone, Copy)]
+pub struct BlockFaults {
+    pub latch: Option<Found>,
+    pub phase: Option<Found>,
+}
+
+// What is wrong with a block.
+fn block_faults(
+    alloc: Global,
+    flat: &Flat,
+    zeros: &[u64],
+    process: &Process,
+) -> Result<BlockFaults, AllocError>
+    requires sound { IsTrue (sound (design_of flat.now)) }
+    requires zeros { AreZeros (length flat.now.signals.items) zeros.now }
+    requires body { IsTrue (statement_sound (design_of flat.now).signals (flat_statement process.now.body)) }
+    ensures { IfOk result (λ faults. FindsFirst 605 (latches_of (design_of flat.now) process.now.place (flat_statement process.now.body)) faults.latch
+        × FindsFirst 606 (phase_faults_of (design_of flat.now) (flat_statement process.now.body)) faults.phase) }
+{
+    let nothing = Scope::Nothing;
+    let (late, assigned) = backward(alloc, flat, zeros, &process.body, &nothing)?;
+    let (early, always) = forward(alloc, flat, zeros, &assigned, &process.body, &nothing)?;
+    Ok(BlockFaults {
+        latch: first_latch(flat, process.place, &assigned, &always),
+        phase: first_of(early, late),
+    })
+}
+
+// What is wrong with a process, where it is a block.
+fn process_faults(
+    alloc: Global,
+    flat: &Flat,
+    zeros: &[u64],
+    process: &Process,
+) -> Result<BlockFaults, AllocError>
+    requires sound { IsTrue (sound (design_of flat.now)) }
+    requires zeros { AreZeros (length flat.now.signals.items) zeros.now }
+    requires body { IsTrue (statement_sound (design_of flat.now).signals (flat_statement process.now.body)) }
+    ensures { IfOk result (λ faults. FindsFirst 605 (latches_in (design_of flat.now) (process_form process.now ∷ [])) faults.latch
+        × FindsFirst 606 (phase_faults_in (design_of flat.now) (process_form process.now ∷ [])) faults.phase) }
+{
+    if process.kind == ProcKind::Comb {
+        block_faults(alloc, flat, zeros, process)
+    } else {
+        Ok(BlockFaults {
+            latch: None,
+            phase: None,
+        })
+    }
+}
+
+// A value 0 for each signal.
+fn zeros_of(alloc: Global, flat: &Flat) -> Result<Vec<u64>, AllocError>
+    ensures { IfOk result (λ zeros. AreZeros (length flat.now.signals.items) zeros.items) }
+{
+    vec![in alloc; 0; flat.signals.len()]
+}
+
+/// The first block that breaks rule 605, and the first read that breaks rule 606.
+pub fn first_block_faults(alloc: Global, flat: &Flat) -> Result<BlockFaults, AllocError>
+    requires { IsTrue (sound (design_of flat.now)) }
+    ensures { IfOk result (λ faults. FindsFirst 605 (latches (design_of flat.now)) faults.latch × FindsFirst 606 (phase_faults (design_of flat.now)) faults.phase) }
+{
+    let zeros = zeros_of(alloc, flat)?;
+    let mut latch = None;
+    let mut phase = None;
+    for process in &flat.processes {
+        let faults = process_faults(alloc, flat, &zeros, process)?;
+        latch = first_of(latch, faults.latch);
+        phase = first_of(phase, faults.phase);
+    }
+    Ok(BlockFaults { latch, phase })
+}

@@ -1,0 +1,207 @@
+// The names in an expression.
+ghost use Rattle.std.specs.Prelude.{◌≡◌, ◌<◌, ◌≤◌, ◌^◌, ◌++◌, [], ◌∷◌, length, IsTrue, IfOk, OnOk};
+ghost use Rattle.sv_num.specs.Vectors.{as_number, is_negative};
+ghost use Rattle.sv_flat.specs.ByNumber.{signal_forms};
+ghost use Rattle.sv_flat.specs.Readings.{whole_read, bit_read, indexed_read, is_constant, are_constant, reads, parts_reads};
+ghost use Rattle.sv_flat.specs.Soundness.{well_formed, parts_well_formed};
+ghost use Rattle.sv_flat.specs.Views.{typed_tree, typed_trees, parts_of};
+ghost use Rattle.sv_design.specs.ReadForms.{read_form, read_forms, AreZeros};
+
+use std::alloc::{AllocError, Global};
+use sv_flat::{FExpr, FNode, SigId, Signal, value_of};
+use sv_num::Place;
+
+/// A name in an expression: its signal, its place, and from which bit down to which it is read; none are where the first is
+/// below the last.
+#[derive(Clone, Copy)]
+pub struct Read {
+    pub signal: SigId,
+    pub place: Place,
+    pub high: u64,
+    pub low: u64,
+}
+
+// The whole signal.
+fn whole(signals: &[Signal], signal: SigId, place: Place) -> Read
+    requires { signal.0 < length signals.now }
+    ensures { read_form result ≡ whole_read (signal_forms signals.now) signal.0 place }
+{
+    let width = u64::from(signals[signal.0 as usize].width);
+    Read {
+        signal,
+        place,
+        high: width.saturating_sub(1),
+        low: 0,
+    }
+}
+
+// Whether the expression names no signal.
+#[cycle(is_constant)]
+fn is_constant(expr: &FExpr) -> bool
+    ensures { result ≡ is_constant (typed_tree expr.now) }
+{
+    match &expr.node {
+        FNode::Number(_) => true,
+        FNode::Unary(_, operand) => is_constant(operand),
+        FNode::Binary(_, left, right) => is_constant(left) && is_constant(right),
+        FNode::Choice(_, cond, yes, no) => {
+            is_constant(cond) && is_constant(yes) && is_constant(no)
+        }
+        FNode::Join(parts) => are_constant(parts),
+        FNode::Repeat(_, parts) => are_constant(parts),
+        FNode::Slice(value, _, _) => is_constant(value),
+        _ => false,
+    }
+}
+
+#[cycle(is_constant)]
+fn are_constant(exprs: &[FExpr]) -> bool
+    ensures { result ≡ are_constant (parts_of (typed_trees exprs.now)) }
+{
+    for expr in exprs {
+        if !is_constant(expr) {
+            return false;
+        }
+    }
+    true
+}
+
+// Whether the number of a length stands for one below 0.
+fn is_below_zero(number: u64, length: u8, signed: bool) -> bool
+    requires some { 1 ≤ length }
+    requires few { length ≤ 64 }
+    requires low { number < 2 ^ length }
+    ensures { result ≡ is_negative length signed number }
+{
+    signed && number >> (length - 1) == 1
+}
+
+// The bit at a constant index of a length and sign.
+fn one_bit(signal: SigId, place: Place, number: u64, length: u8, signed: bool) -> Read
+    requires some { 1 ≤ length }
+    requires few { length ≤ 64 }
+    requires low { number < 2 ^ length }
+    ensures { read_form result ≡ bit_read signal.0 place (as_number length signed number) }
+{
+    if is_below_zero(number, length, signed) {
+        Read {
+            signal,
+            place,
+            high: 0,
+            low: 1,
+        }
+    } else {
+        Read {
+            signal,
+            place,
+            high: number,
+            low: number,
+        }
+    }
+}
+
+// The bit at an index.
+fn indexed(signals: &[Signal], zeros: &[u64], signal: SigId, place: Place, index: &FExpr) -> Read
+    requires known { signal.0 < length signals.now }
+    requires zeros { AreZeros (length signals.now) zeros.now }
+    requires formed { IsTrue (well_formed (signal_forms signals.now) (typed_tree index.now)) }
+    ensures { read_form result ≡ indexed_read (signal_forms signals.now) signal.0 place (typed_tree index.now) }
+{
+    if is_constant(index) {
+        let number = value_of(index, signals, zeros);
+        one_bit(signal, place, number, index.width, index.signed)
+    } else {
+        whole(signals, signal, place)
+    }
+}
+
+/// Adds the names in an expression, in textual order. A constant index has its value where each signal is 0.
+#[cycle(add_names)]
+pub fn add_names(
+    signals: &[Signal],
+    zeros: &[u64],
+    expr: &FExpr,
+    names: &mut Vec<Read>,
+) -> Result<(), AllocError>
+    requires zeros { AreZeros (length signals.now) zeros.now }
+    requires formed { IsTrue (well_formed (signal_forms signals.now) (typed_tree expr.now)) }
+    ensures { OnOk result (read_forms names.new.items ≡ read_forms names.old.items ++ reads (signal_forms signals.now) (typed_tree expr.now)) }
+{
+    match &expr.node {
+        FNode::Number(_) => Ok(()),
+        FNode::Signal(signal, place) => {
+            names.push(whole(signals, *signal, *place))?;
+            Ok(())
+        }
+        FNode::Bit(signal, place, index) => {
+            names.push(indexed(signals, zeros, *signal, *place, index))?;
+            add_names(signals, zeros, index, names)
+        }
+        FNode::Part(signal, place, high, low) => {
+            names.push(Read {
+                signal: *signal,
+                place: *place,
+                high: u64::from(*high),
+                low: u64::from(*low),
+            })?;
+            Ok(())
+        }
+        FNode::Unary(_, operand) => add_names(signals, zeros, operand, names),
+        FNode::Binary(_, left, right) => {
+            add_names(signals, zeros, left, names)?;
+            add_names(signals, zeros, right, names)
+        }
+        FNode::Choice(_, cond, yes, no) => {
+            add_names(signals, zeros, cond, names)?;
+            add_names(signals, zeros, yes, names)?;
+            add_names(signals, zeros, no, names)
+        }
+        FNode::Join(parts) => add_all_names(signals, zeros, parts, names),
+        FNode::Repeat(_, parts) => add_all_names(signals, zeros, parts, names),
+        FNode::Held(_, value) => add_names(signals, zeros, value, names),
+        FNode::HeldBit(_, _, value, index) => {
+            add_names(signals, zeros, value, names)?;
+            add_names(signals, zeros, index, names)
+        }
+        FNode::HeldPart(_, _, value, _, _) => add_names(signals, zeros, value, names),
+        FNode::Mend(_, old, _, _, piece) => {
+            add_names(signals, zeros, old, names)?;
+            add_names(signals, zeros, piece, names)
+        }
+        FNode::Slice(value, _, _) => add_names(signals, zeros, value, names),
+    }
+}
+
+// Adds the names in some expressions, in textual order.
+#[cycle(add_names)]
+fn add_all_names(
+    signals: &[Signal],
+    zeros: &[u64],
+    exprs: &[FExpr],
+    names: &mut Vec<Read>,
+) -> Result<(), AllocError>
+    requires zeros { AreZeros (length signals.now) zeros.now }
+    requires formed { IsTrue (parts_well_formed (signal_forms signals.now) (parts_of (typed_trees exprs.now))) }
+    ensures { OnOk result (read_forms names.new.items ≡ read_forms names.old.items ++ parts_reads (signal_forms signals.now) (parts_of (typed_trees exprs.now))) }
+{
+    for expr in exprs {
+        add_names(signals, zeros, expr, names)?;
+    }
+    Ok(())
+}
+
+/// The names in an expression, in textual order.
+pub fn names_in(
+    alloc: Global,
+    signals: &[Signal],
+    zeros: &[u64],
+    expr: &FExpr,
+) -> Result<Vec<Read>, AllocError>
+    requires zeros { AreZeros (length signals.now) zeros.now }
+    requires formed { IsTrue (well_formed (signal_forms signals.now) (typed_tree expr.now)) }
+    ensures { IfOk result (λ names. read_forms names.items ≡ reads (signal_forms signals.now) (typed_tree expr.now)) }
+{
+    let mut names = Vec::new(alloc);
+    add_names(signals, zeros, expr, &mut names)?;
+    Ok(names)
+}

@@ -73,6 +73,41 @@ fn refuses_a_divisor_of_0(rt: HostRuntime) -> Result<(), Fail> {
     Ok(())
 }
 
+// {3, 8'sh01}
+#[test]
+fn refuses_a_number_without_length_in_a_join(rt: HostRuntime) -> Result<(), Fail> {
+    let alloc = rt.alloc();
+    let mut parts = Vec::new(alloc);
+    parts.push(decimal(3, 2))?;
+    parts.push(byte(1, 5))?;
+    let expr = Expr::Join(at(1), parts);
+    let shaped = expr.is_shaped();
+    assert!(rt; shaped);
+    let typed = typed(alloc, &expr, &Scope::new(alloc), 0);
+    assert_eq!(rt;
+        format!(in alloc; "{typed:?}")?.as_str(),
+        "Err(Rule(Refusal { number: 407, place: Place { line: 1, column: 2 }, names: [] }))"
+    );
+    Ok(())
+}
+
+// {9{8'sh03}}
+#[test]
+fn refuses_a_replication_of_more_than_64_bits(rt: HostRuntime) -> Result<(), Fail> {
+    let alloc = rt.alloc();
+    let mut parts = Vec::new(alloc);
+    parts.push(byte(3, 4))?;
+    let expr = Expr::Repeat(at(1), Box::new(alloc, decimal(9, 2))?, parts);
+    let shaped = expr.is_shaped();
+    assert!(rt; shaped);
+    let typed = typed(alloc, &expr, &Scope::new(alloc), 0);
+    assert_eq!(rt;
+        format!(in alloc; "{typed:?}")?.as_str(),
+        "Err(Rule(Refusal { number: 402, place: Place { line: 1, column: 1 }, names: [] }))"
+    );
+    Ok(())
+}
+
 #[test]
 fn keeps_what_names_mean(rt: HostRuntime) -> Result<(), Fail> {
     let alloc = rt.alloc();

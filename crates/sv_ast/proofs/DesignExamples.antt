@@ -6,13 +6,19 @@ use Rattle.sv_num.specs.declared.operators.UnOp.TheVariants as unop
 use Rattle.sv_num.specs.declared.operators.BinOp.TheVariants as binop
 use Rattle.sv_system.specs.System.{System, Environment}
 use Rattle.sv_ast.specs.declared.declarations.DeclKind.TheVariants as kind
-use Rattle.sv_ast.specs.Tree.{ExpressionTree, unary, part_of, named_overrides, ordered_overrides, named_links, ordered_links, point_label, table_label, if_only, case_of, no_arms, declared, ItemTree, ModuleTree, TextTree}
+use Rattle.sv_ast.specs.Tree.{ExpressionTree, unary, part_of, named_overrides, ordered_overrides}
+use Rattle.sv_ast.specs.Tree.{named_links, ordered_links, point_label, table_label, if_only}
+use Rattle.sv_ast.specs.Tree.{case_of, no_arms, declared, ItemTree, ModuleTree, TextTree}
 use Rattle.sv_ast.specs.Values.{value, sign_of}
 use Rattle.sv_ast.specs.Runs.{run}
 use Rattle.sv_ast.specs.Parts.{Path, parts_from}
 use Rattle.sv_ast.specs.Processes.{processes_from}
 use Rattle.sv_ast.specs.Meaning.{system}
-use Rattle.sv_ast.proofs.SmallTrees.{somewhere, decimal_of, sized_of, name, op, to, to_part, puts, begin_end, either, arm, bits, declaration_with, declares, input, output, output_reg, parameter_with, assigns_to, whenever, on_edge, link, sets, stands, module_with, text_of, key, map_with, row, names, paths, paths_are, gets, gets_later}
+use Rattle.sv_ast.proofs.SmallTrees.{somewhere, decimal_of, sized_of, name, op, to, to_part, puts}
+use Rattle.sv_ast.proofs.SmallTrees.{begin_end, either, arm, bits, declaration_with, declares}
+use Rattle.sv_ast.proofs.SmallTrees.{input, output, output_reg, parameter_with, assigns_to}
+use Rattle.sv_ast.proofs.SmallTrees.{whenever, on_edge, link, sets, stands, module_with, text_of}
+use Rattle.sv_ast.proofs.SmallTrees.{key, map_with, row, names, paths, paths_are, gets, gets_later}
 
 abbrev Design : Type 0
 Design = System Path (List ℕ)
@@ -63,7 +69,8 @@ nested = text_of (module_with "m" []
     (whenever (either (name "a")
     (either (name "b") (gets "y" (decimal_of 1)) (gets "y" (decimal_of 2)))
     (gets "y" (decimal_of 3)))
-    ∷ assigns_to "d" (op binop.Sub (op binop.Sub (decimal_of 7) (decimal_of 2)) (decimal_of 1)) ∷ [])
+    ∷ assigns_to "d" (op binop.Sub (op binop.Sub (decimal_of 7) (decimal_of 2))
+    (decimal_of 1)) ∷ [])
     ∷ [])
 
 pub both_are_one : after_all (system nested None) (paths_are (("a", 1) ∷ ("b", 1) ∷ []))
@@ -97,7 +104,8 @@ turned = text_of (module_with "m" [] (input (bits 2) "s" ∷ output_reg (bits 2)
     (arm (decimal_of 3 ∷ []) (gets "y" (decimal_of 0)) no_arms))))) ∷ [])
     ∷ [])
 
-pub complete_case : map (λ s. after_all (system turned None) (paths_are (("s", s) ∷ []))) (0 ∷ 1 ∷ 2 ∷ 3 ∷ [])
+pub complete_case : map (λ s. after_all (system turned None) (paths_are (("s", s) ∷ [])))
+    (0 ∷ 1 ∷ 2 ∷ 3 ∷ [])
     ≡ (0 ∷ 3 ∷ []) ∷ (1 ∷ 2 ∷ []) ∷ (2 ∷ 1 ∷ []) ∷ (3 ∷ 0 ∷ []) ∷ []
 unfolding system parts_from processes_from run value sign_of
 complete_case = refl
@@ -107,16 +115,21 @@ complete_case = refl
 abbrev counter : ModuleTree
 counter = module_with "cnt" (parameter_with false false None "W" (decimal_of 2) ∷ [])
     (input None "clk" ∷ input None "en"
-    ∷ output_reg (Some (record { high = op binop.Sub (name "W") (decimal_of 1); low = decimal_of 0 })) "q" ∷ [])
+    ∷ output_reg (Some (record {
+      high = op binop.Sub (name "W") (decimal_of 1);
+      low = decimal_of 0;
+    })) "q" ∷ [])
     (on_edge "clk" (if_only somewhere (name "en")
     (gets_later "q" (op binop.Add (name "q") (decimal_of 1)))) ∷ [])
 
 abbrev two_counters : TextTree
 two_counters = text_of (counter
-    ∷ module_with "top" [] (input None "clk" ∷ input None "en" ∷ output (bits 4) "a" ∷ output (bits 8) "b" ∷ [])
+    ∷ module_with "top" []
+    (input None "clk" ∷ input None "en" ∷ output (bits 4) "a" ∷ output (bits 8) "b" ∷ [])
     (stands "cnt" (named_overrides (sets "W" (decimal_of 4) ∷ [])) "u"
     (named_links
-    (link "clk" (Some (name "clk")) ∷ link "en" (Some (name "en")) ∷ link "q" (Some (name "a")) ∷ []))
+    (link "clk" (Some (name "clk")) ∷ link "en" (Some (name "en")) ∷
+    link "q" (Some (name "a")) ∷ []))
     ∷ stands "cnt" (ordered_overrides (decimal_of 8 ∷ [])) "v"
     (ordered_links (name "clk" ∷ name "en" ∷ name "b" ∷ [])) ∷ [])
     ∷ [])
@@ -176,7 +189,8 @@ literals = text_of (module_with "m" []
     (output (bits 8) "a" ∷ output (bits 64) "b" ∷ output None "c" ∷ output None "d" ∷ [])
     (assigns_to "a" (sized_of 8 false 0xff) ∷ assigns_to "b" (sized_of 64 false 0xffffffffffffffff)
     ∷ assigns_to "c" (op binop.Lt (unary unop.Minus somewhere (decimal_of 1)) (decimal_of 0))
-    ∷ assigns_to "d" (op binop.Lt (sized_of 8 false 255) (unary unop.Minus somewhere (decimal_of 1))) ∷ [])
+    ∷ assigns_to "d" (op binop.Lt (sized_of 8 false 255)
+    (unary unop.Minus somewhere (decimal_of 1))) ∷ [])
     ∷ [])
 
 pub literals_are_sized : after_all (system literals None) (paths_are [])
@@ -212,7 +226,8 @@ earlier_values = text_of (module_with "m" []
     (input None "a" ∷ input None "h" ∷ output_reg None "y" ∷ output_reg None "z" ∷ [])
     (declared (declares kind.Reg None "t")
     ∷ whenever (begin_end
-    (gets "t" (name "h") ∷ gets "z" (name "t") ∷ gets "t" (name "a") ∷ gets "y" (name "t") ∷ [])) ∷ [])
+    (gets "t" (name "h") ∷ gets "z" (name "t") ∷ gets "t" (name "a") ∷
+    gets "y" (name "t") ∷ [])) ∷ [])
     ∷ [])
 
 pub each_read_in_its_place : after_all (system earlier_values None) (paths_are (("h", 1) ∷ []))
@@ -229,10 +244,12 @@ by_pairs = record {
       ∷ map_with "Two" (bits 1) (row (key 0) (Some (key 0)) "L" ∷ []) (Some "H") ∷ [];
   modules = module_with "m" []
       (input None "p"
-      ∷ declaration_with kind.Input false None (Some (table_label (codes "Dom") (codes "p") None somewhere)) "q"
+      ∷ declaration_with kind.Input false None
+      (Some (table_label (codes "Dom") (codes "p") None somewhere)) "q"
       ∷ declaration_with kind.Input false None
       (Some (table_label (codes "Two") (codes "p") (Some (codes "q")) somewhere)) "d"
-      ∷ declaration_with kind.OutputWire false None (Some (point_label (codes "H") somewhere)) "y" ∷ [])
+      ∷ declaration_with kind.OutputWire false None (Some (point_label (codes "H") somewhere))
+      "y" ∷ [])
       (assigns_to "y" (name "d") ∷ [])
       ∷ [];
 }
@@ -289,12 +306,14 @@ pub one_link : length (system lanes None).processes ≡ 1
 unfolding system parts_from processes_from
 one_link = refl
 
--- The order of the processes: item by item, of an instance its links and then what stands inside it.
+-- The order of the processes: item by item, of an instance its links and then what stands inside
+-- it.
 
 -- module s(input i, output o); wire m = ~i; assign o = ~m; endmodule
 abbrev two_inverters : ModuleTree
 two_inverters = module_with "s" [] (input None "i" ∷ output None "o" ∷ [])
-    (declared (record (declares kind.Wire None "m") { value = Some (unary unop.Invert somewhere (name "i")) })
+    (declared (record (declares kind.Wire None "m")
+    { value = Some (unary unop.Invert somewhere (name "i")) })
     ∷ assigns_to "o" (unary unop.Invert somewhere (name "m")) ∷ [])
 
 abbrev inverters_between : String → String → String → ItemTree
@@ -326,7 +345,8 @@ order_of_the_walk = refl
 -- an `assign`, an instance and a `wire` in textual order; what is clocked is none of the processes
 abbrev items_between : TextTree
 items_between = text_of (two_inverters
-    ∷ module_with "t" [] (input None "clk" ∷ input None "d" ∷ output None "y" ∷ output None "z" ∷ [])
+    ∷ module_with "t" []
+    (input None "clk" ∷ input None "d" ∷ output None "y" ∷ output None "z" ∷ [])
     (declared (declares kind.Reg None "q") ∷ assigns_to "y" (name "q")
     ∷ on_edge "clk" (gets_later "q" (name "d")) ∷ inverters_between "u" "q" "z"
     ∷ declared (record (declares kind.Wire None "w") { value = Some (name "d") }) ∷ [])

@@ -23,5 +23,7 @@ text_of text = in_tokens (λ ts. option_map (λ r. r.0) (read_text all_limits ts
 
 -- an example names this one definition to compute with all of them
 unfoldable pub read : List ℕ → Option TextTree
-unfolding front_at word_of name_at system_name_at block_comment_at directive_at number_at unsized_number_at sign_of sign_text sign_at is_refused_word IsExpression IsItem IsModule IsLattice IsMap IsText BeginText
+unfolding front_at word_of name_at system_name_at block_comment_at directive_at number_at
+    unsized_number_at sign_of sign_text sign_at is_refused_word IsExpression IsItem IsModule
+    IsLattice IsMap IsText BeginText
 read text = text_of text

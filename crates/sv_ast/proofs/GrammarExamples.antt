@@ -1,5 +1,5 @@
--- What the tokens of expressions and statements mean, by examples: each tree is the one that the reader finds, and its type says
--- that the relation holds of what it finds.
+-- What the tokens of expressions and statements mean, by examples: each tree is the one that the
+-- reader finds, and its type says that the relation holds of what it finds.
 use Rattle.std.proofs.Common.{◌≡◌, ℕ, true, false, List, [], ◌∷◌, ◌++◌, Option, Some, refl}
 use Rattle.std.specs.Prelude.{codes, option_map, flat_map, replicate, is_some}
 use Rattle.sv_num.specs.declared.faults.Place.{Place}
@@ -7,17 +7,24 @@ use Rattle.sv_num.specs.declared.operators.UnOp.TheVariants as unop
 use Rattle.sv_num.specs.declared.operators.BinOp.TheVariants as binop
 use Rattle.sv_token.specs.Lexemes.{Literal}
 use Rattle.sv_token.specs.Lexed.{lexed}
-use Rattle.sv_ast.specs.Tree.{ExpressionTree, literal, named, bit_of, part_of, unary, binary, choice, join, replication, no_expressions, more_expressions, Selection, whole, bit_at, part_from, TargetTree, StatementTree, null, assignment, block, if_only, if_else, case_of, no_statements, more_statements, no_arms, more_arms}
+use Rattle.sv_ast.specs.Tree.{ExpressionTree, literal, named, bit_of, part_of, unary, binary}
+use Rattle.sv_ast.specs.Tree.{choice, join, replication, no_expressions, more_expressions}
+use Rattle.sv_ast.specs.Tree.{Selection, whole, bit_at, part_from, TargetTree, StatementTree, null}
+use Rattle.sv_ast.specs.Tree.{assignment, block, if_only, if_else, case_of, no_statements}
+use Rattle.sv_ast.specs.Tree.{more_statements, no_arms, more_arms}
 use Rattle.sv_ast.specs.GrammarRules.{all_limits}
 use Rattle.sv_ast.proofs.GrammarComputed.{read, in_tokens}
 use Rattle.sv_ast.proofs.GrammarReadsExpressions.{steps_for, read_expression}
 use Rattle.sv_ast.proofs.GrammarReadsStatements.{read_statement}
 
 abbrev pub expression_of : List ℕ → Option ExpressionTree
-expression_of text = in_tokens (λ ts. option_map (λ r. r.0) (read_expression all_limits 0 ts)) (lexed text)
+expression_of text =
+    in_tokens (λ ts. option_map (λ r. r.0) (read_expression all_limits 0 ts)) (lexed text)
 
 abbrev pub statement_of : List ℕ → Option StatementTree
-statement_of text = in_tokens (λ ts. option_map (λ r. r.0) (read_statement (steps_for ts) all_limits 0 ts)) (lexed text)
+statement_of text =
+    in_tokens (λ ts. option_map (λ r. r.0) (read_statement (steps_for ts) all_limits 0 ts))
+    (lexed text)
 
 abbrev pub at : ℕ → Place
 at n = record { line = 1; column = n }
@@ -51,7 +58,8 @@ e n = name (codes "e") n
 -- ---- operators
 
 pub left_nested : expression_of (codes "7 - 2 - 1")
-    ≡ Some (binary binop.Sub (at 7) (binary binop.Sub (at 3) (number 7 1) (number 2 5)) (number 1 9))
+    ≡ Some (binary binop.Sub (at 7) (binary binop.Sub (at 3) (number 7 1) (number 2 5))
+    (number 1 9))
 unfolding read
 left_nested = refl
 
@@ -67,13 +75,15 @@ by_levels = refl
 
 pub loosest_last : expression_of (codes "a * b + c << d < e")
     ≡ Some (binary binop.Lt (at 16)
-    (binary binop.Shl (at 11) (binary binop.Add (at 7) (binary binop.Mul (at 3) (a 1) (b 5)) (c 9)) (d 14))
+    (binary binop.Shl (at 11)
+    (binary binop.Add (at 7) (binary binop.Mul (at 3) (a 1) (b 5)) (c 9)) (d 14))
     (e 18))
 unfolding read
 loosest_last = refl
 
 pub logic_binds_loosest : expression_of (codes "a || b && c ^~ d")
-    ≡ Some (binary binop.LogicOr (at 3) (a 1) (binary binop.LogicAnd (at 8) (b 6) (binary binop.Xnor (at 13) (c 11) (d 16))))
+    ≡ Some (binary binop.LogicOr (at 3) (a 1)
+    (binary binop.LogicAnd (at 8) (b 6) (binary binop.Xnor (at 13) (c 11) (d 16))))
 unfolding read
 logic_binds_loosest = refl
 
@@ -83,7 +93,8 @@ unfolding read
 unary_before_binary = refl
 
 pub unary_of_unary : expression_of (codes "! ~& a & &b")
-    ≡ Some (binary binop.And (at 8) (unary unop.LogicNot (at 1) (unary unop.Nand (at 3) (a 6))) (unary unop.And (at 10) (b 11)))
+    ≡ Some (binary binop.And (at 8) (unary unop.LogicNot (at 1) (unary unop.Nand (at 3) (a 6)))
+    (unary unop.And (at 10) (b 11)))
 unfolding read
 unary_of_unary = refl
 
@@ -100,7 +111,8 @@ unfolding read
 choice_in_a_choice = refl
 
 pub choice_binds_loosest : expression_of (codes "a || b ? c : d + e")
-    ≡ Some (choice (at 8) (binary binop.LogicOr (at 3) (a 1) (b 6)) (c 10) (binary binop.Add (at 16) (d 14) (e 18)))
+    ≡ Some (choice (at 8) (binary binop.LogicOr (at 3) (a 1) (b 6)) (c 10)
+    (binary binop.Add (at 16) (d 14) (e 18)))
 unfolding read
 choice_binds_loosest = refl
 
@@ -126,14 +138,17 @@ joined = refl
 
 pub repeated : expression_of (codes "{2{a, {b}}}")
     ≡ Some (replication (at 1) (number 2 2)
-    (more_expressions (a 4) (more_expressions (join (at 7) (more_expressions (b 8) no_expressions)) no_expressions)))
+    (more_expressions (a 4)
+    (more_expressions (join (at 7) (more_expressions (b 8) no_expressions)) no_expressions)))
 unfolding read
 repeated = refl
 
 -- ---- levels
 
 abbrev in_groups : ℕ → List ℕ
-in_groups n = flat_map (λ p. p) (replicate n (codes "(")) ++ codes "a" ++ flat_map (λ p. p) (replicate n (codes ")"))
+in_groups n =
+    flat_map (λ p. p) (replicate n (codes "(")) ++ codes "a" ++ flat_map (λ p.
+    p) (replicate n (codes ")"))
 
 pub levels_up_to_64 : is_some (expression_of (in_groups 64)) ≡ true
 unfolding read
@@ -148,7 +163,9 @@ abbrev pub sets : List ℕ → ℕ → ExpressionTree → StatementTree
 sets x n v = assignment (target x n whole ∷ []) (at n) true v
 
 pub else_to_the_nearest_if : statement_of (codes "if (a) if (b) y = 1; else y = 0;")
-    ≡ Some (if_only (at 1) (a 5) (if_else (at 8) (b 12) (sets (codes "y") 15 (number 1 19)) (sets (codes "y") 27 (number 0 31))))
+    ≡ Some (if_only (at 1) (a 5)
+    (if_else (at 8) (b 12) (sets (codes "y") 15 (number 1 19))
+    (sets (codes "y") 27 (number 0 31))))
 unfolding read
 else_to_the_nearest_if = refl
 
@@ -160,13 +177,15 @@ unfolding read
 each_if_with_its_else = refl
 
 pub else_behind_a_block : statement_of (codes "if (a) begin if (b) ; end else ;")
-    ≡ Some (if_else (at 1) (a 5) (block (more_statements (if_only (at 14) (b 18) null) no_statements)) null)
+    ≡ Some (if_else (at 1) (a 5)
+    (block (more_statements (if_only (at 14) (b 18) null) no_statements)) null)
 unfolding read
 else_behind_a_block = refl
 
 pub block_with_a_name : statement_of (codes "begin : e q[1] <= a <= b; end")
     ≡ Some (block (more_statements
-    (assignment (target (codes "q") 11 (bit_at (number 1 13)) ∷ []) (at 11) false (binary binop.Le (at 21) (a 19) (b 24)))
+    (assignment (target (codes "q") 11 (bit_at (number 1 13)) ∷ []) (at 11) false
+    (binary binop.Le (at 21) (a 19) (b 24)))
     no_statements))
 unfolding read
 block_with_a_name = refl

@@ -1,5 +1,7 @@
--- Binary operators in a row nest in one way: a written expression is determined by its operands and operators in their order.
-use Rattle.std.proofs.Common.{◌≡◌, ℕ, ◌-◌, Bool, true, false, ◌&&◌, List, [], ◌∷◌, ◌++◌, ◌⊎◌, inl, inr, ⊎_elim, refl, sym, ap, subst, ◌∙◌, arith}
+-- Binary operators in a row nest in one way: a written expression is determined by its operands and
+-- operators in their order.
+use Rattle.std.proofs.Common.{◌≡◌, ℕ, ◌-◌, Bool, true, false, ◌&&◌, List, [], ◌∷◌, ◌++◌, ◌⊎◌, inl}
+use Rattle.std.proofs.Common.{inr, ⊎_elim, refl, sym, ap, subst, ◌∙◌, arith}
 use Rattle.std.specs.Prelude.{IsTrue, nat_le, nat_lt}
 use Rattle.std.specs.List.{list_all}
 use Rattle.std.proofs.lemmas.Bool.{false≢true}
@@ -10,7 +12,8 @@ use Rattle.sv_num.specs.declared.faults.Place.{Place}
 use Rattle.sv_ast.specs.GrammarGroups.{Written, binary, level_of, binding}
 
 -- a place in two splits of a list: it is the same one, or one of them stands before the other
-abbrev pub Splits : {A : Type 0} → (before : List A) → A → (after front : List A) → A → (back : List A) → Type 0
+abbrev pub Splits : {A : Type 0} → (before : List A) → A → (after front : List A) → A →
+    (back : List A) → Type 0
 Splits {A} before x after front y back =
     ((us : List A) × (front ≡ (before ++ x ∷ []) ++ us))
     ⊎ ((us : List A) × (before ≡ (front ++ y ∷ []) ++ us))
@@ -25,7 +28,8 @@ splits (u ∷ us) x after (v ∷ vs) y back same =
     let heads : u ≡ v = cc in
     let tails : us ++ x ∷ after ≡ vs ++ y ∷ back = cc in
     ⊎_elim (λ first. inl (first.0, cc))
-    (λ others. ⊎_elim (λ second. inr (inl (second.0, cc))) (λ one. inr (inr (cc, one.1, one.2))) others)
+    (λ others. ⊎_elim (λ second. inr (inl (second.0, cc))) (λ one.
+    inr (inr (cc, one.1, one.2))) others)
     (splits us x after vs y back tails)
 
 -- what stands in a row: operands and binary operators
@@ -39,7 +43,9 @@ pieces w = operand w ∷ []
 
 -- operands of binary operators bind as they must
 abbrev pub IsNested : Written → Type 0
-IsNested (binary op p a b) = IsTrue (nat_le (binding a) (level_of op) && nat_lt (binding b) (level_of op)) × IsNested a × IsNested b
+IsNested (binary op p a b) =
+    IsTrue (nat_le (binding a) (level_of op) && nat_lt (binding b) (level_of op)) × IsNested a
+    × IsNested b
 IsNested w = Unit {0}
 
 -- an operator of this level at most, or an operand
@@ -67,24 +73,31 @@ not_both a b some up down = grind arith
 less_le : (a b : ℕ) → IsTrue (nat_lt a b) → IsTrue (nat_le a b)
 less_le a b less = grind arith
 
-all_append : {A : Type 0} (test : A → Bool) (xs ys : List A) → IsTrue (list_all test xs) → IsTrue (list_all test ys) → IsTrue (list_all test (xs ++ ys))
+all_append : {A : Type 0} (test : A → Bool) (xs ys : List A) → IsTrue (list_all test xs) →
+    IsTrue (list_all test ys) → IsTrue (list_all test (xs ++ ys))
 all_append test [] ys first second = second
 all_append test (x ∷ xs) ys first second =
     let parts = true_parts (test x) (list_all test xs) first in
     true_both (test x) (list_all test (xs ++ ys)) parts.0 (all_append test xs ys parts.1 second)
 
-all_behind : {A : Type 0} (test : A → Bool) (xs : List A) (y : A) (ys : List A) → IsTrue (list_all test (xs ++ y ∷ ys)) → IsTrue (test y)
+all_behind : {A : Type 0} (test : A → Bool) (xs : List A) (y : A) (ys : List A) →
+    IsTrue (list_all test (xs ++ y ∷ ys)) → IsTrue (test y)
 all_behind test [] y ys all = (true_parts (test y) (list_all test ys) all).0
-all_behind test (x ∷ xs) y ys all = all_behind test xs y ys (true_parts (test x) (list_all test (xs ++ y ∷ ys)) all).1
+all_behind test (x ∷ xs) y ys all =
+    all_behind test xs y ys (true_parts (test x) (list_all test (xs ++ y ∷ ys)) all).1
 
 -- the operators of an expression bind at least as tight as it does
-levels_of_pieces : (v : ℕ) (w : Written) → IsTrue (nat_le (binding w) v) → IsNested w → IsTrue (list_all (is_at_most v) (pieces w))
+levels_of_pieces : (v : ℕ) (w : Written) → IsTrue (nat_le (binding w) v) → IsNested w →
+    IsTrue (list_all (is_at_most v) (pieces w))
 levels_of_pieces v (binary op p a b) tight nested =
-    let parts = true_parts (nat_le (binding a) (level_of op)) (nat_lt (binding b) (level_of op)) nested.0 in
+    let parts = true_parts (nat_le (binding a) (level_of op)) (nat_lt (binding b) (level_of op))
+    nested.0 in
     all_append (is_at_most v) (pieces a) (operator op p ∷ pieces b)
     (levels_of_pieces v a (le_le (binding a) (level_of op) v parts.0 tight) nested.1)
     (true_both (nat_le (level_of op) v) (list_all (is_at_most v) (pieces b)) tight
-    (levels_of_pieces v b (le_le (binding b) (level_of op) v (less_le (binding b) (level_of op) parts.1) tight) nested.2))
+    (levels_of_pieces v b
+    (le_le (binding b) (level_of op) v (less_le (binding b) (level_of op) parts.1) tight)
+    nested.2))
 levels_of_pieces v _ tight nested = refl
 
 -- every level counts from 1
@@ -106,28 +119,38 @@ cancel : {A : Type 0} (xs ys zs : List A) → xs ++ ys ≡ xs ++ zs → ys ≡ z
 cancel [] ys zs same = same
 cancel (x ∷ xs) ys zs same = cancel xs ys zs cc
 
-no_row_of_one : (op : BinOp) (p : Place) (a b w : Written) → pieces a ++ operator op p ∷ pieces b ≡ operand w ∷ [] → ⊥
+no_row_of_one : (op : BinOp) (p : Place) (a b w : Written) →
+    pieces a ++ operator op p ∷ pieces b ≡ operand w ∷ [] → ⊥
 no_row_of_one op p a b w same =
     let (x, xs, first) = some_pieces a in
-    let row : x ∷ (xs ++ operator op p ∷ pieces b) ≡ operand w ∷ [] = subst (λ ys. ys ++ operator op p ∷ pieces b ≡ operand w ∷ []) first same in
+    let row : x ∷ (xs ++ operator op p ∷ pieces b) ≡ operand w ∷ [] =
+    subst (λ ys. ys ++ operator op p ∷ pieces b ≡ operand w ∷ []) first same in
     not_empty xs (operator op p) (pieces b) cc
 
 -- an expression whose operator stands on the right of another's in the same row binds tighter
 no_later : (op : BinOp) (p : Place) (a b : Written) (oq : BinOp) (q : Place) (c d : Written)
     → IsNested (binary op p a b) → IsNested (binary oq q c d) → (us : List Piece)
-    → pieces c ≡ (pieces a ++ operator op p ∷ []) ++ us → pieces a ++ operator op p ∷ pieces b ≡ pieces c ++ operator oq q ∷ pieces d → ⊥
+    → pieces c ≡ (pieces a ++ operator op p ∷ []) ++ us
+    → pieces a ++ operator op p ∷ pieces b ≡ pieces c ++ operator oq q ∷ pieces d → ⊥
 no_later op p a b oq q c d nested nested_too us longer same =
-    let parts = true_parts (nat_le (binding a) (level_of op)) (nat_lt (binding b) (level_of op)) nested.0 in
-    let parts_too = true_parts (nat_le (binding c) (level_of oq)) (nat_lt (binding d) (level_of oq)) nested_too.0 in
-    let row : pieces c ≡ pieces a ++ operator op p ∷ us = longer ∙ append_assoc (pieces a) (operator op p ∷ []) us in
+    let parts = true_parts (nat_le (binding a) (level_of op)) (nat_lt (binding b) (level_of op))
+    nested.0 in
+    let parts_too = true_parts (nat_le (binding c) (level_of oq)) (nat_lt (binding d) (level_of oq))
+    nested_too.0 in
+    let row : pieces c ≡ pieces a ++ operator op p ∷ us =
+    longer ∙ append_assoc (pieces a) (operator op p ∷ []) us in
     let up : IsTrue (nat_le (level_of op) (level_of oq)) =
     all_behind (is_at_most (level_of oq)) (pieces a) (operator op p) us
-    (subst (λ ys. IsTrue (list_all (is_at_most (level_of oq)) ys)) row (levels_of_pieces (level_of oq) c parts_too.0 nested_too.1)) in
-    let rest : pieces a ++ operator op p ∷ pieces b ≡ pieces a ++ operator op p ∷ (us ++ operator oq q ∷ pieces d) =
-    same ∙ ap (λ ys. ys ++ operator oq q ∷ pieces d) row ∙ append_assoc (pieces a) (operator op p ∷ us) (operator oq q ∷ pieces d) in
+    (subst (λ ys. IsTrue (list_all (is_at_most (level_of oq)) ys)) row
+    (levels_of_pieces (level_of oq) c parts_too.0 nested_too.1)) in
+    let rest : pieces a ++ operator op p ∷ pieces b ≡
+    pieces a ++ operator op p ∷ (us ++ operator oq q ∷ pieces d) =
+    same ∙ ap (λ ys. ys ++ operator oq q ∷ pieces d) row
+    ∙ append_assoc (pieces a) (operator op p ∷ us) (operator oq q ∷ pieces d) in
     let right : pieces b ≡ us ++ operator oq q ∷ pieces d =
     cancel (operator op p ∷ []) (pieces b) (us ++ operator oq q ∷ pieces d)
-    (cancel (pieces a) (operator op p ∷ pieces b) (operator op p ∷ (us ++ operator oq q ∷ pieces d)) rest) in
+    (cancel (pieces a) (operator op p ∷ pieces b) (operator op p ∷ (us ++ operator oq q ∷ pieces d))
+    rest) in
     let down : IsTrue (nat_le (level_of oq) (level_of op - 1)) =
     all_behind (is_at_most (level_of op - 1)) us (operator oq q) (pieces d)
     (subst (λ ys. IsTrue (list_all (is_at_most (level_of op - 1)) ys)) right
@@ -138,7 +161,8 @@ no_later op p a b oq q c d nested nested_too us longer same =
 pub one_nesting : (w v : Written) → IsNested w → IsNested v → pieces w ≡ pieces v → w ≡ v
 one_nesting (binary op p a b) (binary oq q c d) nested nested_too same =
     ⊎_elim (λ first. absurd (no_later op p a b oq q c d nested nested_too first.0 first.1 same))
-    (λ others. ⊎_elim (λ second. absurd (no_later oq q c d op p a b nested_too nested second.0 second.1 (sym same)))
+    (λ others. ⊎_elim (λ second.
+    absurd (no_later oq q c d op p a b nested_too nested second.0 second.1 (sym same)))
     (λ one.
     let lefts : a ≡ c = one_nesting a c nested.1 nested_too.1 one.0 in
     let rights : b ≡ d = one_nesting b d nested.2 nested_too.2 one.2 in
@@ -146,5 +170,6 @@ one_nesting (binary op p a b) (binary oq q c d) nested nested_too same =
     cc) others)
     (splits (pieces a) (operator op p) (pieces b) (pieces c) (operator oq q) (pieces d) same)
 one_nesting (binary op p a b) v nested nested_too same = absurd (no_row_of_one op p a b v same)
-one_nesting w (binary oq q c d) nested nested_too same = absurd (no_row_of_one oq q c d w (sym same))
+one_nesting w (binary oq q c d) nested nested_too same =
+    absurd (no_row_of_one oq q c d w (sym same))
 one_nesting w v nested nested_too same = cc

@@ -1,5 +1,7 @@
--- A token is determined by its place in a list, and so is the rest behind it; and which tokens end an expression.
-use Rattle.std.proofs.Common.{◌≡◌, ℕ, Bool, true, false, List, [], ◌∷◌, Option, Some, None, refl, sym, ap, subst, ◌∙◌}
+-- A token is determined by its place in a list, and so is the rest behind it; and which tokens end
+-- an expression.
+use Rattle.std.proofs.Common.{◌≡◌, ℕ, Bool, true, false, List, [], ◌∷◌, Option, Some, None, refl}
+use Rattle.std.proofs.Common.{sym, ap, subst, ◌∙◌}
 use Rattle.std.specs.Prelude.{IsTrue}
 use Rattle.std.proofs.lemmas.Bool.{false≢true}
 use Rattle.sv_num.specs.declared.operators.BinOp.{BinOp}
@@ -9,7 +11,8 @@ use Rattle.sv_token.specs.declared.signs.SignKind.{SignKind}
 use Rattle.sv_token.specs.declared.signs.SignKind.TheVariants as signs
 use Rattle.sv_token.specs.declared.signs.Operator.{Operator}
 use Rattle.sv_token.specs.Lexemes.{Lexeme, word, identifier, numeral, sign, Literal, Placed}
-use Rattle.sv_ast.specs.GrammarForms.{lexeme_at, name_at, number_at, sign_at, a_sign, binary_operator, unary_operator, binary_at, unary_at}
+use Rattle.sv_ast.specs.GrammarForms.{lexeme_at, name_at, number_at, sign_at, a_sign}
+use Rattle.sv_ast.specs.GrammarForms.{binary_operator, unary_operator, binary_at, unary_at}
 
 -- ---- one token
 
@@ -17,27 +20,33 @@ abbrev placed : Lexeme → Place → Placed
 placed x p = record { lexeme = x; place = p }
 
 -- a token's lexeme and place, and the rest behind it, are determined
-pub one_lexeme : (x y : Lexeme) (p q : Place) (ts rest others : List Placed) → lexeme_at x p ts rest → lexeme_at y q ts others → (x ≡ y) × (p ≡ q) × (rest ≡ others)
+pub one_lexeme : (x y : Lexeme) (p q : Place) (ts rest others : List Placed) →
+    lexeme_at x p ts rest → lexeme_at y q ts others → (x ≡ y) × (p ≡ q) × (rest ≡ others)
 one_lexeme x y p q ts rest others first second =
     let both : placed x p ∷ rest ≡ placed y q ∷ others = sym first ∙ second in
     let heads : placed x p ≡ placed y q = cc in
     (ap (λ (t : Placed). t.lexeme) heads, ap (λ (t : Placed). t.place) heads, cc)
 
-pub one_sign : (s : SignKind) (ts rest others : List Placed) → a_sign s ts rest → a_sign s ts others → rest ≡ others
-one_sign s ts rest others first second = (one_lexeme (sign s) (sign s) first.0 second.0 ts rest others first.1 second.1).2
+pub one_sign : (s : SignKind) (ts rest others : List Placed) → a_sign s ts rest →
+    a_sign s ts others → rest ≡ others
+one_sign s ts rest others first second =
+    (one_lexeme (sign s) (sign s) first.0 second.0 ts rest others first.1 second.1).2
 
-pub one_sign_at : (s : SignKind) (p q : Place) (ts rest others : List Placed) → sign_at s p ts rest → sign_at s q ts others → (p ≡ q) × (rest ≡ others)
+pub one_sign_at : (s : SignKind) (p q : Place) (ts rest others : List Placed) →
+    sign_at s p ts rest → sign_at s q ts others → (p ≡ q) × (rest ≡ others)
 one_sign_at s p q ts rest others first second =
     let one = one_lexeme (sign s) (sign s) p q ts rest others first second in
     (one.1, one.2)
 
-pub one_name : (x y : List ℕ) (p q : Place) (ts rest others : List Placed) → name_at x p ts rest → name_at y q ts others → (x ≡ y) × (p ≡ q) × (rest ≡ others)
+pub one_name : (x y : List ℕ) (p q : Place) (ts rest others : List Placed) → name_at x p ts rest →
+    name_at y q ts others → (x ≡ y) × (p ≡ q) × (rest ≡ others)
 one_name x y p q ts rest others first second =
     let one = one_lexeme (identifier x) (identifier y) p q ts rest others first.1 second.1 in
     let names : identifier x ≡ identifier y = one.0 in
     (cc, one.1, one.2)
 
-pub one_number : (x y : Literal) (p q : Place) (ts rest others : List Placed) → number_at x p ts rest → number_at y q ts others → (x ≡ y) × (p ≡ q) × (rest ≡ others)
+pub one_number : (x y : Literal) (p q : Place) (ts rest others : List Placed) →
+    number_at x p ts rest → number_at y q ts others → (x ≡ y) × (p ≡ q) × (rest ≡ others)
 one_number x y p q ts rest others first second =
     let one = one_lexeme (numeral x) (numeral y) p q ts rest others first second in
     let numbers : numeral x ≡ numeral y = one.0 in
@@ -49,15 +58,19 @@ some_same x y same = cc
 operator_same : (o r : Operator) → sign (signs.Operator o) ≡ sign (signs.Operator r) → o ≡ r
 operator_same o r same = cc
 
-pub one_binary : (x y : BinOp) (p q : Place) (ts rest others : List Placed) → binary_at x p ts rest → binary_at y q ts others → (x ≡ y) × (p ≡ q) × (rest ≡ others)
+pub one_binary : (x y : BinOp) (p q : Place) (ts rest others : List Placed) →
+    binary_at x p ts rest → binary_at y q ts others → (x ≡ y) × (p ≡ q) × (rest ≡ others)
 one_binary x y p q ts rest others first second =
-    let one = one_lexeme (sign (signs.Operator first.0)) (sign (signs.Operator second.0)) p q ts rest others first.2 second.2 in
+    let one = one_lexeme (sign (signs.Operator first.0)) (sign (signs.Operator second.0)) p q ts
+    rest others first.2 second.2 in
     let operators = operator_same first.0 second.0 one.0 in
     (some_same x y (sym first.1 ∙ ap binary_operator operators ∙ second.1), one.1, one.2)
 
-pub one_unary : (x y : UnOp) (p q : Place) (ts rest others : List Placed) → unary_at x p ts rest → unary_at y q ts others → (x ≡ y) × (p ≡ q) × (rest ≡ others)
+pub one_unary : (x y : UnOp) (p q : Place) (ts rest others : List Placed) → unary_at x p ts rest →
+    unary_at y q ts others → (x ≡ y) × (p ≡ q) × (rest ≡ others)
 one_unary x y p q ts rest others first second =
-    let one = one_lexeme (sign (signs.Operator first.0)) (sign (signs.Operator second.0)) p q ts rest others first.2 second.2 in
+    let one = one_lexeme (sign (signs.Operator first.0)) (sign (signs.Operator second.0)) p q ts
+    rest others first.2 second.2 in
     let operators = operator_same first.0 second.0 one.0 in
     (some_same x y (sym first.1 ∙ ap unary_operator operators ∙ second.1), one.1, one.2)
 
@@ -108,10 +121,12 @@ next_bracket [] next = tt
 next_bracket (t ∷ ts) next = row_bracket t.lexeme next
 
 -- a token that is there says whether it ends an expression
-pub next_at : (test : Lexeme → Bool) (x : Lexeme) (p : Place) (ts rest : List Placed) → lexeme_at x p ts rest → IsTrue (test x) → NextIs test ts
+pub next_at : (test : Lexeme → Bool) (x : Lexeme) (p : Place) (ts rest : List Placed) →
+    lexeme_at x p ts rest → IsTrue (test x) → NextIs test ts
 next_at test x p ts rest at passes = subst (NextIs test) (sym at) passes
 
-pub next_not : (test : Lexeme → Bool) (x : Lexeme) (p : Place) (ts rest : List Placed) → lexeme_at x p ts rest → test x ≡ false → NextIs test ts → ⊥
+pub next_not : (test : Lexeme → Bool) (x : Lexeme) (p : Place) (ts rest : List Placed) →
+    lexeme_at x p ts rest → test x ≡ false → NextIs test ts → ⊥
 next_not test x p ts rest at fails next =
     let passes : IsTrue (test x) = subst (NextIs test) at next in
     false≢true (sym fails ∙ passes)

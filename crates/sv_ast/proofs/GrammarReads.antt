@@ -1,5 +1,7 @@
--- Readers of forms: each gives what it read, what is left, and the proof that the form stands there.
-use Rattle.std.proofs.Common.{◌≡◌, ℕ, zero, suc, Bool, true, false, not, List, [], ◌∷◌, Option, Some, None, inl, inr, refl, ap}
+-- Readers of forms: each gives what it read, what is left, and the proof that the form stands
+-- there.
+use Rattle.std.proofs.Common.{◌≡◌, ℕ, zero, suc, Bool, true, false, not, List, [], ◌∷◌, Option}
+use Rattle.std.proofs.Common.{Some, None, inl, inr, refl, ap}
 use Rattle.std.specs.Prelude.{IsTrue}
 use Rattle.sv_num.specs.declared.faults.Place.{Place}
 use Rattle.sv_num.specs.declared.operators.UnOp.{UnOp}
@@ -11,7 +13,10 @@ use Rattle.sv_token.specs.declared.signs.SignKind.TheVariants as signs
 use Rattle.sv_token.specs.declared.signs.Operator.{Operator}
 use Rattle.sv_token.specs.Lexemes.{Lexeme, word, identifier, numeral, sign, Literal, Placed}
 use Rattle.sv_token.specs.Words.{is_refused_word}
-use Rattle.sv_ast.specs.GrammarForms.{Form, ◌⨾◌, optional, perhaps, each, some, lexeme_at, word_at, sign_at, number_at, name_at, a_word, a_sign, a_number, a_name, flag, binary_operator, unary_operator, binary_at, unary_at, listed, later, commas}
+use Rattle.sv_ast.specs.GrammarForms.{Form, ◌⨾◌, optional, perhaps, each, some, lexeme_at, word_at}
+use Rattle.sv_ast.specs.GrammarForms.{sign_at, number_at, name_at, a_word, a_sign, a_number, a_name}
+use Rattle.sv_ast.specs.GrammarForms.{flag, binary_operator, unary_operator, binary_at, unary_at}
+use Rattle.sv_ast.specs.GrammarForms.{listed, later, commas}
 
 infixl 10 ◌>>=◌
 abbrev pub ◌>>=◌ : {A B : Type 0} → Option A → (A → Option B) → Option B
@@ -84,7 +89,8 @@ the_sign signs.At signs.At = Some refl
 the_sign s t = None
 
 -- a lexeme with what it is
-abbrev pub read_lexeme : (ts : List Placed) → Option ((x : Lexeme) × (p : Place) × (rest : List Placed) × lexeme_at x p ts rest)
+abbrev pub read_lexeme : (ts : List Placed) →
+    Option ((x : Lexeme) × (p : Place) × (rest : List Placed) × lexeme_at x p ts rest)
 read_lexeme [] = None
 read_lexeme (t ∷ ts) = Some (t.lexeme, t.place, ts, refl)
 
@@ -104,13 +110,15 @@ abbrev pub as_number : (x : Lexeme) → Option ((v : Literal) × (x ≡ numeral 
 as_number (numeral v) = Some (v, refl)
 as_number x = None
 
-abbrev pub as_name : (x : Lexeme) → Option ((n : List ℕ) × IsTrue (not (is_refused_word n)) × (x ≡ identifier n))
+abbrev pub as_name : (x : Lexeme) →
+    Option ((n : List ℕ) × IsTrue (not (is_refused_word n)) × (x ≡ identifier n))
 as_name (identifier n) = do
   free ← check (not (is_refused_word n))
   Some (n, free, refl)
 as_name x = None
 
-abbrev pub at_lexeme : (t : Placed) (ts : List Placed) {x : Lexeme} → t.lexeme ≡ x → lexeme_at x t.place (t ∷ ts) ts
+abbrev pub at_lexeme : (t : Placed) (ts : List Placed) {x : Lexeme} → t.lexeme ≡ x →
+    lexeme_at x t.place (t ∷ ts) ts
 at_lexeme t ts e = ap (λ x. record { lexeme = x; place = t.place } ∷ ts) e
 
 abbrev pub read_word_at : (w : WordKind) (ts : List Placed) → Reads (word_at w) ts
@@ -135,7 +143,8 @@ read_sign s ts = do
   r ← read_sign_at s ts
   Some (r.1, (r.0, r.2))
 
-abbrev pub read_number_at : (ts : List Placed) → Option ((v : Literal) × (p : Place) × (rest : List Placed) × number_at v p ts rest)
+abbrev pub read_number_at : (ts : List Placed) →
+    Option ((v : Literal) × (p : Place) × (rest : List Placed) × number_at v p ts rest)
 read_number_at [] = None
 read_number_at (t ∷ ts) = do
   e ← as_number t.lexeme
@@ -146,7 +155,8 @@ read_number ts = do
   r ← read_number_at ts
   Some (r.0, r.2, (r.1, r.3))
 
-abbrev pub read_name_at : (ts : List Placed) → Option ((n : List ℕ) × (p : Place) × (rest : List Placed) × name_at n p ts rest)
+abbrev pub read_name_at : (ts : List Placed) →
+    Option ((n : List ℕ) × (p : Place) × (rest : List Placed) × name_at n p ts rest)
 read_name_at [] = None
 read_name_at (t ∷ ts) = do
   e ← as_name t.lexeme
@@ -168,25 +178,31 @@ abbrev pub operator_with : {A : Type 0} (found : Option A) → Option ((a : A) �
 operator_with (Some a) = Some (a, refl)
 operator_with None = None
 
-abbrev pub as_binary : (x : Lexeme) → Option ((op : BinOp) × (o : Operator) × (binary_operator o ≡ Some op) × (x ≡ sign (signs.Operator o)))
+abbrev pub as_binary : (x : Lexeme) →
+    Option ((op : BinOp) × (o : Operator) × (binary_operator o ≡ Some op)
+    × (x ≡ sign (signs.Operator o)))
 as_binary (sign (signs.Operator o)) = do
   found ← operator_with (binary_operator o)
   Some (found.0, o, found.1, refl)
 as_binary x = None
 
-abbrev pub as_unary : (x : Lexeme) → Option ((op : UnOp) × (o : Operator) × (unary_operator o ≡ Some op) × (x ≡ sign (signs.Operator o)))
+abbrev pub as_unary : (x : Lexeme) →
+    Option ((op : UnOp) × (o : Operator) × (unary_operator o ≡ Some op)
+    × (x ≡ sign (signs.Operator o)))
 as_unary (sign (signs.Operator o)) = do
   found ← operator_with (unary_operator o)
   Some (found.0, o, found.1, refl)
 as_unary x = None
 
-abbrev pub read_binary_at : (ts : List Placed) → Option ((op : BinOp) × (p : Place) × (rest : List Placed) × binary_at op p ts rest)
+abbrev pub read_binary_at : (ts : List Placed) →
+    Option ((op : BinOp) × (p : Place) × (rest : List Placed) × binary_at op p ts rest)
 read_binary_at [] = None
 read_binary_at (t ∷ ts) = do
   e ← as_binary t.lexeme
   Some (e.0, t.place, ts, (e.1, e.2, at_lexeme t ts e.3))
 
-abbrev pub read_unary_at : (ts : List Placed) → Option ((op : UnOp) × (p : Place) × (rest : List Placed) × unary_at op p ts rest)
+abbrev pub read_unary_at : (ts : List Placed) →
+    Option ((op : UnOp) × (p : Place) × (rest : List Placed) × unary_at op p ts rest)
 read_unary_at [] = None
 read_unary_at (t ∷ ts) = do
   e ← as_unary t.lexeme
@@ -194,31 +210,37 @@ read_unary_at (t ∷ ts) = do
 
 -- ---- options and lists
 
-abbrev pub read_perhaps : {A : Type 0} {P : A → Form} → ((ts : List Placed) → Reads P ts) → (ts : List Placed) → Reads (perhaps P) ts
+abbrev pub read_perhaps : {A : Type 0} {P : A → Form} → ((ts : List Placed) → Reads P ts) →
+    (ts : List Placed) → Reads (perhaps P) ts
 read_perhaps read ts = otherwise (do
   r ← read ts
   Some (Some r.0, r.1, r.2)) (λ _. Some (None, ts, refl))
 
-abbrev pub read_optional : {P : Form} → ((ts : List Placed) → Stands P ts) → (ts : List Placed) → Stands (optional P) ts
+abbrev pub read_optional : {P : Form} → ((ts : List Placed) → Stands P ts) → (ts : List Placed) →
+    Stands (optional P) ts
 read_optional read ts = otherwise (do
   r ← read ts
   Some (r.0, inl r.1)) (λ _. Some (ts, inr refl))
 
 -- at most so many
-abbrev pub read_each : {A : Type 0} {P : A → Form} → ((ts : List Placed) → Reads P ts) → ℕ → (ts : List Placed) → Reads (each P) ts
+abbrev pub read_each : {A : Type 0} {P : A → Form} → ((ts : List Placed) → Reads P ts) → ℕ →
+    (ts : List Placed) → Reads (each P) ts
 read_each read zero ts = Some ([], ts, refl)
 read_each read (suc k) ts = otherwise (do
   r ← read ts
   more ← read_each read k r.1
   Some (r.0 ∷ more.0, more.1, (r.1, r.2, more.2))) (λ _. Some ([], ts, refl))
 
-abbrev pub read_some : {A : Type 0} {P : A → Form} → ((ts : List Placed) → Reads P ts) → ℕ → (ts : List Placed) → Reads (some P) ts
+abbrev pub read_some : {A : Type 0} {P : A → Form} → ((ts : List Placed) → Reads P ts) → ℕ →
+    (ts : List Placed) → Reads (some P) ts
 read_some read k ts = do
   r ← read ts
   more ← read_each read k r.1
   Some (r.0 ∷ more.0, more.1, (r.1, r.2, more.2))
 
-abbrev pub read_later : {A : Type 0} {L : A → A → Form} → ((a : A) (ts : List Placed) → Reads (L a) ts) → ℕ → (a : A) (ts : List Placed) → Reads (later L a) ts
+abbrev pub read_later : {A : Type 0} {L : A → A → Form} →
+    ((a : A) (ts : List Placed) → Reads (L a) ts) → ℕ → (a : A) (ts : List Placed) →
+    Reads (later L a) ts
 read_later read zero a ts = Some ([], ts, refl)
 read_later read (suc k) a ts = otherwise (do
   c ← read_sign signs.Comma ts
@@ -226,24 +248,30 @@ read_later read (suc k) a ts = otherwise (do
   more ← read_later read k r.0 r.1
   Some (r.0 ∷ more.0, more.1, (c.0, c.1, (r.1, r.2, more.2)))) (λ _. Some ([], ts, refl))
 
-abbrev pub read_listed : {A : Type 0} {F : A → Form} {L : A → A → Form} → ((ts : List Placed) → Reads F ts) → ((a : A) (ts : List Placed) → Reads (L a) ts) → ℕ → (ts : List Placed) → Reads (listed F L) ts
+abbrev pub read_listed : {A : Type 0} {F : A → Form} {L : A → A → Form} →
+    ((ts : List Placed) → Reads F ts) → ((a : A) (ts : List Placed) → Reads (L a) ts) → ℕ →
+    (ts : List Placed) → Reads (listed F L) ts
 read_listed first read k ts = do
   r ← first ts
   more ← read_later read k r.0 r.1
   Some (r.0 ∷ more.0, more.1, (r.1, r.2, more.2))
 
-abbrev pub read_commas : {A : Type 0} {P : A → Form} → ((ts : List Placed) → Reads P ts) → ℕ → (ts : List Placed) → Reads (commas P) ts
+abbrev pub read_commas : {A : Type 0} {P : A → Form} → ((ts : List Placed) → Reads P ts) → ℕ →
+    (ts : List Placed) → Reads (commas P) ts
 read_commas {A} {P} read k ts = read_listed {F = P} {L = λ a. P} read (λ _. read) k ts
 
 -- a form between two signs
-abbrev pub read_between : {P : Form} (s t : SignKind) → ((ts : List Placed) → Stands P ts) → (ts : List Placed) → Stands (a_sign s ⨾ P ⨾ a_sign t) ts
+abbrev pub read_between : {P : Form} (s t : SignKind) → ((ts : List Placed) → Stands P ts) →
+    (ts : List Placed) → Stands (a_sign s ⨾ P ⨾ a_sign t) ts
 read_between s t read ts = do
   a ← read_sign s ts
   r ← read a.0
   b ← read_sign t r.0
   Some (b.0, (a.0, a.1, (r.0, r.1, b.1)))
 
-abbrev pub read_tree_between : {A : Type 0} {P : A → Form} (s t : SignKind) → ((ts : List Placed) → Reads P ts) → (ts : List Placed) → Reads (λ a. a_sign s ⨾ P a ⨾ a_sign t) ts
+abbrev pub read_tree_between : {A : Type 0} {P : A → Form} (s t : SignKind) →
+    ((ts : List Placed) → Reads P ts) → (ts : List Placed) →
+    Reads (λ a. a_sign s ⨾ P a ⨾ a_sign t) ts
 read_tree_between s t read ts = do
   a ← read_sign s ts
   r ← read a.0

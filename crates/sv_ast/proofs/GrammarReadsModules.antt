@@ -1,5 +1,6 @@
 -- Readers of declarations, items, modules and whole texts.
-use Rattle.std.proofs.Common.{◌≡◌, Bool, true, false, List, [], ◌∷◌, ◌++◌, length, map, Option, Some, None, inl, inr, refl, subst}
+use Rattle.std.proofs.Common.{◌≡◌, Bool, true, false, List, [], ◌∷◌, ◌++◌, length, map, Option}
+use Rattle.std.proofs.Common.{Some, None, inl, inr, refl, subst}
 use Rattle.std.specs.Prelude.{flat_map}
 use Rattle.sv_num.specs.declared.operators.BinOp.TheVariants as binop
 use Rattle.sv_token.specs.declared.keywords.WordKind.TheVariants as words
@@ -7,15 +8,37 @@ use Rattle.sv_token.specs.declared.signs.SignKind.TheVariants as signs
 use Rattle.sv_token.specs.Lexemes.{Placed}
 use Rattle.sv_ast.specs.declared.declarations.DeclKind.{DeclKind}
 use Rattle.sv_ast.specs.declared.declarations.DeclKind.TheVariants as kinds
-use Rattle.sv_ast.specs.Tree.{literal, whole, SpanTree, LabelTree, point_label, table_label, ParameterTree, memory_point, by_index, named_overrides, ordered_overrides, named_links, ordered_links, parameter_item, declared, memory_item, continuous, released, always_item, invariant_item, instance_item, TextTree}
-use Rattle.sv_ast.specs.GrammarForms.{Form, ◌⨾◌, ◌or◌, given, nothing, optional, perhaps, flag, some, a_word, a_sign, a_name, in_parentheses}
+use Rattle.sv_ast.specs.Tree.{literal, whole, SpanTree, LabelTree, point_label, table_label}
+use Rattle.sv_ast.specs.Tree.{ParameterTree, memory_point, by_index, named_overrides}
+use Rattle.sv_ast.specs.Tree.{ordered_overrides, named_links, ordered_links, parameter_item}
+use Rattle.sv_ast.specs.Tree.{declared, memory_item, continuous, released, always_item}
+use Rattle.sv_ast.specs.Tree.{invariant_item, instance_item, TextTree}
+use Rattle.sv_ast.specs.GrammarForms.{Form, ◌⨾◌, ◌or◌, given, nothing, optional, perhaps, flag}
+use Rattle.sv_ast.specs.GrammarForms.{some, a_word, a_sign, a_name, in_parentheses}
 use Rattle.sv_ast.specs.GrammarExpressions.{Limits}
-use Rattle.sv_ast.specs.GrammarDeclarations.{IsValue, IsRange, IsLabel, equals, IsParameterType, IsParameter, IsLaterParameter, AreParameters, IsHeaderParameter, AreHeaderParameters, AreAlike, IsPortKind, IsNamedPort, IsPort, ArePorts, IsSignalKind, IsSignalValue, IsNamedSignal, IsSignal, AreSignals, IsMemoryLabel, IsMemory}
-use Rattle.sv_ast.specs.GrammarModules.{IsPlacedName, IsWholeTarget, IsContinuous, AreContinuous, IsReleased, IsEvent, IsAlways, place_of, IsInvariant, IsNamedOverride, hash_parentheses, AreOverrides, IsNamedLink, AreLinks, IsNamedInstance, IsInstance, AreOfOneModule, AreInstances, IsListedItem, IsItem, AreItems, IsModule, points, pair, IsLatticeLine, points_of, pairs_of, IsLattice, IsNumber, IsKeyRange, IsKey, IsRow, IsMap, IsText}
+use Rattle.sv_ast.specs.GrammarDeclarations.{IsValue, IsRange, IsLabel, equals, IsParameterType}
+use Rattle.sv_ast.specs.GrammarDeclarations.{IsParameter, IsLaterParameter, AreParameters}
+use Rattle.sv_ast.specs.GrammarDeclarations.{IsHeaderParameter, AreHeaderParameters, AreAlike}
+use Rattle.sv_ast.specs.GrammarDeclarations.{IsPortKind, IsNamedPort, IsPort, ArePorts}
+use Rattle.sv_ast.specs.GrammarDeclarations.{IsSignalKind, IsSignalValue, IsNamedSignal, IsSignal}
+use Rattle.sv_ast.specs.GrammarDeclarations.{AreSignals, IsMemoryLabel, IsMemory}
+use Rattle.sv_ast.specs.GrammarModules.{IsPlacedName, IsWholeTarget, IsContinuous, AreContinuous}
+use Rattle.sv_ast.specs.GrammarModules.{IsReleased, IsEvent, IsAlways, place_of, IsInvariant}
+use Rattle.sv_ast.specs.GrammarModules.{IsNamedOverride, hash_parentheses, AreOverrides}
+use Rattle.sv_ast.specs.GrammarModules.{IsNamedLink, AreLinks, IsNamedInstance, IsInstance}
+use Rattle.sv_ast.specs.GrammarModules.{AreOfOneModule, AreInstances, IsListedItem, IsItem}
+use Rattle.sv_ast.specs.GrammarModules.{AreItems, IsModule, points, pair, IsLatticeLine, points_of}
+use Rattle.sv_ast.specs.GrammarModules.{pairs_of, IsLattice, IsNumber, IsKeyRange, IsKey, IsRow}
+use Rattle.sv_ast.specs.GrammarModules.{IsMap, IsText}
 use Rattle.sv_ast.specs.GrammarRules.{BeginText}
-use Rattle.sv_ast.proofs.GrammarReads.{◌>>=◌, otherwise, Reads, read_word, read_word_at, read_sign, read_number_at, read_name, read_name_at, read_flag, read_perhaps, read_optional, read_each, read_some, read_later, read_listed, read_commas, read_between, read_tree_between}
+use Rattle.sv_ast.proofs.GrammarReads.{◌>>=◌, otherwise, Reads, read_word, read_word_at, read_sign}
+use Rattle.sv_ast.proofs.GrammarReads.{read_number_at, read_name, read_name_at, read_flag}
+use Rattle.sv_ast.proofs.GrammarReads.{read_perhaps, read_optional, read_each, read_some}
+use Rattle.sv_ast.proofs.GrammarReads.{read_later, read_listed, read_commas, read_between}
+use Rattle.sv_ast.proofs.GrammarReads.{read_tree_between}
 use Rattle.sv_ast.proofs.GrammarReadsExpressions.{steps_for, read_expression}
-use Rattle.sv_ast.proofs.GrammarReadsStatements.{read_operator, read_targets, first_place, read_statement}
+use Rattle.sv_ast.proofs.GrammarReadsStatements.{read_operator, read_targets, first_place}
+use Rattle.sv_ast.proofs.GrammarReadsStatements.{read_statement}
 
 -- ---- types
 
@@ -29,7 +52,14 @@ read_range l ts = do
   colon ← read_sign signs.Colon high.1
   low ← read_value l colon.0
   c ← read_sign signs.CloseBracket low.1
-  Some (record { high = high.0; low = low.0 }, c.0, (o.0, o.1, (low.1, (high.1, high.2, (colon.0, colon.1, low.2)), c.1)))
+  Some (
+    record {
+      high = high.0;
+      low = low.0;
+    },
+    c.0,
+    (o.0, o.1, (low.1, (high.1, high.2, (colon.0, colon.1, low.2)), c.1)),
+  )
 
 abbrev pub read_comma_name : (ts : List Placed) → Reads (λ x. a_sign signs.Comma ⨾ a_name x) ts
 read_comma_name ts = do
@@ -59,7 +89,8 @@ abbrev Typed : Limits → Bool → Option SpanTree → Option LabelTree → Form
 Typed l s r b = flag words.Signed s ⨾ perhaps (IsRange l) r ⨾ perhaps IsLabel b
 
 abbrev read_typed : (l : Limits) (ts : List Placed)
-    → Option ((s : Bool) × (r : Option SpanTree) × (b : Option LabelTree) × (rest : List Placed) × Typed l s r b ts rest)
+    → Option ((s : Bool) × (r : Option SpanTree) × (b : Option LabelTree) × (rest : List Placed)
+    × Typed l s r b ts rest)
 read_typed l ts = do
   s ← read_flag words.Signed ts
   r ← read_perhaps {P = IsRange l} (read_range l) s.1
@@ -75,7 +106,8 @@ read_equals l ts = do
 -- ---- parameters
 
 abbrev read_parameter_type : (l : Limits) (ts : List Placed)
-    → Option ((s : Bool) × (r : Option SpanTree) × (rest : List Placed) × IsParameterType l s r ts rest)
+    → Option ((s : Bool) × (r : Option SpanTree) × (rest : List Placed)
+    × IsParameterType l s r ts rest)
 read_parameter_type l ts = do
   s ← read_flag words.Signed ts
   otherwise (do
@@ -84,7 +116,8 @@ read_parameter_type l ts = do
 
 -- a parameter by this word
 abbrev read_parameter_by : (local : Bool) (l : Limits) (ts : List Placed)
-    → Option ((q : ParameterTree) × (rest : List Placed) × (q.local ≡ local) × IsParameter l q ts rest)
+    → Option ((q : ParameterTree) × (rest : List Placed) × (q.local ≡ local)
+    × IsParameter l q ts rest)
 read_parameter_by true l ts = do
   w ← read_word words.Localparam ts
   t ← read_parameter_type l w.0
@@ -115,24 +148,36 @@ read_parameter l ts = otherwise (do
     q ← read_parameter_by true l ts
     Some (q.0, q.1, q.3)))
 
-abbrev pub read_later_parameter : (l : Limits) (before : ParameterTree) (ts : List Placed) → Reads (IsLaterParameter l before) ts
+abbrev pub read_later_parameter : (l : Limits) (before : ParameterTree) (ts : List Placed) →
+    Reads (IsLaterParameter l before) ts
 read_later_parameter l before ts = do
   x ← read_name_at ts
   e ← read_equals l x.2
-  Some (record before { name = x.0; place = x.1; value = e.0 }, e.1, ((refl, refl, refl), (x.2, x.3, e.2)))
+  Some (
+    record before {
+      name = x.0;
+      place = x.1;
+      value = e.0;
+    },
+    e.1,
+    ((refl, refl, refl), (x.2, x.3, e.2)),
+  )
 
 abbrev pub read_parameters : (l : Limits) (ts : List Placed) → Reads (AreParameters l) ts
 read_parameters l ts =
-    read_listed {F = IsParameter l} {L = IsLaterParameter l} (read_parameter l) (read_later_parameter l) (steps_for ts) ts
+    read_listed {F = IsParameter l} {L = IsLaterParameter l} (read_parameter l)
+    (read_later_parameter l) (steps_for ts) ts
 
 abbrev pub read_header_parameter : (l : Limits) (ts : List Placed) → Reads (IsHeaderParameter l) ts
 read_header_parameter l ts = do
   q ← read_parameter_by false l ts
   Some (q.0, q.1, (q.2, q.3))
 
-abbrev pub read_header_parameters : (l : Limits) (ts : List Placed) → Reads (AreHeaderParameters l) ts
+abbrev pub read_header_parameters : (l : Limits) (ts : List Placed) →
+    Reads (AreHeaderParameters l) ts
 read_header_parameters l ts =
-    read_listed {F = IsHeaderParameter l} {L = λ before q. IsHeaderParameter l q or IsLaterParameter l before q}
+    read_listed {F = IsHeaderParameter l} {L = λ before q.
+    IsHeaderParameter l q or IsLaterParameter l before q}
     (read_header_parameter l)
     (λ before us. otherwise (do
       q ← read_header_parameter l us
@@ -162,24 +207,42 @@ read_port l ts = do
   t ← read_typed l k.1
   x ← read_name_at t.3
   Some (
-    record { kind = k.0; signed = t.0; span = t.1; label = t.2; name = x.0; place = x.1; value = None },
+    record {
+      kind = k.0;
+      signed = t.0;
+      span = t.1;
+      label = t.2;
+      name = x.0;
+      place = x.1;
+      value = None;
+    },
     x.2,
     (k.1, k.2, (t.3, t.4, (refl, x.3))),
   )
 
 abbrev pub read_ports : (l : Limits) (ts : List Placed) → Reads (ArePorts l) ts
 read_ports l ts =
-    read_listed {F = IsPort l} {L = λ before d. IsPort l d or given (AreAlike before d) (IsNamedPort d)}
+    read_listed {F = IsPort l} {L = λ before d.
+    IsPort l d or given (AreAlike before d) (IsNamedPort d)}
     (read_port l)
     (λ before us. otherwise (do
       d ← read_port l us
       Some (d.0, d.1, inl d.2)) (λ _. (do
         x ← read_name_at us
-        Some (record before { name = x.0; place = x.1; value = None }, x.2, inr ((refl, refl, refl, refl), (refl, x.3))))))
+        Some (
+          record before {
+            name = x.0;
+            place = x.1;
+            value = None;
+          },
+          x.2,
+          inr ((refl, refl, refl, refl), (refl, x.3)),
+        ))))
     (steps_for ts) ts
 
 -- a name with its value, for a signal of the kind
-abbrev read_signal_value : (l : Limits) (k : DeclKind) (ts : List Placed) → Reads (IsSignalValue l k) ts
+abbrev read_signal_value : (l : Limits) (k : DeclKind) (ts : List Placed) →
+    Reads (IsSignalValue l k) ts
 read_signal_value l kinds.Wire ts = read_perhaps {P = equals l} (read_equals l) ts
 read_signal_value l _ ts = Some (None, ts, (refl, refl))
 
@@ -197,18 +260,35 @@ read_signal l ts = do
   x ← read_name_at t.3
   v ← read_signal_value l k.0 x.2
   Some (
-    record { kind = k.0; signed = t.0; span = t.1; label = t.2; name = x.0; place = x.1; value = v.0 },
+    record {
+      kind = k.0;
+      signed = t.0;
+      span = t.1;
+      label = t.2;
+      name = x.0;
+      place = x.1;
+      value = v.0;
+    },
     v.1,
     (k.1, k.2, (t.3, t.4, (x.2, x.3, v.2))),
   )
 
 abbrev pub read_signals : (l : Limits) (ts : List Placed) → Reads (AreSignals l) ts
 read_signals l ts =
-    read_listed {F = IsSignal l} {L = λ before d. given (AreAlike before d) (IsNamedSignal l d)} (read_signal l)
+    read_listed {F = IsSignal l} {L = λ before d.
+    given (AreAlike before d) (IsNamedSignal l d)} (read_signal l)
     (λ before us. (do
       x ← read_name_at us
       v ← read_signal_value l before.kind x.2
-      Some (record before { name = x.0; place = x.1; value = v.0 }, v.1, ((refl, refl, refl, refl), (x.2, x.3, v.2)))))
+      Some (
+        record before {
+          name = x.0;
+          place = x.1;
+          value = v.0;
+        },
+        v.1,
+        ((refl, refl, refl, refl), (x.2, x.3, v.2)),
+      )))
     (steps_for ts) ts
 
 abbrev read_memory_label : (ts : List Placed) → Reads IsMemoryLabel ts
@@ -235,9 +315,41 @@ read_memory l ts = do
   last ← read_number_at colon.0
   c ← read_sign signs.CloseBracket last.2
   Some (
-    record { signed = s.0; span = r.0; label = b.0; name = x.0; place = x.1; first = first.0; last = last.0 },
+    record {
+      signed = s.0;
+      span = r.0;
+      label = b.0;
+      name = x.0;
+      place = x.1;
+      first = first.0;
+      last = last.0;
+    },
     c.0,
-    (w.0, w.1, (s.1, s.2, (r.1, r.2, (b.1, b.2, (x.2, x.3, (o.0, o.1, (last.2, (first.2, (first.1, first.3), (colon.0, colon.1, (last.1, last.3))), c.1))))))),
+    (
+      w.0,
+      w.1,
+      (
+        s.1,
+        s.2,
+        (
+          r.1,
+          r.2,
+          (
+            b.1,
+            b.2,
+            (
+              x.2,
+              x.3,
+              (
+                o.0,
+                o.1,
+                (last.2, (first.2, (first.1, first.3), (colon.0, colon.1, (last.1, last.3))), c.1),
+              ),
+            ),
+          ),
+        ),
+      ),
+    ),
   )
 
 -- ---- items
@@ -279,7 +391,15 @@ read_released l ts = do
   Some (
     released t.0 e.0 x.0,
     c.0,
-    (w.0, w.1, (t.1, t.2, (q.0, q.1, (r.0, r.1, (o.0, o.1, (x.1, (e.1, e.2, (comma.0, comma.1, x.2)), c.1)))))),
+    (
+      w.0,
+      w.1,
+      (
+        t.1,
+        t.2,
+        (q.0, q.1, (r.0, r.1, (o.0, o.1, (x.1, (e.1, e.2, (comma.0, comma.1, x.2)), c.1)))),
+      ),
+    ),
   )
 
 abbrev read_clock : (ts : List Placed) → Reads (λ c. a_word words.Posedge ⨾ IsPlacedName c) ts
@@ -333,13 +453,19 @@ read_overrides l ts = otherwise (do
       e ← read_value l o.0
       es ← read_later {L = λ a. IsValue l} (λ _. read_value l) (steps_for ts) e.0 e.1
       c ← read_sign signs.CloseParenthesis es.1
-      Some (ordered_overrides (e.0 ∷ es.0), c.0, (h.0, h.1, (o.0, o.1, (es.1, (e.1, e.2, es.2), c.1))))))) (λ _. Some (ordered_overrides [], ts, refl))
+      Some (
+        ordered_overrides (e.0 ∷ es.0),
+        c.0,
+        (h.0, h.1, (o.0, o.1, (es.1, (e.1, e.2, es.2), c.1))),
+      )))) (λ _.
+    Some (ordered_overrides [], ts, refl))
 
 abbrev read_named_link : (l : Limits) (ts : List Placed) → Reads (IsNamedLink l) ts
 read_named_link l ts = do
   d ← read_sign signs.Dot ts
   x ← read_name_at d.0
-  e ← read_tree_between signs.OpenParenthesis signs.CloseParenthesis (read_perhaps {P = IsValue l} (read_value l)) x.2
+  e ← read_tree_between signs.OpenParenthesis signs.CloseParenthesis
+      (read_perhaps {P = IsValue l} (read_value l)) x.2
   Some (record { name = x.0; place = x.1; value = e.0 }, e.1, (d.0, d.1, (x.2, x.3, e.2)))
 
 abbrev read_links : (l : Limits) (ts : List Placed) → Reads (AreLinks l) ts
@@ -350,7 +476,8 @@ read_links l ts =
     otherwise (do
       e ← read_value l ts
       es ← read_later {L = λ a. IsValue l} (λ _. read_value l) (steps_for ts) e.0 e.1
-      Some (ordered_links (e.0 ∷ es.0), es.1, (e.1, e.2, es.2))) (λ _. Some (ordered_links [], ts, refl)))
+      Some (ordered_links (e.0 ∷ es.0), es.1, (e.1, e.2, es.2))) (λ _.
+    Some (ordered_links [], ts, refl)))
 
 abbrev read_instance : (l : Limits) (ts : List Placed) → Reads (IsInstance l) ts
 read_instance l ts = do
@@ -359,18 +486,34 @@ read_instance l ts = do
   x ← read_name_at o.1
   k ← read_tree_between signs.OpenParenthesis signs.CloseParenthesis (read_links l) x.2
   Some (
-    record { master = m.0; place = m.1; overrides = o.0; name = x.0; name_place = x.1; links = k.0 },
+    record {
+      master = m.0;
+      place = m.1;
+      overrides = o.0;
+      name = x.0;
+      name_place = x.1;
+      links = k.0;
+    },
     k.1,
     (m.2, m.3, (o.1, o.2, (x.2, x.3, k.2))),
   )
 
 abbrev pub read_instances : (l : Limits) (ts : List Placed) → Reads (AreInstances l) ts
 read_instances l ts =
-    read_listed {F = IsInstance l} {L = λ before i. given (AreOfOneModule before i) (IsNamedInstance l i)} (read_instance l)
+    read_listed {F = IsInstance l} {L = λ before i.
+    given (AreOfOneModule before i) (IsNamedInstance l i)} (read_instance l)
     (λ before us. (do
       x ← read_name_at us
       k ← read_tree_between signs.OpenParenthesis signs.CloseParenthesis (read_links l) x.2
-      Some (record before { name = x.0; name_place = x.1; links = k.0 }, k.1, ((refl, refl, refl), (x.2, x.3, k.2)))))
+      Some (
+        record before {
+          name = x.0;
+          name_place = x.1;
+          links = k.0;
+        },
+        k.1,
+        ((refl, refl, refl), (x.2, x.3, k.2)),
+      )))
     (steps_for ts) ts
 
 -- ---- items and modules
@@ -421,11 +564,13 @@ read_parameter_list l ts = otherwise (do
   Some (r.0, r.1, inr (h.0, h.1, r.2))) (λ _. Some ([], ts, inl (refl, refl)))
 
 abbrev read_port_list : (l : Limits) (ts : List Placed)
-    → Reads (λ ds. given (ds ≡ []) (optional (in_parentheses nothing)) or in_parentheses (ArePorts l ds)) ts
+    → Reads (λ ds. given (ds ≡ []) (optional (in_parentheses nothing))
+    or in_parentheses (ArePorts l ds)) ts
 read_port_list l ts = otherwise (do
   r ← read_tree_between signs.OpenParenthesis signs.CloseParenthesis (read_ports l) ts
   Some (r.0, r.1, inr r.2)) (λ _. (do
-    r ← read_optional (read_between {P = nothing} signs.OpenParenthesis signs.CloseParenthesis (λ us. Some (us, refl))) ts
+    r ← read_optional (read_between {P = nothing} signs.OpenParenthesis signs.CloseParenthesis
+        (λ us. Some (us, refl))) ts
     Some ([], r.0, inl (refl, r.1))))
 
 abbrev pub read_module : (l : Limits) (ts : List Placed) → Reads (IsModule l) ts
@@ -456,7 +601,11 @@ read_lattice_line ts = otherwise (do
     o ← read_operator binop.Le x.1
     y ← read_placed_name o.0
     s ← read_sign signs.Semicolon y.1
-    Some (pair (record { lower = x.0; upper = y.0 }), s.0, (x.1, x.2, (o.0, o.1, (y.1, y.2, s.1))))))
+    Some (
+      pair (record { lower = x.0; upper = y.0 }),
+      s.0,
+      (x.1, x.2, (o.0, o.1, (y.1, y.2, s.1))),
+    )))
 
 abbrev pub read_lattice : (ts : List Placed) → Reads IsLattice ts
 unfolding IsLattice
@@ -482,7 +631,14 @@ read_key_range ts = do
   colon ← read_sign signs.Colon high.1
   low ← read_plain_number colon.0
   c ← read_sign signs.CloseBracket low.1
-  Some (record { high = high.0; low = low.0 }, c.0, (o.0, o.1, (low.1, (high.1, high.2, (colon.0, colon.1, low.2)), c.1)))
+  Some (
+    record {
+      high = high.0;
+      low = low.0;
+    },
+    c.0,
+    (o.0, o.1, (low.1, (high.1, high.2, (colon.0, colon.1, low.2)), c.1)),
+  )
 
 abbrev read_key : (ts : List Placed) → Reads IsKey ts
 read_key ts = do
@@ -502,7 +658,15 @@ read_row ts = do
   colon ← read_sign signs.Colon j.1
   x ← read_name colon.0
   s ← read_sign signs.Semicolon x.1
-  Some (record { first = k.0; second = j.0; to = x.0 }, s.0, (k.1, k.2, (j.1, j.2, (colon.0, colon.1, (x.1, x.2, s.1)))))
+  Some (
+    record {
+      first = k.0;
+      second = j.0;
+      to = x.0;
+    },
+    s.0,
+    (k.1, k.2, (j.1, j.2, (colon.0, colon.1, (x.1, x.2, s.1)))),
+  )
 
 abbrev read_other : (ts : List Placed)
     → Reads (λ x. a_word words.Default ⨾ a_sign signs.Colon ⨾ a_name x ⨾ a_sign signs.Semicolon) ts
@@ -521,7 +685,9 @@ read_map ts = do
   r ← read_key_range x.2
   q ← read_perhaps {P = IsKeyRange} read_key_range r.1
   rows ← read_each {P = IsRow} read_row (length ts) q.1
-  o ← read_perhaps {P = λ y. a_word words.Default ⨾ a_sign signs.Colon ⨾ a_name y ⨾ a_sign signs.Semicolon} read_other rows.1
+  o ← read_perhaps {P = λ y.
+      a_word words.Default ⨾ a_sign signs.Colon ⨾ a_name y
+      ⨾ a_sign signs.Semicolon} read_other rows.1
   e ← read_word words.Endlabelmap o.1
   Some (
     record { name = x.0; place = x.1; span = r.0; second = q.0; rows = rows.0; other = o.0 },

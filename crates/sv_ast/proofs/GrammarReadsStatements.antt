@@ -1,5 +1,6 @@
 -- Readers of statements, by the number of steps that they may take.
-use Rattle.std.proofs.Common.{◌≡◌, ℕ, zero, suc, ◌+◌, Bool, true, false, not, ◌||◌, List, [], ◌∷◌, Option, Some, None, inl, inr, refl, ap, ◌∙◌}
+use Rattle.std.proofs.Common.{◌≡◌, ℕ, zero, suc, ◌+◌, Bool, true, false, not, ◌||◌, List, [], ◌∷◌}
+use Rattle.std.proofs.Common.{Option, Some, None, inl, inr, refl, ap, ◌∙◌}
 use Rattle.std.specs.Prelude.{IsTrue, nat_lt}
 use Rattle.std.proofs.lemmas.Bool.{false≢true}
 use Rattle.sv_num.specs.declared.faults.Place.{Place}
@@ -8,11 +9,18 @@ use Rattle.sv_num.specs.declared.operators.BinOp.TheVariants as binop
 use Rattle.sv_token.specs.declared.keywords.WordKind.TheVariants as words
 use Rattle.sv_token.specs.declared.signs.SignKind.TheVariants as signs
 use Rattle.sv_token.specs.Lexemes.{Lexeme, word, Placed}
-use Rattle.sv_ast.specs.Tree.{whole, bit_at, part_from, TargetTree, null, assignment, block, if_only, if_else, case_of, no_statements, more_statements, no_arms, more_arms}
+use Rattle.sv_ast.specs.Tree.{whole, bit_at, part_from, TargetTree, null, assignment, block}
+use Rattle.sv_ast.specs.Tree.{if_only, if_else, case_of, no_statements, more_statements, no_arms}
+use Rattle.sv_ast.specs.Tree.{more_arms}
 use Rattle.sv_ast.specs.GrammarForms.{Form, somewhere, binary_at, in_parentheses}
 use Rattle.sv_ast.specs.GrammarExpressions.{Limits, is_within, IsExpression}
-use Rattle.sv_ast.specs.GrammarStatements.{IsSelection, IsTarget, AreTargets, BeginAt, assigns, begins_at, not_before, block_name, IsStatement, AreStatements, AreArms}
-use Rattle.sv_ast.proofs.GrammarReads.{◌>>=◌, otherwise, check, Reads, Stands, read_word, read_word_at, read_sign, read_name, read_name_at, read_binary_at, read_optional, read_later, read_commas, read_tree_between}
+use Rattle.sv_ast.specs.GrammarStatements.{IsSelection, IsTarget, AreTargets, BeginAt, assigns}
+use Rattle.sv_ast.specs.GrammarStatements.{begins_at, not_before, block_name, IsStatement}
+use Rattle.sv_ast.specs.GrammarStatements.{AreStatements, AreArms}
+use Rattle.sv_ast.proofs.GrammarReads.{◌>>=◌, otherwise, check, Reads, Stands, read_word}
+use Rattle.sv_ast.proofs.GrammarReads.{read_word_at, read_sign, read_name, read_name_at}
+use Rattle.sv_ast.proofs.GrammarReads.{read_binary_at, read_optional, read_later, read_commas}
+use Rattle.sv_ast.proofs.GrammarReads.{read_tree_between}
 use Rattle.sv_ast.proofs.GrammarReadsExpressions.{may_open, read_expression}
 
 abbrev pub the_binary : (op wanted : BinOp) → Option (op ≡ wanted)
@@ -37,7 +45,8 @@ read_selection l n ts = otherwise (do
       colon ← read_sign signs.Colon e.1
       f ← read_expression l n colon.0
       c ← read_sign signs.CloseBracket f.1
-      Some (part_from e.0 f.0, c.0, (o.0, o.1, (f.1, (e.1, e.2, (colon.0, colon.1, f.2)), c.1)))))) (λ _. Some (whole, ts, refl))
+      Some (part_from e.0 f.0, c.0, (o.0, o.1, (f.1, (e.1, e.2, (colon.0, colon.1, f.2)), c.1))))))
+    (λ _. Some (whole, ts, refl))
 
 abbrev pub read_target : (l : Limits) (n : ℕ) (ts : List Placed) → Reads (IsTarget l n) ts
 read_target l n ts = do
@@ -45,7 +54,8 @@ read_target l n ts = do
   s ← read_selection l n x.2
   Some (record { name = x.0; place = x.1; selection = s.0 }, s.1, (x.2, x.3, s.2))
 
-abbrev pub read_targets : {P : TargetTree → Form} → ((ts : List Placed) → Reads P ts) → ℕ → (ts : List Placed) → Reads (AreTargets P) ts
+abbrev pub read_targets : {P : TargetTree → Form} → ((ts : List Placed) → Reads P ts) → ℕ →
+    (ts : List Placed) → Reads (AreTargets P) ts
 read_targets {P} read k ts = otherwise (do
   b ← read_tree_between signs.OpenBrace signs.CloseBrace (read_commas {P = P} read k) ts
   Some (b.0, b.1, inr b.2)) (λ _. (do
@@ -88,11 +98,14 @@ read_block_name ts = do
   x ← read_name c.0
   Some (x.1, (c.0, c.1, (x.0, x.2)))
 
-abbrev pub read_condition : (l : Limits) (n : ℕ) (ts : List Placed) → Reads (λ e. in_parentheses (IsExpression l n e)) ts
-read_condition l n ts = read_tree_between signs.OpenParenthesis signs.CloseParenthesis (read_expression l n) ts
+abbrev pub read_condition : (l : Limits) (n : ℕ) (ts : List Placed) →
+    Reads (λ e. in_parentheses (IsExpression l n e)) ts
+read_condition l n ts =
+    read_tree_between signs.OpenParenthesis signs.CloseParenthesis (read_expression l n) ts
 
 abbrev mutual
-  pub read_statement : (steps : ℕ) (l : Limits) (n : ℕ) (ts : List Placed) → Reads (IsStatement l n) ts
+  pub read_statement : (steps : ℕ) (l : Limits) (n : ℕ) (ts : List Placed) →
+      Reads (IsStatement l n) ts
   read_statement zero l n ts = None
   read_statement (suc k) l n ts =
       otherwise (do
@@ -113,31 +126,45 @@ abbrev mutual
         otherwise (do
           e ← read_word words.Else s.1
           t ← read_statement k l (n + 1) e.0
-          Some (if_else i.0 c.0 s.0 t.0, t.1, (deep, (i.1, i.2, (c.1, c.2, (s.1, s.2, (e.0, e.1, t.2))))))) (λ _. (do
+          Some (
+            if_else i.0 c.0 s.0
+                t.0,
+            t.1,
+            (deep, (i.1, i.2, (c.1, c.2, (s.1, s.2, (e.0, e.1, t.2))))),
+          )) (λ _. (do
             e ← read_not_else s.1
-            Some (if_only i.0 c.0 s.0, e.0, (deep, (i.1, i.2, (c.1, c.2, (s.1, s.2, e.1)))))))) (λ _.
+            Some (if_only i.0 c.0 s.0, e.0, (deep, (i.1, i.2, (c.1, c.2, (s.1, s.2, e.1))))))))
+      (λ _.
       otherwise (do
         w ← read_word_at words.Case ts
         deep ← may_open l n
         c ← read_condition l (n + 1) w.1
         arms ← read_arms k l (n + 1) 0 false c.1
         e ← read_word words.Endcase arms.1
-        Some (case_of w.0 c.0 arms.0, e.0, (deep, (w.1, w.2, (c.1, c.2, (arms.1, arms.2, e.1)))))) (λ _. (do
-          targets ← read_targets {P = IsTarget l n} (read_target l n) k ts
-          p ← first_place targets.0
-          a ← read_assigns targets.1
-          e ← read_expression l n a.1
-          s ← read_sign signs.Semicolon e.1
-          Some (assignment targets.0 p.0 a.0 e.0, s.0, (p.1, (targets.1, targets.2, (a.1, a.2, (e.1, e.2, s.1))))))))))
+        Some (case_of w.0 c.0 arms.0, e.0, (deep, (w.1, w.2, (c.1, c.2, (arms.1, arms.2, e.1))))))
+      (λ _. (do
+        targets ← read_targets {P = IsTarget l n} (read_target l n) k ts
+        p ← first_place targets.0
+        a ← read_assigns targets.1
+        e ← read_expression l n a.1
+        s ← read_sign signs.Semicolon e.1
+        Some (
+          assignment targets.0 p.0 a.0
+              e.0,
+          s.0,
+          (p.1, (targets.1, targets.2, (a.1, a.2, (e.1, e.2, s.1)))),
+        ))))))
 
-  pub read_statements : (steps : ℕ) (l : Limits) (n : ℕ) (ts : List Placed) → Reads (AreStatements l n) ts
+  pub read_statements : (steps : ℕ) (l : Limits) (n : ℕ) (ts : List Placed) →
+      Reads (AreStatements l n) ts
   read_statements zero l n ts = Some (no_statements, ts, refl)
   read_statements (suc k) l n ts = otherwise (do
     s ← read_statement k l n ts
     ss ← read_statements k l n s.1
     Some (more_statements s.0 ss.0, ss.1, (s.1, s.2, ss.2))) (λ _. Some (no_statements, ts, refl))
 
-  pub read_arms : (steps : ℕ) (l : Limits) (n before : ℕ) (default : Bool) (ts : List Placed) → Reads (AreArms l n before default) ts
+  pub read_arms : (steps : ℕ) (l : Limits) (n before : ℕ) (default : Bool) (ts : List Placed) →
+      Reads (AreArms l n before default) ts
   read_arms zero l n before default ts = None
   read_arms (suc k) l n before default ts =
       otherwise (do

@@ -4,14 +4,29 @@ use Rattle.std.specs.Prelude.{codes}
 use Rattle.sv_num.specs.declared.operators.BinOp.TheVariants as binop
 use Rattle.sv_ast.specs.declared.declarations.DeclKind.{DeclKind}
 use Rattle.sv_ast.specs.declared.declarations.DeclKind.TheVariants as kinds
-use Rattle.sv_ast.specs.Tree.{ExpressionTree, binary, whole, SpanTree, point_label, table_label, DeclarationTree, ParameterTree, by_index, null, assignment, if_else, named_overrides, ordered_overrides, named_links, ordered_links, PlacedName, ItemTree, parameter_item, declared, memory_item, continuous, released, always_item, invariant_item, instance_item, KeyTree, TextTree}
+use Rattle.sv_ast.specs.Tree.{ExpressionTree, binary, whole, SpanTree, point_label, table_label}
+use Rattle.sv_ast.specs.Tree.{DeclarationTree, ParameterTree, by_index, null, assignment, if_else}
+use Rattle.sv_ast.specs.Tree.{named_overrides, ordered_overrides, named_links, ordered_links}
+use Rattle.sv_ast.specs.Tree.{PlacedName, ItemTree, parameter_item, declared, memory_item}
+use Rattle.sv_ast.specs.Tree.{continuous, released, always_item, invariant_item, instance_item}
+use Rattle.sv_ast.specs.Tree.{KeyTree, TextTree}
 use Rattle.sv_ast.proofs.GrammarComputed.{read, text_of}
 use Rattle.sv_ast.proofs.GrammarExamples.{at, plain, number, target, sets, a, b, c, d}
 
 -- a text of one module named m
 abbrev module_m : List ParameterTree → List DeclarationTree → List ItemTree → TextTree
 module_m qs ds is =
-    record { lattice = None; maps = []; modules = record { name = codes "m"; place = at 8; parameters = qs; ports = ds; items = is } ∷ [] }
+    record {
+      lattice = None;
+      maps = [];
+      modules = record {
+        name = codes "m";
+        place = at 8;
+        parameters = qs;
+        ports = ds;
+        items = is;
+      } ∷ [];
+    }
 
 abbrev span : ExpressionTree → ExpressionTree → Option SpanTree
 span high low = Some (record { high = high; low = low })
@@ -21,7 +36,16 @@ placed x n = record { name = x; place = at n }
 
 -- a declaration without sign, range, label and value
 abbrev plainly : DeclKind → List ℕ → ℕ → DeclarationTree
-plainly k x n = record { kind = k; signed = false; span = None; label = None; name = x; place = at n; value = None }
+plainly k x n =
+    record {
+      kind = k;
+      signed = false;
+      span = None;
+      label = None;
+      name = x;
+      place = at n;
+      value = None;
+    }
 
 -- ---- headers
 
@@ -60,12 +84,35 @@ pub ports : text_of (codes "module m(output signed [1:0] {H} a, b, input c); end
 unfolding read
 ports = refl
 
--- a parameter without the word takes sign and range of the one before it; with the word and no range it has none
-pub header_parameters : text_of (codes "module m #(parameter signed [3:0] A = 1, B = 2, parameter C = 3); endmodule")
+-- a parameter without the word takes sign and range of the one before it; with the word and no
+-- range it has none
+pub header_parameters :
+    text_of (codes "module m #(parameter signed [3:0] A = 1, B = 2, parameter C = 3); endmodule")
     ≡ Some (module_m
-    (record { local = false; signed = true; span = span (number 3 30) (number 0 32); name = codes "A"; place = at 35; value = number 1 39 }
-    ∷ record { local = false; signed = true; span = span (number 3 30) (number 0 32); name = codes "B"; place = at 42; value = number 2 46 }
-    ∷ record { local = false; signed = false; span = None; name = codes "C"; place = at 59; value = number 3 63 }
+    (record {
+      local = false;
+      signed = true;
+      span = span (number 3 30) (number 0 32);
+      name = codes "A";
+      place = at 35;
+      value = number 1 39;
+    }
+    ∷ record {
+      local = false;
+      signed = true;
+      span = span (number 3 30) (number 0 32);
+      name = codes "B";
+      place = at 42;
+      value = number 2 46;
+    }
+    ∷ record {
+      local = false;
+      signed = false;
+      span = None;
+      name = codes "C";
+      place = at 59;
+      value = number 3 63;
+    }
     ∷ [])
     [] [])
 unfolding read
@@ -73,7 +120,8 @@ header_parameters = refl
 
 -- ---- items
 
-pub later_names : text_of (codes "module m; wire [1:0] a = 1, b; localparam A = 2, B = 3; endmodule")
+pub later_names : text_of
+    (codes "module m; wire [1:0] a = 1, b; localparam A = 2, B = 3; endmodule")
     ≡ Some (module_m [] []
     (declared (record {
       kind = kinds.Wire;
@@ -93,8 +141,22 @@ pub later_names : text_of (codes "module m; wire [1:0] a = 1, b; localparam A = 
       place = at 29;
       value = None;
     })
-    ∷ parameter_item (record { local = true; signed = false; span = None; name = codes "A"; place = at 43; value = number 2 47 })
-    ∷ parameter_item (record { local = true; signed = false; span = None; name = codes "B"; place = at 50; value = number 3 54 })
+    ∷ parameter_item (record {
+      local = true;
+      signed = false;
+      span = None;
+      name = codes "A";
+      place = at 43;
+      value = number 2 47;
+    })
+    ∷ parameter_item (record {
+      local = true;
+      signed = false;
+      span = None;
+      name = codes "B";
+      place = at 50;
+      value = number 3 54;
+    })
     ∷ []))
 unfolding read
 later_names = refl
@@ -107,22 +169,26 @@ pub assigned_joins : text_of (codes "module m; assign a = 1, {b, c} = d; endmodu
 unfolding read
 assigned_joins = refl
 
-pub processes : text_of (codes "module m; always @* ; always @(*) ; always @(posedge c) d <= a; endmodule")
+pub processes : text_of
+    (codes "module m; always @* ; always @(*) ; always @(posedge c) d <= a; endmodule")
     ≡ Some (module_m [] []
     (always_item (at 11) None null
     ∷ always_item (at 23) None null
-    ∷ always_item (at 37) (Some (placed (codes "c") 54)) (assignment (target (codes "d") 57 whole ∷ []) (at 57) false (a 62))
+    ∷ always_item (at 37) (Some (placed (codes "c") 54))
+    (assignment (target (codes "d") 57 whole ∷ []) (at 57) false (a 62))
     ∷ []))
 unfolding read
 processes = refl
 
--- links by name, one of them to nothing, and by order; later instances take module and overrides of the one before
+-- links by name, one of them to nothing, and by order; later instances take module and overrides of
+-- the one before
 pub instances : text_of (codes "module m; n #(.W(4)) u(.x(), .y(c)), v(c, d); n w(); endmodule")
     ≡ Some (module_m [] []
     (instance_item (record {
       master = codes "n";
       place = at 11;
-      overrides = named_overrides (record { name = codes "W"; place = at 16; value = number 4 18 } ∷ []);
+      overrides =
+          named_overrides (record { name = codes "W"; place = at 16; value = number 4 18 } ∷ []);
       name = codes "u";
       name_place = at 22;
       links = named_links
@@ -133,7 +199,8 @@ pub instances : text_of (codes "module m; n #(.W(4)) u(.x(), .y(c)), v(c, d); n 
     ∷ instance_item (record {
       master = codes "n";
       place = at 11;
-      overrides = named_overrides (record { name = codes "W"; place = at 16; value = number 4 18 } ∷ []);
+      overrides =
+          named_overrides (record { name = codes "W"; place = at 16; value = number 4 18 } ∷ []);
       name = codes "v";
       name_place = at 38;
       links = ordered_links (c 40 ∷ d 43 ∷ []);
@@ -166,15 +233,20 @@ pub memories : text_of (codes "module m; reg [3:0] {D(#)} r [0:1]; reg q; endmod
 unfolding read
 memories = refl
 
-pub releases_and_invariants : text_of (codes "module m; assign y = $release(a == b, L); invariant a != b; endmodule")
+pub releases_and_invariants :
+    text_of (codes "module m; assign y = $release(a == b, L); invariant a != b; endmodule")
     ≡ Some (module_m [] []
-    (released (placed (codes "y") 18) (binary binop.Eq (at 33) (a 31) (b 36)) (placed (codes "L") 39)
+    (released (placed (codes "y") 18) (binary binop.Eq (at 33) (a 31) (b 36))
+    (placed (codes "L") 39)
     ∷ invariant_item (at 55) (binary binop.Ne (at 55) (a 53) (b 58))
     ∷ []))
 unfolding read
 releases_and_invariants = refl
 
-pub nearest_if_and_left_nesting : text_of (codes "module m; always @* if (a) if (b) y = 1; else y = 2; else y = 3; assign d = 7 - 2 - 1; endmodule")
+pub nearest_if_and_left_nesting :
+    text_of
+    (codes
+    "module m; always @* if (a) if (b) y = 1; else y = 2; else y = 3; assign d = 7 - 2 - 1; endmodule")
     ≡ Some (module_m [] []
     (always_item (at 11) None
     (if_else (at 21) (a 25)
@@ -196,7 +268,8 @@ pub lattices : text_of (codes "lattice point L, H; L <= H; point T; endlattice m
         pairs = record { lower = placed (codes "L") 21; upper = placed (codes "H") 26 } ∷ [];
       });
       maps = [];
-      modules = record { name = codes "m"; place = at 56; parameters = []; ports = []; items = [] } ∷ [];
+      modules =
+          record { name = codes "m"; place = at 56; parameters = []; ports = []; items = [] } ∷ [];
     })
 unfolding read
 lattices = refl
@@ -205,7 +278,10 @@ abbrev key : ℕ → ℕ → KeyTree
 key v n = record { value = plain v; place = at n }
 
 -- a map with two ranges, and labels by one and by two signals
-pub maps_of_two_ranges : text_of (codes "labelmap T [0:0] [1:0] 0, 2: L; default: H; endlabelmap module m; wire {T(p, q)} a; wire {U(p)} b; endmodule")
+pub maps_of_two_ranges :
+    text_of
+    (codes
+    "labelmap T [0:0] [1:0] 0, 2: L; default: H; endlabelmap module m; wire {T(p, q)} a; wire {U(p)} b; endmodule")
     ≡ Some (record {
       lattice = None;
       maps = record {

@@ -3,10 +3,14 @@ use Rattle.std.proofs.Common.{◌≡◌, ℕ, true, false, List, [], ◌∷◌, 
 use Rattle.std.specs.Prelude.{codes, option_map}
 use Rattle.sv_num.specs.declared.operators.BinOp.TheVariants as binop
 use Rattle.sv_ast.specs.Scopes.{Scope, Binding, parameter, signal}
-use Rattle.sv_ast.specs.Tree.{ExpressionTree, parameter_item, ModuleTree, ParameterTree, named_overrides, ordered_overrides, named_links, ordered_links}
+use Rattle.sv_ast.specs.Tree.{ExpressionTree, parameter_item, ModuleTree, ParameterTree}
+use Rattle.sv_ast.specs.Tree.{named_overrides, ordered_overrides, named_links, ordered_links}
 use Rattle.sv_ast.specs.Values.{value, sign_of}
-use Rattle.sv_ast.specs.Instances.{entry, module_named, top_module, masters, open_parameters, settings, span_width, parameter_value, bindings, scope_of, linked_ports, whole_name, whole_signal}
-use Rattle.sv_ast.proofs.SmallTrees.{decimal_of, sized_of, name, op, bits, input, output, parameter_with, sets, link, stands, module_with, names}
+use Rattle.sv_ast.specs.Instances.{entry, module_named, top_module, masters, open_parameters}
+use Rattle.sv_ast.specs.Instances.{settings, span_width, parameter_value, bindings, scope_of}
+use Rattle.sv_ast.specs.Instances.{linked_ports, whole_name, whole_signal}
+use Rattle.sv_ast.proofs.SmallTrees.{decimal_of, sized_of, name, op, bits, input, output}
+use Rattle.sv_ast.proofs.SmallTrees.{parameter_with, sets, link, stands, module_with, names}
 
 -- `f` needs nothing, `g` has an instance of `f`, `h` one of itself
 abbrev f : ModuleTree
@@ -83,7 +87,8 @@ unfolding value sign_of
 defaults = refl
 
 -- #(.W(4)): what depends on W follows
-pub an_override_by_name : bindings (settings no_scope p (named_overrides (sets "W" (decimal_of 4) ∷ []))) p
+pub an_override_by_name :
+    bindings (settings no_scope p (named_overrides (sets "W" (decimal_of 4) ∷ []))) p
     ≡ (codes "W", plain 4) ∷ (codes "D", plain 8) ∷ (codes "a", signal 8 false)
     ∷ (codes "b", signal 1 false) ∷ (codes "B", plain 7) ∷ (codes "C", plain 9) ∷ []
 unfolding value sign_of
@@ -91,14 +96,16 @@ an_override_by_name = refl
 
 -- #(4, 3): the second is D
 pub overrides_by_order :
-    scope_of (settings no_scope p (ordered_overrides (decimal_of 4 ∷ decimal_of 3 ∷ []))) p (codes "a")
+    scope_of (settings no_scope p (ordered_overrides (decimal_of 4 ∷ decimal_of 3 ∷ []))) p
+    (codes "a")
     ≡ Some (signal 3 false)
 unfolding value sign_of
 overrides_by_order = refl
 
 -- an override is a constant of the outer module: W is 2 inside, and 5 outside
 pub an_override_is_taken_outside :
-    scope_of (settings (λ n. Some (plain 5)) p (named_overrides (sets "D" (name "W") ∷ []))) p (codes "D")
+    scope_of (settings (λ n. Some (plain 5)) p (named_overrides (sets "D" (name "W") ∷ []))) p
+    (codes "D")
     ≡ Some (plain 5)
 unfolding value sign_of
 an_override_is_taken_outside = refl
@@ -158,16 +165,19 @@ pub one_bit_of_a_range : span_width no_scope (bits 1) ≡ 1
 unfolding value sign_of
 one_bit_of_a_range = refl
 
-pub a_link_by_name : entry (linked_ports f (named_links (link "o" (Some (name "x")) ∷ []))) (codes "o")
+pub a_link_by_name :
+    entry (linked_ports f (named_links (link "o" (Some (name "x")) ∷ []))) (codes "o")
     ≡ Some (Some (name "x"))
 a_link_by_name = refl
 
 pub an_empty_link :
-    entry (linked_ports f (named_links (link "i" None ∷ link "o" (Some (name "x")) ∷ []))) (codes "i")
+    entry (linked_ports f (named_links (link "i" None ∷ link "o" (Some (name "x")) ∷ [])))
+    (codes "i")
     ≡ Some None
 an_empty_link = refl
 
-pub a_missing_link : entry (linked_ports f (named_links (link "o" (Some (name "x")) ∷ []))) (codes "i")
+pub a_missing_link :
+    entry (linked_ports f (named_links (link "o" (Some (name "x")) ∷ []))) (codes "i")
     ≡ None
 a_missing_link = refl
 
@@ -175,7 +185,8 @@ pub links_by_order : linked_ports f (ordered_links (name "x" ∷ name "y" ∷ []
     ≡ (codes "i", Some (name "x")) ∷ (codes "o", Some (name "y")) ∷ []
 links_by_order = refl
 
-pub the_last_ports_may_be_left_out : entry (linked_ports f (ordered_links (name "x" ∷ []))) (codes "o")
+pub the_last_ports_may_be_left_out :
+    entry (linked_ports f (ordered_links (name "x" ∷ []))) (codes "o")
     ≡ None
 the_last_ports_may_be_left_out = refl
 

@@ -1,14 +1,17 @@
 -- Lattices, label maps and labels of small texts.
 use Prim.Native.String.{String}
-use Rattle.std.proofs.Common.{◌≡◌, ℕ, Bool, true, false, List, [], ◌∷◌, Option, Some, None, map, ◌⊎◌, inl, inr, ⊎_elim, refl, subst, arith}
+use Rattle.std.proofs.Common.{◌≡◌, ℕ, Bool, true, false, List, [], ◌∷◌, Option, Some, None, map}
+use Rattle.std.proofs.Common.{◌⊎◌, inl, inr, ⊎_elim, refl, subst, arith}
 use Rattle.std.specs.Prelude.{codes, Contains}
 use Rattle.std.proofs.lemmas.Bool.{false≢true}
 use Rattle.sv_system.proofs.Lists.{Contains-head, Contains-later, Contains-cases, Contains-nil}
 use Rattle.sv_ast.specs.Tree.{LabelTree, point_label, table_label, MapTree, TextTree}
 use Rattle.sv_ast.specs.Reach.{Leads, here, step}
-use Rattle.sv_ast.specs.SourceLabels.{points, pairs, Flows, flows, least, IsJoin, IsMeet, PointsAreLattice, is_key, row_at, map_named, label_point}
+use Rattle.sv_ast.specs.SourceLabels.{points, pairs, Flows, flows, least, IsJoin, IsMeet}
+use Rattle.sv_ast.specs.SourceLabels.{PointsAreLattice, is_key, row_at, map_named, label_point}
 use Rattle.sv_ast.proofs.Reaching.{HasKnownPoints, flows_by_pairs}
-use Rattle.sv_ast.proofs.SmallTrees.{somewhere, bits, lattice_with, key, map_with, row, values_are, names}
+use Rattle.sv_ast.proofs.SmallTrees.{somewhere, bits, lattice_with, key, map_with, row, values_are}
+use Rattle.sv_ast.proofs.SmallTrees.{names}
 
 -- labelmap Dom [0:0] 0: L; default: H; endlabelmap
 abbrev domains : MapTree
@@ -48,11 +51,13 @@ low_is_least = refl
 -- each point is one of the two
 low_or_high : (a : List ℕ) → Contains (points plain) a → (codes "L" ≡ a) ⊎ (codes "H" ≡ a)
 low_or_high a at = ⊎_elim inl
-    (λ later. ⊎_elim inr (λ none. absurd (Contains-nil a none)) (Contains-cases (codes "H") [] a later))
+    (λ later. ⊎_elim inr (λ none.
+    absurd (Contains-nil a none)) (Contains-cases (codes "H") [] a later))
     (Contains-cases (codes "L") (codes "H" ∷ []) a at)
 
 -- what holds of L and of H holds of every point
-of_both : (P : List ℕ → Type 0) → P (codes "L") → P (codes "H") → (a : List ℕ) → Contains (points plain) a → P a
+of_both : (P : List ℕ → Type 0) → P (codes "L") → P (codes "H") → (a : List ℕ) →
+    Contains (points plain) a → P a
 of_both P low high a at = ⊎_elim (λ e. subst P e low) (λ e. subst P e high) (low_or_high a at)
 
 -- both are points
@@ -73,20 +78,31 @@ ends_are_points a b at = ⊎_elim
 joined : {a b c : List ℕ} → Contains (points plain) c → Flows plain a c → Flows plain b c
     → ((d : List ℕ) → Flows plain a d → Flows plain b d → Flows plain c d) → IsJoin plain a b c
 joined at first second others =
-    record { is_point = at; above_first = first; above_second = second; below_others = λ d dt. others d }
+    record {
+      is_point = at;
+      above_first = first;
+      above_second = second;
+      below_others = λ d dt. others d;
+    }
 
 -- and a meet where it is the greatest of those that flow to both
 met : {a b c : List ℕ} → Contains (points plain) c → Flows plain c a → Flows plain c b
     → ((d : List ℕ) → Flows plain d a → Flows plain d b → Flows plain d c) → IsMeet plain a b c
 met at first second others =
-    record { is_point = at; below_first = first; below_second = second; above_others = λ d dt. others d }
+    record {
+      is_point = at;
+      below_first = first;
+      below_second = second;
+      above_others = λ d dt. others d;
+    }
 
 low_to_high : Flows plain (codes "L") (codes "H")
 low_to_high = step (0, omega arith, refl) here
 
 -- the test of flows decides it
 not_high_to_low : Flows plain (codes "H") (codes "L") → ⊥
-not_high_to_low way = false≢true ((flows_by_pairs plain ends_are_points (codes "H") (codes "L")).1 way)
+not_high_to_low way =
+    false≢true ((flows_by_pairs plain ends_are_points (codes "H") (codes "L")).1 way)
 
 pub low_and_high_are_a_lattice : PointsAreLattice plain
 low_and_high_are_a_lattice = record {
@@ -113,7 +129,9 @@ low_and_high_are_a_lattice = record {
 
 -- lattice point P, Q, R, T; P <= Q; P <= R; Q <= T; R <= T; endlattice
 abbrev diamond : TextTree
-diamond = with_lattice ("P" ∷ "Q" ∷ "R" ∷ "T" ∷ []) (("P", "Q") ∷ ("P", "R") ∷ ("Q", "T") ∷ ("R", "T") ∷ [])
+diamond =
+    with_lattice ("P" ∷ "Q" ∷ "R" ∷ "T" ∷ [])
+    (("P", "Q") ∷ ("P", "R") ∷ ("Q", "T") ∷ ("R", "T") ∷ [])
 
 pub two_pairs_lead_on : flow diamond "P" "T" ≡ true
 two_pairs_lead_on = refl
@@ -145,12 +163,18 @@ one_point_is_least = refl
 
 -- a key is read by its own sign: 1'sb1 is -1
 pub a_negative_key :
-    is_key (record { value = record { width = 1; signed = true; value = 1; sized = true }; place = somewhere }) 1
+    is_key (record {
+      value = record { width = 1; signed = true; value = 1; sized = true };
+      place = somewhere;
+    }) 1
     ≡ false
 a_negative_key = refl
 
 pub an_unsigned_key :
-    is_key (record { value = record { width = 1; signed = false; value = 1; sized = true }; place = somewhere }) 1
+    is_key (record {
+      value = record { width = 1; signed = false; value = 1; sized = true };
+      place = somewhere;
+    }) 1
     ≡ true
 an_unsigned_key = refl
 
@@ -166,7 +190,8 @@ all_other_keys = refl
 pub no_row : row_at (map_with "Hole" None (row (key 0) None "L" ∷ []) None) 1 None ≡ None
 no_row = refl
 
-pub rows_of_pairs : map (λ (v : ℕ × ℕ). row_at two v.0 (Some v.1)) ((0, 0) ∷ (0, 1) ∷ (1, 0) ∷ (1, 1) ∷ [])
+pub rows_of_pairs : map (λ (v : ℕ × ℕ).
+    row_at two v.0 (Some v.1)) ((0, 0) ∷ (0, 1) ∷ (1, 0) ∷ (1, 1) ∷ [])
     ≡ Some (codes "L") ∷ Some (codes "H") ∷ Some (codes "H") ∷ Some (codes "H") ∷ []
 rows_of_pairs = refl
 

@@ -1,5 +1,6 @@
 -- Tests of shape, over lists of members.
-use Rattle.std.proofs.Common.{◌≡◌, ℕ, Bool, false, true, ◌&&◌, ◌==◌, nat_le, List, [], ◌∷◌, length, map, refl, ap}
+use Rattle.std.proofs.Common.{◌≡◌, ℕ, Bool, false, true, ◌&&◌, ◌==◌, nat_le, List, [], ◌∷◌, length}
+use Rattle.std.proofs.Common.{map, refl, ap}
 use Rattle.std.specs.List.{list_all}
 use Rattle.sv_num.specs.declared.faults.Place.{Place}
 use Rattle.sv_ast.specs.declared.expressions.Expr.{Expr}
@@ -7,7 +8,8 @@ use Rattle.sv_ast.specs.declared.statements.Arm.{Arm}
 use Rattle.sv_ast.specs.declared.statements.Target.{Target}
 use Rattle.sv_ast.specs.Shape.{is_shaped_expression, has_part, are_shaped_parts, has_target}
 use Rattle.sv_ast.specs.Shape.{is_shaped_statement, has_arm, default_count, are_shaped_arms}
-use Rattle.sv_ast.specs.Tree.{ExpressionTree, ExpressionTrees, replication, TargetTree, ArmTrees, case_of}
+use Rattle.sv_ast.specs.Tree.{ExpressionTree, ExpressionTrees, replication, TargetTree, ArmTrees}
+use Rattle.sv_ast.specs.Tree.{case_of}
 use Rattle.sv_ast.specs.Views.{expression_trees, parts_of, target_tree, arm_trees, arms_of}
 
 -- Expressions
@@ -16,14 +18,16 @@ use Rattle.sv_ast.specs.Views.{expression_trees, parts_of, target_tree, arm_tree
 abbrev pub are_members : ExpressionTrees → Bool
 are_members es = has_part es && are_shaped_parts es
 
-each_part : (es : List ExpressionTree) → list_all is_shaped_expression es ≡ are_shaped_parts (parts_of es)
+each_part : (es : List ExpressionTree) →
+    list_all is_shaped_expression es ≡ are_shaped_parts (parts_of es)
 each_part [] = refl
 each_part (e ∷ es) = ap (λ rest. is_shaped_expression e && rest) (each_part es)
 
 -- of parts that are there it asks that each is shaped
 pub some_parts :
     (es : List Expr) → false ≡ (length es == 0) →
-    list_all is_shaped_expression (expression_trees es) ≡ are_members (parts_of (expression_trees es))
+    list_all is_shaped_expression (expression_trees es) ≡
+    are_members (parts_of (expression_trees es))
 some_parts [] some = cc
 some_parts (e ∷ es) some = each_part (expression_trees (e ∷ es))
 
@@ -38,8 +42,10 @@ shaped_count place count es shaped = ap (λ b. b && has_part es && are_shaped_pa
 
 -- where targets are there, it is only left to ask each
 pub some_targets :
-    (test : TargetTree → Bool) (targets : List Target) (n : ℕ) → n ≡ length targets → false ≡ (n == 0) →
-    list_all test (map target_tree targets) ≡ (has_target (map target_tree targets) && list_all test (map target_tree targets))
+    (test : TargetTree → Bool) (targets : List Target) (n : ℕ) → n ≡ length targets →
+    false ≡ (n == 0) →
+    list_all test (map target_tree targets) ≡
+    (has_target (map target_tree targets) && list_all test (map target_tree targets))
 some_targets test [] n e some = let none : (n == 0) ≡ (0 == 0) = ap (λ k. k == 0) e in cc
 some_targets test (t ∷ targets) n e some = refl
 

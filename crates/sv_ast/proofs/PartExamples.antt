@@ -4,17 +4,24 @@ use Rattle.std.specs.Prelude.{codes, filter, flat_map, is_some}
 use Rattle.sv_num.specs.declared.operators.UnOp.TheVariants as unop
 use Rattle.sv_num.specs.declared.operators.BinOp.TheVariants as binop
 use Rattle.sv_ast.specs.declared.declarations.DeclKind.TheVariants as kind
-use Rattle.sv_ast.specs.Tree.{ExpressionTree, DeclarationTree, unary, named_overrides, named_links, ordered_links, null, declared, released, invariant_item, ModuleTree, ItemTree, TextTree, StatementTree}
+use Rattle.sv_ast.specs.Tree.{ExpressionTree, DeclarationTree, unary, named_overrides, named_links}
+use Rattle.sv_ast.specs.Tree.{ordered_links, null, declared, released, invariant_item, ModuleTree}
+use Rattle.sv_ast.specs.Tree.{ItemTree, TextTree, StatementTree}
 use Rattle.sv_ast.specs.Values.{value, sign_of}
 use Rattle.sv_ast.specs.Runs.{run}
-use Rattle.sv_ast.specs.Parts.{Path, same_path, Part, part_with, parts_from, parts, children, PortLink, port_path, linked_path, links_of, signals_of, signal_path}
+use Rattle.sv_ast.specs.Parts.{Path, same_path, Part, part_with, parts_from, parts, children}
+use Rattle.sv_ast.specs.Parts.{PortLink, port_path, linked_path, links_of, signals_of, signal_path}
 use Rattle.sv_ast.specs.Reach.{holds}
 use Rattle.sv_ast.specs.ClockPaths.{clock_paths}
-use Rattle.sv_ast.specs.Processes.{name_in, changed_by, updates_by, combinational_body, clocked_body, assigns, link_in, link_out, link_change}
-use Rattle.sv_ast.proofs.SmallTrees.{somewhere, begin_end, decimal_of, name, op, bits, declaration_with, declares, input, output, assigns_to, whenever, on_edge, link, stands, module_with, text_of, placed, path, paths, paths_are, gets, gets_later}
+use Rattle.sv_ast.specs.Processes.{name_in, changed_by, updates_by, combinational_body}
+use Rattle.sv_ast.specs.Processes.{clocked_body, assigns, link_in, link_out, link_change}
+use Rattle.sv_ast.proofs.SmallTrees.{somewhere, begin_end, decimal_of, name, op, bits}
+use Rattle.sv_ast.proofs.SmallTrees.{declaration_with, declares, input, output, assigns_to}
+use Rattle.sv_ast.proofs.SmallTrees.{whenever, on_edge, link, stands, module_with, text_of, placed}
+use Rattle.sv_ast.proofs.SmallTrees.{path, paths, paths_are, gets, gets_later}
 
--- A clock through two instances: `top` has `a` and `b` of `middle`, and each of these has `u` of `leaf`, whose
--- register uses it.
+-- A clock through two instances: `top` has `a` and `b` of `middle`, and each of these has `u` of
+-- `leaf`, whose register uses it.
 
 abbrev leaf : ModuleTree
 leaf = module_with "leaf" [] (input None "clk" ∷ input None "d" ∷ [])
@@ -59,7 +66,8 @@ no_part_without_a_top = refl
 pub an_unknown_module : map path_of (children [] (part_with [] [] middle)) ≡ []
 an_unknown_module = refl
 
-pub an_instance_of_a_known_module : map path_of (children (leaf ∷ []) (part_with (path "a") [] middle)) ≡ paths "a.u"
+pub an_instance_of_a_known_module :
+    map path_of (children (leaf ∷ []) (part_with (path "a") [] middle)) ≡ paths "a.u"
 an_instance_of_a_known_module = refl
 
 -- no deeper than the levels allow
@@ -83,7 +91,8 @@ names_that_are_linked = refl
 -- the clocks of a text in signal order
 abbrev clocks_of : TextTree → List Path
 clocks_of text = filter
-    (holds same_path (clock_paths (parts text None) (flat_map (links_of text.modules) (parts text None))))
+    (holds same_path (clock_paths (parts text None)
+    (flat_map (links_of text.modules) (parts text None))))
     (map signal_path (flat_map signals_of (parts text None)))
 
 pub clocks_through_two_instances : clocks_of clocked_text
@@ -106,7 +115,8 @@ pub an_expression_is_no_clock : clocks_of (text_of (leaf ∷ module_with "t" [] 
 unfolding parts_from
 an_expression_is_no_clock = refl
 
--- an output that is linked to a clock is no clock; a name that is linked to an output that is a clock is one
+-- an output that is linked to a clock is no clock; a name that is linked to an output that is a
+-- clock is one
 abbrev source : List ItemTree → ModuleTree
 source items = module_with "source" [] (output None "o" ∷ []) items
 
@@ -149,7 +159,8 @@ second_leaf = part_with (path "b.u") [] leaf
 abbrev copies : StatementTree
 copies = gets "q" (name "d")
 
-pub its_own_signal_changes : changed_by second_leaf copies (paths_are (("b.u.d", 1) ∷ [])) (path "b.u.q")
+pub its_own_signal_changes :
+    changed_by second_leaf copies (paths_are (("b.u.d", 1) ∷ [])) (path "b.u.q")
     ≡ 1
 unfolding run value sign_of
 its_own_signal_changes = refl
@@ -173,12 +184,15 @@ unfolding run value sign_of
 an_update_of_its_own_signal = refl
 
 pub updates_in_order :
-    updates_by second_leaf (begin_end (gets_later "q" (decimal_of 0) ∷ gets_later "q" (decimal_of 1) ∷ [])) (paths_are [])
+    updates_by second_leaf
+    (begin_end (gets_later "q" (decimal_of 0) ∷ gets_later "q" (decimal_of 1) ∷ []))
+    (paths_are [])
     ≡ (path "b.u.q", 0) ∷ (path "b.u.q", 1) ∷ []
 unfolding run value sign_of
 updates_in_order = refl
 
-pub no_updates_of_a_blocking_assignment : updates_by second_leaf copies (paths_are (("b.u.d", 1) ∷ [])) ≡ []
+pub no_updates_of_a_blocking_assignment :
+    updates_by second_leaf copies (paths_are (("b.u.d", 1) ∷ [])) ≡ []
 unfolding run value sign_of
 no_updates_of_a_blocking_assignment = refl
 
@@ -215,7 +229,8 @@ no_body_at_an_edge = refl
 pub an_invariant_is_no_process : combinational_body (invariant_item somewhere (name "x")) ≡ None
 an_invariant_is_no_process = refl
 
--- Links with other lengths and signs: between a port, and x and y of four bits, n of eight or m of two.
+-- Links with other lengths and signs: between a port, and x and y of four bits, n of eight or m of
+-- two.
 
 abbrev ported : DeclarationTree → Part
 ported d = part_with (path "u") [] (module_with "p" [] (d ∷ []) [])
@@ -242,7 +257,8 @@ unfolding value sign_of
 an_input_is_cut = refl
 
 pub an_output_without_a_sign :
-    link_out (port_with (output (bits 4) "o") (name "n")) (codes "n") (paths_are (("u.o", 8) ∷ [])) (path "n")
+    link_out (port_with (output (bits 4) "o") (name "n")) (codes "n") (paths_are (("u.o", 8) ∷ []))
+    (path "n")
     ≡ 0x08
 unfolding value sign_of
 an_output_without_a_sign = refl
@@ -255,7 +271,8 @@ unfolding value sign_of
 an_output_with_a_sign = refl
 
 pub an_output_is_cut :
-    link_out (port_with (output (bits 4) "o") (name "m")) (codes "m") (paths_are (("u.o", 14) ∷ [])) (path "m")
+    link_out (port_with (output (bits 4) "o") (name "m")) (codes "m") (paths_are (("u.o", 14) ∷ []))
+    (path "m")
     ≡ 2
 unfolding value sign_of
 an_output_is_cut = refl
@@ -265,6 +282,7 @@ pub an_output_to_an_expression_is_no_process :
     ≡ false
 an_output_to_an_expression_is_no_process = refl
 
-pub an_input_from_an_expression_is_one : is_some (link_change (port_with (input None "i") (decimal_of 1)))
+pub an_input_from_an_expression_is_one :
+    is_some (link_change (port_with (input None "i") (decimal_of 1)))
     ≡ true
 an_input_from_an_expression_is_one = refl

@@ -5,15 +5,21 @@ use Rattle.std.specs.Prelude.{codes}
 use Rattle.std.specs.Str.{bytes_eq}
 use Rattle.sv_num.specs.declared.operators.BinOp.TheVariants as binop
 use Rattle.sv_ast.specs.Scopes.{Scope}
-use Rattle.sv_ast.specs.Tree.{ExpressionTree, StatementTree, null, if_only, case_of, ArmTrees, no_arms}
+use Rattle.sv_ast.specs.Tree.{ExpressionTree, StatementTree, null, if_only, case_of, ArmTrees}
+use Rattle.sv_ast.specs.Tree.{no_arms}
 use Rattle.sv_ast.specs.Values.{value, sign_of}
 use Rattle.sv_system.specs.System.{last_update}
-use Rattle.sv_ast.specs.Runs.{target_width, targets_width, pieces, with_bits, case_length, case_sign, run, assigned}
-use Rattle.sv_ast.proofs.SmallTrees.{somewhere, decimal_of, sized_of, name, op, to, to_bit, to_part, puts, posts, begin_end, either, arm, signals_are, values_are, gets, gets_later, names}
+use Rattle.sv_ast.specs.Runs.{target_width, targets_width, pieces, with_bits, case_length}
+use Rattle.sv_ast.specs.Runs.{case_sign, run, assigned}
+use Rattle.sv_ast.proofs.SmallTrees.{somewhere, decimal_of, sized_of, name, op, to, to_bit, to_part}
+use Rattle.sv_ast.proofs.SmallTrees.{puts, posts, begin_end, either, arm, signals_are, values_are}
+use Rattle.sv_ast.proofs.SmallTrees.{gets, gets_later, names}
 
--- the value of a name after a run with no updates pending, where the names have the given values before
+-- the value of a name after a run with no updates pending, where the names have the given values
+-- before
 abbrev after : Scope → List (String × ℕ) → StatementTree → String → ℕ
-after scope vs s n = (run scope s (record { environment = values_are vs; updates = [] })).environment (codes n)
+after scope vs s n =
+    (run scope s (record { environment = values_are vs; updates = [] })).environment (codes n)
 
 -- the updates that the run leaves
 abbrev left : Scope → List (String × ℕ) → StatementTree → List (List ℕ × ℕ)
@@ -42,7 +48,8 @@ the_outer_else = refl
 
 -- an `if` without `else`, whose condition is 0
 pub nothing_else :
-    after bits_and_y (("a", 0) ∷ ("y", 2) ∷ []) (if_only somewhere (name "a") (gets "y" (decimal_of 1))) "y"
+    after bits_and_y (("a", 0) ∷ ("y", 2) ∷ [])
+    (if_only somewhere (name "a") (gets "y" (decimal_of 1))) "y"
     ≡ 2
 unfolding run value sign_of
 nothing_else = refl
@@ -85,12 +92,14 @@ turned = case_of somewhere (name "s")
     (arm (decimal_of 1 ∷ []) (gives_y 2)
     (arm (decimal_of 2 ∷ []) (gives_y 1) (arm (decimal_of 3 ∷ []) (gives_y 0) no_arms))))
 
-pub complete_case : map (λ s. after s_and_y (("s", s) ∷ ("y", 9) ∷ []) turned "y") (0 ∷ 1 ∷ 2 ∷ 3 ∷ [])
+pub complete_case : map (λ s.
+    after s_and_y (("s", s) ∷ ("y", 9) ∷ []) turned "y") (0 ∷ 1 ∷ 2 ∷ 3 ∷ [])
     ≡ 3 ∷ 2 ∷ 1 ∷ 0 ∷ []
 unfolding run value sign_of
 complete_case = refl
 
--- 1, 2: y = 5; default y = 6; 2, 3: y = 7; with the default in the middle; of two arms with 2 the first is taken
+-- 1, 2: y = 5; default y = 6; 2, 3: y = 7; with the default in the middle; of two arms with 2 the
+-- first is taken
 abbrev with_default : StatementTree
 with_default = case_of somewhere (name "s")
     (arm (decimal_of 1 ∷ decimal_of 2 ∷ []) (gives_y 5)
@@ -110,7 +119,8 @@ pub no_arm :
 unfolding run value sign_of
 no_arm = refl
 
--- case (s + 1'b1) 0: y = 1; 4: y = 2; with items of 32 bits the sum does not wrap, with items of 2 bits it does
+-- case (s + 1'b1) 0: y = 1; 4: y = 2; with items of 32 bits the sum does not wrap, with items of 2
+-- bits it does
 abbrev wraps : ExpressionTree → ExpressionTree → StatementTree
 wraps zero four = case_of somewhere (op binop.Add (name "s") (sized_of 1 false 1))
     (arm (zero ∷ []) (gives_y 1) (arm (four ∷ []) (gives_y 2) no_arms))
@@ -120,7 +130,8 @@ pub sized_to_the_longest : after s_and_y (("s", 3) ∷ []) (wraps (decimal_of 0)
 unfolding run value sign_of
 sized_to_the_longest = refl
 
-pub sized_to_two_bits : after s_and_y (("s", 3) ∷ []) (wraps (sized_of 2 false 0) (sized_of 1 false 1)) "y"
+pub sized_to_two_bits :
+    after s_and_y (("s", 3) ∷ []) (wraps (sized_of 2 false 0) (sized_of 1 false 1)) "y"
     ≡ 1
 unfolding run value sign_of
 sized_to_two_bits = refl
@@ -139,7 +150,8 @@ unfolding run value sign_of
 unsigned_if_one_is = refl
 
 abbrev two_and_four_bits : ArmTrees
-two_and_four_bits = arm (sized_of 2 true 3 ∷ []) null (arm [] null (arm (sized_of 4 true 15 ∷ []) null no_arms))
+two_and_four_bits =
+    arm (sized_of 2 true 3 ∷ []) null (arm [] null (arm (sized_of 4 true 15 ∷ []) null no_arms))
 
 pub the_longest_item : case_length s_and_y (name "s") two_and_four_bits ≡ 4
 unfolding value sign_of
@@ -210,7 +222,8 @@ unfolding run value sign_of
 other_bits_stay = refl
 
 -- {c, s} of 'b10110, and one target alone
-pub pieces_of_five_bits : pieces sum_scope (to "c" ∷ to "s" ∷ []) 22 ≡ (to "c", 1) ∷ (to "s", 6) ∷ []
+pub pieces_of_five_bits : pieces sum_scope (to "c" ∷ to "s" ∷ []) 22 ≡
+    (to "c", 1) ∷ (to "s", 6) ∷ []
 unfolding value sign_of
 pieces_of_five_bits = refl
 
@@ -227,7 +240,8 @@ lowest_bits = refl
 pub highest_bits : with_bits 12 4 0xabcd 0 ≡ 0xbcd
 highest_bits = refl
 
--- {p[1:0], p[3:2]} <= 'b0111 where p is 0: the first piece is put first, and the second into what that made
+-- {p[1:0], p[3:2]} <= 'b0111 where p is 0: the first piece is put first, and the second into what
+-- that made
 pub two_pieces_of_one_signal :
     left sum_scope [] (posts (to_part "p" 1 0 ∷ to_part "p" 3 2 ∷ []) (decimal_of 7))
     ≡ (codes "p", 1) ∷ (codes "p", 13) ∷ []
@@ -237,12 +251,14 @@ two_pieces_of_one_signal = refl
 -- p[0] <= 1; p[1] <= 1; where p is 8: the second keeps the pending bit of the first
 pub pending_bits_are_kept :
     left sum_scope (("p", 8) ∷ [])
-    (begin_end (posts (to_bit "p" 0 ∷ []) (decimal_of 1) ∷ posts (to_bit "p" 1 ∷ []) (decimal_of 1) ∷ []))
+    (begin_end (posts (to_bit "p" 0 ∷ []) (decimal_of 1) ∷
+    posts (to_bit "p" 1 ∷ []) (decimal_of 1) ∷ []))
     ≡ (codes "p", 9) ∷ (codes "p", 11) ∷ []
 unfolding run value sign_of
 pending_bits_are_kept = refl
 
-pub assigned_names : assigned (either (name "a") carry_and_sum (gets_later "p" (decimal_of 0))) ≡ names "c s p"
+pub assigned_names : assigned (either (name "a") carry_and_sum (gets_later "p" (decimal_of 0))) ≡
+    names "c s p"
 assigned_names = refl
 
 pub assigned_by_all_arms : assigned with_default ≡ names "y y y"

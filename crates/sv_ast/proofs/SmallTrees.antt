@@ -10,7 +10,14 @@ use Rattle.sv_num.specs.declared.faults.Place.{Place}
 use Rattle.sv_num.specs.declared.operators.BinOp.{BinOp}
 use Rattle.sv_ast.specs.declared.declarations.DeclKind.{DeclKind}
 use Rattle.sv_ast.specs.declared.declarations.DeclKind.TheVariants as kind
-use Rattle.sv_ast.specs.Tree.{ExpressionTree, literal, named, binary, ExpressionTrees, no_expressions, more_expressions, whole, bit_at, part_from, TargetTree, StatementTree, assignment, block, StatementTrees, no_statements, more_statements, ArmTrees, more_arms, if_else, SpanTree, LabelTree, DeclarationTree, ParameterTree, PlacedName, NamedLink, LinkTrees, OverrideTrees, NamedOverride, ItemTree, continuous, always_item, instance_item, ModuleTree, LatticeTree, KeyTree, RowTree, MapTree, TextTree}
+use Rattle.sv_ast.specs.Tree.{ExpressionTree, literal, named, binary, ExpressionTrees}
+use Rattle.sv_ast.specs.Tree.{no_expressions, more_expressions, whole, bit_at, part_from}
+use Rattle.sv_ast.specs.Tree.{TargetTree, StatementTree, assignment, block, StatementTrees}
+use Rattle.sv_ast.specs.Tree.{no_statements, more_statements, ArmTrees, more_arms, if_else}
+use Rattle.sv_ast.specs.Tree.{SpanTree, LabelTree, DeclarationTree, ParameterTree, PlacedName}
+use Rattle.sv_ast.specs.Tree.{NamedLink, LinkTrees, OverrideTrees, NamedOverride, ItemTree}
+use Rattle.sv_ast.specs.Tree.{continuous, always_item, instance_item, ModuleTree, LatticeTree}
+use Rattle.sv_ast.specs.Tree.{KeyTree, RowTree, MapTree, TextTree}
 
 abbrev pub somewhere : Place
 somewhere = record { line = 1; column = 1 }
@@ -21,7 +28,8 @@ decimal_of n = literal (record { width = 32; signed = true; value = n; sized = f
 
 -- a number of so many bits
 abbrev pub sized_of : ℕ → Bool → ℕ → ExpressionTree
-sized_of width signed n = literal (record { width = width; signed = signed; value = n; sized = true }) somewhere
+sized_of width signed n =
+    literal (record { width = width; signed = signed; value = n; sized = true }) somewhere
 
 abbrev pub name : String → ExpressionTree
 name t = named (codes t) somewhere
@@ -83,7 +91,8 @@ arm items s more = more_arms somewhere items s more
 
 abbrev pub signals_are : List (String × ℕ) → Scope
 signals_are [] n = None
-signals_are ((t, width) ∷ ss) n = cond (bytes_eq n (codes t)) (Some (signal width false)) (signals_are ss n)
+signals_are ((t, width) ∷ ss) n =
+    cond (bytes_eq n (codes t)) (Some (signal width false)) (signals_are ss n)
 
 -- 0 for all other names
 abbrev pub values_are : List (String × ℕ) → List ℕ → ℕ
@@ -113,7 +122,8 @@ paths_are ((t, v) ∷ vs) p = cond (same_path p (path t)) v (paths_are vs p)
 abbrev pub bits : ℕ → Option SpanTree
 bits n = Some (record { high = decimal_of (n - 1); low = decimal_of 0 })
 
-abbrev pub declaration_with : DeclKind → Bool → Option SpanTree → Option LabelTree → String → DeclarationTree
+abbrev pub declaration_with : DeclKind → Bool → Option SpanTree → Option LabelTree → String →
+    DeclarationTree
 declaration_with k signed span label t = record {
   kind = k;
   signed = signed;
@@ -174,7 +184,8 @@ stands master os t ls = instance_item (record {
   links = ls;
 })
 
-abbrev pub module_with : String → List ParameterTree → List DeclarationTree → List ItemTree → ModuleTree
+abbrev pub module_with : String → List ParameterTree → List DeclarationTree → List ItemTree →
+    ModuleTree
 module_with t ps ports items = record {
   name = codes t;
   place = somewhere;
@@ -200,7 +211,11 @@ lattice_with ps qs = record {
 
 -- a plain number as a key
 abbrev pub key : ℕ → KeyTree
-key n = record { value = record { width = 32; signed = true; value = n; sized = false }; place = somewhere }
+key n =
+    record {
+      value = record { width = 32; signed = true; value = n; sized = false };
+      place = somewhere;
+    }
 
 abbrev pub map_with : String → Option SpanTree → List RowTree → Option String → MapTree
 map_with t second rows other = record {

@@ -8,13 +8,15 @@ use Rattle.sv_ast.specs.GrammarMeaning.{Means, BreaksSyntax, end_place}
 use Rattle.sv_ast.proofs.GrammarLaws.{meaning_breaks_no_rule, one_refusal}
 
 pub means_no_break : (bytes : List ℕ) (text : TextTree) → Means bytes text
-    → (number : ℕ) (names : List (List ℕ)) (place : Place) → BreaksSyntax number names place bytes → ⊥
+    → (number : ℕ) (names : List (List ℕ)) (place : Place)
+    → BreaksSyntax number names place bytes → ⊥
 means_no_break bytes text (ts, are, mean) number names place (inl lexis) = not_both are lexis
 means_no_break bytes text (ts, are, mean) number names place (inr (us, are_too, breaks)) =
     meaning_breaks_no_rule us text number names place (end_place bytes)
     (subst (λ vs. TokensMean vs text) (tokens_are_one are are_too) mean) breaks
 
-pub broken_once : (bytes : List ℕ) (number other : ℕ) (names others : List (List ℕ)) (place elsewhere : Place)
+pub broken_once : (bytes : List ℕ) (number other : ℕ) (names others : List (List ℕ))
+    (place elsewhere : Place)
     → BreaksSyntax number names place bytes → BreaksSyntax other others elsewhere bytes
     → (number ≡ other) × (place ≡ elsewhere)
 broken_once bytes n m ns ms p q (inl first) (inl second) =

@@ -1,6 +1,7 @@
 -- Which signals are clocks: those after `posedge` (IEEE 1364-2005, clause 9.7.2), and those that
 -- links join to them (this project's profile).
-use Rattle.std.specs.Prelude.{ℕ, Bool, true, false, if◌then◌else◌, List, [], ◌∷◌, length, filter_map, flat_map, Contains, Option, Some, None, option_map}
+use Rattle.std.specs.Prelude.{ℕ, Bool, true, false, if◌then◌else◌, List, [], ◌∷◌, length}
+use Rattle.std.specs.Prelude.{filter_map, flat_map, Contains, Option, Some, None, option_map}
 use Rattle.std.specs.Option.{option_map_or}
 use Rattle.sv_ast.specs.declared.declarations.DeclKind.{DeclKind}
 use Rattle.sv_ast.specs.declared.declarations.DeclKind.TheVariants as kind

@@ -1,12 +1,17 @@
--- Parameters, ports, signals and memories (IEEE 1364-2005, annex A and clause 4; labels are those of SecVerilog, ASPLOS 2015).
+-- Parameters, ports, signals and memories (IEEE 1364-2005, annex A and clause 4; labels are those
+-- of SecVerilog, ASPLOS 2015).
 use Rattle.std.specs.Prelude.{◌≡◌, Bool, true, false, List, Option, Some, None}
 use Rattle.sv_token.specs.declared.keywords.WordKind.{WordKind}
 use Rattle.sv_token.specs.declared.keywords.WordKind.TheVariants as words
 use Rattle.sv_token.specs.declared.signs.SignKind.TheVariants as signs
 use Rattle.sv_ast.specs.declared.declarations.DeclKind.{DeclKind}
 use Rattle.sv_ast.specs.declared.declarations.DeclKind.TheVariants as kinds
-use Rattle.sv_ast.specs.Tree.{ExpressionTree, SpanTree, LabelTree, point_label, table_label, DeclarationTree, ParameterTree, MemoryLabelTree, memory_point, by_index, MemoryTree}
-use Rattle.sv_ast.specs.GrammarForms.{Form, ◌⨾◌, ◌or◌, given, nothing, never, optional, perhaps, flag, name_at, a_word, a_sign, a_name, a_number, listed, in_parentheses, in_brackets, in_braces}
+use Rattle.sv_ast.specs.Tree.{ExpressionTree, SpanTree, LabelTree, point_label, table_label}
+use Rattle.sv_ast.specs.Tree.{DeclarationTree, ParameterTree, MemoryLabelTree, memory_point}
+use Rattle.sv_ast.specs.Tree.{by_index, MemoryTree}
+use Rattle.sv_ast.specs.GrammarForms.{Form, ◌⨾◌, ◌or◌, given, nothing, never, optional, perhaps}
+use Rattle.sv_ast.specs.GrammarForms.{flag, name_at, a_word, a_sign, a_name, a_number, listed}
+use Rattle.sv_ast.specs.GrammarForms.{in_parentheses, in_brackets, in_braces}
 use Rattle.sv_ast.specs.GrammarExpressions.{Limits, IsExpression}
 
 -- ---- types
@@ -21,7 +26,8 @@ IsRange l s = in_brackets (IsValue l s.high ⨾ a_sign signs.Colon ⨾ IsValue l
 abbrev pub IsLabel : LabelTree → Form
 IsLabel (point_label x p) = in_braces (name_at x p)
 IsLabel (table_label m s t p) =
-    in_braces (name_at m p ⨾ in_parentheses (a_name s ⨾ perhaps (λ x. a_sign signs.Comma ⨾ a_name x) t))
+    in_braces (name_at m p
+    ⨾ in_parentheses (a_name s ⨾ perhaps (λ x. a_sign signs.Comma ⨾ a_name x) t))
 
 -- `signed` or not, a range or none, a label or none
 abbrev pub IsTyped : Limits → DeclarationTree → Form
@@ -54,7 +60,8 @@ IsParameter l q =
 -- a parameter without the word takes word, sign and range of the one before it
 abbrev pub IsLaterParameter : Limits → ParameterTree → ParameterTree → Form
 IsLaterParameter l before q =
-    given ((q.local ≡ before.local) × (q.signed ≡ before.signed) × (q.span ≡ before.span)) (IsNamedParameter l q)
+    given ((q.local ≡ before.local) × (q.signed ≡ before.signed)
+    × (q.span ≡ before.span)) (IsNamedParameter l q)
 
 abbrev pub AreParameters : Limits → List ParameterTree → Form
 AreParameters l = listed (IsParameter l) (IsLaterParameter l)

@@ -1,6 +1,7 @@
--- How forms of the grammar are put together (IEEE 1364-2005, annex A). A form says from which tokens to which tokens left behind
--- it it stands.
-use Rattle.std.specs.Prelude.{◌≡◌, ℕ, Bool, true, false, not, IsTrue, List, [], ◌∷◌, slice_get, Option, Some, None, option_map, option_and_then, ◌⊎◌}
+-- How forms of the grammar are put together (IEEE 1364-2005, annex A). A form says from which
+-- tokens to which tokens left behind it it stands.
+use Rattle.std.specs.Prelude.{◌≡◌, ℕ, Bool, true, false, not, IsTrue, List, [], ◌∷◌, slice_get}
+use Rattle.std.specs.Prelude.{Option, Some, None, option_map, option_and_then, ◌⊎◌}
 use Rattle.sv_num.specs.OperatorTables.{binary_table, unary_table}
 use Rattle.sv_num.specs.declared.faults.Place.{Place}
 use Rattle.sv_num.specs.declared.operators.UnOp.{UnOp}
@@ -100,16 +101,20 @@ flag w false = nothing
 
 -- the binary and the unary operator of a spelling, by its rows in the tables of operators
 abbrev pub binary_operator : Operator → Option BinOp
-binary_operator o = option_and_then (λ row. option_map (λ r. r.1) (slice_get binary_table row)) o.binary
+binary_operator o =
+    option_and_then (λ row. option_map (λ r. r.1) (slice_get binary_table row)) o.binary
 
 abbrev pub unary_operator : Operator → Option UnOp
-unary_operator o = option_and_then (λ row. option_map (λ r. r.1) (slice_get unary_table row)) o.unary
+unary_operator o =
+    option_and_then (λ row. option_map (λ r. r.1) (slice_get unary_table row)) o.unary
 
 abbrev pub binary_at : BinOp → Place → Form
-binary_at op p ts rest = (o : Operator) × (binary_operator o ≡ Some op) × sign_at (signs.Operator o) p ts rest
+binary_at op p ts rest =
+    (o : Operator) × (binary_operator o ≡ Some op) × sign_at (signs.Operator o) p ts rest
 
 abbrev pub unary_at : UnOp → Place → Form
-unary_at op p ts rest = (o : Operator) × (unary_operator o ≡ Some op) × sign_at (signs.Operator o) p ts rest
+unary_at op p ts rest =
+    (o : Operator) × (unary_operator o ≡ Some op) × sign_at (signs.Operator o) p ts rest
 
 -- ---- lists
 

@@ -2,7 +2,10 @@
 use Rattle.std.specs.Prelude.{ℕ, List}
 use Rattle.sv_num.specs.declared.operators.UnOp.{UnOp}
 use Rattle.sv_num.specs.declared.operators.BinOp.{BinOp}
-use Rattle.sv_num.specs.declared.operators.BinOp.TheVariants.{Mul, Div, Rem, Add, Sub, Shl, Shr, SignShl, SignShr, Lt, Le, Gt, Ge, Eq, Ne, And, Xor, Xnor, Or, LogicAnd, LogicOr}
+use Rattle.sv_num.specs.declared.operators.BinOp.TheVariants.{Mul, Div, Rem, Add, Sub, Shl, Shr}
+use Rattle.sv_num.specs.declared.operators.BinOp.TheVariants.{SignShl, SignShr, Lt, Le, Gt, Ge, Eq}
+use Rattle.sv_num.specs.declared.operators.BinOp.TheVariants.{Ne, And, Xor, Xnor, Or, LogicAnd}
+use Rattle.sv_num.specs.declared.operators.BinOp.TheVariants.{LogicOr}
 use Rattle.sv_num.specs.declared.faults.Place.{Place}
 use Rattle.sv_token.specs.Lexemes.{Literal}
 use Rattle.sv_ast.specs.Tree as tree
@@ -34,9 +37,11 @@ abbrev mutual
   without_groups (group e) = without_groups e
   without_groups (unary op p e) = tree.unary op p (without_groups e)
   without_groups (binary op p a b) = tree.binary op p (without_groups a) (without_groups b)
-  without_groups (choice p c a b) = tree.choice p (without_groups c) (without_groups a) (without_groups b)
+  without_groups (choice p c a b) =
+      tree.choice p (without_groups c) (without_groups a) (without_groups b)
   without_groups (join p es) = tree.join p (all_without_groups es)
-  without_groups (replication p c es) = tree.replication p (without_groups c) (all_without_groups es)
+  without_groups (replication p c es) =
+      tree.replication p (without_groups c) (all_without_groups es)
 
   pub all_without_groups : WrittenList → tree.ExpressionTrees
   all_without_groups no_more = tree.no_expressions

@@ -14,7 +14,8 @@ Means bytes text = (tokens : List Placed) × AreTokensOf bytes tokens × TokensM
 abbrev pub end_place : (bytes : List ℕ) → Place
 end_place bytes = place_behind first_place bytes
 
--- the bytes break a rule of 101 to 104 first; or they are tokens, and these break a rule of 201 to 204 first
+-- the bytes break a rule of 101 to 104 first; or they are tokens, and these break a rule of 201 to
+-- 204 first
 abbrev pub BreaksSyntax : (number : ℕ) → (names : List (List ℕ)) → Place → (bytes : List ℕ) → Type 0
 BreaksSyntax number names place bytes =
     BreaksLexis number names place bytes

@@ -1,16 +1,26 @@
--- Items, modules and whole texts (IEEE 1364-2005, annex A and clause 12; lattices and label maps are those of SecVerilog, ASPLOS
--- 2015; invariants and released values are this project's profile).
+-- Items, modules and whole texts (IEEE 1364-2005, annex A and clause 12; lattices and label maps
+-- are those of SecVerilog, ASPLOS 2015; invariants and released values are this project's profile).
 use Rattle.std.specs.Prelude.{◌≡◌, ℕ, List, [], ◌∷◌, map, flat_map, Option, Some, None}
 use Rattle.sv_num.specs.declared.operators.BinOp.TheVariants.{Mul, Le}
 use Rattle.sv_num.specs.declared.faults.Place.{Place}
 use Rattle.sv_token.specs.declared.keywords.WordKind.TheVariants as words
 use Rattle.sv_token.specs.declared.signs.SignKind.TheVariants as signs
 use Rattle.sv_token.specs.Lexemes.{Placed}
-use Rattle.sv_ast.specs.Tree.{ExpressionTree, literal, named, bit_of, part_of, unary, binary, choice, join, replication, whole, TargetTree, SpanTree, NamedOverride, OverrideTrees, named_overrides, ordered_overrides, NamedLink, LinkTrees, named_links, ordered_links, InstanceTree, PlacedName, ItemTree, parameter_item, declared, memory_item, continuous, released, always_item, invariant_item, instance_item, ModuleTree, PairTree, LatticeTree, RowTree, KeyTree, MapTree, TextTree}
-use Rattle.sv_ast.specs.GrammarForms.{Form, ◌⨾◌, ◌or◌, given, nothing, never, optional, perhaps, each, some, word_at, name_at, number_at, a_word, a_sign, a_name, somewhere, binary_at, listed, commas, in_parentheses, in_brackets}
+use Rattle.sv_ast.specs.Tree.{ExpressionTree, literal, named, bit_of, part_of, unary, binary}
+use Rattle.sv_ast.specs.Tree.{choice, join, replication, whole, TargetTree, SpanTree, NamedOverride}
+use Rattle.sv_ast.specs.Tree.{OverrideTrees, named_overrides, ordered_overrides, NamedLink}
+use Rattle.sv_ast.specs.Tree.{LinkTrees, named_links, ordered_links, InstanceTree, PlacedName}
+use Rattle.sv_ast.specs.Tree.{ItemTree, parameter_item, declared, memory_item, continuous, released}
+use Rattle.sv_ast.specs.Tree.{always_item, invariant_item, instance_item, ModuleTree, PairTree}
+use Rattle.sv_ast.specs.Tree.{LatticeTree, RowTree, KeyTree, MapTree, TextTree}
+use Rattle.sv_ast.specs.GrammarForms.{Form, ◌⨾◌, ◌or◌, given, nothing, never, optional, perhaps}
+use Rattle.sv_ast.specs.GrammarForms.{each, some, word_at, name_at, number_at, a_word, a_sign}
+use Rattle.sv_ast.specs.GrammarForms.{a_name, somewhere, binary_at, listed, commas, in_parentheses}
+use Rattle.sv_ast.specs.GrammarForms.{in_brackets}
 use Rattle.sv_ast.specs.GrammarExpressions.{Limits}
 use Rattle.sv_ast.specs.GrammarStatements.{AreTargets, BeginAt, only, IsStatement}
-use Rattle.sv_ast.specs.GrammarDeclarations.{IsValue, equals, AreParameters, AreHeaderParameters, ArePorts, AreSignals, IsMemory}
+use Rattle.sv_ast.specs.GrammarDeclarations.{IsValue, equals, AreParameters, AreHeaderParameters}
+use Rattle.sv_ast.specs.GrammarDeclarations.{ArePorts, AreSignals, IsMemory}
 
 -- a name with its place
 abbrev pub IsPlacedName : PlacedName → Form
@@ -23,7 +33,8 @@ abbrev pub IsWholeTarget : TargetTree → Form
 IsWholeTarget t = given (t.selection ≡ whole) (name_at t.name t.place)
 
 abbrev pub IsContinuous : Limits → ItemTree → Form
-IsContinuous l (continuous targets p e) = given (BeginAt p targets) (AreTargets IsWholeTarget targets ⨾ equals l e)
+IsContinuous l (continuous targets p e) =
+    given (BeginAt p targets) (AreTargets IsWholeTarget targets ⨾ equals l e)
 IsContinuous l _ = never
 
 abbrev pub AreContinuous : Limits → List ItemTree → Form
@@ -44,7 +55,8 @@ IsEvent None = somewhere (binary_at Mul) or in_parentheses (somewhere (binary_at
 IsEvent (Some clock) = in_parentheses (a_word words.Posedge ⨾ IsPlacedName clock)
 
 abbrev pub IsAlways : Limits → ItemTree → Form
-IsAlways l (always_item p clock s) = word_at words.Always p ⨾ a_sign signs.At ⨾ IsEvent clock ⨾ IsStatement l 0 s
+IsAlways l (always_item p clock s) =
+    word_at words.Always p ⨾ a_sign signs.At ⨾ IsEvent clock ⨾ IsStatement l 0 s
 IsAlways l _ = never
 
 -- the place of an expression: of its operator, its `?` or its first brace, else of its first token
@@ -99,13 +111,15 @@ abbrev pub AreOfOneModule : InstanceTree → InstanceTree → Type 0
 AreOfOneModule i j = (j.master ≡ i.master) × (j.place ≡ i.place) × (j.overrides ≡ i.overrides)
 
 abbrev pub AreInstances : Limits → List InstanceTree → Form
-AreInstances l = listed (IsInstance l) (λ before i. given (AreOfOneModule before i) (IsNamedInstance l i))
+AreInstances l =
+    listed (IsInstance l) (λ before i. given (AreOfOneModule before i) (IsNamedInstance l i))
 
 -- ---- items
 
 -- items of one kind, as trees of that kind
 abbrev pub all_as : {A : Type 0} → (A → ItemTree) → (List A → Form) → List ItemTree → Form
-all_as {A} as_item P items ts rest = (members : List A) × (items ≡ map as_item members) × P members ts rest
+all_as {A} as_item P items ts rest =
+    (members : List A) × (items ≡ map as_item members) × P members ts rest
 
 -- what stands up to a `;` and gives these items, an item for each name
 abbrev pub IsListedItem : Limits → List ItemTree → Form
@@ -125,7 +139,8 @@ IsItem l items = only (IsAlways l) items or (IsListedItem l items ⨾ a_sign sig
 -- the items of a module, in order
 abbrev pub AreItems : Limits → List ItemTree → Form
 AreItems l items ts rest =
-    (groups : List (List ItemTree)) × (items ≡ flat_map (λ group. group) groups) × each (IsItem l) groups ts rest
+    (groups : List (List ItemTree)) × (items ≡ flat_map (λ group. group) groups)
+    × each (IsItem l) groups ts rest
 
 -- ---- modules
 
@@ -134,7 +149,8 @@ IsHeader l m =
     a_word words.Module
     ⨾ name_at m.name m.place
     ⨾ (given (m.parameters ≡ []) nothing or hash_parentheses (AreHeaderParameters l m.parameters))
-    ⨾ (given (m.ports ≡ []) (optional (in_parentheses nothing)) or in_parentheses (ArePorts l m.ports))
+    ⨾ (given (m.ports ≡ []) (optional (in_parentheses nothing))
+    or in_parentheses (ArePorts l m.ports))
     ⨾ a_sign signs.Semicolon
 
 unfoldable pub IsModule : Limits → ModuleTree → Form
@@ -149,7 +165,8 @@ pub data LatticeLine : Type 0 where
 
 abbrev pub IsLatticeLine : LatticeLine → Form
 IsLatticeLine (points xs) = a_word words.Point ⨾ commas IsPlacedName xs ⨾ a_sign signs.Semicolon
-IsLatticeLine (pair q) = IsPlacedName q.lower ⨾ somewhere (binary_at Le) ⨾ IsPlacedName q.upper ⨾ a_sign signs.Semicolon
+IsLatticeLine (pair q) =
+    IsPlacedName q.lower ⨾ somewhere (binary_at Le) ⨾ IsPlacedName q.upper ⨾ a_sign signs.Semicolon
 
 abbrev pub points_of : LatticeLine → List PlacedName
 points_of (points xs) = xs
@@ -180,7 +197,8 @@ IsKey k = number_at k.value k.place
 
 abbrev pub IsRow : RowTree → Form
 IsRow r =
-    IsKey r.first ⨾ perhaps (λ k. a_sign signs.Comma ⨾ IsKey k) r.second ⨾ a_sign signs.Colon ⨾ a_name r.to ⨾ a_sign signs.Semicolon
+    IsKey r.first ⨾ perhaps (λ k. a_sign signs.Comma ⨾ IsKey k) r.second ⨾ a_sign signs.Colon
+    ⨾ a_name r.to ⨾ a_sign signs.Semicolon
 
 unfoldable pub IsMap : MapTree → Form
 IsMap m =
@@ -189,11 +207,13 @@ IsMap m =
     ⨾ IsKeyRange m.span
     ⨾ perhaps IsKeyRange m.second
     ⨾ each IsRow m.rows
-    ⨾ perhaps (λ x. a_word words.Default ⨾ a_sign signs.Colon ⨾ a_name x ⨾ a_sign signs.Semicolon) m.other
+    ⨾ perhaps (λ x. a_word words.Default ⨾ a_sign signs.Colon ⨾ a_name x
+    ⨾ a_sign signs.Semicolon) m.other
     ⨾ a_word words.Endlabelmap
 
 -- ---- texts
 
 -- the tokens, from the first to the last, are those of the text's tree
 unfoldable pub IsText : Limits → TextTree → List Placed → Type 0
-IsText l t ts = (perhaps IsLattice t.lattice ⨾ each IsMap t.maps ⨾ some (IsModule l) t.modules) ts []
+IsText l t ts =
+    (perhaps IsLattice t.lattice ⨾ each IsMap t.maps ⨾ some (IsModule l) t.modules) ts []

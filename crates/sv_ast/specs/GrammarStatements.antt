@@ -1,13 +1,19 @@
 -- Statements (IEEE 1364-2005, annex A and clauses 9.2, 9.4 and 9.5).
-use Rattle.std.specs.Prelude.{◌≡◌, ℕ, ◌+◌, nat_lt, ◌||◌, Bool, true, false, not, IsTrue, List, [], ◌∷◌}
+use Rattle.std.specs.Prelude.{◌≡◌, ℕ, ◌+◌, nat_lt, ◌||◌, Bool, true, false, not, IsTrue, List, []}
+use Rattle.std.specs.Prelude.{◌∷◌}
 use Rattle.sv_num.specs.declared.operators.BinOp.TheVariants.{Le}
 use Rattle.sv_num.specs.declared.faults.Place.{Place}
 use Rattle.sv_token.specs.declared.keywords.WordKind.{WordKind}
 use Rattle.sv_token.specs.declared.keywords.WordKind.TheVariants as words
 use Rattle.sv_token.specs.declared.signs.SignKind.TheVariants as signs
 use Rattle.sv_token.specs.Lexemes.{word, Placed}
-use Rattle.sv_ast.specs.Tree.{ExpressionTree, Selection, whole, bit_at, part_from, TargetTree, StatementTree, null, assignment, block, if_only, if_else, case_of, StatementTrees, no_statements, more_statements, ArmTrees, no_arms, more_arms}
-use Rattle.sv_ast.specs.GrammarForms.{Form, ◌⨾◌, ◌or◌, given, nothing, never, optional, word_at, name_at, a_word, a_sign, a_name, somewhere, binary_at, commas, in_parentheses, in_brackets, in_braces}
+use Rattle.sv_ast.specs.Tree.{ExpressionTree, Selection, whole, bit_at, part_from, TargetTree}
+use Rattle.sv_ast.specs.Tree.{StatementTree, null, assignment, block, if_only, if_else, case_of}
+use Rattle.sv_ast.specs.Tree.{StatementTrees, no_statements, more_statements, ArmTrees, no_arms}
+use Rattle.sv_ast.specs.Tree.{more_arms}
+use Rattle.sv_ast.specs.GrammarForms.{Form, ◌⨾◌, ◌or◌, given, nothing, never, optional, word_at}
+use Rattle.sv_ast.specs.GrammarForms.{name_at, a_word, a_sign, a_name, somewhere, binary_at, commas}
+use Rattle.sv_ast.specs.GrammarForms.{in_parentheses, in_brackets, in_braces}
 use Rattle.sv_ast.specs.GrammarExpressions.{Limits, is_within, deeper, IsExpression}
 
 -- ---- targets
@@ -16,7 +22,8 @@ use Rattle.sv_ast.specs.GrammarExpressions.{Limits, is_within, deeper, IsExpress
 abbrev pub IsSelection : Limits → ℕ → Selection → Form
 IsSelection l n whole = nothing
 IsSelection l n (bit_at i) = in_brackets (IsExpression l n i)
-IsSelection l n (part_from high low) = in_brackets (IsExpression l n high ⨾ a_sign signs.Colon ⨾ IsExpression l n low)
+IsSelection l n (part_from high low) =
+    in_brackets (IsExpression l n high ⨾ a_sign signs.Colon ⨾ IsExpression l n low)
 
 abbrev pub IsTarget : Limits → ℕ → TargetTree → Form
 IsTarget l n t = name_at t.name t.place ⨾ IsSelection l n t.selection
@@ -70,18 +77,21 @@ abbrev pub is_default : List ExpressionTree → Bool
 is_default [] = true
 is_default (e ∷ es) = false
 
--- a statement, n levels being open around it. Levels are opened by a block, by an `if` and by a `case`; an `else` belongs to the
--- nearest `if` without one
+-- a statement, n levels being open around it. Levels are opened by a block, by an `if` and by a
+-- `case`; an `else` belongs to the nearest `if` without one
 abbrev mutual
   pub IsStatement : Limits → ℕ → StatementTree → Form
   IsStatement l n null = a_sign signs.Semicolon
   IsStatement l n (assignment targets p blocking e) =
       given (BeginAt p targets)
-      (AreTargets (IsTarget l n) targets ⨾ assigns blocking ⨾ IsExpression l n e ⨾ a_sign signs.Semicolon)
+      (AreTargets (IsTarget l n) targets ⨾ assigns blocking ⨾ IsExpression l n e
+      ⨾ a_sign signs.Semicolon)
   IsStatement l n (block ss) =
-      deeper l n (a_word words.Begin ⨾ optional block_name ⨾ AreStatements l (n + 1) ss ⨾ a_word words.End)
+      deeper l n (a_word words.Begin ⨾ optional block_name ⨾ AreStatements l (n + 1) ss
+      ⨾ a_word words.End)
   IsStatement l n (if_only p c s) =
-      deeper l n (word_at words.If p ⨾ in_parentheses (IsExpression l (n + 1) c) ⨾ IsStatement l (n + 1) s ⨾ not_before words.Else)
+      deeper l n (word_at words.If p ⨾ in_parentheses (IsExpression l (n + 1) c)
+      ⨾ IsStatement l (n + 1) s ⨾ not_before words.Else)
   IsStatement l n (if_else p c s t) =
       deeper l n (word_at words.If p
       ⨾ in_parentheses (IsExpression l (n + 1) c)
@@ -98,7 +108,8 @@ abbrev mutual
   AreStatements l n no_statements = nothing
   AreStatements l n (more_statements s ss) = IsStatement l n s ⨾ AreStatements l n ss
 
-  -- the arms of a case behind `before` others, a default among them or not: at least one in all, and at most one default
+  -- the arms of a case behind `before` others, a default among them or not: at least one in all,
+  -- and at most one default
   pub AreArms : Limits → ℕ → (before : ℕ) → (default : Bool) → ArmTrees → Form
   AreArms l n before default no_arms = given (IsTrue (nat_lt 0 before)) nothing
   AreArms l n before default (more_arms p items s arms) =

@@ -1,12 +1,17 @@
 -- What an instance of a module is made of: parameters with values, signals with types, and links
 -- (IEEE 1364-2005, clauses 12.1 to 12.3). A look-up may find nothing; such texts are refused.
-use Rattle.std.specs.Prelude.{ℕ, ◌+◌, Bool, true, false, not, if◌then◌else◌, List, [], ◌∷◌, ◌++◌, map, filter, find, zip, filter_map, flat_map, Option, Some, None, option_and_then, option_to_list, unwrap_or}
+use Rattle.std.specs.Prelude.{ℕ, ◌+◌, Bool, true, false, not, if◌then◌else◌, List, [], ◌∷◌, ◌++◌}
+use Rattle.std.specs.Prelude.{map, filter, find, zip, filter_map, flat_map, Option, Some, None}
+use Rattle.std.specs.Prelude.{option_and_then, option_to_list, unwrap_or}
 use Rattle.std.specs.List.{list_any}
 use Rattle.std.specs.Str.{bytes_eq}
 -- `entry`: what a list says of a name
 pub use Rattle.sv_token.specs.Bytes.{entry}
 use Rattle.sv_ast.specs.Scopes.{Scope, Number, Binding, parameter, signal}
-use Rattle.sv_ast.specs.Tree.{ExpressionTree, named, SpanTree, DeclarationTree, ParameterTree, NamedOverride, OverrideTrees, named_overrides, ordered_overrides, NamedLink, LinkTrees, named_links, ordered_links, InstanceTree, ItemTree, parameter_item, declared, instance_item, ModuleTree}
+use Rattle.sv_ast.specs.Tree.{ExpressionTree, named, SpanTree, DeclarationTree, ParameterTree}
+use Rattle.sv_ast.specs.Tree.{NamedOverride, OverrideTrees, named_overrides, ordered_overrides}
+use Rattle.sv_ast.specs.Tree.{NamedLink, LinkTrees, named_links, ordered_links, InstanceTree}
+use Rattle.sv_ast.specs.Tree.{ItemTree, parameter_item, declared, instance_item, ModuleTree}
 use Rattle.sv_num.specs.Parts.{extended}
 use Rattle.sv_ast.specs.Values.{constant_of, bound_of}
 

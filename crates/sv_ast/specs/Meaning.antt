@@ -1,6 +1,7 @@
 -- What a source text means as a synchronous design: its cycle system, by the words of the source
 -- alone. Signals go by their paths, points by their names.
-use Rattle.std.specs.Prelude.{ℕ, Bool, false, not, ◌&&◌, List, map, filter, find, filter_map, flat_map, Option}
+use Rattle.std.specs.Prelude.{ℕ, Bool, false, not, ◌&&◌, List, map, filter, find, filter_map}
+use Rattle.std.specs.Prelude.{flat_map, Option}
 use Rattle.std.specs.List.{list_any}
 use Rattle.std.specs.Option.{option_map_or}
 use Rattle.std.specs.Str.{bytes_eq}
@@ -9,9 +10,11 @@ use Rattle.sv_ast.specs.Tree.{TextTree}
 use Rattle.sv_ast.specs.Instances.{is_empty}
 use Rattle.sv_ast.specs.Runs.{assigned}
 use Rattle.sv_ast.specs.Reach.{holds}
-use Rattle.sv_ast.specs.Parts.{Path, same_path, Part, parts, PartSignal, signal_path, signal_width, signals_of, links_of}
+use Rattle.sv_ast.specs.Parts.{Path, same_path, Part, parts, PartSignal, signal_path, signal_width}
+use Rattle.sv_ast.specs.Parts.{signals_of, links_of}
 use Rattle.sv_ast.specs.ClockPaths.{is_input_kind, clock_paths}
-use Rattle.sv_ast.specs.Processes.{values_in, clocked_body, Process, processes, change_of, updates_of, links_one_of}
+use Rattle.sv_ast.specs.Processes.{values_in, clocked_body, Process, processes, change_of}
+use Rattle.sv_ast.specs.Processes.{updates_of, links_one_of}
 use Rattle.sv_ast.specs.SourceLabels.{flows, least, label_point}
 
 -- an input of the top module
@@ -37,7 +40,8 @@ abbrev pub at_path : {X : Type 0} → List PartSignal → (PartSignal → X) →
 at_path ss said otherwise path =
     option_map_or said (find (λ s. same_path path (signal_path s)) ss) otherwise
 
--- Later: the words of memories as signals, declared invariants as facts on environments, released values in what looks alike.
+-- Later: the words of memories as signals, declared invariants as facts on environments, released
+-- values in what looks alike.
 
 -- the cycle system of some signals and processes
 abbrev pub system_of : TextTree → List PartSignal → List Process → System Path (List ℕ)

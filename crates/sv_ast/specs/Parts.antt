@@ -1,11 +1,14 @@
 -- The instances of a text as a list, in the order of the walk (IEEE 1364-2005, clause 12.1).
-use Rattle.std.specs.Prelude.{ℕ, zero, suc, Bool, List, [], ◌∷◌, ◌++◌, map, filter_map, flat_map, Option, Some, None, option_map}
+use Rattle.std.specs.Prelude.{ℕ, zero, suc, Bool, List, [], ◌∷◌, ◌++◌, map, filter_map, flat_map}
+use Rattle.std.specs.Prelude.{Option, Some, None, option_map}
 use Rattle.std.specs.Option.{option_map_or}
 use Rattle.std.specs.Str.{bytes_eq}
 use lib.Pointwise.{pointwise}
 use Rattle.sv_ast.specs.Scopes.{Scope, Number, width_of}
-use Rattle.sv_ast.specs.Tree.{ExpressionTree, DeclarationTree, InstanceTree, ItemTree, declared, ModuleTree, TextTree}
-use Rattle.sv_ast.specs.Instances.{module_named, top_module, instances, settings, scope_of, port_named, linked_ports, whole_signal}
+use Rattle.sv_ast.specs.Tree.{ExpressionTree, DeclarationTree, InstanceTree, ItemTree, declared}
+use Rattle.sv_ast.specs.Tree.{ModuleTree, TextTree}
+use Rattle.sv_ast.specs.Instances.{module_named, top_module, instances, settings, scope_of}
+use Rattle.sv_ast.specs.Instances.{port_named, linked_ports, whole_signal}
 
 -- the names of the instances that lead to an instance, and for a signal its own name behind them
 abbrev pub Path : Type 0

@@ -1,17 +1,21 @@
 -- The processes of a text (IEEE 1364-2005, clauses 6.1, 9.7.5, 9.9.2 and 12.3): each as what a run
 -- of it does to the values of all signals, by their paths.
-use Rattle.std.specs.Prelude.{ℕ, zero, suc, Bool, true, false, if◌then◌else◌, List, [], ◌∷◌, ◌++◌, map, flat_map, Option, Some, None, option_map, option_to_list}
+use Rattle.std.specs.Prelude.{ℕ, zero, suc, Bool, true, false, if◌then◌else◌, List, [], ◌∷◌, ◌++◌}
+use Rattle.std.specs.Prelude.{map, flat_map, Option, Some, None, option_map, option_to_list}
 use Rattle.std.specs.Option.{option_map_or}
 use Rattle.std.specs.Str.{bytes_eq}
 use Rattle.sv_num.specs.declared.faults.Place.{Place}
 use Rattle.sv_system.specs.System.{Environment, put}
 use Rattle.sv_ast.specs.Scopes.{width_of}
-use Rattle.sv_ast.specs.Tree.{ExpressionTree, named, whole, StatementTree, assignment, ItemTree, declared, continuous, released, always_item, instance_item, ModuleTree, TextTree}
+use Rattle.sv_ast.specs.Tree.{ExpressionTree, named, whole, StatementTree, assignment, ItemTree}
+use Rattle.sv_ast.specs.Tree.{declared, continuous, released, always_item, instance_item}
+use Rattle.sv_ast.specs.Tree.{ModuleTree, TextTree}
 use Rattle.sv_ast.specs.Values.{assigned_value}
 use Rattle.sv_ast.specs.Instances.{top_module, whole_signal}
 use Rattle.sv_ast.specs.Reach.{holds}
 use Rattle.sv_ast.specs.Runs.{Running, run}
-use Rattle.sv_ast.specs.Parts.{Path, same_path, Part, part_with, within, child, most_levels, PortLink, port_path, links_to}
+use Rattle.sv_ast.specs.Parts.{Path, same_path, Part, part_with, within, child, most_levels}
+use Rattle.sv_ast.specs.Parts.{PortLink, port_path, links_to}
 use Rattle.sv_ast.specs.ClockPaths.{is_input_kind}
 
 -- Between an instance and the whole design.

@@ -1,13 +1,17 @@
 -- What a run of a statement does to the signals of its instance (IEEE 1364-2005, clauses 6 and 9).
 -- The signals have their values by name.
-use Rattle.std.specs.Prelude.{ℕ, max, ◌+◌, ◌*◌, ◌/◌, ◌%◌, ◌^◌, Bool, true, false, ◌==◌, ◌&&◌, if◌then◌else◌, List, [], ◌∷◌, ◌++◌, map, fold}
+use Rattle.std.specs.Prelude.{ℕ, max, ◌+◌, ◌*◌, ◌/◌, ◌%◌, ◌^◌, Bool, true, false, ◌==◌, ◌&&◌}
+use Rattle.std.specs.Prelude.{if◌then◌else◌, List, [], ◌∷◌, ◌++◌, map, fold}
 use Rattle.std.specs.List.{list_any}
 use Rattle.std.specs.Str.{bytes_eq}
 use Rattle.sv_num.specs.declared.faults.Place.{Place}
 use Rattle.sv_num.specs.Vectors.{is_true}
 use Rattle.sv_system.specs.System.{put, last_update}
 use Rattle.sv_ast.specs.Scopes.{Scope}
-use Rattle.sv_ast.specs.Tree.{ExpressionTree, named, bit_of, part_of, Selection, whole, bit_at, part_from, TargetTree, StatementTree, null, assignment, block, if_only, if_else, case_of, StatementTrees, no_statements, more_statements, ArmTrees, no_arms, more_arms}
+use Rattle.sv_ast.specs.Tree.{ExpressionTree, named, bit_of, part_of, Selection, whole, bit_at}
+use Rattle.sv_ast.specs.Tree.{part_from, TargetTree, StatementTree, null, assignment, block}
+use Rattle.sv_ast.specs.Tree.{if_only, if_else, case_of, StatementTrees, no_statements}
+use Rattle.sv_ast.specs.Tree.{more_statements, ArmTrees, no_arms, more_arms}
 use Rattle.sv_ast.specs.Values.{length_of, sign_of, value, own_value, bound_of, assigned_value}
 
 -- the values of an instance's signals, and the updates that are pending, the oldest first

@@ -15,7 +15,8 @@ pub data Binding : Type 0 where
 abbrev pub Scope : Type 0
 Scope = List ℕ → Option Binding
 
--- the length of what a name stands for; a name that stands for nothing is refused, and has no length
+-- the length of what a name stands for; a name that stands for nothing is refused, and has no
+-- length
 abbrev pub width_of : Option Binding → ℕ
 width_of (Some (parameter n)) = n.width
 width_of (Some (signal width signed)) = width

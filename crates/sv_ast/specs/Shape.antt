@@ -1,18 +1,22 @@
 -- Which trees the grammar gives (this project's profile).
-use Rattle.std.specs.Prelude.{ℕ, ◌+◌, Bool, true, false, not, ◌&&◌, ◌||◌, nat_le, List, [], ◌∷◌, is_none}
+use Rattle.std.specs.Prelude.{ℕ, ◌+◌, Bool, true, false, not, ◌&&◌, ◌||◌, nat_le, List, [], ◌∷◌}
+use Rattle.std.specs.Prelude.{is_none}
 use Rattle.std.specs.List.{list_all}
 use Rattle.std.specs.Option.{option_map_or}
 use Rattle.sv_ast.specs.declared.declarations.DeclKind.{DeclKind}
 use Rattle.sv_ast.specs.declared.declarations.DeclKind.TheVariants as kind
-use Rattle.sv_ast.specs.Tree.{ExpressionTree, literal, named, bit_of, part_of, unary, binary, choice, join, replication}
+use Rattle.sv_ast.specs.Tree.{ExpressionTree, literal, named, bit_of, part_of, unary, binary}
+use Rattle.sv_ast.specs.Tree.{choice, join, replication}
 use Rattle.sv_ast.specs.Tree.{ExpressionTrees, no_expressions, more_expressions}
 use Rattle.sv_ast.specs.Tree.{Selection, whole, bit_at, part_from, TargetTree}
 use Rattle.sv_ast.specs.Tree.{StatementTree, null, assignment, block, if_only, if_else, case_of}
-use Rattle.sv_ast.specs.Tree.{StatementTrees, no_statements, more_statements, ArmTrees, no_arms, more_arms}
+use Rattle.sv_ast.specs.Tree.{StatementTrees, no_statements, more_statements, ArmTrees, no_arms}
+use Rattle.sv_ast.specs.Tree.{more_arms}
 use Rattle.sv_ast.specs.Tree.{SpanTree, DeclarationTree, ParameterTree, MemoryTree}
 use Rattle.sv_ast.specs.Tree.{NamedOverride, OverrideTrees, named_overrides, ordered_overrides}
 use Rattle.sv_ast.specs.Tree.{NamedLink, LinkTrees, named_links, ordered_links, InstanceTree}
-use Rattle.sv_ast.specs.Tree.{ItemTree, parameter_item, declared, memory_item, continuous, released, always_item, invariant_item, instance_item}
+use Rattle.sv_ast.specs.Tree.{ItemTree, parameter_item, declared, memory_item, continuous, released}
+use Rattle.sv_ast.specs.Tree.{always_item, invariant_item, instance_item}
 use Rattle.sv_ast.specs.Tree.{ModuleTree, MapTree, TextTree}
 
 -- Expressions (IEEE 1364-2005, clause 5)
@@ -27,9 +31,11 @@ abbrev mutual
   is_shaped_expression (literal number place) = true
   is_shaped_expression (named name place) = true
   is_shaped_expression (bit_of name place index) = is_shaped_expression index
-  is_shaped_expression (part_of name place high low) = is_shaped_expression high && is_shaped_expression low
+  is_shaped_expression (part_of name place high low) =
+      is_shaped_expression high && is_shaped_expression low
   is_shaped_expression (unary op place operand) = is_shaped_expression operand
-  is_shaped_expression (binary op place left right) = is_shaped_expression left && is_shaped_expression right
+  is_shaped_expression (binary op place left right) =
+      is_shaped_expression left && is_shaped_expression right
   is_shaped_expression (choice place condition first second) =
       is_shaped_expression condition && is_shaped_expression first && is_shaped_expression second
   is_shaped_expression (join place es) = has_part es && are_shaped_parts es
@@ -80,11 +86,13 @@ abbrev mutual
   is_shaped_statement (assignment targets place blocking value) =
       are_shaped_targets targets && is_shaped_expression value
   is_shaped_statement (block ss) = are_shaped_statements ss
-  is_shaped_statement (if_only place condition s) = is_shaped_expression condition && is_shaped_statement s
+  is_shaped_statement (if_only place condition s) =
+      is_shaped_expression condition && is_shaped_statement s
   is_shaped_statement (if_else place condition first second) =
       is_shaped_expression condition && is_shaped_statement first && is_shaped_statement second
   is_shaped_statement (case_of place selector arms) =
-      is_shaped_expression selector && has_arm arms && nat_le (default_count arms) 1 && are_shaped_arms arms
+      is_shaped_expression selector && has_arm arms && nat_le (default_count arms) 1
+      && are_shaped_arms arms
 
   pub are_shaped_statements : StatementTrees → Bool
   are_shaped_statements no_statements = true
@@ -162,7 +170,8 @@ abbrev pub is_shaped_item : ItemTree → Bool
 is_shaped_item (parameter_item p) = is_shaped_parameter p
 is_shaped_item (declared d) = is_inner d && is_shaped_declaration d
 is_shaped_item (memory_item m) = is_shaped_memory m
-is_shaped_item (continuous targets place value) = are_whole_targets targets && is_shaped_expression value
+is_shaped_item (continuous targets place value) =
+    are_whole_targets targets && is_shaped_expression value
 is_shaped_item (released target value to) = is_shaped_expression value
 is_shaped_item (always_item place clock s) = is_shaped_statement s
 is_shaped_item (invariant_item place e) = is_shaped_expression e

@@ -1,12 +1,15 @@
 -- The lattice, the label maps and the labels of a text (SecVerilog, ASPLOS 2015). Points go by
 -- their names.
-use Rattle.std.specs.Prelude.{◌≡◌, ℕ, Bool, true, false, ◌==◌, ◌&&◌, List, [], ◌∷◌, map, find, length, Contains, Option, Some, None, unwrap_or, option_map, option_and_then, codes, ℤ, pos, negsuc}
+use Rattle.std.specs.Prelude.{◌≡◌, ℕ, Bool, true, false, ◌==◌, ◌&&◌, List, [], ◌∷◌, map, find}
+use Rattle.std.specs.Prelude.{length, Contains, Option, Some, None, unwrap_or, option_map}
+use Rattle.std.specs.Prelude.{option_and_then, codes, ℤ, pos, negsuc}
 use Rattle.std.specs.List.{list_all}
 use Rattle.std.specs.Option.{option_map_or}
 use Rattle.std.specs.Str.{bytes_eq}
 use Rattle.sv_num.specs.Vectors.{as_number}
 use Rattle.sv_ast.specs.Reach.{Leads, holds, reached}
-use Rattle.sv_ast.specs.Tree.{LabelTree, point_label, table_label, PlacedName, PairTree, LatticeTree, KeyTree, RowTree, MapTree, TextTree}
+use Rattle.sv_ast.specs.Tree.{LabelTree, point_label, table_label, PlacedName, PairTree}
+use Rattle.sv_ast.specs.Tree.{LatticeTree, KeyTree, RowTree, MapTree, TextTree}
 
 -- The lattice of a text; without one it has the points L and H, and L flows to H.
 

@@ -7,7 +7,8 @@ use Rattle.sv_token.specs.Lexemes.{Literal}
 use Rattle.sv_ast.specs.declared.declarations.DeclKind.{DeclKind}
 
 mutual
-  -- expressions, each with the place of its operator, its `?`, its first brace, or else its first token
+  -- expressions, each with the place of its operator, its `?`, its first brace, or else its first
+  -- token
   pub data ExpressionTree : Type 0 where
     literal : Literal → Place → ExpressionTree
     named : List ℕ → Place → ExpressionTree
@@ -52,7 +53,8 @@ mutual
     no_statements : StatementTrees
     more_statements : StatementTree → StatementTrees → StatementTrees
 
-  -- the arms of a case: each with the place of its first token, its items (none in the default) and its statement
+  -- the arms of a case: each with the place of its first token, its items (none in the default) and
+  -- its statement
   pub data ArmTrees : Type 0 where
     no_arms : ArmTrees
     more_arms : Place → List ExpressionTree → StatementTree → ArmTrees → ArmTrees

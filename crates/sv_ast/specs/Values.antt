@@ -1,7 +1,8 @@
 -- Length, sign and value of source expressions (IEEE 1364-2005, clauses 5.4 and 5.5). A length and
 -- a sign are pushed down to an operand or are its own; a value is a whole number, taken modulo
 -- 2^length.
-use Rattle.std.specs.Prelude.{ℕ, zero, suc, max, ◌+◌, ◌-◌, ◌*◌, ◌/◌, ◌%◌, ◌^◌, Bool, false, ◌&&◌, nat_lt, if◌then◌else◌, List, ℤ, pos, negsuc}
+use Rattle.std.specs.Prelude.{ℕ, zero, suc, max, ◌+◌, ◌-◌, ◌*◌, ◌/◌, ◌%◌, ◌^◌, Bool, false, ◌&&◌}
+use Rattle.std.specs.Prelude.{nat_lt, if◌then◌else◌, List, ℤ, pos, negsuc}
 use Rattle.sv_num.specs.declared.operators.BinOp.{BinOp}
 use Rattle.sv_num.specs.declared.operators.OpClass.{OpClass}
 use Rattle.sv_num.specs.declared.operators.OpClass.TheVariants.{Context, Compare, Logical, Shift}
@@ -10,7 +11,9 @@ use Rattle.sv_num.specs.Parts.{extended, span_of, bits_between, bit_or_zero, rep
 use Rattle.sv_num.specs.UnaryValues.{gives_one_bit, unary_value}
 use Rattle.sv_num.specs.BinaryValues.{class_of, binary_value}
 use Rattle.sv_ast.specs.Scopes.{Scope, Number, width_of, is_signed, value_of}
-use Rattle.sv_ast.specs.Tree.{ExpressionTree, ExpressionTrees, literal, named, bit_of, part_of, unary, binary, choice, join, replication, no_expressions, more_expressions}
+use Rattle.sv_ast.specs.Tree.{ExpressionTree, ExpressionTrees, literal, named, bit_of, part_of}
+use Rattle.sv_ast.specs.Tree.{unary, binary, choice, join, replication, no_expressions}
+use Rattle.sv_ast.specs.Tree.{more_expressions}
 
 -- a count or a bound as a natural number; a negative one is refused
 abbrev pub natural : ℤ → ℕ

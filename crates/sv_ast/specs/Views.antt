@@ -29,19 +29,25 @@ use Rattle.sv_ast.specs.declared.statements.Arm.{Arm}
 use Rattle.sv_ast.specs.declared.statements.Select.{Select}
 use Rattle.sv_ast.specs.declared.statements.Select.TheVariants as select
 use Rattle.sv_ast.specs.declared.statements.Stmt as stmt
-use Rattle.sv_ast.specs.declared.statements.Stmt.{Stmt, Row_of-Stmt, end_of-Stmt, more_of-Stmt, Row_of-Arm, end_of-Arm, more_of-Arm}
+use Rattle.sv_ast.specs.declared.statements.Stmt.{Stmt, Row_of-Stmt, end_of-Stmt, more_of-Stmt}
+use Rattle.sv_ast.specs.declared.statements.Stmt.{Row_of-Arm, end_of-Arm, more_of-Arm}
 use Rattle.sv_ast.specs.declared.statements.Target.{Target}
-use Rattle.sv_ast.specs.Tree.{ExpressionTree, literal, named, bit_of, part_of, unary, binary, choice, join, replication}
+use Rattle.sv_ast.specs.Tree.{ExpressionTree, literal, named, bit_of, part_of, unary, binary}
+use Rattle.sv_ast.specs.Tree.{choice, join, replication}
 use Rattle.sv_ast.specs.Tree.{ExpressionTrees, no_expressions, more_expressions}
 use Rattle.sv_ast.specs.Tree.{Selection, whole, bit_at, part_from, TargetTree}
 use Rattle.sv_ast.specs.Tree.{StatementTree, null, assignment, block, if_only, if_else, case_of}
-use Rattle.sv_ast.specs.Tree.{StatementTrees, no_statements, more_statements, ArmTrees, no_arms, more_arms}
-use Rattle.sv_ast.specs.Tree.{SpanTree, LabelTree, point_label, table_label, DeclarationTree, ParameterTree}
+use Rattle.sv_ast.specs.Tree.{StatementTrees, no_statements, more_statements, ArmTrees, no_arms}
+use Rattle.sv_ast.specs.Tree.{more_arms}
+use Rattle.sv_ast.specs.Tree.{SpanTree, LabelTree, point_label, table_label, DeclarationTree}
+use Rattle.sv_ast.specs.Tree.{ParameterTree}
 use Rattle.sv_ast.specs.Tree.{MemoryLabelTree, memory_point, by_index, MemoryTree, PlacedName}
 use Rattle.sv_ast.specs.Tree.{NamedOverride, OverrideTrees, named_overrides, ordered_overrides}
 use Rattle.sv_ast.specs.Tree.{NamedLink, LinkTrees, named_links, ordered_links, InstanceTree}
-use Rattle.sv_ast.specs.Tree.{ItemTree, parameter_item, declared, memory_item, continuous, released, always_item, invariant_item, instance_item}
-use Rattle.sv_ast.specs.Tree.{ModuleTree, PairTree, LatticeTree, KeyTree, RowTree, MapTree, TextTree}
+use Rattle.sv_ast.specs.Tree.{ItemTree, parameter_item, declared, memory_item, continuous, released}
+use Rattle.sv_ast.specs.Tree.{always_item, invariant_item, instance_item}
+use Rattle.sv_ast.specs.Tree.{ModuleTree, PairTree, LatticeTree, KeyTree, RowTree, MapTree}
+use Rattle.sv_ast.specs.Tree.{TextTree}
 
 -- Expressions
 
@@ -94,7 +100,8 @@ abbrev mutual
       if_only place (expression_tree condition) (statement_tree first)
   statement_tree (stmt.If' place condition p first (stmt.Some' q second)) =
       if_else place (expression_tree condition) (statement_tree first) (statement_tree second)
-  statement_tree (stmt.Case' place selector shape row) = case_of place (expression_tree selector) (row_arms row)
+  statement_tree (stmt.Case' place selector shape row) =
+      case_of place (expression_tree selector) (row_arms row)
 
   -- the statements of a block, which stand in it as a row
   pub row_statements : {n : _} → Row_of-Stmt n → StatementTrees
@@ -122,7 +129,8 @@ pub record ArmTree : Type 0 where
   pub body : StatementTree
 
 abbrev pub arm_tree : Arm → ArmTree
-arm_tree a = record { place = a.place; items = expression_trees a.items.items; body = statement_tree a.body }
+arm_tree a =
+    record { place = a.place; items = expression_trees a.items.items; body = statement_tree a.body }
 
 abbrev pub arm_trees : List Arm → List ArmTree
 arm_trees arms = map arm_tree arms
@@ -213,8 +221,10 @@ item_tree (item.Memory m) = memory_item (memory_tree m)
 item_tree (item.Assign targets place value) =
     continuous (map target_tree targets.items) place (expression_tree value)
 item_tree (item.Release target place value point point_place) =
-    released (placed_name (target, place)) (expression_tree value) (placed_name (point, point_place))
-item_tree (item.Always place clock body) = always_item place (option_map placed_name clock) (statement_tree body)
+    released (placed_name (target, place)) (expression_tree value)
+    (placed_name (point, point_place))
+item_tree (item.Always place clock body) =
+    always_item place (option_map placed_name clock) (statement_tree body)
 item_tree (item.Invariant place e) = invariant_item place (expression_tree e)
 item_tree (item.Instance i) = instance_item (instance_tree i)
 

@@ -1,9 +1,13 @@
 // What declarations declare.
 ghost use Rattle.std.specs.Prelude.{◌≡◌, map};
-ghost use Rattle.sv_ast.specs.Shape.{is_shaped_span, is_port_kind, is_port, is_inner, is_shaped_declaration};
-ghost use Rattle.sv_ast.specs.Shape.{is_shaped_parameter, are_header_parameters, are_ports, is_shaped_memory, is_plain_span};
-ghost use Rattle.sv_ast.specs.Tree.{SpanTree, LabelTree, DeclarationTree, ParameterTree, MemoryLabelTree, MemoryTree};
-ghost use Rattle.sv_ast.specs.Views.{span_tree, label_tree, declaration_tree, parameter_tree, memory_label_tree, memory_tree};
+ghost use Rattle.sv_ast.specs.Shape.{is_shaped_span, is_port_kind, is_port, is_inner};
+ghost use Rattle.sv_ast.specs.Shape.{is_shaped_declaration};
+ghost use Rattle.sv_ast.specs.Shape.{is_shaped_parameter, are_header_parameters, are_ports};
+ghost use Rattle.sv_ast.specs.Shape.{is_shaped_memory, is_plain_span};
+ghost use Rattle.sv_ast.specs.Tree.{SpanTree, LabelTree, DeclarationTree, ParameterTree};
+ghost use Rattle.sv_ast.specs.Tree.{MemoryLabelTree, MemoryTree};
+ghost use Rattle.sv_ast.specs.Views.{span_tree, label_tree, declaration_tree, parameter_tree};
+ghost use Rattle.sv_ast.specs.Views.{memory_label_tree, memory_tree};
 
 use crate::copies::Copied;
 use crate::expressions::Expr;
@@ -186,7 +190,7 @@ impl Copied for Memory {
 }
 
 impl Span {
-    // Whether both bounds are numbers.
+    /// Whether both bounds are numbers.
     pub(crate) fn is_plain(&self) -> bool
         ensures { result ≡ is_plain_span (span_tree self.now) }
     {
@@ -226,7 +230,7 @@ impl Decl {
         self.kind.is_port() && self.value.is_none()
     }
 
-    // Whether it can be an item.
+    /// Whether it can be an item: a `wire`, or a `reg` without a value.
     pub(crate) fn is_inner(&self) -> bool
         ensures { result ≡ is_inner (declaration_tree self.now) }
     {
@@ -274,6 +278,8 @@ impl Shaped for Memory {
     }
 }
 
+/// Whether they can be the parameters of a module's header (IEEE 1364-2005, annex A): none of them
+/// is local.
 pub(crate) fn are_header_params(params: &[Param]) -> bool
     ensures { result ≡ are_header_parameters (map parameter_tree params.now) }
 {
@@ -285,6 +291,7 @@ pub(crate) fn are_header_params(params: &[Param]) -> bool
     true
 }
 
+/// Whether they can be the ports of a module: each is an input or an output, without a value.
 pub(crate) fn are_ports(decls: &[Decl]) -> bool
     ensures { result ≡ are_ports (map declaration_tree decls.now) }
 {

@@ -11,8 +11,8 @@ use std::alloc::{AllocError, Global};
 use sv_num::{BinOp, Name, Place, UnOp};
 use sv_token::Lit;
 
-/// An expression (IEEE 1364-2005, clause 5). Its place is that of its operator, of its `?`, of its first brace, or else of its
-/// first token; parentheses leave no trace.
+/// An expression (IEEE 1364-2005, clause 5). Its place is that of its operator, of its `?`, of its
+/// first brace, or else of its first token; parentheses leave no trace.
 #[derive(Debug, Drop)]
 pub enum Expr {
     /// A number.
@@ -37,7 +37,8 @@ pub enum Expr {
 
 impl Expr {
     /// A second tree that is equal. It fails where memory runs out.
-    // The calls go some 600 deep at most in a tree of the grammar: 64 levels, and a row of operators of 512.
+    // The calls go some 600 deep at most in a tree of the grammar: 64 levels, and a row of
+    // operators of 512.
     #[cycle(expression_copy)]
     pub fn copy(&self, alloc: Global) -> Result<Expr, AllocError>
         ensures { IfOk result (λ copy. expression_tree copy ≡ expression_tree self.now) }
@@ -80,7 +81,8 @@ impl Expr {
 }
 
 impl Expr {
-    /// Whether the grammar can give the tree: every join and replication in it has at least one part.
+    /// Whether the grammar can give the tree: every join and replication in it has at least one
+    /// part.
     #[cycle(expression_shape)]
     pub fn is_shaped(&self) -> bool
         ensures { result ≡ is_shaped_expression (expression_tree self.now) }
@@ -165,6 +167,7 @@ impl Shaped for Expr {
 }
 
 impl Expr {
+    /// Whether it is a number (IEEE 1364-2005, clause 3.5).
     pub(crate) fn is_number(&self) -> bool
         ensures { result ≡ is_number (expression_tree self.now) }
     {

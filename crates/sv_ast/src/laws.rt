@@ -8,12 +8,14 @@ ghost use Rattle.sv_num.specs.declared.faults.Place.{Place};
 /// A text that means a tree breaks no rule on tokens or on the grammar.
 pub fn meanings_break_no_rule()
     ensures { (bytes : List ℕ) (text : TextTree) → Means bytes text
-        → (number : ℕ) (names : List (List ℕ)) (place : Place) → BreaksSyntax number names place bytes → ⊥ }
+        → (number : ℕ) (names : List (List ℕ)) (place : Place)
+        → BreaksSyntax number names place bytes → ⊥ }
 {}
 
 /// A text breaks at most one rule on tokens or on the grammar first, at one place.
 pub fn syntax_is_broken_once()
-    ensures { (bytes : List ℕ) (number other : ℕ) (names others : List (List ℕ)) (place elsewhere : Place)
+    ensures { (bytes : List ℕ) (number other : ℕ) (names others : List (List ℕ))
+        (place elsewhere : Place)
         → BreaksSyntax number names place bytes → BreaksSyntax other others elsewhere bytes
         → (number ≡ other) × (place ≡ elsewhere) }
 {}

@@ -1,7 +1,8 @@
 //! The trees of source texts, in the form that the grammar gives them.
 //!
-//! A contract sees a tree by its plain form, as `text_tree` and the other functions of `specs/Views.antt` give it: lists of bytes
-//! stand for names and lists for vectors. `specs/Shape.antt` says which trees the grammar gives.
+//! A contract sees a tree by its plain form, as `text_tree` and the other functions of
+//! `specs/Views.antt` give it: lists of bytes stand for names and lists for vectors.
+//! `specs/Shape.antt` says which trees the grammar gives.
 #![tactic(auto)]
 
 mod copies;

@@ -1,11 +1,15 @@
 // Modules and whole texts.
 ghost use Rattle.std.specs.Prelude.{◌≡◌, IfOk};
-ghost use Rattle.sv_ast.specs.Shape.{is_shaped_override, are_shaped_overrides, is_shaped_link, are_shaped_links, is_shaped_instance};
+ghost use Rattle.sv_ast.specs.Shape.{is_shaped_override, are_shaped_overrides, is_shaped_link};
+ghost use Rattle.sv_ast.specs.Shape.{are_shaped_links, is_shaped_instance};
 ghost use Rattle.sv_ast.specs.Shape.{is_shaped_item, is_shaped_module, is_shaped_map, is_shaped};
-ghost use Rattle.sv_ast.specs.Tree.{PlacedName, NamedOverride, OverrideTrees, NamedLink, LinkTrees, InstanceTree, ItemTree};
+ghost use Rattle.sv_ast.specs.Tree.{PlacedName, NamedOverride, OverrideTrees, NamedLink, LinkTrees};
+ghost use Rattle.sv_ast.specs.Tree.{InstanceTree, ItemTree};
 ghost use Rattle.sv_ast.specs.Tree.{ModuleTree, PairTree, LatticeTree, RowTree, MapTree};
-ghost use Rattle.sv_ast.specs.Views.{placed_name, named_override, override_trees, named_link, link_trees, instance_tree, item_tree};
-ghost use Rattle.sv_ast.specs.Views.{module_tree, pair_tree, lattice_tree, row_tree, map_tree, text_tree};
+ghost use Rattle.sv_ast.specs.Views.{placed_name, named_override, override_trees, named_link};
+ghost use Rattle.sv_ast.specs.Views.{link_trees, instance_tree, item_tree};
+ghost use Rattle.sv_ast.specs.Views.{module_tree, pair_tree, lattice_tree, row_tree, map_tree};
+ghost use Rattle.sv_ast.specs.Views.{text_tree};
 
 use crate::copies::Copied;
 use crate::declarations::{Decl, Memory, Param, Span, are_header_params, are_ports};
@@ -23,7 +27,8 @@ pub enum Overrides {
     Ordered(Vec<Expr>),
 }
 
-/// The ports that an instance links: by name, with the place of the name and perhaps no expression, or by order.
+/// The ports that an instance links: by name, with the place of the name and perhaps no expression,
+/// or by order.
 #[derive(Debug, Drop)]
 pub enum Links {
     Named(Vec<(Name, Place, Option<Expr>)>),
@@ -56,7 +61,8 @@ pub enum Item {
         place: Place,
         value: Expr,
     },
-    /// `assign` of a released value, with the places of the target and of the point that the value is released to.
+    /// `assign` of a released value, with the places of the target and of the point that the value
+    /// is released to.
     Release {
         target: Name,
         place: Place,
@@ -64,7 +70,8 @@ pub enum Item {
         point: Name,
         point_place: Place,
     },
-    /// `always`, with the place of the word; `posedge` and a name with its place where it has a clock.
+    /// `always`, with the place of the word; `posedge` and a name with its place where it has a
+    /// clock.
     Always {
         place: Place,
         clock: Option<(Name, Place)>,
@@ -94,10 +101,12 @@ pub struct LatticeText {
     pub pairs: Vec<(Name, Place, Name, Place)>,
 }
 
-/// A row of a label map: a key, a second one where the map has two ranges, each with its place, and the point.
+/// A row of a label map: a key, a second one where the map has two ranges, each with its place, and
+/// the point.
 pub type MapRow = (Lit, Place, Option<(Lit, Place)>, Name);
 
-/// A label map, with the place of its name: one or two ranges, its rows, and the point of the other keys.
+/// A label map, with the place of its name: one or two ranges, its rows, and the point of the other
+/// keys.
 #[derive(Debug, Drop)]
 pub struct MapText {
     pub name: Name,
@@ -143,10 +152,11 @@ impl Text {
         })
     }
 
-    /// Whether the grammar can give the text: every join, replication and `case` in it has at least one member, and a `case` at
-    /// most one default; ports have the kind of a port and no value, other declarations are a `wire` or a `reg`, and only a
-    /// `wire` has a value; header parameters are not local; the ranges of label maps are plain numbers; and no list of targets
-    /// is empty, those of an `assign` being whole.
+    /// Whether the grammar can give the text: every join, replication and `case` in it has at least
+    /// one member, and a `case` at most one default; ports have the kind of a port and no value,
+    /// other declarations are a `wire` or a `reg`, and only a `wire` has a value; header parameters
+    /// are not local; the ranges of label maps are plain numbers; and no list of targets is empty,
+    /// those of an `assign` being whole.
     pub fn is_shaped(&self) -> bool
         ensures { result ≡ is_shaped (text_tree self.now) }
     {

@@ -1,10 +1,13 @@
 // Statements.
 ghost use Rattle.std.specs.Prelude.{◌≡◌, ◌&&◌, nat_le, map, IfOk};
 ghost use Rattle.std.specs.List.{list_all};
-ghost use Rattle.sv_ast.specs.Shape.{is_whole, is_whole_target, is_shaped_selection, is_shaped_target, are_shaped_targets, are_whole_targets};
-ghost use Rattle.sv_ast.specs.Shape.{is_shaped_statement, are_shaped_statements, has_arm, default_count, are_shaped_arms};
+ghost use Rattle.sv_ast.specs.Shape.{is_whole, is_whole_target, is_shaped_selection};
+ghost use Rattle.sv_ast.specs.Shape.{is_shaped_target, are_shaped_targets, are_whole_targets};
+ghost use Rattle.sv_ast.specs.Shape.{is_shaped_statement, are_shaped_statements, has_arm};
+ghost use Rattle.sv_ast.specs.Shape.{default_count, are_shaped_arms};
 ghost use Rattle.sv_ast.specs.Tree.{Selection, TargetTree, StatementTree};
-ghost use Rattle.sv_ast.specs.Views.{selection_of, target_tree, statement_tree, statement_trees, statements_of, arm_tree, arm_trees, arms_of};
+ghost use Rattle.sv_ast.specs.Views.{selection_of, target_tree, statement_tree, statement_trees};
+ghost use Rattle.sv_ast.specs.Views.{statements_of, arm_tree, arm_trees, arms_of};
 
 use crate::copies::Copied;
 use crate::expressions::Expr;
@@ -46,7 +49,8 @@ pub struct Arm {
 pub enum Stmt {
     /// `;`
     Null,
-    /// An assignment to at least one target, the last of which takes the lowest bits. It has the place of the first target.
+    /// An assignment to at least one target, the last of which takes the lowest bits. It has the
+    /// place of the first target.
     Assign {
         targets: Vec<Target>,
         place: Place,
@@ -211,6 +215,7 @@ impl Copied for Stmt {
 }
 
 impl Select {
+    /// Whether it selects no bits: the target is the whole signal.
     pub(crate) fn is_whole(&self) -> bool
         ensures { result ≡ is_whole (selection_of self.now) }
     {
@@ -253,7 +258,8 @@ fn are_shaped_targets(targets: &Vec<Target>) -> bool
     !targets.is_empty() && targets.is_shaped()
 }
 
-// Whether they can be the targets of an `assign`.
+/// Whether they can be the targets of an `assign`: there is one at least, and each is a whole
+/// signal.
 pub(crate) fn are_whole_targets(targets: &[Target]) -> bool
     ensures { result ≡ are_whole_targets (map target_tree targets.now) }
 {
@@ -272,7 +278,8 @@ fn are_whole(targets: &[Target]) -> bool
 }
 
 impl Stmt {
-    // Whether the grammar can give the tree.
+    /// Whether the grammar can give the tree (IEEE 1364-2005, annex A and clause 9): each
+    /// assignment has a target, and each `case` an arm and at most one default.
     #[cycle(statement_shape)]
     pub(crate) fn is_shaped(&self) -> bool
         ensures { result ≡ is_shaped_statement (statement_tree self.now) }

@@ -1,9 +1,12 @@
 -- What a token of each kind is spelled as, and which kind each spelling has.
-use Rattle.std.proofs.Common.{◌≡◌, ℕ, zero, suc, Bool, true, false, not, ◌||◌, cond, List, [], ◌∷◌, refl, sym, ap, ◌∙◌}
+use Rattle.std.proofs.Common.{◌≡◌, ℕ, zero, suc, Bool, true, false, not, ◌||◌, cond, List, [], ◌∷◌}
+use Rattle.std.proofs.Common.{refl, sym, ap, ◌∙◌}
 use Rattle.std.specs.Prelude.{IsTrue, codes}
 use Rattle.std.specs.Option.{option_map_or}
 use Rattle.std.specs.Str.{bytes_eq}
-use Rattle.std.proofs.lemmas.Bool.{eqb-true, and_parts, and_from, not_from_false, not-true, cond-true, cond-false, cond_both, false_from_ne_true, both_ways, false≢true}
+use Rattle.std.proofs.lemmas.Bool.{eqb-true, and_parts, and_from, not_from_false, not-true}
+use Rattle.std.proofs.lemmas.Bool.{cond-true, cond-false, cond_both, false_from_ne_true, both_ways}
+use Rattle.std.proofs.lemmas.Bool.{false≢true}
 use Rattle.std.proofs.lemmas.Slice.Eq.{bytes_eq-Decides}
 use Rattle.sv_first_ast.specs.Names.{holds}
 use Rattle.sv_first_ast.specs.Spelling.{reserved, first_signs, is_word, is_token, is_name}
@@ -24,7 +27,12 @@ kind_ranked zero (k ∷ ks) = k
 kind_ranked (suc n) (k ∷ ks) = kind_ranked n ks
 
 all_kinds : List TokenKind
-all_kinds = kinds.Module ∷ kinds.Endmodule ∷ kinds.Input ∷ kinds.Output ∷ kinds.Reg ∷ kinds.Wire ∷ kinds.Assign ∷ kinds.Always ∷ kinds.Posedge ∷ kinds.Reserved ∷ kinds.Name ∷ kinds.LeftParenthesis ∷ kinds.RightParenthesis ∷ kinds.LeftBrace ∷ kinds.RightBrace ∷ kinds.Comma ∷ kinds.Semicolon ∷ kinds.At ∷ kinds.Equals ∷ kinds.Arrow ∷ kinds.Invert ∷ kinds.And ∷ kinds.Xor ∷ kinds.Or ∷ []
+all_kinds =
+    kinds.Module ∷ kinds.Endmodule ∷ kinds.Input ∷ kinds.Output ∷ kinds.Reg ∷ kinds.Wire ∷
+    kinds.Assign ∷ kinds.Always ∷ kinds.Posedge ∷ kinds.Reserved ∷ kinds.Name ∷
+    kinds.LeftParenthesis ∷ kinds.RightParenthesis ∷ kinds.LeftBrace ∷ kinds.RightBrace ∷
+    kinds.Comma ∷ kinds.Semicolon ∷ kinds.At ∷ kinds.Equals ∷ kinds.Arrow ∷ kinds.Invert ∷
+    kinds.And ∷ kinds.Xor ∷ kinds.Or ∷ []
 
 ranked : (k : TokenKind) → kind_ranked (rank k) all_kinds ≡ k
 unfolding kind_ranked all_kinds
@@ -54,7 +62,9 @@ ranked kinds.Xor = refl
 ranked kinds.Or = refl
 
 pub kinds_are_one : (a b : TokenKind) → same_kind a b ≡ true → a ≡ b
-kinds_are_one a b h = sym (ranked a) ∙ ap (λ (n : ℕ). kind_ranked n all_kinds) (eqb-true (rank a) (rank b) h) ∙ ranked b
+kinds_are_one a b h =
+    sym (ranked a) ∙ ap (λ (n : ℕ). kind_ranked n all_kinds) (eqb-true (rank a) (rank b) h)
+    ∙ ranked b
 
 -- ---- spellings
 
@@ -95,8 +105,11 @@ pub record Spells (t : List ℕ) (k : TokenKind) : Type 0 where
   pub fixed : is_fixed k ≡ true → t ≡ spelling k
   pub name : k ≡ kinds.Name → is_name t ≡ true
 
-one_word : (t w : List ℕ) (k other : TokenKind) → (t ≡ w → Spells t k) → Spells t other → Spells t (cond (bytes_eq t w) k other)
-one_word t w k other here there = cond_both (bytes_eq t w) k other (Spells t) (λ e. here ((bytes_eq-Decides t w).0 e)) (λ _. there)
+one_word : (t w : List ℕ) (k other : TokenKind) → (t ≡ w → Spells t k) → Spells t other →
+    Spells t (cond (bytes_eq t w) k other)
+one_word t w k other here there =
+    cond_both (bytes_eq t w) k other (Spells t) (λ e.
+    here ((bytes_eq-Decides t w).0 e)) (λ _. there)
 
 spells_by : (t : List ℕ) (k : TokenKind) → t ≡ spelling k → (k ≡ kinds.Name → ⊥) → Spells t k
 spells_by t k e differs = record { fixed = λ _. e; name = λ h. absurd (differs h) }
@@ -117,7 +130,10 @@ word_spells t word =
     (one_word t (codes "posedge") kinds.Posedge _ (λ e. spells_by t kinds.Posedge e (λ h. cc))
     (cond_both (holds reserved t) kinds.Reserved kinds.Name (Spells t)
     (λ e. record { fixed = λ h. absurd (false≢true h); name = λ h. absurd (reserved_is_no_name h) })
-    (λ e. record { fixed = λ h. absurd (false≢true h); name = λ h. and_from (is_word t) _ word (not_from_false _ e) }))))))))))
+    (λ e. record {
+      fixed = λ h. absurd (false≢true h);
+      name = λ h. and_from (is_word t) _ word (not_from_false _ e);
+    }))))))))))
 
 abbrev sign_kind : List ℕ → TokenKind
 sign_kind t = option_map_or (λ (f : Front). f.kind) (sign_at t) kinds.Reserved
@@ -141,7 +157,8 @@ sign_spells t =
     (spells_by _ kinds.Or refl (λ h. cc))
     t
 
-kind_cases : (x : Bool) (t : List ℕ) → is_word t ≡ x → (x || holds first_signs t) ≡ true → Spells t (cond x (word_kind t) (sign_kind t))
+kind_cases : (x : Bool) (t : List ℕ) → is_word t ≡ x → (x || holds first_signs t) ≡ true →
+    Spells t (cond x (word_kind t) (sign_kind t))
 kind_cases true t is token = word_spells t is
 kind_cases false t is token = sign_spells t token
 
@@ -182,7 +199,9 @@ kind_of-spelling kinds.Xor h = refl
 kind_of-spelling kinds.Or h = refl
 
 differs : (n w : List ℕ) → holds reserved n ≡ false → holds reserved w ≡ true → bytes_eq n w ≡ false
-differs n w not_held held = false_from_ne_true (bytes_eq n w) (λ e. both_ways (holds reserved n) not_held (ap (holds reserved) ((bytes_eq-Decides n w).0 e) ∙ held))
+differs n w not_held held =
+    false_from_ne_true (bytes_eq n w) (λ e.
+    both_ways (holds reserved n) not_held (ap (holds reserved) ((bytes_eq-Decides n w).0 e) ∙ held))
 
 pub kind_of-name : (n : List ℕ) → is_name n ≡ true → kind_of n ≡ kinds.Name
 unfolding reserved

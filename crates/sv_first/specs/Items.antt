@@ -1,12 +1,14 @@
 -- How a module is read.
-use Rattle.std.specs.Prelude.{ℕ, zero, suc, false, if◌then◌else◌, List, [], ◌∷◌, length, Option, Some, None, codes}
+use Rattle.std.specs.Prelude.{ℕ, zero, suc, false, if◌then◌else◌, List, [], ◌∷◌, length, Option}
+use Rattle.std.specs.Prelude.{Some, None, codes}
 use Rattle.std.specs.Str.{bytes_eq}
 use Rattle.sv_first_ast.specs.declared.module.Decl.{Decl}
 use Rattle.sv_first_ast.specs.declared.module.DeclKind.{DeclKind}
 use Rattle.sv_first_ast.specs.declared.module.DeclKind.TheVariants as kind
 use Rattle.sv_first_ast.specs.declared.module.Point.{Point}
 use Rattle.sv_first_ast.specs.declared.module.Point.TheVariants.{Low, High}
-use Rattle.sv_first_ast.specs.Tree.{StatementTree, assignment, ItemTree, declared, continuous, clocked, ModuleTree}
+use Rattle.sv_first_ast.specs.Tree.{StatementTree, assignment, ItemTree, declared, continuous}
+use Rattle.sv_first_ast.specs.Tree.{clocked, ModuleTree}
 use Rattle.sv_first.specs.declared.token.TokenKind.TheVariants as kinds
 use Rattle.sv_first.specs.Tokens.{Lexeme}
 use Rattle.sv_first.specs.Reading.{◌>>=◌, where_read, token_at, name_at, end_at}
@@ -17,7 +19,8 @@ unfoldable pub port_kind_at : List Lexeme → Option (DeclKind × List Lexeme)
 port_kind_at ls =
     where_read (token_at kinds.Input ls) (λ rest. Some (kind.Input, rest)) (do
       rest ← token_at kinds.Output ls
-      where_read (token_at kinds.Reg rest) (λ more. Some (kind.OutputReg, more)) (Some (kind.OutputWire, rest)))
+      where_read (token_at kinds.Reg rest) (λ more.
+          Some (kind.OutputReg, more)) (Some (kind.OutputWire, rest)))
 
 -- `wire` or `reg`
 unfoldable pub signal_kind_at : List Lexeme → Option (DeclKind × List Lexeme)
@@ -30,7 +33,8 @@ signal_kind_at ls =
 unfoldable pub point_at : List Lexeme → Option (Point × List Lexeme)
 point_at ls = do
   n ← name_at ls
-  if bytes_eq n.0 (codes "L") then Some (Low, n.1) else (if bytes_eq n.0 (codes "H") then Some (High, n.1) else None)
+  if bytes_eq n.0 (codes "L") then Some (Low, n.1)
+      else (if bytes_eq n.0 (codes "H") then Some (High, n.1) else None)
 
 -- a label, if a `{` comes
 unfoldable pub label_at : List Lexeme → Option (Option Point × List Lexeme)
@@ -107,7 +111,9 @@ clocked_at ls = do
   Some (clocked c.0 s.0, s.1)
 
 unfoldable pub item_at : List Lexeme → Option (ItemTree × List Lexeme)
-item_at ls = where_read (token_at kinds.Assign ls) continuous_at (where_read (token_at kinds.Always ls) clocked_at (signal_at ls))
+item_at ls =
+    where_read (token_at kinds.Assign ls) continuous_at
+    (where_read (token_at kinds.Always ls) clocked_at (signal_at ls))
 
 -- fewer items than this, and the `endmodule` behind them
 unfoldable pub items_at : ℕ → List Lexeme → Option (List ItemTree × List Lexeme)

@@ -1,5 +1,6 @@
 -- The token that begins a text, and what the tokens of a text are as kinds with texts.
-use Rattle.std.specs.Prelude.{◌≡◌, ℕ, if◌then◌else◌, IsTrue, List, [], ◌∷◌, map, take, Option, Some, None}
+use Rattle.std.specs.Prelude.{◌≡◌, ℕ, if◌then◌else◌, IsTrue, List, [], ◌∷◌, map, take, Option, Some}
+use Rattle.std.specs.Prelude.{None}
 use Rattle.std.specs.Option.{option_map_or}
 use Rattle.std.specs.List.{prefix_len, slice_range, AllByRecursion}
 use Rattle.sv_first_ast.specs.Spelling.{begins_word, continues_word, is_word, is_token}
@@ -15,7 +16,8 @@ abbrev pub front_at : List ℕ → Option Front
 front_at [] = None
 front_at (b ∷ bs) =
     let n = prefix_len continues_word (b ∷ bs) in
-    if begins_word b then Some (record { kind = word_kind (take n (b ∷ bs)); length = n }) else sign_at (b ∷ bs)
+    if begins_word b then Some (record { kind = word_kind (take n (b ∷ bs)); length = n })
+    else sign_at (b ∷ bs)
 
 -- a token as its kind and its text
 pub record Lexeme : Type 0 where
@@ -36,7 +38,9 @@ texts bytes ts = texts_of (lexemes bytes ts)
 
 -- the kind of a token by its text
 abbrev pub kind_of : List ℕ → TokenKind
-kind_of t = if is_word t then word_kind t else option_map_or (λ (f : Front). f.kind) (sign_at t) kinds.Reserved
+kind_of t =
+    if is_word t then word_kind t
+    else option_map_or (λ (f : Front). f.kind) (sign_at t) kinds.Reserved
 
 -- the text is a token of this kind
 pub record IsLexed (l : Lexeme) : Type 0 where

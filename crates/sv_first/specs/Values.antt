@@ -50,7 +50,8 @@ with_xor l e = record { of_or = l.of_or; of_xor = Some (up_to_xor l e); of_and =
 abbrev pub with_or : Left → ExpressionTree → Left
 with_or l e = record { of_or = Some (up_to_or l e); of_xor = None; of_and = None }
 
--- what was read of an expression: what stands left of the operand, and the operand or the `~` before it
+-- what was read of an expression: what stands left of the operand, and the operand or the `~`
+-- before it
 pub data State : Type 0 where
   before : Left → ℕ → State
   behind : Left → ExpressionTree → State
@@ -98,7 +99,12 @@ value_at ls = value_from 64 (before empty 0) ls
 -- ---- what the code holds
 
 abbrev pub left_of : values.Left → Left
-left_of l = record { of_or = option_map expression_tree l.of_or; of_xor = option_map expression_tree l.of_xor; of_and = option_map expression_tree l.of_and }
+left_of l =
+    record {
+      of_or = option_map expression_tree l.of_or;
+      of_xor = option_map expression_tree l.of_xor;
+      of_and = option_map expression_tree l.of_and;
+    }
 
 abbrev pub state_of : held.State → State
 state_of (states.Before l n) = before (left_of l) n

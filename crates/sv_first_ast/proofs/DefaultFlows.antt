@@ -21,7 +21,8 @@ pair_flows a b at = ⊎_elim
 
 pub leads_flows : (a b : Point) → Leads default_pairs a b → IsTrue (flows a b)
 leads_flows a b (here {a = c}) = flows_itself c
-leads_flows a c (step {b = b} pair rest) = flows_transitive a b c (pair_flows a b pair) (leads_flows b c rest)
+leads_flows a c (step {b = b} pair rest) =
+    flows_transitive a b c (pair_flows a b pair) (leads_flows b c rest)
 
 pub flows_leads : (a b : Point) → IsTrue (flows a b) → Leads default_pairs a b
 flows_leads Low Low flow = here

@@ -1,4 +1,5 @@
--- The laws speak of something: a module of the first form with a clock, a secret, wires and a register, one of whose obligations fails.
+-- The laws speak of something: a module of the first form with a clock, a secret, wires and a
+-- register, one of whose obligations fails.
 use Rattle.std.proofs.Common.{◌≡◌, ℕ, true, false, List, [], ◌∷◌, Some, None, refl}
 use Rattle.std.specs.Prelude.{IsTrue, codes}
 use Rattle.std.specs.List.{list_all}
@@ -6,7 +7,8 @@ use Rattle.sv_num.specs.declared.operators.UnOp.TheVariants as unop
 use Rattle.sv_num.specs.declared.operators.BinOp.TheVariants as binop
 use Rattle.sv_first_ast.specs.declared.module.DeclKind.TheVariants as kind
 use Rattle.sv_first_ast.specs.declared.module.Point.TheVariants.{High}
-use Rattle.sv_first_ast.specs.Tree.{named, unary, binary, assignment, declared, continuous, clocked, ModuleTree}
+use Rattle.sv_first_ast.specs.Tree.{named, unary, binary, assignment, declared, continuous, clocked}
+use Rattle.sv_first_ast.specs.Tree.{ModuleTree}
 use Rattle.sv_first_ast.specs.Form.{is_first_form}
 use Rattle.sv_first_ast.specs.Obligations.{obligations, flow_holds}
 use Rattle.sv_first_ast.specs.Spelling.{is_shaped, reserved}
@@ -27,7 +29,8 @@ shows read = record {
       declared (record { kind = kind.Wire; label = None; name = codes "w" })
       ∷ declared (record { kind = kind.Reg; label = None; name = codes "r" })
       ∷ continuous (codes "w") (binary binop.And (named (codes "a")) (named (codes "r")))
-      ∷ continuous (codes "x") (binary binop.Xor (unary unop.Invert (named (codes "k"))) (named (codes "w")))
+      ∷ continuous (codes "x")
+      (binary binop.Xor (unary unop.Invert (named (codes "k"))) (named (codes "w")))
       ∷ continuous (codes "y") (named read)
       ∷ clocked (codes "c") (assignment (codes "r") false (named (codes "w")))
       ∷ [];

@@ -1,6 +1,8 @@
--- What a module means as a synchronous design: its cycle system, by the words of the source alone. The clauses are those of
--- IEEE 1364-2005, the labels those of SecVerilog (ASPLOS 2015).
-use Rattle.std.specs.Prelude.{ℕ, ◌-◌, ◌%◌, ◌^◌, Bool, true, false, cond, not, ◌&&◌, bit_and, bit_or, bit_xor, List, [], ◌∷◌, ◌++◌, map, filter, Option, Some, None, unwrap_or, is_some, is_none}
+-- What a module means as a synchronous design: its cycle system, by the words of the source alone.
+-- The clauses are those of IEEE 1364-2005, the labels those of SecVerilog (ASPLOS 2015).
+use Rattle.std.specs.Prelude.{ℕ, ◌-◌, ◌%◌, ◌^◌, Bool, true, false, cond, not, ◌&&◌, bit_and, bit_or}
+use Rattle.std.specs.Prelude.{bit_xor, List, [], ◌∷◌, ◌++◌, map, filter, Option, Some, None}
+use Rattle.std.specs.Prelude.{unwrap_or, is_some, is_none}
 use Rattle.std.specs.List.{filter_map, flat_map, find}
 use Rattle.std.specs.Option.{option_and_then, option_map_or}
 use Rattle.std.specs.Str.{bytes_eq}
@@ -15,33 +17,39 @@ use Rattle.sv_first_ast.specs.declared.module.Point.{Point}
 use Rattle.sv_first_ast.specs.declared.module.Point.TheVariants.{Low, High}
 use Rattle.sv_system.specs.System.{System, put}
 use Rattle.sv_first_ast.specs.Names.{holds}
-use Rattle.sv_first_ast.specs.Tree.{ExpressionTree, named, unary, binary, StatementTree, assignment, ItemTree, declared, continuous, clocked, ModuleTree}
+use Rattle.sv_first_ast.specs.Tree.{ExpressionTree, named, unary, binary, StatementTree, assignment}
+use Rattle.sv_first_ast.specs.Tree.{ItemTree, declared, continuous, clocked, ModuleTree}
 
--- a unary operator on one bit (clause 5.1.10): `~` turns the bit over. The other operators stand in no text that is read so far.
+-- a unary operator on one bit (clause 5.1.10): `~` turns the bit over. The other operators stand in
+-- no text that is read so far.
 abbrev pub unary_value : UnOp → ℕ → ℕ
 unary_value unop.Invert x = 1 - x
 unary_value _ x = 0
 
--- a binary operator (clause 5.1.10): `&`, `|` and `^` go bit by bit. The other operators stand in no text that is read so far.
+-- a binary operator (clause 5.1.10): `&`, `|` and `^` go bit by bit. The other operators stand in
+-- no text that is read so far.
 abbrev pub binary_value : BinOp → ℕ → ℕ → ℕ
 binary_value binop.And x y = bit_and x y
 binary_value binop.Or x y = bit_or x y
 binary_value binop.Xor x y = bit_xor x y
 binary_value _ x y = 0
 
--- The value of an expression of one bit (clause 5): the operator is applied to its operands' values, and the result is taken modulo 2^1.
+-- The value of an expression of one bit (clause 5): the operator is applied to its operands'
+-- values, and the result is taken modulo 2^1.
 abbrev pub value : ExpressionTree → (List ℕ → ℕ) → ℕ
 value (named n) environment = environment n % 2 ^ 1
 value (unary op e) environment = unary_value op (value e environment) % 2 ^ 1
-value (binary op a b) environment = binary_value op (value a environment) (value b environment) % 2 ^ 1
+value (binary op a b) environment =
+    binary_value op (value a environment) (value b environment) % 2 ^ 1
 
--- A run of a statement (clauses 6 and 9.2) on an environment and the updates so far: a blocking assignment changes the
--- environment, a nonblocking one adds its target and value to the updates.
+-- A run of a statement (clauses 6 and 9.2) on an environment and the updates so far: a blocking
+-- assignment changes the environment, a nonblocking one adds its target and value to the updates.
 abbrev pub run : StatementTree → (List ℕ → ℕ) × List (List ℕ × ℕ) → (List ℕ → ℕ) × List (List ℕ × ℕ)
 run (assignment target true e) s = (put bytes_eq target (value e s.0) s.0, s.1)
 run (assignment target false e) s = (s.0, s.1 ++ (target, value e s.0) ∷ [])
 
--- A process: an `assign` is one with a single blocking assignment (clause 6.1), an `always @(posedge ..)` has a clock.
+-- A process: an `assign` is one with a single blocking assignment (clause 6.1), an `always
+-- @(posedge ..)` has a clock.
 pub record Process : Type 0 where
   pub clock : Option (List ℕ)
   pub body : StatementTree
@@ -108,7 +116,9 @@ flows High High = true
 
 -- all updates of the clocked processes, each run on the environment with no updates pending
 abbrev pub updates : ModuleTree → (List ℕ → ℕ) → List (List ℕ × ℕ)
-updates m environment = flat_map (λ (p : Process). (run p.body (environment, [])).1) (filter (λ (p : Process). is_some p.clock) (processes m))
+updates m environment =
+    flat_map (λ (p : Process).
+    (run p.body (environment, [])).1) (filter (λ (p : Process). is_some p.clock) (processes m))
 
 -- the value of the last update of a signal, or the old value where there is none
 abbrev pub last_update : List ℕ → ℕ → List (List ℕ × ℕ) → ℕ
@@ -122,7 +132,10 @@ system m = record {
   is_input = is_input m;
   is_register = is_register m;
   width = λ n. 1;
-  processes = map (λ (p : Process). λ environment. (run p.body (environment, [])).0) (filter (λ (p : Process). is_none p.clock) (processes m));
+  processes =
+      map (λ (p : Process).
+      λ environment. (run p.body (environment, [])).0)
+      (filter (λ (p : Process). is_none p.clock) (processes m));
   next = λ environment. λ n. last_update n (environment n) (updates m environment);
   label = λ n. λ environment. label_of m n;
   flows = flows;

@@ -5,7 +5,8 @@ use Rattle.std.proofs.lemmas.Bool.{and_parts, and_from, false_from_ne_true, both
 use Rattle.sv_first_ast.specs.Names.{all_differ}
 use Rattle.sv_first_ast.specs.Tree.{ModuleTree}
 use Rattle.sv_first_ast.specs.Meaning.{declarations, processes, clocks}
-use Rattle.sv_first_ast.specs.Form.{targets, uses_declared, target_fits, in_order, one_clock, is_clock, is_first_form}
+use Rattle.sv_first_ast.specs.Form.{targets, uses_declared, target_fits, in_order, one_clock}
+use Rattle.sv_first_ast.specs.Form.{is_clock, is_first_form}
 use Rattle.sv_first_flow.specs.Scope.{has_names, has_order, is_driven, has_clocks}
 
 module _ (m : ModuleTree) where
@@ -26,7 +27,8 @@ module _ (m : ModuleTree) where
       let driven_is = and_parts _ _ order.0 in
       let fits_are = and_parts _ _ driven_is.0 in
       let uses_are = and_parts _ _ fits_are.0 in
-      let once = and_parts (all_differ (targets m)) (list_all (is_driven (targets m)) (declarations m)) driven_is.1 in
+      let once = and_parts (all_differ (targets m))
+      (list_all (is_driven (targets m)) (declarations m)) driven_is.1 in
       record {
         named = uses_are.0;
         uses = uses_are.1;
@@ -36,15 +38,21 @@ module _ (m : ModuleTree) where
         clocked = and_from _ _ one.1 clocks_are.1;
       }
 
-  pub first_form : has_names m ≡ true → list_all (uses_declared m) (processes m) ≡ true → list_all (target_fits m) (processes m) ≡ true
-      → has_order m ≡ true → list_all (is_driven (targets m)) (declarations m) ≡ true → has_clocks m ≡ true → is_first_form m ≡ true
+  pub first_form : has_names m ≡ true → list_all (uses_declared m) (processes m) ≡ true
+      → list_all (target_fits m) (processes m) ≡ true
+      → has_order m ≡ true → list_all (is_driven (targets m)) (declarations m) ≡ true
+      → has_clocks m ≡ true → is_first_form m ≡ true
   unfolding is_first_form
   first_form n u f o d c =
       let order = and_parts (all_differ (targets m)) (in_order m [] (processes m)) o in
       let clocks_are = and_parts (one_clock (clocks m)) (list_all (is_clock m) (clocks m)) c in
-      let once = and_from (all_differ (targets m)) (list_all (is_driven (targets m)) (declarations m)) order.0 d in
-      and_from _ _ (and_from _ _ (and_from _ _ (and_from _ _ (and_from _ _ (and_from _ _ n u) f) once) order.1) clocks_are.0) clocks_are.1
+      let once = and_from (all_differ (targets m))
+      (list_all (is_driven (targets m)) (declarations m)) order.0 d in
+      and_from _ _ (and_from _ _
+      (and_from _ _ (and_from _ _ (and_from _ _ (and_from _ _ n u) f) once) order.1)
+      clocks_are.0) clocks_are.1
 
   -- where a part fails, the module is not of the first form
   pub refused : (part : Bool) → (Parts → part ≡ true) → part ≡ false → is_first_form m ≡ false
-  refused part needs fails = false_from_ne_true (is_first_form m) (λ h. both_ways part fails (needs (parts h)))
+  refused part needs fails =
+      false_from_ne_true (is_first_form m) (λ h. both_ways part fails (needs (parts h)))

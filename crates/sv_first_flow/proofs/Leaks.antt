@@ -1,5 +1,6 @@
 -- The first read that leaks, in the order of the declarations.
-use Rattle.std.proofs.Common.{◌≡◌, ℕ, Bool, true, false, cond, not, ◌&&◌, List, [], ◌∷◌, filter, find, Option, Some, None, unwrap_or, refl, ap, ◌∙◌, sym}
+use Rattle.std.proofs.Common.{◌≡◌, ℕ, Bool, true, false, cond, not, ◌&&◌, List, [], ◌∷◌, filter}
+use Rattle.std.proofs.Common.{find, Option, Some, None, unwrap_or, refl, ap, ◌∙◌, sym}
 use Rattle.std.specs.Option.{option_map}
 use Rattle.std.specs.List.{All}
 use Rattle.std.proofs.lemmas.Bool.{both_ways, and_parts}
@@ -26,41 +27,65 @@ module _ (m : ModuleTree) (first : form.is_first_form m ≡ true) where
     abbrev pub is_leak : Decl → Bool
     is_leak d = is_read d.name && not (meaning.flows (unwrap_or d.label Low) to)
 
-    first_named : (ds : List Decl) → All (λ (d : Decl). meaning.label_of m d.name ≡ unwrap_or d.label Low) ds
-        → option_map (λ (d : Decl). d.name) (find is_leak ds) ≡ find (leaks m to) (filter is_read (names_of ds))
+    first_named : (ds : List Decl)
+        → All (λ (d : Decl). meaning.label_of m d.name ≡ unwrap_or d.label Low) ds
+        → option_map (λ (d : Decl). d.name) (find is_leak ds) ≡
+        find (leaks m to) (filter is_read (names_of ds))
     first_named [] h = refl
     first_named (d ∷ ds) h =
-        by (is_leak d) refl (first_named ds (All-tail (λ (e : Decl). meaning.label_of m e.name ≡ unwrap_or e.label Low) d ds h))
+        by (is_leak d) refl (first_named ds (All-tail (λ (e : Decl).
+        meaning.label_of m e.name ≡ unwrap_or e.label Low) d ds h))
       where
         by_label : leaks m to d.name ≡ not (meaning.flows (unwrap_or d.label Low) to)
-        by_label = ap (λ (p : Point). not (meaning.flows p to)) (All-head (λ (e : Decl). meaning.label_of m e.name ≡ unwrap_or e.label Low) d ds h)
+        by_label =
+            ap (λ (p : Point). not (meaning.flows p to))
+            (All-head (λ (e : Decl). meaning.label_of m e.name ≡ unwrap_or e.label Low) d ds h)
 
-        by : (b : Bool) → is_leak d ≡ b → option_map (λ (e : Decl). e.name) (find is_leak ds) ≡ find (leaks m to) (filter is_read (names_of ds))
-            → option_map (λ (e : Decl). e.name) (find is_leak (d ∷ ds)) ≡ find (leaks m to) (filter is_read (names_of (d ∷ ds)))
+        by : (b : Bool) → is_leak d ≡ b
+            → option_map (λ (e : Decl). e.name) (find is_leak ds) ≡
+            find (leaks m to) (filter is_read (names_of ds))
+            → option_map (λ (e : Decl). e.name) (find is_leak (d ∷ ds)) ≡
+            find (leaks m to) (filter is_read (names_of (d ∷ ds)))
         by true e rest =
-            let both = and_parts (is_read d.name) (not (meaning.flows (unwrap_or d.label Low) to)) e in
-            ap (λ (b : Bool). option_map (λ (x : Decl). x.name) (cond b (Some d) (find is_leak ds))) e
+            let both = and_parts (is_read d.name)
+            (not (meaning.flows (unwrap_or d.label Low) to)) e in
+            ap (λ (b : Bool). option_map (λ (x : Decl). x.name) (cond b (Some d) (find is_leak ds)))
+            e
             ∙ sym (find_here (leaks m to) is_read d.name (names_of ds) both.0 (by_label ∙ both.1))
         by false e rest =
-            ap (λ (b : Bool). option_map (λ (x : Decl). x.name) (cond b (Some d) (find is_leak ds))) e ∙ rest
-            ∙ sym (find_on (leaks m to) is_read d.name (names_of ds) (ap (λ (b : Bool). is_read d.name && b) by_label ∙ e))
+            ap (λ (b : Bool). option_map (λ (x : Decl). x.name) (cond b (Some d) (find is_leak ds)))
+            e ∙ rest
+            ∙ sym (find_on (leaks m to) is_read d.name (names_of ds)
+            (ap (λ (b : Bool). is_read d.name && b) by_label ∙ e))
 
     -- the first declaration that leaks has the name of the first leak
-    pub first_leak_named : option_map (λ (d : Decl). d.name) (find is_leak (meaning.declarations m)) ≡ find (leaks m to) (filter is_read (form.names m))
-    first_leak_named = first_named (meaning.declarations m) (each m first (λ (d : Decl). meaning.label_of m d.name ≡ unwrap_or d.label Low) (λ d is. own_label m d is))
+    pub first_leak_named : option_map (λ (d : Decl).
+        d.name) (find is_leak (meaning.declarations m)) ≡
+        find (leaks m to) (filter is_read (form.names m))
+    first_leak_named =
+        first_named (meaning.declarations m) (each m first (λ (d : Decl).
+        meaning.label_of m d.name ≡ unwrap_or d.label Low) (λ d is. own_label m d is))
 
   -- what was found among the names that the right side reads, for a declaration with its own point
-  module _ (n : List ℕ) (to : Point) (reads : List (List ℕ)) (point : to ≡ meaning.label_of m n) (are : reads ≡ sources m n) where
-    found_for : find (leaks m to) (filter (holds reads) (form.names m)) ≡ find (leaks m (meaning.label_of m n)) (due.reads_for m n)
+  module _ (n : List ℕ) (to : Point) (reads : List (List ℕ)) (point : to ≡ meaning.label_of m n)
+      (are : reads ≡ sources m n) where
+    found_for : find (leaks m to) (filter (holds reads) (form.names m)) ≡
+        find (leaks m (meaning.label_of m n)) (due.reads_for m n)
     found_for =
         ap (λ (p : Point). find (leaks m p) (filter (holds reads) (form.names m))) point
-        ∙ ap (λ (ns : List (List ℕ)). find (leaks m (meaning.label_of m n)) (filter (holds ns) (form.names m))) are
-        ∙ ap (λ (ns : List (List ℕ)). find (leaks m (meaning.label_of m n)) ns) (reads_among_names m first n)
+        ∙ ap (λ (ns : List (List ℕ)).
+        find (leaks m (meaning.label_of m n)) (filter (holds ns) (form.names m))) are
+        ∙ ap (λ (ns : List (List ℕ)).
+        find (leaks m (meaning.label_of m n)) ns) (reads_among_names m first n)
 
-    pub leak_found : (found : Option (List ℕ)) → found ≡ find (leaks m to) (filter (holds reads) (form.names m)) → find (leaks m (meaning.label_of m n)) (due.reads_for m n) ≡ found
+    pub leak_found : (found : Option (List ℕ)) →
+        found ≡ find (leaks m to) (filter (holds reads) (form.names m)) →
+        find (leaks m (meaning.label_of m n)) (due.reads_for m n) ≡ found
     leak_found found h = sym (h ∙ found_for)
 
-    pub leak_is_there : None ≡ find (leaks m to) (filter (holds reads) (form.names m)) → due.flow_holds m (obligation m n) ≡ false → ⊥
+    pub leak_is_there : None ≡ find (leaks m to) (filter (holds reads) (form.names m)) →
+        due.flow_holds m (obligation m n) ≡ false → ⊥
     leak_is_there h fails =
         both_ways (due.flow_holds m (obligation m n)) fails
-        (none_fails (λ r. meaning.flows (meaning.label_of m r) (meaning.label_of m n)) (due.reads_for m n) (sym (h ∙ found_for)))
+        (none_fails (λ r. meaning.flows (meaning.label_of m r) (meaning.label_of m n))
+        (due.reads_for m n) (sym (h ∙ found_for)))

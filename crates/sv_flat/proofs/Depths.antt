@@ -1,17 +1,25 @@
--- The depths of a design whose signals have an order of reads: counting them up comes to an end, and reads go to lower depth.
-use Rattle.std.proofs.Common.{◌≡◌, ℕ, zero, suc, ◌<◌, ◌≤◌, max, ltb-true, ltb-false, nat_lt, le_trans, Bool, true, false, cond, not, ◌&&◌, ◌||◌, ◌==◌, List, [], ◌∷◌, length, map, ⊎_elim, refl, sym, ap, subst, arith, zero-add, ◌∙◌, fold, replicate}
+-- The depths of a design whose signals have an order of reads: counting them up comes to an end,
+-- and reads go to lower depth.
+use Rattle.std.proofs.Common.{◌≡◌, ℕ, zero, suc, ◌<◌, ◌≤◌, max, ltb-true, ltb-false, nat_lt}
+use Rattle.std.proofs.Common.{le_trans, Bool, true, false, cond, not, ◌&&◌, ◌||◌, ◌==◌, List, []}
+use Rattle.std.proofs.Common.{◌∷◌, length, map, ⊎_elim, refl, sym, ap, subst, arith, zero-add, ◌∙◌}
+use Rattle.std.proofs.Common.{fold, replicate}
 use Rattle.std.specs.Prelude.{Contains, filter, IsTrue, IsFalse, slice_index}
 use Rattle.std.specs.List.{list_all, range_with_len}
 use Rattle.std.proofs.lemmas.Bool.{false≢true, or_right}
-use Rattle.std.proofs.lemmas.List.FromFn.{length-range_with_len, length-map-range_with_len, get_or-map-range_with_len}
-use Rattle.sv_system.proofs.Lists.{Contains-head, Contains-later, Contains-nil, Contains-cases, Contains-map, Contains-from_map}
+use Rattle.std.proofs.lemmas.List.FromFn.{length-range_with_len, length-map-range_with_len}
+use Rattle.std.proofs.lemmas.List.FromFn.{get_or-map-range_with_len}
+use Rattle.sv_system.proofs.Lists.{Contains-head, Contains-later, Contains-nil, Contains-cases}
+use Rattle.sv_system.proofs.Lists.{Contains-map, Contains-from_map}
 use Rattle.sv_system.proofs.Ranks.{filter_le, filter_lt}
 use Rattle.sv_flat.specs.Design.{FlatDesign}
 use Rattle.sv_flat.specs.Sets.{holds}
-use Rattle.sv_flat.specs.Reads.{is_combinational, is_read_for, reads_for, above, depths_within, depth}
+use Rattle.sv_flat.specs.Reads.{is_combinational, is_read_for, reads_for, above, depths_within}
+use Rattle.sv_flat.specs.Reads.{depth}
 use Rattle.sv_flat.specs.Loops.{reads_only_before, HasReadOrder}
 use Rattle.sv_flat.specs.Processes.{signals_that}
-use Rattle.sv_flat.proofs.LeastSets.{either_way, range_has, all_kept, holds-from_Contains, Contains-from_holds, in_those}
+use Rattle.sv_flat.proofs.LeastSets.{either_way, range_has, all_kept, holds-from_Contains}
+use Rattle.sv_flat.proofs.LeastSets.{Contains-from_holds, in_those}
 
 -- ---- tests
 
@@ -54,7 +62,8 @@ map_same f g (x ∷ xs) same =
     (ap (λ zs. f x ∷ zs) (map_same f g xs (λ y at. same y (Contains-later x xs y at))))
 
 -- each member of a list that passes as a whole passes
-pub from_all : {X : Type 0} (test : X → Bool) (xs : List X) (x : X) → IsTrue (list_all test xs) → Contains xs x → IsTrue (test x)
+pub from_all : {X : Type 0} (test : X → Bool) (xs : List X) (x : X) → IsTrue (list_all test xs) →
+    Contains xs x → IsTrue (test x)
 from_all test [] x h at = absurd (Contains-nil x at)
 from_all test (y ∷ xs) x h at = ⊎_elim
     (λ e. subst (λ z. IsTrue (test z)) e (first_of (test y) (list_all test xs) h))
@@ -90,14 +99,18 @@ module _ (design : FlatDesign) where
   next_at : (t s : ℕ) → s < n → within (suc t) s ≡ new_depth t s
   next_at t s below = get_or-map-range_with_len (new_depth t) 0 n s s 0 below (zero-add s)
 
-  next_of : (t s : ℕ) → IsTrue (is_combinational design s) → within (suc t) s ≡ above (map (within t) (reads_for design s))
-  next_of t s h = next_at t s (is_below s h) ∙ ap (λ b. cond b (above (map (within t) (reads_for design s))) 0) h
+  next_of : (t s : ℕ) → IsTrue (is_combinational design s) →
+      within (suc t) s ≡ above (map (within t) (reads_for design s))
+  next_of t s h =
+      next_at t s (is_below s h)
+      ∙ ap (λ b. cond b (above (map (within t) (reads_for design s))) 0) h
 
   -- a signal that is not combinational has depth 0, however far the count has come
   none_for_others : (t s : ℕ) → IsFalse (is_combinational design s) → within t s ≡ 0
   none_for_others zero s h = zeros n s
   none_for_others (suc t) s h = ⊎_elim
-      (λ below. next_at t s (ltb-true s n below) ∙ ap (λ b. cond b (above (map (within t) (reads_for design s))) 0) h)
+      (λ below. next_at t s (ltb-true s n below)
+      ∙ ap (λ b. cond b (above (map (within t) (reads_for design s))) 0) h)
       (λ past. none_past (depths_within design (suc t)) s
       (subst (λ l. l ≤ s) (sym (length-map-range_with_len (new_depth t) 0 n)) (ltb-false s n past)))
       (either_way (nat_lt s n))
@@ -108,25 +121,30 @@ module _ (design : FlatDesign) where
 
   -- from the number of listed signals on, one more read changes the depth of none of them
   abbrev Settled : List ℕ → Type 0
-  Settled first = (s : ℕ) → Contains first s → IsTrue (is_combinational design s) → (t : ℕ) → count first ≤ t
+  Settled first =
+      (s : ℕ) → Contains first s → IsTrue (is_combinational design s) → (t : ℕ) → count first ≤ t
       → within t s ≡ within (suc t) s
 
   also_holds : (first : List ℕ) (s k : ℕ) → IsTrue (holds first k) → IsTrue (holds (s ∷ first) k)
   also_holds first s k h = or_right (s == k) (holds first k) h
 
   same_reads : (first : List ℕ) (s t : ℕ) → Settled first → count first ≤ t
-      → IsTrue (list_all (λ r. not (is_combinational design r) || holds first r) (reads_for design s))
+      → IsTrue (list_all (λ r.
+      not (is_combinational design r) || holds first r) (reads_for design s))
       → map (within t) (reads_for design s) ≡ map (within (suc t)) (reads_for design s)
-  same_reads first s t settled many placed = map_same (within t) (within (suc t)) (reads_for design s) (λ r at. ⊎_elim
+  same_reads first s t settled many placed =
+      map_same (within t) (within (suc t)) (reads_for design s) (λ r at. ⊎_elim
       (λ comb. settled r
       (Contains-from_holds first r (right_of (is_combinational design r) (holds first r) comb
-      (from_all (λ z. not (is_combinational design z) || holds first z) (reads_for design s) r placed at)))
+      (from_all (λ z. not (is_combinational design z) || holds first z) (reads_for design s) r
+      placed at)))
       comb t many)
       (λ other. none_for_others t r other ∙ sym (none_for_others (suc t) r other))
       (either_way (is_combinational design r)))
 
   next_settled : (first : List ℕ) (s t : ℕ) → Settled first → count first < t
-      → IsTrue (list_all (λ r. not (is_combinational design r) || holds first r) (reads_for design s))
+      → IsTrue (list_all (λ r.
+      not (is_combinational design r) || holds first r) (reads_for design s))
       → IsTrue (is_combinational design s) → within t s ≡ within (suc t) s
   next_settled first s zero settled many placed comb = absurd (omega arith)
   next_settled first s (suc t) settled many placed comb =
@@ -136,17 +154,22 @@ module _ (design : FlatDesign) where
 
   -- a signal that reads only signals before it joins them
   one_more : (first : List ℕ) (s : ℕ) → Settled first
-      → IsTrue (list_all (λ r. not (is_combinational design r) || holds first r) (reads_for design s)) → Settled (s ∷ first)
+      → IsTrue (list_all (λ r.
+      not (is_combinational design r) || holds first r) (reads_for design s))
+      → Settled (s ∷ first)
   one_more first s settled placed z at comb t many =
-      let fewer = filter_le (holds first) (holds (s ∷ first)) (also_holds first s) (range_with_len 0 n) in
+      let fewer = filter_le (holds first) (holds (s ∷ first)) (also_holds first s)
+      (range_with_len 0 n) in
       ⊎_elim
       (λ e. ⊎_elim
       (λ old. settled z (Contains-from_holds first z old) comb t (le_trans fewer many))
       (λ new.
-      let more = filter_lt (holds first) (holds (s ∷ first)) (also_holds first s) (range_with_len 0 n) z
+      let more = filter_lt (holds first) (holds (s ∷ first)) (also_holds first s)
+      (range_with_len 0 n) z
       (range_has n z (is_below z comb)) new (holds-from_Contains (s ∷ first) z at) in
       subst (λ y. within t y ≡ within (suc t) y) e
-      (next_settled first s t settled (le_trans more many) placed (subst (λ y. IsTrue (is_combinational design y)) (sym e) comb)))
+      (next_settled first s t settled (le_trans more many) placed
+      (subst (λ y. IsTrue (is_combinational design y)) (sym e) comb)))
       (either_way (holds first z)))
       (λ inside. settled z inside comb t (le_trans fewer many))
       (Contains-cases s first z at)
@@ -156,23 +179,30 @@ module _ (design : FlatDesign) where
   placed first [] = first
   placed first (s ∷ signals) = placed (s ∷ first) signals
 
-  all_settled : (first signals : List ℕ) → Settled first → IsTrue (reads_only_before design first signals) → Settled (placed first signals)
+  all_settled : (first signals : List ℕ) → Settled first →
+      IsTrue (reads_only_before design first signals) → Settled (placed first signals)
   all_settled first [] settled h = settled
   all_settled first (s ∷ signals) settled h =
-      let here = first_of (list_all (λ r. not (is_combinational design r) || holds first r) (reads_for design s))
+      let here = first_of (list_all (λ r.
+      not (is_combinational design r) || holds first r) (reads_for design s))
       (reads_only_before design (s ∷ first) signals) h in
-      let later = second_of (list_all (λ r. not (is_combinational design r) || holds first r) (reads_for design s))
+      let later = second_of
+      (list_all (λ r. not (is_combinational design r) || holds first r) (reads_for design s))
       (reads_only_before design (s ∷ first) signals) h in
       all_settled (s ∷ first) signals (one_more first s settled here) later
 
-  stays_placed : (first signals : List ℕ) (s : ℕ) → Contains first s → Contains (placed first signals) s
+  stays_placed : (first signals : List ℕ) (s : ℕ) → Contains first s →
+      Contains (placed first signals) s
   stays_placed first [] s at = at
-  stays_placed first (z ∷ signals) s at = stays_placed (z ∷ first) signals s (Contains-later z first s at)
+  stays_placed first (z ∷ signals) s at =
+      stays_placed (z ∷ first) signals s (Contains-later z first s at)
 
-  is_placed : (first signals : List ℕ) (s : ℕ) → Contains signals s → Contains (placed first signals) s
+  is_placed : (first signals : List ℕ) (s : ℕ) → Contains signals s →
+      Contains (placed first signals) s
   is_placed first [] s at = absurd (Contains-nil s at)
   is_placed first (z ∷ signals) s at = ⊎_elim
-      (λ e. stays_placed (z ∷ first) signals s (subst (Contains (z ∷ first)) e (Contains-head z first)))
+      (λ e. stays_placed (z ∷ first) signals s
+      (subst (Contains (z ∷ first)) e (Contains-head z first)))
       (λ inside. is_placed (z ∷ first) signals s inside)
       (Contains-cases z signals s at)
 
@@ -199,14 +229,17 @@ module _ (design : FlatDesign) where
         s (is_placed [] ordered.0 s (listed s comb)) comb n (few (placed [] ordered.0))
 
     -- a combinational signal's depth is one more than the greatest depth of what is read for it
-    pub depth_above_reads : (s : ℕ) → IsTrue (is_combinational design s) → depth design s ≡ above (map (depth design) (reads_for design s))
+    pub depth_above_reads : (s : ℕ) → IsTrue (is_combinational design s) →
+        depth design s ≡ above (map (depth design) (reads_for design s))
     depth_above_reads s comb = ended s comb ∙ next_of n s comb
 
     -- reads go to lower depth
-    pub reads_are_lower : (s t : ℕ) → IsTrue (is_combinational design s) → t < n → IsTrue (is_read_for design s t)
+    pub reads_are_lower : (s t : ℕ) → IsTrue (is_combinational design s) → t < n
+        → IsTrue (is_read_for design s t)
         → depth design t < depth design s
     reads_are_lower s t comb below reads =
-        let at = Contains-map (depth design) (reads_for design s) t (in_those n (is_read_for design s) t below reads) in
+        let at = Contains-map (depth design) (reads_for design s) t
+        (in_those n (is_read_for design s) t below reads) in
         let le = fold_has (map (depth design) (reads_for design s)) 0 (depth design t) at in
         let is = depth_above_reads s comb in
         omega arith

@@ -1,6 +1,8 @@
--- A sound and admitted design meets what the law on schedules asks: every order of its combinational processes comes to one
--- settled environment.
-use Rattle.std.proofs.Common.{◌≡◌, ℕ, ◌<◌, Bool, true, false, not, ◌&&◌, ◌||◌, ◌==◌, nat_le, leb-true, ltb-true, lt-ltb, List, [], length, map, inl, inr, ⊎_elim, refl, sym, ap, subst, arith}
+-- A sound and admitted design meets what the law on schedules asks: every order of its
+-- combinational processes comes to one settled environment.
+use Rattle.std.proofs.Common.{◌≡◌, ℕ, ◌<◌, Bool, true, false, not, ◌&&◌, ◌||◌, ◌==◌, nat_le}
+use Rattle.std.proofs.Common.{leb-true, ltb-true, lt-ltb, List, [], length, map, inl, inr, ⊎_elim}
+use Rattle.std.proofs.Common.{refl, sym, ap, subst, arith}
 use Rattle.std.specs.Prelude.{Contains, IsTrue, IsFalse}
 use Rattle.std.proofs.lemmas.Bool.{false≢true, or_left, eq-eqb, le-leb}
 use Rattle.std.proofs.lemmas.Nat.Bits.{same_from_bits_below}
@@ -18,11 +20,15 @@ use Rattle.sv_flat.specs.Clocks.{is_clock, processes_of}
 use Rattle.sv_flat.specs.Reads.{is_combinational, depth, process_readings}
 use Rattle.sv_flat.specs.FlatSystem.{flat_system, combinational_processes, run_of}
 use Rattle.sv_flat.specs.Admission.{IsAdmitted}
-use Rattle.sv_flat.proofs.LeastSets.{either_way, some_from, in_those, those_below, those_pass, Contains-from_filter}
+use Rattle.sv_flat.proofs.LeastSets.{either_way, some_from, in_those, those_below, those_pass}
+use Rattle.sv_flat.proofs.LeastSets.{Contains-from_filter}
 use Rattle.sv_flat.proofs.Depths.{first_of, second_of}
-use Rattle.sv_flat.proofs.SameRuns.{or_none_left, or_none_right, none_found, run_leaves, Ready, runs_agree}
+use Rattle.sv_flat.proofs.SameRuns.{or_none_left, or_none_right, none_found, run_leaves, Ready}
+use Rattle.sv_flat.proofs.SameRuns.{runs_agree}
 use Rattle.sv_flat.proofs.ReadSignals.{readings_signals}
-use Rattle.sv_flat.proofs.AdmittedFacts.{and_true, none_of_three, negated_true, some_width, body_is_sound, assigned_is_signal, targets_are_combinational, combinational_is_driven}
+use Rattle.sv_flat.proofs.AdmittedFacts.{and_true, none_of_three, negated_true, some_width}
+use Rattle.sv_flat.proofs.AdmittedFacts.{body_is_sound, assigned_is_signal}
+use Rattle.sv_flat.proofs.AdmittedFacts.{targets_are_combinational, combinational_is_driven}
 use Rattle.sv_flat.proofs.ClockFacts.{reads_no_clock}
 use Rattle.sv_flat.proofs.BlockFacts.{serves_is_lower, own_is_assigned, assigns_all, is_blocking}
 
@@ -31,7 +37,8 @@ no_input_alone true true h k = absurd (false≢true (sym h))
 no_input_alone true false h k = k
 no_input_alone false b h k = refl
 
-module _ (design : FlatDesign) (is_sound : IsTrue (sound design)) (admitted : IsAdmitted design) where
+module _ (design : FlatDesign) (is_sound : IsTrue (sound design))
+    (admitted : IsAdmitted design) where
   -- a process with the signals that it assigns
   abbrev block_of : ProcessForm → Block ℕ
   block_of p = record { targets = signals_that design (assigns p.body); run = run_of design p }
@@ -39,19 +46,26 @@ module _ (design : FlatDesign) (is_sound : IsTrue (sound design)) (admitted : Is
   abbrev all_blocks : List (Block ℕ)
   all_blocks = map block_of (combinational_processes design)
 
-  pub in_processes : (p : ProcessForm) → Contains (combinational_processes design) p → Contains (processes_of design) p
-  in_processes p at = (Contains-from_filter (λ (q : ProcessForm). not (is_clocked q.kind)) (processes_of design) p at).1
+  pub in_processes : (p : ProcessForm) → Contains (combinational_processes design) p →
+      Contains (processes_of design) p
+  in_processes p at =
+      (Contains-from_filter (λ (q : ProcessForm).
+      not (is_clocked q.kind)) (processes_of design) p at).1
 
-  pub unclocked : (p : ProcessForm) → Contains (combinational_processes design) p → IsFalse (is_clocked p.kind)
+  pub unclocked : (p : ProcessForm) → Contains (combinational_processes design) p →
+      IsFalse (is_clocked p.kind)
   unclocked p at = negated_true (is_clocked p.kind)
-      (Contains-from_filter (λ (q : ProcessForm). not (is_clocked q.kind)) (processes_of design) p at).0
+      (Contains-from_filter (λ (q : ProcessForm).
+      not (is_clocked q.kind)) (processes_of design) p at).0
 
   pub parts_of : (s : ℕ) → IsTrue (is_combinational design s)
-      → IsTrue (is_signal design.signals s) × IsFalse (is_top_input design s) × IsFalse (is_register design s) × IsFalse (is_clock design s)
+      → IsTrue (is_signal design.signals s) × IsFalse (is_top_input design s)
+      × IsFalse (is_register design s) × IsFalse (is_clock design s)
   parts_of s comb =
       let three = is_top_input design s || is_register design s || is_clock design s in
       let none = negated_true three (second_of (is_signal design.signals s) (not three) comb) in
-      let two = or_none_left (is_top_input design s || is_register design s) (is_clock design s) none in (
+      let two = or_none_left (is_top_input design s || is_register design s) (is_clock design s)
+      none in (
         first_of (is_signal design.signals s) (not three) comb,
         or_none_left (is_top_input design s) (is_register design s) two,
         or_none_right (is_top_input design s) (is_register design s) two,
@@ -59,37 +73,47 @@ module _ (design : FlatDesign) (is_sound : IsTrue (sound design)) (admitted : Is
       )
 
   -- the system's combinational signals are those of the design
-  pub to_system : (s : ℕ) → IsTrue (is_combinational design s) → IsCombinational (flat_system design) s
+  pub to_system : (s : ℕ) → IsTrue (is_combinational design s) →
+      IsCombinational (flat_system design) s
   to_system s comb =
       let parts = parts_of s comb in
       record {
-        among = in_those (length design.signals) (λ z. not (is_clock design z)) s (ltb-true s (length design.signals) parts.0)
+        among =
+            in_those (length design.signals) (λ z.
+            not (is_clock design z)) s (ltb-true s (length design.signals) parts.0)
             (ap not parts.3);
         no_input = ap (λ b. b && not (is_clock design s)) parts.1;
         no_register = parts.2;
       }
 
-  pub of_system : (s : ℕ) → IsCombinational (flat_system design) s → IsTrue (is_combinational design s)
+  pub of_system : (s : ℕ) → IsCombinational (flat_system design) s →
+      IsTrue (is_combinational design s)
   of_system s is =
-      let no_clock = negated_true (is_clock design s) (those_pass (length design.signals) (λ z. not (is_clock design z)) s is.among) in
+      let no_clock = negated_true (is_clock design s)
+      (those_pass (length design.signals) (λ z. not (is_clock design z)) s is.among) in
       let below = those_below (length design.signals) (λ z. not (is_clock design z)) s is.among in
-      and_true (is_signal design.signals s) (not (is_top_input design s || is_register design s || is_clock design s))
+      and_true (is_signal design.signals s)
+      (not (is_top_input design s || is_register design s || is_clock design s))
       (lt-ltb s (length design.signals) below)
       (none_of_three (is_top_input design s) (is_register design s) (is_clock design s)
-      (no_input_alone (is_top_input design s) (is_clock design s) no_clock is.no_input) is.no_register no_clock)
+      (no_input_alone (is_top_input design s) (is_clock design s) no_clock is.no_input)
+      is.no_register no_clock)
 
   -- ---- one process
 
-  module _ (p : ProcessForm) (at : Contains (combinational_processes design) p) (s : ℕ) (assigned : IsTrue (assigns p.body s))
+  module _ (p : ProcessForm) (at : Contains (combinational_processes design) p) (s : ℕ)
+      (assigned : IsTrue (assigns p.body s))
       (e f : Environment ℕ)
       (inputs : (t : ℕ) → IsTrue (is_top_input design t && not (is_clock design t)) → e t ≡ f t)
       (registers : (t : ℕ) → IsTrue (is_register design t) → e t ≡ f t)
-      (lower : (t : ℕ) → IsFalse (assigns p.body t) → IsTrue (is_combinational design t) → depth design t < depth design s → e t ≡ f t) where
+      (lower : (t : ℕ) → IsFalse (assigns p.body t) → IsTrue (is_combinational design t) →
+      depth design t < depth design s → e t ≡ f t) where
     process : Contains (processes_of design) p
     process = in_processes p at
 
     combinational : (t : ℕ) → IsTrue (assigns p.body t) → IsTrue (is_combinational design t)
-    combinational t h = targets_are_combinational design is_sound admitted p t process (unclocked p at) h
+    combinational t h =
+        targets_are_combinational design is_sound admitted p t process (unclocked p at) h
 
     -- the targets that lie no higher
     abbrev wanted : ℕ → Bool
@@ -98,29 +122,37 @@ module _ (design : FlatDesign) (is_sound : IsTrue (sound design)) (admitted : Is
     abbrev Given : ℕ → Type 0
     Given t = e t ≡ f t
 
-    below_target : (r : Reading) → Contains (process_readings design p) r → (t : ℕ) → IsTrue (wanted t) → IsTrue (r.serves t)
+    below_target : (r : Reading) → Contains (process_readings design p) r → (t : ℕ)
+        → IsTrue (wanted t) → IsTrue (r.serves t)
         → depth design r.name.signal < depth design s
     below_target r r_at t want served =
         let falls = serves_is_lower design is_sound admitted p t process (unclocked p at)
-        (first_of (assigns p.body t) (nat_le (depth design t) (depth design s)) want) r r_at served in
+        (first_of (assigns p.body t) (nat_le (depth design t) (depth design s)) want) r r_at
+        served in
         let most = leb-true (depth design t) (depth design s)
         (second_of (assigns p.body t) (nat_le (depth design t) (depth design s)) want) in
         omega arith
 
-    given : (r : Reading) → Contains (process_readings design p) r → IsFalse (assigns p.body r.name.signal)
+    given : (r : Reading) → Contains (process_readings design p) r
+        → IsFalse (assigns p.body r.name.signal)
         → depth design r.name.signal < depth design s → Given r.name.signal
     given r r_at out falls =
         let x = r.name.signal in
         let no_clock = reads_no_clock design is_sound admitted p x process
-        (some_from (λ (z : Reading). z.name.signal == x) (process_readings design p) r r_at (eq-eqb x x refl)) in
-        let inside = readings_signals design.signals p.body no_bits no_bits (body_is_sound design is_sound admitted p process) r r_at in
+        (some_from (λ (z : Reading). z.name.signal == x) (process_readings design p) r r_at
+        (eq-eqb x x refl)) in
+        let inside = readings_signals design.signals p.body no_bits no_bits
+        (body_is_sound design is_sound admitted p process) r r_at in
         ⊎_elim
-        (λ top. inputs x (and_true (is_top_input design x) (not (is_clock design x)) top (ap not no_clock)))
+        (λ top. inputs x (and_true (is_top_input design x) (not (is_clock design x)) top
+        (ap not no_clock)))
         (λ no_top. ⊎_elim
         (λ register. registers x register)
         (λ no_register. lower x out
-        (and_true (is_signal design.signals x) (not (is_top_input design x || is_register design x || is_clock design x)) inside
-        (none_of_three (is_top_input design x) (is_register design x) (is_clock design x) no_top no_register no_clock))
+        (and_true (is_signal design.signals x)
+        (not (is_top_input design x || is_register design x || is_clock design x)) inside
+        (none_of_three (is_top_input design x) (is_register design x) (is_clock design x) no_top
+        no_register no_clock))
         falls)
         (either_way (is_register design x)))
         (either_way (is_top_input design x))
@@ -128,31 +160,40 @@ module _ (design : FlatDesign) (is_sound : IsTrue (sound design)) (admitted : Is
     positive : (t : ℕ) → IsTrue (is_signal design.signals t) → 0 < signal_width design.signals t
     positive t inside = some_width design is_sound admitted t inside
 
-    ready : (r : Reading) → Contains (process_readings design p) r → Ready design.signals positive (assigns p.body) wanted Given r
+    ready : (r : Reading) → Contains (process_readings design p) r →
+        Ready design.signals positive (assigns p.body) wanted Given r
     ready r r_at t want served = ⊎_elim
         (λ own. inr (
-          and_true (assigns p.body r.name.signal) (nat_le (depth design r.name.signal) (depth design s)) own
-              (let falls = below_target r r_at t want served in le-leb (depth design r.name.signal) (depth design s) (omega arith)),
+          and_true (assigns p.body r.name.signal)
+              (nat_le (depth design r.name.signal) (depth design s)) own
+              (let falls = below_target r r_at t want served in
+              le-leb (depth design r.name.signal) (depth design s) (omega arith)),
           own_is_assigned design is_sound admitted p t process (unclocked p at)
-              (first_of (assigns p.body t) (nat_le (depth design t) (depth design s)) want) r r_at served own,
+              (first_of (assigns p.body t) (nat_le (depth design t) (depth design s)) want) r r_at
+              served own,
         ))
         (λ out. inl (out, given r r_at out (below_target r r_at t want served)))
         (either_way (assigns p.body r.name.signal))
 
     pub same_target : run_of design p e s ≡ run_of design p f s
     same_target =
-        let inside = assigned_is_signal design.signals p.body (body_is_sound design is_sound admitted p process) s assigned in
+        let inside = assigned_is_signal design.signals p.body
+        (body_is_sound design is_sound admitted p process) s assigned in
         let w = signal_width design.signals s in
         let want = and_true (assigns p.body s) (nat_le (depth design s) (depth design s)) assigned
         (le-leb (depth design s) (depth design s) (omega arith)) in
-        let agrees = runs_agree design.signals positive (assigns p.body) wanted Given p.body no_bits no_bits (e, []) (f, [])
-        (body_is_sound design is_sound admitted p process) (is_blocking design is_sound admitted p process (unclocked p at))
+        let agrees = runs_agree design.signals positive (assigns p.body) wanted Given p.body no_bits
+        no_bits (e, []) (f, [])
+        (body_is_sound design is_sound admitted p process)
+        (is_blocking design is_sound admitted p process (unclocked p at))
         (λ t h. h) ready
         ((λ t out g. g), (λ t b want below h. absurd (false≢true h))) in
         let bit = λ (b : ℕ) (below : b < w). agrees.1 s b want below
-        (or_left (always_assigns p.body s b) false (assigns_all design is_sound admitted p s b process (unclocked p at) assigned below)) in
+        (or_left (always_assigns p.body s b) false
+        (assigns_all design is_sound admitted p s b process (unclocked p at) assigned below)) in
         let lowest = bit 0 (positive s inside) in
-        same_from_bits_below w (run_of design p e s) (run_of design p f s) lowest.0 lowest.1 (λ b below. (bit b below).2)
+        same_from_bits_below w (run_of design p e s) (run_of design p f s) lowest.0 lowest.1
+        (λ b below. (bit b below).2)
 
   -- ---- the law's premises
 
@@ -160,45 +201,58 @@ module _ (design : FlatDesign) (is_sound : IsTrue (sound design)) (admitted : Is
   FromLower b = (s : ℕ) → Contains b.targets s → (e f : Environment ℕ)
       → ((t : ℕ) → IsTrue (is_top_input design t && not (is_clock design t)) → e t ≡ f t)
       → ((t : ℕ) → IsTrue (is_register design t) → e t ≡ f t)
-      → ((t : ℕ) → IsCombinational (flat_system design) t → depth design t < depth design s → e t ≡ f t)
+      → ((t : ℕ) → IsCombinational (flat_system design) t → depth design t < depth design s
+      → e t ≡ f t)
       → b.run e s ≡ b.run f s
 
-  from_lower : (p : ProcessForm) → Contains (combinational_processes design) p → FromLower (block_of p)
+  from_lower : (p : ProcessForm) → Contains (combinational_processes design) p →
+      FromLower (block_of p)
   from_lower p at s target e f inputs registers lower =
-      same_target p at s (those_pass (length design.signals) (assigns p.body) s target) e f inputs registers
+      same_target p at s (those_pass (length design.signals) (assigns p.body) s target) e f inputs
+      registers
       (λ t out comb falls. lower t (to_system t comb) falls)
 
-  leaves_others : (p : ProcessForm) → Contains (combinational_processes design) p → (e : Environment ℕ) (s : ℕ)
+  leaves_others : (p : ProcessForm) → Contains (combinational_processes design) p
+      → (e : Environment ℕ) (s : ℕ)
       → (Contains (signals_that design (assigns p.body)) s → ⊥) → run_of design p e s ≡ e s
   leaves_others p at e s no_target = run_leaves design.signals p.body s
-      (none_found (assigns p.body s) (λ h. no_target (in_those (length design.signals) (assigns p.body) s
+      (none_found (assigns p.body s) (λ h.
+      no_target (in_those (length design.signals) (assigns p.body) s
       (ltb-true s (length design.signals)
-      (assigned_is_signal design.signals p.body (body_is_sound design is_sound admitted p (in_processes p at)) s h)) h)))
+      (assigned_is_signal design.signals p.body
+      (body_is_sound design is_sound admitted p (in_processes p at)) s h)) h)))
       (e, [])
 
-  -- every order of the processes of a sound and admitted design comes to one settled environment: the premises of that law
+  -- every order of the processes of a sound and admitted design comes to one settled environment:
+  -- the premises of that law
   pub flat_is_scheduled : Scheduled (flat_system design)
   flat_is_scheduled = record {
     blocks = all_blocks;
-    are_processes = sym (map_map (λ (b : Block ℕ). b.run) block_of (combinational_processes design));
+    are_processes =
+        sym (map_map (λ (b : Block ℕ). b.run) block_of (combinational_processes design));
     depth = depth design;
     targets_combinational = λ b at s target.
         let from = Contains-from_map block_of (combinational_processes design) b at in
         let p = from.0 in
-        to_system s (targets_are_combinational design is_sound admitted p s (in_processes p from.1) (unclocked p from.1)
-        (those_pass (length design.signals) (assigns p.body) s (subst (λ (c : Block ℕ). Contains c.targets s) (sym from.2) target)));
+        to_system s (targets_are_combinational design is_sound admitted p s (in_processes p from.1)
+        (unclocked p from.1)
+        (those_pass (length design.signals) (assigns p.body) s
+        (subst (λ (c : Block ℕ). Contains c.targets s) (sym from.2) target)));
     assigned = λ s is.
         let comb = of_system s is in
         let found = combinational_is_driven design is_sound admitted s comb in
         let p = found.0 in (
           block_of p,
           Contains-map block_of (combinational_processes design) p
-              (Contains-filter (λ (q : ProcessForm). not (is_clocked q.kind)) (processes_of design) p found.1 (ap not found.2)),
-          in_those (length design.signals) (assigns p.body) s (ltb-true s (length design.signals) (parts_of s comb).0) found.3,
+              (Contains-filter (λ (q : ProcessForm).
+              not (is_clocked q.kind)) (processes_of design) p found.1 (ap not found.2)),
+          in_those (length design.signals) (assigns p.body) s
+              (ltb-true s (length design.signals) (parts_of s comb).0) found.3,
         );
     leaves = λ b at.
         let from = Contains-from_map block_of (combinational_processes design) b at in
-        subst (λ (c : Block ℕ). (e : Environment ℕ) (s : ℕ) → (Contains c.targets s → ⊥) → c.run e s ≡ e s) from.2
+        subst (λ (c : Block ℕ). (e : Environment ℕ) (s : ℕ) → (Contains c.targets s → ⊥) →
+        c.run e s ≡ e s) from.2
         (leaves_others from.0 from.1);
     made_from_lower = λ b at.
         let from = Contains-from_map block_of (combinational_processes design) b at in

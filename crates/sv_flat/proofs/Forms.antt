@@ -3,14 +3,23 @@ use Rattle.std.proofs.Common.{ℕ, true, false, List, [], ◌∷◌}
 use Rattle.sv_num.specs.declared.faults.Place.{Place}
 use Rattle.sv_lattice.specs.declared.labels.Label.TheVariants.{Point}
 use Rattle.sv_flat.specs.declared.signals.SigKind.{SigKind}
-use Rattle.sv_flat.specs.Design.{SignalForm, TypedTree, typed, read, PieceForm, FlatStatement, nothing, after, assign, ProcessKind, ProcessForm, FlatDesign}
+use Rattle.sv_flat.specs.Design.{SignalForm, TypedTree, typed, read, PieceForm, FlatStatement}
+use Rattle.sv_flat.specs.Design.{nothing, after, assign, ProcessKind, ProcessForm, FlatDesign}
 
 abbrev pub at : (line column : ℕ) → Place
 at l c = record { line = l; column = c }
 
 -- a signal without sign, with the least point as its label
 abbrev pub declares : (name : List ℕ) → (width : ℕ) → SigKind → Place → SignalForm
-declares n w k p = record { name = n; width = w; signed = false; kind = k; label = Point (record { 0 = 0 }); place = p }
+declares n w k p =
+    record {
+      name = n;
+      width = w;
+      signed = false;
+      kind = k;
+      label = Point (record { 0 = 0 });
+      place = p;
+    }
 
 abbrev pub part : (signal : ℕ) → Place → (high low from : ℕ) → PieceForm
 part s p h l f = record { signal = s; place = p; high = h; low = l; from = f }

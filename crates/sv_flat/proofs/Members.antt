@@ -15,9 +15,11 @@ module _ {X : Type 0} where
   Contains-right [] ys x at = at
   Contains-right (z ∷ xs) ys x at = Contains-later z (xs ++ ys) x (Contains-right xs ys x at)
 
-  pub Contains-either : (xs ys : List X) (x : X) → Contains (xs ++ ys) x → Contains xs x ⊎ Contains ys x
+  pub Contains-either : (xs ys : List X) (x : X) → Contains (xs ++ ys) x →
+      Contains xs x ⊎ Contains ys x
   Contains-either [] ys x at = inr at
   Contains-either (z ∷ xs) ys x at = ⊎_elim
       (λ e. inl (subst (Contains (z ∷ xs)) e (Contains-head z xs)))
-      (λ inside. ⊎_elim (λ l. inl (Contains-later z xs x l)) (λ r. inr r) (Contains-either xs ys x inside))
+      (λ inside. ⊎_elim (λ l. inl (Contains-later z xs x l)) (λ r.
+      inr r) (Contains-either xs ys x inside))
       (Contains-cases z (xs ++ ys) x at)

@@ -6,7 +6,9 @@ use Rattle.sv_num.specs.declared.operators.UnOp.TheVariants as unop
 use Rattle.sv_system.specs.System.{Environment}
 use Rattle.sv_flat.specs.declared.signals.SigKind.TheVariants.{TopInput, Output, OutputReg, Net}
 use Rattle.sv_flat.specs.Design.{TypedTree, typed, unary, continuous, clocked, FlatDesign}
-use Rattle.sv_flat.specs.Schedules.{next_state, drawn, round, after_schedule, after_rounds, is_quiet, IsRoundCount, is_order, after_tick, tick_order, starting, with_inputs, OrderedRun}
+use Rattle.sv_flat.specs.Schedules.{next_state, drawn, round, after_schedule, after_rounds}
+use Rattle.sv_flat.specs.Schedules.{is_quiet, IsRoundCount, is_order, after_tick, tick_order}
+use Rattle.sv_flat.specs.Schedules.{starting, with_inputs, OrderedRun}
 use Rattle.sv_flat.proofs.Forms.{at, declares, sets, later, named, process, over_two_points}
 
 abbrev invert : TypedTree → TypedTree
@@ -15,7 +17,8 @@ invert e = typed 1 false (unary unop.Invert e)
 -- module m(input a, output y); wire p, q; assign y = ~q; assign q = ~p; assign p = ~a; endmodule
 abbrev inverters : FlatDesign
 inverters = over_two_points
-    (declares (codes "a") 1 TopInput (at 1 16) ∷ declares (codes "y") 1 Output (at 1 26) ∷ declares (codes "p") 1 Net (at 2 8)
+    (declares (codes "a") 1 TopInput (at 1 16) ∷ declares (codes "y") 1 Output (at 1 26) ∷
+    declares (codes "p") 1 Net (at 2 8)
     ∷ declares (codes "q") 1 Net (at 2 11) ∷ [])
     (process continuous (at 3 10) (sets 1 (at 3 10) (invert (named 3 (at 3 15))))
     ∷ process continuous (at 4 10) (sets 3 (at 4 10) (invert (named 2 (at 4 15))))
@@ -37,7 +40,9 @@ pub q_runs_last : slice_index (round 3 10).order 2 ≡ 1
 q_runs_last = refl
 
 -- the runs of p, q and y in this order settle all
-pub in_order : values (after_schedule inverters (2 ∷ 1 ∷ 0 ∷ []) (with_inputs inverters (λ s. 1) (λ s. 0))) ≡ 1 ∷ 0 ∷ 0 ∷ 1 ∷ []
+pub in_order : values
+    (after_schedule inverters (2 ∷ 1 ∷ 0 ∷ []) (with_inputs inverters (λ s. 1) (λ s. 0))) ≡
+    1 ∷ 0 ∷ 0 ∷ 1 ∷ []
 in_order = refl
 
 -- cycle 0 takes one round under the number 10
@@ -76,7 +81,8 @@ abbrev raised : Environment ℕ
 raised = with_inputs inverters (λ s. 1) ticked
 
 one_round_in_cycle_0 : IsRoundCount inverters 10 begun 1
-one_round_in_cycle_0 = record { some = omega arith; quiet = refl; before = λ k a b. absurd (omega (arith, a, b)) }
+one_round_in_cycle_0 =
+    record { some = omega arith; quiet = refl; before = λ k a b. absurd (omega (arith, a, b)) }
 
 two_rounds_in_cycle_1 : IsRoundCount inverters 11 raised 2
 two_rounds_in_cycle_1 = record {
@@ -100,7 +106,8 @@ no_rounds_without_cycles = record { counts = []; runs = tt; summed = refl }
 
 -- ---- ticks
 
--- module m(input c, output reg p, output reg q); always @(posedge c) p <= q; always @(posedge c) q <= p; endmodule
+-- module m(input c, output reg p, output reg q); always @(posedge c) p <= q; always @(posedge c) q
+-- <= p; endmodule
 abbrev exchange : FlatDesign
 exchange = over_two_points
     (declares (codes "c") 1 TopInput (at 1 16) ∷ declares (codes "p") 1 OutputReg (at 1 30)
@@ -115,7 +122,8 @@ even_order = refl
 pub odd_order : tick_order exchange 3 ≡ 1 ∷ 0 ∷ []
 odd_order = refl
 
-pub both_are_orders : map (is_order exchange) (tick_order exchange 2 ∷ tick_order exchange 3 ∷ []) ≡ true ∷ true ∷ []
+pub both_are_orders : map (is_order exchange) (tick_order exchange 2 ∷ tick_order exchange 3 ∷ []) ≡
+    true ∷ true ∷ []
 both_are_orders = refl
 
 -- one twice, one left out, one too many, and a number that no clocked process has

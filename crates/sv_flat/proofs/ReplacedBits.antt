@@ -1,5 +1,6 @@
 -- The bits of a part of a value, and of a value with a part replaced.
-use Rattle.std.proofs.Common.{◌≡◌, ℕ, ◌+◌, ◌-◌, ◌*◌, ◌/◌, ◌%◌, ◌^◌, ◌<◌, ◌≤◌, sym, ap, subst, ◌∙◌, arith, mod-lt, mul-le-mul_right}
+use Rattle.std.proofs.Common.{◌≡◌, ℕ, ◌+◌, ◌-◌, ◌*◌, ◌/◌, ◌%◌, ◌^◌, ◌<◌, ◌≤◌, sym, ap, subst, ◌∙◌}
+use Rattle.std.proofs.Common.{arith, mod-lt, mul-le-mul_right}
 use Rattle.std.specs.Int.{bit_at}
 use Rattle.std.proofs.lemmas.Nat.{pow_pos, pow-add, shr-shr, shr_split, field_of}
 use Rattle.std.proofs.lemmas.Nat.Bits.{bit_at_cat_low, bit_at_cat_high, same_from_bits_below}
@@ -18,7 +19,8 @@ pub bit_at_shifted : (x k i : ℕ) → bit_at (x / 2 ^ k) i ≡ bit_at x (k + i)
 bit_at_shifted x k i = ap (λ z. z % 2) (shr-shr x k i)
 
 -- a part is made from its bits
-pub same_bits_between : (high low x y : ℕ) → ((b : ℕ) → low ≤ b → b ≤ high → bit_at x b ≡ bit_at y b)
+pub same_bits_between : (high low x y : ℕ)
+    → ((b : ℕ) → low ≤ b → b ≤ high → bit_at x b ≡ bit_at y b)
     → bits_between high low x ≡ bits_between high low y
 same_bits_between high low x y same =
     same_from_bits_below (high + 1 - low) (bits_between high low x) (bits_between high low y)
@@ -55,24 +57,30 @@ module _ (j high low value piece : ℕ) (ordered : low ≤ high) where
   head = value % 2 ^ width / 2 ^ (high + 1)
 
   head_below : head < 2 ^ j
-  head_below = subst (λ z. z < 2 ^ j) (sym (field_of value j (high + 1))) (low_below (value / 2 ^ (high + 1)) j)
+  head_below =
+      subst (λ z. z < 2 ^ j) (sym (field_of value j (high + 1)))
+      (low_below (value / 2 ^ (high + 1)) j)
 
   whole_below : replaced_bits width high low value piece < 2 ^ width
   whole_below = beside_below head tail j (high + 1) head_below tail_below
 
-  bit_inside : (b : ℕ) → low ≤ b → b ≤ high → bit_at (replaced_bits width high low value piece) b ≡ bit_at piece (b - low)
+  bit_inside : (b : ℕ) → low ≤ b → b ≤ high →
+      bit_at (replaced_bits width high low value piece) b ≡ bit_at piece (b - low)
   bit_inside b from to =
       bit_at_cat_low head (high + 1) tail b (omega arith)
-      ∙ bit_at_cat_high (piece % 2 ^ (high + 1 - low)) low (value % 2 ^ low) b (low_below value low) from
+      ∙ bit_at_cat_high (piece % 2 ^ (high + 1 - low)) low (value % 2 ^ low) b
+      (low_below value low) from
       ∙ bit_at_low piece (high + 1 - low) (b - low) (omega arith)
 
-  bit_under : (b : ℕ) → b < low → bit_at (replaced_bits width high low value piece) b ≡ bit_at value b
+  bit_under : (b : ℕ) → b < low →
+      bit_at (replaced_bits width high low value piece) b ≡ bit_at value b
   bit_under b under =
       bit_at_cat_low head (high + 1) tail b (omega arith)
       ∙ bit_at_cat_low (piece % 2 ^ (high + 1 - low)) low (value % 2 ^ low) b under
       ∙ bit_at_low value low b under
 
-  bit_over : (b : ℕ) → high < b → b < width → bit_at (replaced_bits width high low value piece) b ≡ bit_at value b
+  bit_over : (b : ℕ) → high < b → b < width →
+      bit_at (replaced_bits width high low value piece) b ≡ bit_at value b
   bit_over b over below =
       bit_at_cat_high head (high + 1) tail b tail_below (omega arith)
       ∙ bit_at_shifted (value % 2 ^ width) (high + 1) (b - (high + 1))
@@ -80,16 +88,19 @@ module _ (j high low value piece : ℕ) (ordered : low ≤ high) where
       ∙ bit_at_low value width b below
 
 -- a value with a part replaced has its width
-pub replaced_below : (width high low value piece : ℕ) → low ≤ high → high < width → replaced_bits width high low value piece < 2 ^ width
+pub replaced_below : (width high low value piece : ℕ) → low ≤ high → high < width →
+    replaced_bits width high low value piece < 2 ^ width
 replaced_below width high low value piece ordered inside =
     subst (λ w. replaced_bits w high low value piece < 2 ^ w) (omega arith)
     (whole_below (width - (high + 1)) high low value piece ordered)
 
 -- the bits of the part are those of the piece
-pub replaced_inside : (width high low value piece b : ℕ) → low ≤ high → high < width → low ≤ b → b ≤ high
+pub replaced_inside : (width high low value piece b : ℕ) → low ≤ high → high < width → low ≤ b
+    → b ≤ high
     → bit_at (replaced_bits width high low value piece) b ≡ bit_at piece (b - low)
 replaced_inside width high low value piece b ordered inside from to =
-    subst (λ w. bit_at (replaced_bits w high low value piece) b ≡ bit_at piece (b - low)) (omega arith)
+    subst (λ w. bit_at (replaced_bits w high low value piece) b ≡ bit_at piece (b - low))
+    (omega arith)
     (bit_inside (width - (high + 1)) high low value piece ordered b from to)
 
 -- the bits under and over the part are those of the value
@@ -99,7 +110,8 @@ replaced_under width high low value piece b ordered inside under =
     subst (λ w. bit_at (replaced_bits w high low value piece) b ≡ bit_at value b) (omega arith)
     (bit_under (width - (high + 1)) high low value piece ordered b under)
 
-pub replaced_over : (width high low value piece b : ℕ) → low ≤ high → high < width → high < b → b < width
+pub replaced_over : (width high low value piece b : ℕ) → low ≤ high → high < width → high < b
+    → b < width
     → bit_at (replaced_bits width high low value piece) b ≡ bit_at value b
 replaced_over width high low value piece b ordered inside over below =
     subst (λ w. bit_at (replaced_bits w high low value piece) b ≡ bit_at value b) (omega arith)

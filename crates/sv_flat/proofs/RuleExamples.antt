@@ -2,14 +2,18 @@
 use Rattle.std.proofs.Common.{◌≡◌, ℕ, true, false, List, [], ◌∷◌, Option, Some, None, refl}
 use Rattle.std.specs.Prelude.{codes, map, if◌then◌else◌}
 use Rattle.sv_num.specs.declared.operators.UnOp.TheVariants as unop
-use Rattle.sv_flat.specs.declared.signals.SigKind.TheVariants.{TopInput, Input, Output, Net, Reg, OutputReg}
-use Rattle.sv_flat.specs.Design.{TypedTree, typed, constant, read, read_bit, unary, join, no_parts, more_parts, FlatStatement, nothing, assign, branch, continuous, port_in, combinational, clocked, FlatDesign}
+use Rattle.sv_flat.specs.declared.signals.SigKind.TheVariants.{TopInput, Input, Output, Net, Reg}
+use Rattle.sv_flat.specs.declared.signals.SigKind.TheVariants.{OutputReg}
+use Rattle.sv_flat.specs.Design.{TypedTree, typed, constant, read, read_bit, unary, join, no_parts}
+use Rattle.sv_flat.specs.Design.{more_parts, FlatStatement, nothing, assign, branch, continuous}
+use Rattle.sv_flat.specs.Design.{port_in, combinational, clocked, FlatDesign}
 use Rattle.sv_flat.specs.Breaches.{Breach, breach, comes_before}
 use Rattle.sv_flat.specs.Admission.{breaches, names_of, IsAdmitted}
 use Rattle.sv_flat.specs.Loops.{is_circle, is_read_order, loop_breach}
 use Rattle.sv_flat.specs.Reads.{reads_for, depth, order}
 use Rattle.sv_flat.specs.Clocks.{clocks}
-use Rattle.sv_flat.proofs.Forms.{at, declares, part, sets, later, named, sequence, process, over_two_points}
+use Rattle.sv_flat.proofs.Forms.{at, declares, part, sets, later, named, sequence, process}
+use Rattle.sv_flat.proofs.Forms.{over_two_points}
 
 -- the breach that comes first, after one in hand
 abbrev first_from : Breach → List Breach → Breach
@@ -23,7 +27,8 @@ first_breach (b ∷ bs) = Some (first_from b bs)
 
 -- a design breaks a rule first at a place, and with a signal
 abbrev breaks : FlatDesign → (number line column signal : ℕ) → Type 0
-breaks design number line column signal = first_breach (breaches design) ≡ Some (breach number (at line column) signal)
+breaks design number line column signal =
+    first_breach (breaches design) ≡ Some (breach number (at line column) signal)
 
 abbrev keeps : FlatDesign → Type 0
 keeps design = breaches design ≡ []
@@ -36,9 +41,11 @@ invert e = typed 1 false (unary unop.Invert e)
 -- module m(input a, input b, output w); assign {w, w} = {a, b}; endmodule
 abbrev assigned_as : List ℕ → FlatDesign
 assigned_as columns = over_two_points
-    (declares (codes "a") 1 TopInput (at 1 16) ∷ declares (codes "b") 1 TopInput (at 1 25) ∷ declares (codes "w") 1 Output (at 1 35) ∷ [])
+    (declares (codes "a") 1 TopInput (at 1 16) ∷ declares (codes "b") 1 TopInput (at 1 25) ∷
+    declares (codes "w") 1 Output (at 1 35) ∷ [])
     (process continuous (at 1 47) (assign (map (λ c. part 2 (at 1 c) 0 0 0) columns) (at 1 47) true
-    (typed 2 false (join (more_parts (named 0 (at 1 56)) (more_parts (named 1 (at 1 59)) no_parts))))) ∷ [])
+    (typed 2 false (join
+    (more_parts (named 0 (at 1 56)) (more_parts (named 1 (at 1 59)) no_parts))))) ∷ [])
 
 pub assigned_twice : breaks (assigned_as (47 ∷ 50 ∷ [])) 601 1 50 2
 assigned_twice = refl
@@ -85,7 +92,8 @@ clock_alone = refl
 -- module m(input c, input d, output q); s u(LINK, d, q); endmodule
 abbrev linked_by : TypedTree → FlatDesign
 linked_by link = over_two_points
-    (declares (codes "c") 1 TopInput (at 2 16) ∷ declares (codes "d") 1 TopInput (at 2 25) ∷ declares (codes "q") 1 Output (at 2 35)
+    (declares (codes "c") 1 TopInput (at 2 16) ∷ declares (codes "d") 1 TopInput (at 2 25) ∷
+    declares (codes "q") 1 Output (at 2 35)
     ∷ declares (codes "u.k") 1 Input (at 1 16) ∷ declares (codes "u.e") 1 Input (at 1 25)
     ∷ declares (codes "u.r") 1 OutputReg (at 1 39) ∷ [])
     (process port_in (at 2 43) (sets 3 (at 2 43) link)
@@ -109,7 +117,8 @@ linked_by_expression = refl
 -- module m(input a, output y, output z); assign y = a; assign SECOND = a; endmodule
 abbrev second_drives : ℕ → FlatDesign
 second_drives s = over_two_points
-    (declares (codes "a") 1 TopInput (at 1 16) ∷ declares (codes "y") 1 Output (at 1 26) ∷ declares (codes "z") 1 Output (at 1 36) ∷ [])
+    (declares (codes "a") 1 TopInput (at 1 16) ∷ declares (codes "y") 1 Output (at 1 26) ∷
+    declares (codes "z") 1 Output (at 1 36) ∷ [])
     (process continuous (at 1 47) (sets 1 (at 1 47) (named 0 (at 1 51)))
     ∷ process continuous (at 1 61) (sets s (at 1 61) (named 0 (at 1 65)))
     ∷ [])
@@ -120,12 +129,14 @@ two_drivers = refl
 pub one_driver_each : keeps (second_drives 2)
 one_driver_each = refl
 
-pub no_driver : breaks (over_two_points (declares (codes "y") 1 Output (at 1 17) ∷ []) []) 604 1 17 0
+pub no_driver : breaks (over_two_points (declares (codes "y") 1 Output (at 1 17) ∷ []) [])
+    604 1 17 0
 no_driver = refl
 
 -- ---- 605
 
--- module m(input [1:0] a, output reg [3:0] r); always @* begin r[1:0] = a; r[3:LOW] = a; end endmodule
+-- module m(input [1:0] a, output reg [3:0] r); always @* begin r[1:0] = a; r[3:LOW] = a; end
+-- endmodule
 abbrev high_part_from : ℕ → FlatDesign
 high_part_from low = over_two_points
     (declares (codes "a") 2 TopInput (at 1 22) ∷ declares (codes "r") 4 OutputReg (at 1 42) ∷ [])
@@ -162,7 +173,8 @@ both_arms = refl
 abbrev block_of : List FlatStatement → FlatDesign
 block_of statements = over_two_points
     (declares (codes "a") 1 TopInput (at 1 16) ∷ declares (codes "h") 1 TopInput (at 1 25)
-    ∷ declares (codes "y") 1 OutputReg (at 1 39) ∷ declares (codes "z") 1 OutputReg (at 1 53) ∷ declares (codes "t") 1 Reg (at 2 7) ∷ [])
+    ∷ declares (codes "y") 1 OutputReg (at 1 39) ∷ declares (codes "z") 1 OutputReg (at 1 53) ∷
+    declares (codes "t") 1 Reg (at 2 7) ∷ [])
     (process combinational (at 3 3) (sequence statements) ∷ [])
 
 abbrev t_h : FlatStatement
@@ -186,7 +198,8 @@ read_too_early = refl
 pub read_in_phase : keeps (block_of (t_h ∷ z_t ∷ y_t ∷ []))
 read_in_phase = refl
 
--- module m(input a, output reg y, output reg [1:0] v); always @* begin v[0] = a; y = v[BIT]; v[1] = a; end endmodule
+-- module m(input a, output reg y, output reg [1:0] v); always @* begin v[0] = a; y = v[BIT]; v[1] =
+-- a; end endmodule
 abbrev reads_bit : ℕ → FlatDesign
 reads_bit i = over_two_points
     (declares (codes "a") 1 TopInput (at 1 16) ∷ declares (codes "y") 1 OutputReg (at 1 30)
@@ -228,7 +241,8 @@ no_other_rule = refl
 -- module m(input a, output y); wire p, q; assign y = ~q; assign q = ~p; assign p = ~a; endmodule
 abbrev inverters : FlatDesign
 inverters = over_two_points
-    (declares (codes "a") 1 TopInput (at 1 16) ∷ declares (codes "y") 1 Output (at 1 26) ∷ declares (codes "p") 1 Net (at 2 8)
+    (declares (codes "a") 1 TopInput (at 1 16) ∷ declares (codes "y") 1 Output (at 1 26) ∷
+    declares (codes "p") 1 Net (at 2 8)
     ∷ declares (codes "q") 1 Net (at 2 11) ∷ [])
     (process continuous (at 3 10) (sets 1 (at 3 10) (invert (named 3 (at 3 15))))
     ∷ process continuous (at 4 10) (sets 3 (at 4 10) (invert (named 2 (at 4 15))))
@@ -256,14 +270,17 @@ own_bit = over_two_points
     (declares (codes "a") 1 TopInput (at 1 16) ∷ declares (codes "v") 2 OutputReg (at 1 36) ∷ [])
     (process combinational (at 1 40) (sequence
     (assign (part 1 (at 1 56) 0 0 0 ∷ []) (at 1 56) true (named 0 (at 1 63))
-    ∷ assign (part 1 (at 1 66) 1 1 0 ∷ []) (at 1 66) true (typed 1 false (read_bit 1 (at 1 73) (typed 32 true (constant 0))))
+    ∷ assign (part 1 (at 1 66) 1 1 0 ∷ []) (at 1 66) true
+    (typed 1 false (read_bit 1 (at 1 73) (typed 32 true (constant 0))))
     ∷ [])) ∷ [])
 
 pub bit_for_bit : is_circle own_bit (1 ∷ []) ≡ true
 bit_for_bit = refl
 
--- an earlier read of t stands for what is read for t: z = t reads h and a for z, where t = h stands before and t = a after it
-pub earlier_stands_for_its_reads : map (reads_for (block_of (t_h ∷ z_t ∷ t_a ∷ y_t ∷ []))) (2 ∷ 3 ∷ 4 ∷ []) ≡ (4 ∷ [])
+-- an earlier read of t stands for what is read for t: z = t reads h and a for z, where t = h stands
+-- before and t = a after it
+pub earlier_stands_for_its_reads :
+    map (reads_for (block_of (t_h ∷ z_t ∷ t_a ∷ y_t ∷ []))) (2 ∷ 3 ∷ 4 ∷ []) ≡ (4 ∷ [])
     ∷ (0 ∷ 1 ∷ []) ∷ (0 ∷ 1 ∷ []) ∷ []
 earlier_stands_for_its_reads = refl
 
@@ -272,25 +289,31 @@ abbrev counter : FlatDesign
 counter = over_two_points
     (declares (codes "c") 1 TopInput (at 1 16) ∷ declares (codes "d") 1 TopInput (at 1 25)
     ∷ declares (codes "q") 1 OutputReg (at 1 39) ∷ [])
-    (process (clocked 0) (at 1 43) (branch (at 1 63) (named 1 (at 1 67)) (later 2 (at 1 70) (typed 1 false (constant 0))) nothing) ∷ [])
+    (process (clocked 0) (at 1 43)
+    (branch (at 1 63) (named 1 (at 1 67)) (later 2 (at 1 70) (typed 1 false (constant 0)))
+    nothing) ∷ [])
 
 pub register_reads : reads_for counter 2 ≡ 1 ∷ 2 ∷ []
 register_reads = refl
 
 -- ---- the first breach
 
--- no rule of a higher number comes first, whatever its place: a wire that is not driven, and a `reg` that an `assign` drives after it
+-- no rule of a higher number comes first, whatever its place: a wire that is not driven, and a
+-- `reg` that an `assign` drives after it
 pub lower_number_first : breaks (over_two_points
-    (declares (codes "a") 1 TopInput (at 1 16) ∷ declares (codes "w") 1 Net (at 2 8) ∷ declares (codes "q") 1 Reg (at 3 7) ∷ [])
+    (declares (codes "a") 1 TopInput (at 1 16) ∷ declares (codes "w") 1 Net (at 2 8) ∷
+    declares (codes "q") 1 Reg (at 3 7) ∷ [])
     (process continuous (at 4 10) (sets 2 (at 4 10) (named 0 (at 4 14))) ∷ []))
     601 4 10 2
 lower_number_first = refl
 
 pub first_place : breaks
-    (over_two_points (declares (codes "p") 1 Output (at 2 8) ∷ declares (codes "q") 1 Output (at 1 30) ∷ []) []) 604 1 30 1
+    (over_two_points (declares (codes "p") 1 Output (at 2 8) ∷
+    declares (codes "q") 1 Output (at 1 30) ∷ []) []) 604 1 30 1
 first_place = refl
 
 -- at one place, as in two instances of a module, the lower signal
 pub lower_signal : breaks
-    (over_two_points (declares (codes "u.i") 1 Input (at 1 16) ∷ declares (codes "v.i") 1 Input (at 1 16) ∷ []) []) 604 1 16 0
+    (over_two_points (declares (codes "u.i") 1 Input (at 1 16) ∷
+    declares (codes "v.i") 1 Input (at 1 16) ∷ []) []) 604 1 16 0
 lower_signal = refl

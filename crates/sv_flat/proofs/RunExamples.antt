@@ -5,7 +5,8 @@ use Rattle.std.specs.List.{range_with_len}
 use Rattle.sv_num.specs.declared.operators.BinOp.TheVariants as binop
 use Rattle.sv_system.specs.System.{Environment}
 use Rattle.sv_flat.specs.declared.signals.SigKind.TheVariants.{TopInput, OutputReg}
-use Rattle.sv_flat.specs.Design.{SignalForm, typed, constant, read, read_part, binary, FlatStatement, assign, branch, combinational, FlatDesign}
+use Rattle.sv_flat.specs.Design.{SignalForm, typed, constant, read, read_part, binary}
+use Rattle.sv_flat.specs.Design.{FlatStatement, assign, branch, combinational, FlatDesign}
 use Rattle.sv_flat.specs.Soundness.{well_formed, sound}
 use Rattle.sv_flat.specs.Runs.{run_alone, updates_of}
 use Rattle.sv_flat.proofs.Forms.{at, declares, part, named, sequence, process, over_two_points}
@@ -31,7 +32,8 @@ leaves body before values = map (run_alone signals body before) (range_with_len 
 -- {c, s} = a + b at 5 bits
 abbrev sum : FlatStatement
 sum = assign (part 3 (at 2 14) 0 0 4 ∷ part 2 (at 2 17) 3 0 0 ∷ []) (at 2 14) true
-    (typed 5 false (binary binop.Add (typed 5 false (read 0 (at 2 22))) (typed 5 false (read 1 (at 2 26)))))
+    (typed 5 false (binary binop.Add (typed 5 false (read 0 (at 2 22)))
+    (typed 5 false (read 1 (at 2 26)))))
 
 pub sum_with_carry : leaves sum (having 15 1 7 0 0) (15 ∷ 1 ∷ 0 ∷ 1 ∷ 0 ∷ [])
 sum_with_carry = refl
@@ -40,7 +42,8 @@ sum_with_carry = refl
 abbrev halves : FlatStatement
 halves = sequence
     (assign (part 4 (at 3 19) 1 0 0 ∷ []) (at 3 19) true (typed 2 false (read_part 0 (at 3 28) 1 0))
-    ∷ assign (part 4 (at 3 36) 3 2 0 ∷ []) (at 3 36) true (typed 2 false (read_part 1 (at 3 45) 3 2))
+    ∷ assign (part 4 (at 3 36) 3 2 0 ∷ []) (at 3 36) true
+    (typed 2 false (read_part 1 (at 3 45) 3 2))
     ∷ [])
 
 pub halves_joined : leaves halves (having 6 9 0 0 15) (6 ∷ 9 ∷ 0 ∷ 0 ∷ 10 ∷ [])
@@ -50,9 +53,11 @@ halves_joined = refl
 abbrev doubled : FlatStatement
 doubled = sequence
     (assign (part 2 (at 2 5) 3 0 0 ∷ []) (at 2 5) true
-    (typed 32 false (binary binop.Add (typed 32 false (read 2 (at 2 9))) (typed 32 false (constant 1))))
+    (typed 32 false (binary binop.Add (typed 32 false (read 2 (at 2 9)))
+    (typed 32 false (constant 1))))
     ∷ assign (part 2 (at 2 16) 3 0 0 ∷ []) (at 2 16) true
-    (typed 4 false (binary binop.Add (typed 4 false (read 2 (at 2 20))) (typed 4 false (read 2 (at 2 24)))))
+    (typed 4 false (binary binop.Add (typed 4 false (read 2 (at 2 20)))
+    (typed 4 false (read 2 (at 2 24)))))
     ∷ [])
 
 pub read_after_put : leaves doubled (having 0 0 3 0 0) (0 ∷ 0 ∷ 8 ∷ 0 ∷ 0 ∷ [])
@@ -70,9 +75,12 @@ first_arm = refl
 pub second_arm : leaves chosen (having 5 6 0 0 0) (5 ∷ 6 ∷ 6 ∷ 0 ∷ 0 ∷ [])
 second_arm = refl
 
--- {p[1:0], p[3:2]} <= a: the second update keeps what the first has made of the other bits, and the environment stays
+-- {p[1:0], p[3:2]} <= a: the second update keeps what the first has made of the other bits, and the
+-- environment stays
 abbrev crossed : FlatStatement
-crossed = assign (part 4 (at 2 6) 1 0 2 ∷ part 4 (at 2 14) 3 2 0 ∷ []) (at 2 6) false (typed 4 false (read 0 (at 2 25)))
+crossed =
+    assign (part 4 (at 2 6) 1 0 2 ∷ part 4 (at 2 14) 3 2 0 ∷ []) (at 2 6) false
+    (typed 4 false (read 0 (at 2 25)))
 
 pub pending_pieces : updates_of signals crossed (having 6 0 0 0 12) ≡ (4, 13) ∷ (4, 9) ∷ []
 pending_pieces = refl
@@ -83,7 +91,8 @@ nothing_yet = refl
 -- the value is taken once, before the first piece is put: {s, c} = s + c
 abbrev turned : FlatStatement
 turned = assign (part 2 (at 2 6) 3 0 1 ∷ part 3 (at 2 9) 0 0 0 ∷ []) (at 2 6) true
-    (typed 5 false (binary binop.Add (typed 5 false (read 2 (at 2 18))) (typed 5 false (read 3 (at 2 15)))))
+    (typed 5 false (binary binop.Add (typed 5 false (read 2 (at 2 18)))
+    (typed 5 false (read 3 (at 2 15)))))
 
 pub taken_once : leaves turned (having 0 0 9 1 0) (0 ∷ 0 ∷ 5 ∷ 0 ∷ 0 ∷ [])
 taken_once = refl
@@ -97,12 +106,16 @@ pub sum_is_sound : IsTrue (sound (design sum))
 sum_is_sound = refl
 
 -- a piece past the end of the value
-pub value_too_short : IsFalse (sound (design (assign (part 2 (at 2 3) 3 0 1 ∷ []) (at 2 3) true (typed 4 false (read 0 (at 2 7))))))
+pub value_too_short :
+    IsFalse (sound (design
+    (assign (part 2 (at 2 3) 3 0 1 ∷ []) (at 2 3) true (typed 4 false (read 0 (at 2 7))))))
 value_too_short = refl
 
 -- an operand of `+` at another length than its sum
 pub operand_too_short : IsFalse
-    (well_formed signals (typed 5 false (binary binop.Add (typed 4 false (read 0 (at 2 3))) (typed 5 false (read 1 (at 2 7))))))
+    (well_formed signals
+    (typed 5 false (binary binop.Add (typed 4 false (read 0 (at 2 3)))
+    (typed 5 false (read 1 (at 2 7))))))
 operand_too_short = refl
 
 -- a name at fewer bits than it has

@@ -7,7 +7,9 @@ use Rattle.sv_num.specs.declared.operators.BinOp.TheVariants as binop
 use Rattle.sv_num.specs.declared.faults.Place.{Place}
 use Rattle.sv_lattice.specs.declared.labels.Label.TheVariants.{Point}
 use Rattle.sv_flat.specs.declared.signals.SigKind.TheVariants.{Net}
-use Rattle.sv_flat.specs.Design.{SignalForm, TypedTree, typed, constant, read, read_bit, read_part, unary, binary, choice, join, replication, held, held_bit, held_part, mend, slice, no_parts, more_parts}
+use Rattle.sv_flat.specs.Design.{SignalForm, TypedTree, typed, constant, read, read_bit, read_part}
+use Rattle.sv_flat.specs.Design.{unary, binary, choice, join, replication, held, held_bit}
+use Rattle.sv_flat.specs.Design.{held_part, mend, slice, no_parts, more_parts}
 use Rattle.sv_flat.specs.Values.{value}
 
 abbrev here : Place
@@ -38,16 +40,20 @@ abbrev number : ℕ → Bool → ℕ → TypedTree
 number width is_signed n = typed width is_signed (constant n)
 
 -- 8'sh80 >>> 1 at 16 signed bits
-pub signed_shift : shows (typed 16 true (binary binop.SignShr (typed 16 true (read 1 here)) (number 32 true 1))) 65472
+pub signed_shift : shows
+    (typed 16 true (binary binop.SignShr (typed 16 true (read 1 here)) (number 32 true 1))) 65472
 signed_shift = refl
 
 -- {8'sh80} >>> 1: a concatenation has no sign
 pub joined_shift : shows
-    (typed 8 false (binary binop.SignShr (typed 8 false (join (more_parts (number 8 true 128) no_parts))) (number 32 true 1))) 64
+    (typed 8 false (binary binop.SignShr
+    (typed 8 false (join (more_parts (number 8 true 128) no_parts))) (number 32 true 1))) 64
 joined_shift = refl
 
 -- ~4'h0 == 8'hff: the operand of `~` has the length of the comparison
-pub inverted_first : shows (typed 1 false (binary binop.Eq (typed 8 false (unary unop.Invert (number 8 false 0))) (number 8 false 255))) 1
+pub inverted_first :
+    shows (typed 1 false
+    (binary binop.Eq (typed 8 false (unary unop.Invert (number 8 false 0))) (number 8 false 255))) 1
 inverted_first = refl
 
 -- a signed signal is extended with its sign where the type is signed, else with zeros
@@ -58,10 +64,12 @@ pub extended_unsigned : shows (typed 16 false (read 1 here)) 128
 extended_unsigned = refl
 
 -- s < 0 is true of -128 where both sides are signed, and false of 128
-pub signed_comparison : shows (typed 1 false (binary binop.Lt (typed 8 true (read 1 here)) (number 8 true 0))) 1
+pub signed_comparison :
+    shows (typed 1 false (binary binop.Lt (typed 8 true (read 1 here)) (number 8 true 0))) 1
 signed_comparison = refl
 
-pub unsigned_comparison : shows (typed 1 false (binary binop.Lt (typed 8 false (read 1 here)) (number 8 false 0))) 0
+pub unsigned_comparison :
+    shows (typed 1 false (binary binop.Lt (typed 8 false (read 1 here)) (number 8 false 0))) 0
 unsigned_comparison = refl
 
 -- 8'hff + 8'h01 at 9 bits, and at 8
@@ -102,14 +110,19 @@ pub amount : shows (typed 8 false (binary binop.Shl (number 8 false 1) (number 2
 amount = refl
 
 -- {v, 1'b1} and {2{v}}
-pub join_of_two : shows (typed 5 false (join (more_parts (typed 4 false (read 0 here)) (more_parts (number 1 false 1) no_parts)))) 21
+pub join_of_two : shows
+    (typed 5 false (join
+    (more_parts (typed 4 false (read 0 here)) (more_parts (number 1 false 1) no_parts)))) 21
 join_of_two = refl
 
-pub two_copies : shows (typed 8 false (replication 2 (more_parts (typed 4 false (read 0 here)) no_parts))) 170
+pub two_copies : shows
+    (typed 8 false (replication 2 (more_parts (typed 4 false (read 0 here)) no_parts))) 170
 two_copies = refl
 
 -- b ? v : 3
-pub choice_of_first : shows (typed 4 false (choice here (typed 1 false (read 2 here)) (typed 4 false (read 0 here)) (number 4 false 3))) 10
+pub choice_of_first :
+    shows (typed 4 false
+    (choice here (typed 1 false (read 2 here)) (typed 4 false (read 0 here)) (number 4 false 3))) 10
 choice_of_first = refl
 
 -- what was put in for the signal of 8 signed bits is cut to them, and read with its sign

@@ -37,7 +37,8 @@ names_of design b = map (λ s. (signal_of design.signals s).name) b.signals
 -- the design is refused for a rule, at a place, with names
 abbrev pub IsRefused : FlatDesign → (number : ℕ) → Place → (names : List (List ℕ)) → Type 0
 IsRefused design number place names =
-    (b : Breach) × IsFirstBreach design b × (b.number ≡ number) × (b.place ≡ place) × (names_of design b ≡ names)
+    (b : Breach) × IsFirstBreach design b × (b.number ≡ number) × (b.place ≡ place)
+    × (names_of design b ≡ names)
 
 -- none of the rules is broken
 pub record IsAdmitted (design : FlatDesign) : Type 0 where

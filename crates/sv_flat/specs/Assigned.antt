@@ -11,7 +11,8 @@ has_bit s b piece = (piece.signal == s) && nat_le piece.low b && nat_le b piece.
 abbrev pub assigns : FlatStatement → ℕ → Bool
 assigns nothing s = false
 assigns (after first second) s = assigns first s || assigns second s
-assigns (assign pieces place blocking right) s = list_any (λ (piece : PieceForm). piece.signal == s) pieces
+assigns (assign pieces place blocking right) s =
+    list_any (λ (piece : PieceForm). piece.signal == s) pieces
 assigns (branch place condition first second) s = assigns first s || assigns second s
 
 -- the statement has an assignment to this bit of this signal, whatever its conditions say
@@ -26,4 +27,5 @@ abbrev pub always_assigns : FlatStatement → (signal bit : ℕ) → Bool
 always_assigns nothing s b = false
 always_assigns (after first second) s b = always_assigns first s b || always_assigns second s b
 always_assigns (assign pieces place blocking right) s b = list_any (has_bit s b) pieces
-always_assigns (branch place condition first second) s b = always_assigns first s b && always_assigns second s b
+always_assigns (branch place condition first second) s b =
+    always_assigns first s b && always_assigns second s b

@@ -1,9 +1,12 @@
 -- Which assignments stand where they may (IEEE 1364-2005, clauses 6 and 9; that a clocked block has
 -- nonblocking assignments alone and an `always @*` blocking ones is this project's profile).
-use Rattle.std.specs.Prelude.{Bool, false, ◌==◌, ◌&&◌, ◌||◌, not, nat_le, List, [], ◌∷◌, ◌++◌, map, filter, flat_map}
+use Rattle.std.specs.Prelude.{Bool, false, ◌==◌, ◌&&◌, ◌||◌, not, nat_le, List, [], ◌∷◌, ◌++◌, map}
+use Rattle.std.specs.Prelude.{filter, flat_map}
 use Rattle.std.specs.List.{list_any}
 use Rattle.sv_flat.specs.declared.signals.SigKind.{SigKind}
-use Rattle.sv_flat.specs.Design.{PieceForm, FlatStatement, nothing, after, assign, branch, ProcessKind, continuous, port_in, port_out, combinational, clocked, release, ProcessForm, FlatDesign}
+use Rattle.sv_flat.specs.Design.{PieceForm, FlatStatement, nothing, after, assign, branch}
+use Rattle.sv_flat.specs.Design.{ProcessKind, continuous, port_in, port_out, combinational, clocked}
+use Rattle.sv_flat.specs.Design.{release, ProcessForm, FlatDesign}
 use Rattle.sv_flat.specs.Processes.{kind_of, is_top_kind, is_reg_kind}
 use Rattle.sv_flat.specs.Breaches.{Breach, breach}
 
@@ -16,7 +19,11 @@ pub record TargetForm : Type 0 where
 abbrev pub targets_after : (before pieces : List PieceForm) → (blocking : Bool) → List TargetForm
 targets_after before [] blocking = []
 targets_after before (piece ∷ pieces) blocking =
-    record { piece = piece; before = before; blocking = blocking } ∷ targets_after (piece ∷ before) pieces blocking
+    record {
+      piece = piece;
+      before = before;
+      blocking = blocking;
+    } ∷ targets_after (piece ∷ before) pieces blocking
 
 -- the targets of a statement, in textual order
 abbrev pub targets : FlatStatement → List TargetForm
@@ -51,7 +58,8 @@ is_twice target = list_any (overlap target.piece) target.before
 
 abbrev pub is_wrong_target : FlatDesign → ProcessKind → TargetForm → Bool
 is_wrong_target design kind target =
-    is_wrong_sign kind target.blocking || is_wrong_kind kind (kind_of design target.piece.signal) || is_twice target
+    is_wrong_sign kind target.blocking || is_wrong_kind kind (kind_of design target.piece.signal)
+    || is_twice target
 
 abbrev pub target_breach : TargetForm → Breach
 target_breach target = breach 601 target.piece.place target.piece.signal
@@ -59,5 +67,6 @@ target_breach target = breach 601 target.piece.place target.piece.signal
 -- rule 601, at each target that breaks it
 abbrev pub wrong_assigns : FlatDesign → List Breach
 wrong_assigns design =
-    flat_map (λ (p : ProcessForm). map target_breach (filter (is_wrong_target design p.kind) (targets p.body)))
+    flat_map (λ (p : ProcessForm).
+    map target_breach (filter (is_wrong_target design p.kind) (targets p.body)))
     design.processes

@@ -1,5 +1,6 @@
 -- Values of signals by number: the first value is that of signal 0.
-use Rattle.std.specs.Prelude.{◌≡◌, ℕ, ◌^◌, ◌<◌, ◌≤◌, Bool, true, false, ◌==◌, ◌&&◌, not, List, [], ◌∷◌, length, map, slice_index}
+use Rattle.std.specs.Prelude.{◌≡◌, ℕ, ◌^◌, ◌<◌, ◌≤◌, Bool, true, false, ◌==◌, ◌&&◌, not, List, []}
+use Rattle.std.specs.Prelude.{◌∷◌, length, map, slice_index}
 use Rattle.sv_system.specs.System.{Environment, last_update}
 use Rattle.sv_flat.specs.declared.signals.Signal.{Signal}
 use Rattle.sv_flat.specs.Design.{SignalForm, FlatStatement, nothing, after, assign, branch}

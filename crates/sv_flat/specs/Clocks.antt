@@ -1,13 +1,17 @@
 -- Clocks: the signals after `posedge`, and what instances link to them by whole names (IEEE
--- 1364-2005, clauses 9.7.2 and 12.3; that there is one clock, and that it is used as nothing else, is
--- this project's profile).
-use Rattle.std.specs.Prelude.{ℕ, Bool, true, false, ◌==◌, ◌&&◌, ◌||◌, not, nat_lt, List, [], ◌∷◌, length, map, filter, Option, Some, None, is_none, option_map, if◌then◌else◌}
+-- 1364-2005, clauses 9.7.2 and 12.3; that there is one clock, and that it is used as nothing else,
+-- is this project's profile).
+use Rattle.std.specs.Prelude.{ℕ, Bool, true, false, ◌==◌, ◌&&◌, ◌||◌, not, nat_lt, List, [], ◌∷◌}
+use Rattle.std.specs.Prelude.{length, map, filter, Option, Some, None, is_none, option_map}
+use Rattle.std.specs.Prelude.{if◌then◌else◌}
 use Rattle.std.specs.List.{list_any, list_all, filter_map, range_with_len}
 use Rattle.sv_lattice.specs.declared.points.Point.{Point}
 use Rattle.sv_lattice.specs.declared.labels.Label.{Label}
 use Rattle.sv_lattice.specs.declared.labels.Label.TheVariants.{Point as Declared, Table}
 use Rattle.sv_lattice.specs.Tables.{flow_test}
-use Rattle.sv_flat.specs.Design.{SignalForm, TypedTree, typed, read, FlatStatement, assign, ProcessKind, port_in, port_out, clocked, ProcessForm, InvariantForm, FlatDesign}
+use Rattle.sv_flat.specs.Design.{SignalForm, TypedTree, typed, read, FlatStatement, assign}
+use Rattle.sv_flat.specs.Design.{ProcessKind, port_in, port_out, clocked, ProcessForm}
+use Rattle.sv_flat.specs.Design.{InvariantForm, FlatDesign}
 use Rattle.sv_flat.specs.Values.{signal_of, signal_width}
 use Rattle.sv_flat.specs.Assigned.{assigns}
 use Rattle.sv_flat.specs.Readings.{Reading, readings, no_bits, names_signal}
@@ -23,7 +27,8 @@ whole_name _ = None
 
 -- a link by a whole name: the signal that is assigned and the signal that is read
 abbrev pub whole_link : FlatStatement → Option (ℕ × ℕ)
-whole_link (assign (piece ∷ []) place blocking right) = option_map (λ s. (piece.signal, s)) (whole_name right)
+whole_link (assign (piece ∷ []) place blocking right) =
+    option_map (λ s. (piece.signal, s)) (whole_name right)
 whole_link _ = None
 
 abbrev pub is_port_in : ProcessKind → Bool
@@ -65,17 +70,20 @@ is_edge design s = list_any (λ (p : ProcessForm). has_edge s p.kind) design.pro
 -- linked to
 abbrev pub makes_clock : FlatDesign → (clock s : ℕ) → Bool
 makes_clock design clock s =
-    lists_pair (links_in design) clock s || lists_pair (links_out design) s clock || lists_pair (links_in design) s clock
+    lists_pair (links_in design) clock s || lists_pair (links_out design) s clock
+    || lists_pair (links_in design) s clock
 
 abbrev pub clocks : FlatDesign → List ℕ
-clocks design = least_set (length design.signals) (makes_clock design) (signals_that design (is_edge design))
+clocks design =
+    least_set (length design.signals) (makes_clock design) (signals_that design (is_edge design))
 
 abbrev pub is_clock : FlatDesign → ℕ → Bool
 is_clock design s = holds (clocks design) s
 
 -- a link to a clock is no process
 abbrev pub is_clock_link : FlatDesign → ProcessForm → Bool
-is_clock_link design process = is_port_in process.kind && list_any (assigns process.body) (clocks design)
+is_clock_link design process =
+    is_port_in process.kind && list_any (assigns process.body) (clocks design)
 
 -- the processes, links to clocks left out
 abbrev pub processes_of : FlatDesign → List ProcessForm
@@ -107,12 +115,14 @@ agrees_with_earlier design s =
 
 -- the process reads the signal
 abbrev pub reads_signal : List SignalForm → FlatStatement → ℕ → Bool
-reads_signal signals body s = list_any (λ (r : Reading). r.name.signal == s) (readings signals body no_bits no_bits)
+reads_signal signals body s =
+    list_any (λ (r : Reading). r.name.signal == s) (readings signals body no_bits no_bits)
 
 -- the process reads or drives the signal, and is no link by a whole name to an input port
 abbrev pub uses_as_signal : FlatDesign → ℕ → ProcessForm → Bool
 uses_as_signal design s process =
-    is_none (link_in process) && (assigns process.body s || reads_signal design.signals process.body s)
+    is_none (link_in process)
+    && (assigns process.body s || reads_signal design.signals process.body s)
 
 abbrev pub selects_by : ℕ → Label → Bool
 selects_by s (Declared point) = false
@@ -125,11 +135,13 @@ abbrev pub is_clock_alone : FlatDesign → ℕ → Bool
 is_clock_alone design s =
     not (list_any (uses_as_signal design s) design.processes)
     && not (list_any (λ (signal : SignalForm). selects_by s signal.label) design.signals)
-    && not (list_any (λ (i : InvariantForm). names_signal design.signals i.expression s) design.invariants)
+    && not (list_any (λ (i : InvariantForm).
+    names_signal design.signals i.expression s) design.invariants)
 
 -- the point flows to every point
 abbrev pub is_least : List ℕ → Point → Bool
-is_least lattice point = list_all (λ other. flow_test lattice point.0 other) (range_with_len 0 (length lattice))
+is_least lattice point =
+    list_all (λ other. flow_test lattice point.0 other) (range_with_len 0 (length lattice))
 
 -- its label is the least point
 abbrev pub is_least_label : List ℕ → Label → Bool

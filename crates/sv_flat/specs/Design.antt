@@ -1,4 +1,5 @@
--- The plain forms of flat designs: numbers stand for signals, lists of bytes for names, and lists for vectors.
+-- The plain forms of flat designs: numbers stand for signals, lists of bytes for names, and lists
+-- for vectors.
 use Rattle.std.specs.Prelude.{ℕ, Bool, List, [], ◌∷◌}
 use Rattle.sv_num.specs.declared.operators.UnOp.{UnOp}
 use Rattle.sv_num.specs.declared.operators.BinOp.{BinOp}

@@ -16,7 +16,8 @@ use Rattle.sv_flat.specs.Clocks.{is_clock, processes_of}
 
 -- the processes that are no clocked ones, in order
 abbrev pub combinational_processes : FlatDesign → List ProcessForm
-combinational_processes design = filter (λ (p : ProcessForm). not (is_clocked p.kind)) (processes_of design)
+combinational_processes design =
+    filter (λ (p : ProcessForm). not (is_clocked p.kind)) (processes_of design)
 
 -- the clocked processes, in order
 abbrev pub clocked_processes : FlatDesign → List ProcessForm
@@ -34,7 +35,8 @@ all_updates design processes environment =
 -- the environment after these clocked processes have run on it: what has an update has its last one
 -- (IEEE 1364-2005, clause 11)
 abbrev pub after_edge : FlatDesign → List ProcessForm → Environment ℕ → Environment ℕ
-after_edge design processes environment s = last_update ◌==◌ s (environment s) (all_updates design processes environment)
+after_edge design processes environment s =
+    last_update ◌==◌ s (environment s) (all_updates design processes environment)
 
 -- the label in an environment: the declared point, or the map's row at the value of the selector or
 -- of the pair of selectors (SecVerilog, ASPLOS 2015)
@@ -42,7 +44,8 @@ abbrev pub label_in : List MapRows → Label → Environment ℕ → Point
 label_in maps (Declared point) environment = point
 label_in maps (Table map first None) environment = row_of (map_of maps map) (environment first)
 label_in maps (Table map first (Some second)) environment =
-    let rows = map_of maps map in row_of rows (pair_value rows (environment first) (environment second))
+    let rows = map_of maps map in
+    row_of rows (pair_value rows (environment first) (environment second))
 
 abbrev pub flat_system : FlatDesign → System ℕ Point
 flat_system design = record {

@@ -1,6 +1,7 @@
 -- No combinational signals read each other in a circle (this project's profile; in IEEE 1364-2005,
 -- clause 11, such processes need not come to rest).
-use Rattle.std.specs.Prelude.{◌≡◌, ℕ, Bool, true, false, ◌==◌, ◌&&◌, ◌||◌, not, nat_lt, IsTrue, List, [], ◌∷◌}
+use Rattle.std.specs.Prelude.{◌≡◌, ℕ, Bool, true, false, ◌==◌, ◌&&◌, ◌||◌, not, nat_lt, IsTrue}
+use Rattle.std.specs.Prelude.{List, [], ◌∷◌}
 use Rattle.std.specs.List.{list_any, list_all}
 use Rattle.sv_flat.specs.Design.{FlatDesign}
 use Rattle.sv_flat.specs.Reads.{is_combinational, is_read_for, reads_for}
@@ -47,7 +48,8 @@ is_circle design (a ∷ signals) =
 
 -- rule 607, at the declaration of the first signal of the circle
 abbrev pub loop_breach : FlatDesign → (first : ℕ) → List ℕ → Breach
-loop_breach design first signals = record { number = 607; place = declared_at design first; signals = first ∷ signals }
+loop_breach design first signals =
+    record { number = 607; place = declared_at design first; signals = first ∷ signals }
 
 -- the breach is that of a circle
 abbrev pub IsLoop : FlatDesign → Breach → Type 0

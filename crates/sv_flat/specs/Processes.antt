@@ -62,4 +62,5 @@ drivers processes s = filter (λ (p : ProcessForm). assigns p.body s) processes
 
 -- some clocked process assigns the signal
 abbrev pub is_register : FlatDesign → ℕ → Bool
-is_register design s = list_any (λ (p : ProcessForm). is_clocked p.kind && assigns p.body s) design.processes
+is_register design s =
+    list_any (λ (p : ProcessForm). is_clocked p.kind && assigns p.body s) design.processes

@@ -1,9 +1,13 @@
--- What expressions and statements read (this project's profile; what `@*` waits for by IEEE 1364-2005,
--- clause 9.7.5, is not used).
-use Rattle.std.specs.Prelude.{ℕ, ◌-◌, Bool, true, false, ◌==◌, ◌&&◌, ◌||◌, nat_le, if◌then◌else◌, List, [], ◌∷◌, ◌++◌, map, ℤ, pos, negsuc}
+-- What expressions and statements read (this project's profile; what `@*` waits for by IEEE
+-- 1364-2005, clause 9.7.5, is not used).
+use Rattle.std.specs.Prelude.{ℕ, ◌-◌, Bool, true, false, ◌==◌, ◌&&◌, ◌||◌, nat_le, if◌then◌else◌}
+use Rattle.std.specs.Prelude.{List, [], ◌∷◌, ◌++◌, map, ℤ, pos, negsuc}
 use Rattle.std.specs.List.{list_any, range_with_len}
 use Rattle.sv_num.specs.declared.faults.Place.{Place}
-use Rattle.sv_flat.specs.Design.{SignalForm, TypedTree, typed, NodeTree, constant, read, read_bit, read_part, unary, binary, choice, join, replication, held, held_bit, held_part, mend, slice, TypedTrees, no_parts, more_parts, FlatStatement, nothing, after, assign, branch}
+use Rattle.sv_flat.specs.Design.{SignalForm, TypedTree, typed, NodeTree, constant, read, read_bit}
+use Rattle.sv_flat.specs.Design.{read_part, unary, binary, choice, join, replication, held}
+use Rattle.sv_flat.specs.Design.{held_bit, held_part, mend, slice, TypedTrees, no_parts, more_parts}
+use Rattle.sv_flat.specs.Design.{FlatStatement, nothing, after, assign, branch}
 use Rattle.sv_flat.specs.Values.{signal_width, number_of}
 use Rattle.sv_flat.specs.Assigned.{assigns, can_assign, always_assigns}
 
@@ -19,7 +23,8 @@ pub record ReadForm : Type 0 where
 
 -- the whole signal
 abbrev pub whole_read : List SignalForm → ℕ → Place → ReadForm
-whole_read signals s place = record { signal = s; place = place; high = signal_width signals s - 1; low = 0 }
+whole_read signals s place =
+    record { signal = s; place = place; high = signal_width signals s - 1; low = 0 }
 
 -- the bit at a constant index, if there is such a bit
 abbrev pub bit_read : ℕ → Place → (index : ℤ) → ReadForm
@@ -54,7 +59,8 @@ abbrev mutual
 -- a bit by an index: at a constant index that bit, else the whole signal
 abbrev pub indexed_read : List SignalForm → ℕ → Place → (index : TypedTree) → ReadForm
 indexed_read signals s place index =
-    if is_constant index then bit_read s place (number_of signals (λ t. 0) index) else whole_read signals s place
+    if is_constant index then bit_read s place (number_of signals (λ t. 0) index)
+    else whole_read signals s place
 
 -- The names in an expression, in textual order. Of a value that was put in for a name, they are the
 -- names in that value.
@@ -65,8 +71,10 @@ abbrev mutual
   pub node_reads : List SignalForm → NodeTree → List ReadForm
   node_reads signals (constant n) = []
   node_reads signals (read s place) = whole_read signals s place ∷ []
-  node_reads signals (read_bit s place index) = indexed_read signals s place index ∷ reads signals index
-  node_reads signals (read_part s place high low) = record { signal = s; place = place; high = high; low = low } ∷ []
+  node_reads signals (read_bit s place index) =
+      indexed_read signals s place index ∷ reads signals index
+  node_reads signals (read_part s place high low) =
+      record { signal = s; place = place; high = high; low = low } ∷ []
   node_reads signals (unary op e) = reads signals e
   node_reads signals (binary op a b) = reads signals a ++ reads signals b
   node_reads signals (choice place c a b) = reads signals c ++ reads signals a ++ reads signals b
@@ -107,9 +115,11 @@ pub record Reading : Type 0 where
   pub assigned : BitSet
   pub follows : BitSet
 
-abbrev pub readings_of : List SignalForm → TypedTree → (serves : ℕ → Bool) → (assigned follows : BitSet) → List Reading
+abbrev pub readings_of : List SignalForm → TypedTree → (serves : ℕ → Bool) →
+    (assigned follows : BitSet) → List Reading
 readings_of signals e serves assigned follows =
-    map (λ r. record { name = r; serves = serves; assigned = assigned; follows = follows }) (reads signals e)
+    map (λ r. record { name = r; serves = serves; assigned = assigned; follows = follows })
+    (reads signals e)
 
 -- The names in a statement, where some bits are assigned before it, and some can be assigned after
 -- it. A right side serves the targets of its assignment, and a condition those that one of its arms
@@ -131,8 +141,10 @@ readings signals (branch place condition first second) before later =
 -- some bit that is read passes the test
 abbrev pub some_bit_read : List SignalForm → ReadForm → (ℕ → Bool) → Bool
 some_bit_read signals r test =
-    list_any (λ b. nat_le r.low b && nat_le b r.high && test b) (range_with_len 0 (signal_width signals r.signal))
+    list_any (λ b. nat_le r.low b && nat_le b r.high && test b)
+    (range_with_len 0 (signal_width signals r.signal))
 
 -- an assignment to a bit that is read can follow the read
 abbrev pub is_followed : List SignalForm → Reading → Bool
-is_followed signals reading = some_bit_read signals reading.name (reading.follows reading.name.signal)
+is_followed signals reading =
+    some_bit_read signals reading.name (reading.follows reading.name.signal)

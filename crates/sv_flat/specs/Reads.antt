@@ -1,17 +1,20 @@
 -- The signals read for a signal, and the depth at which it stands (this project's profile).
-use Rattle.std.specs.Prelude.{ℕ, ◌+◌, zero, suc, max, Bool, ◌==◌, ◌&&◌, ◌||◌, not, if◌then◌else◌, List, [], ◌∷◌, length, map, flat_map, fold, replicate, slice_index}
+use Rattle.std.specs.Prelude.{ℕ, ◌+◌, zero, suc, max, Bool, ◌==◌, ◌&&◌, ◌||◌, not, if◌then◌else◌}
+use Rattle.std.specs.Prelude.{List, [], ◌∷◌, length, map, flat_map, fold, replicate, slice_index}
 use Rattle.std.specs.List.{list_any, range_with_len}
 use Rattle.sv_flat.specs.Design.{ProcessForm, FlatDesign}
 use Rattle.sv_flat.specs.Soundness.{is_signal}
 use Rattle.sv_flat.specs.Readings.{Reading, readings, no_bits, is_followed}
-use Rattle.sv_flat.specs.Processes.{is_block, is_top_input, is_register, signal_numbers, signals_that, drivers}
+use Rattle.sv_flat.specs.Processes.{is_block, is_top_input, is_register, signal_numbers}
+use Rattle.sv_flat.specs.Processes.{signals_that, drivers}
 use Rattle.sv_flat.specs.Clocks.{is_clock, processes_of}
 use Rattle.sv_flat.specs.Sets.{least_set}
 
 -- a signal that is neither an input of the top module, a register nor a clock
 abbrev pub is_combinational : FlatDesign → ℕ → Bool
 is_combinational design s =
-    is_signal design.signals s && not (is_top_input design s || is_register design s || is_clock design s)
+    is_signal design.signals s
+    && not (is_top_input design s || is_register design s || is_clock design s)
 
 -- ---- reads
 
@@ -27,18 +30,21 @@ is_earlier design process reading = is_block process.kind && is_followed design.
 -- an earlier read for the target is one of the signal
 abbrev pub wants : FlatDesign → ProcessForm → (target s : ℕ) → Bool
 wants design process target s =
-    list_any (λ (r : Reading). is_earlier design process r && r.serves target && (r.name.signal == s))
+    list_any (λ (r : Reading).
+    is_earlier design process r && r.serves target && (r.name.signal == s))
     (process_readings design process)
 
 -- the target, each signal of which an earlier value is read for it, each of which one is read for
 -- those, and so on
 abbrev pub followed : FlatDesign → ProcessForm → (target : ℕ) → List ℕ
-followed design process target = least_set (length design.signals) (wants design process) (target ∷ [])
+followed design process target =
+    least_set (length design.signals) (wants design process) (target ∷ [])
 
 -- a settled read for one of the targets is one of the signal
 abbrev pub reads_settled : FlatDesign → ProcessForm → (targets : List ℕ) → (s : ℕ) → Bool
 reads_settled design process targets s =
-    list_any (λ (r : Reading). not (is_earlier design process r) && list_any r.serves targets && (r.name.signal == s))
+    list_any (λ (r : Reading).
+    not (is_earlier design process r) && list_any r.serves targets && (r.name.signal == s))
     (process_readings design process)
 
 -- The signal is read for the target: its name stands in a right side of an assignment to the
@@ -47,7 +53,8 @@ reads_settled design process targets s =
 abbrev pub is_read_for : FlatDesign → (target s : ℕ) → Bool
 is_read_for design target s =
     is_register design target && (target == s)
-    || list_any (λ p. reads_settled design p (followed design p target) s) (drivers (processes_of design) target)
+    || list_any (λ p. reads_settled design p (followed design p target) s)
+    (drivers (processes_of design) target)
 
 -- in signal order
 abbrev pub reads_for : FlatDesign → (target : ℕ) → List ℕ
@@ -62,7 +69,8 @@ above depths = 1 + fold max 0 depths
 -- each signal's depth, from depths that hold of chains of reads that are one shorter
 abbrev pub next_depths : FlatDesign → List ℕ → List ℕ
 next_depths design depths =
-    map (λ s. if is_combinational design s then above (map (slice_index depths) (reads_for design s)) else 0)
+    map (λ s. if is_combinational design s
+    then above (map (slice_index depths) (reads_for design s)) else 0)
     (signal_numbers design)
 
 abbrev pub depths_within : FlatDesign → (reads : ℕ) → List ℕ

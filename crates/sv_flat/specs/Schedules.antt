@@ -1,11 +1,14 @@
 -- Runs in a drawn order: which processes run when, under an order number (this project's profile;
 -- IEEE 1364-2005, clause 11 leaves the order of events at one time open).
-use Rattle.std.specs.Prelude.{◌≡◌, ℕ, zero, suc, ◌+◌, ◌-◌, ◌*◌, ◌/◌, ◌%◌, ◌^◌, ◌<◌, ◌≤◌, Bool, ◌==◌, ◌&&◌, nat_lt, if◌then◌else◌, IsTrue, IsFalse, List, [], ◌∷◌, length, map, reverse, swap, slice_get, slice_index_or, count_by, sum}
+use Rattle.std.specs.Prelude.{◌≡◌, ℕ, zero, suc, ◌+◌, ◌-◌, ◌*◌, ◌/◌, ◌%◌, ◌^◌, ◌<◌, ◌≤◌, Bool, ◌==◌}
+use Rattle.std.specs.Prelude.{◌&&◌, nat_lt, if◌then◌else◌, IsTrue, IsFalse, List, [], ◌∷◌, length}
+use Rattle.std.specs.Prelude.{map, reverse, swap, slice_get, slice_index_or, count_by, sum}
 use Rattle.std.specs.List.{list_all, filter_map, range_with_len}
 use Rattle.sv_system.specs.System.{Environment}
 use Rattle.sv_system.specs.Schedules.{after_runs}
 use Rattle.sv_flat.specs.Design.{ProcessForm, FlatDesign}
-use Rattle.sv_flat.specs.FlatSystem.{flat_system, combinational_processes, clocked_processes, after_edge}
+use Rattle.sv_flat.specs.FlatSystem.{flat_system, combinational_processes, clocked_processes}
+use Rattle.sv_flat.specs.FlatSystem.{after_edge}
 
 -- ---- schedules
 
@@ -16,13 +19,15 @@ numbered_run design k = slice_index_or (flat_system design).processes k (λ e. e
 -- the environment after the combinational processes with these numbers have run, one after the
 -- other
 abbrev pub after_schedule : FlatDesign → List ℕ → Environment ℕ → Environment ℕ
-after_schedule design schedule environment = after_runs (map (numbered_run design) schedule) environment
+after_schedule design schedule environment =
+    after_runs (map (numbered_run design) schedule) environment
 
 -- no run of a combinational process would change a signal
 abbrev pub is_quiet : FlatDesign → Environment ℕ → Bool
 is_quiet design environment =
     let system = flat_system design in
-    list_all (λ run. list_all (λ s. run environment s == environment s) system.signals) system.processes
+    list_all (λ run. list_all (λ s. run environment s == environment s) system.signals)
+    system.processes
 
 -- ---- draws
 
@@ -59,7 +64,8 @@ process_count design = length (combinational_processes design)
 -- the state after so many rounds
 abbrev pub state_after : FlatDesign → (number : ℕ) → (rounds : ℕ) → ℕ
 state_after design number zero = number
-state_after design number (suc k) = (round (process_count design) (state_after design number k)).state
+state_after design number (suc k) =
+    (round (process_count design) (state_after design number k)).state
 
 -- the environment after so many rounds
 abbrev pub after_rounds : FlatDesign → (number : ℕ) → (rounds : ℕ) → Environment ℕ → Environment ℕ
@@ -69,10 +75,12 @@ after_rounds design number (suc k) environment =
     (after_rounds design number k environment)
 
 -- the rounds go on until the first after which the environment is quiet; at least one is run
-pub record IsRoundCount (design : FlatDesign) (number : ℕ) (environment : Environment ℕ) (count : ℕ) : Type 0 where
+pub record IsRoundCount (design : FlatDesign) (number : ℕ) (environment : Environment ℕ)
+    (count : ℕ) : Type 0 where
   pub some : 1 ≤ count
   pub quiet : IsTrue (is_quiet design (after_rounds design number count environment))
-  pub before : (k : ℕ) → 1 ≤ k → k < count → IsFalse (is_quiet design (after_rounds design number k environment))
+  pub before : (k : ℕ) → 1 ≤ k → k < count →
+      IsFalse (is_quiet design (after_rounds design number k environment))
 
 -- ---- ticks
 
@@ -108,7 +116,8 @@ starting design registers s = if (flat_system design).is_register s then registe
 
 -- the environment with new inputs
 abbrev pub with_inputs : FlatDesign → (inputs environment : Environment ℕ) → Environment ℕ
-with_inputs design inputs environment s = if (flat_system design).is_input s then inputs s else environment s
+with_inputs design inputs environment s =
+    if (flat_system design).is_input s then inputs s else environment s
 
 -- In each cycle the inputs are set, the rounds run under the order number plus the cycle's, and the
 -- clocked processes run by the cycle's order; all other values stay. The environments are those
@@ -120,7 +129,8 @@ IsOrderedRun design number cycle before (i ∷ inputs) (e ∷ environments) (k �
     let drawn_by = (number + cycle) % 2 ^ 64 in
     IsRoundCount design drawn_by (with_inputs design i before) k
     × ((s : ℕ) → e s ≡ after_rounds design drawn_by k (with_inputs design i before) s)
-    × IsOrderedRun design number (cycle + 1) (after_tick design (tick_order design cycle) e) inputs environments counts
+    × IsOrderedRun design number (cycle + 1) (after_tick design (tick_order design cycle) e) inputs
+    environments counts
 IsOrderedRun design number cycle before _ _ _ = ⊥
 
 -- The ordered run of a design from its starting registers, with every other signal 0 and the cycles

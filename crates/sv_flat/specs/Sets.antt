@@ -17,7 +17,8 @@ with_brought n brings set = those n (λ k. holds set k || list_any (λ m. brings
 -- likewise, so many times
 abbrev pub with_all_brought : ℕ → (ℕ → ℕ → Bool) → List ℕ → (times : ℕ) → List ℕ
 with_all_brought n brings set zero = set
-with_all_brought n brings set (suc times) = with_brought n brings (with_all_brought n brings set times)
+with_all_brought n brings set (suc times) =
+    with_brought n brings (with_all_brought n brings set times)
 
 -- The least set with some first numbers, all below n, and with every number below n that one of its
 -- members brings along: each of n steps but the last adds a number, or none is left to add.

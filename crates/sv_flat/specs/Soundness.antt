@@ -1,6 +1,7 @@
 -- What a flat design keeps to, whatever it says: lengths and signs as IEEE 1364-2005, clauses 5.4
 -- and 5.5, give them, and numbers of signals, points and maps that exist.
-use Rattle.std.specs.Prelude.{ℕ, ◌+◌, ◌-◌, ◌*◌, ◌^◌, Bool, true, false, ◌==◌, ◌&&◌, ◌||◌, not, nat_lt, nat_le, List, length, Option, Some, None}
+use Rattle.std.specs.Prelude.{ℕ, ◌+◌, ◌-◌, ◌*◌, ◌^◌, Bool, true, false, ◌==◌, ◌&&◌, ◌||◌, not}
+use Rattle.std.specs.Prelude.{nat_lt, nat_le, List, length, Option, Some, None}
 use Rattle.std.specs.Bool.{beq}
 use Rattle.std.specs.List.{list_all}
 use Rattle.sv_num.specs.declared.operators.UnOp.{UnOp}
@@ -15,7 +16,12 @@ use Rattle.sv_lattice.specs.declared.labels.Label.{Label}
 use Rattle.sv_lattice.specs.declared.labels.Label.TheVariants.{Point as Declared, Table}
 use Rattle.sv_lattice.specs.Maps.{MapRows}
 use Rattle.sv_lattice.specs.Labels.{map_of}
-use Rattle.sv_flat.specs.Design.{SignalForm, TypedTree, typed, NodeTree, constant, read, read_bit, read_part, unary, binary, choice, join, replication, held, held_bit, held_part, mend, slice, TypedTrees, no_parts, more_parts, PieceForm, FlatStatement, nothing, after, assign, branch, ProcessKind, continuous, port_in, port_out, combinational, clocked, release, ProcessForm, InvariantForm, FlatDesign}
+use Rattle.sv_flat.specs.Design.{SignalForm, TypedTree, typed, NodeTree, constant, read, read_bit}
+use Rattle.sv_flat.specs.Design.{read_part, unary, binary, choice, join, replication, held}
+use Rattle.sv_flat.specs.Design.{held_bit, held_part, mend, slice, TypedTrees, no_parts, more_parts}
+use Rattle.sv_flat.specs.Design.{PieceForm, FlatStatement, nothing, after, assign, branch}
+use Rattle.sv_flat.specs.Design.{ProcessKind, continuous, port_in, port_out, combinational, clocked}
+use Rattle.sv_flat.specs.Design.{release, ProcessForm, InvariantForm, FlatDesign}
 use Rattle.sv_flat.specs.Values.{signal_width, expression_width, expression_signed, parts_width}
 
 -- ---- expressions
@@ -58,21 +64,27 @@ abbrev mutual
   -- every length is 1 to 64, every operand has the type that its operator gives it, and every name
   -- its signal
   pub well_formed : List SignalForm → TypedTree → Bool
-  well_formed signals (typed width signed node) = is_one_to 64 width && node_well_formed signals width signed node
+  well_formed signals (typed width signed node) =
+      is_one_to 64 width && node_well_formed signals width signed node
 
   pub node_well_formed : List SignalForm → (width : ℕ) → (signed : Bool) → NodeTree → Bool
   node_well_formed signals width signed (constant n) = nat_lt n (2 ^ width)
-  node_well_formed signals width signed (read s place) = is_signal signals s && nat_le (signal_width signals s) width
-  node_well_formed signals width signed (read_bit s place index) = is_signal signals s && well_formed signals index
+  node_well_formed signals width signed (read s place) =
+      is_signal signals s && nat_le (signal_width signals s) width
+  node_well_formed signals width signed (read_bit s place index) =
+      is_signal signals s && well_formed signals index
   node_well_formed signals width signed (read_part s place high low) =
       is_signal signals s && is_part_of (signal_width signals s) width high low
-  node_well_formed signals width signed (unary op e) = unary_typed op width signed e && well_formed signals e
+  node_well_formed signals width signed (unary op e) =
+      unary_typed op width signed e && well_formed signals e
   node_well_formed signals width signed (binary op a b) =
-      not (is_division op) && binary_typed (class_of op) width signed a b && well_formed signals a && well_formed signals b
+      not (is_division op) && binary_typed (class_of op) width signed a b && well_formed signals a
+      && well_formed signals b
   node_well_formed signals width signed (choice place c a b) =
       has_type width signed a && has_type width signed b
       && well_formed signals c && well_formed signals a && well_formed signals b
-  node_well_formed signals width signed (join es) = nat_le (parts_width es) width && parts_well_formed signals es
+  node_well_formed signals width signed (join es) =
+      nat_le (parts_width es) width && parts_well_formed signals es
   node_well_formed signals width signed (replication count es) =
       is_one_to 64 count && nat_le (count * parts_width es) width && parts_well_formed signals es
   node_well_formed signals width signed (held s e) =
@@ -80,7 +92,8 @@ abbrev mutual
   node_well_formed signals width signed (held_bit s place e index) =
       is_signal signals s && well_formed signals e && well_formed signals index
   node_well_formed signals width signed (held_part s place e high low) =
-      is_signal signals s && is_part_of (signal_width signals s) width high low && well_formed signals e
+      is_signal signals s && is_part_of (signal_width signals s) width high low
+      && well_formed signals e
   node_well_formed signals width signed (mend s e high low piece) =
       is_signal signals s && nat_le (signal_width signals s) width
       && is_part_of (signal_width signals s) (expression_width piece) high low
@@ -90,7 +103,8 @@ abbrev mutual
 
   pub parts_well_formed : List SignalForm → TypedTrees → Bool
   parts_well_formed signals no_parts = true
-  parts_well_formed signals (more_parts e es) = well_formed signals e && parts_well_formed signals es
+  parts_well_formed signals (more_parts e es) =
+      well_formed signals e && parts_well_formed signals es
 
 -- ---- statements
 
@@ -98,12 +112,15 @@ abbrev mutual
 abbrev pub piece_fits : List SignalForm → TypedTree → PieceForm → Bool
 piece_fits signals e piece =
     is_signal signals piece.signal
-    && is_part_of (signal_width signals piece.signal) (expression_width e - piece.from) piece.high piece.low
+    && is_part_of (signal_width signals piece.signal) (expression_width e - piece.from) piece.high
+    piece.low
 
 abbrev pub statement_sound : List SignalForm → FlatStatement → Bool
 statement_sound signals nothing = true
-statement_sound signals (after first second) = statement_sound signals first && statement_sound signals second
-statement_sound signals (assign pieces place blocking e) = well_formed signals e && list_all (piece_fits signals e) pieces
+statement_sound signals (after first second) =
+    statement_sound signals first && statement_sound signals second
+statement_sound signals (assign pieces place blocking e) =
+    well_formed signals e && list_all (piece_fits signals e) pieces
 statement_sound signals (branch place condition first second) =
     well_formed signals condition && statement_sound signals first && statement_sound signals second
 
@@ -113,7 +130,8 @@ is_whole signals piece = (piece.low == 0) && (piece.high + 1 == signal_width sig
 
 -- one blocking assignment to whole signals
 abbrev pub is_one_assignment : List SignalForm → FlatStatement → Bool
-is_one_assignment signals (assign pieces place blocking e) = blocking && list_all (is_whole signals) pieces
+is_one_assignment signals (assign pieces place blocking e) =
+    blocking && list_all (is_whole signals) pieces
 is_one_assignment signals _ = false
 
 abbrev pub is_point : FlatDesign → Point → Bool
@@ -127,7 +145,8 @@ kind_sound design port_in body = is_one_assignment design.signals body
 kind_sound design port_out body = is_one_assignment design.signals body
 kind_sound design combinational body = true
 kind_sound design (clocked clock) body = is_signal design.signals clock
-kind_sound design (release point) body = is_point design point && is_one_assignment design.signals body
+kind_sound design (release point) body =
+    is_point design point && is_one_assignment design.signals body
 
 abbrev pub process_sound : FlatDesign → ProcessForm → Bool
 process_sound design process =

@@ -1,7 +1,8 @@
 -- What a typed expression gives in an environment (IEEE 1364-2005, clause 5). The environment gives
 -- each signal, by its number, a value; every operand stands at the length and sign that clauses 5.4
 -- and 5.5 give it.
-use Rattle.std.specs.Prelude.{ℕ, ◌+◌, ◌*◌, ◌%◌, ◌^◌, Bool, false, List, [], if◌then◌else◌, ℤ, slice_index_or}
+use Rattle.std.specs.Prelude.{ℕ, ◌+◌, ◌*◌, ◌%◌, ◌^◌, Bool, false, List, [], if◌then◌else◌, ℤ}
+use Rattle.std.specs.Prelude.{slice_index_or}
 use Rattle.sv_num.specs.Vectors.{as_number, is_true}
 use Rattle.sv_num.specs.Parts.{extended, bits_between, bit_or_zero, replaced_bits, repeated}
 use Rattle.sv_num.specs.UnaryValues.{unary_value}
@@ -9,7 +10,9 @@ use Rattle.sv_num.specs.BinaryValues.{binary_value}
 use Rattle.sv_system.specs.System.{Environment}
 use Rattle.sv_lattice.specs.declared.labels.Label.TheVariants.{Point}
 use Rattle.sv_flat.specs.declared.signals.SigKind.TheVariants.{Net}
-use Rattle.sv_flat.specs.Design.{SignalForm, TypedTree, typed, NodeTree, constant, read, read_bit, read_part, unary, binary, choice, join, replication, held, held_bit, held_part, mend, slice, TypedTrees, no_parts, more_parts}
+use Rattle.sv_flat.specs.Design.{SignalForm, TypedTree, typed, NodeTree, constant, read, read_bit}
+use Rattle.sv_flat.specs.Design.{read_part, unary, binary, choice, join, replication, held}
+use Rattle.sv_flat.specs.Design.{held_bit, held_part, mend, slice, TypedTrees, no_parts, more_parts}
 
 -- ---- signals and types
 
@@ -48,7 +51,8 @@ parts_width (more_parts e es) = expression_width e + parts_width es
 abbrev mutual
   -- the value at the length and sign of the expression
   pub value : List SignalForm → Environment ℕ → TypedTree → ℕ
-  value signals environment (typed width signed node) = node_value signals environment width signed node
+  value signals environment (typed width signed node) =
+      node_value signals environment width signed node
 
   pub node_value : List SignalForm → Environment ℕ → (width : ℕ) → (signed : Bool) → NodeTree → ℕ
   node_value signals environment width signed (constant n) = n
@@ -56,13 +60,16 @@ abbrev mutual
       extended signed (signal_width signals s) width (environment s)
   node_value signals environment width signed (read_bit s place index) =
       bit_or_zero (signal_width signals s) (environment s) (number_of signals environment index)
-  node_value signals environment width signed (read_part s place high low) = bits_between high low (environment s)
+  node_value signals environment width signed (read_part s place high low) =
+      bits_between high low (environment s)
   node_value signals environment width signed (unary op e) =
       unary_value op (expression_width e) (expression_signed e) (value signals environment e)
   node_value signals environment width signed (binary op a b) =
-      binary_value op (expression_width a) (expression_signed a) (value signals environment a) (value signals environment b)
+      binary_value op (expression_width a) (expression_signed a) (value signals environment a)
+      (value signals environment b)
   node_value signals environment width signed (choice place c a b) =
-      if is_true (value signals environment c) then value signals environment a else value signals environment b
+      if is_true (value signals environment c) then value signals environment a
+      else value signals environment b
   node_value signals environment width signed (join es) = joined signals environment es
   node_value signals environment width signed (replication count es) =
       repeated count (parts_width es) (joined signals environment es)
@@ -70,13 +77,16 @@ abbrev mutual
   node_value signals environment width signed (held s e) =
       extended signed (signal_width signals s) width (cut_value signals environment s e)
   node_value signals environment width signed (held_bit s place e index) =
-      bit_or_zero (signal_width signals s) (cut_value signals environment s e) (number_of signals environment index)
+      bit_or_zero (signal_width signals s) (cut_value signals environment s e)
+      (number_of signals environment index)
   node_value signals environment width signed (held_part s place e high low) =
       bits_between high low (cut_value signals environment s e)
   node_value signals environment width signed (mend s e high low piece) =
       extended signed (signal_width signals s) width
-      (replaced_bits (signal_width signals s) high low (value signals environment e) (value signals environment piece))
-  node_value signals environment width signed (slice e high low) = bits_between high low (value signals environment e)
+      (replaced_bits (signal_width signals s) high low (value signals environment e)
+      (value signals environment piece))
+  node_value signals environment width signed (slice e high low) =
+      bits_between high low (value signals environment e)
 
   -- the parts one beside the other, the first with the highest bits (clause 5.1.14)
   pub joined : List SignalForm → Environment ℕ → TypedTrees → ℕ

@@ -7,15 +7,20 @@ use Rattle.sv_flat.specs.declared.designs.ProcKind.TheVariants as kind
 use Rattle.sv_flat.specs.declared.designs.Process.{Process}
 use Rattle.sv_flat.specs.declared.expressions.FExpr.{FExpr}
 use Rattle.sv_flat.specs.declared.expressions.FNode as node
-use Rattle.sv_flat.specs.declared.expressions.FNode.{FNode, Row_of-FExpr, end_of-FExpr, more_of-FExpr}
+use Rattle.sv_flat.specs.declared.expressions.FNode.{FNode, Row_of-FExpr, end_of-FExpr}
+use Rattle.sv_flat.specs.declared.expressions.FNode.{more_of-FExpr}
 use Rattle.sv_flat.specs.declared.signals.Signal.{Signal}
 use Rattle.sv_flat.specs.declared.statements.FStmt as stmt
-use Rattle.sv_flat.specs.declared.statements.FStmt.{FStmt, Row_of-FStmt, end_of-FStmt, more_of-FStmt}
+use Rattle.sv_flat.specs.declared.statements.FStmt.{FStmt, Row_of-FStmt, end_of-FStmt}
+use Rattle.sv_flat.specs.declared.statements.FStmt.{more_of-FStmt}
 use Rattle.sv_flat.specs.declared.statements.Piece.{Piece}
-use Rattle.sv_flat.specs.Design.{TypedTree, typed, NodeTree, constant, read, read_bit, read_part, unary, binary, choice, join, replication}
-use Rattle.sv_flat.specs.Design.{held, held_bit, held_part, mend, slice, TypedTrees, no_parts, more_parts}
+use Rattle.sv_flat.specs.Design.{TypedTree, typed, NodeTree, constant, read, read_bit, read_part}
+use Rattle.sv_flat.specs.Design.{unary, binary, choice, join, replication}
+use Rattle.sv_flat.specs.Design.{held, held_bit, held_part, mend, slice, TypedTrees, no_parts}
+use Rattle.sv_flat.specs.Design.{more_parts}
 use Rattle.sv_flat.specs.Design.{PieceForm, FlatStatement, nothing, after, assign, branch}
-use Rattle.sv_flat.specs.Design.{ProcessKind, continuous, port_in, port_out, combinational, clocked, release}
+use Rattle.sv_flat.specs.Design.{ProcessKind, continuous, port_in, port_out, combinational, clocked}
+use Rattle.sv_flat.specs.Design.{release}
 use Rattle.sv_flat.specs.Design.{SignalForm, ProcessForm, InvariantForm, FlatDesign}
 
 -- Expressions
@@ -24,13 +29,15 @@ abbrev mutual
   pub node_tree : FNode → NodeTree
   node_tree (node.Number n) = constant n
   node_tree (node.Signal signal place) = read signal.0 place
-  node_tree (node.Bit' signal place p w s index) = read_bit signal.0 place (typed w s (node_tree index))
+  node_tree (node.Bit' signal place p w s index) =
+      read_bit signal.0 place (typed w s (node_tree index))
   node_tree (node.Part signal place high low) = read_part signal.0 place high low
   node_tree (node.Unary' op p w s operand) = unary op (typed w s (node_tree operand))
   node_tree (node.Binary' op p v r left q w s right) =
       binary op (typed v r (node_tree left)) (typed w s (node_tree right))
   node_tree (node.Choice' place o u t condition p v r first q w s second) =
-      choice place (typed u t (node_tree condition)) (typed v r (node_tree first)) (typed w s (node_tree second))
+      choice place (typed u t (node_tree condition)) (typed v r (node_tree first))
+      (typed w s (node_tree second))
   node_tree (node.Join' shape row) = join (row_parts row)
   node_tree (node.Repeat' count shape row) = replication count (row_parts row)
   node_tree (node.Held' signal p w s value) = held signal.0 (typed w s (node_tree value))
@@ -61,7 +68,8 @@ parts_of (e ∷ es) = more_parts e (parts_of es)
 -- Statements
 
 abbrev pub piece_form : Piece → PieceForm
-piece_form p = record { signal = p.signal.0; place = p.place; high = p.high; low = p.low; from = p.from }
+piece_form p =
+    record { signal = p.signal.0; place = p.place; high = p.high; low = p.low; from = p.from }
 
 abbrev mutual
   pub flat_statement : FStmt → FlatStatement
@@ -105,7 +113,8 @@ process_kind (kind.Clocked clock) = clocked clock.0
 process_kind (kind.Release point) = release point
 
 abbrev pub process_form : Process → ProcessForm
-process_form p = record { place = p.place; kind = process_kind p.kind; body = flat_statement p.body }
+process_form p =
+    record { place = p.place; kind = process_kind p.kind; body = flat_statement p.body }
 
 abbrev pub invariant_form : Place × FExpr → InvariantForm
 invariant_form i = record { place = i.0; expression = typed_tree i.1 }

@@ -70,8 +70,8 @@ pub(crate) fn replaced_bits(value: u64, width: u8, high: u8, low: u8, piece: u64
     beside(above, beside(inside, low_bits(value, low), low), high + 1)
 }
 
-/// A value of one width at another, no smaller one: the new bits are copies of the highest bit where the type is signed, and
-/// else 0.
+/// A value of one width at another, no smaller one: the new bits are copies of the highest bit
+/// where the type is signed, and else 0.
 pub(crate) fn extended(value: u64, from: u8, to: u8, signed: bool) -> u64
     requires wider { from ≤ to }
     requires few { to ≤ 64 }

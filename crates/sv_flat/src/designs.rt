@@ -28,7 +28,8 @@ pub enum ProcKind {
     Release(Point),
 }
 
-/// A process, with the place of its `always`, of the target of its `assign`, of its `wire`, or of its link's expression.
+/// A process, with the place of its `always`, of the target of its `assign`, of its `wire`, or of
+/// its link's expression.
 #[derive(Debug, Drop)]
 pub struct Process {
     pub place: Place,
@@ -36,8 +37,8 @@ pub struct Process {
     pub body: FStmt,
 }
 
-/// A whole instance tree, flattened: its signals and processes in the order of the walk through it, its lattice with the points'
-/// names, its label maps, and its declared invariants.
+/// A whole instance tree, flattened: its signals and processes in the order of the walk through it,
+/// its lattice with the points' names, its label maps, and its declared invariants.
 #[derive(Debug, Drop)]
 pub struct Flat {
     pub signals: Vec<Signal>,

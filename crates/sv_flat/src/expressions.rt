@@ -6,7 +6,8 @@ use crate::signals::SigId;
 use std::alloc::{AllocError, Global};
 use sv_num::{BinOp, Place, UnOp};
 
-/// An expression with the length in bits and the sign that its context gives it (IEEE 1364-2005, clauses 5.4 and 5.5).
+/// An expression with the length in bits and the sign that its context gives it (IEEE 1364-2005,
+/// clauses 5.4 and 5.5).
 #[derive(Debug, Drop)]
 #[cycle(expressions)]
 pub struct FExpr {
@@ -15,8 +16,8 @@ pub struct FExpr {
     pub node: FNode,
 }
 
-/// What a typed expression is made of. The nodes from `Held` on stand in obligations alone, for a value that was put in for a
-/// signal's name.
+/// What a typed expression is made of. The nodes from `Held` on stand in obligations alone, for a
+/// value that was put in for a signal's name.
 #[derive(Debug, Drop)]
 #[cycle(expressions)]
 pub enum FNode {
@@ -44,8 +45,8 @@ pub enum FNode {
     HeldBit(SigId, Place, Box<FExpr>, Box<FExpr>),
     /// The bits of such a value from the first number down to the second.
     HeldPart(SigId, Place, Box<FExpr>, u8, u8),
-    /// The first expression at the signal's width, with the bits from the first number down to the second replaced by the low
-    /// bits of the last expression.
+    /// The first expression at the signal's width, with the bits from the first number down to the
+    /// second replaced by the low bits of the last expression.
     Mend(SigId, Box<FExpr>, u8, u8, Box<FExpr>),
     /// The bits of an expression's value from the first number down to the second.
     Slice(Box<FExpr>, u8, u8),

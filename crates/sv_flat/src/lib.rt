@@ -1,4 +1,5 @@
-//! Flat designs: the signals and processes of a whole instance tree, by number, with typed expressions.
+//! Flat designs: the signals and processes of a whole instance tree, by number, with typed
+//! expressions.
 //!
 //! A contract sees a design by its plain form, as `design_of` of `specs/Views.antt` gives it.
 #![tactic(auto)]

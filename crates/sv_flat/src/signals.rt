@@ -29,7 +29,8 @@ pub enum SigKind {
     OutputReg,
 }
 
-/// A signal: its name from the top module on, 1 to 64 bits, its sign, and the place of its declaration.
+/// A signal: its name from the top module on, 1 to 64 bits, its sign, and the place of its
+/// declaration.
 #[derive(Debug, Drop)]
 pub struct Signal {
     pub name: Name,

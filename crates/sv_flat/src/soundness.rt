@@ -2,10 +2,14 @@
 ghost use Rattle.std.specs.Prelude.{◌≡◌, ◌&&◌, map};
 ghost use Rattle.std.specs.List.{list_all};
 ghost use Rattle.sv_flat.specs.ByNumber.{signal_forms};
-ghost use Rattle.sv_flat.specs.Soundness.{piece_fits, statement_sound, is_whole, is_one_assignment, is_point, kind_sound, process_sound};
-ghost use Rattle.sv_flat.specs.Soundness.{selector_fits, second_fits, label_sound, signal_sound, map_sound, invariant_sound, sound};
+ghost use Rattle.sv_flat.specs.Soundness.{piece_fits, statement_sound, is_whole, is_one_assignment};
+ghost use Rattle.sv_flat.specs.Soundness.{is_point, kind_sound, process_sound};
+ghost use Rattle.sv_flat.specs.Soundness.{selector_fits, second_fits, label_sound, signal_sound};
+ghost use Rattle.sv_flat.specs.Soundness.{map_sound, invariant_sound, sound};
 ghost use Rattle.sv_flat.specs.Values.{signal_width};
-ghost use Rattle.sv_flat.specs.Views.{typed_tree, piece_form, flat_statement, flat_statements, chain_of, process_kind, process_form, signal_form, invariant_form, design_of};
+ghost use Rattle.sv_flat.specs.Views.{typed_tree, piece_form, flat_statement, flat_statements};
+ghost use Rattle.sv_flat.specs.Views.{chain_of, process_kind, process_form, signal_form};
+ghost use Rattle.sv_flat.specs.Views.{invariant_form, design_of};
 
 use crate::designs::{Flat, ProcKind, Process};
 use crate::expressions::FExpr;
@@ -15,9 +19,10 @@ use crate::typing::{is_part_of, is_signal, well_formed};
 use crate::values::width_of_signal;
 use sv_lattice::{Label, LabelMap, Point};
 
-/// Whether the design keeps to what every flat design does: there are fewer than 4,294,967,295 signals, each of 1 to 64 bits, and
-/// a name for each point; every number of a signal, map or point is that of one, every selector has the width of its range, and
-/// every expression is well formed; each assigned piece lies inside its signal and takes bits inside the value; and what is no
+/// Whether the design keeps to what every flat design does: there are fewer than 4,294,967,295
+/// signals, each of 1 to 64 bits, and a name for each point; every number of a signal, map or point
+/// is that of one, every selector has the width of its range, and every expression is well formed;
+/// each assigned piece lies inside its signal and takes bits inside the value; and what is no
 /// `always` is one blocking assignment to whole signals.
 pub fn sound(flat: &Flat) -> bool
     ensures { result ≡ sound (design_of flat.now) }
@@ -59,7 +64,8 @@ fn is_point(point: Point, flat: &Flat) -> bool
 }
 
 fn are_signals_sound(flat: &Flat) -> bool
-    ensures { result ≡ list_all (signal_sound (design_of flat.now)) (signal_forms flat.now.signals.items) }
+    ensures { result ≡ list_all (signal_sound (design_of flat.now))
+        (signal_forms flat.now.signals.items) }
 {
     for signal in &flat.signals {
         if !is_signal_sound(signal, flat) {
@@ -89,7 +95,8 @@ fn is_label_sound(label: &Label, flat: &Flat) -> bool
 
 fn are_selectors_sound(first: u32, second: Option<u32>, map: &LabelMap, flat: &Flat) -> bool
     ensures { let signals = signal_forms flat.now.signals.items in
-        result ≡ (selector_fits signals first map.now.first && second_fits signals second map.now.second) }
+        result ≡ (selector_fits signals first map.now.first
+        && second_fits signals second map.now.second) }
 {
     let widths = map.widths();
     selector_fits(first, widths.0, flat)
@@ -108,7 +115,8 @@ fn selector_fits(selector: u32, width: u8, flat: &Flat) -> bool
 }
 
 fn are_processes_sound(flat: &Flat) -> bool
-    ensures { result ≡ list_all (process_sound (design_of flat.now)) (map process_form flat.now.processes.items) }
+    ensures { result ≡ list_all (process_sound (design_of flat.now))
+        (map process_form flat.now.processes.items) }
 {
     for process in &flat.processes {
         if !is_process_sound(process, flat) {
@@ -126,7 +134,8 @@ fn is_process_sound(process: &Process, flat: &Flat) -> bool
 }
 
 fn is_kind_sound(kind: ProcKind, body: &FStmt, flat: &Flat) -> bool
-    ensures { result ≡ kind_sound (design_of flat.now) (process_kind kind) (flat_statement body.now) }
+    ensures { result ≡ kind_sound (design_of flat.now) (process_kind kind)
+        (flat_statement body.now) }
 {
     match kind {
         ProcKind::Assign | ProcKind::PortIn | ProcKind::PortOut => {
@@ -181,7 +190,8 @@ fn width_or_none(signal: SigId, signals: &[Signal]) -> u16
 }
 
 fn are_invariants_sound(flat: &Flat) -> bool
-    ensures { result ≡ list_all (invariant_sound (design_of flat.now)) (map invariant_form flat.now.invariants.items) }
+    ensures { result ≡ list_all (invariant_sound (design_of flat.now))
+        (map invariant_form flat.now.invariants.items) }
 {
     for (_, expression) in &flat.invariants {
         if !well_formed(expression, &flat.signals) {
@@ -191,7 +201,8 @@ fn are_invariants_sound(flat: &Flat) -> bool
     true
 }
 
-// The statements after a condition are looked at one arm in the other, the last arm without a call: a `case` may have many arms.
+// The statements after a condition are looked at one arm in the other, the last arm without a call:
+// a `case` may have many arms.
 #[cycle(statement_soundness)]
 fn is_statement_sound(stmt: &FStmt, signals: &[Signal]) -> bool
     ensures { result ≡ statement_sound (signal_forms signals.now) (flat_statement stmt.now) }
@@ -215,7 +226,8 @@ fn is_statement_sound(stmt: &FStmt, signals: &[Signal]) -> bool
 
 #[cycle(statement_soundness)]
 fn are_statements_sound(stmts: &[FStmt], signals: &[Signal]) -> bool
-    ensures { result ≡ statement_sound (signal_forms signals.now) (chain_of (flat_statements stmts.now)) }
+    ensures { result ≡ statement_sound (signal_forms signals.now)
+        (chain_of (flat_statements stmts.now)) }
 {
     for stmt in stmts {
         if !is_statement_sound(stmt, signals) {
@@ -226,7 +238,8 @@ fn are_statements_sound(stmts: &[FStmt], signals: &[Signal]) -> bool
 }
 
 fn do_pieces_fit(pieces: &[Piece], value: &FExpr, signals: &[Signal]) -> bool
-    ensures { result ≡ list_all (piece_fits (signal_forms signals.now) (typed_tree value.now)) (map piece_form pieces.now) }
+    ensures { result ≡ list_all (piece_fits (signal_forms signals.now) (typed_tree value.now))
+        (map piece_form pieces.now) }
 {
     for piece in pieces {
         if !does_piece_fit(piece, value, signals) {
@@ -237,7 +250,8 @@ fn do_pieces_fit(pieces: &[Piece], value: &FExpr, signals: &[Signal]) -> bool
 }
 
 fn does_piece_fit(piece: &Piece, value: &FExpr, signals: &[Signal]) -> bool
-    ensures { result ≡ piece_fits (signal_forms signals.now) (typed_tree value.now) (piece_form piece.now) }
+    ensures { result ≡ piece_fits (signal_forms signals.now) (typed_tree value.now)
+        (piece_form piece.now) }
 {
     is_signal(piece.signal, signals)
         && is_part_of(

@@ -7,8 +7,8 @@ use crate::signals::SigId;
 use std::alloc::{AllocError, Global};
 use sv_num::Place;
 
-/// What an assignment does to one target: the signal's bits from `high` down to `low` get the value's bits from `from` up.
-/// The place is that of the target's name.
+/// What an assignment does to one target: the signal's bits from `high` down to `low` get the
+/// value's bits from `from` up. The place is that of the target's name.
 #[derive(Clone, Copy, Debug, PartialEq, Eq)]
 pub struct Piece {
     pub signal: SigId,
@@ -21,7 +21,8 @@ pub struct Piece {
 /// A statement. A missing `else` is an empty block, and a `case` stands as a chain of `if`.
 #[derive(Debug, Drop)]
 pub enum FStmt {
-    /// An assignment to its pieces in textual order, with the place of the first; the value is taken once, before.
+    /// An assignment to its pieces in textual order, with the place of the first; the value is
+    /// taken once, before.
     Assign {
         pieces: Vec<Piece>,
         place: Place,

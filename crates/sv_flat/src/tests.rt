@@ -1,4 +1,5 @@
-// Each copy, once with ample memory: the copy reads as the value does. Values by the rules of IEEE 1364-2005, clause 5.
+// Each copy, once with ample memory: the copy reads as the value does. Values by the rules of IEEE
+// 1364-2005, clause 5.
 
 use crate::{
     FExpr, FNode, FStmt, Flat, ProcKind, Process, SigId, SigKind, Signal, sound, value_of,

@@ -1,9 +1,12 @@
-// The forms that typed expressions have: lengths and signs as IEEE 1364-2005, clauses 5.4 and 5.5, give them.
-ghost use Rattle.std.specs.Prelude.{◌≡◌, ◌*◌, ◌^◌, ◌<◌, ◌≤◌, ◌&&◌, nat_le, nat_lt, length, MatchOption};
+// The forms that typed expressions have: lengths and signs as IEEE 1364-2005, clauses 5.4 and 5.5,
+// give them.
+ghost use Rattle.std.specs.Prelude.{◌≡◌, ◌*◌, ◌^◌, ◌<◌, ◌≤◌, ◌&&◌, nat_le, nat_lt, length};
+ghost use Rattle.std.specs.Prelude.{MatchOption};
 ghost use Rattle.sv_num.specs.UnaryValues.{gives_one_bit};
 ghost use Rattle.sv_num.specs.BinaryValues.{class_of};
 ghost use Rattle.sv_flat.specs.ByNumber.{signal_forms};
-ghost use Rattle.sv_flat.specs.Soundness.{is_one_to, is_signal, is_part_of, has_type, unary_typed, binary_typed, is_division};
+ghost use Rattle.sv_flat.specs.Soundness.{is_one_to, is_signal, is_part_of, has_type, unary_typed};
+ghost use Rattle.sv_flat.specs.Soundness.{binary_typed, is_division};
 ghost use Rattle.sv_flat.specs.Soundness.{well_formed, node_well_formed, parts_well_formed};
 ghost use Rattle.sv_flat.specs.Values.{parts_width, signal_width};
 ghost use Rattle.sv_flat.specs.Views.{typed_tree, typed_trees, node_tree, parts_of};
@@ -14,9 +17,10 @@ use crate::signals::{SigId, Signal};
 use crate::values::width_of_signal;
 use sv_num::{BinOp, OpClass, UnOp};
 
-/// Whether the expression has a value: every length is 1 to 64, every operand has the length and sign that its operator gives it,
-/// every signal is one of these, every part lies inside its signal, every number, name, select and concatenation has room in its
-/// length, every count is 1 to 64, and nothing is divided.
+/// Whether the expression has a value: every length is 1 to 64, every operand has the length and
+/// sign that its operator gives it, every signal is one of these, every part lies inside its
+/// signal, every number, name, select and concatenation has room in its length, every count is 1 to
+/// 64, and nothing is divided.
 // The calls go as deep as the tree.
 #[cycle(expression_typing)]
 pub fn well_formed(expr: &FExpr, signals: &[Signal]) -> bool
@@ -31,7 +35,8 @@ pub fn well_formed(expr: &FExpr, signals: &[Signal]) -> bool
 fn node_well_formed(node: &FNode, width: u8, signed: bool, signals: &[Signal]) -> bool
     requires some { 1 ≤ width }
     requires few { width ≤ 64 }
-    ensures { result ≡ node_well_formed (signal_forms signals.now) width signed (node_tree node.now) }
+    ensures { result ≡ node_well_formed (signal_forms signals.now) width signed
+        (node_tree node.now) }
 {
     match node {
         FNode::Number(number) => fits(*number, width),
@@ -80,7 +85,8 @@ fn node_well_formed(node: &FNode, width: u8, signed: bool, signals: &[Signal]) -
 #[cycle(expression_typing)]
 fn join_well_formed(parts: &[FExpr], width: u8, signals: &[Signal]) -> bool
     ensures { let trees = parts_of (typed_trees parts.now) in
-        result ≡ (nat_le (parts_width trees) width && parts_well_formed (signal_forms signals.now) trees) }
+        result ≡ (nat_le (parts_width trees) width
+        && parts_well_formed (signal_forms signals.now) trees) }
 {
     is_join_within(parts, width) && parts_well_formed(parts, signals)
 }
@@ -97,7 +103,8 @@ fn copies_well_formed(count: u32, parts: &[FExpr], width: u8, signals: &[Signal]
 // Whether each part of a join or replication is well formed.
 #[cycle(expression_typing)]
 fn parts_well_formed(parts: &[FExpr], signals: &[Signal]) -> bool
-    ensures { result ≡ parts_well_formed (signal_forms signals.now) (parts_of (typed_trees parts.now)) }
+    ensures { result ≡ parts_well_formed (signal_forms signals.now)
+        (parts_of (typed_trees parts.now)) }
 {
     for part in parts {
         if !well_formed(part, signals) {
@@ -113,6 +120,7 @@ fn fits(number: u64, width: u8) -> bool
     low_bits(number, width) == number
 }
 
+/// Whether the number is that of one of the signals.
 pub(crate) fn is_signal(signal: SigId, signals: &[Signal]) -> bool
     ensures { result ≡ is_signal (signal_forms signals.now) signal.0 }
 {
@@ -130,12 +138,14 @@ fn reads_within(signal: SigId, width: u8, signals: &[Signal]) -> bool
 // Whether it is the number of a signal that has these bits, and the node has room for them.
 fn reads_part(signal: SigId, width: u8, high: u8, low: u8, signals: &[Signal]) -> bool
     ensures { let forms = signal_forms signals.now in
-        result ≡ (is_signal forms signal.0 && is_part_of (signal_width forms signal.0) width high low) }
+        result ≡ (is_signal forms signal.0
+        && is_part_of (signal_width forms signal.0) width high low) }
 {
     is_signal(signal, signals) && is_part_of(width_of_signal(signal, signals), width, high, low)
 }
 
-// Whether the bits lie in a value of `length` bits and are at most as many as the width.
+/// Whether the bits from `high` down to `low` lie in a value of `length` bits and are at most as
+/// many as the width.
 pub(crate) fn is_part_of(length: u8, width: u8, high: u8, low: u8) -> bool
     ensures { result ≡ is_part_of length width high low }
 {
@@ -190,7 +200,8 @@ fn unary_typed(op: UnOp, width: u8, signed: bool, operand: &FExpr) -> bool
 }
 
 fn binary_typed(class: OpClass, width: u8, signed: bool, left: &FExpr, right: &FExpr) -> bool
-    ensures { result ≡ binary_typed class width signed (typed_tree left.now) (typed_tree right.now) }
+    ensures { result ≡ binary_typed class width signed (typed_tree left.now)
+        (typed_tree right.now) }
 {
     match class {
         OpClass::Context => has_type(left, width, signed) && has_type(right, width, signed),

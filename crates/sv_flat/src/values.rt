@@ -3,7 +3,8 @@ ghost use Rattle.std.specs.Prelude.{◌≡◌, ℕ, ◌+◌, ◌*◌, ◌^◌, �
 ghost use Rattle.sv_flat.specs.ByNumber.{signal_forms, by_number, FitSignals};
 ghost use Rattle.sv_flat.specs.Soundness.{well_formed, node_well_formed, parts_well_formed};
 ghost use Rattle.sv_num.specs.Parts.{bit_or_zero};
-ghost use Rattle.sv_flat.specs.Values.{value, node_value, joined, parts_width, number_of, cut_value, signal_width};
+ghost use Rattle.sv_flat.specs.Values.{value, node_value, joined, parts_width, number_of};
+ghost use Rattle.sv_flat.specs.Values.{cut_value, signal_width};
 ghost use Rattle.sv_flat.specs.Views.{typed_tree, typed_trees, node_tree, parts_of};
 ghost use Rattle.sv_num.specs.Vectors.{width_of, is_signed, value_of};
 
@@ -12,14 +13,15 @@ use crate::expressions::{FExpr, FNode};
 use crate::signals::{SigId, Signal};
 use sv_num::{Bits, apply_binary, apply_unary};
 
-/// The value of a well formed expression, at its own length and read without sign (IEEE 1364-2005, clause 5), where each signal has
-/// the value of its number.
+/// The value of a well formed expression, at its own length and read without sign (IEEE 1364-2005,
+/// clause 5), where each signal has the value of its number.
 // The calls go as deep as the tree.
 #[cycle(expression_values)]
 pub fn value_of(expr: &FExpr, signals: &[Signal], values: &[u64]) -> u64
     requires formed { IsTrue (well_formed (signal_forms signals.now) (typed_tree expr.now)) }
     requires fit { FitSignals (signal_forms signals.now) values.now }
-    ensures value { result ≡ value (signal_forms signals.now) (by_number values.now) (typed_tree expr.now) }
+    ensures value { result ≡
+        value (signal_forms signals.now) (by_number values.now) (typed_tree expr.now) }
     ensures range { result < 2 ^ expr.now.width }
 {
     node_value(&expr.node, expr.width, expr.signed, signals, values)
@@ -29,10 +31,12 @@ pub fn value_of(expr: &FExpr, signals: &[Signal], values: &[u64]) -> u64
 fn node_value(node: &FNode, width: u8, signed: bool, signals: &[Signal], values: &[u64]) -> u64
     requires some { 1 ≤ width }
     requires few { width ≤ 64 }
-    requires formed { IsTrue (node_well_formed (signal_forms signals.now) width signed (node_tree node.now)) }
+    requires formed { IsTrue
+        (node_well_formed (signal_forms signals.now) width signed (node_tree node.now)) }
     requires fit { FitSignals (signal_forms signals.now) values.now }
     ensures value { result
-        ≡ node_value (signal_forms signals.now) (by_number values.now) width signed (node_tree node.now) }
+        ≡ node_value (signal_forms signals.now) (by_number values.now) width signed
+        (node_tree node.now) }
     ensures range { result < 2 ^ width }
 {
     match node {
@@ -101,7 +105,8 @@ fn typed_value(expr: &FExpr, signals: &[Signal], values: &[u64]) -> Bits
     requires fit { FitSignals (signal_forms signals.now) values.now }
     ensures width { width_of result ≡ expr.now.width }
     ensures signed { is_signed result ≡ expr.now.signed }
-    ensures value { value_of result ≡ value (signal_forms signals.now) (by_number values.now) (typed_tree expr.now) }
+    ensures value { value_of result ≡
+        value (signal_forms signals.now) (by_number values.now) (typed_tree expr.now) }
 {
     Bits::of_type(expr.width, expr.signed, value_of(expr, signals, values))
 }
@@ -111,7 +116,8 @@ fn typed_value(expr: &FExpr, signals: &[Signal], values: &[u64]) -> Bits
 fn indexed(value: u64, width: u8, index: &FExpr, signals: &[Signal], values: &[u64]) -> u64
     requires formed { IsTrue (well_formed (signal_forms signals.now) (typed_tree index.now)) }
     requires fit { FitSignals (signal_forms signals.now) values.now }
-    ensures value { let number = number_of (signal_forms signals.now) (by_number values.now) (typed_tree index.now) in
+    ensures value { let number = number_of (signal_forms signals.now) (by_number values.now)
+        (typed_tree index.now) in
         result ≡ bit_or_zero width value number }
     ensures range { result < 2 }
 {
@@ -126,7 +132,8 @@ fn held_value(signal: SigId, held: &FExpr, signals: &[Signal], values: &[u64]) -
     requires formed { IsTrue (well_formed (signal_forms signals.now) (typed_tree held.now)) }
     requires fit { FitSignals (signal_forms signals.now) values.now }
     ensures width { result.0 ≡ signal_width (signal_forms signals.now) signal.0 }
-    ensures value { result.1 ≡ cut_value (signal_forms signals.now) (by_number values.now) signal.0 (typed_tree held.now) }
+    ensures value { result.1 ≡ cut_value (signal_forms signals.now) (by_number values.now) signal.0
+        (typed_tree held.now) }
     ensures range { result.1 < 2 ^ result.0 }
 {
     let width = width_of_signal(signal, signals);
@@ -140,7 +147,8 @@ fn held_value(signal: SigId, held: &FExpr, signals: &[Signal], values: &[u64]) -
 #[cycle(expression_values)]
 fn joined(parts: &[FExpr], signals: &[Signal], values: &[u64]) -> (u8, u64)
     requires few { parts_width (parts_of (typed_trees parts.now)) ≤ 64 }
-    requires formed { IsTrue (parts_well_formed (signal_forms signals.now) (parts_of (typed_trees parts.now))) }
+    requires formed { IsTrue
+        (parts_well_formed (signal_forms signals.now) (parts_of (typed_trees parts.now))) }
     requires fit { FitSignals (signal_forms signals.now) values.now }
     ensures width { result.0 ≡ parts_width (parts_of (typed_trees parts.now)) }
     ensures value { let trees = parts_of (typed_trees parts.now) in
@@ -167,6 +175,7 @@ fn width_and_value(signal: SigId, signals: &[Signal], values: &[u64]) -> (u8, u6
     (width_of_signal(signal, signals), values[signal.0 as usize])
 }
 
+/// The width in bits, from 1 to 64, of one of the signals.
 pub(crate) fn width_of_signal(signal: SigId, signals: &[Signal]) -> u8
     requires { signal.0 < length signals.now }
     ensures { result ≡ signal_width (signal_forms signals.now) signal.0 }

@@ -1,5 +1,6 @@
 -- Where a lexeme is not taken, the table says which of four words may begin there.
-use Rattle.std.proofs.Common.{ℕ, zero, suc, ◌+◌, Bool, true, false, not, ◌&&◌, ◌||◌, List, [], ◌∷◌, Option, Some, None, refl}
+use Rattle.std.proofs.Common.{ℕ, zero, suc, ◌+◌, Bool, true, false, not, ◌&&◌, ◌||◌, List, [], ◌∷◌}
+use Rattle.std.proofs.Common.{Option, Some, None, refl}
 use Rattle.std.specs.Prelude.{IsTrue}
 use Rattle.std.proofs.lemmas.Bool.{false≢true}
 use Rattle.sv_num.specs.declared.operators.UnOp.{UnOp}
@@ -9,11 +10,32 @@ use Rattle.sv_token.specs.declared.signs.SignKind.{SignKind}
 use Rattle.sv_token.specs.declared.signs.SignKind.TheVariants as signs
 use Rattle.sv_token.specs.Lexemes.{Lexeme, word, identifier, numeral, sign}
 use Rattle.sv_token.specs.Words.{is_refused_word}
-use Rattle.sv_grammar.specs.Symbols.{punctuation, plain_name, plain_number, expression, more_names, more_values, perhaps_lattice, lattice_lines, less_equal, perhaps_maps, map_name, perhaps_key_range, rows, perhaps_second_key, end_of_map, one_module, perhaps_header_parameters, header_parameter, later_header_parameter, more_header_parameters, parameter_type, perhaps_ports, ports, later_port, more_ports, perhaps_wire, perhaps_wire_or_reg, perhaps_signed, perhaps_range, perhaps_label, label_end, perhaps_second_name, items, more_parameters, perhaps_value, more_wires, reg_label, reg_label_end, reg_name, behind_reg_name, label_selector, memory_name, assigned, value_or_release, later_assigned, more_assigned, event, event_inside, perhaps_overrides, overrides, more_named_overrides, links, link, more_named_links, more_instances, statement, statements, perhaps_block_name, perhaps_else, perhaps_bits, bits_end, more_targets, assigns, arms, more_choices, perhaps_colon}
+use Rattle.sv_grammar.specs.Symbols.{punctuation, plain_name, plain_number, expression, more_names}
+use Rattle.sv_grammar.specs.Symbols.{more_values, perhaps_lattice, lattice_lines, less_equal}
+use Rattle.sv_grammar.specs.Symbols.{perhaps_maps, map_name, perhaps_key_range, rows}
+use Rattle.sv_grammar.specs.Symbols.{perhaps_second_key, end_of_map, one_module}
+use Rattle.sv_grammar.specs.Symbols.{perhaps_header_parameters, header_parameter}
+use Rattle.sv_grammar.specs.Symbols.{later_header_parameter, more_header_parameters, parameter_type}
+use Rattle.sv_grammar.specs.Symbols.{perhaps_ports, ports, later_port, more_ports, perhaps_wire}
+use Rattle.sv_grammar.specs.Symbols.{perhaps_wire_or_reg, perhaps_signed, perhaps_range}
+use Rattle.sv_grammar.specs.Symbols.{perhaps_label, label_end, perhaps_second_name, items}
+use Rattle.sv_grammar.specs.Symbols.{more_parameters, perhaps_value, more_wires, reg_label}
+use Rattle.sv_grammar.specs.Symbols.{reg_label_end, reg_name, behind_reg_name, label_selector}
+use Rattle.sv_grammar.specs.Symbols.{memory_name, assigned, value_or_release, later_assigned}
+use Rattle.sv_grammar.specs.Symbols.{more_assigned, event, event_inside, perhaps_overrides}
+use Rattle.sv_grammar.specs.Symbols.{overrides, more_named_overrides, links, link, more_named_links}
+use Rattle.sv_grammar.specs.Symbols.{more_instances, statement, statements, perhaps_block_name}
+use Rattle.sv_grammar.specs.Symbols.{perhaps_else, perhaps_bits, bits_end, more_targets, assigns}
+use Rattle.sv_grammar.specs.Symbols.{arms, more_choices, perhaps_colon}
 use Rattle.sv_grammar.specs.ModuleTable.{star_in_event}
-use Rattle.sv_grammar.specs.Symbols.{Outer, Expected, something, an_item, a_statement, an_edge, a_port, InnerReaction, takes_inner, over_inner, stuck_inner, OuterReaction, takes, over, stuck, unexpected, and_then, unless_refused}
-use Rattle.sv_grammar.specs.ExpressionTable.{name_operand, prefix_operand, operand_on, as_expression}
-use Rattle.sv_grammar.specs.StatementTable.{is_sign, is_star, is_less_equal, taken_if, assignment_behind, no_more_arms, default_arm}
+use Rattle.sv_grammar.specs.Symbols.{Outer, Expected, something, an_item, a_statement, an_edge}
+use Rattle.sv_grammar.specs.Symbols.{a_port, InnerReaction, takes_inner, over_inner, stuck_inner}
+use Rattle.sv_grammar.specs.Symbols.{OuterReaction, takes, over, stuck, unexpected, and_then}
+use Rattle.sv_grammar.specs.Symbols.{unless_refused}
+use Rattle.sv_grammar.specs.ExpressionTable.{name_operand, prefix_operand, operand_on}
+use Rattle.sv_grammar.specs.ExpressionTable.{as_expression}
+use Rattle.sv_grammar.specs.StatementTable.{is_sign, is_star, is_less_equal, taken_if}
+use Rattle.sv_grammar.specs.StatementTable.{assignment_behind, no_more_arms, default_arm}
 use Rattle.sv_grammar.specs.ModuleTable.{star_in_event}
 use Rattle.sv_grammar.specs.Machine.{outer_on}
 
@@ -67,9 +89,13 @@ abbrev pub is_over : OuterReaction → Bool
 is_over over = true
 is_over r = false
 
--- where the one lexeme is not taken, `always`, `begin`, `posedge` and, in place of a name, `input` are as it says
-abbrev pub agrees : (named : Bool) → (on : OuterReaction) → (always begin posedge input : OuterReaction) → Bool
-agrees named (stuck e) a b p i = is_as (is_item e) a && (is_as (is_statement e) b && (is_as (is_edge e) p && (not named || is_as (is_port e) i)))
+-- where the one lexeme is not taken, `always`, `begin`, `posedge` and, in place of a name, `input`
+-- are as it says
+abbrev pub agrees : (named : Bool) → (on : OuterReaction) →
+    (always begin posedge input : OuterReaction) → Bool
+agrees named (stuck e) a b p i =
+    is_as (is_item e) a && (is_as (is_statement e) b
+    && (is_as (is_edge e) p && (not named || is_as (is_port e) i)))
 agrees named over a b p i = is_over a && (is_over b && (is_over p && is_over i))
 agrees named r a b p i = true
 
@@ -84,28 +110,38 @@ IsFree x = Unit {0}
 
 abbrev pub Agrees : Outer → Lexeme → Type 0
 Agrees y x =
-    IsTrue (agrees (is_named x) (outer_on y x) (outer_on y (word words.Always)) (outer_on y (word words.Begin)) (outer_on y (word words.Posedge)) (outer_on y (word words.Input)))
+    IsTrue (agrees (is_named x) (outer_on y x) (outer_on y (word words.Always))
+    (outer_on y (word words.Begin)) (outer_on y (word words.Posedge))
+    (outer_on y (word words.Input)))
 
-free_agrees : (b : Bool) (ys : List Outer) (a c p i : OuterReaction) → IsTrue (not b) → IsTrue (agrees true (unless_refused b (takes 0 0 ys)) a c p i)
+free_agrees : (b : Bool) (ys : List Outer) (a c p i : OuterReaction) → IsTrue (not b) →
+    IsTrue (agrees true (unless_refused b (takes 0 0 ys)) a c p i)
 free_agrees true ys a c p i free = absurd (false≢true free)
 free_agrees false ys a c p i free = refl
 
 -- a symbol that takes none of the four words
-plain_if : (b : Bool) → IsTrue (agrees false (taken_if b) unexpected unexpected unexpected unexpected)
+plain_if : (b : Bool) →
+    IsTrue (agrees false (taken_if b) unexpected unexpected unexpected unexpected)
 plain_if true = refl
 plain_if false = refl
 
-edge_if : (b : Bool) (i : OuterReaction) → IsTrue (agrees false (star_in_event b) (stuck an_edge) (stuck an_edge) (takes 0 0 (plain_name ∷ punctuation signs.CloseParenthesis ∷ [])) i)
+edge_if : (b : Bool) (i : OuterReaction) →
+    IsTrue (agrees false (star_in_event b) (stuck an_edge) (stuck an_edge)
+    (takes 0 0 (plain_name ∷ punctuation signs.CloseParenthesis ∷ [])) i)
 edge_if true i = refl
 edge_if false i = refl
 
 statement_name : (n : ℕ) (b : Bool) (a c p i : OuterReaction) → IsTrue (not b)
-    → IsTrue (agrees true (and_then (statements n ∷ []) (unless_refused b (takes 0 0 (perhaps_bits n ∷ assignment_behind n)))) a c p i)
+    → IsTrue (agrees true
+    (and_then (statements n ∷ [])
+    (unless_refused b (takes 0 0 (perhaps_bits n ∷ assignment_behind n)))) a c p i)
 statement_name n true a c p i free = absurd (false≢true free)
 statement_name n false a c p i free = refl
 
 -- an expression's first token
-expression_agrees : (named : Bool) (n arm : ℕ) (ys : List Outer) (r : InnerReaction) → PlainlyStuck r → IsTrue (agrees named (as_expression n arm ys r) unexpected unexpected unexpected unexpected)
+expression_agrees : (named : Bool) (n arm : ℕ) (ys : List Outer) (r : InnerReaction) →
+    PlainlyStuck r → IsTrue
+    (agrees named (as_expression n arm ys r) unexpected unexpected unexpected unexpected)
 expression_agrees true n arm ys (takes_inner level xs) kind = refl
 expression_agrees false n arm ys (takes_inner level xs) kind = refl
 expression_agrees named n arm ys over_inner kind = absurd kind
@@ -113,11 +149,13 @@ expression_agrees true n arm ys (stuck_inner something) kind = refl
 expression_agrees false n arm ys (stuck_inner something) kind = refl
 expression_agrees named n arm ys (stuck_inner e) kind = absurd kind
 
-more_arms_agree : (before : ℕ) → IsTrue (agrees false (no_more_arms before) unexpected unexpected unexpected unexpected)
+more_arms_agree : (before : ℕ) →
+    IsTrue (agrees false (no_more_arms before) unexpected unexpected unexpected unexpected)
 more_arms_agree zero = refl
 more_arms_agree (suc k) = refl
 
-default_agrees : (n before : ℕ) (default : Bool) → IsTrue (agrees false (default_arm n before default) unexpected unexpected unexpected unexpected)
+default_agrees : (n before : ℕ) (default : Bool) →
+    IsTrue (agrees false (default_arm n before default) unexpected unexpected unexpected unexpected)
 default_agrees n before true = refl
 default_agrees n before false = refl
 
@@ -144,7 +182,11 @@ agrees_more_values x free = refl
 
 agrees_lattice_lines : (x : Lexeme) → IsFree x → Agrees lattice_lines x
 agrees_lattice_lines (word words.Point) free = refl
-agrees_lattice_lines (identifier x) free = free_agrees (is_refused_word x) (less_equal ∷ plain_name ∷ punctuation signs.Semicolon ∷ lattice_lines ∷ []) (outer_on lattice_lines (word words.Always)) (outer_on lattice_lines (word words.Begin)) (outer_on lattice_lines (word words.Posedge)) (outer_on lattice_lines (word words.Input)) free
+agrees_lattice_lines (identifier x) free =
+    free_agrees (is_refused_word x)
+    (less_equal ∷ plain_name ∷ punctuation signs.Semicolon ∷ lattice_lines ∷ [])
+    (outer_on lattice_lines (word words.Always)) (outer_on lattice_lines (word words.Begin))
+    (outer_on lattice_lines (word words.Posedge)) (outer_on lattice_lines (word words.Input)) free
 agrees_lattice_lines (word words.Endlattice) free = refl
 agrees_lattice_lines x free = refl
 
@@ -154,7 +196,12 @@ agrees_perhaps_lattice (identifier y) free = refl
 agrees_perhaps_lattice x free = refl
 
 agrees_map_name : (x : Lexeme) → IsFree x → Agrees map_name x
-agrees_map_name (identifier x) free = free_agrees (is_refused_word x) (punctuation signs.OpenBracket ∷ plain_number ∷ punctuation signs.Colon ∷ plain_number ∷ punctuation signs.CloseBracket ∷ []) (outer_on map_name (word words.Always)) (outer_on map_name (word words.Begin)) (outer_on map_name (word words.Posedge)) (outer_on map_name (word words.Input)) free
+agrees_map_name (identifier x) free =
+    free_agrees (is_refused_word x)
+    (punctuation signs.OpenBracket ∷ plain_number ∷ punctuation signs.Colon ∷ plain_number ∷
+    punctuation signs.CloseBracket ∷ []) (outer_on map_name (word words.Always))
+    (outer_on map_name (word words.Begin)) (outer_on map_name (word words.Posedge))
+    (outer_on map_name (word words.Input)) free
 agrees_map_name x free = refl
 
 agrees_perhaps_key_range : (x : Lexeme) → IsFree x → Agrees perhaps_key_range x
@@ -197,7 +244,12 @@ agrees_header_parameter x free = refl
 
 agrees_later_header_parameter : (x : Lexeme) → IsFree x → Agrees later_header_parameter x
 agrees_later_header_parameter (word words.Parameter) free = refl
-agrees_later_header_parameter (identifier x) free = free_agrees (is_refused_word x) (punctuation signs.Equals ∷ expression 0 ∷ []) (outer_on later_header_parameter (word words.Always)) (outer_on later_header_parameter (word words.Begin)) (outer_on later_header_parameter (word words.Posedge)) (outer_on later_header_parameter (word words.Input)) free
+agrees_later_header_parameter (identifier x) free =
+    free_agrees (is_refused_word x) (punctuation signs.Equals ∷ expression 0 ∷ [])
+    (outer_on later_header_parameter (word words.Always))
+    (outer_on later_header_parameter (word words.Begin))
+    (outer_on later_header_parameter (word words.Posedge))
+    (outer_on later_header_parameter (word words.Input)) free
 agrees_later_header_parameter x free = refl
 
 agrees_more_header_parameters : (x : Lexeme) → IsFree x → Agrees more_header_parameters x
@@ -251,7 +303,10 @@ agrees_perhaps_label x free = refl
 agrees_later_port : (x : Lexeme) → IsFree x → Agrees later_port x
 agrees_later_port (word words.Input) free = refl
 agrees_later_port (word words.Output) free = refl
-agrees_later_port (identifier x) free = free_agrees (is_refused_word x) [] (outer_on later_port (word words.Always)) (outer_on later_port (word words.Begin)) (outer_on later_port (word words.Posedge)) (outer_on later_port (word words.Input)) free
+agrees_later_port (identifier x) free =
+    free_agrees (is_refused_word x) [] (outer_on later_port (word words.Always))
+    (outer_on later_port (word words.Begin)) (outer_on later_port (word words.Posedge))
+    (outer_on later_port (word words.Input)) free
 agrees_later_port x free = refl
 
 agrees_more_ports : (x : Lexeme) → IsFree x → Agrees more_ports x
@@ -297,16 +352,29 @@ agrees_behind_reg_name (identifier y) free = refl
 agrees_behind_reg_name x free = refl
 
 agrees_memory_name : (x : Lexeme) → IsFree x → Agrees memory_name x
-agrees_memory_name (identifier x) free = free_agrees (is_refused_word x) (punctuation signs.OpenBracket ∷ plain_number ∷ punctuation signs.Colon ∷ plain_number ∷ punctuation signs.CloseBracket ∷ []) (outer_on memory_name (word words.Always)) (outer_on memory_name (word words.Begin)) (outer_on memory_name (word words.Posedge)) (outer_on memory_name (word words.Input)) free
+agrees_memory_name (identifier x) free =
+    free_agrees (is_refused_word x)
+    (punctuation signs.OpenBracket ∷ plain_number ∷ punctuation signs.Colon ∷ plain_number ∷
+    punctuation signs.CloseBracket ∷ []) (outer_on memory_name (word words.Always))
+    (outer_on memory_name (word words.Begin)) (outer_on memory_name (word words.Posedge))
+    (outer_on memory_name (word words.Input)) free
 agrees_memory_name x free = refl
 
 agrees_label_selector : (x : Lexeme) → IsFree x → Agrees label_selector x
 agrees_label_selector (sign signs.Hash) free = refl
-agrees_label_selector (identifier x) free = free_agrees (is_refused_word x) (perhaps_second_name ∷ punctuation signs.CloseParenthesis ∷ punctuation signs.CloseBrace ∷ plain_name ∷ more_names signs.Semicolon ∷ []) (outer_on label_selector (word words.Always)) (outer_on label_selector (word words.Begin)) (outer_on label_selector (word words.Posedge)) (outer_on label_selector (word words.Input)) free
+agrees_label_selector (identifier x) free =
+    free_agrees (is_refused_word x)
+    (perhaps_second_name ∷ punctuation signs.CloseParenthesis ∷ punctuation signs.CloseBrace ∷
+    plain_name ∷ more_names signs.Semicolon ∷ []) (outer_on label_selector (word words.Always))
+    (outer_on label_selector (word words.Begin)) (outer_on label_selector (word words.Posedge))
+    (outer_on label_selector (word words.Input)) free
 agrees_label_selector x free = refl
 
 agrees_reg_name : (x : Lexeme) → IsFree x → Agrees reg_name x
-agrees_reg_name (identifier x) free = free_agrees (is_refused_word x) (behind_reg_name ∷ []) (outer_on reg_name (word words.Always)) (outer_on reg_name (word words.Begin)) (outer_on reg_name (word words.Posedge)) (outer_on reg_name (word words.Input)) free
+agrees_reg_name (identifier x) free =
+    free_agrees (is_refused_word x) (behind_reg_name ∷ []) (outer_on reg_name (word words.Always))
+    (outer_on reg_name (word words.Begin)) (outer_on reg_name (word words.Posedge))
+    (outer_on reg_name (word words.Input)) free
 agrees_reg_name x free = refl
 
 agrees_reg_label_end : (x : Lexeme) → IsFree x → Agrees reg_label_end x
@@ -317,11 +385,17 @@ agrees_reg_label_end x free = refl
 
 agrees_reg_label : (x : Lexeme) → IsFree x → Agrees reg_label x
 agrees_reg_label (sign signs.OpenBrace) free = refl
-agrees_reg_label (identifier x) free = free_agrees (is_refused_word x) (behind_reg_name ∷ []) (outer_on reg_label (word words.Always)) (outer_on reg_label (word words.Begin)) (outer_on reg_label (word words.Posedge)) (outer_on reg_label (word words.Input)) free
+agrees_reg_label (identifier x) free =
+    free_agrees (is_refused_word x) (behind_reg_name ∷ []) (outer_on reg_label (word words.Always))
+    (outer_on reg_label (word words.Begin)) (outer_on reg_label (word words.Posedge))
+    (outer_on reg_label (word words.Input)) free
 agrees_reg_label x free = refl
 
 agrees_later_assigned : (x : Lexeme) → IsFree x → Agrees later_assigned x
-agrees_later_assigned (identifier x) free = free_agrees (is_refused_word x) (punctuation signs.Equals ∷ expression 0 ∷ []) (outer_on later_assigned (word words.Always)) (outer_on later_assigned (word words.Begin)) (outer_on later_assigned (word words.Posedge)) (outer_on later_assigned (word words.Input)) free
+agrees_later_assigned (identifier x) free =
+    free_agrees (is_refused_word x) (punctuation signs.Equals ∷ expression 0 ∷ [])
+    (outer_on later_assigned (word words.Always)) (outer_on later_assigned (word words.Begin))
+    (outer_on later_assigned (word words.Posedge)) (outer_on later_assigned (word words.Input)) free
 agrees_later_assigned (sign signs.OpenBrace) free = refl
 agrees_later_assigned x free = refl
 
@@ -333,15 +407,20 @@ agrees_more_assigned x free = refl
 
 agrees_value_or_release : (x : Lexeme) → IsFree x → Agrees value_or_release x
 agrees_value_or_release (word words.Release) free = refl
-agrees_value_or_release x free = expression_agrees (is_named x) 0 0 (more_assigned ∷ []) (operand_on 0 x) (operand_is_plain 0 x)
+agrees_value_or_release x free =
+    expression_agrees (is_named x) 0 0 (more_assigned ∷ []) (operand_on 0 x) (operand_is_plain 0 x)
 
 agrees_assigned : (x : Lexeme) → IsFree x → Agrees assigned x
-agrees_assigned (identifier x) free = free_agrees (is_refused_word x) (punctuation signs.Equals ∷ value_or_release ∷ []) (outer_on assigned (word words.Always)) (outer_on assigned (word words.Begin)) (outer_on assigned (word words.Posedge)) (outer_on assigned (word words.Input)) free
+agrees_assigned (identifier x) free =
+    free_agrees (is_refused_word x) (punctuation signs.Equals ∷ value_or_release ∷ [])
+    (outer_on assigned (word words.Always)) (outer_on assigned (word words.Begin))
+    (outer_on assigned (word words.Posedge)) (outer_on assigned (word words.Input)) free
 agrees_assigned (sign signs.OpenBrace) free = refl
 agrees_assigned x free = refl
 
 agrees_event_inside : (x : Lexeme) → IsFree x → Agrees event_inside x
-agrees_event_inside (sign (signs.Operator o)) free = edge_if (is_star (binary_operator o)) (outer_on event_inside (word words.Input))
+agrees_event_inside (sign (signs.Operator o)) free =
+    edge_if (is_star (binary_operator o)) (outer_on event_inside (word words.Input))
 agrees_event_inside (word words.Posedge) free = refl
 agrees_event_inside (identifier y) free = refl
 agrees_event_inside x free = refl
@@ -360,7 +439,8 @@ agrees_more_named_overrides x free = refl
 
 agrees_overrides : (x : Lexeme) → IsFree x → Agrees overrides x
 agrees_overrides (sign signs.Dot) free = refl
-agrees_overrides x free = expression_agrees (is_named x) 0 0 (more_values ∷ []) (operand_on 0 x) (operand_is_plain 0 x)
+agrees_overrides x free =
+    expression_agrees (is_named x) 0 0 (more_values ∷ []) (operand_on 0 x) (operand_is_plain 0 x)
 
 agrees_perhaps_overrides : (x : Lexeme) → IsFree x → Agrees perhaps_overrides x
 agrees_perhaps_overrides (sign signs.Hash) free = refl
@@ -369,7 +449,9 @@ agrees_perhaps_overrides x free = refl
 
 agrees_link : (x : Lexeme) → IsFree x → Agrees link x
 agrees_link (sign signs.CloseParenthesis) free = refl
-agrees_link x free = expression_agrees (is_named x) 0 0 (punctuation signs.CloseParenthesis ∷ []) (operand_on 0 x) (operand_is_plain 0 x)
+agrees_link x free =
+    expression_agrees (is_named x) 0 0 (punctuation signs.CloseParenthesis ∷ []) (operand_on 0 x)
+    (operand_is_plain 0 x)
 
 agrees_more_named_links : (x : Lexeme) → IsFree x → Agrees more_named_links x
 agrees_more_named_links (sign signs.Comma) free = refl
@@ -380,7 +462,8 @@ agrees_more_named_links x free = refl
 agrees_links : (x : Lexeme) → IsFree x → Agrees links x
 agrees_links (sign signs.CloseParenthesis) free = refl
 agrees_links (sign signs.Dot) free = refl
-agrees_links x free = expression_agrees (is_named x) 0 0 (more_values ∷ []) (operand_on 0 x) (operand_is_plain 0 x)
+agrees_links x free =
+    expression_agrees (is_named x) 0 0 (more_values ∷ []) (operand_on 0 x) (operand_is_plain 0 x)
 
 agrees_more_instances : (x : Lexeme) → IsFree x → Agrees more_instances x
 agrees_more_instances (sign signs.Comma) free = refl
@@ -434,7 +517,11 @@ agrees_items (word words.Reg) free = refl
 agrees_items (word words.Assign) free = refl
 agrees_items (word words.Always) free = refl
 agrees_items (word words.Invariant) free = refl
-agrees_items (identifier x) free = free_agrees (is_refused_word x) (perhaps_overrides ∷ plain_name ∷ punctuation signs.OpenParenthesis ∷ links ∷ more_instances ∷ items ∷ []) (outer_on items (word words.Always)) (outer_on items (word words.Begin)) (outer_on items (word words.Posedge)) (outer_on items (word words.Input)) free
+agrees_items (identifier x) free =
+    free_agrees (is_refused_word x)
+    (perhaps_overrides ∷ plain_name ∷ punctuation signs.OpenParenthesis ∷ links ∷ more_instances ∷
+    items ∷ []) (outer_on items (word words.Always)) (outer_on items (word words.Begin))
+    (outer_on items (word words.Posedge)) (outer_on items (word words.Input)) free
 agrees_items (word words.Endmodule) free = refl
 agrees_items x free = refl
 
@@ -444,13 +531,19 @@ agrees_one_module (identifier y) free = refl
 agrees_one_module x free = refl
 
 agrees_statement : (n : ℕ) (x : Lexeme) → IsFree x → Agrees (statement n) x
-agrees_statement n (identifier x) free = free_agrees (is_refused_word x) (perhaps_bits n ∷ assignment_behind n) (outer_on (statement n) (word words.Always)) (outer_on (statement n) (word words.Begin)) (outer_on (statement n) (word words.Posedge)) (outer_on (statement n) (word words.Input)) free
+agrees_statement n (identifier x) free =
+    free_agrees (is_refused_word x) (perhaps_bits n ∷ assignment_behind n)
+    (outer_on (statement n) (word words.Always)) (outer_on (statement n) (word words.Begin))
+    (outer_on (statement n) (word words.Posedge)) (outer_on (statement n) (word words.Input)) free
 agrees_statement n (word words.Begin) free = refl
 agrees_statement n (sign signs.Semicolon) free = refl
 agrees_statement n x free = refl
 
 agrees_statements : (n : ℕ) (x : Lexeme) → IsFree x → Agrees (statements n) x
-agrees_statements n (identifier x) free = statement_name n (is_refused_word x) (outer_on (statements n) (word words.Always)) (outer_on (statements n) (word words.Begin)) (outer_on (statements n) (word words.Posedge)) (outer_on (statements n) (word words.Input)) free
+agrees_statements n (identifier x) free =
+    statement_name n (is_refused_word x) (outer_on (statements n) (word words.Always))
+    (outer_on (statements n) (word words.Begin)) (outer_on (statements n) (word words.Posedge))
+    (outer_on (statements n) (word words.Input)) free
 agrees_statements n (word words.Begin) free = refl
 agrees_statements n (sign signs.Semicolon) free = refl
 agrees_statements n x free = refl
@@ -465,19 +558,27 @@ agrees_less_equal (sign (signs.Operator o)) free = plain_if (is_less_equal (bina
 agrees_less_equal (identifier y) free = refl
 agrees_less_equal x free = refl
 
-agrees_arms : (n before : ℕ) (default : Bool) (x : Lexeme) → IsFree x → Agrees (arms n before default) x
+agrees_arms : (n before : ℕ) (default : Bool) (x : Lexeme) → IsFree x →
+    Agrees (arms n before default) x
 agrees_arms n before default (word words.Endcase) free = more_arms_agree before
 agrees_arms n before default (word words.Default) free = default_agrees n before default
-agrees_arms n before default x free = expression_agrees (is_named x) n (before + 1) (more_choices n ∷ statement n ∷ arms n (before + 1) default ∷ []) (operand_on n x) (operand_is_plain n x)
+agrees_arms n before default x free =
+    expression_agrees (is_named x) n (before + 1)
+    (more_choices n ∷ statement n ∷ arms n (before + 1) default ∷ []) (operand_on n x)
+    (operand_is_plain n x)
 
 pub rows_agree : (y : Outer) (x : Lexeme) → IsFree x → Agrees y x
 rows_agree (punctuation s) x free = agrees_punctuation s x
-rows_agree plain_name (identifier x) free = free_agrees (is_refused_word x) [] (outer_on plain_name (word words.Always)) (outer_on plain_name (word words.Begin)) (outer_on plain_name (word words.Posedge)) (outer_on plain_name (word words.Input)) free
+rows_agree plain_name (identifier x) free =
+    free_agrees (is_refused_word x) [] (outer_on plain_name (word words.Always))
+    (outer_on plain_name (word words.Begin)) (outer_on plain_name (word words.Posedge))
+    (outer_on plain_name (word words.Input)) free
 rows_agree plain_name x free = refl
 rows_agree plain_number (numeral v) free = refl
 rows_agree plain_number (identifier y) free = refl
 rows_agree plain_number x free = refl
-rows_agree (expression n) x free = expression_agrees (is_named x) n 0 [] (operand_on n x) (operand_is_plain n x)
+rows_agree (expression n) x free =
+    expression_agrees (is_named x) n 0 [] (operand_on n x) (operand_is_plain n x)
 rows_agree (more_names s) x free = agrees_names s x
 rows_agree more_values x free = agrees_more_values x free
 rows_agree perhaps_lattice x free = agrees_perhaps_lattice x free

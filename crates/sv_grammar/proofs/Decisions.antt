@@ -1,4 +1,5 @@
--- The machine of the grammar runs through tokens to the end, or fails: so they mean a text, or break a rule.
+-- The machine of the grammar runs through tokens to the end, or fails: so they mean a text, or
+-- break a rule.
 use Rattle.std.proofs.Common.{◌≡◌, ℕ, List, [], ◌∷◌, ◌⊎◌, inl, inr, refl}
 use Rattle.sv_num.specs.declared.faults.Place.{Place}
 use Rattle.sv_token.specs.Lexemes.{Placed}
@@ -14,9 +15,11 @@ use Rattle.sv_grammar.proofs.Breaks.{end_breaks, failure_breaks}
 abbrev pub MeansOrBreaks : List Placed → Place → Type 0
 MeansOrBreaks tokens stop =
     ((text : TextTree) × TokensMean tokens text)
-    ⊎ ((number : ℕ) × (names : List (List ℕ)) × (place : Place) × BreaksGrammar number names place stop tokens)
+    ⊎ ((number : ℕ) × (names : List (List ℕ)) × (place : Place)
+    × BreaksGrammar number names place stop tokens)
 
-by_outcome : (ts : List Placed) (stop : Place) (o : Outcome) → run all_limits text_state ts ≡ o → MeansOrBreaks ts stop
+by_outcome : (ts : List Placed) (stop : Place) (o : Outcome) → run all_limits text_state ts ≡ o →
+    MeansOrBreaks ts stop
 by_outcome ts stop done e = inl (text_of_form all_limits ts (text_of_run all_limits ts e))
 by_outcome ts stop (fails f []) e = inr (201, [], stop, end_breaks ts f stop e)
 by_outcome ts stop (fails f (t ∷ after)) e =

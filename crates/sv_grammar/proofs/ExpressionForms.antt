@@ -4,11 +4,16 @@ use Rattle.sv_num.specs.declared.operators.BinOp.{BinOp}
 use Rattle.sv_num.specs.declared.faults.Place.{Place}
 use Rattle.sv_token.specs.declared.signs.SignKind.TheVariants as signs
 use Rattle.sv_token.specs.Lexemes.{Lexeme, Placed}
-use Rattle.sv_ast.specs.GrammarForms.{Form, ◌⨾◌, ◌or◌, nothing, sign_at, a_sign, binary_at, in_brackets, in_braces}
+use Rattle.sv_ast.specs.GrammarForms.{Form, ◌⨾◌, ◌or◌, nothing, sign_at, a_sign, binary_at}
+use Rattle.sv_ast.specs.GrammarForms.{in_brackets, in_braces}
 use Rattle.sv_ast.specs.GrammarGroups.{Written, named, unary, binary, choice, WrittenList}
-use Rattle.sv_ast.specs.GrammarExpressions.{Limits, is_within, deeper, IsWritten, AreWritten, AreMore, read_tokens}
+use Rattle.sv_ast.specs.GrammarExpressions.{Limits, is_within, deeper, IsWritten, AreWritten}
+use Rattle.sv_ast.specs.GrammarExpressions.{AreMore, read_tokens}
 use Rattle.sv_ast.proofs.GrammarOneOperand.{IsOperand}
-use Rattle.sv_grammar.specs.Symbols.{Inner, operand, tail, selection, selection_end, members_or_count, members, inner_colon, inner_parenthesis, inner_bracket, inner_brace, InnerReaction, takes_inner, over_inner, stuck_inner}
+use Rattle.sv_grammar.specs.Symbols.{Inner, operand, tail, selection, selection_end}
+use Rattle.sv_grammar.specs.Symbols.{members_or_count, members, inner_colon, inner_parenthesis}
+use Rattle.sv_grammar.specs.Symbols.{inner_bracket, inner_brace, InnerReaction, takes_inner}
+use Rattle.sv_grammar.specs.Symbols.{over_inner, stuck_inner}
 use Rattle.sv_grammar.specs.ExpressionTable.{tail_on, selection_on}
 
 -- of the next token, if there is one
@@ -59,7 +64,8 @@ written_form l n ts rest = (w : Written) × IsWritten l n w ts rest
 abbrev pub chosen_form : Limits → ℕ → Form
 chosen_form l n ts rest =
     (p : Place) × (a b : Written)
-    × deeper l n (sign_at signs.Question p ⨾ IsWritten l (n + 1) a ⨾ a_sign signs.Colon ⨾ IsWritten l (n + 1) b) ts rest
+    × deeper l n (sign_at signs.Question p ⨾ IsWritten l (n + 1) a ⨾ a_sign signs.Colon
+    ⨾ IsWritten l (n + 1) b) ts rest
     × Ends b rest
     × Next ends_tail rest
 
@@ -76,10 +82,13 @@ abbrev pub selection_form : Limits → ℕ → Form
 selection_form l n ts rest =
     name_end ts rest
     ⊎ ((i : Written) × deeper l n (in_brackets (IsWritten l (n + 1) i)) ts rest)
-    ⊎ ((high low : Written) × deeper l n (in_brackets (IsWritten l (n + 1) high ⨾ a_sign signs.Colon ⨾ IsWritten l (n + 1) low)) ts rest)
+    ⊎ ((high low : Written)
+    × deeper l n (in_brackets (IsWritten l (n + 1) high ⨾ a_sign signs.Colon
+    ⨾ IsWritten l (n + 1) low)) ts rest)
 
 abbrev pub selection_end_form : Limits → ℕ → Form
-selection_end_form l n = a_sign signs.CloseBracket or (a_sign signs.Colon ⨾ written_form l n ⨾ a_sign signs.CloseBracket)
+selection_end_form l n =
+    a_sign signs.CloseBracket or (a_sign signs.Colon ⨾ written_form l n ⨾ a_sign signs.CloseBracket)
 
 abbrev pub members_form : Limits → ℕ → Form
 members_form l n ts rest = (es : WrittenList) × (AreMore l n es ⨾ a_sign signs.CloseBrace) ts rest
@@ -87,7 +96,8 @@ members_form l n ts rest = (es : WrittenList) × (AreMore l n es ⨾ a_sign sign
 abbrev pub members_or_count_form : Limits → ℕ → Form
 members_or_count_form l n ts rest =
     members_form l n ts rest
-    ⊎ ((es : WrittenList) × (deeper l n (in_braces (AreWritten l (n + 1) es)) ⨾ a_sign signs.CloseBrace) ts rest)
+    ⊎ ((es : WrittenList)
+    × (deeper l n (in_braces (AreWritten l (n + 1) es)) ⨾ a_sign signs.CloseBrace) ts rest)
 
 abbrev pub inner_form : Limits → Inner → Form
 inner_form l (operand n) = operand_form l n
@@ -107,7 +117,8 @@ inner_forms l (x ∷ xs) = inner_form l x ⨾ inner_forms l xs
 
 -- what a token and the tokens behind it are to a symbol
 abbrev pub AcceptsInner : Limits → Placed → (ts rest : List Placed) → InnerReaction → Type 0
-AcceptsInner l t ts rest (takes_inner level xs) = IsTrue (is_within l.levels level) × inner_forms l xs ts rest
+AcceptsInner l t ts rest (takes_inner level xs) =
+    IsTrue (is_within l.levels level) × inner_forms l xs ts rest
 AcceptsInner l t ts rest over_inner = t ∷ ts ≡ rest
 AcceptsInner l t ts rest (stuck_inner e) = ⊥
 

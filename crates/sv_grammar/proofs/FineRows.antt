@@ -1,4 +1,5 @@
--- What follows a token in the table can be completed: what stands below other symbols is completed quietly.
+-- What follows a token in the table can be completed: what stands below other symbols is completed
+-- quietly.
 use Rattle.std.proofs.Common.{ℕ, zero, suc, ◌+◌, Bool, true, false, ◌&&◌, List, [], ◌∷◌, refl}
 use Rattle.std.specs.Prelude.{IsTrue}
 use Rattle.sv_token.specs.declared.keywords.WordKind.TheVariants as words
@@ -7,11 +8,51 @@ use Rattle.sv_token.specs.declared.signs.SignKind.TheVariants as signs
 use Rattle.sv_token.specs.Lexemes.{Lexeme, word, identifier, numeral, sign}
 use Rattle.sv_token.specs.Words.{is_refused_word}
 use Rattle.sv_ast.specs.GrammarForms.{binary_operator}
-use Rattle.sv_grammar.specs.Symbols.{punctuation, plain_name, plain_number, expression, more_names, more_values, perhaps_lattice, lattice_lines, less_equal, perhaps_maps, map_name, perhaps_key_range, rows, perhaps_second_key, end_of_map, one_module, perhaps_header_parameters, header_parameter, later_header_parameter, more_header_parameters, parameter_type, perhaps_ports, ports, later_port, more_ports, perhaps_wire, perhaps_wire_or_reg, perhaps_signed, perhaps_range, perhaps_label, label_end, perhaps_second_name, items, more_parameters, perhaps_value, more_wires, reg_label, reg_label_end, reg_name, behind_reg_name, label_selector, memory_name, assigned, value_or_release, later_assigned, more_assigned, event, event_inside, perhaps_overrides, overrides, more_named_overrides, links, link, more_named_links, more_instances, statement, statements, perhaps_block_name, perhaps_else, perhaps_bits, bits_end, more_targets, assigns, arms, more_choices, perhaps_colon}
-use Rattle.sv_grammar.specs.ModuleTable.{lattice_lines_on, perhaps_lattice_on, map_name_on, perhaps_key_range_on, perhaps_second_key_on, end_of_map_on, rows_on, perhaps_maps_on, parameter_type_on, header_parameter_on, later_header_parameter_on, more_header_parameters_on, perhaps_header_parameters_on, perhaps_wire_on, perhaps_wire_or_reg_on, perhaps_signed_on, perhaps_range_on, perhaps_second_name_on, label_end_on, perhaps_label_on, later_port_on, more_ports_on, ports_on, perhaps_ports_on, more_parameters_on, perhaps_value_on, more_wires_on, behind_reg_name_on, memory_name_on, label_selector_on, reg_name_on, reg_label_end_on, reg_label_on, later_assigned_on, more_assigned_on, value_or_release_on, assigned_on, event_inside_on, event_on, more_named_overrides_on, overrides_on, perhaps_overrides_on, link_on, more_named_links_on, links_on, more_instances_on, items_on, one_module_on, star_in_event}
-use Rattle.sv_grammar.specs.Symbols.{Outer, InnerReaction, takes_inner, over_inner, stuck_inner, OuterReaction, takes, begins, over, stuck, and_then, unless_refused}
+use Rattle.sv_grammar.specs.Symbols.{punctuation, plain_name, plain_number, expression, more_names}
+use Rattle.sv_grammar.specs.Symbols.{more_values, perhaps_lattice, lattice_lines, less_equal}
+use Rattle.sv_grammar.specs.Symbols.{perhaps_maps, map_name, perhaps_key_range, rows}
+use Rattle.sv_grammar.specs.Symbols.{perhaps_second_key, end_of_map, one_module}
+use Rattle.sv_grammar.specs.Symbols.{perhaps_header_parameters, header_parameter}
+use Rattle.sv_grammar.specs.Symbols.{later_header_parameter, more_header_parameters, parameter_type}
+use Rattle.sv_grammar.specs.Symbols.{perhaps_ports, ports, later_port, more_ports, perhaps_wire}
+use Rattle.sv_grammar.specs.Symbols.{perhaps_wire_or_reg, perhaps_signed, perhaps_range}
+use Rattle.sv_grammar.specs.Symbols.{perhaps_label, label_end, perhaps_second_name, items}
+use Rattle.sv_grammar.specs.Symbols.{more_parameters, perhaps_value, more_wires, reg_label}
+use Rattle.sv_grammar.specs.Symbols.{reg_label_end, reg_name, behind_reg_name, label_selector}
+use Rattle.sv_grammar.specs.Symbols.{memory_name, assigned, value_or_release, later_assigned}
+use Rattle.sv_grammar.specs.Symbols.{more_assigned, event, event_inside, perhaps_overrides}
+use Rattle.sv_grammar.specs.Symbols.{overrides, more_named_overrides, links, link, more_named_links}
+use Rattle.sv_grammar.specs.Symbols.{more_instances, statement, statements, perhaps_block_name}
+use Rattle.sv_grammar.specs.Symbols.{perhaps_else, perhaps_bits, bits_end, more_targets, assigns}
+use Rattle.sv_grammar.specs.Symbols.{arms, more_choices, perhaps_colon}
+use Rattle.sv_grammar.specs.ModuleTable.{lattice_lines_on, perhaps_lattice_on, map_name_on}
+use Rattle.sv_grammar.specs.ModuleTable.{perhaps_key_range_on, perhaps_second_key_on, end_of_map_on}
+use Rattle.sv_grammar.specs.ModuleTable.{rows_on, perhaps_maps_on, parameter_type_on}
+use Rattle.sv_grammar.specs.ModuleTable.{header_parameter_on, later_header_parameter_on}
+use Rattle.sv_grammar.specs.ModuleTable.{more_header_parameters_on, perhaps_header_parameters_on}
+use Rattle.sv_grammar.specs.ModuleTable.{perhaps_wire_on, perhaps_wire_or_reg_on, perhaps_signed_on}
+use Rattle.sv_grammar.specs.ModuleTable.{perhaps_range_on, perhaps_second_name_on, label_end_on}
+use Rattle.sv_grammar.specs.ModuleTable.{perhaps_label_on, later_port_on, more_ports_on, ports_on}
+use Rattle.sv_grammar.specs.ModuleTable.{perhaps_ports_on, more_parameters_on, perhaps_value_on}
+use Rattle.sv_grammar.specs.ModuleTable.{more_wires_on, behind_reg_name_on, memory_name_on}
+use Rattle.sv_grammar.specs.ModuleTable.{label_selector_on, reg_name_on, reg_label_end_on}
+use Rattle.sv_grammar.specs.ModuleTable.{reg_label_on, later_assigned_on, more_assigned_on}
+use Rattle.sv_grammar.specs.ModuleTable.{value_or_release_on, assigned_on, event_inside_on}
+use Rattle.sv_grammar.specs.ModuleTable.{event_on, more_named_overrides_on, overrides_on}
+use Rattle.sv_grammar.specs.ModuleTable.{perhaps_overrides_on, link_on, more_named_links_on}
+use Rattle.sv_grammar.specs.ModuleTable.{links_on, more_instances_on, items_on, one_module_on}
+use Rattle.sv_grammar.specs.ModuleTable.{star_in_event}
+use Rattle.sv_grammar.specs.Symbols.{Outer, InnerReaction, takes_inner, over_inner, stuck_inner}
+use Rattle.sv_grammar.specs.Symbols.{OuterReaction, takes, begins, over, stuck, and_then}
+use Rattle.sv_grammar.specs.Symbols.{unless_refused}
 use Rattle.sv_grammar.specs.ExpressionTable.{operand_on, as_expression}
-use Rattle.sv_grammar.specs.StatementTable.{is_sign, is_star, is_less_equal, taken_if, punctuation_on, less_equal_on, more_names_on, more_values_on, assignment_behind, statement_on, statements_on, perhaps_block_name_on, perhaps_else_on, perhaps_bits_on, bits_end_on, more_targets_on, assigns_on, no_more_arms, default_arm, arms_on, more_choices_on, perhaps_colon_on}
+use Rattle.sv_grammar.specs.StatementTable.{is_sign, is_star, is_less_equal, taken_if}
+use Rattle.sv_grammar.specs.StatementTable.{punctuation_on, less_equal_on, more_names_on}
+use Rattle.sv_grammar.specs.StatementTable.{more_values_on, assignment_behind, statement_on}
+use Rattle.sv_grammar.specs.StatementTable.{statements_on, perhaps_block_name_on, perhaps_else_on}
+use Rattle.sv_grammar.specs.StatementTable.{perhaps_bits_on, bits_end_on, more_targets_on}
+use Rattle.sv_grammar.specs.StatementTable.{assigns_on, no_more_arms, default_arm, arms_on}
+use Rattle.sv_grammar.specs.StatementTable.{more_choices_on, perhaps_colon_on}
 use Rattle.sv_grammar.specs.Machine.{outer_on}
 use Rattle.sv_grammar.proofs.Completions.{is_sane, is_plain}
 
@@ -34,7 +75,8 @@ row_is_fine (begins level arm xs ys) = are_sane ys && are_plain ys
 row_is_fine over = true
 row_is_fine (stuck e) = true
 
-fine_name : (b : Bool) (ys : List Outer) → IsTrue (are_sane ys && plain_behind ys) → IsTrue (row_is_fine (unless_refused b (takes 0 0 ys)))
+fine_name : (b : Bool) (ys : List Outer) → IsTrue (are_sane ys && plain_behind ys) →
+    IsTrue (row_is_fine (unless_refused b (takes 0 0 ys)))
 fine_name true ys fine = refl
 fine_name false ys fine = fine
 
@@ -46,7 +88,8 @@ fine_star : (b : Bool) → IsTrue (row_is_fine (star_in_event b))
 fine_star true = refl
 fine_star false = refl
 
-fine_as_expression : (n arm : ℕ) (ys : List Outer) (r : InnerReaction) → IsTrue (are_sane ys && are_plain ys) → IsTrue (row_is_fine (as_expression n arm ys r))
+fine_as_expression : (n arm : ℕ) (ys : List Outer) (r : InnerReaction) →
+    IsTrue (are_sane ys && are_plain ys) → IsTrue (row_is_fine (as_expression n arm ys r))
 fine_as_expression n arm ys (takes_inner level xs) fine = fine
 fine_as_expression n arm ys over_inner fine = refl
 fine_as_expression n arm ys (stuck_inner e) fine = refl
@@ -66,11 +109,14 @@ fine_no_more_arms : (before : ℕ) → IsTrue (row_is_fine (no_more_arms before)
 fine_no_more_arms zero = refl
 fine_no_more_arms (suc k) = refl
 
-fine_default_arm : (n before : ℕ) (default : Bool) → IsTrue (row_is_fine (default_arm n before default))
+fine_default_arm : (n before : ℕ) (default : Bool) →
+    IsTrue (row_is_fine (default_arm n before default))
 fine_default_arm n before true = refl
 fine_default_arm n before false = refl
 
-fine_statements_name : (n : ℕ) (b : Bool) → IsTrue (row_is_fine (and_then (statements n ∷ []) (unless_refused b (takes 0 0 (perhaps_bits n ∷ assignment_behind n)))))
+fine_statements_name : (n : ℕ) (b : Bool) →
+    IsTrue (row_is_fine (and_then (statements n ∷ [])
+    (unless_refused b (takes 0 0 (perhaps_bits n ∷ assignment_behind n)))))
 fine_statements_name n true = refl
 fine_statements_name n false = refl
 
@@ -81,7 +127,9 @@ fine_more_values x = refl
 
 fine_lattice_lines : (x : Lexeme) → IsTrue (row_is_fine (lattice_lines_on x))
 fine_lattice_lines (word words.Point) = refl
-fine_lattice_lines (identifier x) = fine_name (is_refused_word x) (less_equal ∷ plain_name ∷ punctuation signs.Semicolon ∷ lattice_lines ∷ []) refl
+fine_lattice_lines (identifier x) =
+    fine_name (is_refused_word x)
+    (less_equal ∷ plain_name ∷ punctuation signs.Semicolon ∷ lattice_lines ∷ []) refl
 fine_lattice_lines (word words.Endlattice) = refl
 fine_lattice_lines x = refl
 
@@ -90,7 +138,10 @@ fine_perhaps_lattice (word words.Lattice) = refl
 fine_perhaps_lattice x = refl
 
 fine_map_name : (x : Lexeme) → IsTrue (row_is_fine (map_name_on x))
-fine_map_name (identifier x) = fine_name (is_refused_word x) (punctuation signs.OpenBracket ∷ plain_number ∷ punctuation signs.Colon ∷ plain_number ∷ punctuation signs.CloseBracket ∷ []) refl
+fine_map_name (identifier x) =
+    fine_name (is_refused_word x)
+    (punctuation signs.OpenBracket ∷ plain_number ∷ punctuation signs.Colon ∷ plain_number ∷
+    punctuation signs.CloseBracket ∷ []) refl
 fine_map_name x = refl
 
 fine_perhaps_key_range : (x : Lexeme) → IsTrue (row_is_fine (perhaps_key_range_on x))
@@ -126,7 +177,8 @@ fine_header_parameter x = refl
 
 fine_later_header_parameter : (x : Lexeme) → IsTrue (row_is_fine (later_header_parameter_on x))
 fine_later_header_parameter (word words.Parameter) = refl
-fine_later_header_parameter (identifier x) = fine_name (is_refused_word x) (punctuation signs.Equals ∷ expression 0 ∷ []) refl
+fine_later_header_parameter (identifier x) =
+    fine_name (is_refused_word x) (punctuation signs.Equals ∷ expression 0 ∷ []) refl
 fine_later_header_parameter x = refl
 
 fine_more_header_parameters : (x : Lexeme) → IsTrue (row_is_fine (more_header_parameters_on x))
@@ -134,7 +186,8 @@ fine_more_header_parameters (sign signs.Comma) = refl
 fine_more_header_parameters (sign signs.CloseParenthesis) = refl
 fine_more_header_parameters x = refl
 
-fine_perhaps_header_parameters : (x : Lexeme) → IsTrue (row_is_fine (perhaps_header_parameters_on x))
+fine_perhaps_header_parameters : (x : Lexeme) →
+    IsTrue (row_is_fine (perhaps_header_parameters_on x))
 fine_perhaps_header_parameters (sign signs.Hash) = refl
 fine_perhaps_header_parameters x = refl
 
@@ -210,12 +263,18 @@ fine_behind_reg_name (sign signs.Semicolon) = refl
 fine_behind_reg_name x = refl
 
 fine_memory_name : (x : Lexeme) → IsTrue (row_is_fine (memory_name_on x))
-fine_memory_name (identifier x) = fine_name (is_refused_word x) (punctuation signs.OpenBracket ∷ plain_number ∷ punctuation signs.Colon ∷ plain_number ∷ punctuation signs.CloseBracket ∷ []) refl
+fine_memory_name (identifier x) =
+    fine_name (is_refused_word x)
+    (punctuation signs.OpenBracket ∷ plain_number ∷ punctuation signs.Colon ∷ plain_number ∷
+    punctuation signs.CloseBracket ∷ []) refl
 fine_memory_name x = refl
 
 fine_label_selector : (x : Lexeme) → IsTrue (row_is_fine (label_selector_on x))
 fine_label_selector (sign signs.Hash) = refl
-fine_label_selector (identifier x) = fine_name (is_refused_word x) (perhaps_second_name ∷ punctuation signs.CloseParenthesis ∷ punctuation signs.CloseBrace ∷ plain_name ∷ more_names signs.Semicolon ∷ []) refl
+fine_label_selector (identifier x) =
+    fine_name (is_refused_word x)
+    (perhaps_second_name ∷ punctuation signs.CloseParenthesis ∷ punctuation signs.CloseBrace ∷
+    plain_name ∷ more_names signs.Semicolon ∷ []) refl
 fine_label_selector x = refl
 
 fine_reg_name : (x : Lexeme) → IsTrue (row_is_fine (reg_name_on x))
@@ -233,7 +292,8 @@ fine_reg_label (identifier x) = fine_name (is_refused_word x) (behind_reg_name �
 fine_reg_label x = refl
 
 fine_later_assigned : (x : Lexeme) → IsTrue (row_is_fine (later_assigned_on x))
-fine_later_assigned (identifier x) = fine_name (is_refused_word x) (punctuation signs.Equals ∷ expression 0 ∷ []) refl
+fine_later_assigned (identifier x) =
+    fine_name (is_refused_word x) (punctuation signs.Equals ∷ expression 0 ∷ []) refl
 fine_later_assigned (sign signs.OpenBrace) = refl
 fine_later_assigned x = refl
 
@@ -247,7 +307,8 @@ fine_value_or_release (word words.Release) = refl
 fine_value_or_release x = fine_as_expression 0 0 (more_assigned ∷ []) (operand_on 0 x) refl
 
 fine_assigned : (x : Lexeme) → IsTrue (row_is_fine (assigned_on x))
-fine_assigned (identifier x) = fine_name (is_refused_word x) (punctuation signs.Equals ∷ value_or_release ∷ []) refl
+fine_assigned (identifier x) =
+    fine_name (is_refused_word x) (punctuation signs.Equals ∷ value_or_release ∷ []) refl
 fine_assigned (sign signs.OpenBrace) = refl
 fine_assigned x = refl
 
@@ -332,7 +393,10 @@ fine_items (word words.Reg) = refl
 fine_items (word words.Assign) = refl
 fine_items (word words.Always) = refl
 fine_items (word words.Invariant) = refl
-fine_items (identifier x) = fine_name (is_refused_word x) (perhaps_overrides ∷ plain_name ∷ punctuation signs.OpenParenthesis ∷ links ∷ more_instances ∷ items ∷ []) refl
+fine_items (identifier x) =
+    fine_name (is_refused_word x)
+    (perhaps_overrides ∷ plain_name ∷ punctuation signs.OpenParenthesis ∷ links ∷ more_instances ∷
+    items ∷ []) refl
 fine_items (word words.Endmodule) = refl
 fine_items x = refl
 
@@ -341,7 +405,8 @@ fine_one_module (word words.Module) = refl
 fine_one_module x = refl
 
 fine_statement : (n : ℕ) (x : Lexeme) → IsTrue (row_is_fine (statement_on n x))
-fine_statement n (identifier x) = fine_name (is_refused_word x) (perhaps_bits n ∷ assignment_behind n) refl
+fine_statement n (identifier x) =
+    fine_name (is_refused_word x) (perhaps_bits n ∷ assignment_behind n) refl
 fine_statement n (word words.Begin) = refl
 fine_statement n (sign signs.Semicolon) = refl
 fine_statement n x = refl
@@ -360,10 +425,13 @@ fine_less_equal : (x : Lexeme) → IsTrue (row_is_fine (less_equal_on x))
 fine_less_equal (sign (signs.Operator o)) = fine_if (is_less_equal (binary_operator o))
 fine_less_equal x = refl
 
-fine_arms : (n before : ℕ) (default : Bool) (x : Lexeme) → IsTrue (row_is_fine (arms_on n before default x))
+fine_arms : (n before : ℕ) (default : Bool) (x : Lexeme) →
+    IsTrue (row_is_fine (arms_on n before default x))
 fine_arms n before default (word words.Endcase) = fine_no_more_arms before
 fine_arms n before default (word words.Default) = fine_default_arm n before default
-fine_arms n before default x = fine_as_expression n (before + 1) (more_choices n ∷ statement n ∷ arms n (before + 1) default ∷ []) (operand_on n x) refl
+fine_arms n before default x =
+    fine_as_expression n (before + 1)
+    (more_choices n ∷ statement n ∷ arms n (before + 1) default ∷ []) (operand_on n x) refl
 
 pub rows_are_fine : (y : Outer) (x : Lexeme) → IsTrue (row_is_fine (outer_on y x))
 rows_are_fine (punctuation s) x = fine_punctuation s x

@@ -1,5 +1,7 @@
--- What an expression has behind its first token, where that is a name and where it is none; and that dots and `?` are of expressions.
-use Rattle.std.proofs.Common.{ℕ, zero, suc, ◌+◌, Bool, true, false, ◌&&◌, List, [], ◌∷◌, Option, Some, None, refl}
+-- What an expression has behind its first token, where that is a name and where it is none; and
+-- that dots and `?` are of expressions.
+use Rattle.std.proofs.Common.{ℕ, zero, suc, ◌+◌, Bool, true, false, ◌&&◌, List, [], ◌∷◌, Option}
+use Rattle.std.proofs.Common.{Some, None, refl}
 use Rattle.std.specs.Prelude.{IsTrue}
 use Rattle.std.proofs.lemmas.Bool.{false≢true}
 use Rattle.sv_num.specs.declared.operators.UnOp.{UnOp}
@@ -10,11 +12,51 @@ use Rattle.sv_token.specs.declared.signs.SignKind.{SignKind}
 use Rattle.sv_token.specs.declared.signs.SignKind.TheVariants as signs
 use Rattle.sv_token.specs.Lexemes.{Lexeme, word, identifier, numeral, sign}
 use Rattle.sv_token.specs.Words.{is_refused_word}
-use Rattle.sv_grammar.specs.Symbols.{punctuation, plain_name, plain_number, expression, more_names, more_values, perhaps_lattice, lattice_lines, less_equal, perhaps_maps, map_name, perhaps_key_range, rows, perhaps_second_key, end_of_map, one_module, perhaps_header_parameters, header_parameter, later_header_parameter, more_header_parameters, parameter_type, perhaps_ports, ports, later_port, more_ports, perhaps_wire, perhaps_wire_or_reg, perhaps_signed, perhaps_range, perhaps_label, label_end, perhaps_second_name, items, more_parameters, perhaps_value, more_wires, reg_label, reg_label_end, reg_name, behind_reg_name, label_selector, memory_name, assigned, value_or_release, later_assigned, more_assigned, event, event_inside, perhaps_overrides, overrides, more_named_overrides, links, link, more_named_links, more_instances, statement, statements, perhaps_block_name, perhaps_else, perhaps_bits, bits_end, more_targets, assigns, arms, more_choices, perhaps_colon}
-use Rattle.sv_grammar.specs.ModuleTable.{lattice_lines_on, perhaps_lattice_on, map_name_on, perhaps_key_range_on, perhaps_second_key_on, end_of_map_on, rows_on, perhaps_maps_on, parameter_type_on, header_parameter_on, later_header_parameter_on, more_header_parameters_on, perhaps_header_parameters_on, perhaps_wire_on, perhaps_wire_or_reg_on, perhaps_signed_on, perhaps_range_on, perhaps_second_name_on, label_end_on, perhaps_label_on, later_port_on, more_ports_on, ports_on, perhaps_ports_on, more_parameters_on, perhaps_value_on, more_wires_on, behind_reg_name_on, memory_name_on, label_selector_on, reg_name_on, reg_label_end_on, reg_label_on, later_assigned_on, more_assigned_on, value_or_release_on, assigned_on, event_inside_on, event_on, more_named_overrides_on, overrides_on, perhaps_overrides_on, link_on, more_named_links_on, links_on, more_instances_on, items_on, one_module_on, star_in_event}
-use Rattle.sv_grammar.specs.Symbols.{Inner, operand, tail, selection, Outer, behind_name, OuterReaction, takes, begins, stuck, and_then, unless_refused}
-use Rattle.sv_grammar.specs.ExpressionTable.{name_operand, prefix_operand, as_expression, expression_on}
-use Rattle.sv_grammar.specs.StatementTable.{is_sign, is_star, is_less_equal, taken_if, punctuation_on, less_equal_on, more_names_on, more_values_on, assignment_behind, statement_on, statements_on, perhaps_block_name_on, perhaps_else_on, perhaps_bits_on, bits_end_on, more_targets_on, assigns_on, no_more_arms, default_arm, arms_on, more_choices_on, perhaps_colon_on}
+use Rattle.sv_grammar.specs.Symbols.{punctuation, plain_name, plain_number, expression, more_names}
+use Rattle.sv_grammar.specs.Symbols.{more_values, perhaps_lattice, lattice_lines, less_equal}
+use Rattle.sv_grammar.specs.Symbols.{perhaps_maps, map_name, perhaps_key_range, rows}
+use Rattle.sv_grammar.specs.Symbols.{perhaps_second_key, end_of_map, one_module}
+use Rattle.sv_grammar.specs.Symbols.{perhaps_header_parameters, header_parameter}
+use Rattle.sv_grammar.specs.Symbols.{later_header_parameter, more_header_parameters, parameter_type}
+use Rattle.sv_grammar.specs.Symbols.{perhaps_ports, ports, later_port, more_ports, perhaps_wire}
+use Rattle.sv_grammar.specs.Symbols.{perhaps_wire_or_reg, perhaps_signed, perhaps_range}
+use Rattle.sv_grammar.specs.Symbols.{perhaps_label, label_end, perhaps_second_name, items}
+use Rattle.sv_grammar.specs.Symbols.{more_parameters, perhaps_value, more_wires, reg_label}
+use Rattle.sv_grammar.specs.Symbols.{reg_label_end, reg_name, behind_reg_name, label_selector}
+use Rattle.sv_grammar.specs.Symbols.{memory_name, assigned, value_or_release, later_assigned}
+use Rattle.sv_grammar.specs.Symbols.{more_assigned, event, event_inside, perhaps_overrides}
+use Rattle.sv_grammar.specs.Symbols.{overrides, more_named_overrides, links, link, more_named_links}
+use Rattle.sv_grammar.specs.Symbols.{more_instances, statement, statements, perhaps_block_name}
+use Rattle.sv_grammar.specs.Symbols.{perhaps_else, perhaps_bits, bits_end, more_targets, assigns}
+use Rattle.sv_grammar.specs.Symbols.{arms, more_choices, perhaps_colon}
+use Rattle.sv_grammar.specs.ModuleTable.{lattice_lines_on, perhaps_lattice_on, map_name_on}
+use Rattle.sv_grammar.specs.ModuleTable.{perhaps_key_range_on, perhaps_second_key_on, end_of_map_on}
+use Rattle.sv_grammar.specs.ModuleTable.{rows_on, perhaps_maps_on, parameter_type_on}
+use Rattle.sv_grammar.specs.ModuleTable.{header_parameter_on, later_header_parameter_on}
+use Rattle.sv_grammar.specs.ModuleTable.{more_header_parameters_on, perhaps_header_parameters_on}
+use Rattle.sv_grammar.specs.ModuleTable.{perhaps_wire_on, perhaps_wire_or_reg_on, perhaps_signed_on}
+use Rattle.sv_grammar.specs.ModuleTable.{perhaps_range_on, perhaps_second_name_on, label_end_on}
+use Rattle.sv_grammar.specs.ModuleTable.{perhaps_label_on, later_port_on, more_ports_on, ports_on}
+use Rattle.sv_grammar.specs.ModuleTable.{perhaps_ports_on, more_parameters_on, perhaps_value_on}
+use Rattle.sv_grammar.specs.ModuleTable.{more_wires_on, behind_reg_name_on, memory_name_on}
+use Rattle.sv_grammar.specs.ModuleTable.{label_selector_on, reg_name_on, reg_label_end_on}
+use Rattle.sv_grammar.specs.ModuleTable.{reg_label_on, later_assigned_on, more_assigned_on}
+use Rattle.sv_grammar.specs.ModuleTable.{value_or_release_on, assigned_on, event_inside_on}
+use Rattle.sv_grammar.specs.ModuleTable.{event_on, more_named_overrides_on, overrides_on}
+use Rattle.sv_grammar.specs.ModuleTable.{perhaps_overrides_on, link_on, more_named_links_on}
+use Rattle.sv_grammar.specs.ModuleTable.{links_on, more_instances_on, items_on, one_module_on}
+use Rattle.sv_grammar.specs.ModuleTable.{star_in_event}
+use Rattle.sv_grammar.specs.Symbols.{Inner, operand, tail, selection, Outer, behind_name}
+use Rattle.sv_grammar.specs.Symbols.{OuterReaction, takes, begins, stuck, and_then, unless_refused}
+use Rattle.sv_grammar.specs.ExpressionTable.{name_operand, prefix_operand, as_expression}
+use Rattle.sv_grammar.specs.ExpressionTable.{expression_on}
+use Rattle.sv_grammar.specs.StatementTable.{is_sign, is_star, is_less_equal, taken_if}
+use Rattle.sv_grammar.specs.StatementTable.{punctuation_on, less_equal_on, more_names_on}
+use Rattle.sv_grammar.specs.StatementTable.{more_values_on, assignment_behind, statement_on}
+use Rattle.sv_grammar.specs.StatementTable.{statements_on, perhaps_block_name_on, perhaps_else_on}
+use Rattle.sv_grammar.specs.StatementTable.{perhaps_bits_on, bits_end_on, more_targets_on}
+use Rattle.sv_grammar.specs.StatementTable.{assigns_on, no_more_arms, default_arm, arms_on}
+use Rattle.sv_grammar.specs.StatementTable.{more_choices_on, perhaps_colon_on}
 use Rattle.sv_grammar.specs.Machine.{outer_on}
 use Rattle.sv_grammar.proofs.Completions.{is_sane}
 
@@ -38,21 +80,25 @@ begins_well true (begins level arm xs ys) = false
 begins_well false (begins level arm xs ys) = row_is_tidy xs
 begins_well named r = true
 
-begun_name : (n arm : ℕ) (ys : List Outer) (b : Bool) → IsTrue (begins_well true (as_expression n arm ys (name_operand n b)))
+begun_name : (n arm : ℕ) (ys : List Outer) (b : Bool) →
+    IsTrue (begins_well true (as_expression n arm ys (name_operand n b)))
 begun_name n arm ys true = refl
 begun_name n arm ys false = refl
 
-begun_prefix : (n arm : ℕ) (ys : List Outer) (u : Option UnOp) → IsTrue (begins_well false (as_expression n arm ys (prefix_operand n u)))
+begun_prefix : (n arm : ℕ) (ys : List Outer) (u : Option UnOp) →
+    IsTrue (begins_well false (as_expression n arm ys (prefix_operand n u)))
 begun_prefix n arm ys None = refl
 begun_prefix n arm ys (Some op) = refl
 
-begun_well : (n arm : ℕ) (ys : List Outer) (x : Lexeme) → IsTrue (begins_well (is_name x) (expression_on n arm ys x))
+begun_well : (n arm : ℕ) (ys : List Outer) (x : Lexeme) →
+    IsTrue (begins_well (is_name x) (expression_on n arm ys x))
 begun_well n arm ys (identifier y) = begun_name n arm ys (is_refused_word y)
 begun_well n arm ys (sign (signs.Operator o)) = begun_prefix n arm ys (unary_operator o)
 begun_well n arm ys (sign signs.OpenParenthesis) = refl
 begun_well n arm ys x = refl
 
-no_begin_refused : (b : Bool) (ys : List Outer) (named : Bool) → IsTrue (begins_well named (unless_refused b (takes 0 0 ys)))
+no_begin_refused : (b : Bool) (ys : List Outer) (named : Bool) →
+    IsTrue (begins_well named (unless_refused b (takes 0 0 ys)))
 no_begin_refused true ys true = refl
 no_begin_refused true ys false = refl
 no_begin_refused false ys true = refl
@@ -70,11 +116,15 @@ no_begin_arms : (before : ℕ) → IsTrue (begins_well false (no_more_arms befor
 no_begin_arms zero = refl
 no_begin_arms (suc k) = refl
 
-no_begin_default : (n before : ℕ) (default : Bool) → IsTrue (begins_well false (default_arm n before default))
+no_begin_default : (n before : ℕ) (default : Bool) →
+    IsTrue (begins_well false (default_arm n before default))
 no_begin_default n before true = refl
 no_begin_default n before false = refl
 
-no_begin_statement : (n : ℕ) (b : Bool) → IsTrue (begins_well true (and_then (statements n ∷ []) (unless_refused b (takes 0 0 (perhaps_bits n ∷ assignment_behind n)))))
+no_begin_statement : (n : ℕ) (b : Bool) →
+    IsTrue (begins_well true
+    (and_then (statements n ∷ [])
+    (unless_refused b (takes 0 0 (perhaps_bits n ∷ assignment_behind n)))))
 no_begin_statement n true = refl
 no_begin_statement n false = refl
 
@@ -88,7 +138,8 @@ well_names signs.CloseBrace x = refl
 well_names s (identifier y) = refl
 well_names s x = refl
 
-well_punctuation : (s : SignKind) (x : Lexeme) → IsTrue (begins_well (is_name x) (punctuation_on s x))
+well_punctuation : (s : SignKind) (x : Lexeme) →
+    IsTrue (begins_well (is_name x) (punctuation_on s x))
 well_punctuation s (sign t) = no_begin_if (is_sign s t)
 well_punctuation s (identifier y) = refl
 well_punctuation s x = refl
@@ -101,7 +152,9 @@ well_more_values x = refl
 
 well_lattice_lines : (x : Lexeme) → IsTrue (begins_well (is_name x) (lattice_lines_on x))
 well_lattice_lines (word words.Point) = refl
-well_lattice_lines (identifier x) = no_begin_refused (is_refused_word x) (less_equal ∷ plain_name ∷ punctuation signs.Semicolon ∷ lattice_lines ∷ []) true
+well_lattice_lines (identifier x) =
+    no_begin_refused (is_refused_word x)
+    (less_equal ∷ plain_name ∷ punctuation signs.Semicolon ∷ lattice_lines ∷ []) true
 well_lattice_lines (word words.Endlattice) = refl
 well_lattice_lines x = refl
 
@@ -111,7 +164,10 @@ well_perhaps_lattice (identifier y) = refl
 well_perhaps_lattice x = refl
 
 well_map_name : (x : Lexeme) → IsTrue (begins_well (is_name x) (map_name_on x))
-well_map_name (identifier x) = no_begin_refused (is_refused_word x) (punctuation signs.OpenBracket ∷ plain_number ∷ punctuation signs.Colon ∷ plain_number ∷ punctuation signs.CloseBracket ∷ []) true
+well_map_name (identifier x) =
+    no_begin_refused (is_refused_word x)
+    (punctuation signs.OpenBracket ∷ plain_number ∷ punctuation signs.Colon ∷ plain_number ∷
+    punctuation signs.CloseBracket ∷ []) true
 well_map_name x = refl
 
 well_perhaps_key_range : (x : Lexeme) → IsTrue (begins_well (is_name x) (perhaps_key_range_on x))
@@ -152,18 +208,22 @@ well_header_parameter (word words.Parameter) = refl
 well_header_parameter (identifier y) = refl
 well_header_parameter x = refl
 
-well_later_header_parameter : (x : Lexeme) → IsTrue (begins_well (is_name x) (later_header_parameter_on x))
+well_later_header_parameter : (x : Lexeme) →
+    IsTrue (begins_well (is_name x) (later_header_parameter_on x))
 well_later_header_parameter (word words.Parameter) = refl
-well_later_header_parameter (identifier x) = no_begin_refused (is_refused_word x) (punctuation signs.Equals ∷ expression 0 ∷ []) true
+well_later_header_parameter (identifier x) =
+    no_begin_refused (is_refused_word x) (punctuation signs.Equals ∷ expression 0 ∷ []) true
 well_later_header_parameter x = refl
 
-well_more_header_parameters : (x : Lexeme) → IsTrue (begins_well (is_name x) (more_header_parameters_on x))
+well_more_header_parameters : (x : Lexeme) →
+    IsTrue (begins_well (is_name x) (more_header_parameters_on x))
 well_more_header_parameters (sign signs.Comma) = refl
 well_more_header_parameters (sign signs.CloseParenthesis) = refl
 well_more_header_parameters (identifier y) = refl
 well_more_header_parameters x = refl
 
-well_perhaps_header_parameters : (x : Lexeme) → IsTrue (begins_well (is_name x) (perhaps_header_parameters_on x))
+well_perhaps_header_parameters : (x : Lexeme) →
+    IsTrue (begins_well (is_name x) (perhaps_header_parameters_on x))
 well_perhaps_header_parameters (sign signs.Hash) = refl
 well_perhaps_header_parameters (identifier y) = refl
 well_perhaps_header_parameters x = refl
@@ -173,7 +233,8 @@ well_perhaps_wire (word words.Wire) = refl
 well_perhaps_wire (identifier y) = refl
 well_perhaps_wire x = refl
 
-well_perhaps_wire_or_reg : (x : Lexeme) → IsTrue (begins_well (is_name x) (perhaps_wire_or_reg_on x))
+well_perhaps_wire_or_reg : (x : Lexeme) →
+    IsTrue (begins_well (is_name x) (perhaps_wire_or_reg_on x))
 well_perhaps_wire_or_reg (word words.Wire) = refl
 well_perhaps_wire_or_reg (word words.Reg) = refl
 well_perhaps_wire_or_reg (identifier y) = refl
@@ -189,7 +250,8 @@ well_perhaps_range (sign signs.OpenBracket) = refl
 well_perhaps_range (identifier y) = refl
 well_perhaps_range x = refl
 
-well_perhaps_second_name : (x : Lexeme) → IsTrue (begins_well (is_name x) (perhaps_second_name_on x))
+well_perhaps_second_name : (x : Lexeme) →
+    IsTrue (begins_well (is_name x) (perhaps_second_name_on x))
 well_perhaps_second_name (sign signs.Comma) = refl
 well_perhaps_second_name (identifier y) = refl
 well_perhaps_second_name x = refl
@@ -254,12 +316,18 @@ well_behind_reg_name (identifier y) = refl
 well_behind_reg_name x = refl
 
 well_memory_name : (x : Lexeme) → IsTrue (begins_well (is_name x) (memory_name_on x))
-well_memory_name (identifier x) = no_begin_refused (is_refused_word x) (punctuation signs.OpenBracket ∷ plain_number ∷ punctuation signs.Colon ∷ plain_number ∷ punctuation signs.CloseBracket ∷ []) true
+well_memory_name (identifier x) =
+    no_begin_refused (is_refused_word x)
+    (punctuation signs.OpenBracket ∷ plain_number ∷ punctuation signs.Colon ∷ plain_number ∷
+    punctuation signs.CloseBracket ∷ []) true
 well_memory_name x = refl
 
 well_label_selector : (x : Lexeme) → IsTrue (begins_well (is_name x) (label_selector_on x))
 well_label_selector (sign signs.Hash) = refl
-well_label_selector (identifier x) = no_begin_refused (is_refused_word x) (perhaps_second_name ∷ punctuation signs.CloseParenthesis ∷ punctuation signs.CloseBrace ∷ plain_name ∷ more_names signs.Semicolon ∷ []) true
+well_label_selector (identifier x) =
+    no_begin_refused (is_refused_word x)
+    (perhaps_second_name ∷ punctuation signs.CloseParenthesis ∷ punctuation signs.CloseBrace ∷
+    plain_name ∷ more_names signs.Semicolon ∷ []) true
 well_label_selector x = refl
 
 well_reg_name : (x : Lexeme) → IsTrue (begins_well (is_name x) (reg_name_on x))
@@ -278,7 +346,8 @@ well_reg_label (identifier x) = no_begin_refused (is_refused_word x) (behind_reg
 well_reg_label x = refl
 
 well_later_assigned : (x : Lexeme) → IsTrue (begins_well (is_name x) (later_assigned_on x))
-well_later_assigned (identifier x) = no_begin_refused (is_refused_word x) (punctuation signs.Equals ∷ expression 0 ∷ []) true
+well_later_assigned (identifier x) =
+    no_begin_refused (is_refused_word x) (punctuation signs.Equals ∷ expression 0 ∷ []) true
 well_later_assigned (sign signs.OpenBrace) = refl
 well_later_assigned x = refl
 
@@ -293,7 +362,8 @@ well_value_or_release (word words.Release) = refl
 well_value_or_release x = begun_well 0 0 (more_assigned ∷ []) x
 
 well_assigned : (x : Lexeme) → IsTrue (begins_well (is_name x) (assigned_on x))
-well_assigned (identifier x) = no_begin_refused (is_refused_word x) (punctuation signs.Equals ∷ value_or_release ∷ []) true
+well_assigned (identifier x) =
+    no_begin_refused (is_refused_word x) (punctuation signs.Equals ∷ value_or_release ∷ []) true
 well_assigned (sign signs.OpenBrace) = refl
 well_assigned x = refl
 
@@ -309,7 +379,8 @@ well_event (sign signs.OpenParenthesis) = refl
 well_event (identifier y) = refl
 well_event x = refl
 
-well_more_named_overrides : (x : Lexeme) → IsTrue (begins_well (is_name x) (more_named_overrides_on x))
+well_more_named_overrides : (x : Lexeme) →
+    IsTrue (begins_well (is_name x) (more_named_overrides_on x))
 well_more_named_overrides (sign signs.Comma) = refl
 well_more_named_overrides (sign signs.CloseParenthesis) = refl
 well_more_named_overrides (identifier y) = refl
@@ -391,7 +462,10 @@ well_items (word words.Reg) = refl
 well_items (word words.Assign) = refl
 well_items (word words.Always) = refl
 well_items (word words.Invariant) = refl
-well_items (identifier x) = no_begin_refused (is_refused_word x) (perhaps_overrides ∷ plain_name ∷ punctuation signs.OpenParenthesis ∷ links ∷ more_instances ∷ items ∷ []) true
+well_items (identifier x) =
+    no_begin_refused (is_refused_word x)
+    (perhaps_overrides ∷ plain_name ∷ punctuation signs.OpenParenthesis ∷ links ∷ more_instances ∷
+    items ∷ []) true
 well_items (word words.Endmodule) = refl
 well_items x = refl
 
@@ -401,7 +475,8 @@ well_one_module (identifier y) = refl
 well_one_module x = refl
 
 well_statement : (n : ℕ) (x : Lexeme) → IsTrue (begins_well (is_name x) (statement_on n x))
-well_statement n (identifier x) = no_begin_refused (is_refused_word x) (perhaps_bits n ∷ assignment_behind n) true
+well_statement n (identifier x) =
+    no_begin_refused (is_refused_word x) (perhaps_bits n ∷ assignment_behind n) true
 well_statement n (word words.Begin) = refl
 well_statement n (sign signs.Semicolon) = refl
 well_statement n x = refl
@@ -422,10 +497,12 @@ well_less_equal (sign (signs.Operator o)) = no_begin_if (is_less_equal (binary_o
 well_less_equal (identifier y) = refl
 well_less_equal x = refl
 
-well_arms : (n before : ℕ) (default : Bool) (x : Lexeme) → IsTrue (begins_well (is_name x) (arms_on n before default x))
+well_arms : (n before : ℕ) (default : Bool) (x : Lexeme) →
+    IsTrue (begins_well (is_name x) (arms_on n before default x))
 well_arms n before default (word words.Endcase) = no_begin_arms before
 well_arms n before default (word words.Default) = no_begin_default n before default
-well_arms n before default x = begun_well n (before + 1) (more_choices n ∷ statement n ∷ arms n (before + 1) default ∷ []) x
+well_arms n before default x =
+    begun_well n (before + 1) (more_choices n ∷ statement n ∷ arms n (before + 1) default ∷ []) x
 
 pub rows_begin_well : (y : Outer) (x : Lexeme) → IsTrue (begins_well (is_name x) (outer_on y x))
 rows_begin_well (punctuation s) x = well_punctuation s x
@@ -528,11 +605,13 @@ question_names signs.Semicolon = refl
 question_names signs.CloseBrace = refl
 question_names s = refl
 
-question_signs : (s : SignKind) → IsTrue (is_sane (punctuation s)) → IsTrue (is_not_taken (punctuation_on s (sign signs.Question)))
+question_signs : (s : SignKind) → IsTrue (is_sane (punctuation s)) →
+    IsTrue (is_not_taken (punctuation_on s (sign signs.Question)))
 question_signs signs.Question sane = absurd (false≢true sane)
 question_signs s sane = refl
 
-pub questions_are_inside : (y : Outer) → IsTrue (is_sane y) → IsTrue (is_not_taken (outer_on y (sign signs.Question)))
+pub questions_are_inside : (y : Outer) → IsTrue (is_sane y) →
+    IsTrue (is_not_taken (outer_on y (sign signs.Question)))
 questions_are_inside (punctuation s) sane = question_signs s sane
 questions_are_inside (more_names s) sane = question_names s
 questions_are_inside y sane = refl

@@ -6,12 +6,36 @@ use Rattle.sv_token.specs.declared.signs.SignKind.{SignKind}
 use Rattle.sv_token.specs.declared.signs.SignKind.TheVariants as signs
 use Rattle.sv_token.specs.Lexemes.{Lexeme, Literal, Placed}
 use Rattle.sv_ast.specs.Tree.{StatementTree, ArmTrees}
-use Rattle.sv_ast.specs.GrammarForms.{Form, ◌⨾◌, ◌or◌, nothing, never, a_word, a_sign, a_number, a_name, somewhere, binary_at}
+use Rattle.sv_ast.specs.GrammarForms.{Form, ◌⨾◌, ◌or◌, nothing, never, a_word, a_sign, a_number}
+use Rattle.sv_ast.specs.GrammarForms.{a_name, somewhere, binary_at}
 use Rattle.sv_ast.specs.GrammarExpressions.{Limits, is_within, read_tokens}
 use Rattle.sv_ast.specs.GrammarStatements.{IsStatement, AreArms}
-use Rattle.sv_grammar.specs.Symbols.{Outer, punctuation, plain_name, plain_number, expression, more_names, more_values, perhaps_lattice, lattice_lines, less_equal, perhaps_maps, map_name, perhaps_key_range, rows, perhaps_second_key, end_of_map, one_module, perhaps_header_parameters, header_parameter, later_header_parameter, more_header_parameters, parameter_type, perhaps_ports, ports, later_port, more_ports, perhaps_wire, perhaps_wire_or_reg, perhaps_signed, perhaps_range, perhaps_label, label_end, perhaps_second_name, items, more_parameters, perhaps_value, more_wires, reg_label, reg_label_end, reg_name, behind_reg_name, label_selector, memory_name, assigned, value_or_release, later_assigned, more_assigned, event, event_inside, perhaps_overrides, overrides, more_named_overrides, links, link, more_named_links, more_instances, statement, statements, perhaps_block_name, perhaps_else, perhaps_bits, bits_end, more_targets, assigns, arms, more_choices, perhaps_colon, OuterReaction, takes, begins, over, stuck}
-use Rattle.sv_grammar.specs.StatementTable.{perhaps_block_name_on, perhaps_else_on, perhaps_bits_on, perhaps_colon_on}
-use Rattle.sv_grammar.specs.ModuleTable.{perhaps_lattice_on, perhaps_maps_on, perhaps_key_range_on, perhaps_second_key_on, perhaps_header_parameters_on, parameter_type_on, perhaps_ports_on, perhaps_wire_on, perhaps_wire_or_reg_on, perhaps_signed_on, perhaps_range_on, perhaps_label_on, perhaps_second_name_on, perhaps_value_on, perhaps_overrides_on}
+use Rattle.sv_grammar.specs.Symbols.{Outer, punctuation, plain_name, plain_number, expression}
+use Rattle.sv_grammar.specs.Symbols.{more_names, more_values, perhaps_lattice, lattice_lines}
+use Rattle.sv_grammar.specs.Symbols.{less_equal, perhaps_maps, map_name, perhaps_key_range, rows}
+use Rattle.sv_grammar.specs.Symbols.{perhaps_second_key, end_of_map, one_module}
+use Rattle.sv_grammar.specs.Symbols.{perhaps_header_parameters, header_parameter}
+use Rattle.sv_grammar.specs.Symbols.{later_header_parameter, more_header_parameters, parameter_type}
+use Rattle.sv_grammar.specs.Symbols.{perhaps_ports, ports, later_port, more_ports, perhaps_wire}
+use Rattle.sv_grammar.specs.Symbols.{perhaps_wire_or_reg, perhaps_signed, perhaps_range}
+use Rattle.sv_grammar.specs.Symbols.{perhaps_label, label_end, perhaps_second_name, items}
+use Rattle.sv_grammar.specs.Symbols.{more_parameters, perhaps_value, more_wires, reg_label}
+use Rattle.sv_grammar.specs.Symbols.{reg_label_end, reg_name, behind_reg_name, label_selector}
+use Rattle.sv_grammar.specs.Symbols.{memory_name, assigned, value_or_release, later_assigned}
+use Rattle.sv_grammar.specs.Symbols.{more_assigned, event, event_inside, perhaps_overrides}
+use Rattle.sv_grammar.specs.Symbols.{overrides, more_named_overrides, links, link, more_named_links}
+use Rattle.sv_grammar.specs.Symbols.{more_instances, statement, statements, perhaps_block_name}
+use Rattle.sv_grammar.specs.Symbols.{perhaps_else, perhaps_bits, bits_end, more_targets, assigns}
+use Rattle.sv_grammar.specs.Symbols.{arms, more_choices, perhaps_colon, OuterReaction, takes}
+use Rattle.sv_grammar.specs.Symbols.{begins, over, stuck}
+use Rattle.sv_grammar.specs.StatementTable.{perhaps_block_name_on, perhaps_else_on, perhaps_bits_on}
+use Rattle.sv_grammar.specs.StatementTable.{perhaps_colon_on}
+use Rattle.sv_grammar.specs.ModuleTable.{perhaps_lattice_on, perhaps_maps_on, perhaps_key_range_on}
+use Rattle.sv_grammar.specs.ModuleTable.{perhaps_second_key_on, perhaps_header_parameters_on}
+use Rattle.sv_grammar.specs.ModuleTable.{parameter_type_on, perhaps_ports_on, perhaps_wire_on}
+use Rattle.sv_grammar.specs.ModuleTable.{perhaps_wire_or_reg_on, perhaps_signed_on}
+use Rattle.sv_grammar.specs.ModuleTable.{perhaps_range_on, perhaps_label_on, perhaps_second_name_on}
+use Rattle.sv_grammar.specs.ModuleTable.{perhaps_value_on, perhaps_overrides_on}
 use Rattle.sv_grammar.proofs.ExpressionForms.{Next, inner_forms, expression_form}
 
 -- ---- putting forms together
@@ -45,8 +69,10 @@ abbrev pub less_equal_form : Form
 less_equal_form = somewhere (binary_at Le)
 
 abbrev pub more_names_form : Limits → SignKind → Form
-more_names_form l signs.Semicolon = loop_form (a_sign signs.Comma ⨾ some_name) (a_sign signs.Semicolon)
-more_names_form l signs.CloseBrace = loop_form (a_sign signs.Comma ⨾ some_name) (a_sign signs.CloseBrace)
+more_names_form l signs.Semicolon =
+    loop_form (a_sign signs.Comma ⨾ some_name) (a_sign signs.Semicolon)
+more_names_form l signs.CloseBrace =
+    loop_form (a_sign signs.Comma ⨾ some_name) (a_sign signs.CloseBrace)
 more_names_form l s = never
 
 -- operators are no punctuation
@@ -61,7 +87,8 @@ abbrev pub statements_form : Limits → ℕ → Form
 statements_form l n = loop_form (statement_form l n) (a_word words.End)
 
 abbrev pub arms_form : Limits → ℕ → (before : ℕ) → (default : Bool) → Form
-arms_form l n before default ts rest = (arms : ArmTrees) × (AreArms l n before default arms ⨾ a_word words.Endcase) ts rest
+arms_form l n before default ts rest =
+    (arms : ArmTrees) × (AreArms l n before default arms ⨾ a_word words.Endcase) ts rest
 
 abbrev pub assigns_form : Limits → Form
 assigns_form l = a_sign signs.Equals or less_equal_form
@@ -96,12 +123,14 @@ perhaps_lattice_form l =
 
 abbrev pub map_name_form : Limits → Form
 map_name_form l =
-    (some_name ⨾ a_sign signs.OpenBracket ⨾ some_number ⨾ a_sign signs.Colon ⨾ some_number ⨾ a_sign signs.CloseBracket ⨾ nothing)
+    (some_name ⨾ a_sign signs.OpenBracket ⨾ some_number ⨾ a_sign signs.Colon ⨾ some_number
+    ⨾ a_sign signs.CloseBracket ⨾ nothing)
 
 abbrev pub perhaps_key_range_form : Limits → Form
 perhaps_key_range_form l =
     skip_form (perhaps_key_range_on)
-    or (a_sign signs.OpenBracket ⨾ some_number ⨾ a_sign signs.Colon ⨾ some_number ⨾ a_sign signs.CloseBracket ⨾ nothing)
+    or (a_sign signs.OpenBracket ⨾ some_number ⨾ a_sign signs.Colon ⨾ some_number
+    ⨾ a_sign signs.CloseBracket ⨾ nothing)
 
 abbrev pub perhaps_second_key_form : Limits → Form
 perhaps_second_key_form l =
@@ -114,10 +143,13 @@ end_of_map_form l =
 
 abbrev pub rows_row : Limits → Form
 rows_row l =
-    (some_number ⨾ perhaps_second_key_form l ⨾ a_sign signs.Colon ⨾ some_name ⨾ a_sign signs.Semicolon)
+    (some_number ⨾ perhaps_second_key_form l ⨾ a_sign signs.Colon ⨾ some_name
+    ⨾ a_sign signs.Semicolon)
 
 abbrev pub rows_end : Limits → Form
-rows_end l = (a_word words.Default ⨾ a_sign signs.Colon ⨾ some_name ⨾ a_sign signs.Semicolon ⨾ end_of_map_form l)
+rows_end l =
+    (a_word words.Default ⨾ a_sign signs.Colon ⨾ some_name ⨾ a_sign signs.Semicolon
+    ⨾ end_of_map_form l)
     or a_word words.Endlabelmap
 
 abbrev pub rows_form : Limits → Form
@@ -136,16 +168,20 @@ perhaps_maps_form l = loop_form (perhaps_maps_row l) (perhaps_maps_end l)
 abbrev pub parameter_type_form : Limits → Form
 parameter_type_form l =
     skip_form (parameter_type_on)
-    or (a_word words.Signed ⨾ a_sign signs.OpenBracket ⨾ expression_form l 0 ⨾ a_sign signs.Colon ⨾ expression_form l 0 ⨾ a_sign signs.CloseBracket ⨾ nothing)
-    or (a_sign signs.OpenBracket ⨾ expression_form l 0 ⨾ a_sign signs.Colon ⨾ expression_form l 0 ⨾ a_sign signs.CloseBracket ⨾ nothing)
+    or (a_word words.Signed ⨾ a_sign signs.OpenBracket ⨾ expression_form l 0 ⨾ a_sign signs.Colon
+    ⨾ expression_form l 0 ⨾ a_sign signs.CloseBracket ⨾ nothing)
+    or (a_sign signs.OpenBracket ⨾ expression_form l 0 ⨾ a_sign signs.Colon ⨾ expression_form l 0
+    ⨾ a_sign signs.CloseBracket ⨾ nothing)
 
 abbrev pub header_parameter_form : Limits → Form
 header_parameter_form l =
-    (a_word words.Parameter ⨾ parameter_type_form l ⨾ some_name ⨾ a_sign signs.Equals ⨾ expression_form l 0 ⨾ nothing)
+    (a_word words.Parameter ⨾ parameter_type_form l ⨾ some_name ⨾ a_sign signs.Equals
+    ⨾ expression_form l 0 ⨾ nothing)
 
 abbrev pub later_header_parameter_form : Limits → Form
 later_header_parameter_form l =
-    (a_word words.Parameter ⨾ parameter_type_form l ⨾ some_name ⨾ a_sign signs.Equals ⨾ expression_form l 0 ⨾ nothing)
+    (a_word words.Parameter ⨾ parameter_type_form l ⨾ some_name ⨾ a_sign signs.Equals
+    ⨾ expression_form l 0 ⨾ nothing)
     or (some_name ⨾ a_sign signs.Equals ⨾ expression_form l 0 ⨾ nothing)
 
 abbrev pub more_header_parameters_row : Limits → Form
@@ -156,12 +192,14 @@ abbrev pub more_header_parameters_end : Limits → Form
 more_header_parameters_end l = a_sign signs.CloseParenthesis
 
 abbrev pub more_header_parameters_form : Limits → Form
-more_header_parameters_form l = loop_form (more_header_parameters_row l) (more_header_parameters_end l)
+more_header_parameters_form l =
+    loop_form (more_header_parameters_row l) (more_header_parameters_end l)
 
 abbrev pub perhaps_header_parameters_form : Limits → Form
 perhaps_header_parameters_form l =
     skip_form (perhaps_header_parameters_on)
-    or (a_sign signs.Hash ⨾ a_sign signs.OpenParenthesis ⨾ header_parameter_form l ⨾ more_header_parameters_form l ⨾ nothing)
+    or (a_sign signs.Hash ⨾ a_sign signs.OpenParenthesis ⨾ header_parameter_form l
+    ⨾ more_header_parameters_form l ⨾ nothing)
 
 abbrev pub perhaps_wire_form : Limits → Form
 perhaps_wire_form l =
@@ -182,7 +220,8 @@ perhaps_signed_form l =
 abbrev pub perhaps_range_form : Limits → Form
 perhaps_range_form l =
     skip_form (perhaps_range_on)
-    or (a_sign signs.OpenBracket ⨾ expression_form l 0 ⨾ a_sign signs.Colon ⨾ expression_form l 0 ⨾ a_sign signs.CloseBracket ⨾ nothing)
+    or (a_sign signs.OpenBracket ⨾ expression_form l 0 ⨾ a_sign signs.Colon ⨾ expression_form l 0
+    ⨾ a_sign signs.CloseBracket ⨾ nothing)
 
 abbrev pub perhaps_second_name_form : Limits → Form
 perhaps_second_name_form l =
@@ -192,7 +231,8 @@ perhaps_second_name_form l =
 abbrev pub label_end_form : Limits → Form
 label_end_form l =
     (a_sign signs.CloseBrace ⨾ nothing)
-    or (a_sign signs.OpenParenthesis ⨾ some_name ⨾ perhaps_second_name_form l ⨾ a_sign signs.CloseParenthesis ⨾ a_sign signs.CloseBrace ⨾ nothing)
+    or (a_sign signs.OpenParenthesis ⨾ some_name ⨾ perhaps_second_name_form l
+    ⨾ a_sign signs.CloseParenthesis ⨾ a_sign signs.CloseBrace ⨾ nothing)
 
 abbrev pub perhaps_label_form : Limits → Form
 perhaps_label_form l =
@@ -201,8 +241,10 @@ perhaps_label_form l =
 
 abbrev pub later_port_form : Limits → Form
 later_port_form l =
-    (a_word words.Input ⨾ perhaps_wire_form l ⨾ perhaps_signed_form l ⨾ perhaps_range_form l ⨾ perhaps_label_form l ⨾ some_name ⨾ nothing)
-    or (a_word words.Output ⨾ perhaps_wire_or_reg_form l ⨾ perhaps_signed_form l ⨾ perhaps_range_form l ⨾ perhaps_label_form l ⨾ some_name ⨾ nothing)
+    (a_word words.Input ⨾ perhaps_wire_form l ⨾ perhaps_signed_form l ⨾ perhaps_range_form l
+    ⨾ perhaps_label_form l ⨾ some_name ⨾ nothing)
+    or (a_word words.Output ⨾ perhaps_wire_or_reg_form l ⨾ perhaps_signed_form l
+    ⨾ perhaps_range_form l ⨾ perhaps_label_form l ⨾ some_name ⨾ nothing)
     or (some_name ⨾ nothing)
 
 abbrev pub more_ports_row : Limits → Form
@@ -217,8 +259,10 @@ more_ports_form l = loop_form (more_ports_row l) (more_ports_end l)
 
 abbrev pub ports_form : Limits → Form
 ports_form l =
-    (a_word words.Input ⨾ perhaps_wire_form l ⨾ perhaps_signed_form l ⨾ perhaps_range_form l ⨾ perhaps_label_form l ⨾ some_name ⨾ more_ports_form l ⨾ nothing)
-    or (a_word words.Output ⨾ perhaps_wire_or_reg_form l ⨾ perhaps_signed_form l ⨾ perhaps_range_form l ⨾ perhaps_label_form l ⨾ some_name ⨾ more_ports_form l ⨾ nothing)
+    (a_word words.Input ⨾ perhaps_wire_form l ⨾ perhaps_signed_form l ⨾ perhaps_range_form l
+    ⨾ perhaps_label_form l ⨾ some_name ⨾ more_ports_form l ⨾ nothing)
+    or (a_word words.Output ⨾ perhaps_wire_or_reg_form l ⨾ perhaps_signed_form l
+    ⨾ perhaps_range_form l ⨾ perhaps_label_form l ⨾ some_name ⨾ more_ports_form l ⨾ nothing)
     or (a_sign signs.CloseParenthesis ⨾ nothing)
 
 abbrev pub perhaps_ports_form : Limits → Form
@@ -253,18 +297,22 @@ more_wires_form l = loop_form (more_wires_row l) (more_wires_end l)
 
 abbrev pub behind_reg_name_form : Limits → Form
 behind_reg_name_form l =
-    (a_sign signs.OpenBracket ⨾ some_number ⨾ a_sign signs.Colon ⨾ some_number ⨾ a_sign signs.CloseBracket ⨾ a_sign signs.Semicolon ⨾ nothing)
+    (a_sign signs.OpenBracket ⨾ some_number ⨾ a_sign signs.Colon ⨾ some_number
+    ⨾ a_sign signs.CloseBracket ⨾ a_sign signs.Semicolon ⨾ nothing)
     or (a_sign signs.Comma ⨾ some_name ⨾ more_names_form l signs.Semicolon ⨾ nothing)
     or (a_sign signs.Semicolon ⨾ nothing)
 
 abbrev pub memory_name_form : Limits → Form
 memory_name_form l =
-    (some_name ⨾ a_sign signs.OpenBracket ⨾ some_number ⨾ a_sign signs.Colon ⨾ some_number ⨾ a_sign signs.CloseBracket ⨾ nothing)
+    (some_name ⨾ a_sign signs.OpenBracket ⨾ some_number ⨾ a_sign signs.Colon ⨾ some_number
+    ⨾ a_sign signs.CloseBracket ⨾ nothing)
 
 abbrev pub label_selector_form : Limits → Form
 label_selector_form l =
-    (a_sign signs.Hash ⨾ a_sign signs.CloseParenthesis ⨾ a_sign signs.CloseBrace ⨾ memory_name_form l ⨾ a_sign signs.Semicolon ⨾ nothing)
-    or (some_name ⨾ perhaps_second_name_form l ⨾ a_sign signs.CloseParenthesis ⨾ a_sign signs.CloseBrace ⨾ some_name ⨾ more_names_form l signs.Semicolon ⨾ nothing)
+    (a_sign signs.Hash ⨾ a_sign signs.CloseParenthesis ⨾ a_sign signs.CloseBrace
+    ⨾ memory_name_form l ⨾ a_sign signs.Semicolon ⨾ nothing)
+    or (some_name ⨾ perhaps_second_name_form l ⨾ a_sign signs.CloseParenthesis
+    ⨾ a_sign signs.CloseBrace ⨾ some_name ⨾ more_names_form l signs.Semicolon ⨾ nothing)
 
 abbrev pub reg_name_form : Limits → Form
 reg_name_form l =
@@ -283,7 +331,8 @@ reg_label_form l =
 abbrev pub later_assigned_form : Limits → Form
 later_assigned_form l =
     (some_name ⨾ a_sign signs.Equals ⨾ expression_form l 0 ⨾ nothing)
-    or (a_sign signs.OpenBrace ⨾ some_name ⨾ more_names_form l signs.CloseBrace ⨾ a_sign signs.Equals ⨾ expression_form l 0 ⨾ nothing)
+    or (a_sign signs.OpenBrace ⨾ some_name ⨾ more_names_form l signs.CloseBrace
+    ⨾ a_sign signs.Equals ⨾ expression_form l 0 ⨾ nothing)
 
 abbrev pub more_assigned_row : Limits → Form
 more_assigned_row l =
@@ -297,13 +346,15 @@ more_assigned_form l = loop_form (more_assigned_row l) (more_assigned_end l)
 
 abbrev pub value_or_release_form : Limits → Form
 value_or_release_form l =
-    (a_word words.Release ⨾ a_sign signs.OpenParenthesis ⨾ expression_form l 0 ⨾ a_sign signs.Comma ⨾ some_name ⨾ a_sign signs.CloseParenthesis ⨾ a_sign signs.Semicolon ⨾ nothing)
+    (a_word words.Release ⨾ a_sign signs.OpenParenthesis ⨾ expression_form l 0 ⨾ a_sign signs.Comma
+    ⨾ some_name ⨾ a_sign signs.CloseParenthesis ⨾ a_sign signs.Semicolon ⨾ nothing)
     or (expression_form l 0 ⨾ more_assigned_form l ⨾ nothing)
 
 abbrev pub assigned_form : Limits → Form
 assigned_form l =
     (some_name ⨾ a_sign signs.Equals ⨾ value_or_release_form l ⨾ nothing)
-    or (a_sign signs.OpenBrace ⨾ some_name ⨾ more_names_form l signs.CloseBrace ⨾ a_sign signs.Equals ⨾ expression_form l 0 ⨾ more_assigned_form l ⨾ nothing)
+    or (a_sign signs.OpenBrace ⨾ some_name ⨾ more_names_form l signs.CloseBrace
+    ⨾ a_sign signs.Equals ⨾ expression_form l 0 ⨾ more_assigned_form l ⨾ nothing)
 
 abbrev pub event_inside_form : Limits → Form
 event_inside_form l =
@@ -317,7 +368,8 @@ event_form l =
 
 abbrev pub more_named_overrides_row : Limits → Form
 more_named_overrides_row l =
-    (a_sign signs.Comma ⨾ a_sign signs.Dot ⨾ some_name ⨾ a_sign signs.OpenParenthesis ⨾ expression_form l 0 ⨾ a_sign signs.CloseParenthesis)
+    (a_sign signs.Comma ⨾ a_sign signs.Dot ⨾ some_name ⨾ a_sign signs.OpenParenthesis
+    ⨾ expression_form l 0 ⨾ a_sign signs.CloseParenthesis)
 
 abbrev pub more_named_overrides_end : Limits → Form
 more_named_overrides_end l = a_sign signs.CloseParenthesis
@@ -327,7 +379,8 @@ more_named_overrides_form l = loop_form (more_named_overrides_row l) (more_named
 
 abbrev pub overrides_form : Limits → Form
 overrides_form l =
-    (a_sign signs.Dot ⨾ some_name ⨾ a_sign signs.OpenParenthesis ⨾ expression_form l 0 ⨾ a_sign signs.CloseParenthesis ⨾ more_named_overrides_form l ⨾ nothing)
+    (a_sign signs.Dot ⨾ some_name ⨾ a_sign signs.OpenParenthesis ⨾ expression_form l 0
+    ⨾ a_sign signs.CloseParenthesis ⨾ more_named_overrides_form l ⨾ nothing)
     or (expression_form l 0 ⨾ more_values_form l ⨾ nothing)
 
 abbrev pub perhaps_overrides_form : Limits → Form
@@ -353,7 +406,8 @@ more_named_links_form l = loop_form (more_named_links_row l) (more_named_links_e
 abbrev pub links_form : Limits → Form
 links_form l =
     (a_sign signs.CloseParenthesis ⨾ nothing)
-    or (a_sign signs.Dot ⨾ some_name ⨾ a_sign signs.OpenParenthesis ⨾ link_form l ⨾ more_named_links_form l ⨾ nothing)
+    or (a_sign signs.Dot ⨾ some_name ⨾ a_sign signs.OpenParenthesis ⨾ link_form l
+    ⨾ more_named_links_form l ⨾ nothing)
     or (expression_form l 0 ⨾ more_values_form l ⨾ nothing)
 
 abbrev pub more_instances_row : Limits → Form
@@ -413,14 +467,18 @@ perhaps_else_form l n =
 
 abbrev pub items_row : Limits → Form
 items_row l =
-    (a_word words.Parameter ⨾ parameter_type_form l ⨾ some_name ⨾ a_sign signs.Equals ⨾ expression_form l 0 ⨾ more_parameters_form l)
-    or (a_word words.Localparam ⨾ parameter_type_form l ⨾ some_name ⨾ a_sign signs.Equals ⨾ expression_form l 0 ⨾ more_parameters_form l)
-    or (a_word words.Wire ⨾ perhaps_signed_form l ⨾ perhaps_range_form l ⨾ perhaps_label_form l ⨾ some_name ⨾ perhaps_value_form l ⨾ more_wires_form l)
+    (a_word words.Parameter ⨾ parameter_type_form l ⨾ some_name ⨾ a_sign signs.Equals
+    ⨾ expression_form l 0 ⨾ more_parameters_form l)
+    or (a_word words.Localparam ⨾ parameter_type_form l ⨾ some_name ⨾ a_sign signs.Equals
+    ⨾ expression_form l 0 ⨾ more_parameters_form l)
+    or (a_word words.Wire ⨾ perhaps_signed_form l ⨾ perhaps_range_form l ⨾ perhaps_label_form l
+    ⨾ some_name ⨾ perhaps_value_form l ⨾ more_wires_form l)
     or (a_word words.Reg ⨾ perhaps_signed_form l ⨾ perhaps_range_form l ⨾ reg_label_form l)
     or (a_word words.Assign ⨾ assigned_form l)
     or (a_word words.Always ⨾ a_sign signs.At ⨾ event_form l ⨾ statement_form l 0)
     or (a_word words.Invariant ⨾ expression_form l 0 ⨾ a_sign signs.Semicolon)
-    or (some_name ⨾ perhaps_overrides_form l ⨾ some_name ⨾ a_sign signs.OpenParenthesis ⨾ links_form l ⨾ more_instances_form l)
+    or (some_name ⨾ perhaps_overrides_form l ⨾ some_name ⨾ a_sign signs.OpenParenthesis
+    ⨾ links_form l ⨾ more_instances_form l)
 
 abbrev pub items_end : Limits → Form
 items_end l = a_word words.Endmodule
@@ -430,7 +488,8 @@ items_form l = loop_form (items_row l) (items_end l)
 
 abbrev pub one_module_form : Limits → Form
 one_module_form l =
-    (a_word words.Module ⨾ some_name ⨾ perhaps_header_parameters_form l ⨾ perhaps_ports_form l ⨾ a_sign signs.Semicolon ⨾ items_form l ⨾ nothing)
+    (a_word words.Module ⨾ some_name ⨾ perhaps_header_parameters_form l ⨾ perhaps_ports_form l
+    ⨾ a_sign signs.Semicolon ⨾ items_form l ⨾ nothing)
 
 abbrev pub outer_form : Limits → Outer → Form
 outer_form l (punctuation s) = punctuation_form s

@@ -11,4 +11,5 @@ abbrev pub modules_form : Limits → Form
 modules_form l ts rest = (k : ℕ) × times (one_module_form l) k ts rest
 
 abbrev pub text_form : Limits → List Placed → Type 0
-text_form l ts = (outer_forms l (perhaps_lattice ∷ perhaps_maps ∷ one_module ∷ []) ⨾ modules_form l) ts []
+text_form l ts =
+    (outer_forms l (perhaps_lattice ∷ perhaps_maps ∷ one_module ∷ []) ⨾ modules_form l) ts []

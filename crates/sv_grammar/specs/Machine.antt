@@ -1,11 +1,51 @@
 -- A run over tokens: what is still to come, token by token, and where no text goes on.
-use Rattle.std.specs.Prelude.{ℕ, ◌+◌, ◌-◌, max, Bool, true, false, ◌&&◌, List, [], ◌∷◌, ◌++◌, map, length}
+use Rattle.std.specs.Prelude.{ℕ, ◌+◌, ◌-◌, max, Bool, true, false, ◌&&◌, List, [], ◌∷◌, ◌++◌, map}
+use Rattle.std.specs.Prelude.{length}
 use Rattle.sv_token.specs.Lexemes.{Lexeme, Placed}
 use Rattle.sv_ast.specs.GrammarExpressions.{Limits, is_within}
-use Rattle.sv_grammar.specs.Symbols.{Inner, tail, selection, Outer, punctuation, plain_name, plain_number, expression, more_names, more_values, perhaps_lattice, lattice_lines, less_equal, perhaps_maps, map_name, perhaps_key_range, rows, perhaps_second_key, end_of_map, one_module, perhaps_header_parameters, header_parameter, later_header_parameter, more_header_parameters, parameter_type, perhaps_ports, ports, later_port, more_ports, perhaps_wire, perhaps_wire_or_reg, perhaps_signed, perhaps_range, perhaps_label, label_end, perhaps_second_name, items, more_parameters, perhaps_value, more_wires, reg_label, reg_label_end, reg_name, behind_reg_name, label_selector, memory_name, assigned, value_or_release, later_assigned, more_assigned, event, event_inside, perhaps_overrides, overrides, more_named_overrides, links, link, more_named_links, more_instances, statement, statements, perhaps_block_name, perhaps_else, perhaps_bits, bits_end, more_targets, assigns, arms, more_choices, perhaps_colon, Symbol, inner, outer, State, Expected, InnerReaction, takes_inner, over_inner, stuck_inner, OuterReaction, takes, begins, over, stuck}
+use Rattle.sv_grammar.specs.Symbols.{Inner, tail, selection, Outer, punctuation, plain_name}
+use Rattle.sv_grammar.specs.Symbols.{plain_number, expression, more_names, more_values}
+use Rattle.sv_grammar.specs.Symbols.{perhaps_lattice, lattice_lines, less_equal, perhaps_maps}
+use Rattle.sv_grammar.specs.Symbols.{map_name, perhaps_key_range, rows, perhaps_second_key}
+use Rattle.sv_grammar.specs.Symbols.{end_of_map, one_module, perhaps_header_parameters}
+use Rattle.sv_grammar.specs.Symbols.{header_parameter, later_header_parameter}
+use Rattle.sv_grammar.specs.Symbols.{more_header_parameters, parameter_type, perhaps_ports, ports}
+use Rattle.sv_grammar.specs.Symbols.{later_port, more_ports, perhaps_wire, perhaps_wire_or_reg}
+use Rattle.sv_grammar.specs.Symbols.{perhaps_signed, perhaps_range, perhaps_label, label_end}
+use Rattle.sv_grammar.specs.Symbols.{perhaps_second_name, items, more_parameters, perhaps_value}
+use Rattle.sv_grammar.specs.Symbols.{more_wires, reg_label, reg_label_end, reg_name}
+use Rattle.sv_grammar.specs.Symbols.{behind_reg_name, label_selector, memory_name, assigned}
+use Rattle.sv_grammar.specs.Symbols.{value_or_release, later_assigned, more_assigned, event}
+use Rattle.sv_grammar.specs.Symbols.{event_inside, perhaps_overrides, overrides}
+use Rattle.sv_grammar.specs.Symbols.{more_named_overrides, links, link, more_named_links}
+use Rattle.sv_grammar.specs.Symbols.{more_instances, statement, statements, perhaps_block_name}
+use Rattle.sv_grammar.specs.Symbols.{perhaps_else, perhaps_bits, bits_end, more_targets, assigns}
+use Rattle.sv_grammar.specs.Symbols.{arms, more_choices, perhaps_colon, Symbol, inner, outer, State}
+use Rattle.sv_grammar.specs.Symbols.{Expected, InnerReaction, takes_inner, over_inner, stuck_inner}
+use Rattle.sv_grammar.specs.Symbols.{OuterReaction, takes, begins, over, stuck}
 use Rattle.sv_grammar.specs.ExpressionTable.{inner_on, expression_on}
-use Rattle.sv_grammar.specs.StatementTable.{punctuation_on, name_on, number_on, less_equal_on, more_names_on, more_values_on, statement_on, statements_on, perhaps_block_name_on, perhaps_else_on, perhaps_bits_on, bits_end_on, more_targets_on, assigns_on, arms_on, more_choices_on, perhaps_colon_on}
-use Rattle.sv_grammar.specs.ModuleTable.{perhaps_lattice_on, lattice_lines_on, perhaps_maps_on, map_name_on, perhaps_key_range_on, rows_on, perhaps_second_key_on, end_of_map_on, one_module_on, perhaps_header_parameters_on, header_parameter_on, later_header_parameter_on, more_header_parameters_on, parameter_type_on, perhaps_ports_on, ports_on, later_port_on, more_ports_on, perhaps_wire_on, perhaps_wire_or_reg_on, perhaps_signed_on, perhaps_range_on, perhaps_label_on, label_end_on, perhaps_second_name_on, items_on, more_parameters_on, perhaps_value_on, more_wires_on, reg_label_on, reg_label_end_on, reg_name_on, behind_reg_name_on, label_selector_on, memory_name_on, assigned_on, value_or_release_on, later_assigned_on, more_assigned_on, event_on, event_inside_on, perhaps_overrides_on, overrides_on, more_named_overrides_on, links_on, link_on, more_named_links_on, more_instances_on}
+use Rattle.sv_grammar.specs.StatementTable.{punctuation_on, name_on, number_on, less_equal_on}
+use Rattle.sv_grammar.specs.StatementTable.{more_names_on, more_values_on, statement_on}
+use Rattle.sv_grammar.specs.StatementTable.{statements_on, perhaps_block_name_on, perhaps_else_on}
+use Rattle.sv_grammar.specs.StatementTable.{perhaps_bits_on, bits_end_on, more_targets_on}
+use Rattle.sv_grammar.specs.StatementTable.{assigns_on, arms_on, more_choices_on, perhaps_colon_on}
+use Rattle.sv_grammar.specs.ModuleTable.{perhaps_lattice_on, lattice_lines_on, perhaps_maps_on}
+use Rattle.sv_grammar.specs.ModuleTable.{map_name_on, perhaps_key_range_on, rows_on}
+use Rattle.sv_grammar.specs.ModuleTable.{perhaps_second_key_on, end_of_map_on, one_module_on}
+use Rattle.sv_grammar.specs.ModuleTable.{perhaps_header_parameters_on, header_parameter_on}
+use Rattle.sv_grammar.specs.ModuleTable.{later_header_parameter_on, more_header_parameters_on}
+use Rattle.sv_grammar.specs.ModuleTable.{parameter_type_on, perhaps_ports_on, ports_on}
+use Rattle.sv_grammar.specs.ModuleTable.{later_port_on, more_ports_on, perhaps_wire_on}
+use Rattle.sv_grammar.specs.ModuleTable.{perhaps_wire_or_reg_on, perhaps_signed_on}
+use Rattle.sv_grammar.specs.ModuleTable.{perhaps_range_on, perhaps_label_on, label_end_on}
+use Rattle.sv_grammar.specs.ModuleTable.{perhaps_second_name_on, items_on, more_parameters_on}
+use Rattle.sv_grammar.specs.ModuleTable.{perhaps_value_on, more_wires_on, reg_label_on}
+use Rattle.sv_grammar.specs.ModuleTable.{reg_label_end_on, reg_name_on, behind_reg_name_on}
+use Rattle.sv_grammar.specs.ModuleTable.{label_selector_on, memory_name_on, assigned_on}
+use Rattle.sv_grammar.specs.ModuleTable.{value_or_release_on, later_assigned_on, more_assigned_on}
+use Rattle.sv_grammar.specs.ModuleTable.{event_on, event_inside_on, perhaps_overrides_on}
+use Rattle.sv_grammar.specs.ModuleTable.{overrides_on, more_named_overrides_on, links_on, link_on}
+use Rattle.sv_grammar.specs.ModuleTable.{more_named_links_on, more_instances_on}
 
 -- ---- the table
 
@@ -105,21 +145,26 @@ inside_on start xs = map (inner start) xs
 abbrev pub outside_on : List Outer → List Symbol
 outside_on ys = map outer ys
 
--- how many tokens an expression has that began with so many left, where so many are left behind the token
+-- how many tokens an expression has that began with so many left, where so many are left behind the
+-- token
 abbrev pub tokens_of : Limits → (start after : ℕ) → ℕ
 tokens_of l start after = start - max after l.unread
 
-abbrev pub after_inner : Limits → (after start : ℕ) → (below : State) → (skip : Step) → InnerReaction → Step
+abbrev pub after_inner : Limits → (after start : ℕ) → (below : State) → (skip : Step) →
+    InnerReaction → Step
 after_inner l after start below skip (takes_inner level xs) =
-    within_limits (is_within l.levels level) (is_within l.tokens (tokens_of l start after)) (inside_on start xs ++ below)
+    within_limits (is_within l.levels level) (is_within l.tokens (tokens_of l start after))
+    (inside_on start xs ++ below)
 after_inner l after start below skip over_inner = skip
 after_inner l after start below skip (stuck_inner e) = fails_as (stuck_at e)
 
-abbrev pub after_outer : Limits → (after : ℕ) → (below : State) → (skip : Step) → OuterReaction → Step
+abbrev pub after_outer : Limits → (after : ℕ) → (below : State) → (skip : Step) →
+    OuterReaction → Step
 after_outer l after below skip (takes level arm ys) =
     within_limits (is_within l.levels level) (is_within l.arms arm) (outside_on ys ++ below)
 after_outer l after below skip (begins level arm xs ys) =
-    within_limits (is_within l.levels level) (is_within l.arms arm && is_within l.tokens (tokens_of l (after + 1) after))
+    within_limits (is_within l.levels level) (is_within l.arms arm
+    && is_within l.tokens (tokens_of l (after + 1) after))
     (inside_on (after + 1) xs ++ (outside_on ys ++ below))
 after_outer l after below skip over = skip
 after_outer l after below skip (stuck e) = fails_as (stuck_at e)
@@ -127,7 +172,8 @@ after_outer l after below skip (stuck e) = fails_as (stuck_at e)
 -- what the lexeme does, where so many tokens are left behind it
 abbrev pub step : Limits → (after : ℕ) → State → Lexeme → Step
 step l after [] x = after_outer l after [] (goes []) (one_module_on x)
-step l after (inner start s ∷ below) x = after_inner l after start below (step l after below x) (inner_on s x)
+step l after (inner start s ∷ below) x =
+    after_inner l after start below (step l after below x) (inner_on s x)
 step l after (outer s ∷ below) x = after_outer l after below (step l after below x) (outer_on s x)
 
 -- ---- a run

@@ -1,4 +1,5 @@
--- What a function that reads says of the machine: reading these symbols comes to reading those, with fewer tokens left; or it fails there.
+-- What a function that reads says of the machine: reading these symbols comes to reading those,
+-- with fewer tokens left; or it fails there.
 use Rattle.std.specs.Prelude.{◌≡◌, ℕ, ◌<◌, false, not, IsTrue, List, [], ◌∷◌, ◌++◌, length, Some}
 use Rattle.sv_num.specs.declared.operators.BinOp.{BinOp}
 use Rattle.sv_token.specs.declared.keywords.WordKind.{WordKind}
@@ -68,34 +69,41 @@ abbrev pub NextIsNoOperator : BinOp → List Placed → Type 0
 NextIsNoOperator op = NextIs (IsNoOperator op)
 
 abbrev pub IsNoBinary : Lexeme → Type 0
-IsNoBinary x = (o : Operator) (op : BinOp) → x ≡ sign (signs.Operator o) → binary_operator o ≡ Some op → ⊥
+IsNoBinary x =
+    (o : Operator) (op : BinOp) → x ≡ sign (signs.Operator o) → binary_operator o ≡ Some op → ⊥
 
 abbrev pub NextIsNoBinary : List Placed → Type 0
 NextIsNoBinary = NextIs IsNoBinary
 
 abbrev pub IsNoUnary : Lexeme → Type 0
-IsNoUnary x = (o : Operator) (op : UnOp) → x ≡ sign (signs.Operator o) → unary_operator o ≡ Some op → ⊥
+IsNoUnary x =
+    (o : Operator) (op : UnOp) → x ≡ sign (signs.Operator o) → unary_operator o ≡ Some op → ⊥
 
 abbrev pub NextIsNoUnary : List Placed → Type 0
 NextIsNoUnary = NextIs IsNoUnary
 
 -- no binary operator of the level
 abbrev pub IsNotOfLevel : ℕ → Lexeme → Type 0
-IsNotOfLevel level x = (o : Operator) (op : BinOp) → x ≡ sign (signs.Operator o) → binary_operator o ≡ Some op → level_of op ≡ level → ⊥
+IsNotOfLevel level x =
+    (o : Operator) (op : BinOp) → x ≡ sign (signs.Operator o) → binary_operator o ≡ Some op →
+    level_of op ≡ level → ⊥
 
 abbrev pub NextIsNotOfLevel : ℕ → List Placed → Type 0
 NextIsNotOfLevel level = NextIs (IsNotOfLevel level)
 
 -- if a binary operator, one that binds looser than the level
 abbrev pub IsLooser : ℕ → Lexeme → Type 0
-IsLooser level x = (o : Operator) (op : BinOp) → x ≡ sign (signs.Operator o) → binary_operator o ≡ Some op → level < level_of op
+IsLooser level x =
+    (o : Operator) (op : BinOp) → x ≡ sign (signs.Operator o) → binary_operator o ≡ Some op →
+    level < level_of op
 
 abbrev pub NextIsLooser : ℕ → List Placed → Type 0
 NextIsLooser level = NextIs (IsLooser level)
 
 -- ---- what comes next
 
--- a token that the symbol of an expression takes, with which a level of this number opens, or none (0)
+-- a token that the symbol of an expression takes, with which a level of this number opens, or none
+-- (0)
 abbrev pub NextTakes : Inner → (level : ℕ) → (xs : List Inner) → List Placed → Type 0
 NextTakes s level xs [] = ⊥
 NextTakes s level xs (t ∷ ts) = inner_on s t.lexeme ≡ takes_inner level xs
@@ -108,7 +116,8 @@ pub record Closes (k : SignKind) (s : Inner) : Type 0 where
 
 -- behind a comma comes what is next in the list, and then the same again
 pub record GoesOn (more next : State) : Type 0 where
-  pub comma : (ts rest : List Placed) → a_sign signs.Comma ts rest → Reads more (next ++ more) ts rest
+  pub comma : (ts rest : List Placed) → a_sign signs.Comma ts rest →
+      Reads more (next ++ more) ts rest
 
 abbrev pub NextIsSign : SignKind → List Placed → Type 0
 NextIsSign k [] = ⊥

@@ -8,7 +8,12 @@ use Rattle.sv_token.specs.declared.signs.SignKind.TheVariants as signs
 use Rattle.sv_token.specs.Lexemes.{Lexeme, word, identifier, numeral, sign}
 use Rattle.sv_token.specs.Words.{is_refused_word}
 use Rattle.sv_ast.specs.GrammarForms.{binary_operator}
-use Rattle.sv_grammar.specs.Symbols.{Outer, punctuation, plain_name, expression, more_names, more_values, statement, statements, perhaps_block_name, perhaps_else, perhaps_bits, bits_end, more_targets, assigns, arms, more_choices, perhaps_colon, a_statement, OuterReaction, takes, over, stuck, takes_all, unexpected, and_then, unless_refused}
+use Rattle.sv_grammar.specs.Symbols.{Outer, punctuation, plain_name, expression, more_names}
+use Rattle.sv_grammar.specs.Symbols.{more_values, statement, statements, perhaps_block_name}
+use Rattle.sv_grammar.specs.Symbols.{perhaps_else, perhaps_bits, bits_end, more_targets, assigns}
+use Rattle.sv_grammar.specs.Symbols.{arms, more_choices, perhaps_colon, a_statement, OuterReaction}
+use Rattle.sv_grammar.specs.Symbols.{takes, over, stuck, takes_all, unexpected, and_then}
+use Rattle.sv_grammar.specs.Symbols.{unless_refused}
 use Rattle.sv_grammar.specs.ExpressionTable.{expression_on}
 
 -- ---- single tokens and lists of names or expressions
@@ -82,17 +87,21 @@ more_values_on x = unexpected
 -- ---- statements
 
 abbrev pub condition : ℕ → List Outer → List Outer
-condition n ys = punctuation signs.OpenParenthesis ∷ expression n ∷ punctuation signs.CloseParenthesis ∷ ys
+condition n ys =
+    punctuation signs.OpenParenthesis ∷ expression n ∷ punctuation signs.CloseParenthesis ∷ ys
 
 abbrev pub assignment_behind : ℕ → List Outer
 assignment_behind n = assigns ∷ expression n ∷ punctuation signs.Semicolon ∷ []
 
 abbrev pub statement_on : ℕ → Lexeme → OuterReaction
 statement_on n (sign signs.Semicolon) = takes_all []
-statement_on n (identifier x) = unless_refused (is_refused_word x) (takes_all (perhaps_bits n ∷ assignment_behind n))
-statement_on n (sign signs.OpenBrace) = takes_all (plain_name ∷ perhaps_bits n ∷ more_targets n ∷ assignment_behind n)
+statement_on n (identifier x) =
+    unless_refused (is_refused_word x) (takes_all (perhaps_bits n ∷ assignment_behind n))
+statement_on n (sign signs.OpenBrace) =
+    takes_all (plain_name ∷ perhaps_bits n ∷ more_targets n ∷ assignment_behind n)
 statement_on n (word words.Begin) = takes (n + 1) 0 (perhaps_block_name ∷ statements (n + 1) ∷ [])
-statement_on n (word words.If) = takes (n + 1) 0 (condition (n + 1) (statement (n + 1) ∷ perhaps_else (n + 1) ∷ []))
+statement_on n (word words.If) =
+    takes (n + 1) 0 (condition (n + 1) (statement (n + 1) ∷ perhaps_else (n + 1) ∷ []))
 statement_on n (word words.Case) = takes (n + 1) 0 (condition (n + 1) (arms (n + 1) 0 false ∷ []))
 statement_on n x = stuck a_statement
 
@@ -135,12 +144,14 @@ no_more_arms (suc k) = takes_all []
 
 abbrev pub default_arm : ℕ → (before : ℕ) → (default : Bool) → OuterReaction
 default_arm n before true = unexpected
-default_arm n before false = takes 0 (before + 1) (perhaps_colon ∷ statement n ∷ arms n (before + 1) true ∷ [])
+default_arm n before false =
+    takes 0 (before + 1) (perhaps_colon ∷ statement n ∷ arms n (before + 1) true ∷ [])
 
 abbrev pub arms_on : ℕ → ℕ → Bool → Lexeme → OuterReaction
 arms_on n before default (word words.Endcase) = no_more_arms before
 arms_on n before default (word words.Default) = default_arm n before default
-arms_on n before default x = expression_on n (before + 1) (more_choices n ∷ statement n ∷ arms n (before + 1) default ∷ []) x
+arms_on n before default x =
+    expression_on n (before + 1) (more_choices n ∷ statement n ∷ arms n (before + 1) default ∷ []) x
 
 abbrev pub more_choices_on : ℕ → Lexeme → OuterReaction
 more_choices_on n (sign signs.Comma) = takes_all (expression n ∷ more_choices n ∷ [])

@@ -4,7 +4,8 @@ use Rattle.sv_token.specs.declared.signs.SignKind.{SignKind}
 
 -- ---- symbols
 
--- within an expression that stands in no other one; the number counts the levels that are open around
+-- within an expression that stands in no other one; the number counts the levels that are open
+-- around
 pub data Inner : Type 0 where
   -- an operand without the operators behind it
   operand : ℕ → Inner
@@ -101,7 +102,8 @@ pub data Outer : Type 0 where
   more_choices : ℕ → Outer
   perhaps_colon : Outer
 
--- of an expression, whose first token was the first of so many that were left; or of what is around expressions
+-- of an expression, whose first token was the first of so many that were left; or of what is around
+-- expressions
 pub data Symbol : Type 0 where
   inner : (start : ℕ) → Inner → Symbol
   outer : Outer → Symbol
@@ -122,14 +124,15 @@ pub data Expected : Type 0 where
   -- an operand is complete with a name
   behind_name : Expected
 
--- to a symbol of an expression: it takes it, opens this level (0 for none), and is followed by these; or it is over before it; or
--- no text goes on with it
+-- to a symbol of an expression: it takes it, opens this level (0 for none), and is followed by
+-- these; or it is over before it; or no text goes on with it
 pub data InnerReaction : Type 0 where
   takes_inner : (level : ℕ) → List Inner → InnerReaction
   over_inner : InnerReaction
   stuck_inner : Expected → InnerReaction
 
--- to a symbol outside: likewise, where it begins the arm of this number (0 for none), and may begin an expression
+-- to a symbol outside: likewise, where it begins the arm of this number (0 for none), and may begin
+-- an expression
 pub data OuterReaction : Type 0 where
   takes : (level arm : ℕ) → List Outer → OuterReaction
   begins : (level arm : ℕ) → List Inner → List Outer → OuterReaction

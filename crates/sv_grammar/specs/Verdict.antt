@@ -1,12 +1,14 @@
 -- The number and the names of the rule that tokens break where a run fails.
-use Rattle.std.specs.Prelude.{ℕ, nat_eq, Bool, true, false, ◌&&◌, List, [], ◌∷◌, Option, Some, None, codes}
+use Rattle.std.specs.Prelude.{ℕ, nat_eq, Bool, true, false, ◌&&◌, List, [], ◌∷◌, Option, Some, None}
+use Rattle.std.specs.Prelude.{codes}
 use Rattle.sv_token.specs.declared.keywords.WordKind.{WordKind}
 use Rattle.sv_token.specs.declared.keywords.WordKind.TheVariants as words
 use Rattle.sv_token.specs.declared.signs.SignKind.TheVariants as signs
 use Rattle.sv_token.specs.Lexemes.{Lexeme, word, identifier, sign, Placed}
 use Rattle.sv_token.specs.Words.{is_refused_word}
 use Rattle.sv_ast.specs.GrammarForms.{binary_operator}
-use Rattle.sv_ast.specs.GrammarRules.{Part, body, last_part, last_word, open_brackets, is_name, stop_at_name}
+use Rattle.sv_ast.specs.GrammarRules.{Part, body, last_part, last_word, open_brackets, is_name}
+use Rattle.sv_ast.specs.GrammarRules.{stop_at_name}
 use Rattle.sv_grammar.specs.Symbols.{Expected, an_item, a_statement, an_edge, a_port, behind_name}
 use Rattle.sv_grammar.specs.StatementTable.{is_star}
 use Rattle.sv_grammar.specs.Machine.{Failure, stuck_at, too_deep, too_long, ends_early}
@@ -80,15 +82,20 @@ dot_word e = None
 abbrev pub stop_at_declared : List Placed → Bool
 stop_at_declared before = stop_at_name before && nat_eq (open_brackets before) 0
 
--- the word of the form that is left out and begins with the lexeme, between these tokens; none, where it begins no such form
-abbrev pub refused_word : Expected → (before : List Placed) → Lexeme → (after : List Placed) → Option (List ℕ)
+-- the word of the form that is left out and begins with the lexeme, between these tokens; none,
+-- where it begins no such form
+abbrev pub refused_word : Expected → (before : List Placed) → Lexeme → (after : List Placed) →
+    Option (List ℕ)
 refused_word e before (identifier x) after = name_word (is_refused_word x) x e
 refused_word e before (sign signs.OpenParenthesis) after = parenthesis_word e (star_is_next after)
 refused_word e before (sign signs.Hash) after = hash_word e (is_body (last_part before))
-refused_word e before (sign signs.Equals) after = equals_word (last_word before) (stop_at_declared before)
-refused_word e before (sign signs.OpenBracket) after = bracket_word (last_word before) (stop_at_name before) (stop_at_declared before)
+refused_word e before (sign signs.Equals) after =
+    equals_word (last_word before) (stop_at_declared before)
+refused_word e before (sign signs.OpenBracket) after =
+    bracket_word (last_word before) (stop_at_name before) (stop_at_declared before)
 refused_word e before (sign signs.At) after = at_word e
-refused_word e before (sign signs.Comma) after = word_if (stop_at_clock before) (codes "several-events")
+refused_word e before (sign signs.Comma) after =
+    word_if (stop_at_clock before) (codes "several-events")
 refused_word e before (sign signs.Dot) after = dot_word e
 refused_word e before x after = None
 

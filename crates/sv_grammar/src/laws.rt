@@ -10,8 +10,9 @@ ghost use Rattle.sv_ast.specs.declared.modules.Text.{Text};
 ghost use Rattle.sv_ast.specs.GrammarMeaning.{Means, BreaksSyntax};
 ghost use Rattle.sv_ast.specs.GrammarRules.{TokensMean, BreaksGrammar};
 
-/// Tokens mean a text, or else they break a rule of 201 to 204 first at some place (this project's profile, over the grammar of
-/// IEEE 1364-2005). With the laws of `sv_ast` on what breaks no rule and is broken once, it is the one or the other, and one rule.
+/// Tokens mean a text, or else they break a rule of 201 to 204 first at some place (this project's
+/// profile, over the grammar of IEEE 1364-2005). With the laws of `sv_ast` on what breaks no rule
+/// and is broken once, it is the one or the other, and one rule.
 pub fn tokens_mean_a_text_or_break_a_rule()
     ensures { (tokens : List Placed) (stop : Place) →
         ((text : TextTree) × TokensMean tokens text)
@@ -21,12 +22,15 @@ pub fn tokens_mean_a_text_or_break_a_rule()
 
 /// Tokens break one rule of 201 to 204 first, with one list of names, at one place.
 pub fn tokens_break_one_rule()
-    ensures { (number other : ℕ) (names others : List (List ℕ)) (place elsewhere stop : Place) (tokens : List Placed) →
-        BreaksGrammar number names place stop tokens → BreaksGrammar other others elsewhere stop tokens →
+    ensures { (number other : ℕ) (names others : List (List ℕ)) (place elsewhere stop : Place)
+        (tokens : List Placed) →
+        BreaksGrammar number names place stop tokens →
+        BreaksGrammar other others elsewhere stop tokens →
         (number ≡ other) × (names ≡ others) × (place ≡ elsewhere) }
 {}
 
-/// Bytes mean a text, or else they break a rule on tokens or on the grammar, and one rule first, with one list of names, at one place.
+/// Bytes mean a text, or else they break a rule on tokens or on the grammar, and one rule first,
+/// with one list of names, at one place.
 pub fn bytes_mean_a_text_or_break_one_rule()
     ensures means_or_breaks { (bytes : List ℕ) →
         ((text : TextTree) × Means bytes text)
@@ -35,7 +39,8 @@ pub fn bytes_mean_a_text_or_break_one_rule()
     ensures never_both { (bytes : List ℕ) (text : TextTree) → Means bytes text →
         (number : ℕ) (names : List (List ℕ)) (place : Place) →
         BreaksSyntax number names place bytes → ⊥ }
-    ensures one_rule { (bytes : List ℕ) (number other : ℕ) (names others : List (List ℕ)) (place elsewhere : Place) →
+    ensures one_rule { (bytes : List ℕ) (number other : ℕ) (names others : List (List ℕ))
+        (place elsewhere : Place) →
         BreaksSyntax number names place bytes → BreaksSyntax other others elsewhere bytes →
         (number ≡ other) × (names ≡ others) × (place ≡ elsewhere) }
 {}

@@ -1,8 +1,11 @@
-//! A machine that follows the grammar token by token, and the laws that tokens mean a text or break a rule, and mean at most one.
+//! A machine that follows the grammar token by token, and the laws that tokens mean a text or break
+//! a rule, and mean at most one.
 //!
-//! What tokens mean, and where they break which rule of 201 to 204, is said in `sv_ast`: `specs/GrammarRules.antt` and the other files
-//! of the grammar. Here stands a machine on a stack of symbols (`specs/Symbols.antt`, `specs/Machine.antt` and the tables beside them);
-//! that it follows the grammar exactly is proved. What reads tokens says by `specs/Reads.antt` how far it has followed the machine.
+//! What tokens mean, and where they break which rule of 201 to 204, is said in `sv_ast`:
+//! `specs/GrammarRules.antt` and the other files of the grammar. Here stands a machine on a stack
+//! of symbols (`specs/Symbols.antt`, `specs/Machine.antt` and the tables beside them); that it
+//! follows the grammar exactly is proved. What reads tokens says by `specs/Reads.antt` how far it
+//! has followed the machine.
 //!
 //! The files in `specs/` say how reading goes; what it means stands in `sv_ast`.
 #![tactic(auto)]

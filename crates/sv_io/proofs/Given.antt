@@ -4,9 +4,12 @@ use Rattle.std.proofs.lemmas.Grind.{common_steps}
 use Rattle.std.proofs.lemmas.List.{take-append-drop}
 use Rattle.std.proofs.Math.Seq.{take-append-add, drop-append-add}
 
--- where the bytes that a take moves are the next ones, what was given grows by them, and what is left loses them
-pub take_moves : (all read moved : List ℕ) (at count : ℕ) → at ≤ length all → read ≡ all → moved ≡ take count (take (length read - at) (drop at read))
-    → (take (at + count) all ≡ take at all ++ moved) × (drop at all ≡ moved ++ drop (at + count) all)
+-- where the bytes that a take moves are the next ones, what was given grows by them, and what is
+-- left loses them
+pub take_moves : (all read moved : List ℕ) (at count : ℕ) → at ≤ length all → read ≡ all
+    → moved ≡ take count (take (length read - at) (drop at read))
+    → (take (at + count) all ≡ take at all ++ moved)
+    × (drop at all ≡ moved ++ drop (at + count) all)
 take_moves all read moved at count within same next =
     let whole = take-append-drop at all in
     let rest = take-append-drop count (drop at all) in

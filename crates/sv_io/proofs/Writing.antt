@@ -4,7 +4,8 @@ use Rattle.std.proofs.lemmas.Grind.{common_steps}
 use Rattle.sv_io.specs.Sink.{WritesFront}
 
 -- the front of a text is the front of each longer text
-pub writes_front_more : (old text more new : List ℕ) → WritesFront old text new → WritesFront old (text ++ more) new
+pub writes_front_more : (old text more new : List ℕ) → WritesFront old text new →
+    WritesFront old (text ++ more) new
 writes_front_more old text more new wrote = record {
   front = wrote.front;
   rest = wrote.rest ++ more;
@@ -13,7 +14,8 @@ writes_front_more old text more new wrote = record {
 }
 
 -- a whole text and then the front of the next
-pub writes_front_after : (old text between more new : List ℕ) → between ≡ old ++ text → WritesFront between more new → WritesFront old (text ++ more) new
+pub writes_front_after : (old text between more new : List ℕ) → between ≡ old ++ text →
+    WritesFront between more new → WritesFront old (text ++ more) new
 writes_front_after old text between more new whole wrote = record {
   front = text ++ wrote.front;
   rest = wrote.rest;

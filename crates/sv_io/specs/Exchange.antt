@@ -4,13 +4,15 @@ use Rattle.std.specs.Global.{Vec}
 use Rattle.sv_io.specs.declared.faults.FetchFault.{FetchFault}
 use Rattle.sv_io.specs.declared.faults.FetchFault.TheVariants.{Failed, Long, OutOfMemory}
 
--- what a fetch handed out: all the bytes; the first of more bytes than were asked for; or nothing, where it failed or had no memory
+-- what a fetch handed out: all the bytes; the first of more bytes than were asked for; or nothing,
+-- where it failed or had no memory
 pub data Fetched : Type 0 where
   whole : List ℕ → Fetched
   too_long : List ℕ → Fetched
   nothing : Fetched
 
--- one call of a cabinet: a fetch of a name, and what it handed out; or a store of bytes under a name, and whether it was done
+-- one call of a cabinet: a fetch of a name, and what it handed out; or a store of bytes under a
+-- name, and whether it was done
 pub data Exchange : Type 0 where
   fetched : List ℕ → Fetched → Exchange
   stored : List ℕ → List ℕ → Bool → Exchange

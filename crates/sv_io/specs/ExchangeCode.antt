@@ -16,7 +16,8 @@ to_parts (stored name bytes false) = (4, (name, bytes))
 
 abbrev from_parts : Parts → Exchange
 from_parts p =
-    cond (p.0 == 0) (fetched p.1.0 (whole p.1.1)) (cond (p.0 == 1) (fetched p.1.0 (too_long p.1.1)) (cond (p.0 == 2) (fetched p.1.0 nothing)
+    cond (p.0 == 0) (fetched p.1.0 (whole p.1.1))
+    (cond (p.0 == 1) (fetched p.1.0 (too_long p.1.1)) (cond (p.0 == 2) (fetched p.1.0 nothing)
     (cond (p.0 == 3) (stored p.1.0 p.1.1 true) (stored p.1.0 p.1.1 false))))
 
 pub from_parts-to_parts : (e : Exchange) → from_parts (to_parts e) ≡ e
@@ -27,4 +28,6 @@ from_parts-to_parts (stored name bytes true) = refl
 from_parts-to_parts (stored name bytes false) = refl
 
 abbrev pub exchanges_code : Coded (List Exchange)
-exchanges_code = coded_list (code_by Parts (coded× coded_ℕ (coded× (coded_list coded_ℕ) (coded_list coded_ℕ))) to_parts from_parts from_parts-to_parts)
+exchanges_code =
+    coded_list (code_by Parts (coded× coded_ℕ (coded× (coded_list coded_ℕ) (coded_list coded_ℕ)))
+    to_parts from_parts from_parts-to_parts)

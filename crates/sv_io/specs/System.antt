@@ -1,4 +1,5 @@
--- What the objects over the real system remember: what passed, how often the system failed, and its last error.
+-- What the objects over the real system remember: what passed, how often the system failed, and its
+-- last error.
 use Rattle.std.specs.Prelude.{ℕ, Bool, List}
 use Rattle.std.specs.Option.{is_some}
 use Rattle.sv_io.specs.declared.system.FileCabinet.{FileCabinet}

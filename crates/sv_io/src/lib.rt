@@ -1,5 +1,17 @@
 //! The outside of the checker: files by name, an input and an output, each as a trait that says
 //! what an object holds and how often it failed, with objects in memory and over the real system.
+//!
+//! A [`Cabinet`] fetches the bytes under a name and stores bytes under one, a [`Source`] gives the
+//! next bytes of an input, and a [`Sink`] accepts those of an output; each takes its memory from
+//! the caller. Each promises which bytes passed, on failure too, and that it counts its failures.
+//! The types in memory tell what they hold besides; of the real system nothing is promised but
+//! what passed.
+//!
+//! What a cabinet holds and what passes it is said in `specs/Cabinet.antt` and `Exchange.antt`,
+//! what a sink accepts in `Sink.antt`, and that a count rose in `Count.antt`. `Mem.antt`,
+//! `Sure.antt` and `System.antt` name what the objects remember. `Called.antt`, `ExchangeCode.antt`
+//! and `Files.antt` are private: they say how the code goes; the meaning stands in the files
+//! before.
 #![tactic(auto)]
 
 mod calls;

@@ -1,5 +1,6 @@
 -- Pairs of values that fit the ranges of a map.
-use Rattle.std.proofs.Common.{ℕ, ◌+◌, ◌*◌, ◌%◌, ◌<◌, ◌^◌, List, length, Option, Some, None, unwrap_or, arith}
+use Rattle.std.proofs.Common.{ℕ, ◌+◌, ◌*◌, ◌%◌, ◌<◌, ◌^◌, List, length, Option, Some, None}
+use Rattle.std.proofs.Common.{unwrap_or, arith}
 use Rattle.std.proofs.lemmas.Nat.{mul-add-lt, pow-add, shl_whole}
 use Rattle.sv_lattice.specs.declared.points.Point.{Point}
 use Rattle.sv_lattice.specs.Maps.{IsMap}
@@ -8,7 +9,8 @@ use Rattle.sv_lattice.specs.Maps.{IsMap}
 pub pair_has_row : (first : ℕ) (second : Option ℕ) (rows : List Point) (a b : ℕ) →
     IsMap first second rows → a < 2 ^ first → b < 2 ^ unwrap_or second 0 →
     a * 2 ^ unwrap_or second 0 % 2 ^ 64 + b < length rows
-pair_has_row first None rows a b map fits fits_second = omega (arith, map.2, shl_whole a first 0 64 fits (omega (arith, map.1)))
+pair_has_row first None rows a b map fits fits_second =
+    omega (arith, map.2, shl_whole a first 0 64 fits (omega (arith, map.1)))
 pair_has_row first (Some second) rows a b map fits fits_second =
     omega (
       arith,

@@ -1,11 +1,13 @@
--- Which point flows to which, and what makes points a lattice. Labels as points of a lattice, ordered by where
--- information may flow, are those of SecVerilog (ASPLOS 2015).
+-- Which point flows to which, and what makes points a lattice. Labels as points of a lattice,
+-- ordered by where information may flow, are those of SecVerilog (ASPLOS 2015).
 use Rattle.std.specs.Prelude.{◌≡◌, ℕ, ◌<◌, ◌≤◌, ◌⊎◌, List, [], ◌∷◌, length, take}
 use Rattle.std.specs.List.{All, Contains, HoldsAt}
 use Rattle.sv_lattice.specs.declared.points.LatticeFault.{LatticeFault}
-use Rattle.sv_lattice.specs.declared.points.LatticeFault.TheVariants.{Size, Unknown, Circle, NoJoin, NoMeet, OutOfMemory}
+use Rattle.sv_lattice.specs.declared.points.LatticeFault.TheVariants.{Size, Unknown, Circle, NoJoin}
+use Rattle.sv_lattice.specs.declared.points.LatticeFault.TheVariants.{NoMeet, OutOfMemory}
 
--- the points lead from a to b: each of a and the points has a declared pair with the next, and the last is b
+-- the points lead from a to b: each of a and the points has a declared pair with the next, and the
+-- last is b
 abbrev pub Leads : List (ℕ × ℕ) → ℕ → List ℕ → ℕ → Type 0
 Leads pairs a [] b = a ≡ b
 Leads pairs a (c ∷ points) b = Contains pairs (a, c) × Leads pairs c points b
@@ -14,7 +16,8 @@ Leads pairs a (c ∷ points) b = Contains pairs (a, c) × Leads pairs c points b
 abbrev pub Flows : List (ℕ × ℕ) → ℕ → ℕ → Type 0
 Flows pairs a b = (points : List ℕ) × Leads pairs a points b
 
--- c is the least upper point of a and b, of the points below n, where R says which point flows to which
+-- c is the least upper point of a and b, of the points below n, where R says which point flows to
+-- which
 pub record IsJoin (n : ℕ) (R : ℕ → ℕ → Type 0) (a b c : ℕ) : Type 0 where
   pub is_point : c < n
   pub above_first : R a c
@@ -79,7 +82,8 @@ IsFaultOf n pairs Size = ¬ IsPointCount n
 IsFaultOf n pairs (Unknown i) = IsPointCount n × IsFirstUnknown n pairs i
 IsFaultOf n pairs (Circle a b) = IsDeclared n pairs × IsFirstWithout n (IsApart (Flows pairs)) a b
 IsFaultOf n pairs (NoJoin a b) =
-    IsDeclared n pairs × EachPair n (IsApart (Flows pairs)) × IsFirstWithout n (HasJoin n (Flows pairs)) a b
+    IsDeclared n pairs × EachPair n (IsApart (Flows pairs))
+    × IsFirstWithout n (HasJoin n (Flows pairs)) a b
 IsFaultOf n pairs (NoMeet a b) =
     IsDeclared n pairs × EachPair n (IsApart (Flows pairs)) × EachPair n (HasJoin n (Flows pairs))
     × IsFirstWithout n (HasMeet n (Flows pairs)) a b

@@ -1,9 +1,13 @@
--- The table of a lattice: one number for each point, whose bit b says whether the point flows to point b.
-use Rattle.std.specs.Prelude.{◌≡◌, ℕ, ◌<◌, ◌^◌, ◌↔◌, Bool, ◌==◌, ◌||◌, ◌&&◌, IsTrue, MatchOption, Option, List, length, slice_index}
+-- The table of a lattice: one number for each point, whose bit b says whether the point flows to
+-- point b.
+use Rattle.std.specs.Prelude.{◌≡◌, ℕ, ◌<◌, ◌^◌, ◌↔◌, Bool, ◌==◌, ◌||◌, ◌&&◌, IsTrue, MatchOption}
+use Rattle.std.specs.Prelude.{Option, List, length, slice_index}
 use Rattle.std.specs.Int.{bit_at}
-use Rattle.sv_lattice.specs.Flows.{Flows, EachPair, IsLattice, IsPointCount, IsApart, HasJoin, HasMeet, IsFirstWithout}
+use Rattle.sv_lattice.specs.Flows.{Flows, EachPair, IsLattice, IsPointCount, IsApart, HasJoin}
+use Rattle.sv_lattice.specs.Flows.{HasMeet, IsFirstWithout}
 use Rattle.sv_lattice.specs.declared.points.LatticeFault.{LatticeFault}
-use Rattle.sv_lattice.specs.declared.points.LatticeFault.TheVariants.{Size, Unknown, Circle, NoJoin, NoMeet, OutOfMemory}
+use Rattle.sv_lattice.specs.declared.points.LatticeFault.TheVariants.{Size, Unknown, Circle, NoJoin}
+use Rattle.sv_lattice.specs.declared.points.LatticeFault.TheVariants.{NoMeet, OutOfMemory}
 
 -- whether point a flows to point b
 abbrev pub flow_test : List ℕ → ℕ → ℕ → Bool
@@ -35,9 +39,11 @@ pub record IsLatticeTable (table : List ℕ) : Type 0 where
   pub preorder : IsPreorder (length table) (FlowsTo table)
   pub lattice : IsLattice (length table) (FlowsTo table)
 
--- what the rows say of a and b after a flow from x to y was added: a flows to b as before, or by x and y
+-- what the rows say of a and b after a flow from x to y was added: a flows to b as before, or by x
+-- and y
 abbrev pub GainsFlow : List ℕ → List ℕ → ℕ → ℕ → ℕ → ℕ → Type 0
-GainsFlow old new x y a b = flow_test new a b ≡ (flow_test old a b || (flow_test old a x && flow_test old y b))
+GainsFlow old new x y a b =
+    flow_test new a b ≡ (flow_test old a b || (flow_test old a x && flow_test old y b))
 
 -- the second table has the flows of the first the other way round
 abbrev pub IsTurned : List ℕ → List ℕ → Type 0
@@ -69,7 +75,8 @@ HaveJoin table = HasJoin (length table) (FlowsTo table)
 abbrev pub IsOrderFault : ℕ → (ℕ → ℕ → Type 0) → LatticeFault → Type 0
 IsOrderFault n R (Circle a b) = IsFirstWithout n (IsApart R) a b
 IsOrderFault n R (NoJoin a b) = EachPair n (IsApart R) × IsFirstWithout n (HasJoin n R) a b
-IsOrderFault n R (NoMeet a b) = EachPair n (IsApart R) × EachPair n (HasJoin n R) × IsFirstWithout n (HasMeet n R) a b
+IsOrderFault n R (NoMeet a b) =
+    EachPair n (IsApart R) × EachPair n (HasJoin n R) × IsFirstWithout n (HasMeet n R) a b
 IsOrderFault n R Size = ⊥
 IsOrderFault n R (Unknown i) = ⊥
 IsOrderFault n R OutOfMemory = ⊥

@@ -1,6 +1,7 @@
 // The first two points that break what a lattice asks for, found in its table.
 ghost use Rattle.std.specs.Prelude.{◌↔◌, ◌<◌, ◌≤◌, length, IsTrue};
-ghost use Rattle.sv_lattice.specs.Tables.{FlowsTo, IsWithin, IsPreorder, FindsNumber, FindsPair, AreApart, HaveJoin};
+ghost use Rattle.sv_lattice.specs.Tables.{FlowsTo, IsWithin, IsPreorder, FindsNumber, FindsPair};
+ghost use Rattle.sv_lattice.specs.Tables.{AreApart, HaveJoin};
 
 use crate::flow_table::has;
 
@@ -59,7 +60,8 @@ fn unjoined_with(table: &[u32], first: usize) -> Option<usize>
     None
 }
 
-// The upper points of two points are those that both rows have, and they are the row of the least of them.
+// The upper points of two points are those that both rows have, and they are the row of the least
+// of them.
 fn have_join(table: &[u32], first: usize, second: usize) -> bool
     requires within { IsWithin (length table.now) table.now }
     requires preorder { IsPreorder (length table.now) (FlowsTo table.now) }

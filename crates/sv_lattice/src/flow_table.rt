@@ -17,7 +17,8 @@ pub fn has(row: u32, point: usize) -> bool
 
 /// The first pair with a number that is no point.
 pub fn first_unknown(points: u32, pairs: &[(u32, u32)]) -> Option<usize>
-    ensures { MatchOption result (All (IsKnown points) pairs.now) (IsFirstUnknown points pairs.now) }
+    ensures { MatchOption result (All (IsKnown points) pairs.now)
+        (IsFirstUnknown points pairs.now) }
 {
     for (i, pair) in pairs.iter().enumerate() {
         if pair.0 >= points || pair.1 >= points {
@@ -39,7 +40,8 @@ pub fn alone(alloc: Global, points: u32) -> Result<Vec<u32>, AllocError>
     Ok(table)
 }
 
-/// Adds what follows where one point flows to another: whatever flows to the first flows to all that the second does.
+/// Adds what follows where one point flows to another: whatever flows to the first flows to all
+/// that the second does.
 pub fn add_flow(table: &mut [u32], from: usize, to: usize)
     requires count { length table.old ≤ 32 }
     requires from { from < length table.old }
@@ -75,7 +77,8 @@ pub fn closed(alloc: Global, points: u32, pairs: &[(u32, u32)]) -> Result<Vec<u3
 pub fn column(table: &[u32], point: usize) -> u32
     requires count { length table.now ≤ 32 }
     requires point { point < length table.now }
-    ensures exact { (a : ℕ) → a < length table.now → (bit_at result a == 1) ≡ flow_test table.now a point }
+    ensures exact { (a : ℕ) → a < length table.now →
+        (bit_at result a == 1) ≡ flow_test table.now a point }
     ensures within { result < 2 ^ length table.now }
 {
     let mut row = 0;

@@ -1,5 +1,6 @@
 // Label maps and labels.
-ghost use Rattle.std.specs.Prelude.{◌≡◌, ◌↔◌, ◌<◌, ◌^◌, Some, None, length, IsSome, IfSome, IfOk, unwrap_or};
+ghost use Rattle.std.specs.Prelude.{◌≡◌, ◌↔◌, ◌<◌, ◌^◌, Some, None, length, IsSome, IfSome, IfOk};
+ghost use Rattle.std.specs.Prelude.{unwrap_or};
 ghost use Rattle.sv_lattice.specs.Maps.{IsMap, row_of, pair_value};
 ghost use Rattle.sv_lattice.specs.Labels.{IsReadable, label_of};
 
@@ -7,8 +8,8 @@ use crate::points::Point;
 use std::alloc::{AllocError, Global};
 use std::marker::Model;
 
-/// A point for each value of a range, or for each pair of values of two ranges. Each range has at least 1 bit, and both
-/// together have at most 8.
+/// A point for each value of a range, or for each pair of values of two ranges. Each range has at
+/// least 1 bit, and both together have at most 8.
 #[derive(Debug, Drop)]
 pub struct LabelMap {
     first: u8,
@@ -27,11 +28,12 @@ impl Model for LabelMap {
 }
 
 impl LabelMap {
-    /// The map of one range with these rows, the first for the value 0. None unless the width is 1 to 8 and there is a
-    /// row for each value of that width.
+    /// The map of one range with these rows, the first for the value 0. None unless the width is 1
+    /// to 8 and there is a row for each value of that width.
     pub fn new(width: u8, rows: Vec<Point>) -> Option<LabelMap>
         ensures fits { IsSome result ↔ IsMap width None rows.items }
-        ensures map { IfSome result (λ map. map ≡ record { first = width; second = None; rows = rows.items }) }
+        ensures map { IfSome result (λ map.
+            map ≡ record { first = width; second = None; rows = rows.items }) }
     {
         if width == 0 || width > 8 || rows.len() != 1 << width {
             return None;
@@ -43,11 +45,13 @@ impl LabelMap {
         })
     }
 
-    /// The map of two ranges with these rows, in order of the first value and then of the second. None unless each
-    /// width is at least 1, both together are at most 8, and there is a row for each pair of values.
+    /// The map of two ranges with these rows, in order of the first value and then of the second.
+    /// None unless each width is at least 1, both together are at most 8, and there is a row for
+    /// each pair of values.
     pub fn pair(first: u8, second: u8, rows: Vec<Point>) -> Option<LabelMap>
         ensures fits { IsSome result ↔ IsMap first (Some second) rows.items }
-        ensures map { IfSome result (λ map. map ≡ record { first = first; second = Some second; rows = rows.items }) }
+        ensures map { IfSome result (λ map.
+            map ≡ record { first = first; second = Some second; rows = rows.items }) }
     {
         let width = u32::from(first) + u32::from(second);
         if first == 0 || second == 0 || width > 8 || rows.len() != 1 << width {
@@ -107,7 +111,8 @@ impl LabelMap {
     }
 }
 
-/// What a signal's label is: a point, or the row of a map at the value of a selecting signal or of a pair of them.
+/// What a signal's label is: a point, or the row of a map at the value of a selecting signal or of
+/// a pair of them.
 #[derive(Clone, Copy, Debug, PartialEq, Eq)]
 pub enum Label {
     /// A declared point.

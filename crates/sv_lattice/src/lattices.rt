@@ -1,7 +1,8 @@
 // Lattices.
 ghost use Rattle.std.specs.Prelude.{◌≡◌, ℕ, ◌<◌, ◌≤◌, ◌^◌, length, OnOk, IfOk, IfErr, MatchResult};
 ghost use Rattle.sv_lattice.specs.Flows.{Flows, EachPair, IsDeclared, IsFaultOf, IsLattice};
-ghost use Rattle.sv_lattice.specs.Tables.{flow_test, FlowsTo, IsWithin, IsPreorder, IsTableOf, IsLatticeTable, IsOrderFault, IsTurned};
+ghost use Rattle.sv_lattice.specs.Tables.{flow_test, FlowsTo, IsWithin, IsPreorder, IsTableOf};
+ghost use Rattle.sv_lattice.specs.Tables.{IsLatticeTable, IsOrderFault, IsTurned};
 
 use crate::bounds::{first_circle, first_unjoined};
 use crate::flow_table::{closed, first_unknown, has, transposed};
@@ -9,12 +10,12 @@ use crate::points::{LatticeFault, Point};
 use std::alloc::{AllocError, Global};
 use std::marker::Model;
 
-/// The greatest number of points of a lattice.
+// The greatest number of points of a lattice.
 const MAX_POINTS: u32 = 32;
 
-/// A lattice of 1 to 32 points. One point flows to another where a list of points leads from the one to the other by
-/// the declared pairs; no two different points flow to each other, and any two have a least upper and a greatest
-/// lower point. A contract sees it as its table.
+/// A lattice of 1 to 32 points. One point flows to another where a list of points leads from the
+/// one to the other by the declared pairs; no two different points flow to each other, and any two
+/// have a least upper and a greatest lower point. A contract sees it as its table.
 #[derive(Debug, Drop)]
 pub struct Lattice {
     table: Vec<u32>,
@@ -31,7 +32,8 @@ impl Model for Lattice {
     ghost invariant = { λ l. IsLatticeTable l.table.items };
 }
 
-// What the points of a table lack to be a lattice, given the table of the flows the other way round.
+// What the points of a table lack to be a lattice, given the table of the flows the other way
+// round.
 fn check_order(table: &[u32], turned: &[u32]) -> Result<(), LatticeFault>
     requires count { length table.now ≤ 32 }
     requires table { IsWithin (length table.now) table.now }
@@ -39,7 +41,9 @@ fn check_order(table: &[u32], turned: &[u32]) -> Result<(), LatticeFault>
     requires size { length turned.now ≡ length table.now }
     requires within { IsWithin (length table.now) turned.now }
     requires turned { IsTurned table.now turned.now }
-    ensures { MatchResult result (λ _. IsLattice (length table.now) (FlowsTo table.now)) (IsOrderFault (length table.now) (FlowsTo table.now)) }
+    ensures { MatchResult result (λ _.
+        IsLattice (length table.now) (FlowsTo table.now))
+        (IsOrderFault (length table.now) (FlowsTo table.now)) }
 {
     if let Some((first, second)) = first_circle(table) {
         return Err(LatticeFault::Circle(first, second));
@@ -54,13 +58,15 @@ fn check_order(table: &[u32], turned: &[u32]) -> Result<(), LatticeFault>
 }
 
 impl Lattice {
-    /// The lattice of so many points, numbered from 0, in which the first point of each pair flows to the second.
+    /// The lattice of so many points, numbered from 0, in which the first point of each pair flows
+    /// to the second.
     ///
-    /// A fault tells of the first thing that is wrong, in the order of the variants of [`LatticeFault`], and of the first
-    /// pair of points in order of both numbers.
+    /// A fault tells of the first thing that is wrong, in the order of the variants of
+    /// [`LatticeFault`], and of the first pair of points in order of both numbers.
     pub fn build(alloc: Global, points: u32, pairs: &[(u32, u32)]) -> Result<Lattice, LatticeFault>
         requires { length pairs.now < 2 ^ 32 }
-        ensures lattice { OnOk result (IsDeclared points pairs.now × IsLattice points (Flows pairs.now)) }
+        ensures lattice { OnOk result (IsDeclared points pairs.now
+            × IsLattice points (Flows pairs.now)) }
         ensures flows { IfOk result (IsTableOf points pairs.now) }
         ensures fault { IfErr result (IsFaultOf points pairs.now) }
     {

@@ -2,7 +2,10 @@
 use Rattle.std.proofs.Common.{map, lit<, refl}
 use Rattle.std.specs.List.{Contains}
 use Rattle.sv_num.specs.declared.operators.BinOp.{BinOp}
-use Rattle.sv_num.specs.declared.operators.BinOp.TheVariants.{Mul, Div, Rem, Add, Sub, Shl, Shr, SignShl, SignShr, Lt, Le, Gt, Ge, Eq, Ne, And, Xor, Xnor, Or, LogicAnd, LogicOr}
+use Rattle.sv_num.specs.declared.operators.BinOp.TheVariants.{Mul, Div, Rem, Add, Sub, Shl, Shr}
+use Rattle.sv_num.specs.declared.operators.BinOp.TheVariants.{SignShl, SignShr, Lt, Le, Gt, Ge, Eq}
+use Rattle.sv_num.specs.declared.operators.BinOp.TheVariants.{Ne, And, Xor, Xnor, Or, LogicAnd}
+use Rattle.sv_num.specs.declared.operators.BinOp.TheVariants.{LogicOr}
 use Rattle.sv_num.specs.declared.operator_tables.TheConstants.{BINARY}
 
 pub each_binary : (op : BinOp) → Contains (map (λ row. row.op) BINARY) op

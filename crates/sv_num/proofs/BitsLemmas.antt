@@ -1,5 +1,6 @@
 -- Numbers of two values of one length.
-use Rattle.std.proofs.Common.{◌≡◌, ℕ, ◌+◌, ◌-◌, ◌*◌, ◌%◌, ◌^◌, ◌<◌, ◌≤◌, leb, true, false, refl, ap, ◌∙◌, sym, arith}
+use Rattle.std.proofs.Common.{◌≡◌, ℕ, ◌+◌, ◌-◌, ◌*◌, ◌%◌, ◌^◌, ◌<◌, ◌≤◌, leb, true, false, refl, ap}
+use Rattle.std.proofs.Common.{◌∙◌, sym, arith}
 use Rattle.std.specs.Prelude.{◌+ℤ◌, ◌-ℤ◌, ◌*ℤ◌, unsigned_abs, Bool, not}
 use Rattle.std.proofs.Math.Bool.{beq}
 use Rattle.std.proofs.Math.Nat.{mod-eq_of_lt, mul_comm}
@@ -7,7 +8,8 @@ use Rattle.std.proofs.lemmas.Bool.{and_parts, leb-true}
 use Rattle.std.proofs.lemmas.Nat.{pow_pos, pow-add, mul-add-lt, shl_whole}
 use Rattle.sv_num.specs.declared.vectors.Bits.{Bits}
 use Rattle.sv_num.specs.Vectors.{width_of, is_signed, value_of, is_negative, number_of, reduced}
-use Rattle.sv_num.proofs.NumberLemmas.{number_at, sum_is, difference_is, product_is, is_below, below_is, size_is}
+use Rattle.sv_num.proofs.NumberLemmas.{number_at, sum_is, difference_is, product_is, is_below}
+use Rattle.sv_num.proofs.NumberLemmas.{below_is, size_is}
 
 -- whether a value is negative
 abbrev pub negative : Bits → Bool
@@ -21,25 +23,32 @@ module _ (a b : Bits) (widths : width_of a ≡ width_of b) where
   pub second_low : value_of b < 2 ^ width_of a
   second_low = rw widths b.in_range.2
 
-  pub sum_of : reduced (width_of a) (number_of a +ℤ number_of b) ≡ (value_of a + value_of b) % 2 ^ width_of a
+  pub sum_of : reduced (width_of a) (number_of a +ℤ number_of b) ≡
+      (value_of a + value_of b) % 2 ^ width_of a
   sum_of =
       ap (λ z. reduced (width_of a) (number_of a +ℤ z)) second_at
-      ∙ sum_is (width_of a) (negative a) (negative b) (value_of a) (value_of b) a.in_range.2 second_low
+      ∙ sum_is (width_of a) (negative a) (negative b) (value_of a) (value_of b) a.in_range.2
+      second_low
 
-  pub difference_of : reduced (width_of a) (number_of a -ℤ number_of b) ≡ (value_of a + (2 ^ width_of a - value_of b)) % 2 ^ width_of a
+  pub difference_of : reduced (width_of a) (number_of a -ℤ number_of b) ≡
+      (value_of a + (2 ^ width_of a - value_of b)) % 2 ^ width_of a
   difference_of =
       ap (λ z. reduced (width_of a) (number_of a -ℤ z)) second_at
-      ∙ difference_is (width_of a) (negative a) (negative b) (value_of a) (value_of b) a.in_range.2 second_low
+      ∙ difference_is (width_of a) (negative a) (negative b) (value_of a) (value_of b) a.in_range.2
+      second_low
 
-  pub product_of : reduced (width_of a) (number_of a *ℤ number_of b) ≡ value_of a * value_of b % 2 ^ width_of a
+  pub product_of : reduced (width_of a) (number_of a *ℤ number_of b) ≡
+      value_of a * value_of b % 2 ^ width_of a
   product_of =
       ap (λ z. reduced (width_of a) (number_of a *ℤ z)) second_at
-      ∙ product_is (width_of a) (negative a) (negative b) (value_of a) (value_of b) a.in_range.2 second_low
+      ∙ product_is (width_of a) (negative a) (negative b) (value_of a) (value_of b) a.in_range.2
+      second_low
 
 -- ---- by sign
 
 -- a number, where its sign is known
-pub number_when : (a : Bits) (t : Bool) → negative a ≡ t → number_of a ≡ number_at (width_of a) t (value_of a)
+pub number_when : (a : Bits) (t : Bool) → negative a ≡ t →
+    number_of a ≡ number_at (width_of a) t (value_of a)
 number_when a t h = ap (λ s. number_at (width_of a) s (value_of a)) h
 
 pub below_of : (a : Bits) → is_below (number_of a) ≡ negative a
@@ -47,10 +56,12 @@ below_of a = below_is (width_of a) (negative a) (value_of a) a.in_range.2
 
 pub negative_some : (a : Bits) → negative a ≡ true → 0 < value_of a
 negative_some a h =
-    let parts : (is_signed a ≡ true) × (leb (2 ^ (width_of a - 1)) (value_of a) ≡ true) = and_parts (is_signed a) (leb (2 ^ (width_of a - 1)) (value_of a)) h in
+    let parts : (is_signed a ≡ true) × (leb (2 ^ (width_of a - 1)) (value_of a) ≡ true) =
+    and_parts (is_signed a) (leb (2 ^ (width_of a - 1)) (value_of a)) h in
     omega (arith, leb-true (2 ^ (width_of a - 1)) (value_of a) parts.1, pow_pos (width_of a - 1))
 
-pub size_of : (a : Bits) → negative a ≡ true → (2 ^ width_of a - value_of a) % 2 ^ width_of a ≡ unsigned_abs (number_of a)
+pub size_of : (a : Bits) → negative a ≡ true →
+    (2 ^ width_of a - value_of a) % 2 ^ width_of a ≡ unsigned_abs (number_of a)
 size_of a h =
     mod-eq_of_lt (omega (arith, negative_some a h, pow_pos (width_of a)))
     ∙ sym (size_is (width_of a) (value_of a) a.in_range.2)

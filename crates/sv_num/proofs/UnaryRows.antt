@@ -2,7 +2,8 @@
 use Rattle.std.proofs.Common.{map, lit<, refl}
 use Rattle.std.specs.List.{Contains}
 use Rattle.sv_num.specs.declared.operators.UnOp.{UnOp}
-use Rattle.sv_num.specs.declared.operators.UnOp.TheVariants.{Plus, Minus, LogicNot, Invert, And, Nand, Or, Nor, Xor, Xnor}
+use Rattle.sv_num.specs.declared.operators.UnOp.TheVariants.{Plus, Minus, LogicNot, Invert, And}
+use Rattle.sv_num.specs.declared.operators.UnOp.TheVariants.{Nand, Or, Nor, Xor, Xnor}
 use Rattle.sv_num.specs.declared.operator_tables.TheConstants.{UNARY}
 
 pub each_unary : (op : UnOp) → Contains (map (λ row. row.op) UNARY) op

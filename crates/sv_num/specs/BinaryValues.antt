@@ -1,9 +1,14 @@
--- What the binary operators give (IEEE 1364-2005, clause 5). Operands are read as whole numbers, signed or not, and the
--- result is taken modulo 2^length.
-use Rattle.std.specs.Prelude.{◌≡◌, ◌≢◌, ℕ, ◌-◌, ◌*◌, ◌/◌, ◌%◌, ◌^◌, Bool, false, ◌==◌, ◌&&◌, ◌||◌, not, ◌+ℤ◌, ◌-ℤ◌, ◌*ℤ◌, int_div, int_rem, int_lt, int_le, bit_and, bit_or, bit_xor}
+-- What the binary operators give (IEEE 1364-2005, clause 5). Operands are read as whole numbers,
+-- signed or not, and the result is taken modulo 2^length.
+use Rattle.std.specs.Prelude.{◌≡◌, ◌≢◌, ℕ, ◌-◌, ◌*◌, ◌/◌, ◌%◌, ◌^◌, Bool, false, ◌==◌, ◌&&◌, ◌||◌}
+use Rattle.std.specs.Prelude.{not, ◌+ℤ◌, ◌-ℤ◌, ◌*ℤ◌, int_div, int_rem, int_lt, int_le, bit_and}
+use Rattle.std.specs.Prelude.{bit_or, bit_xor}
 use Rattle.std.specs.Int.{int_shr}
 use Rattle.sv_num.specs.declared.operators.BinOp.{BinOp}
-use Rattle.sv_num.specs.declared.operators.BinOp.TheVariants.{Mul, Div, Rem, Add, Sub, Shl, Shr, SignShl, SignShr, Lt, Le, Gt, Ge, Eq, Ne, And, Xor, Xnor, Or, LogicAnd, LogicOr}
+use Rattle.sv_num.specs.declared.operators.BinOp.TheVariants.{Mul, Div, Rem, Add, Sub, Shl, Shr}
+use Rattle.sv_num.specs.declared.operators.BinOp.TheVariants.{SignShl, SignShr, Lt, Le, Gt, Ge, Eq}
+use Rattle.sv_num.specs.declared.operators.BinOp.TheVariants.{Ne, And, Xor, Xnor, Or, LogicAnd}
+use Rattle.sv_num.specs.declared.operators.BinOp.TheVariants.{LogicOr}
 use Rattle.sv_num.specs.declared.operators.OpClass.{OpClass}
 use Rattle.sv_num.specs.declared.operators.OpClass.TheVariants.{Context, Compare, Logical, Shift}
 use Rattle.sv_num.specs.declared.vectors.Bits.{Bits}
@@ -60,9 +65,9 @@ result_signed Compare signed = false
 result_signed Logical signed = false
 result_signed Shift signed = signed
 
--- what an operator gives for the values a and b, where a has n bits and is signed or not. Division truncates towards
--- zero, a remainder has the sign of its first operand, `>>>` fills with the sign, and the amount of a shift is read
--- without sign
+-- what an operator gives for the values a and b, where a has n bits and is signed or not. Division
+-- truncates towards zero, a remainder has the sign of its first operand, `>>>` fills with the sign,
+-- and the amount of a shift is read without sign
 abbrev pub binary_value : BinOp → ℕ → Bool → ℕ → ℕ → ℕ
 binary_value Mul n signed a b = reduced n (as_number n signed a *ℤ as_number n signed b)
 binary_value Div n signed a b = reduced n (int_div (as_number n signed a) (as_number n signed b))

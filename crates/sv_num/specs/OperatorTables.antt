@@ -1,9 +1,15 @@
--- The operators of expressions (IEEE 1364-2005, clause 5): spelling, operator, level from the tightest on, and class.
+-- The operators of expressions (IEEE 1364-2005, clause 5): spelling, operator, level from the
+-- tightest on, and class.
 use Rattle.std.specs.Prelude.{ℕ, List, [], ◌∷◌, ◌++◌, length, take, codes}
 use Rattle.sv_num.specs.declared.operators.BinOp.{BinOp}
-use Rattle.sv_num.specs.declared.operators.BinOp.TheVariants.{Mul, Div, Rem, Add, Sub, Shl, Shr, SignShl, SignShr, Lt, Le, Gt, Ge, Eq, Ne, And, Xor, Xnor, Or, LogicAnd, LogicOr}
+use Rattle.sv_num.specs.declared.operators.BinOp.TheVariants.{Mul, Div, Rem, Add, Sub, Shl, Shr}
+use Rattle.sv_num.specs.declared.operators.BinOp.TheVariants.{SignShl, SignShr, Lt, Le, Gt, Ge, Eq}
+use Rattle.sv_num.specs.declared.operators.BinOp.TheVariants.{Ne, And, Xor, Xnor, Or, LogicAnd}
+use Rattle.sv_num.specs.declared.operators.BinOp.TheVariants.{LogicOr}
 use Rattle.sv_num.specs.declared.operators.UnOp.{UnOp}
-use Rattle.sv_num.specs.declared.operators.UnOp.TheVariants.{Plus, Minus, LogicNot, Invert, And as AllOf, Nand, Or as SomeOf, Nor, Xor as OddOf, Xnor as EvenOf}
+use Rattle.sv_num.specs.declared.operators.UnOp.TheVariants.{Plus, Minus, LogicNot, Invert}
+use Rattle.sv_num.specs.declared.operators.UnOp.TheVariants.{And as AllOf, Nand, Or as SomeOf, Nor}
+use Rattle.sv_num.specs.declared.operators.UnOp.TheVariants.{Xor as OddOf, Xnor as EvenOf}
 use Rattle.sv_num.specs.declared.operators.OpClass.{OpClass}
 use Rattle.sv_num.specs.declared.operators.OpClass.TheVariants.{Context, Compare, Logical, Shift}
 use Rattle.sv_num.specs.declared.operator_tables.BinRow.{BinRow}

@@ -1,5 +1,6 @@
 -- Values of a length and sign, as IEEE 1364-2005, clauses 3 and 5, has them.
-use Rattle.std.specs.Prelude.{ℕ, ◌-◌, ◌%◌, ◌^◌, Bool, true, false, ◌==◌, not, ◌&&◌, nat_le, if◌then◌else◌, ℤ, pos, negsuc, ◌-ℤ◌}
+use Rattle.std.specs.Prelude.{ℕ, ◌-◌, ◌%◌, ◌^◌, Bool, true, false, ◌==◌, not, ◌&&◌, nat_le}
+use Rattle.std.specs.Prelude.{if◌then◌else◌, ℤ, pos, negsuc, ◌-ℤ◌}
 use Rattle.sv_num.specs.declared.vectors.Bits.{Bits}
 
 -- how many bits the value has
@@ -20,7 +21,8 @@ is_negative n signed value = signed && nat_le (2 ^ (n - 1)) value
 
 -- the whole number that n bits stand for: two's complement in a signed type
 abbrev pub as_number : ℕ → Bool → ℕ → ℤ
-as_number n signed value = if is_negative n signed value then pos value -ℤ pos (2 ^ n) else pos value
+as_number n signed value =
+    if is_negative n signed value then pos value -ℤ pos (2 ^ n) else pos value
 
 -- a whole number modulo 2^n: -(a + 1) is as far below 2^n as it is below 0
 abbrev pub reduced : ℕ → ℤ → ℕ

@@ -1,21 +1,24 @@
 // Binary operators.
-ghost use Rattle.std.specs.Prelude.{◌≡◌, ◌≢◌, ◌-◌, ◌*◌, ◌/◌, ◌%◌, ◌^◌, ◌<◌, ◌+ℤ◌, ◌-ℤ◌, ◌*ℤ◌, int_div, int_rem, int_lt, bit_and, bit_or, bit_xor};
+ghost use Rattle.std.specs.Prelude.{◌≡◌, ◌≢◌, ◌-◌, ◌*◌, ◌/◌, ◌%◌, ◌^◌, ◌<◌, ◌+ℤ◌, ◌-ℤ◌, ◌*ℤ◌};
+ghost use Rattle.std.specs.Prelude.{int_div, int_rem, int_lt, bit_and, bit_or, bit_xor};
 ghost use Rattle.std.specs.Int.{int_shr};
 ghost use Rattle.sv_num.specs.Vectors.{width_of, is_signed, value_of, number_of, reduced};
-ghost use Rattle.sv_num.specs.BinaryValues.{class_of, HaveOneType, HasDivisor, result_width, result_signed, binary_value};
+ghost use Rattle.sv_num.specs.BinaryValues.{class_of, HaveOneType, HasDivisor, result_width};
+ghost use Rattle.sv_num.specs.BinaryValues.{result_signed, binary_value};
 
 use crate::low_bits::{inverted, low_bits, negated, shifted_right};
 use crate::operators::BinOp;
 use crate::vectors::Bits;
 
-/// The value that a binary operator gives. Both operands of an operator other than a shift, `&&` and `||` have one width
-/// and sign, and a divisor is not 0.
+/// The value that a binary operator gives. Both operands of an operator other than a shift, `&&`
+/// and `||` have one width and sign, and a divisor is not 0.
 pub fn apply_binary(op: BinOp, a: Bits, b: Bits) -> Bits
     requires types { HaveOneType (class_of op) a b }
     requires divisor { HasDivisor op b }
     ensures width { width_of result ≡ result_width (class_of op) (width_of a) }
     ensures signed { is_signed result ≡ result_signed (class_of op) (is_signed a) }
-    ensures value { value_of result ≡ binary_value op (width_of a) (is_signed a) (value_of a) (value_of b) }
+    ensures value { value_of result ≡
+        binary_value op (width_of a) (is_signed a) (value_of a) (value_of b) }
 {
     macro_rules! arms {
         ($($name:ident => $value:expr),* $(,)?) => {
@@ -116,7 +119,8 @@ fn shifted_left(a: Bits, amount: u64) -> u64
     }
 }
 
-// The bits that come in are copies of the sign: those of a negative number are shifted while they are inverted.
+// The bits that come in are copies of the sign: those of a negative number are shifted while they
+// are inverted.
 fn shifted_with_sign(a: Bits, amount: u64) -> u64
     ensures value { result ≡ reduced (width_of a) (int_shr (number_of a) amount) }
     ensures low { result < 2 ^ width_of a }

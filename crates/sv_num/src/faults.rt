@@ -26,7 +26,7 @@ pub struct Refusal {
 #[derive(Debug, Drop, Error)]
 pub enum Fault {
     /// The text breaks a rule.
-    #[error("rule {number} is broken at {line}:{column}", number = .0.number, line = .0.place.line, column = .0.place.column)]
+    #[error("rule {} is broken at {}:{}", .0.number, .0.place.line, .0.place.column)]
     Rule(Refusal),
     /// Memory ran out.
     #[error("out of memory")]

@@ -1,7 +1,9 @@
-//! The base of every layer: places in a text, names, refusals, and values of a length and sign with their operators.
+//! The base of every layer: places in a text, names, refusals, and values of a length and sign with
+//! their operators.
 //!
-//! A contract sees a [`Name`] as the list of its bytes, and everything else here as its fields. What the operators give
-//! is said in `specs/BinaryValues.antt` and `specs/UnaryValues.antt`, over whole numbers.
+//! A contract sees a [`Name`] as the list of its bytes, and everything else here as its fields.
+//! What the operators give is said in `specs/BinaryValues.antt` and `specs/UnaryValues.antt`, over
+//! whole numbers.
 #![tactic(auto)]
 
 mod binary;

@@ -5,12 +5,14 @@ ghost use Rattle.std.specs.List.{Contains};
 ghost use Rattle.sv_num.specs.declared.operators.BinOp.{BinOp};
 ghost use Rattle.sv_num.specs.declared.operators.UnOp.{UnOp};
 ghost use Rattle.sv_num.specs.BinaryValues.{class_of};
-ghost use Rattle.sv_num.specs.OperatorTables.{binary_row, unary_row, binary_spelling, unary_spelling, binary_field, unary_field, field_of, binary_table, unary_table};
+ghost use Rattle.sv_num.specs.OperatorTables.{binary_row, unary_row, binary_spelling};
+ghost use Rattle.sv_num.specs.OperatorTables.{unary_spelling, binary_field, unary_field, field_of};
+ghost use Rattle.sv_num.specs.OperatorTables.{binary_table, unary_table};
 
 use crate::operators::{BinOp, OpClass, UnOp};
 
-/// A binary operator: its spelling, which is the first `length` bytes of the field and then zeros, its level, where the
-/// tightest is 1, and how its operands are sized.
+/// A binary operator: its spelling, which is the first `length` bytes of the field and then zeros,
+/// its level, where the tightest is 1, and how its operands are sized.
 #[derive(Clone, Copy, Debug, PartialEq, Eq)]
 pub struct BinRow {
     pub spelling: [u8; 3],

@@ -1,6 +1,7 @@
 // The operators of expressions.
 
-/// A binary operator, in the order of the table of binary operators. `Xnor` is spelled `~^` or `^~`.
+/// A binary operator, in the order of the table of binary operators. `Xnor` is spelled `~^` or
+/// `^~`.
 #[derive(Clone, Copy, Debug, PartialEq, Eq)]
 pub enum BinOp {
     Mul,
@@ -26,8 +27,8 @@ pub enum BinOp {
     LogicOr,
 }
 
-/// A unary operator, in the order of the table of unary operators. From `And` on they are reductions, which join all
-/// bits of their operand.
+/// A unary operator, in the order of the table of unary operators. From `And` on they are
+/// reductions, which join all bits of their operand.
 #[derive(Clone, Copy, Debug, PartialEq, Eq)]
 pub enum UnOp {
     Plus,

@@ -1,11 +1,13 @@
 // Wider values, parts of values and joins.
 ghost use Rattle.std.specs.Prelude.{◌≡◌, ◌+◌, ◌-◌, ◌*◌, ◌/◌, ◌%◌, ◌^◌, ◌<◌, ◌≤◌, false};
-ghost use Rattle.sv_num.specs.Vectors.{width_of, is_signed, value_of, as_number, number_of, reduced};
+ghost use Rattle.sv_num.specs.Vectors.{width_of, is_signed, value_of, as_number, number_of};
+ghost use Rattle.sv_num.specs.Vectors.{reduced};
 
 use crate::low_bits::{inverted, low_bits};
 use crate::vectors::Bits;
 
-/// The value in a wider type: the new bits are copies of the highest bit where the new type is signed, and else 0.
+/// The value in a wider type: the new bits are copies of the highest bit where the new type is
+/// signed, and else 0.
 pub fn extend(a: Bits, width: u8, signed: bool) -> Bits
     requires wider { width_of a ≤ width }
     requires few { width ≤ 64 }
@@ -17,7 +19,8 @@ pub fn extend(a: Bits, width: u8, signed: bool) -> Bits
     Bits::of_type(width, signed, widened(read, width))
 }
 
-// The bits of a number at a greater width. Those of a negative number are read while they are inverted.
+// The bits of a number at a greater width. Those of a negative number are read while they are
+// inverted.
 fn widened(a: Bits, width: u8) -> u64
     requires wider { width_of a ≤ width }
     requires few { width ≤ 64 }

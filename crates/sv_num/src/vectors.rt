@@ -3,7 +3,8 @@ ghost use Rattle.std.specs.Prelude.{◌≡◌, ◌↔◌, ◌^◌, ◌<◌, ◌�
 
 use crate::low_bits::{low_bits, negated};
 
-/// A value of 1 to 64 bits, with the sign of its type. A value is kept without sign, below 2 to the width.
+/// A value of 1 to 64 bits, with the sign of its type. A value is kept without sign, below 2 to the
+/// width.
 #[derive(Clone, Copy, Debug, PartialEq, Eq)]
 pub struct Bits {
     width: u8,
@@ -13,9 +14,11 @@ pub struct Bits {
 }
 
 impl Bits {
-    ghost use Rattle.sv_num.specs.Vectors.{width_of, is_signed, value_of, is_negative, number_of, truth};
+    ghost use Rattle.sv_num.specs.Vectors.{width_of, is_signed, value_of, is_negative, number_of};
+    ghost use Rattle.sv_num.specs.Vectors.{truth};
 
-    /// The value of a width and sign. None unless the width is 1 to 64 and the value is below 2 to the width.
+    /// The value of a width and sign. None unless the width is 1 to 64 and the value is below 2 to
+    /// the width.
     pub fn new(width: u8, signed: bool, value: u64) -> Option<Bits>
         ensures fits { IsSome result ↔ ((1 ≤ width) × (width ≤ 64) × (value < 2 ^ width)) }
         ensures width { IfSome result (λ bits. width_of bits ≡ width) }

@@ -3,8 +3,10 @@ use Rattle.std.proofs.Common.{◌≡◌, List, [], ◌∷◌, ◌++◌, map, ref
 use Rattle.std.proofs.lemmas.List.{map_push}
 
 pub mapped_push :
-    (X Y T : Type 0) (f : Y → T) (g : X → T) (wrap : X → Y) (all items : List Y) (done : List X) (x : X) →
-    f (wrap x) ≡ g x → all ≡ items ++ wrap x ∷ [] → map f items ≡ map g done → map f all ≡ map g (done ++ x ∷ [])
+    (X Y T : Type 0) (f : Y → T) (g : X → T) (wrap : X →
+    Y) (all items : List Y) (done : List X) (x : X) →
+    f (wrap x) ≡ g x → all ≡ items ++ wrap x ∷ [] → map f items ≡ map g done →
+    map f all ≡ map g (done ++ x ∷ [])
 mapped_push X Y T f g wrap all items done x same eq h =
     ap (map f) eq
     ∙ map_push f items (wrap x)
@@ -16,7 +18,8 @@ map_same : (X : Type 0) (xs : List X) → map (λ (x : X). x) xs ≡ xs
 map_same X [] = refl
 map_same X (x ∷ xs) = ap (λ (ys : List X). x ∷ ys) (map_same X xs)
 
-two_maps : (X Y T : Type 0) (f : X → Y) (g : Y → T) (xs : List X) → map (λ (x : X). g (f x)) xs ≡ map g (map f xs)
+two_maps : (X Y T : Type 0) (f : X → Y) (g : Y → T) (xs : List X) →
+    map (λ (x : X). g (f x)) xs ≡ map g (map f xs)
 two_maps X Y T f g [] = refl
 two_maps X Y T f g (x ∷ xs) = ap (λ (ys : List T). g (f x) ∷ ys) (two_maps X Y T f g xs)
 

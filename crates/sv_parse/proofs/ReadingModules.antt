@@ -8,7 +8,8 @@ use Rattle.sv_ast.specs.GrammarModules.{IsKeyRange}
 use Rattle.sv_parse.specs.ReadingItems.{IsOpenKeyRange}
 
 pub key_range_is :
-    (s : SpanTree) (ts a rest : List Placed) → a_sign signs.OpenBracket ts a → IsOpenKeyRange s a rest → IsKeyRange s ts rest
+    (s : SpanTree) (ts a rest : List Placed) → a_sign signs.OpenBracket ts a →
+    IsOpenKeyRange s a rest → IsKeyRange s ts rest
 key_range_is s ts a rest opens h =
     let second = h.2 in
     let third = second.2 in

@@ -1,4 +1,5 @@
--- What the private functions say of the machine where they read whole texts and the ends of label maps.
+-- What the private functions say of the machine where they read whole texts and the ends of label
+-- maps.
 use Rattle.std.specs.Prelude.{◌≡◌, ◌⊎◌, ℕ, List, length}
 use Rattle.sv_token.specs.declared.keywords.WordKind.TheVariants as words
 use Rattle.sv_token.specs.Lexemes.{Placed}
@@ -15,7 +16,8 @@ use Rattle.sv_read.specs.Expectations.{failure_of}
 abbrev pub EndsRows : List Placed → Type 0
 EndsRows ts = IsNext words.Default ts ⊎ IsNext words.Endlabelmap ts
 
--- a run that reads these symbols, and behind them nothing but modules, fails on the tokens, with so many of them left
+-- a run that reads these symbols, and behind them nothing but modules, fails on the tokens, with so
+-- many of them left
 pub record Fails (xs : State) (ts : List Placed) (f : Failure) (left : ℕ) : Type 0 where
   pub rest : List Placed
   pub many : length rest ≡ left

@@ -1,19 +1,25 @@
 // Ports and signals (IEEE 1364-2005, clauses 4 and 12).
-ghost use Rattle.std.specs.Prelude.{◌≡◌, ◌<◌, ◌≤◌, ℕ, List, length, map, IfOk, IfErr, IfSome, IfNone, [], ◌∷◌};
+ghost use Rattle.std.specs.Prelude.{◌≡◌, ◌<◌, ◌≤◌, ℕ, List, length, map, IfOk, IfErr, IfSome};
+ghost use Rattle.std.specs.Prelude.{IfNone, [], ◌∷◌};
 ghost use Rattle.std.specs.Option.{option_map};
 ghost use Rattle.sv_token.specs.Lexemes.{placed_tokens};
 ghost use Rattle.sv_token.specs.declared.keywords.WordKind.TheVariants as words;
 ghost use Rattle.sv_token.specs.declared.signs.SignKind.TheVariants as signs;
 ghost use Rattle.sv_ast.specs.Tree as tree;
 ghost use Rattle.sv_ast.specs.Tree.{DeclarationTree};
-ghost use Rattle.sv_ast.specs.Views.{expression_tree, span_tree, label_tree, declaration_tree, item_tree};
+ghost use Rattle.sv_ast.specs.Views.{expression_tree, span_tree, label_tree, declaration_tree};
+ghost use Rattle.sv_ast.specs.Views.{item_tree};
 ghost use Rattle.sv_ast.specs.GrammarForms.{◌or◌, given, a_word, optional, perhaps};
-ghost use Rattle.sv_ast.specs.GrammarDeclarations.{equals, AreAlike, IsPortKind, IsNamedPort, IsPort, ArePorts, IsNamedSignal, IsSignal, AreSignals};
+ghost use Rattle.sv_ast.specs.GrammarDeclarations.{equals, AreAlike, IsPortKind, IsNamedPort};
+ghost use Rattle.sv_ast.specs.GrammarDeclarations.{IsPort, ArePorts, IsNamedSignal, IsSignal};
+ghost use Rattle.sv_ast.specs.GrammarDeclarations.{AreSignals};
 ghost use Rattle.sv_ast.specs.GrammarRules.{all_limits};
 ghost use Rattle.sv_parse.specs.Reading.{IsTypeOf, IsOutputEnd, IsNamedAs, IsTypedPort, IsWireAs};
 ghost use Rattle.sv_parse.specs.ReadingItems.{IsWire, IsWireLike};
 ghost use Rattle.sv_ast.specs.GrammarStatements.{IsNext};
-ghost use Rattle.sv_grammar.specs.Symbols.{outer, punctuation, plain_name, perhaps_wire, perhaps_wire_or_reg, ports, more_ports, later_port, items, more_wires, perhaps_value};
+ghost use Rattle.sv_grammar.specs.Symbols.{outer, punctuation, plain_name, perhaps_wire};
+ghost use Rattle.sv_grammar.specs.Symbols.{perhaps_wire_or_reg, ports, more_ports, later_port};
+ghost use Rattle.sv_grammar.specs.Symbols.{items, more_wires, perhaps_value};
 ghost use Rattle.sv_grammar.specs.ModuleTable.{typed_name};
 ghost use Rattle.sv_grammar.specs.Machine.{outside_on};
 ghost use Rattle.sv_grammar.specs.Reads.{Reads, NextIsNotSign, NextIsNotWord};
@@ -37,7 +43,15 @@ fn declaration(
     place: Place,
     value: Option<Expr>,
 ) -> Decl
-    ensures { declaration_tree result ≡ record { kind = kind; signed = of.signed; span = option_map span_tree of.span; label = option_map label_tree of.label; name = name; place = place; value = option_map expression_tree value } }
+    ensures { declaration_tree result ≡ record {
+      kind = kind;
+      signed = of.signed;
+      span = option_map span_tree of.span;
+      label = option_map label_tree of.label;
+      name = name;
+      place = place;
+      value = option_map expression_tree value;
+    } }
 {
     let SignalType {
         signed,
@@ -57,7 +71,9 @@ fn declaration(
 
 // A second type that is that of the declaration.
 fn type_of(alloc: Global, decl: &Decl) -> Result<SignalType, AllocError>
-    ensures { IfOk result (λ of. IsTypeOf of.signed (option_map span_tree of.span) (option_map label_tree of.label) (declaration_tree decl.now)) }
+    ensures { IfOk result (λ of.
+        IsTypeOf of.signed (option_map span_tree of.span) (option_map label_tree of.label)
+        (declaration_tree decl.now)) }
 {
     let span = span_copy(alloc, &decl.span)?;
     let label = label_copy(alloc, &decl.label)?;
@@ -70,10 +86,16 @@ fn type_of(alloc: Global, decl: &Decl) -> Result<SignalType, AllocError>
 
 // The tokens behind `wire`, if it comes.
 fn behind_wire(tokens: &[Token]) -> &[Token]
-    ensures is { (bytes : List ℕ) → optional (a_word words.Wire) (placed_tokens bytes tokens.now) (placed_tokens bytes result.now) }
+    ensures is { (bytes : List ℕ) →
+        optional (a_word words.Wire) (placed_tokens bytes tokens.now)
+        (placed_tokens bytes result.now) }
     ensures shorter { length result.now ≤ length tokens.now }
-    ensures reads { (bytes : List ℕ) → Reads (outer perhaps_wire ∷ []) [] (placed_tokens bytes tokens.now) (placed_tokens bytes result.now) }
-    ensures output { (bytes : List ℕ) → NextIsNotWord words.Reg (placed_tokens bytes tokens.now) → Reads (outer perhaps_wire_or_reg ∷ []) [] (placed_tokens bytes tokens.now) (placed_tokens bytes result.now) }
+    ensures reads { (bytes : List ℕ) →
+        Reads (outer perhaps_wire ∷ []) [] (placed_tokens bytes tokens.now)
+        (placed_tokens bytes result.now) }
+    ensures output { (bytes : List ℕ) → NextIsNotWord words.Reg (placed_tokens bytes tokens.now) →
+        Reads (outer perhaps_wire_or_reg ∷ []) [] (placed_tokens bytes tokens.now)
+        (placed_tokens bytes result.now) }
 {
     match behind_word(WordKind::Wire, tokens) {
         Some(rest) => rest,
@@ -83,9 +105,12 @@ fn behind_wire(tokens: &[Token]) -> &[Token]
 
 // What a port is, behind its `output`.
 fn output_kind(tokens: &[Token]) -> (DeclKind, &[Token])
-    ensures is { (bytes : List ℕ) → IsOutputEnd result.0 (placed_tokens bytes tokens.now) (placed_tokens bytes result.1.now) }
+    ensures is { (bytes : List ℕ) →
+        IsOutputEnd result.0 (placed_tokens bytes tokens.now) (placed_tokens bytes result.1.now) }
     ensures shorter { length result.1.now ≤ length tokens.now }
-    ensures reads { (bytes : List ℕ) → Reads (outer perhaps_wire_or_reg ∷ []) [] (placed_tokens bytes tokens.now) (placed_tokens bytes result.1.now) }
+    ensures reads { (bytes : List ℕ) →
+        Reads (outer perhaps_wire_or_reg ∷ []) [] (placed_tokens bytes tokens.now)
+        (placed_tokens bytes result.1.now) }
 {
     match behind_word(WordKind::Reg, tokens) {
         Some(rest) => (DeclKind::OutputReg, rest),
@@ -95,11 +120,19 @@ fn output_kind(tokens: &[Token]) -> (DeclKind, &[Token])
 
 // What a port is, if the words of its kind come.
 fn port_kind(tokens: &[Token]) -> Option<(DeclKind, &[Token])>
-    ensures is { (bytes : List ℕ) → IfSome result (λ x. IsPortKind x.0 (placed_tokens bytes tokens.now) (placed_tokens bytes x.1.now)) }
+    ensures is { (bytes : List ℕ) →
+        IfSome result (λ x. IsPortKind x.0 (placed_tokens bytes tokens.now)
+        (placed_tokens bytes x.1.now)) }
     ensures shorter { IfSome result (λ x. length x.1.now < length tokens.now) }
-    ensures first { (bytes : List ℕ) → IfSome result (λ x. Reads (outer ports ∷ []) (outside_on (typed_name (more_ports ∷ []))) (placed_tokens bytes tokens.now) (placed_tokens bytes x.1.now)) }
-    ensures later { (bytes : List ℕ) → IfSome result (λ x. Reads (outer later_port ∷ []) (outside_on (typed_name [])) (placed_tokens bytes tokens.now) (placed_tokens bytes x.1.now)) }
-    ensures none { (bytes : List ℕ) → IfNone result (NextIsNotWord words.Input (placed_tokens bytes tokens.now) × NextIsNotWord words.Output (placed_tokens bytes tokens.now)) }
+    ensures first { (bytes : List ℕ) →
+        IfSome result (λ x. Reads (outer ports ∷ []) (outside_on (typed_name (more_ports ∷ [])))
+        (placed_tokens bytes tokens.now) (placed_tokens bytes x.1.now)) }
+    ensures later { (bytes : List ℕ) →
+        IfSome result (λ x. Reads (outer later_port ∷ []) (outside_on (typed_name []))
+        (placed_tokens bytes tokens.now) (placed_tokens bytes x.1.now)) }
+    ensures none { (bytes : List ℕ) →
+        IfNone result (NextIsNotWord words.Input (placed_tokens bytes tokens.now)
+        × NextIsNotWord words.Output (placed_tokens bytes tokens.now)) }
 {
     if let Some(rest) = behind_word(WordKind::Input, tokens) {
         return Some((DeclKind::Input, behind_wire(rest)));
@@ -121,10 +154,16 @@ fn read_named<'a>(
     of: SignalType,
     tokens: &'a [Token],
 ) -> Result<(Decl, &'a [Token]), Stop>
-    ensures is { IfOk result (λ x. IsNamedAs kind of.signed (option_map span_tree of.span) (option_map label_tree of.label) (declaration_tree x.0) (placed_tokens bytes.now tokens.now) (placed_tokens bytes.now x.1.now)) }
+    ensures is { IfOk result (λ x.
+        IsNamedAs kind of.signed (option_map span_tree of.span) (option_map label_tree of.label)
+        (declaration_tree x.0) (placed_tokens bytes.now tokens.now)
+        (placed_tokens bytes.now x.1.now)) }
     ensures shorter { IfOk result (λ x. length x.1.now < length tokens.now) }
-    ensures reads { IfOk result (λ x. Reads (outer plain_name ∷ []) [] (placed_tokens bytes.now tokens.now) (placed_tokens bytes.now x.1.now)) }
-    ensures halts { IfErr result (λ e. HaltsAs (outer plain_name ∷ []) (placed_tokens bytes.now tokens.now) e) }
+    ensures reads { IfOk result (λ x.
+        Reads (outer plain_name ∷ []) [] (placed_tokens bytes.now tokens.now)
+        (placed_tokens bytes.now x.1.now)) }
+    ensures halts { IfErr result (λ e.
+        HaltsAs (outer plain_name ∷ []) (placed_tokens bytes.now tokens.now) e) }
 {
     let (name, place, rest) = read_name(alloc, bytes, tokens)?;
     Ok((declaration(kind, of, name, place, None), rest))
@@ -137,10 +176,16 @@ fn read_named_alike<'a>(
     before: &Decl,
     tokens: &'a [Token],
 ) -> Result<(Decl, &'a [Token]), Stop>
-    ensures is { IfOk result (λ x. (given (AreAlike (declaration_tree before.now) (declaration_tree x.0)) (IsNamedPort (declaration_tree x.0))) (placed_tokens bytes.now tokens.now) (placed_tokens bytes.now x.1.now)) }
+    ensures is { IfOk result (λ x.
+        (given (AreAlike (declaration_tree before.now) (declaration_tree x.0))
+        (IsNamedPort (declaration_tree x.0))) (placed_tokens bytes.now tokens.now)
+        (placed_tokens bytes.now x.1.now)) }
     ensures shorter { IfOk result (λ x. length x.1.now < length tokens.now) }
-    ensures reads { IfOk result (λ x. Reads (outer plain_name ∷ []) [] (placed_tokens bytes.now tokens.now) (placed_tokens bytes.now x.1.now)) }
-    ensures halts { IfErr result (λ e. HaltsAs (outer plain_name ∷ []) (placed_tokens bytes.now tokens.now) e) }
+    ensures reads { IfOk result (λ x.
+        Reads (outer plain_name ∷ []) [] (placed_tokens bytes.now tokens.now)
+        (placed_tokens bytes.now x.1.now)) }
+    ensures halts { IfErr result (λ e.
+        HaltsAs (outer plain_name ∷ []) (placed_tokens bytes.now tokens.now) e) }
 {
     let of = type_of(alloc, before)?;
     let (decl, rest) = read_named(alloc, bytes, before.kind, of, tokens)?;
@@ -154,10 +199,15 @@ fn read_typed_port<'a>(
     kind: DeclKind,
     tokens: &'a [Token],
 ) -> Result<(Decl, &'a [Token]), Stop>
-    ensures is { IfOk result (λ x. IsTypedPort kind (declaration_tree x.0) (placed_tokens bytes.now tokens.now) (placed_tokens bytes.now x.1.now)) }
+    ensures is { IfOk result (λ x.
+        IsTypedPort kind (declaration_tree x.0) (placed_tokens bytes.now tokens.now)
+        (placed_tokens bytes.now x.1.now)) }
     ensures shorter { IfOk result (λ x. length x.1.now < length tokens.now) }
-    ensures reads { IfOk result (λ x. Reads (outside_on (typed_name [])) [] (placed_tokens bytes.now tokens.now) (placed_tokens bytes.now x.1.now)) }
-    ensures halts { IfErr result (λ e. HaltsAs (outside_on (typed_name [])) (placed_tokens bytes.now tokens.now) e) }
+    ensures reads { IfOk result (λ x.
+        Reads (outside_on (typed_name [])) [] (placed_tokens bytes.now tokens.now)
+        (placed_tokens bytes.now x.1.now)) }
+    ensures halts { IfErr result (λ e.
+        HaltsAs (outside_on (typed_name [])) (placed_tokens bytes.now tokens.now) e) }
 {
     let (of, rest) = read_signal_type(alloc, bytes, tokens)?;
     let (decl, rest) = read_named(alloc, bytes, kind, of, rest)?;
@@ -176,7 +226,8 @@ impl Listed for Ports {
 
     ghost First = { λ n. IsPort all_limits };
 
-    ghost Later = { λ n before d. (IsPort all_limits d or given (AreAlike before d) (IsNamedPort d)) };
+    ghost Later = { λ n before d.
+        (IsPort all_limits d or given (AreAlike before d) (IsNamedPort d)) };
 
     ghost Begins = { NextIsNotSign signs.CloseParenthesis };
 
@@ -221,10 +272,15 @@ pub fn read_ports<'a>(
     bytes: &[u8],
     tokens: &'a [Token],
 ) -> Result<(Vec<Decl>, &'a [Token]), Stop>
-    ensures is { IfOk result (λ x. ArePorts all_limits (map declaration_tree x.0.items) (placed_tokens bytes.now tokens.now) (placed_tokens bytes.now x.1.now)) }
+    ensures is { IfOk result (λ x.
+        ArePorts all_limits (map declaration_tree x.0.items) (placed_tokens bytes.now tokens.now)
+        (placed_tokens bytes.now x.1.now)) }
     ensures shorter { IfOk result (λ x. length x.1.now < length tokens.now) }
-    ensures reads { NextIsNotSign signs.CloseParenthesis (placed_tokens bytes.now tokens.now) → IfOk result (λ x. Reads (outer ports ∷ []) (outer (punctuation signs.CloseParenthesis) ∷ []) (placed_tokens bytes.now tokens.now) (placed_tokens bytes.now x.1.now)) }
-    ensures halts { NextIsNotSign signs.CloseParenthesis (placed_tokens bytes.now tokens.now) → IfErr result (λ e. HaltsAs (outer ports ∷ []) (placed_tokens bytes.now tokens.now) e) }
+    ensures reads { NextIsNotSign signs.CloseParenthesis (placed_tokens bytes.now tokens.now) →
+        IfOk result (λ x. Reads (outer ports ∷ []) (outer (punctuation signs.CloseParenthesis) ∷ [])
+        (placed_tokens bytes.now tokens.now) (placed_tokens bytes.now x.1.now)) }
+    ensures halts { NextIsNotSign signs.CloseParenthesis (placed_tokens bytes.now tokens.now) →
+        IfErr result (λ e. HaltsAs (outer ports ∷ []) (placed_tokens bytes.now tokens.now) e) }
 {
     let (ports, rest) = read_list::<Ports>(alloc, bytes, 0, tokens)?;
     Ok((ports, rest))
@@ -236,10 +292,15 @@ fn read_wire_value<'a>(
     bytes: &[u8],
     tokens: &'a [Token],
 ) -> Result<(Option<Expr>, &'a [Token]), Stop>
-    ensures is { IfOk result (λ x. perhaps (equals all_limits) (option_map expression_tree x.0) (placed_tokens bytes.now tokens.now) (placed_tokens bytes.now x.1.now)) }
+    ensures is { IfOk result (λ x.
+        perhaps (equals all_limits) (option_map expression_tree x.0)
+        (placed_tokens bytes.now tokens.now) (placed_tokens bytes.now x.1.now)) }
     ensures shorter { IfOk result (λ x. length x.1.now ≤ length tokens.now) }
-    ensures reads { IfOk result (λ x. Reads (outer perhaps_value ∷ []) [] (placed_tokens bytes.now tokens.now) (placed_tokens bytes.now x.1.now)) }
-    ensures halts { IfErr result (λ e. HaltsAs (outer perhaps_value ∷ []) (placed_tokens bytes.now tokens.now) e) }
+    ensures reads { IfOk result (λ x.
+        Reads (outer perhaps_value ∷ []) [] (placed_tokens bytes.now tokens.now)
+        (placed_tokens bytes.now x.1.now)) }
+    ensures halts { IfErr result (λ e.
+        HaltsAs (outer perhaps_value ∷ []) (placed_tokens bytes.now tokens.now) e) }
 {
     match behind(SignKind::Equals, tokens) {
         Some(rest) => {
@@ -257,10 +318,17 @@ fn read_named_wire<'a>(
     of: SignalType,
     tokens: &'a [Token],
 ) -> Result<(Decl, &'a [Token]), Stop>
-    ensures is { IfOk result (λ x. IsWireAs of.signed (option_map span_tree of.span) (option_map label_tree of.label) (declaration_tree x.0) (placed_tokens bytes.now tokens.now) (placed_tokens bytes.now x.1.now)) }
+    ensures is { IfOk result (λ x.
+        IsWireAs of.signed (option_map span_tree of.span) (option_map label_tree of.label)
+        (declaration_tree x.0) (placed_tokens bytes.now tokens.now)
+        (placed_tokens bytes.now x.1.now)) }
     ensures shorter { IfOk result (λ x. length x.1.now < length tokens.now) }
-    ensures reads { IfOk result (λ x. Reads (outer plain_name ∷ outer perhaps_value ∷ []) [] (placed_tokens bytes.now tokens.now) (placed_tokens bytes.now x.1.now)) }
-    ensures halts { IfErr result (λ e. HaltsAs (outer plain_name ∷ outer perhaps_value ∷ []) (placed_tokens bytes.now tokens.now) e) }
+    ensures reads { IfOk result (λ x.
+        Reads (outer plain_name ∷ outer perhaps_value ∷ []) [] (placed_tokens bytes.now tokens.now)
+        (placed_tokens bytes.now x.1.now)) }
+    ensures halts { IfErr result (λ e.
+        HaltsAs (outer plain_name ∷ outer perhaps_value ∷ [])
+        (placed_tokens bytes.now tokens.now) e) }
 {
     let (name, place, rest) = read_name(alloc, bytes, tokens)?;
     let (value, rest) = read_wire_value(alloc, bytes, rest)?;
@@ -320,10 +388,16 @@ pub fn read_wires<'a>(
     bytes: &[u8],
     tokens: &'a [Token],
 ) -> Result<(Vec<Decl>, &'a [Token]), Stop>
-    ensures is { IfOk result (λ x. AreSignals all_limits (map declaration_tree x.0.items) (placed_tokens bytes.now tokens.now) (placed_tokens bytes.now x.1.now)) }
+    ensures is { IfOk result (λ x.
+        AreSignals all_limits (map declaration_tree x.0.items) (placed_tokens bytes.now tokens.now)
+        (placed_tokens bytes.now x.1.now)) }
     ensures shorter { IfOk result (λ x. length x.1.now < length tokens.now) }
-    ensures reads { IsNext words.Wire (placed_tokens bytes.now tokens.now) → IfOk result (λ x. Reads (outer items ∷ []) (outer (punctuation signs.Semicolon) ∷ outer items ∷ []) (placed_tokens bytes.now tokens.now) (placed_tokens bytes.now x.1.now)) }
-    ensures halts { IsNext words.Wire (placed_tokens bytes.now tokens.now) → IfErr result (λ e. HaltsAs (outer items ∷ []) (placed_tokens bytes.now tokens.now) e) }
+    ensures reads { IsNext words.Wire (placed_tokens bytes.now tokens.now) →
+        IfOk result (λ x. Reads (outer items ∷ [])
+        (outer (punctuation signs.Semicolon) ∷ outer items ∷ [])
+        (placed_tokens bytes.now tokens.now) (placed_tokens bytes.now x.1.now)) }
+    ensures halts { IsNext words.Wire (placed_tokens bytes.now tokens.now) →
+        IfErr result (λ e. HaltsAs (outer items ∷ []) (placed_tokens bytes.now tokens.now) e) }
 {
     let (wires, rest) = read_list::<Wires>(alloc, bytes, 0, tokens)?;
     Ok((wires, rest))
@@ -377,7 +451,8 @@ impl Listed for Registers {
 
 /// The items that declare the signals.
 pub fn declared(alloc: Global, decls: Vec<Decl>) -> Result<Vec<Item>, AllocError>
-    ensures { IfOk result (λ items. map item_tree items.items ≡ map tree.declared (map declaration_tree decls.items)) }
+    ensures { IfOk result (λ items.
+        map item_tree items.items ≡ map tree.declared (map declaration_tree decls.items)) }
 {
     let mut items = Vec::with_capacity(alloc, decls.len())?;
     for decl in decls {

@@ -5,13 +5,18 @@ ghost use Rattle.sv_token.specs.Lexemes.{placed_tokens};
 ghost use Rattle.sv_token.specs.declared.signs.SignKind.TheVariants as signs;
 ghost use Rattle.sv_ast.specs.Tree as tree;
 ghost use Rattle.sv_ast.specs.Tree.{NamedOverride, NamedLink, InstanceTree};
-ghost use Rattle.sv_ast.specs.Views.{expression_tree, expression_trees, named_override, override_trees, named_link, link_trees, instance_tree, item_tree};
+ghost use Rattle.sv_ast.specs.Views.{expression_tree, expression_trees, named_override};
+ghost use Rattle.sv_ast.specs.Views.{override_trees, named_link, link_trees, instance_tree};
+ghost use Rattle.sv_ast.specs.Views.{item_tree};
 ghost use Rattle.sv_ast.specs.GrammarForms.{◌⨾◌, given, perhaps, name_at, a_sign};
 ghost use Rattle.sv_ast.specs.GrammarDeclarations.{IsValue};
-ghost use Rattle.sv_ast.specs.GrammarModules.{IsNamedOverride, AreOverrides, IsNamedLink, AreLinks, IsNamedInstance, IsInstance, AreOfOneModule, AreInstances, all_as};
+ghost use Rattle.sv_ast.specs.GrammarModules.{IsNamedOverride, AreOverrides, IsNamedLink, AreLinks};
+ghost use Rattle.sv_ast.specs.GrammarModules.{IsNamedInstance, IsInstance, AreOfOneModule};
+ghost use Rattle.sv_ast.specs.GrammarModules.{AreInstances, all_as};
 ghost use Rattle.sv_ast.specs.GrammarRules.{all_limits};
 ghost use Rattle.sv_parse.specs.ReadingItems.{AreOpenOverrides, IsInstanceAs};
-ghost use Rattle.sv_grammar.specs.Symbols.{outer, punctuation, plain_name, expression, items, overrides, link, links, perhaps_overrides};
+ghost use Rattle.sv_grammar.specs.Symbols.{outer, punctuation, plain_name, expression, items};
+ghost use Rattle.sv_grammar.specs.Symbols.{overrides, link, links, perhaps_overrides};
 ghost use Rattle.sv_grammar.specs.Reads.{Reads, NextIsNotSign, NextIsAnyName};
 ghost use Rattle.sv_read.specs.Expectations.{HaltsAs};
 
@@ -30,10 +35,17 @@ fn read_dotted<'a>(
     bytes: &[u8],
     tokens: &'a [Token],
 ) -> Result<(Name, Place, &'a [Token]), Stop>
-    ensures is { IfOk result (λ x. (a_sign signs.Dot ⨾ name_at x.0 x.1 ⨾ a_sign signs.OpenParenthesis) (placed_tokens bytes.now tokens.now) (placed_tokens bytes.now x.2.now)) }
+    ensures is { IfOk result (λ x.
+        (a_sign signs.Dot ⨾ name_at x.0 x.1 ⨾ a_sign signs.OpenParenthesis)
+        (placed_tokens bytes.now tokens.now) (placed_tokens bytes.now x.2.now)) }
     ensures shorter { IfOk result (λ x. length x.2.now < length tokens.now) }
-    ensures reads { IfOk result (λ x. Reads (outer (punctuation signs.Dot) ∷ outer plain_name ∷ outer (punctuation signs.OpenParenthesis) ∷ []) [] (placed_tokens bytes.now tokens.now) (placed_tokens bytes.now x.2.now)) }
-    ensures halts { IfErr result (λ e. HaltsAs (outer (punctuation signs.Dot) ∷ outer plain_name ∷ outer (punctuation signs.OpenParenthesis) ∷ []) (placed_tokens bytes.now tokens.now) e) }
+    ensures reads { IfOk result (λ x.
+        Reads (outer (punctuation signs.Dot) ∷ outer plain_name ∷
+        outer (punctuation signs.OpenParenthesis) ∷ []) [] (placed_tokens bytes.now tokens.now)
+        (placed_tokens bytes.now x.2.now)) }
+    ensures halts { IfErr result (λ e.
+        HaltsAs (outer (punctuation signs.Dot) ∷ outer plain_name ∷
+        outer (punctuation signs.OpenParenthesis) ∷ []) (placed_tokens bytes.now tokens.now) e) }
 {
     let rest = expect_sign(SignKind::Dot, tokens)?;
     let (name, place, rest) = read_name(alloc, bytes, rest)?;
@@ -47,10 +59,19 @@ fn read_named_override<'a>(
     bytes: &[u8],
     tokens: &'a [Token],
 ) -> Result<((Name, Place, Expr), &'a [Token]), Stop>
-    ensures is { IfOk result (λ x. IsNamedOverride all_limits (named_override x.0) (placed_tokens bytes.now tokens.now) (placed_tokens bytes.now x.1.now)) }
+    ensures is { IfOk result (λ x.
+        IsNamedOverride all_limits (named_override x.0) (placed_tokens bytes.now tokens.now)
+        (placed_tokens bytes.now x.1.now)) }
     ensures shorter { IfOk result (λ x. length x.1.now < length tokens.now) }
-    ensures reads { IfOk result (λ x. Reads (outer (punctuation signs.Dot) ∷ outer plain_name ∷ outer (punctuation signs.OpenParenthesis) ∷ outer (expression 0) ∷ outer (punctuation signs.CloseParenthesis) ∷ []) [] (placed_tokens bytes.now tokens.now) (placed_tokens bytes.now x.1.now)) }
-    ensures halts { IfErr result (λ e. HaltsAs (outer (punctuation signs.Dot) ∷ outer plain_name ∷ outer (punctuation signs.OpenParenthesis) ∷ outer (expression 0) ∷ outer (punctuation signs.CloseParenthesis) ∷ []) (placed_tokens bytes.now tokens.now) e) }
+    ensures reads { IfOk result (λ x.
+        Reads (outer (punctuation signs.Dot) ∷ outer plain_name ∷
+        outer (punctuation signs.OpenParenthesis) ∷ outer (expression 0) ∷
+        outer (punctuation signs.CloseParenthesis) ∷ []) [] (placed_tokens bytes.now tokens.now)
+        (placed_tokens bytes.now x.1.now)) }
+    ensures halts { IfErr result (λ e.
+        HaltsAs (outer (punctuation signs.Dot) ∷ outer plain_name ∷
+        outer (punctuation signs.OpenParenthesis) ∷ outer (expression 0) ∷
+        outer (punctuation signs.CloseParenthesis) ∷ []) (placed_tokens bytes.now tokens.now) e) }
 {
     let (name, place, rest) = read_dotted(alloc, bytes, tokens)?;
     let (value, rest) = read_expression(alloc, bytes, 0, rest)?;
@@ -74,11 +95,16 @@ impl Listed for NamedOverrides {
 
     ghost Begins = { λ ts. Unit {0} };
 
-    ghost start = { λ n. outer (punctuation signs.Dot) ∷ outer plain_name ∷ outer (punctuation signs.OpenParenthesis) ∷ outer (expression 0) ∷ outer (punctuation signs.CloseParenthesis) ∷ [] };
+    ghost start = { λ n.
+        outer (punctuation signs.Dot) ∷ outer plain_name ∷
+        outer (punctuation signs.OpenParenthesis) ∷ outer (expression 0) ∷
+        outer (punctuation signs.CloseParenthesis) ∷ [] };
 
     ghost behind = { λ n. [] };
 
-    ghost next = { λ n. outer (punctuation signs.Dot) ∷ outer plain_name ∷ outer (punctuation signs.OpenParenthesis) ∷ outer (expression 0) ∷ outer (punctuation signs.CloseParenthesis) ∷ [] };
+    ghost next = { λ n. outer (punctuation signs.Dot) ∷ outer plain_name ∷
+        outer (punctuation signs.OpenParenthesis) ∷ outer (expression 0) ∷
+        outer (punctuation signs.CloseParenthesis) ∷ [] };
 
     fn first<'a>(
         alloc: Global,
@@ -106,10 +132,15 @@ fn read_open_overrides<'a>(
     bytes: &[u8],
     tokens: &'a [Token],
 ) -> Result<(Overrides, &'a [Token]), Stop>
-    ensures is { IfOk result (λ x. AreOpenOverrides (override_trees x.0) (placed_tokens bytes.now tokens.now) (placed_tokens bytes.now x.1.now)) }
+    ensures is { IfOk result (λ x.
+        AreOpenOverrides (override_trees x.0) (placed_tokens bytes.now tokens.now)
+        (placed_tokens bytes.now x.1.now)) }
     ensures shorter { IfOk result (λ x. length x.1.now < length tokens.now) }
-    ensures reads { IfOk result (λ x. Reads (outer overrides ∷ []) (outer (punctuation signs.CloseParenthesis) ∷ []) (placed_tokens bytes.now tokens.now) (placed_tokens bytes.now x.1.now)) }
-    ensures halts { IfErr result (λ e. HaltsAs (outer overrides ∷ []) (placed_tokens bytes.now tokens.now) e) }
+    ensures reads { IfOk result (λ x.
+        Reads (outer overrides ∷ []) (outer (punctuation signs.CloseParenthesis) ∷ [])
+        (placed_tokens bytes.now tokens.now) (placed_tokens bytes.now x.1.now)) }
+    ensures halts { IfErr result (λ e.
+        HaltsAs (outer overrides ∷ []) (placed_tokens bytes.now tokens.now) e) }
 {
     match behind(SignKind::Dot, tokens) {
         Some(_) => {
@@ -129,10 +160,15 @@ fn read_overrides<'a>(
     bytes: &[u8],
     tokens: &'a [Token],
 ) -> Result<(Overrides, &'a [Token]), Stop>
-    ensures is { IfOk result (λ x. AreOverrides all_limits (override_trees x.0) (placed_tokens bytes.now tokens.now) (placed_tokens bytes.now x.1.now)) }
+    ensures is { IfOk result (λ x.
+        AreOverrides all_limits (override_trees x.0) (placed_tokens bytes.now tokens.now)
+        (placed_tokens bytes.now x.1.now)) }
     ensures shorter { IfOk result (λ x. length x.1.now ≤ length tokens.now) }
-    ensures reads { IfOk result (λ x. Reads (outer perhaps_overrides ∷ []) [] (placed_tokens bytes.now tokens.now) (placed_tokens bytes.now x.1.now)) }
-    ensures halts { IfErr result (λ e. HaltsAs (outer perhaps_overrides ∷ []) (placed_tokens bytes.now tokens.now) e) }
+    ensures reads { IfOk result (λ x.
+        Reads (outer perhaps_overrides ∷ []) [] (placed_tokens bytes.now tokens.now)
+        (placed_tokens bytes.now x.1.now)) }
+    ensures halts { IfErr result (λ e.
+        HaltsAs (outer perhaps_overrides ∷ []) (placed_tokens bytes.now tokens.now) e) }
 {
     if let Some(rest) = behind(SignKind::Hash, tokens) {
         let rest = expect_sign(SignKind::OpenParenthesis, rest)?;
@@ -149,10 +185,16 @@ fn read_link_value<'a>(
     bytes: &[u8],
     tokens: &'a [Token],
 ) -> Result<(Option<Expr>, &'a [Token]), Stop>
-    ensures is { IfOk result (λ x. (perhaps (IsValue all_limits) (option_map expression_tree x.0) ⨾ a_sign signs.CloseParenthesis) (placed_tokens bytes.now tokens.now) (placed_tokens bytes.now x.1.now)) }
+    ensures is { IfOk result (λ x.
+        (perhaps (IsValue all_limits) (option_map expression_tree x.0)
+        ⨾ a_sign signs.CloseParenthesis) (placed_tokens bytes.now tokens.now)
+        (placed_tokens bytes.now x.1.now)) }
     ensures shorter { IfOk result (λ x. length x.1.now < length tokens.now) }
-    ensures reads { IfOk result (λ x. Reads (outer link ∷ []) [] (placed_tokens bytes.now tokens.now) (placed_tokens bytes.now x.1.now)) }
-    ensures halts { IfErr result (λ e. HaltsAs (outer link ∷ []) (placed_tokens bytes.now tokens.now) e) }
+    ensures reads { IfOk result (λ x.
+        Reads (outer link ∷ []) [] (placed_tokens bytes.now tokens.now)
+        (placed_tokens bytes.now x.1.now)) }
+    ensures halts { IfErr result (λ e.
+        HaltsAs (outer link ∷ []) (placed_tokens bytes.now tokens.now) e) }
 {
     if let Some(rest) = behind(SignKind::CloseParenthesis, tokens) {
         return Ok((None, rest));
@@ -168,10 +210,19 @@ fn read_named_link<'a>(
     bytes: &[u8],
     tokens: &'a [Token],
 ) -> Result<((Name, Place, Option<Expr>), &'a [Token]), Stop>
-    ensures is { IfOk result (λ x. IsNamedLink all_limits (named_link x.0) (placed_tokens bytes.now tokens.now) (placed_tokens bytes.now x.1.now)) }
+    ensures is { IfOk result (λ x.
+        IsNamedLink all_limits (named_link x.0) (placed_tokens bytes.now tokens.now)
+        (placed_tokens bytes.now x.1.now)) }
     ensures shorter { IfOk result (λ x. length x.1.now < length tokens.now) }
-    ensures reads { IfOk result (λ x. Reads (outer (punctuation signs.Dot) ∷ outer plain_name ∷ outer (punctuation signs.OpenParenthesis) ∷ outer link ∷ []) [] (placed_tokens bytes.now tokens.now) (placed_tokens bytes.now x.1.now)) }
-    ensures halts { IfErr result (λ e. HaltsAs (outer (punctuation signs.Dot) ∷ outer plain_name ∷ outer (punctuation signs.OpenParenthesis) ∷ outer link ∷ []) (placed_tokens bytes.now tokens.now) e) }
+    ensures reads { IfOk result (λ x.
+        Reads (outer (punctuation signs.Dot) ∷ outer plain_name ∷
+        outer (punctuation signs.OpenParenthesis) ∷
+        outer link ∷ []) [] (placed_tokens bytes.now tokens.now)
+        (placed_tokens bytes.now x.1.now)) }
+    ensures halts { IfErr result (λ e.
+        HaltsAs (outer (punctuation signs.Dot) ∷ outer plain_name ∷
+        outer (punctuation signs.OpenParenthesis) ∷
+        outer link ∷ []) (placed_tokens bytes.now tokens.now) e) }
 {
     let (name, place, rest) = read_dotted(alloc, bytes, tokens)?;
     let (value, rest) = read_link_value(alloc, bytes, rest)?;
@@ -194,11 +245,14 @@ impl Listed for NamedLinks {
 
     ghost Begins = { λ ts. Unit {0} };
 
-    ghost start = { λ n. outer (punctuation signs.Dot) ∷ outer plain_name ∷ outer (punctuation signs.OpenParenthesis) ∷ outer link ∷ [] };
+    ghost start = { λ n.
+        outer (punctuation signs.Dot) ∷ outer plain_name ∷
+        outer (punctuation signs.OpenParenthesis) ∷ outer link ∷ [] };
 
     ghost behind = { λ n. [] };
 
-    ghost next = { λ n. outer (punctuation signs.Dot) ∷ outer plain_name ∷ outer (punctuation signs.OpenParenthesis) ∷ outer link ∷ [] };
+    ghost next = { λ n. outer (punctuation signs.Dot) ∷ outer plain_name ∷
+        outer (punctuation signs.OpenParenthesis) ∷ outer link ∷ [] };
 
     fn first<'a>(
         alloc: Global,
@@ -226,10 +280,15 @@ fn read_links<'a>(
     bytes: &[u8],
     tokens: &'a [Token],
 ) -> Result<(Links, &'a [Token]), Stop>
-    ensures is { IfOk result (λ x. (AreLinks all_limits (link_trees x.0) ⨾ a_sign signs.CloseParenthesis) (placed_tokens bytes.now tokens.now) (placed_tokens bytes.now x.1.now)) }
+    ensures is { IfOk result (λ x.
+        (AreLinks all_limits (link_trees x.0) ⨾ a_sign signs.CloseParenthesis)
+        (placed_tokens bytes.now tokens.now) (placed_tokens bytes.now x.1.now)) }
     ensures shorter { IfOk result (λ x. length x.1.now < length tokens.now) }
-    ensures reads { IfOk result (λ x. Reads (outer links ∷ []) [] (placed_tokens bytes.now tokens.now) (placed_tokens bytes.now x.1.now)) }
-    ensures halts { IfErr result (λ e. HaltsAs (outer links ∷ []) (placed_tokens bytes.now tokens.now) e) }
+    ensures reads { IfOk result (λ x.
+        Reads (outer links ∷ []) [] (placed_tokens bytes.now tokens.now)
+        (placed_tokens bytes.now x.1.now)) }
+    ensures halts { IfErr result (λ e.
+        HaltsAs (outer links ∷ []) (placed_tokens bytes.now tokens.now) e) }
 {
     if let Some(rest) = behind(SignKind::CloseParenthesis, tokens) {
         return Ok((Links::Ordered(Vec::new(alloc)), rest));
@@ -245,10 +304,15 @@ fn read_some_links<'a>(
     bytes: &[u8],
     tokens: &'a [Token],
 ) -> Result<(Links, &'a [Token]), Stop>
-    ensures is { IfOk result (λ x. AreLinks all_limits (link_trees x.0) (placed_tokens bytes.now tokens.now) (placed_tokens bytes.now x.1.now)) }
+    ensures is { IfOk result (λ x.
+        AreLinks all_limits (link_trees x.0) (placed_tokens bytes.now tokens.now)
+        (placed_tokens bytes.now x.1.now)) }
     ensures shorter { IfOk result (λ x. length x.1.now < length tokens.now) }
-    ensures reads { NextIsNotSign SignKind.CloseParenthesis (placed_tokens bytes.now tokens.now) → IfOk result (λ x. Reads (outer links ∷ []) (outer (punctuation signs.CloseParenthesis) ∷ []) (placed_tokens bytes.now tokens.now) (placed_tokens bytes.now x.1.now)) }
-    ensures halts { NextIsNotSign SignKind.CloseParenthesis (placed_tokens bytes.now tokens.now) → IfErr result (λ e. HaltsAs (outer links ∷ []) (placed_tokens bytes.now tokens.now) e) }
+    ensures reads { NextIsNotSign SignKind.CloseParenthesis (placed_tokens bytes.now tokens.now) →
+        IfOk result (λ x. Reads (outer links ∷ []) (outer (punctuation signs.CloseParenthesis) ∷ [])
+        (placed_tokens bytes.now tokens.now) (placed_tokens bytes.now x.1.now)) }
+    ensures halts { NextIsNotSign SignKind.CloseParenthesis (placed_tokens bytes.now tokens.now) →
+        IfErr result (λ e. HaltsAs (outer links ∷ []) (placed_tokens bytes.now tokens.now) e) }
 {
     match behind(SignKind::Dot, tokens) {
         Some(_) => {
@@ -271,10 +335,16 @@ fn read_named_instance<'a>(
     overrides: Overrides,
     tokens: &'a [Token],
 ) -> Result<(Instance, &'a [Token]), Stop>
-    ensures is { IfOk result (λ x. IsInstanceAs «module» place (override_trees overrides) (instance_tree x.0) (placed_tokens bytes.now tokens.now) (placed_tokens bytes.now x.1.now)) }
+    ensures is { IfOk result (λ x.
+        IsInstanceAs «module» place (override_trees overrides) (instance_tree x.0)
+        (placed_tokens bytes.now tokens.now) (placed_tokens bytes.now x.1.now)) }
     ensures shorter { IfOk result (λ x. length x.1.now < length tokens.now) }
-    ensures reads { IfOk result (λ x. Reads (outer plain_name ∷ outer (punctuation signs.OpenParenthesis) ∷ outer links ∷ []) [] (placed_tokens bytes.now tokens.now) (placed_tokens bytes.now x.1.now)) }
-    ensures halts { IfErr result (λ e. HaltsAs (outer plain_name ∷ outer (punctuation signs.OpenParenthesis) ∷ outer links ∷ []) (placed_tokens bytes.now tokens.now) e) }
+    ensures reads { IfOk result (λ x.
+        Reads (outer plain_name ∷ outer (punctuation signs.OpenParenthesis) ∷ outer links ∷ []) []
+        (placed_tokens bytes.now tokens.now) (placed_tokens bytes.now x.1.now)) }
+    ensures halts { IfErr result (λ e.
+        HaltsAs (outer plain_name ∷ outer (punctuation signs.OpenParenthesis) ∷ outer links ∷ [])
+        (placed_tokens bytes.now tokens.now) e) }
 {
     let (name, name_place, rest) = read_name(alloc, bytes, tokens)?;
     let rest = expect_sign(SignKind::OpenParenthesis, rest)?;
@@ -306,7 +376,8 @@ fn named_copy(
     alloc: Global,
     values: &[(Name, Place, Expr)],
 ) -> Result<Vec<(Name, Place, Expr)>, AllocError>
-    ensures { IfOk result (λ copies. map named_override copies.items ≡ map named_override values.now) }
+    ensures { IfOk result (λ copies.
+        map named_override copies.items ≡ map named_override values.now) }
 {
     let mut copies = Vec::with_capacity(alloc, values.len())?;
     for (name, place, value) in values {
@@ -341,11 +412,14 @@ impl Listed for Instances {
 
     ghost Begins = { λ ts. Unit {0} };
 
-    ghost start = { λ n. outer plain_name ∷ outer perhaps_overrides ∷ outer plain_name ∷ outer (punctuation signs.OpenParenthesis) ∷ outer links ∷ [] };
+    ghost start = { λ n.
+        outer plain_name ∷ outer perhaps_overrides ∷ outer plain_name ∷
+        outer (punctuation signs.OpenParenthesis) ∷ outer links ∷ [] };
 
     ghost behind = { λ n. [] };
 
-    ghost next = { λ n. outer plain_name ∷ outer (punctuation signs.OpenParenthesis) ∷ outer links ∷ [] };
+    ghost next = { λ n. outer plain_name ∷ outer (punctuation signs.OpenParenthesis) ∷
+        outer links ∷ [] };
 
     fn first<'a>(
         alloc: Global,
@@ -382,7 +456,8 @@ impl Listed for Instances {
 
 // The items that the instances are.
 fn as_items(alloc: Global, instances: Vec<Instance>) -> Result<Vec<Item>, AllocError>
-    ensures { IfOk result (λ items. map item_tree items.items ≡ map tree.instance_item (map instance_tree instances.items)) }
+    ensures { IfOk result (λ items.
+        map item_tree items.items ≡ map tree.instance_item (map instance_tree instances.items)) }
 {
     let mut items = Vec::with_capacity(alloc, instances.len())?;
     for instance in instances {
@@ -397,10 +472,16 @@ pub fn read_instances<'a>(
     bytes: &[u8],
     tokens: &'a [Token],
 ) -> Result<(Vec<Item>, &'a [Token]), Stop>
-    ensures is { IfOk result (λ x. all_as tree.instance_item (AreInstances all_limits) (map item_tree x.0.items) (placed_tokens bytes.now tokens.now) (placed_tokens bytes.now x.1.now)) }
+    ensures is { IfOk result (λ x.
+        all_as tree.instance_item (AreInstances all_limits) (map item_tree x.0.items)
+        (placed_tokens bytes.now tokens.now) (placed_tokens bytes.now x.1.now)) }
     ensures shorter { IfOk result (λ x. length x.1.now < length tokens.now) }
-    ensures reads { NextIsAnyName (placed_tokens bytes.now tokens.now) → IfOk result (λ x. Reads (outer items ∷ []) (outer (punctuation signs.Semicolon) ∷ outer items ∷ []) (placed_tokens bytes.now tokens.now) (placed_tokens bytes.now x.1.now)) }
-    ensures halts { NextIsAnyName (placed_tokens bytes.now tokens.now) → IfErr result (λ e. HaltsAs (outer items ∷ []) (placed_tokens bytes.now tokens.now) e) }
+    ensures reads { NextIsAnyName (placed_tokens bytes.now tokens.now) →
+        IfOk result (λ x. Reads (outer items ∷ [])
+        (outer (punctuation signs.Semicolon) ∷ outer items ∷ [])
+        (placed_tokens bytes.now tokens.now) (placed_tokens bytes.now x.1.now)) }
+    ensures halts { NextIsAnyName (placed_tokens bytes.now tokens.now) →
+        IfErr result (λ e. HaltsAs (outer items ∷ []) (placed_tokens bytes.now tokens.now) e) }
 {
     let (instances, rest) = read_list::<Instances>(alloc, bytes, 0, tokens)?;
     let items = as_items(alloc, instances)?;

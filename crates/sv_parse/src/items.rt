@@ -5,11 +5,13 @@ ghost use Rattle.sv_token.specs.Lexemes.{placed_tokens};
 ghost use Rattle.sv_token.specs.declared.signs.SignKind.TheVariants as signs;
 ghost use Rattle.sv_ast.specs.Views.{expression_tree, placed_name, item_tree};
 ghost use Rattle.sv_ast.specs.GrammarForms.{◌⨾◌, a_sign};
-ghost use Rattle.sv_ast.specs.GrammarModules.{IsPlacedName, IsEvent, IsAlways, place_of, IsInvariant, IsListedItem, IsItem};
+ghost use Rattle.sv_ast.specs.GrammarModules.{IsPlacedName, IsEvent, IsAlways, place_of};
+ghost use Rattle.sv_ast.specs.GrammarModules.{IsInvariant, IsListedItem, IsItem};
 ghost use Rattle.sv_ast.specs.GrammarRules.{all_limits};
 ghost use Rattle.sv_ast.specs.GrammarStatements.{IsNext};
 ghost use Rattle.sv_parse.specs.ReadingItems.{IsOpenEvent};
-ghost use Rattle.sv_grammar.specs.Symbols.{outer, punctuation, plain_name, items, event, event_inside};
+ghost use Rattle.sv_grammar.specs.Symbols.{outer, punctuation, plain_name, items, event};
+ghost use Rattle.sv_grammar.specs.Symbols.{event_inside};
 ghost use Rattle.sv_grammar.specs.Reads.{Reads, NextIsNotWord};
 ghost use Rattle.sv_read.specs.Expectations.{HaltsAs};
 
@@ -37,10 +39,16 @@ fn read_clock<'a>(
     bytes: &[u8],
     tokens: &'a [Token],
 ) -> Result<((Name, Place), &'a [Token]), Stop>
-    ensures is { IfOk result (λ x. (IsPlacedName (placed_name x.0) ⨾ a_sign signs.CloseParenthesis) (placed_tokens bytes.now tokens.now) (placed_tokens bytes.now x.1.now)) }
+    ensures is { IfOk result (λ x.
+        (IsPlacedName (placed_name x.0) ⨾ a_sign signs.CloseParenthesis)
+        (placed_tokens bytes.now tokens.now) (placed_tokens bytes.now x.1.now)) }
     ensures shorter { IfOk result (λ x. length x.1.now < length tokens.now) }
-    ensures reads { IfOk result (λ x. Reads (outer plain_name ∷ outer (punctuation signs.CloseParenthesis) ∷ []) [] (placed_tokens bytes.now tokens.now) (placed_tokens bytes.now x.1.now)) }
-    ensures halts { IfErr result (λ e. HaltsAs (outer plain_name ∷ outer (punctuation signs.CloseParenthesis) ∷ []) (placed_tokens bytes.now tokens.now) e) }
+    ensures reads { IfOk result (λ x.
+        Reads (outer plain_name ∷ outer (punctuation signs.CloseParenthesis) ∷ []) []
+        (placed_tokens bytes.now tokens.now) (placed_tokens bytes.now x.1.now)) }
+    ensures halts { IfErr result (λ e.
+        HaltsAs (outer plain_name ∷ outer (punctuation signs.CloseParenthesis) ∷ [])
+        (placed_tokens bytes.now tokens.now) e) }
 {
     let (name, place, rest) = read_name(alloc, bytes, tokens)?;
     let rest = expect_sign(SignKind::CloseParenthesis, rest)?;
@@ -53,10 +61,15 @@ fn read_open_event<'a>(
     bytes: &[u8],
     tokens: &'a [Token],
 ) -> Result<(Option<(Name, Place)>, &'a [Token]), Stop>
-    ensures is { IfOk result (λ x. IsOpenEvent (option_map placed_name x.0) (placed_tokens bytes.now tokens.now) (placed_tokens bytes.now x.1.now)) }
+    ensures is { IfOk result (λ x.
+        IsOpenEvent (option_map placed_name x.0) (placed_tokens bytes.now tokens.now)
+        (placed_tokens bytes.now x.1.now)) }
     ensures shorter { IfOk result (λ x. length x.1.now < length tokens.now) }
-    ensures reads { IfOk result (λ x. Reads (outer event_inside ∷ []) [] (placed_tokens bytes.now tokens.now) (placed_tokens bytes.now x.1.now)) }
-    ensures halts { IfErr result (λ e. HaltsAs (outer event_inside ∷ []) (placed_tokens bytes.now tokens.now) e) }
+    ensures reads { IfOk result (λ x.
+        Reads (outer event_inside ∷ []) [] (placed_tokens bytes.now tokens.now)
+        (placed_tokens bytes.now x.1.now)) }
+    ensures halts { IfErr result (λ e.
+        HaltsAs (outer event_inside ∷ []) (placed_tokens bytes.now tokens.now) e) }
 {
     if let Some(rest) = behind_word(WordKind::Posedge, tokens) {
         let (clock, rest) = read_clock(alloc, bytes, rest)?;
@@ -77,10 +90,15 @@ fn read_event<'a>(
     bytes: &[u8],
     tokens: &'a [Token],
 ) -> Result<(Option<(Name, Place)>, &'a [Token]), Stop>
-    ensures is { IfOk result (λ x. IsEvent (option_map placed_name x.0) (placed_tokens bytes.now tokens.now) (placed_tokens bytes.now x.1.now)) }
+    ensures is { IfOk result (λ x.
+        IsEvent (option_map placed_name x.0) (placed_tokens bytes.now tokens.now)
+        (placed_tokens bytes.now x.1.now)) }
     ensures shorter { IfOk result (λ x. length x.1.now < length tokens.now) }
-    ensures reads { IfOk result (λ x. Reads (outer event ∷ []) [] (placed_tokens bytes.now tokens.now) (placed_tokens bytes.now x.1.now)) }
-    ensures halts { IfErr result (λ e. HaltsAs (outer event ∷ []) (placed_tokens bytes.now tokens.now) e) }
+    ensures reads { IfOk result (λ x.
+        Reads (outer event ∷ []) [] (placed_tokens bytes.now tokens.now)
+        (placed_tokens bytes.now x.1.now)) }
+    ensures halts { IfErr result (λ e.
+        HaltsAs (outer event ∷ []) (placed_tokens bytes.now tokens.now) e) }
 {
     if let Some(rest) = behind(SignKind::OpenParenthesis, tokens) {
         let (event, rest) = read_open_event(alloc, bytes, rest)?;
@@ -98,10 +116,15 @@ fn read_process<'a>(
     bytes: &[u8],
     tokens: &'a [Token],
 ) -> Result<(Item, &'a [Token]), Stop>
-    ensures is { IfOk result (λ x. IsAlways all_limits (item_tree x.0) (placed_tokens bytes.now tokens.now) (placed_tokens bytes.now x.1.now)) }
+    ensures is { IfOk result (λ x.
+        IsAlways all_limits (item_tree x.0) (placed_tokens bytes.now tokens.now)
+        (placed_tokens bytes.now x.1.now)) }
     ensures shorter { IfOk result (λ x. length x.1.now < length tokens.now) }
-    ensures reads { IsNext WordKind.Always (placed_tokens bytes.now tokens.now) → IfOk result (λ x. Reads (outer items ∷ []) (outer items ∷ []) (placed_tokens bytes.now tokens.now) (placed_tokens bytes.now x.1.now)) }
-    ensures halts { IsNext WordKind.Always (placed_tokens bytes.now tokens.now) → IfErr result (λ e. HaltsAs (outer items ∷ []) (placed_tokens bytes.now tokens.now) e) }
+    ensures reads { IsNext WordKind.Always (placed_tokens bytes.now tokens.now) →
+        IfOk result (λ x. Reads (outer items ∷ []) (outer items ∷ [])
+        (placed_tokens bytes.now tokens.now) (placed_tokens bytes.now x.1.now)) }
+    ensures halts { IsNext WordKind.Always (placed_tokens bytes.now tokens.now) →
+        IfErr result (λ e. HaltsAs (outer items ∷ []) (placed_tokens bytes.now tokens.now) e) }
 {
     let (place, rest) = expect_word(WordKind::Always, tokens)?;
     let rest = expect_sign(SignKind::At, rest)?;
@@ -133,10 +156,16 @@ fn read_invariant<'a>(
     bytes: &[u8],
     tokens: &'a [Token],
 ) -> Result<(Item, &'a [Token]), Stop>
-    ensures is { IfOk result (λ x. IsInvariant all_limits (item_tree x.0) (placed_tokens bytes.now tokens.now) (placed_tokens bytes.now x.1.now)) }
+    ensures is { IfOk result (λ x.
+        IsInvariant all_limits (item_tree x.0) (placed_tokens bytes.now tokens.now)
+        (placed_tokens bytes.now x.1.now)) }
     ensures shorter { IfOk result (λ x. length x.1.now < length tokens.now) }
-    ensures reads { IsNext WordKind.Invariant (placed_tokens bytes.now tokens.now) → IfOk result (λ x. Reads (outer items ∷ []) (outer (punctuation signs.Semicolon) ∷ outer items ∷ []) (placed_tokens bytes.now tokens.now) (placed_tokens bytes.now x.1.now)) }
-    ensures halts { IsNext WordKind.Invariant (placed_tokens bytes.now tokens.now) → IfErr result (λ e. HaltsAs (outer items ∷ []) (placed_tokens bytes.now tokens.now) e) }
+    ensures reads { IsNext WordKind.Invariant (placed_tokens bytes.now tokens.now) →
+        IfOk result (λ x. Reads (outer items ∷ [])
+        (outer (punctuation signs.Semicolon) ∷ outer items ∷ [])
+        (placed_tokens bytes.now tokens.now) (placed_tokens bytes.now x.1.now)) }
+    ensures halts { IsNext WordKind.Invariant (placed_tokens bytes.now tokens.now) →
+        IfErr result (λ e. HaltsAs (outer items ∷ []) (placed_tokens bytes.now tokens.now) e) }
 {
     let (_place, rest) = expect_word(WordKind::Invariant, tokens)?;
     let (expr, rest) = read_expression(alloc, bytes, 0, rest)?;
@@ -149,10 +178,18 @@ fn read_listed_item<'a>(
     bytes: &[u8],
     tokens: &'a [Token],
 ) -> Result<(Vec<Item>, &'a [Token]), Stop>
-    ensures is { IfOk result (λ x. IsListedItem all_limits (map item_tree x.0.items) (placed_tokens bytes.now tokens.now) (placed_tokens bytes.now x.1.now)) }
+    ensures is { IfOk result (λ x.
+        IsListedItem all_limits (map item_tree x.0.items) (placed_tokens bytes.now tokens.now)
+        (placed_tokens bytes.now x.1.now)) }
     ensures shorter { IfOk result (λ x. length x.1.now < length tokens.now) }
-    ensures reads { NextIsNotWord WordKind.Always (placed_tokens bytes.now tokens.now) → NextIsNotWord WordKind.Endmodule (placed_tokens bytes.now tokens.now) → IfOk result (λ x. Reads (outer items ∷ []) (outer (punctuation signs.Semicolon) ∷ outer items ∷ []) (placed_tokens bytes.now tokens.now) (placed_tokens bytes.now x.1.now)) }
-    ensures halts { NextIsNotWord WordKind.Always (placed_tokens bytes.now tokens.now) → NextIsNotWord WordKind.Endmodule (placed_tokens bytes.now tokens.now) → IfErr result (λ e. HaltsAs (outer items ∷ []) (placed_tokens bytes.now tokens.now) e) }
+    ensures reads { NextIsNotWord WordKind.Always (placed_tokens bytes.now tokens.now) →
+        NextIsNotWord WordKind.Endmodule (placed_tokens bytes.now tokens.now) →
+        IfOk result (λ x. Reads (outer items ∷ [])
+        (outer (punctuation signs.Semicolon) ∷ outer items ∷ [])
+        (placed_tokens bytes.now tokens.now) (placed_tokens bytes.now x.1.now)) }
+    ensures halts { NextIsNotWord WordKind.Always (placed_tokens bytes.now tokens.now) →
+        NextIsNotWord WordKind.Endmodule (placed_tokens bytes.now tokens.now) →
+        IfErr result (λ e. HaltsAs (outer items ∷ []) (placed_tokens bytes.now tokens.now) e) }
 {
     let [first, ..] = tokens else {
         return Err(stuck(Expected::Item, tokens));
@@ -194,10 +231,15 @@ pub fn read_item<'a>(
     bytes: &[u8],
     tokens: &'a [Token],
 ) -> Result<(Vec<Item>, &'a [Token]), Stop>
-    ensures is { IfOk result (λ x. IsItem all_limits (map item_tree x.0.items) (placed_tokens bytes.now tokens.now) (placed_tokens bytes.now x.1.now)) }
+    ensures is { IfOk result (λ x.
+        IsItem all_limits (map item_tree x.0.items) (placed_tokens bytes.now tokens.now)
+        (placed_tokens bytes.now x.1.now)) }
     ensures shorter { IfOk result (λ x. length x.1.now < length tokens.now) }
-    ensures reads { NextIsNotWord WordKind.Endmodule (placed_tokens bytes.now tokens.now) → IfOk result (λ x. Reads (outer items ∷ []) (outer items ∷ []) (placed_tokens bytes.now tokens.now) (placed_tokens bytes.now x.1.now)) }
-    ensures halts { NextIsNotWord WordKind.Endmodule (placed_tokens bytes.now tokens.now) → IfErr result (λ e. HaltsAs (outer items ∷ []) (placed_tokens bytes.now tokens.now) e) }
+    ensures reads { NextIsNotWord WordKind.Endmodule (placed_tokens bytes.now tokens.now) →
+        IfOk result (λ x. Reads (outer items ∷ []) (outer items ∷ [])
+        (placed_tokens bytes.now tokens.now) (placed_tokens bytes.now x.1.now)) }
+    ensures halts { NextIsNotWord WordKind.Endmodule (placed_tokens bytes.now tokens.now) →
+        IfErr result (λ e. HaltsAs (outer items ∷ []) (placed_tokens bytes.now tokens.now) e) }
 {
     match behind_word(WordKind::Always, tokens) {
         Some(_) => {

@@ -1,5 +1,6 @@
 // Label maps (SecVerilog, ASPLOS 2015; ranges and rows are this project's profile).
-ghost use Rattle.std.specs.Prelude.{◌≡◌, true, false, ◌<◌, ◌≤◌, ℕ, List, length, map, IfOk, IfErr, [], ◌∷◌};
+ghost use Rattle.std.specs.Prelude.{◌≡◌, true, false, ◌<◌, ◌≤◌, ℕ, List, length, map, IfOk, IfErr};
+ghost use Rattle.std.specs.Prelude.{[], ◌∷◌};
 ghost use Rattle.std.specs.Option.{option_map};
 ghost use Rattle.sv_token.specs.Lexemes.{placed_tokens};
 ghost use Rattle.sv_token.specs.declared.signs.SignKind.TheVariants as signs;
@@ -10,7 +11,9 @@ ghost use Rattle.sv_ast.specs.GrammarModules.{IsKeyRange, IsKey, IsRow, IsMap};
 ghost use Rattle.sv_ast.specs.GrammarStatements.{IsNext};
 ghost use Rattle.sv_parse.specs.ReadingItems.{IsOpenKeyRange};
 ghost use Rattle.sv_parse.specs.ReadingTexts.{EndsRows};
-ghost use Rattle.sv_grammar.specs.Symbols.{outer, punctuation, plain_name, plain_number, perhaps_maps, perhaps_key_range, rows, perhaps_second_key, end_of_map};
+ghost use Rattle.sv_grammar.specs.Symbols.{outer, punctuation, plain_name, plain_number};
+ghost use Rattle.sv_grammar.specs.Symbols.{perhaps_maps, perhaps_key_range, rows};
+ghost use Rattle.sv_grammar.specs.Symbols.{perhaps_second_key, end_of_map};
 ghost use Rattle.sv_grammar.specs.Reads.{Reads, NextIsNotWord};
 ghost use Rattle.sv_read.specs.Expectations.{HaltsAs};
 
@@ -23,10 +26,19 @@ use sv_token::{Lit, SignKind, Token, TokenKind, WordKind};
 
 // A range of plain numbers, behind its `[`.
 fn read_open_range(tokens: &[Token]) -> Result<(Span, &[Token]), Stop>
-    ensures is { (bytes : List ℕ) → IfOk result (λ x. IsOpenKeyRange (span_tree x.0) (placed_tokens bytes tokens.now) (placed_tokens bytes x.1.now)) }
+    ensures is { (bytes : List ℕ) →
+        IfOk result (λ x. IsOpenKeyRange (span_tree x.0) (placed_tokens bytes tokens.now)
+        (placed_tokens bytes x.1.now)) }
     ensures shorter { IfOk result (λ x. length x.1.now < length tokens.now) }
-    ensures reads { (bytes : List ℕ) → IfOk result (λ x. Reads (outer plain_number ∷ outer (punctuation signs.Colon) ∷ outer plain_number ∷ outer (punctuation signs.CloseBracket) ∷ []) [] (placed_tokens bytes tokens.now) (placed_tokens bytes x.1.now)) }
-    ensures halts { (bytes : List ℕ) → IfErr result (λ e. HaltsAs (outer plain_number ∷ outer (punctuation signs.Colon) ∷ outer plain_number ∷ outer (punctuation signs.CloseBracket) ∷ []) (placed_tokens bytes tokens.now) e) }
+    ensures reads { (bytes : List ℕ) →
+        IfOk result (λ x. Reads
+        (outer plain_number ∷ outer (punctuation signs.Colon) ∷ outer plain_number ∷
+        outer (punctuation signs.CloseBracket) ∷ []) [] (placed_tokens bytes tokens.now)
+        (placed_tokens bytes x.1.now)) }
+    ensures halts { (bytes : List ℕ) →
+        IfErr result (λ e. HaltsAs
+        (outer plain_number ∷ outer (punctuation signs.Colon) ∷ outer plain_number ∷
+        outer (punctuation signs.CloseBracket) ∷ []) (placed_tokens bytes tokens.now) e) }
 {
     let (high, high_place, rest) = read_number(tokens)?;
     let rest = expect_sign(SignKind::Colon, rest)?;
@@ -41,10 +53,21 @@ fn read_open_range(tokens: &[Token]) -> Result<(Span, &[Token]), Stop>
 
 // A range, which has to come.
 fn read_range(tokens: &[Token]) -> Result<(Span, &[Token]), Stop>
-    ensures is { (bytes : List ℕ) → IfOk result (λ x. IsKeyRange (span_tree x.0) (placed_tokens bytes tokens.now) (placed_tokens bytes x.1.now)) }
+    ensures is { (bytes : List ℕ) →
+        IfOk result (λ x. IsKeyRange (span_tree x.0) (placed_tokens bytes tokens.now)
+        (placed_tokens bytes x.1.now)) }
     ensures shorter { IfOk result (λ x. length x.1.now < length tokens.now) }
-    ensures reads { (bytes : List ℕ) → IfOk result (λ x. Reads (outer (punctuation signs.OpenBracket) ∷ outer plain_number ∷ outer (punctuation signs.Colon) ∷ outer plain_number ∷ outer (punctuation signs.CloseBracket) ∷ []) [] (placed_tokens bytes tokens.now) (placed_tokens bytes x.1.now)) }
-    ensures halts { (bytes : List ℕ) → IfErr result (λ e. HaltsAs (outer (punctuation signs.OpenBracket) ∷ outer plain_number ∷ outer (punctuation signs.Colon) ∷ outer plain_number ∷ outer (punctuation signs.CloseBracket) ∷ []) (placed_tokens bytes tokens.now) e) }
+    ensures reads { (bytes : List ℕ) →
+        IfOk result (λ x. Reads
+        (outer (punctuation signs.OpenBracket) ∷ outer plain_number ∷
+        outer (punctuation signs.Colon) ∷ outer plain_number ∷
+        outer (punctuation signs.CloseBracket) ∷ []) [] (placed_tokens bytes tokens.now)
+        (placed_tokens bytes x.1.now)) }
+    ensures halts { (bytes : List ℕ) →
+        IfErr result (λ e. HaltsAs
+        (outer (punctuation signs.OpenBracket) ∷ outer plain_number ∷
+        outer (punctuation signs.Colon) ∷ outer plain_number ∷
+        outer (punctuation signs.CloseBracket) ∷ []) (placed_tokens bytes tokens.now) e) }
 {
     let rest = expect_sign(SignKind::OpenBracket, tokens)?;
     let (span, rest) = read_open_range(rest)?;
@@ -53,10 +76,16 @@ fn read_range(tokens: &[Token]) -> Result<(Span, &[Token]), Stop>
 
 // A second range, if one comes.
 fn read_second_range(tokens: &[Token]) -> Result<(Option<Span>, &[Token]), Stop>
-    ensures is { (bytes : List ℕ) → IfOk result (λ x. perhaps IsKeyRange (option_map span_tree x.0) (placed_tokens bytes tokens.now) (placed_tokens bytes x.1.now)) }
+    ensures is { (bytes : List ℕ) →
+        IfOk result (λ x. perhaps IsKeyRange (option_map span_tree x.0)
+        (placed_tokens bytes tokens.now) (placed_tokens bytes x.1.now)) }
     ensures shorter { IfOk result (λ x. length x.1.now ≤ length tokens.now) }
-    ensures reads { (bytes : List ℕ) → IfOk result (λ x. Reads (outer perhaps_key_range ∷ []) [] (placed_tokens bytes tokens.now) (placed_tokens bytes x.1.now)) }
-    ensures halts { (bytes : List ℕ) → IfErr result (λ e. HaltsAs (outer perhaps_key_range ∷ []) (placed_tokens bytes tokens.now) e) }
+    ensures reads { (bytes : List ℕ) →
+        IfOk result (λ x. Reads (outer perhaps_key_range ∷ []) [] (placed_tokens bytes tokens.now)
+        (placed_tokens bytes x.1.now)) }
+    ensures halts { (bytes : List ℕ) →
+        IfErr result (λ e. HaltsAs (outer perhaps_key_range ∷ [])
+        (placed_tokens bytes tokens.now) e) }
 {
     match behind(SignKind::OpenBracket, tokens) {
         Some(rest) => {
@@ -69,10 +98,16 @@ fn read_second_range(tokens: &[Token]) -> Result<(Option<Span>, &[Token]), Stop>
 
 // A second key, if one comes.
 fn read_second_key(tokens: &[Token]) -> Result<(Option<(Lit, Place)>, &[Token]), Stop>
-    ensures is { (bytes : List ℕ) → IfOk result (λ x. perhaps (λ k. a_sign signs.Comma ⨾ IsKey k) (option_map key_tree x.0) (placed_tokens bytes tokens.now) (placed_tokens bytes x.1.now)) }
+    ensures is { (bytes : List ℕ) →
+        IfOk result (λ x. perhaps (λ k. a_sign signs.Comma ⨾ IsKey k) (option_map key_tree x.0)
+        (placed_tokens bytes tokens.now) (placed_tokens bytes x.1.now)) }
     ensures shorter { IfOk result (λ x. length x.1.now ≤ length tokens.now) }
-    ensures reads { (bytes : List ℕ) → IfOk result (λ x. Reads (outer perhaps_second_key ∷ []) [] (placed_tokens bytes tokens.now) (placed_tokens bytes x.1.now)) }
-    ensures halts { (bytes : List ℕ) → IfErr result (λ e. HaltsAs (outer perhaps_second_key ∷ []) (placed_tokens bytes tokens.now) e) }
+    ensures reads { (bytes : List ℕ) →
+        IfOk result (λ x. Reads (outer perhaps_second_key ∷ []) [] (placed_tokens bytes tokens.now)
+        (placed_tokens bytes x.1.now)) }
+    ensures halts { (bytes : List ℕ) →
+        IfErr result (λ e. HaltsAs (outer perhaps_second_key ∷ [])
+        (placed_tokens bytes tokens.now) e) }
 {
     match behind(SignKind::Comma, tokens) {
         Some(rest) => {
@@ -89,10 +124,17 @@ fn read_to_point<'a>(
     bytes: &[u8],
     tokens: &'a [Token],
 ) -> Result<(Name, &'a [Token]), Stop>
-    ensures is { IfOk result (λ x. (a_sign signs.Colon ⨾ a_name x.0 ⨾ a_sign signs.Semicolon) (placed_tokens bytes.now tokens.now) (placed_tokens bytes.now x.1.now)) }
+    ensures is { IfOk result (λ x.
+        (a_sign signs.Colon ⨾ a_name x.0 ⨾ a_sign signs.Semicolon)
+        (placed_tokens bytes.now tokens.now) (placed_tokens bytes.now x.1.now)) }
     ensures shorter { IfOk result (λ x. length x.1.now < length tokens.now) }
-    ensures reads { IfOk result (λ x. Reads (outer (punctuation signs.Colon) ∷ outer plain_name ∷ outer (punctuation signs.Semicolon) ∷ []) [] (placed_tokens bytes.now tokens.now) (placed_tokens bytes.now x.1.now)) }
-    ensures halts { IfErr result (λ e. HaltsAs (outer (punctuation signs.Colon) ∷ outer plain_name ∷ outer (punctuation signs.Semicolon) ∷ []) (placed_tokens bytes.now tokens.now) e) }
+    ensures reads { IfOk result (λ x.
+        Reads (outer (punctuation signs.Colon) ∷ outer plain_name ∷
+        outer (punctuation signs.Semicolon) ∷ []) [] (placed_tokens bytes.now tokens.now)
+        (placed_tokens bytes.now x.1.now)) }
+    ensures halts { IfErr result (λ e.
+        HaltsAs (outer (punctuation signs.Colon) ∷ outer plain_name ∷
+        outer (punctuation signs.Semicolon) ∷ []) (placed_tokens bytes.now tokens.now) e) }
 {
     let rest = expect_sign(SignKind::Colon, tokens)?;
     let (point, _place, rest) = read_name(alloc, bytes, rest)?;
@@ -108,10 +150,18 @@ fn read_row<'a>(
     bytes: &[u8],
     tokens: &'a [Token],
 ) -> Result<(Row, &'a [Token]), Stop>
-    ensures is { IfOk result (λ x. IsRow (row_tree x.0) (placed_tokens bytes.now tokens.now) (placed_tokens bytes.now x.1.now)) }
+    ensures is { IfOk result (λ x.
+        IsRow (row_tree x.0) (placed_tokens bytes.now tokens.now)
+        (placed_tokens bytes.now x.1.now)) }
     ensures shorter { IfOk result (λ x. length x.1.now < length tokens.now) }
-    ensures reads { IfOk result (λ x. Reads (outer plain_number ∷ outer perhaps_second_key ∷ outer (punctuation signs.Colon) ∷ outer plain_name ∷ outer (punctuation signs.Semicolon) ∷ []) [] (placed_tokens bytes.now tokens.now) (placed_tokens bytes.now x.1.now)) }
-    ensures halts { IfErr result (λ e. HaltsAs (outer plain_number ∷ outer perhaps_second_key ∷ outer (punctuation signs.Colon) ∷ outer plain_name ∷ outer (punctuation signs.Semicolon) ∷ []) (placed_tokens bytes.now tokens.now) e) }
+    ensures reads { IfOk result (λ x.
+        Reads (outer plain_number ∷ outer perhaps_second_key ∷ outer (punctuation signs.Colon) ∷
+        outer plain_name ∷ outer (punctuation signs.Semicolon) ∷ []) []
+        (placed_tokens bytes.now tokens.now) (placed_tokens bytes.now x.1.now)) }
+    ensures halts { IfErr result (λ e.
+        HaltsAs (outer plain_number ∷ outer perhaps_second_key ∷ outer (punctuation signs.Colon) ∷
+        outer plain_name ∷ outer (punctuation signs.Semicolon) ∷ [])
+        (placed_tokens bytes.now tokens.now) e) }
 {
     let (first, place, rest) = read_number(tokens)?;
     let (second, rest) = read_second_key(rest)?;
@@ -122,8 +172,10 @@ fn read_row<'a>(
 // Whether no further row comes, but `default` or the last word.
 fn ends_rows(tokens: &[Token]) -> bool
     ensures ends { (bytes : List ℕ) → result ≡ true → EndsRows (placed_tokens bytes tokens.now) }
-    ensures default { (bytes : List ℕ) → result ≡ false → NextIsNotWord WordKind.Default (placed_tokens bytes tokens.now) }
-    ensures last { (bytes : List ℕ) → result ≡ false → NextIsNotWord WordKind.Endlabelmap (placed_tokens bytes tokens.now) }
+    ensures default { (bytes : List ℕ) → result ≡ false →
+        NextIsNotWord WordKind.Default (placed_tokens bytes tokens.now) }
+    ensures last { (bytes : List ℕ) → result ≡ false →
+        NextIsNotWord WordKind.Endlabelmap (placed_tokens bytes tokens.now) }
 {
     match tokens {
         [first, ..] => match first.kind {
@@ -140,10 +192,15 @@ fn read_rows<'a>(
     bytes: &[u8],
     tokens: &'a [Token],
 ) -> Result<(Vec<Row>, &'a [Token]), Stop>
-    ensures is { IfOk result (λ x. each IsRow (map row_tree x.0.items) (placed_tokens bytes.now tokens.now) (placed_tokens bytes.now x.1.now)) }
+    ensures is { IfOk result (λ x.
+        each IsRow (map row_tree x.0.items) (placed_tokens bytes.now tokens.now)
+        (placed_tokens bytes.now x.1.now)) }
     ensures shorter { IfOk result (λ x. length x.1.now ≤ length tokens.now) }
-    ensures reads { IfOk result (λ x. Reads (outer rows ∷ []) (outer rows ∷ []) (placed_tokens bytes.now tokens.now) (placed_tokens bytes.now x.1.now)) }
-    ensures halts { IfErr result (λ e. HaltsAs (outer rows ∷ []) (placed_tokens bytes.now tokens.now) e) }
+    ensures reads { IfOk result (λ x.
+        Reads (outer rows ∷ []) (outer rows ∷ []) (placed_tokens bytes.now tokens.now)
+        (placed_tokens bytes.now x.1.now)) }
+    ensures halts { IfErr result (λ e.
+        HaltsAs (outer rows ∷ []) (placed_tokens bytes.now tokens.now) e) }
     ensures ends { IfOk result (λ x. EndsRows (placed_tokens bytes.now x.1.now)) }
 {
     let mut rows = Vec::new(alloc);
@@ -162,10 +219,15 @@ fn read_other<'a>(
     bytes: &[u8],
     tokens: &'a [Token],
 ) -> Result<(Option<Name>, &'a [Token]), Stop>
-    ensures is { IfOk result (λ x. perhaps (λ x. a_word words.Default ⨾ a_sign signs.Colon ⨾ a_name x ⨾ a_sign signs.Semicolon) x.0 (placed_tokens bytes.now tokens.now) (placed_tokens bytes.now x.1.now)) }
+    ensures is { IfOk result (λ x.
+        perhaps (λ x. a_word words.Default ⨾ a_sign signs.Colon ⨾ a_name x ⨾ a_sign signs.Semicolon)
+        x.0 (placed_tokens bytes.now tokens.now) (placed_tokens bytes.now x.1.now)) }
     ensures shorter { IfOk result (λ x. length x.1.now ≤ length tokens.now) }
-    ensures reads { EndsRows (placed_tokens bytes.now tokens.now) → IfOk result (λ x. Reads (outer rows ∷ []) (outer end_of_map ∷ []) (placed_tokens bytes.now tokens.now) (placed_tokens bytes.now x.1.now)) }
-    ensures halts { EndsRows (placed_tokens bytes.now tokens.now) → IfErr result (λ e. HaltsAs (outer rows ∷ []) (placed_tokens bytes.now tokens.now) e) }
+    ensures reads { EndsRows (placed_tokens bytes.now tokens.now) →
+        IfOk result (λ x. Reads (outer rows ∷ []) (outer end_of_map ∷ [])
+        (placed_tokens bytes.now tokens.now) (placed_tokens bytes.now x.1.now)) }
+    ensures halts { EndsRows (placed_tokens bytes.now tokens.now) →
+        IfErr result (λ e. HaltsAs (outer rows ∷ []) (placed_tokens bytes.now tokens.now) e) }
 {
     match behind_word(WordKind::Default, tokens) {
         Some(rest) => {
@@ -182,10 +244,16 @@ pub fn read_label_map<'a>(
     bytes: &[u8],
     tokens: &'a [Token],
 ) -> Result<(MapText, &'a [Token]), Stop>
-    ensures is { IfOk result (λ x. IsMap (map_tree x.0) (placed_tokens bytes.now tokens.now) (placed_tokens bytes.now x.1.now)) }
+    ensures is { IfOk result (λ x.
+        IsMap (map_tree x.0) (placed_tokens bytes.now tokens.now)
+        (placed_tokens bytes.now x.1.now)) }
     ensures shorter { IfOk result (λ x. length x.1.now < length tokens.now) }
-    ensures reads { IsNext WordKind.Labelmap (placed_tokens bytes.now tokens.now) → IfOk result (λ x. Reads (outer perhaps_maps ∷ []) (outer perhaps_maps ∷ []) (placed_tokens bytes.now tokens.now) (placed_tokens bytes.now x.1.now)) }
-    ensures halts { IsNext WordKind.Labelmap (placed_tokens bytes.now tokens.now) → IfErr result (λ e. HaltsAs (outer perhaps_maps ∷ []) (placed_tokens bytes.now tokens.now) e) }
+    ensures reads { IsNext WordKind.Labelmap (placed_tokens bytes.now tokens.now) →
+        IfOk result (λ x. Reads (outer perhaps_maps ∷ []) (outer perhaps_maps ∷ [])
+        (placed_tokens bytes.now tokens.now) (placed_tokens bytes.now x.1.now)) }
+    ensures halts { IsNext WordKind.Labelmap (placed_tokens bytes.now tokens.now) →
+        IfErr result (λ e. HaltsAs (outer perhaps_maps ∷ [])
+        (placed_tokens bytes.now tokens.now) e) }
 {
     let (_word, rest) = expect_word(WordKind::Labelmap, tokens)?;
     let (name, place, rest) = read_name(alloc, bytes, rest)?;

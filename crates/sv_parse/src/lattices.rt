@@ -8,7 +8,8 @@ ghost use Rattle.sv_ast.specs.GrammarForms.{◌⨾◌, a_sign, commas};
 ghost use Rattle.sv_ast.specs.GrammarModules.{IsPlacedName, pair, IsLatticeLine, IsLattice};
 ghost use Rattle.sv_parse.specs.ReadingItems.{IsOneMore, AreLines};
 ghost use Rattle.sv_ast.specs.GrammarStatements.{IsNext};
-ghost use Rattle.sv_grammar.specs.Symbols.{outer, punctuation, plain_name, more_names, perhaps_lattice, lattice_lines, less_equal};
+ghost use Rattle.sv_grammar.specs.Symbols.{outer, punctuation, plain_name, more_names};
+ghost use Rattle.sv_grammar.specs.Symbols.{perhaps_lattice, lattice_lines, less_equal};
 ghost use Rattle.sv_grammar.specs.Reads.{Reads, NextIsNotWord};
 ghost use Rattle.sv_read.specs.Expectations.{HaltsAs};
 
@@ -27,10 +28,15 @@ fn read_placed_name<'a>(
     bytes: &[u8],
     tokens: &'a [Token],
 ) -> Result<((Name, Place), &'a [Token]), Stop>
-    ensures is { IfOk result (λ x. IsPlacedName (placed_name x.0) (placed_tokens bytes.now tokens.now) (placed_tokens bytes.now x.1.now)) }
+    ensures is { IfOk result (λ x.
+        IsPlacedName (placed_name x.0) (placed_tokens bytes.now tokens.now)
+        (placed_tokens bytes.now x.1.now)) }
     ensures shorter { IfOk result (λ x. length x.1.now < length tokens.now) }
-    ensures reads { IfOk result (λ x. Reads (outer plain_name ∷ []) [] (placed_tokens bytes.now tokens.now) (placed_tokens bytes.now x.1.now)) }
-    ensures halts { IfErr result (λ e. HaltsAs (outer plain_name ∷ []) (placed_tokens bytes.now tokens.now) e) }
+    ensures reads { IfOk result (λ x.
+        Reads (outer plain_name ∷ []) [] (placed_tokens bytes.now tokens.now)
+        (placed_tokens bytes.now x.1.now)) }
+    ensures halts { IfErr result (λ e.
+        HaltsAs (outer plain_name ∷ []) (placed_tokens bytes.now tokens.now) e) }
 {
     let (name, place, rest) = read_name(alloc, bytes, tokens)?;
     Ok(((name, place), rest))
@@ -87,10 +93,17 @@ fn read_pair<'a>(
     bytes: &[u8],
     tokens: &'a [Token],
 ) -> Result<(Pair, &'a [Token]), Stop>
-    ensures is { IfOk result (λ x. IsLatticeLine (pair (pair_tree x.0)) (placed_tokens bytes.now tokens.now) (placed_tokens bytes.now x.1.now)) }
+    ensures is { IfOk result (λ x.
+        IsLatticeLine (pair (pair_tree x.0)) (placed_tokens bytes.now tokens.now)
+        (placed_tokens bytes.now x.1.now)) }
     ensures shorter { IfOk result (λ x. length x.1.now < length tokens.now) }
-    ensures reads { IfOk result (λ x. Reads (outer plain_name ∷ outer less_equal ∷ outer plain_name ∷ outer (punctuation signs.Semicolon) ∷ []) [] (placed_tokens bytes.now tokens.now) (placed_tokens bytes.now x.1.now)) }
-    ensures halts { IfErr result (λ e. HaltsAs (outer plain_name ∷ outer less_equal ∷ outer plain_name ∷ outer (punctuation signs.Semicolon) ∷ []) (placed_tokens bytes.now tokens.now) e) }
+    ensures reads { IfOk result (λ x.
+        Reads (outer plain_name ∷ outer less_equal ∷ outer plain_name ∷
+        outer (punctuation signs.Semicolon) ∷ []) [] (placed_tokens bytes.now tokens.now)
+        (placed_tokens bytes.now x.1.now)) }
+    ensures halts { IfErr result (λ e.
+        HaltsAs (outer plain_name ∷ outer less_equal ∷ outer plain_name ∷
+        outer (punctuation signs.Semicolon) ∷ []) (placed_tokens bytes.now tokens.now) e) }
 {
     let (lower, place, rest) = read_name(alloc, bytes, tokens)?;
     let Some(rest) = operator_at(BinOp::Le, rest) else {
@@ -107,10 +120,16 @@ fn read_points<'a>(
     bytes: &[u8],
     tokens: &'a [Token],
 ) -> Result<(Vec<(Name, Place)>, &'a [Token]), Stop>
-    ensures is { IfOk result (λ x. (commas IsPlacedName (map placed_name x.0.items) ⨾ a_sign signs.Semicolon) (placed_tokens bytes.now tokens.now) (placed_tokens bytes.now x.1.now)) }
+    ensures is { IfOk result (λ x.
+        (commas IsPlacedName (map placed_name x.0.items) ⨾ a_sign signs.Semicolon)
+        (placed_tokens bytes.now tokens.now) (placed_tokens bytes.now x.1.now)) }
     ensures shorter { IfOk result (λ x. length x.1.now < length tokens.now) }
-    ensures reads { IfOk result (λ x. Reads (outer plain_name ∷ outer (more_names signs.Semicolon) ∷ []) [] (placed_tokens bytes.now tokens.now) (placed_tokens bytes.now x.1.now)) }
-    ensures halts { IfErr result (λ e. HaltsAs (outer plain_name ∷ outer (more_names signs.Semicolon) ∷ []) (placed_tokens bytes.now tokens.now) e) }
+    ensures reads { IfOk result (λ x.
+        Reads (outer plain_name ∷ outer (more_names signs.Semicolon) ∷ []) []
+        (placed_tokens bytes.now tokens.now) (placed_tokens bytes.now x.1.now)) }
+    ensures halts { IfErr result (λ e.
+        HaltsAs (outer plain_name ∷ outer (more_names signs.Semicolon) ∷ [])
+        (placed_tokens bytes.now tokens.now) e) }
 {
     let (points, rest) = read_list::<Points>(alloc, bytes, 0, tokens)?;
     let rest = expect_sign(SignKind::Semicolon, rest)?;
@@ -131,10 +150,17 @@ fn read_line<'a>(
     lines: Lines,
     tokens: &'a [Token],
 ) -> Result<(Lines, &'a [Token]), Stop>
-    ensures is { IfOk result (λ x. IsOneMore (map placed_name lines.points.items) (map pair_tree lines.pairs.items) (map placed_name x.0.points.items) (map pair_tree x.0.pairs.items) (placed_tokens bytes.now tokens.now) (placed_tokens bytes.now x.1.now)) }
+    ensures is { IfOk result (λ x.
+        IsOneMore (map placed_name lines.points.items) (map pair_tree lines.pairs.items)
+        (map placed_name x.0.points.items) (map pair_tree x.0.pairs.items)
+        (placed_tokens bytes.now tokens.now) (placed_tokens bytes.now x.1.now)) }
     ensures shorter { IfOk result (λ x. length x.1.now < length tokens.now) }
-    ensures reads { NextIsNotWord WordKind.Endlattice (placed_tokens bytes.now tokens.now) → IfOk result (λ x. Reads (outer lattice_lines ∷ []) (outer lattice_lines ∷ []) (placed_tokens bytes.now tokens.now) (placed_tokens bytes.now x.1.now)) }
-    ensures halts { NextIsNotWord WordKind.Endlattice (placed_tokens bytes.now tokens.now) → IfErr result (λ e. HaltsAs (outer lattice_lines ∷ []) (placed_tokens bytes.now tokens.now) e) }
+    ensures reads { NextIsNotWord WordKind.Endlattice (placed_tokens bytes.now tokens.now) →
+        IfOk result (λ x. Reads (outer lattice_lines ∷ []) (outer lattice_lines ∷ [])
+        (placed_tokens bytes.now tokens.now) (placed_tokens bytes.now x.1.now)) }
+    ensures halts { NextIsNotWord WordKind.Endlattice (placed_tokens bytes.now tokens.now) →
+        IfErr result (λ e. HaltsAs (outer lattice_lines ∷ [])
+        (placed_tokens bytes.now tokens.now) e) }
 {
     let Lines {
         mut points,
@@ -160,10 +186,15 @@ fn read_lines<'a>(
     bytes: &[u8],
     tokens: &'a [Token],
 ) -> Result<(Lines, &'a [Token]), Stop>
-    ensures is { IfOk result (λ x. AreLines (map placed_name x.0.points.items) (map pair_tree x.0.pairs.items) (placed_tokens bytes.now tokens.now) (placed_tokens bytes.now x.1.now)) }
+    ensures is { IfOk result (λ x.
+        AreLines (map placed_name x.0.points.items) (map pair_tree x.0.pairs.items)
+        (placed_tokens bytes.now tokens.now) (placed_tokens bytes.now x.1.now)) }
     ensures shorter { IfOk result (λ x. length x.1.now < length tokens.now) }
-    ensures reads { IfOk result (λ x. Reads (outer lattice_lines ∷ []) [] (placed_tokens bytes.now tokens.now) (placed_tokens bytes.now x.1.now)) }
-    ensures halts { IfErr result (λ e. HaltsAs (outer lattice_lines ∷ []) (placed_tokens bytes.now tokens.now) e) }
+    ensures reads { IfOk result (λ x.
+        Reads (outer lattice_lines ∷ []) [] (placed_tokens bytes.now tokens.now)
+        (placed_tokens bytes.now x.1.now)) }
+    ensures halts { IfErr result (λ e.
+        HaltsAs (outer lattice_lines ∷ []) (placed_tokens bytes.now tokens.now) e) }
 {
     let mut lines = Lines {
         points: Vec::new(alloc),
@@ -186,10 +217,16 @@ pub fn read_lattice<'a>(
     bytes: &[u8],
     tokens: &'a [Token],
 ) -> Result<(LatticeText, &'a [Token]), Stop>
-    ensures is { IfOk result (λ x. IsLattice (lattice_tree x.0) (placed_tokens bytes.now tokens.now) (placed_tokens bytes.now x.1.now)) }
+    ensures is { IfOk result (λ x.
+        IsLattice (lattice_tree x.0) (placed_tokens bytes.now tokens.now)
+        (placed_tokens bytes.now x.1.now)) }
     ensures shorter { IfOk result (λ x. length x.1.now < length tokens.now) }
-    ensures reads { IsNext WordKind.Lattice (placed_tokens bytes.now tokens.now) → IfOk result (λ x. Reads (outer perhaps_lattice ∷ []) [] (placed_tokens bytes.now tokens.now) (placed_tokens bytes.now x.1.now)) }
-    ensures halts { IsNext WordKind.Lattice (placed_tokens bytes.now tokens.now) → IfErr result (λ e. HaltsAs (outer perhaps_lattice ∷ []) (placed_tokens bytes.now tokens.now) e) }
+    ensures reads { IsNext WordKind.Lattice (placed_tokens bytes.now tokens.now) →
+        IfOk result (λ x. Reads (outer perhaps_lattice ∷ []) [] (placed_tokens bytes.now tokens.now)
+        (placed_tokens bytes.now x.1.now)) }
+    ensures halts { IsNext WordKind.Lattice (placed_tokens bytes.now tokens.now) →
+        IfErr result (λ e. HaltsAs (outer perhaps_lattice ∷ [])
+        (placed_tokens bytes.now tokens.now) e) }
 {
     let (place, rest) = expect_word(WordKind::Lattice, tokens)?;
     let (Lines { points, pairs }, rest) = read_lines(alloc, bytes, rest)?;

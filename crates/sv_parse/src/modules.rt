@@ -4,16 +4,20 @@ ghost use Rattle.std.specs.Option.{option_map};
 ghost use Rattle.sv_token.specs.Lexemes.{placed_tokens};
 ghost use Rattle.sv_token.specs.declared.signs.SignKind.TheVariants as signs;
 ghost use Rattle.sv_token.specs.declared.keywords.WordKind.TheVariants as words;
-ghost use Rattle.sv_ast.specs.Views.{parameter_tree, declaration_tree, item_tree, module_tree, lattice_tree, map_tree, text_tree};
+ghost use Rattle.sv_ast.specs.Views.{parameter_tree, declaration_tree, item_tree, module_tree};
+ghost use Rattle.sv_ast.specs.Views.{lattice_tree, map_tree, text_tree};
 ghost use Rattle.sv_ast.specs.GrammarForms.{◌⨾◌, perhaps, each, some, a_word, a_sign};
 ghost use Rattle.sv_ast.specs.GrammarModules.{AreItems, IsModule, IsLattice, IsMap};
 ghost use Rattle.sv_ast.specs.GrammarRules.{all_limits, TokensMean};
-ghost use Rattle.sv_grammar.specs.Symbols.{outer, one_module, perhaps_header_parameters, perhaps_ports, ports, items, perhaps_lattice, perhaps_maps};
+ghost use Rattle.sv_grammar.specs.Symbols.{outer, one_module, perhaps_header_parameters};
+ghost use Rattle.sv_grammar.specs.Symbols.{perhaps_ports, ports, items, perhaps_lattice};
+ghost use Rattle.sv_grammar.specs.Symbols.{perhaps_maps};
 ghost use Rattle.sv_grammar.specs.Machine.{text_state};
 ghost use Rattle.sv_parse.specs.ReadingTexts.{FailsAs};
 ghost use Rattle.sv_grammar.specs.Reads.{Reads};
 ghost use Rattle.sv_read.specs.Expectations.{HaltsAs};
-ghost use Rattle.sv_parse.specs.ReadingItems.{AreParameterList, AreOpenPorts, ArePortList, IsHeaderOf};
+ghost use Rattle.sv_parse.specs.ReadingItems.{AreParameterList, AreOpenPorts, ArePortList};
+ghost use Rattle.sv_parse.specs.ReadingItems.{IsHeaderOf};
 
 use crate::declarations::read_ports;
 use crate::items::read_item;
@@ -33,10 +37,15 @@ fn read_parameter_list<'a>(
     bytes: &[u8],
     tokens: &'a [Token],
 ) -> Result<(Vec<Param>, &'a [Token]), Stop>
-    ensures is { IfOk result (λ x. AreParameterList (map parameter_tree x.0.items) (placed_tokens bytes.now tokens.now) (placed_tokens bytes.now x.1.now)) }
+    ensures is { IfOk result (λ x.
+        AreParameterList (map parameter_tree x.0.items) (placed_tokens bytes.now tokens.now)
+        (placed_tokens bytes.now x.1.now)) }
     ensures shorter { IfOk result (λ x. length x.1.now ≤ length tokens.now) }
-    ensures reads { IfOk result (λ x. Reads (outer perhaps_header_parameters ∷ []) [] (placed_tokens bytes.now tokens.now) (placed_tokens bytes.now x.1.now)) }
-    ensures halts { IfErr result (λ e. HaltsAs (outer perhaps_header_parameters ∷ []) (placed_tokens bytes.now tokens.now) e) }
+    ensures reads { IfOk result (λ x.
+        Reads (outer perhaps_header_parameters ∷ []) [] (placed_tokens bytes.now tokens.now)
+        (placed_tokens bytes.now x.1.now)) }
+    ensures halts { IfErr result (λ e.
+        HaltsAs (outer perhaps_header_parameters ∷ []) (placed_tokens bytes.now tokens.now) e) }
 {
     match behind(SignKind::Hash, tokens) {
         Some(rest) => {
@@ -55,10 +64,15 @@ fn read_open_ports<'a>(
     bytes: &[u8],
     tokens: &'a [Token],
 ) -> Result<(Vec<Decl>, &'a [Token]), Stop>
-    ensures is { IfOk result (λ x. (AreOpenPorts (map declaration_tree x.0.items) ⨾ a_sign signs.CloseParenthesis) (placed_tokens bytes.now tokens.now) (placed_tokens bytes.now x.1.now)) }
+    ensures is { IfOk result (λ x.
+        (AreOpenPorts (map declaration_tree x.0.items) ⨾ a_sign signs.CloseParenthesis)
+        (placed_tokens bytes.now tokens.now) (placed_tokens bytes.now x.1.now)) }
     ensures shorter { IfOk result (λ x. length x.1.now < length tokens.now) }
-    ensures reads { IfOk result (λ x. Reads (outer ports ∷ []) [] (placed_tokens bytes.now tokens.now) (placed_tokens bytes.now x.1.now)) }
-    ensures halts { IfErr result (λ e. HaltsAs (outer ports ∷ []) (placed_tokens bytes.now tokens.now) e) }
+    ensures reads { IfOk result (λ x.
+        Reads (outer ports ∷ []) [] (placed_tokens bytes.now tokens.now)
+        (placed_tokens bytes.now x.1.now)) }
+    ensures halts { IfErr result (λ e.
+        HaltsAs (outer ports ∷ []) (placed_tokens bytes.now tokens.now) e) }
 {
     if let Some(rest) = behind(SignKind::CloseParenthesis, tokens) {
         return Ok((Vec::new(alloc), rest));
@@ -74,10 +88,15 @@ fn read_port_list<'a>(
     bytes: &[u8],
     tokens: &'a [Token],
 ) -> Result<(Vec<Decl>, &'a [Token]), Stop>
-    ensures is { IfOk result (λ x. ArePortList (map declaration_tree x.0.items) (placed_tokens bytes.now tokens.now) (placed_tokens bytes.now x.1.now)) }
+    ensures is { IfOk result (λ x.
+        ArePortList (map declaration_tree x.0.items) (placed_tokens bytes.now tokens.now)
+        (placed_tokens bytes.now x.1.now)) }
     ensures shorter { IfOk result (λ x. length x.1.now ≤ length tokens.now) }
-    ensures reads { IfOk result (λ x. Reads (outer perhaps_ports ∷ []) [] (placed_tokens bytes.now tokens.now) (placed_tokens bytes.now x.1.now)) }
-    ensures halts { IfErr result (λ e. HaltsAs (outer perhaps_ports ∷ []) (placed_tokens bytes.now tokens.now) e) }
+    ensures reads { IfOk result (λ x.
+        Reads (outer perhaps_ports ∷ []) [] (placed_tokens bytes.now tokens.now)
+        (placed_tokens bytes.now x.1.now)) }
+    ensures halts { IfErr result (λ e.
+        HaltsAs (outer perhaps_ports ∷ []) (placed_tokens bytes.now tokens.now) e) }
 {
     match behind(SignKind::OpenParenthesis, tokens) {
         Some(rest) => {
@@ -102,10 +121,16 @@ fn read_header<'a>(
     bytes: &[u8],
     tokens: &'a [Token],
 ) -> Result<(Header, &'a [Token]), Stop>
-    ensures is { IfOk result (λ x. IsHeaderOf x.0.name x.0.place (map parameter_tree x.0.params.items) (map declaration_tree x.0.ports.items) (placed_tokens bytes.now tokens.now) (placed_tokens bytes.now x.1.now)) }
+    ensures is { IfOk result (λ x.
+        IsHeaderOf x.0.name x.0.place (map parameter_tree x.0.params.items)
+        (map declaration_tree x.0.ports.items) (placed_tokens bytes.now tokens.now)
+        (placed_tokens bytes.now x.1.now)) }
     ensures shorter { IfOk result (λ x. length x.1.now < length tokens.now) }
-    ensures reads { IfOk result (λ x. Reads (outer one_module ∷ []) (outer items ∷ []) (placed_tokens bytes.now tokens.now) (placed_tokens bytes.now x.1.now)) }
-    ensures halts { IfErr result (λ e. HaltsAs (outer one_module ∷ []) (placed_tokens bytes.now tokens.now) e) }
+    ensures reads { IfOk result (λ x.
+        Reads (outer one_module ∷ []) (outer items ∷ []) (placed_tokens bytes.now tokens.now)
+        (placed_tokens bytes.now x.1.now)) }
+    ensures halts { IfErr result (λ e.
+        HaltsAs (outer one_module ∷ []) (placed_tokens bytes.now tokens.now) e) }
 {
     let (_word, rest) = expect_word(WordKind::Module, tokens)?;
     let (name, place, rest) = read_name(alloc, bytes, rest)?;
@@ -127,10 +152,15 @@ fn read_items<'a>(
     bytes: &[u8],
     tokens: &'a [Token],
 ) -> Result<(Vec<Item>, &'a [Token]), Stop>
-    ensures is { IfOk result (λ x. (AreItems all_limits (map item_tree x.0.items) ⨾ a_word words.Endmodule) (placed_tokens bytes.now tokens.now) (placed_tokens bytes.now x.1.now)) }
+    ensures is { IfOk result (λ x.
+        (AreItems all_limits (map item_tree x.0.items) ⨾ a_word words.Endmodule)
+        (placed_tokens bytes.now tokens.now) (placed_tokens bytes.now x.1.now)) }
     ensures shorter { IfOk result (λ x. length x.1.now < length tokens.now) }
-    ensures reads { IfOk result (λ x. Reads (outer items ∷ []) [] (placed_tokens bytes.now tokens.now) (placed_tokens bytes.now x.1.now)) }
-    ensures halts { IfErr result (λ e. HaltsAs (outer items ∷ []) (placed_tokens bytes.now tokens.now) e) }
+    ensures reads { IfOk result (λ x.
+        Reads (outer items ∷ []) [] (placed_tokens bytes.now tokens.now)
+        (placed_tokens bytes.now x.1.now)) }
+    ensures halts { IfErr result (λ e.
+        HaltsAs (outer items ∷ []) (placed_tokens bytes.now tokens.now) e) }
 {
     let mut items = Vec::new(alloc);
     let mut rest = tokens;
@@ -150,10 +180,15 @@ fn read_module<'a>(
     bytes: &[u8],
     tokens: &'a [Token],
 ) -> Result<(Module, &'a [Token]), Stop>
-    ensures is { IfOk result (λ x. IsModule all_limits (module_tree x.0) (placed_tokens bytes.now tokens.now) (placed_tokens bytes.now x.1.now)) }
+    ensures is { IfOk result (λ x.
+        IsModule all_limits (module_tree x.0) (placed_tokens bytes.now tokens.now)
+        (placed_tokens bytes.now x.1.now)) }
     ensures shorter { IfOk result (λ x. length x.1.now < length tokens.now) }
-    ensures reads { IfOk result (λ x. Reads (outer one_module ∷ []) [] (placed_tokens bytes.now tokens.now) (placed_tokens bytes.now x.1.now)) }
-    ensures halts { IfErr result (λ e. HaltsAs (outer one_module ∷ []) (placed_tokens bytes.now tokens.now) e) }
+    ensures reads { IfOk result (λ x.
+        Reads (outer one_module ∷ []) [] (placed_tokens bytes.now tokens.now)
+        (placed_tokens bytes.now x.1.now)) }
+    ensures halts { IfErr result (λ e.
+        HaltsAs (outer one_module ∷ []) (placed_tokens bytes.now tokens.now) e) }
 {
     let (header, rest) = read_header(alloc, bytes, tokens)?;
     let (items, rest) = read_items(alloc, bytes, rest)?;
@@ -175,8 +210,11 @@ fn read_module<'a>(
 
 // The modules that the tokens are, at least one.
 fn modules(alloc: Global, bytes: &[u8], tokens: &[Token]) -> Result<Vec<Module>, Stop>
-    ensures are { IfOk result (λ modules. some (IsModule all_limits) (map module_tree modules.items) (placed_tokens bytes.now tokens.now) []) }
-    ensures fails { IfErr result (λ e. FailsAs (outer one_module ∷ []) (placed_tokens bytes.now tokens.now) e) }
+    ensures are { IfOk result (λ modules.
+        some (IsModule all_limits) (map module_tree modules.items)
+        (placed_tokens bytes.now tokens.now) []) }
+    ensures fails { IfErr result (λ e.
+        FailsAs (outer one_module ∷ []) (placed_tokens bytes.now tokens.now) e) }
 {
     let mut modules = Vec::new(alloc);
     let (first, mut rest) = read_module(alloc, bytes, tokens)?;
@@ -195,10 +233,15 @@ fn read_first_lattice<'a>(
     bytes: &[u8],
     tokens: &'a [Token],
 ) -> Result<(Option<LatticeText>, &'a [Token]), Stop>
-    ensures is { IfOk result (λ x. perhaps IsLattice (option_map lattice_tree x.0) (placed_tokens bytes.now tokens.now) (placed_tokens bytes.now x.1.now)) }
+    ensures is { IfOk result (λ x.
+        perhaps IsLattice (option_map lattice_tree x.0) (placed_tokens bytes.now tokens.now)
+        (placed_tokens bytes.now x.1.now)) }
     ensures shorter { IfOk result (λ x. length x.1.now ≤ length tokens.now) }
-    ensures reads { IfOk result (λ x. Reads (outer perhaps_lattice ∷ []) [] (placed_tokens bytes.now tokens.now) (placed_tokens bytes.now x.1.now)) }
-    ensures halts { IfErr result (λ e. HaltsAs (outer perhaps_lattice ∷ []) (placed_tokens bytes.now tokens.now) e) }
+    ensures reads { IfOk result (λ x.
+        Reads (outer perhaps_lattice ∷ []) [] (placed_tokens bytes.now tokens.now)
+        (placed_tokens bytes.now x.1.now)) }
+    ensures halts { IfErr result (λ e.
+        HaltsAs (outer perhaps_lattice ∷ []) (placed_tokens bytes.now tokens.now) e) }
 {
     match behind_word(WordKind::Lattice, tokens) {
         Some(_) => {
@@ -215,10 +258,15 @@ fn read_maps<'a>(
     bytes: &[u8],
     tokens: &'a [Token],
 ) -> Result<(Vec<MapText>, &'a [Token]), Stop>
-    ensures is { IfOk result (λ x. each IsMap (map map_tree x.0.items) (placed_tokens bytes.now tokens.now) (placed_tokens bytes.now x.1.now)) }
+    ensures is { IfOk result (λ x.
+        each IsMap (map map_tree x.0.items) (placed_tokens bytes.now tokens.now)
+        (placed_tokens bytes.now x.1.now)) }
     ensures shorter { IfOk result (λ x. length x.1.now ≤ length tokens.now) }
-    ensures reads { IfOk result (λ x. Reads (outer perhaps_maps ∷ []) [] (placed_tokens bytes.now tokens.now) (placed_tokens bytes.now x.1.now)) }
-    ensures halts { IfErr result (λ e. HaltsAs (outer perhaps_maps ∷ []) (placed_tokens bytes.now tokens.now) e) }
+    ensures reads { IfOk result (λ x.
+        Reads (outer perhaps_maps ∷ []) [] (placed_tokens bytes.now tokens.now)
+        (placed_tokens bytes.now x.1.now)) }
+    ensures halts { IfErr result (λ e.
+        HaltsAs (outer perhaps_maps ∷ []) (placed_tokens bytes.now tokens.now) e) }
 {
     let mut maps = Vec::new(alloc);
     let mut rest = tokens;
@@ -232,7 +280,8 @@ fn read_maps<'a>(
 
 /// The text that all of the tokens are.
 pub fn text(alloc: Global, bytes: &[u8], tokens: &[Token]) -> Result<Text, Stop>
-    ensures is { IfOk result (λ text. TokensMean (placed_tokens bytes.now tokens.now) (text_tree text)) }
+    ensures is { IfOk result (λ text.
+        TokensMean (placed_tokens bytes.now tokens.now) (text_tree text)) }
     ensures fails { IfErr result (λ e. FailsAs text_state (placed_tokens bytes.now tokens.now) e) }
 {
     let (lattice, rest) = read_first_lattice(alloc, bytes, tokens)?;

@@ -1,5 +1,6 @@
 // Parameters (IEEE 1364-2005, clause 12.2).
-ghost use Rattle.std.specs.Prelude.{◌≡◌, ◌<◌, ◌≤◌, ℕ, List, length, map, IfOk, IfErr, [], ◌∷◌, ◌++◌, ◌⊎◌};
+ghost use Rattle.std.specs.Prelude.{◌≡◌, ◌<◌, ◌≤◌, ℕ, List, length, map, IfOk, IfErr, [], ◌∷◌};
+ghost use Rattle.std.specs.Prelude.{◌++◌, ◌⊎◌};
 ghost use Rattle.std.specs.Option.{option_map};
 ghost use Rattle.sv_token.specs.Lexemes.{placed_tokens};
 ghost use Rattle.sv_token.specs.declared.keywords.WordKind.TheVariants as words;
@@ -8,12 +9,16 @@ ghost use Rattle.sv_ast.specs.Tree as tree;
 ghost use Rattle.sv_ast.specs.Tree.{ParameterTree};
 ghost use Rattle.sv_ast.specs.Views.{span_tree, parameter_tree, item_tree};
 ghost use Rattle.sv_ast.specs.GrammarForms.{◌or◌, a_word};
-ghost use Rattle.sv_ast.specs.GrammarDeclarations.{IsParameterType, IsParameter, IsLaterParameter, AreParameters, IsHeaderParameter, AreHeaderParameters, parameter_word};
+ghost use Rattle.sv_ast.specs.GrammarDeclarations.{IsParameterType, IsParameter, IsLaterParameter};
+ghost use Rattle.sv_ast.specs.GrammarDeclarations.{AreParameters, IsHeaderParameter};
+ghost use Rattle.sv_ast.specs.GrammarDeclarations.{AreHeaderParameters, parameter_word};
 ghost use Rattle.sv_ast.specs.GrammarModules.{all_as};
 ghost use Rattle.sv_ast.specs.GrammarRules.{all_limits};
 ghost use Rattle.sv_parse.specs.Reading.{IsParameterAs, IsTypedParameter};
 ghost use Rattle.sv_ast.specs.GrammarStatements.{IsNext};
-ghost use Rattle.sv_grammar.specs.Symbols.{outer, punctuation, parameter_type, items, more_parameters, header_parameter, later_header_parameter, more_header_parameters};
+ghost use Rattle.sv_grammar.specs.Symbols.{outer, punctuation, parameter_type, items};
+ghost use Rattle.sv_grammar.specs.Symbols.{more_parameters, header_parameter};
+ghost use Rattle.sv_grammar.specs.Symbols.{later_header_parameter, more_header_parameters};
 ghost use Rattle.sv_grammar.specs.Machine.{outside_on};
 ghost use Rattle.sv_grammar.specs.Reads.{Reads};
 ghost use Rattle.sv_read.specs.Expectations.{HaltsAs};
@@ -34,10 +39,15 @@ fn read_param_type<'a>(
     bytes: &[u8],
     tokens: &'a [Token],
 ) -> Result<(bool, Option<Span>, &'a [Token]), Stop>
-    ensures is { IfOk result (λ x. IsParameterType all_limits x.0 (option_map span_tree x.1) (placed_tokens bytes.now tokens.now) (placed_tokens bytes.now x.2.now)) }
+    ensures is { IfOk result (λ x.
+        IsParameterType all_limits x.0 (option_map span_tree x.1)
+        (placed_tokens bytes.now tokens.now) (placed_tokens bytes.now x.2.now)) }
     ensures shorter { IfOk result (λ x. length x.2.now ≤ length tokens.now) }
-    ensures reads { IfOk result (λ x. Reads (outer parameter_type ∷ []) [] (placed_tokens bytes.now tokens.now) (placed_tokens bytes.now x.2.now)) }
-    ensures halts { IfErr result (λ e. HaltsAs (outer parameter_type ∷ []) (placed_tokens bytes.now tokens.now) e) }
+    ensures reads { IfOk result (λ x.
+        Reads (outer parameter_type ∷ []) [] (placed_tokens bytes.now tokens.now)
+        (placed_tokens bytes.now x.2.now)) }
+    ensures halts { IfErr result (λ e.
+        HaltsAs (outer parameter_type ∷ []) (placed_tokens bytes.now tokens.now) e) }
 {
     if let Some(rest) = behind_word(WordKind::Signed, tokens) {
         let rest = expect_sign(SignKind::OpenBracket, rest)?;
@@ -60,10 +70,15 @@ fn read_named_param<'a>(
     span: Option<Span>,
     tokens: &'a [Token],
 ) -> Result<(Param, &'a [Token]), Stop>
-    ensures is { IfOk result (λ x. IsParameterAs local signed (option_map span_tree span) (parameter_tree x.0) (placed_tokens bytes.now tokens.now) (placed_tokens bytes.now x.1.now)) }
+    ensures is { IfOk result (λ x.
+        IsParameterAs local signed (option_map span_tree span) (parameter_tree x.0)
+        (placed_tokens bytes.now tokens.now) (placed_tokens bytes.now x.1.now)) }
     ensures shorter { IfOk result (λ x. length x.1.now < length tokens.now) }
-    ensures reads { IfOk result (λ x. Reads (outside_on named_value) [] (placed_tokens bytes.now tokens.now) (placed_tokens bytes.now x.1.now)) }
-    ensures halts { IfErr result (λ e. HaltsAs (outside_on named_value) (placed_tokens bytes.now tokens.now) e) }
+    ensures reads { IfOk result (λ x.
+        Reads (outside_on named_value) [] (placed_tokens bytes.now tokens.now)
+        (placed_tokens bytes.now x.1.now)) }
+    ensures halts { IfErr result (λ e.
+        HaltsAs (outside_on named_value) (placed_tokens bytes.now tokens.now) e) }
 {
     let (name, place, rest) = read_name(alloc, bytes, tokens)?;
     let rest = expect_sign(SignKind::Equals, rest)?;
@@ -86,10 +101,15 @@ fn read_typed_param<'a>(
     local: bool,
     tokens: &'a [Token],
 ) -> Result<(Param, &'a [Token]), Stop>
-    ensures is { IfOk result (λ x. IsTypedParameter local (parameter_tree x.0) (placed_tokens bytes.now tokens.now) (placed_tokens bytes.now x.1.now)) }
+    ensures is { IfOk result (λ x.
+        IsTypedParameter local (parameter_tree x.0) (placed_tokens bytes.now tokens.now)
+        (placed_tokens bytes.now x.1.now)) }
     ensures shorter { IfOk result (λ x. length x.1.now < length tokens.now) }
-    ensures reads { IfOk result (λ x. Reads (outside_on typed_value) [] (placed_tokens bytes.now tokens.now) (placed_tokens bytes.now x.1.now)) }
-    ensures halts { IfErr result (λ e. HaltsAs (outside_on typed_value) (placed_tokens bytes.now tokens.now) e) }
+    ensures reads { IfOk result (λ x.
+        Reads (outside_on typed_value) [] (placed_tokens bytes.now tokens.now)
+        (placed_tokens bytes.now x.1.now)) }
+    ensures halts { IfErr result (λ e.
+        HaltsAs (outside_on typed_value) (placed_tokens bytes.now tokens.now) e) }
 {
     let (signed, span, rest) = read_param_type(alloc, bytes, tokens)?;
     let (param, rest) = read_named_param(alloc, bytes, local, signed, span, rest)?;
@@ -103,10 +123,15 @@ fn read_param_alike<'a>(
     before: &Param,
     tokens: &'a [Token],
 ) -> Result<(Param, &'a [Token]), Stop>
-    ensures is { IfOk result (λ x. IsLaterParameter all_limits (parameter_tree before.now) (parameter_tree x.0) (placed_tokens bytes.now tokens.now) (placed_tokens bytes.now x.1.now)) }
+    ensures is { IfOk result (λ x.
+        IsLaterParameter all_limits (parameter_tree before.now) (parameter_tree x.0)
+        (placed_tokens bytes.now tokens.now) (placed_tokens bytes.now x.1.now)) }
     ensures shorter { IfOk result (λ x. length x.1.now < length tokens.now) }
-    ensures reads { IfOk result (λ x. Reads (outside_on named_value) [] (placed_tokens bytes.now tokens.now) (placed_tokens bytes.now x.1.now)) }
-    ensures halts { IfErr result (λ e. HaltsAs (outside_on named_value) (placed_tokens bytes.now tokens.now) e) }
+    ensures reads { IfOk result (λ x.
+        Reads (outside_on named_value) [] (placed_tokens bytes.now tokens.now)
+        (placed_tokens bytes.now x.1.now)) }
+    ensures halts { IfErr result (λ e.
+        HaltsAs (outside_on named_value) (placed_tokens bytes.now tokens.now) e) }
 {
     let span = span_copy(alloc, &before.span)?;
     let (local, signed) = (before.local, before.signed);
@@ -116,10 +141,20 @@ fn read_param_alike<'a>(
 
 // Whether the word that comes is `localparam`, not `parameter`.
 fn is_local(tokens: &[Token]) -> Result<(bool, &[Token]), Stop>
-    ensures is { (bytes : List ℕ) → IfOk result (λ x. a_word (parameter_word x.0) (placed_tokens bytes tokens.now) (placed_tokens bytes x.1.now)) }
+    ensures is { (bytes : List ℕ) →
+        IfOk result (λ x. a_word (parameter_word x.0) (placed_tokens bytes tokens.now)
+        (placed_tokens bytes x.1.now)) }
     ensures shorter { IfOk result (λ x. length x.1.now < length tokens.now) }
-    ensures reads { (bytes : List ℕ) → (IsNext words.Parameter (placed_tokens bytes tokens.now) ⊎ IsNext words.Localparam (placed_tokens bytes tokens.now)) → IfOk result (λ x. Reads (outer items ∷ []) (outside_on (typed_value ++ more_parameters ∷ items ∷ [])) (placed_tokens bytes tokens.now) (placed_tokens bytes x.1.now)) }
-    ensures halts { (bytes : List ℕ) → (IsNext words.Parameter (placed_tokens bytes tokens.now) ⊎ IsNext words.Localparam (placed_tokens bytes tokens.now)) → IfErr result (λ e. HaltsAs (outer items ∷ []) (placed_tokens bytes tokens.now) e) }
+    ensures reads { (bytes : List ℕ) →
+        (IsNext words.Parameter (placed_tokens bytes tokens.now)
+        ⊎ IsNext words.Localparam (placed_tokens bytes tokens.now)) →
+        IfOk result (λ x. Reads (outer items ∷ [])
+        (outside_on (typed_value ++ more_parameters ∷ items ∷ [])) (placed_tokens bytes tokens.now)
+        (placed_tokens bytes x.1.now)) }
+    ensures halts { (bytes : List ℕ) →
+        (IsNext words.Parameter (placed_tokens bytes tokens.now)
+        ⊎ IsNext words.Localparam (placed_tokens bytes tokens.now)) →
+        IfErr result (λ e. HaltsAs (outer items ∷ []) (placed_tokens bytes tokens.now) e) }
 {
     if let Some(rest) = behind_word(WordKind::Parameter, tokens) {
         return Ok((false, rest));
@@ -186,7 +221,8 @@ impl Listed for HeaderParams {
 
     ghost First = { λ n. IsHeaderParameter all_limits };
 
-    ghost Later = { λ n before q. (IsHeaderParameter all_limits q or IsLaterParameter all_limits before q) };
+    ghost Later = { λ n before q.
+        (IsHeaderParameter all_limits q or IsLaterParameter all_limits before q) };
 
     ghost Begins = { λ ts. Unit {0} };
 
@@ -229,10 +265,17 @@ pub fn read_header_params<'a>(
     bytes: &[u8],
     tokens: &'a [Token],
 ) -> Result<(Vec<Param>, &'a [Token]), Stop>
-    ensures is { IfOk result (λ x. AreHeaderParameters all_limits (map parameter_tree x.0.items) (placed_tokens bytes.now tokens.now) (placed_tokens bytes.now x.1.now)) }
+    ensures is { IfOk result (λ x.
+        AreHeaderParameters all_limits (map parameter_tree x.0.items)
+        (placed_tokens bytes.now tokens.now) (placed_tokens bytes.now x.1.now)) }
     ensures shorter { IfOk result (λ x. length x.1.now < length tokens.now) }
-    ensures reads { IfOk result (λ x. Reads (outer header_parameter ∷ outer more_header_parameters ∷ []) (outer (punctuation signs.CloseParenthesis) ∷ []) (placed_tokens bytes.now tokens.now) (placed_tokens bytes.now x.1.now)) }
-    ensures halts { IfErr result (λ e. HaltsAs (outer header_parameter ∷ outer more_header_parameters ∷ []) (placed_tokens bytes.now tokens.now) e) }
+    ensures reads { IfOk result (λ x.
+        Reads (outer header_parameter ∷ outer more_header_parameters ∷ [])
+        (outer (punctuation signs.CloseParenthesis) ∷ []) (placed_tokens bytes.now tokens.now)
+        (placed_tokens bytes.now x.1.now)) }
+    ensures halts { IfErr result (λ e.
+        HaltsAs (outer header_parameter ∷ outer more_header_parameters ∷ [])
+        (placed_tokens bytes.now tokens.now) e) }
 {
     let (params, rest) = read_list::<HeaderParams>(alloc, bytes, 0, tokens)?;
     Ok((params, rest))
@@ -240,7 +283,8 @@ pub fn read_header_params<'a>(
 
 // The items that declare the parameters.
 fn declared(alloc: Global, params: Vec<Param>) -> Result<Vec<Item>, AllocError>
-    ensures { IfOk result (λ items. map item_tree items.items ≡ map tree.parameter_item (map parameter_tree params.items)) }
+    ensures { IfOk result (λ items.
+        map item_tree items.items ≡ map tree.parameter_item (map parameter_tree params.items)) }
 {
     let mut items = Vec::with_capacity(alloc, params.len())?;
     for param in params {
@@ -255,10 +299,18 @@ pub fn read_params<'a>(
     bytes: &[u8],
     tokens: &'a [Token],
 ) -> Result<(Vec<Item>, &'a [Token]), Stop>
-    ensures is { IfOk result (λ x. all_as tree.parameter_item (AreParameters all_limits) (map item_tree x.0.items) (placed_tokens bytes.now tokens.now) (placed_tokens bytes.now x.1.now)) }
+    ensures is { IfOk result (λ x.
+        all_as tree.parameter_item (AreParameters all_limits) (map item_tree x.0.items)
+        (placed_tokens bytes.now tokens.now) (placed_tokens bytes.now x.1.now)) }
     ensures shorter { IfOk result (λ x. length x.1.now < length tokens.now) }
-    ensures reads { (IsNext words.Parameter (placed_tokens bytes.now tokens.now) ⊎ IsNext words.Localparam (placed_tokens bytes.now tokens.now)) → IfOk result (λ x. Reads (outer items ∷ []) (outer (punctuation signs.Semicolon) ∷ outer items ∷ []) (placed_tokens bytes.now tokens.now) (placed_tokens bytes.now x.1.now)) }
-    ensures halts { (IsNext words.Parameter (placed_tokens bytes.now tokens.now) ⊎ IsNext words.Localparam (placed_tokens bytes.now tokens.now)) → IfErr result (λ e. HaltsAs (outer items ∷ []) (placed_tokens bytes.now tokens.now) e) }
+    ensures reads { (IsNext words.Parameter (placed_tokens bytes.now tokens.now)
+        ⊎ IsNext words.Localparam (placed_tokens bytes.now tokens.now)) →
+        IfOk result (λ x. Reads (outer items ∷ [])
+        (outer (punctuation signs.Semicolon) ∷ outer items ∷ [])
+        (placed_tokens bytes.now tokens.now) (placed_tokens bytes.now x.1.now)) }
+    ensures halts { (IsNext words.Parameter (placed_tokens bytes.now tokens.now)
+        ⊎ IsNext words.Localparam (placed_tokens bytes.now tokens.now)) →
+        IfErr result (λ e. HaltsAs (outer items ∷ []) (placed_tokens bytes.now tokens.now) e) }
 {
     let (params, rest) = read_list::<Params>(alloc, bytes, 0, tokens)?;
     let items = declared(alloc, params)?;

@@ -16,16 +16,21 @@ use sv_read::faults::broken;
 use sv_read::stop::Stop;
 use sv_token::Token;
 
-/// The text that the tokens of the bytes mean: the only one, of the shape that the grammar gives. Refused is exactly what means no text, for
-/// the first rule of 201 to 204 that the tokens break (this project's profile, over the grammar of IEEE 1364-2005), at its place, with its
-/// word. Tokens and bytes are those of one call of `lex`.
+/// The text that the tokens of the bytes mean: the only one, of the shape that the grammar gives.
+/// Refused is exactly what means no text, for the first rule of 201 to 204 that the tokens break
+/// (this project's profile, over the grammar of IEEE 1364-2005), at its place, with its word.
+/// Tokens and bytes are those of one call of `lex`.
 #[tactic(auto, using(crate::proofs::WholeTexts::failing_is_refused))]
 pub fn parse(alloc: Global, tokens: &[Token], bytes: &[u8]) -> Result<Text, Fault>
     requires { length bytes.now < 2 ^ 32 - 1 }
-    ensures text { IfOk result (λ text. TokensMean (placed_tokens bytes.now tokens.now) (text_tree text)) }
-    ensures only { IfOk result (λ text. (other : TextTree) → TokensMean (placed_tokens bytes.now tokens.now) other → other ≡ text_tree text) }
+    ensures text { IfOk result (λ text.
+        TokensMean (placed_tokens bytes.now tokens.now) (text_tree text)) }
+    ensures only { IfOk result (λ text.
+        (other : TextTree) → TokensMean (placed_tokens bytes.now tokens.now) other →
+        other ≡ text_tree text) }
     ensures shaped { IfOk result (λ text. IsTrue (is_shaped (text_tree text))) }
-    ensures refusal { IfErr result (IsRefusalOf (end_place bytes.now) (placed_tokens bytes.now tokens.now)) }
+    ensures refusal { IfErr result
+        (IsRefusalOf (end_place bytes.now) (placed_tokens bytes.now tokens.now)) }
 {
     match text(alloc, bytes, tokens) {
         Ok(text) => Ok(text),

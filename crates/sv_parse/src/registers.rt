@@ -1,22 +1,30 @@
-// Registers and memories (IEEE 1364-2005, clause 4; the forms of memories are this project's profile).
-ghost use Rattle.std.specs.Prelude.{◌≡◌, ◌<◌, ◌≤◌, ℕ, List, length, map, true, false, IfOk, IfErr, [], ◌∷◌};
+// Registers and memories (IEEE 1364-2005, clause 4; the forms of memories are this project's
+// profile).
+ghost use Rattle.std.specs.Prelude.{◌≡◌, ◌<◌, ◌≤◌, ℕ, List, length, map, true, false, IfOk, IfErr};
+ghost use Rattle.std.specs.Prelude.{[], ◌∷◌};
 ghost use Rattle.std.specs.Option.{option_map};
 ghost use Rattle.sv_token.specs.Lexemes.{placed_tokens, literal_of};
 ghost use Rattle.sv_token.specs.declared.signs.SignKind.TheVariants as signs;
 ghost use Rattle.sv_token.specs.declared.keywords.WordKind.TheVariants as words;
 ghost use Rattle.sv_ast.specs.Tree as tree;
-ghost use Rattle.sv_ast.specs.Views.{span_tree, label_tree, memory_label_tree, memory_tree, declaration_tree, item_tree};
-ghost use Rattle.sv_ast.specs.GrammarForms.{◌⨾◌, ◌or◌, flag, perhaps, a_sign, a_number, in_brackets};
+ghost use Rattle.sv_ast.specs.Views.{span_tree, label_tree, memory_label_tree, memory_tree};
+ghost use Rattle.sv_ast.specs.Views.{declaration_tree, item_tree};
+ghost use Rattle.sv_ast.specs.GrammarForms.{◌⨾◌, ◌or◌, flag, perhaps, a_sign, a_number};
+ghost use Rattle.sv_ast.specs.GrammarForms.{in_brackets};
 ghost use Rattle.sv_ast.specs.GrammarStatements.{IsNext, only};
 ghost use Rattle.sv_ast.specs.GrammarDeclarations.{IsRange, AreSignals, IsMemory};
 ghost use Rattle.sv_ast.specs.GrammarModules.{all_as};
 ghost use Rattle.sv_ast.specs.GrammarRules.{all_limits};
-ghost use Rattle.sv_grammar.specs.Symbols.{outer, punctuation, plain_name, perhaps_signed, perhaps_range, reg_label, reg_label_end, label_selector, more_names, items};
+ghost use Rattle.sv_grammar.specs.Symbols.{outer, punctuation, plain_name, perhaps_signed};
+ghost use Rattle.sv_grammar.specs.Symbols.{perhaps_range, reg_label, reg_label_end, label_selector};
+ghost use Rattle.sv_grammar.specs.Symbols.{more_names, items};
 ghost use Rattle.sv_grammar.specs.Machine.{outside_on};
 ghost use Rattle.sv_grammar.specs.Reads.{Reads};
 ghost use Rattle.sv_read.specs.Expectations.{HaltsAs};
 ghost use Rattle.sv_parse.specs.ReadingDeclarations.{memory_bounds, memory_end, behind_name};
-ghost use Rattle.sv_parse.specs.ReadingItems.{IsRegLabelEnd, IsOpenRegLabel, IsRegLabel, MayBeMemory, MayBeSignal, memory_label_of, signal_label_of, IsMemoryAs};
+ghost use Rattle.sv_parse.specs.ReadingItems.{IsRegLabelEnd, IsOpenRegLabel, IsRegLabel};
+ghost use Rattle.sv_parse.specs.ReadingItems.{MayBeMemory, MayBeSignal, memory_label_of};
+ghost use Rattle.sv_parse.specs.ReadingItems.{signal_label_of, IsMemoryAs};
 
 use crate::declarations::{Registers, declared};
 use crate::types::{is_signed, read_span, read_table_label};
@@ -45,10 +53,15 @@ fn read_selected_label<'a>(
     place: Place,
     tokens: &'a [Token],
 ) -> Result<(RegLabel, &'a [Token]), Stop>
-    ensures is { IfOk result (λ x. IsRegLabelEnd map place x.0 (placed_tokens bytes.now tokens.now) (placed_tokens bytes.now x.1.now)) }
+    ensures is { IfOk result (λ x.
+        IsRegLabelEnd map place x.0 (placed_tokens bytes.now tokens.now)
+        (placed_tokens bytes.now x.1.now)) }
     ensures shorter { IfOk result (λ x. length x.1.now < length tokens.now) }
-    ensures reads { IfOk result (λ x. Reads (outer label_selector ∷ []) (outside_on (plain_name ∷ behind_name x.0)) (placed_tokens bytes.now tokens.now) (placed_tokens bytes.now x.1.now)) }
-    ensures halts { IfErr result (λ e. HaltsAs (outer label_selector ∷ []) (placed_tokens bytes.now tokens.now) e) }
+    ensures reads { IfOk result (λ x.
+        Reads (outer label_selector ∷ []) (outside_on (plain_name ∷ behind_name x.0))
+        (placed_tokens bytes.now tokens.now) (placed_tokens bytes.now x.1.now)) }
+    ensures halts { IfErr result (λ e.
+        HaltsAs (outer label_selector ∷ []) (placed_tokens bytes.now tokens.now) e) }
 {
     match behind(SignKind::Hash, tokens) {
         Some(rest) => {
@@ -69,10 +82,16 @@ fn read_open_label<'a>(
     bytes: &[u8],
     tokens: &'a [Token],
 ) -> Result<(RegLabel, &'a [Token]), Stop>
-    ensures is { IfOk result (λ x. IsOpenRegLabel x.0 (placed_tokens bytes.now tokens.now) (placed_tokens bytes.now x.1.now)) }
+    ensures is { IfOk result (λ x.
+        IsOpenRegLabel x.0 (placed_tokens bytes.now tokens.now) (placed_tokens bytes.now x.1.now)) }
     ensures shorter { IfOk result (λ x. length x.1.now < length tokens.now) }
-    ensures reads { IfOk result (λ x. Reads (outer plain_name ∷ outer reg_label_end ∷ []) (outside_on (plain_name ∷ behind_name x.0)) (placed_tokens bytes.now tokens.now) (placed_tokens bytes.now x.1.now)) }
-    ensures halts { IfErr result (λ e. HaltsAs (outer plain_name ∷ outer reg_label_end ∷ []) (placed_tokens bytes.now tokens.now) e) }
+    ensures reads { IfOk result (λ x.
+        Reads (outer plain_name ∷ outer reg_label_end ∷ [])
+        (outside_on (plain_name ∷ behind_name x.0)) (placed_tokens bytes.now tokens.now)
+        (placed_tokens bytes.now x.1.now)) }
+    ensures halts { IfErr result (λ e.
+        HaltsAs (outer plain_name ∷ outer reg_label_end ∷ [])
+        (placed_tokens bytes.now tokens.now) e) }
 {
     let (name, place, rest) = read_name(alloc, bytes, tokens)?;
     if let Some(rest) = behind(SignKind::OpenParenthesis, rest) {
@@ -89,10 +108,14 @@ fn read_reg_label<'a>(
     bytes: &[u8],
     tokens: &'a [Token],
 ) -> Result<(RegLabel, &'a [Token]), Stop>
-    ensures is { IfOk result (λ x. IsRegLabel x.0 (placed_tokens bytes.now tokens.now) (placed_tokens bytes.now x.1.now)) }
+    ensures is { IfOk result (λ x.
+        IsRegLabel x.0 (placed_tokens bytes.now tokens.now) (placed_tokens bytes.now x.1.now)) }
     ensures shorter { IfOk result (λ x. length x.1.now ≤ length tokens.now) }
-    ensures reads { IfOk result (λ x. Reads (outer reg_label ∷ []) (outside_on (plain_name ∷ behind_name x.0)) (placed_tokens bytes.now tokens.now) (placed_tokens bytes.now x.1.now)) }
-    ensures halts { IfErr result (λ e. HaltsAs (outer reg_label ∷ []) (placed_tokens bytes.now tokens.now) e) }
+    ensures reads { IfOk result (λ x.
+        Reads (outer reg_label ∷ []) (outside_on (plain_name ∷ behind_name x.0))
+        (placed_tokens bytes.now tokens.now) (placed_tokens bytes.now x.1.now)) }
+    ensures halts { IfErr result (λ e.
+        HaltsAs (outer reg_label ∷ []) (placed_tokens bytes.now tokens.now) e) }
 {
     match behind(SignKind::OpenBrace, tokens) {
         Some(rest) => {
@@ -116,10 +139,18 @@ fn read_reg_type<'a>(
     bytes: &[u8],
     tokens: &'a [Token],
 ) -> Result<(RegType, &'a [Token]), Stop>
-    ensures is { IfOk result (λ x. (flag words.Signed x.0.signed ⨾ perhaps (IsRange all_limits) (option_map span_tree x.0.span) ⨾ IsRegLabel x.0.label) (placed_tokens bytes.now tokens.now) (placed_tokens bytes.now x.1.now)) }
+    ensures is { IfOk result (λ x.
+        (flag words.Signed x.0.signed ⨾ perhaps (IsRange all_limits) (option_map span_tree x.0.span)
+        ⨾ IsRegLabel x.0.label) (placed_tokens bytes.now tokens.now)
+        (placed_tokens bytes.now x.1.now)) }
     ensures shorter { IfOk result (λ x. length x.1.now ≤ length tokens.now) }
-    ensures reads { IfOk result (λ x. Reads (outer perhaps_signed ∷ outer perhaps_range ∷ outer reg_label ∷ []) (outside_on (plain_name ∷ behind_name x.0.label)) (placed_tokens bytes.now tokens.now) (placed_tokens bytes.now x.1.now)) }
-    ensures halts { IfErr result (λ e. HaltsAs (outer perhaps_signed ∷ outer perhaps_range ∷ outer reg_label ∷ []) (placed_tokens bytes.now tokens.now) e) }
+    ensures reads { IfOk result (λ x.
+        Reads (outer perhaps_signed ∷ outer perhaps_range ∷ outer reg_label ∷ [])
+        (outside_on (plain_name ∷ behind_name x.0.label)) (placed_tokens bytes.now tokens.now)
+        (placed_tokens bytes.now x.1.now)) }
+    ensures halts { IfErr result (λ e.
+        HaltsAs (outer perhaps_signed ∷ outer perhaps_range ∷ outer reg_label ∷ [])
+        (placed_tokens bytes.now tokens.now) e) }
 {
     let (signed, rest) = is_signed(tokens);
     let (span, rest) = read_span(alloc, bytes, rest)?;
@@ -136,8 +167,12 @@ fn read_reg_type<'a>(
 fn is_memory(label: &RegLabel, tokens: &[Token]) -> bool
     ensures memory { result ≡ true → MayBeMemory label.now }
     ensures signal { result ≡ false → MayBeSignal label.now }
-    ensures words { (bytes : List ℕ) → result ≡ true → Reads (outside_on (behind_name label.now)) (outside_on memory_end) (placed_tokens bytes tokens.now) (placed_tokens bytes tokens.now) }
-    ensures names { (bytes : List ℕ) → result ≡ false → Reads (outside_on (behind_name label.now)) (outer (more_names signs.Semicolon) ∷ []) (placed_tokens bytes tokens.now) (placed_tokens bytes tokens.now) }
+    ensures words { (bytes : List ℕ) → result ≡ true →
+        Reads (outside_on (behind_name label.now)) (outside_on memory_end)
+        (placed_tokens bytes tokens.now) (placed_tokens bytes tokens.now) }
+    ensures names { (bytes : List ℕ) → result ≡ false →
+        Reads (outside_on (behind_name label.now)) (outer (more_names signs.Semicolon) ∷ [])
+        (placed_tokens bytes tokens.now) (placed_tokens bytes tokens.now) }
 {
     match label {
         RegLabel::None | RegLabel::Point(..) => { behind(SignKind::OpenBracket, tokens).is_some() }
@@ -170,10 +205,16 @@ fn signal_label(label: RegLabel) -> Option<LabelText>
 
 // The first and the last number of a memory's words, in brackets.
 fn read_bounds(tokens: &[Token]) -> Result<((Lit, Lit), &[Token]), Stop>
-    ensures is { (bytes : List ℕ) → IfOk result (λ x. in_brackets (a_number (literal_of x.0.0) ⨾ a_sign signs.Colon ⨾ a_number (literal_of x.0.1)) (placed_tokens bytes tokens.now) (placed_tokens bytes x.1.now)) }
+    ensures is { (bytes : List ℕ) →
+        IfOk result (λ x. in_brackets (a_number (literal_of x.0.0) ⨾ a_sign signs.Colon
+        ⨾ a_number (literal_of x.0.1)) (placed_tokens bytes tokens.now)
+        (placed_tokens bytes x.1.now)) }
     ensures shorter { IfOk result (λ x. length x.1.now < length tokens.now) }
-    ensures reads { (bytes : List ℕ) → IfOk result (λ x. Reads (outside_on memory_bounds) [] (placed_tokens bytes tokens.now) (placed_tokens bytes x.1.now)) }
-    ensures halts { (bytes : List ℕ) → IfErr result (λ e. HaltsAs (outside_on memory_bounds) (placed_tokens bytes tokens.now) e) }
+    ensures reads { (bytes : List ℕ) →
+        IfOk result (λ x. Reads (outside_on memory_bounds) [] (placed_tokens bytes tokens.now)
+        (placed_tokens bytes x.1.now)) }
+    ensures halts { (bytes : List ℕ) →
+        IfErr result (λ e. HaltsAs (outside_on memory_bounds) (placed_tokens bytes tokens.now) e) }
 {
     let rest = expect_sign(SignKind::OpenBracket, tokens)?;
     let (first, _place, rest) = read_number(rest)?;
@@ -190,10 +231,16 @@ fn read_memory(
     place: Place,
     tokens: &[Token],
 ) -> Result<(Memory, &[Token]), Stop>
-    ensures is { (bytes : List ℕ) → IfOk result (λ x. IsMemoryAs of.signed (option_map span_tree of.span) (memory_label_of of.label) name place (memory_tree x.0) (placed_tokens bytes tokens.now) (placed_tokens bytes x.1.now)) }
+    ensures is { (bytes : List ℕ) →
+        IfOk result (λ x. IsMemoryAs of.signed (option_map span_tree of.span)
+        (memory_label_of of.label) name place (memory_tree x.0) (placed_tokens bytes tokens.now)
+        (placed_tokens bytes x.1.now)) }
     ensures shorter { IfOk result (λ x. length x.1.now < length tokens.now) }
-    ensures reads { (bytes : List ℕ) → IfOk result (λ x. Reads (outside_on memory_bounds) [] (placed_tokens bytes tokens.now) (placed_tokens bytes x.1.now)) }
-    ensures halts { (bytes : List ℕ) → IfErr result (λ e. HaltsAs (outside_on memory_bounds) (placed_tokens bytes tokens.now) e) }
+    ensures reads { (bytes : List ℕ) →
+        IfOk result (λ x. Reads (outside_on memory_bounds) [] (placed_tokens bytes tokens.now)
+        (placed_tokens bytes x.1.now)) }
+    ensures halts { (bytes : List ℕ) →
+        IfErr result (λ e. HaltsAs (outside_on memory_bounds) (placed_tokens bytes tokens.now) e) }
 {
     let ((first, last), rest) = read_bounds(tokens)?;
     let RegType {
@@ -215,7 +262,15 @@ fn read_memory(
 
 // The first register, behind its name.
 fn first_register(of: RegType, name: Name, place: Place) -> Decl
-    ensures { declaration_tree result ≡ record { kind = DeclKind.Reg; signed = of.signed; span = option_map span_tree of.span; label = signal_label_of of.label; name = name; place = place; value = None } }
+    ensures { declaration_tree result ≡ record {
+      kind = DeclKind.Reg;
+      signed = of.signed;
+      span = option_map span_tree of.span;
+      label = signal_label_of of.label;
+      name = name;
+      place = place;
+      value = None;
+    } }
 {
     let RegType {
         signed,
@@ -239,10 +294,17 @@ pub fn read_registers<'a>(
     bytes: &[u8],
     tokens: &'a [Token],
 ) -> Result<(Vec<Item>, &'a [Token]), Stop>
-    ensures is { IfOk result (λ x. (all_as tree.declared (AreSignals all_limits) (map item_tree x.0.items) or all_as tree.memory_item (only (IsMemory all_limits)) (map item_tree x.0.items)) (placed_tokens bytes.now tokens.now) (placed_tokens bytes.now x.1.now)) }
+    ensures is { IfOk result (λ x.
+        (all_as tree.declared (AreSignals all_limits) (map item_tree x.0.items)
+        or all_as tree.memory_item (only (IsMemory all_limits)) (map item_tree x.0.items))
+        (placed_tokens bytes.now tokens.now) (placed_tokens bytes.now x.1.now)) }
     ensures shorter { IfOk result (λ x. length x.1.now < length tokens.now) }
-    ensures reads { IsNext words.Reg (placed_tokens bytes.now tokens.now) → IfOk result (λ x. Reads (outer items ∷ []) (outer (punctuation signs.Semicolon) ∷ outer items ∷ []) (placed_tokens bytes.now tokens.now) (placed_tokens bytes.now x.1.now)) }
-    ensures halts { IsNext words.Reg (placed_tokens bytes.now tokens.now) → IfErr result (λ e. HaltsAs (outer items ∷ []) (placed_tokens bytes.now tokens.now) e) }
+    ensures reads { IsNext words.Reg (placed_tokens bytes.now tokens.now) →
+        IfOk result (λ x. Reads (outer items ∷ [])
+        (outer (punctuation signs.Semicolon) ∷ outer items ∷ [])
+        (placed_tokens bytes.now tokens.now) (placed_tokens bytes.now x.1.now)) }
+    ensures halts { IsNext words.Reg (placed_tokens bytes.now tokens.now) →
+        IfErr result (λ e. HaltsAs (outer items ∷ []) (placed_tokens bytes.now tokens.now) e) }
 {
     let (_place, rest) = expect_word(WordKind::Reg, tokens)?;
     let (of, rest) = read_reg_type(alloc, bytes, rest)?;

@@ -1,4 +1,5 @@
-// The types of declarations: signs, ranges and labels (IEEE 1364-2005, clause 4; labels are those of SecVerilog, ASPLOS 2015).
+// The types of declarations: signs, ranges and labels (IEEE 1364-2005, clause 4; labels are those
+// of SecVerilog, ASPLOS 2015).
 ghost use Rattle.std.specs.Prelude.{◌≡◌, ◌<◌, ◌≤◌, ℕ, List, [], ◌∷◌, length, IfOk, IfErr};
 ghost use Rattle.std.specs.Option.{option_map};
 ghost use Rattle.sv_token.specs.Lexemes.{placed_tokens};
@@ -8,7 +9,8 @@ ghost use Rattle.sv_ast.specs.Views.{span_tree, label_tree};
 ghost use Rattle.sv_ast.specs.GrammarForms.{◌⨾◌, a_sign, a_name, flag, perhaps};
 ghost use Rattle.sv_ast.specs.GrammarDeclarations.{IsValue, IsRange, IsLabel};
 ghost use Rattle.sv_ast.specs.GrammarRules.{all_limits};
-ghost use Rattle.sv_grammar.specs.Symbols.{outer, plain_name, perhaps_signed, perhaps_range, perhaps_label, perhaps_second_name, label_end};
+ghost use Rattle.sv_grammar.specs.Symbols.{outer, plain_name, perhaps_signed, perhaps_range};
+ghost use Rattle.sv_grammar.specs.Symbols.{perhaps_label, perhaps_second_name, label_end};
 ghost use Rattle.sv_grammar.specs.ModuleTable.{value_range};
 ghost use Rattle.sv_grammar.specs.Machine.{outside_on};
 ghost use Rattle.sv_grammar.specs.Reads.{Reads};
@@ -26,9 +28,13 @@ use sv_token::{SignKind, Token, WordKind};
 
 /// Whether `signed` comes, and the tokens behind it.
 pub fn is_signed(tokens: &[Token]) -> (bool, &[Token])
-    ensures is { (bytes : List ℕ) → flag words.Signed result.0 (placed_tokens bytes tokens.now) (placed_tokens bytes result.1.now) }
+    ensures is { (bytes : List ℕ) →
+        flag words.Signed result.0 (placed_tokens bytes tokens.now)
+        (placed_tokens bytes result.1.now) }
     ensures shorter { length result.1.now ≤ length tokens.now }
-    ensures reads { (bytes : List ℕ) → Reads (outer perhaps_signed ∷ []) [] (placed_tokens bytes tokens.now) (placed_tokens bytes result.1.now) }
+    ensures reads { (bytes : List ℕ) →
+        Reads (outer perhaps_signed ∷ []) [] (placed_tokens bytes tokens.now)
+        (placed_tokens bytes result.1.now) }
 {
     match behind_word(WordKind::Signed, tokens) {
         Some(rest) => (true, rest),
@@ -42,10 +48,17 @@ pub fn read_open_span<'a>(
     bytes: &[u8],
     tokens: &'a [Token],
 ) -> Result<(Span, &'a [Token]), Stop>
-    ensures is { IfOk result (λ x. (IsValue all_limits (span_tree x.0).high ⨾ a_sign signs.Colon ⨾ IsValue all_limits (span_tree x.0).low ⨾ a_sign signs.CloseBracket) (placed_tokens bytes.now tokens.now) (placed_tokens bytes.now x.1.now)) }
+    ensures is { IfOk result (λ x.
+        (IsValue all_limits (span_tree x.0).high ⨾ a_sign signs.Colon
+        ⨾ IsValue all_limits (span_tree x.0).low
+        ⨾ a_sign signs.CloseBracket) (placed_tokens bytes.now tokens.now)
+        (placed_tokens bytes.now x.1.now)) }
     ensures shorter { IfOk result (λ x. length x.1.now < length tokens.now) }
-    ensures reads { IfOk result (λ x. Reads (outside_on value_range) [] (placed_tokens bytes.now tokens.now) (placed_tokens bytes.now x.1.now)) }
-    ensures halts { IfErr result (λ e. HaltsAs (outside_on value_range) (placed_tokens bytes.now tokens.now) e) }
+    ensures reads { IfOk result (λ x.
+        Reads (outside_on value_range) [] (placed_tokens bytes.now tokens.now)
+        (placed_tokens bytes.now x.1.now)) }
+    ensures halts { IfErr result (λ e.
+        HaltsAs (outside_on value_range) (placed_tokens bytes.now tokens.now) e) }
 {
     let (high, rest) = read_expression(alloc, bytes, 0, tokens)?;
     let rest = expect_sign(SignKind::Colon, rest)?;
@@ -60,10 +73,15 @@ pub fn read_span<'a>(
     bytes: &[u8],
     tokens: &'a [Token],
 ) -> Result<(Option<Span>, &'a [Token]), Stop>
-    ensures is { IfOk result (λ x. perhaps (IsRange all_limits) (option_map span_tree x.0) (placed_tokens bytes.now tokens.now) (placed_tokens bytes.now x.1.now)) }
+    ensures is { IfOk result (λ x.
+        perhaps (IsRange all_limits) (option_map span_tree x.0) (placed_tokens bytes.now tokens.now)
+        (placed_tokens bytes.now x.1.now)) }
     ensures shorter { IfOk result (λ x. length x.1.now ≤ length tokens.now) }
-    ensures reads { IfOk result (λ x. Reads (outer perhaps_range ∷ []) [] (placed_tokens bytes.now tokens.now) (placed_tokens bytes.now x.1.now)) }
-    ensures halts { IfErr result (λ e. HaltsAs (outer perhaps_range ∷ []) (placed_tokens bytes.now tokens.now) e) }
+    ensures reads { IfOk result (λ x.
+        Reads (outer perhaps_range ∷ []) [] (placed_tokens bytes.now tokens.now)
+        (placed_tokens bytes.now x.1.now)) }
+    ensures halts { IfErr result (λ e.
+        HaltsAs (outer perhaps_range ∷ []) (placed_tokens bytes.now tokens.now) e) }
 {
     match behind(SignKind::OpenBracket, tokens) {
         Some(rest) => {
@@ -80,10 +98,15 @@ fn read_second_selector<'a>(
     bytes: &[u8],
     tokens: &'a [Token],
 ) -> Result<(Option<Name>, &'a [Token]), Stop>
-    ensures is { IfOk result (λ x. perhaps (λ x. a_sign signs.Comma ⨾ a_name x) x.0 (placed_tokens bytes.now tokens.now) (placed_tokens bytes.now x.1.now)) }
+    ensures is { IfOk result (λ x.
+        perhaps (λ x. a_sign signs.Comma ⨾ a_name x) x.0 (placed_tokens bytes.now tokens.now)
+        (placed_tokens bytes.now x.1.now)) }
     ensures shorter { IfOk result (λ x. length x.1.now ≤ length tokens.now) }
-    ensures reads { IfOk result (λ x. Reads (outer perhaps_second_name ∷ []) [] (placed_tokens bytes.now tokens.now) (placed_tokens bytes.now x.1.now)) }
-    ensures halts { IfErr result (λ e. HaltsAs (outer perhaps_second_name ∷ []) (placed_tokens bytes.now tokens.now) e) }
+    ensures reads { IfOk result (λ x.
+        Reads (outer perhaps_second_name ∷ []) [] (placed_tokens bytes.now tokens.now)
+        (placed_tokens bytes.now x.1.now)) }
+    ensures halts { IfErr result (λ e.
+        HaltsAs (outer perhaps_second_name ∷ []) (placed_tokens bytes.now tokens.now) e) }
 {
     match behind(SignKind::Comma, tokens) {
         Some(rest) => {
@@ -102,10 +125,15 @@ pub fn read_table_label<'a>(
     place: Place,
     tokens: &'a [Token],
 ) -> Result<(LabelText, &'a [Token]), Stop>
-    ensures is { IfOk result (λ x. IsTableEnd map place (label_tree x.0) (placed_tokens bytes.now tokens.now) (placed_tokens bytes.now x.1.now)) }
+    ensures is { IfOk result (λ x.
+        IsTableEnd map place (label_tree x.0) (placed_tokens bytes.now tokens.now)
+        (placed_tokens bytes.now x.1.now)) }
     ensures shorter { IfOk result (λ x. length x.1.now < length tokens.now) }
-    ensures reads { IfOk result (λ x. Reads (outside_on table_end) [] (placed_tokens bytes.now tokens.now) (placed_tokens bytes.now x.1.now)) }
-    ensures halts { IfErr result (λ e. HaltsAs (outside_on table_end) (placed_tokens bytes.now tokens.now) e) }
+    ensures reads { IfOk result (λ x.
+        Reads (outside_on table_end) [] (placed_tokens bytes.now tokens.now)
+        (placed_tokens bytes.now x.1.now)) }
+    ensures halts { IfErr result (λ e.
+        HaltsAs (outside_on table_end) (placed_tokens bytes.now tokens.now) e) }
 {
     let (first, _at, rest) = read_name(alloc, bytes, tokens)?;
     let (second, rest) = read_second_selector(alloc, bytes, rest)?;
@@ -120,10 +148,15 @@ fn read_open_label<'a>(
     bytes: &[u8],
     tokens: &'a [Token],
 ) -> Result<(LabelText, &'a [Token]), Stop>
-    ensures is { IfOk result (λ x. IsOpenLabel (label_tree x.0) (placed_tokens bytes.now tokens.now) (placed_tokens bytes.now x.1.now)) }
+    ensures is { IfOk result (λ x.
+        IsOpenLabel (label_tree x.0) (placed_tokens bytes.now tokens.now)
+        (placed_tokens bytes.now x.1.now)) }
     ensures shorter { IfOk result (λ x. length x.1.now < length tokens.now) }
-    ensures reads { IfOk result (λ x. Reads (outer plain_name ∷ outer label_end ∷ []) [] (placed_tokens bytes.now tokens.now) (placed_tokens bytes.now x.1.now)) }
-    ensures halts { IfErr result (λ e. HaltsAs (outer plain_name ∷ outer label_end ∷ []) (placed_tokens bytes.now tokens.now) e) }
+    ensures reads { IfOk result (λ x.
+        Reads (outer plain_name ∷ outer label_end ∷ []) [] (placed_tokens bytes.now tokens.now)
+        (placed_tokens bytes.now x.1.now)) }
+    ensures halts { IfErr result (λ e.
+        HaltsAs (outer plain_name ∷ outer label_end ∷ []) (placed_tokens bytes.now tokens.now) e) }
 {
     let (name, place, rest) = read_name(alloc, bytes, tokens)?;
     if let Some(rest) = behind(SignKind::OpenParenthesis, rest) {
@@ -140,10 +173,15 @@ pub fn read_label<'a>(
     bytes: &[u8],
     tokens: &'a [Token],
 ) -> Result<(Option<LabelText>, &'a [Token]), Stop>
-    ensures is { IfOk result (λ x. perhaps IsLabel (option_map label_tree x.0) (placed_tokens bytes.now tokens.now) (placed_tokens bytes.now x.1.now)) }
+    ensures is { IfOk result (λ x.
+        perhaps IsLabel (option_map label_tree x.0) (placed_tokens bytes.now tokens.now)
+        (placed_tokens bytes.now x.1.now)) }
     ensures shorter { IfOk result (λ x. length x.1.now ≤ length tokens.now) }
-    ensures reads { IfOk result (λ x. Reads (outer perhaps_label ∷ []) [] (placed_tokens bytes.now tokens.now) (placed_tokens bytes.now x.1.now)) }
-    ensures halts { IfErr result (λ e. HaltsAs (outer perhaps_label ∷ []) (placed_tokens bytes.now tokens.now) e) }
+    ensures reads { IfOk result (λ x.
+        Reads (outer perhaps_label ∷ []) [] (placed_tokens bytes.now tokens.now)
+        (placed_tokens bytes.now x.1.now)) }
+    ensures halts { IfErr result (λ e.
+        HaltsAs (outer perhaps_label ∷ []) (placed_tokens bytes.now tokens.now) e) }
 {
     match behind(SignKind::OpenBrace, tokens) {
         Some(rest) => {
@@ -168,10 +206,15 @@ pub fn read_signal_type<'a>(
     bytes: &[u8],
     tokens: &'a [Token],
 ) -> Result<(SignalType, &'a [Token]), Stop>
-    ensures is { IfOk result (λ x. IsTypedAs x.0.signed (option_map span_tree x.0.span) (option_map label_tree x.0.label) (placed_tokens bytes.now tokens.now) (placed_tokens bytes.now x.1.now)) }
+    ensures is { IfOk result (λ x.
+        IsTypedAs x.0.signed (option_map span_tree x.0.span) (option_map label_tree x.0.label)
+        (placed_tokens bytes.now tokens.now) (placed_tokens bytes.now x.1.now)) }
     ensures shorter { IfOk result (λ x. length x.1.now ≤ length tokens.now) }
-    ensures reads { IfOk result (λ x. Reads (outside_on name_type) [] (placed_tokens bytes.now tokens.now) (placed_tokens bytes.now x.1.now)) }
-    ensures halts { IfErr result (λ e. HaltsAs (outside_on name_type) (placed_tokens bytes.now tokens.now) e) }
+    ensures reads { IfOk result (λ x.
+        Reads (outside_on name_type) [] (placed_tokens bytes.now tokens.now)
+        (placed_tokens bytes.now x.1.now)) }
+    ensures halts { IfErr result (λ e.
+        HaltsAs (outside_on name_type) (placed_tokens bytes.now tokens.now) e) }
 {
     let (signed, rest) = is_signed(tokens);
     let (span, rest) = read_span(alloc, bytes, rest)?;

@@ -16,7 +16,8 @@ use Rattle.sv_read.specs.declared.stop.Breach.{Breach}
 use Rattle.sv_read.specs.declared.stop.Breach.TheVariants.{Stuck, TooDeep, TooLong}
 use Rattle.sv_read.specs.declared.stop.Stop.{Stop}
 use Rattle.sv_read.specs.declared.stop.Stop.TheVariants as stops
-use Rattle.sv_grammar.specs.Symbols.{State, Expected, something, an_item, a_statement, an_edge, a_port, behind_name}
+use Rattle.sv_grammar.specs.Symbols.{State, Expected, something, an_item, a_statement, an_edge}
+use Rattle.sv_grammar.specs.Symbols.{a_port, behind_name}
 use Rattle.sv_grammar.specs.Machine.{Failure, stuck_at, too_deep, too_long}
 use Rattle.sv_grammar.specs.Reads.{Halts}
 use Rattle.sv_grammar.specs.Verdict.{rule_number, rule_names, rule_place}
@@ -41,10 +42,11 @@ abbrev pub HaltsAs : State → List Placed → Stop → Type 0
 HaltsAs xs ts (stops.Broken breach left) = Halts xs ts (failure_of breach) left
 HaltsAs xs ts stops.OutOfMemory = Unit {0}
 
--- the stop is at the first of the tokens, of which the sentence holds, and nothing else is known of what may begin there; or memory
--- ran out
+-- the stop is at the first of the tokens, of which the sentence holds, and nothing else is known of
+-- what may begin there; or memory ran out
 abbrev pub StopsAt : List Token → Type 0 → Stop → Type 0
-StopsAt tokens P (stops.Broken breach left) = P × (breach ≡ Stuck code_expected.Something) × (left ≡ length tokens)
+StopsAt tokens P (stops.Broken breach left) =
+    P × (breach ≡ Stuck code_expected.Something) × (left ≡ length tokens)
 StopsAt tokens P stops.OutOfMemory = Unit {0}
 
 -- ---- part and words of a refusal
@@ -60,12 +62,14 @@ word_bytes w = option_map (λ x. x.now) w
 
 -- ---- what the fault of a text says
 
--- the fault refuses a text that ends at the place `stop` for the rule that the failure breaks, between the tokens before and the rest
+-- the fault refuses a text that ends at the place `stop` for the rule that the failure breaks,
+-- between the tokens before and the rest
 abbrev pub RefusesAt : Fault → Failure → (stop : Place) → (before rest : List Placed) → Type 0
-RefusesAt fault f stop before rest = Refuses fault (rule_number f before rest) (rule_place stop rest) (rule_names f before rest)
+RefusesAt fault f stop before rest =
+    Refuses fault (rule_number f before rest) (rule_place stop rest) (rule_names f before rest)
 
--- the fault refuses a text of the tokens that ends at the place `stop` for the rule of the grammar that they break first. Memory may run
--- out at any text
+-- the fault refuses a text of the tokens that ends at the place `stop` for the rule of the grammar
+-- that they break first. Memory may run out at any text
 abbrev pub IsRefusalOf : (stop : Place) → List Placed → Fault → Type 0
 IsRefusalOf stop tokens (Rule r) = BreaksGrammar r.number r.names.items r.place stop tokens
 IsRefusalOf stop tokens OutOfMemory = Unit {0}

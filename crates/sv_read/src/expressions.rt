@@ -6,8 +6,10 @@ ghost use Rattle.sv_ast.specs.Views.{expression_tree, expression_trees};
 ghost use Rattle.sv_ast.specs.GrammarForms.{in_parentheses};
 ghost use Rattle.sv_ast.specs.GrammarExpressions.{IsExpression};
 ghost use Rattle.sv_ast.specs.GrammarRules.{all_limits};
-ghost use Rattle.sv_grammar.specs.Symbols.{Inner, inner, operand, tail, selection_end, members, inner_brace, outer, expression, punctuation};
-ghost use Rattle.sv_grammar.specs.Reads.{Reads, NextIsLooser, NextIsNotSign, NextIsSign, NextIsAnyName, NextIsNumber, NextIsAnyOperator};
+ghost use Rattle.sv_grammar.specs.Symbols.{Inner, inner, operand, tail, selection_end, members};
+ghost use Rattle.sv_grammar.specs.Symbols.{inner_brace, outer, expression, punctuation};
+ghost use Rattle.sv_grammar.specs.Reads.{Reads, NextIsLooser, NextIsNotSign, NextIsSign};
+ghost use Rattle.sv_grammar.specs.Reads.{NextIsAnyName, NextIsNumber, NextIsAnyOperator};
 ghost use Rattle.sv_read.specs.Expectations.{HaltsAs};
 ghost use Rattle.sv_read.specs.Reading.{IsChain, IsBounded, AreLaterParts, IsRepeated};
 
@@ -28,11 +30,19 @@ fn read_inner<'a>(
     room: Room,
     tokens: &'a [Token],
 ) -> Result<(Expr, &'a [Token]), Stop>
-    ensures is { IfOk result (λ x. IsChain room.levels 11 (expression_tree x.0) (placed_tokens bytes.now tokens.now) (placed_tokens bytes.now x.1.now)) }
+    ensures is { IfOk result (λ x.
+        IsChain room.levels 11 (expression_tree x.0) (placed_tokens bytes.now tokens.now)
+        (placed_tokens bytes.now x.1.now)) }
     ensures shorter { IfOk result (λ x. length x.1.now < length tokens.now) }
     ensures counted { IfOk result (λ x. room.beyond ≤ length x.1.now) }
-    ensures reads { (start : ℕ) → room.beyond ≡ start - 1024 → IfOk result (λ x. Reads (inner start (operand room.levels) ∷ inner start (tail room.levels) ∷ []) [] (placed_tokens bytes.now tokens.now) (placed_tokens bytes.now x.1.now)) }
-    ensures halts { (start : ℕ) → room.beyond ≡ start - 1024 → IfErr result (λ e. HaltsAs (inner start (operand room.levels) ∷ inner start (tail room.levels) ∷ []) (placed_tokens bytes.now tokens.now) e) }
+    ensures reads { (start : ℕ) → room.beyond ≡ start - 1024 →
+        IfOk result (λ x. Reads
+        (inner start (operand room.levels) ∷ inner start (tail room.levels) ∷ []) []
+        (placed_tokens bytes.now tokens.now) (placed_tokens bytes.now x.1.now)) }
+    ensures halts { (start : ℕ) → room.beyond ≡ start - 1024 →
+        IfErr result (λ e. HaltsAs
+        (inner start (operand room.levels) ∷ inner start (tail room.levels) ∷ [])
+        (placed_tokens bytes.now tokens.now) e) }
 {
     let (cond, rest) = read_chain(alloc, bytes, room, LOOSEST, tokens)?;
     let Some((place, after)) = sign_at(SignKind::Question, rest) else {
@@ -45,8 +55,9 @@ fn read_inner<'a>(
     Ok((choice(alloc, place, cond, yes, no)?, rest))
 }
 
-// Operands with operators between them that are no looser than the level. Each operand of an operator of the level is a chain
-// of tighter ones, so the calls go ten deep for a level of the text, and never deeper for a longer chain.
+// Operands with operators between them that are no looser than the level. Each operand of an
+// operator of the level is a chain of tighter ones, so the calls go ten deep for a level of the
+// text, and never deeper for a longer chain.
 #[cycle(expression)]
 fn read_chain<'a>(
     alloc: Global,
@@ -55,11 +66,20 @@ fn read_chain<'a>(
     level: u8,
     tokens: &'a [Token],
 ) -> Result<(Expr, &'a [Token]), Stop>
-    ensures is { IfOk result (λ x. IsChain room.levels level (expression_tree x.0) (placed_tokens bytes.now tokens.now) (placed_tokens bytes.now x.1.now)) }
+    ensures is { IfOk result (λ x.
+        IsChain room.levels level (expression_tree x.0) (placed_tokens bytes.now tokens.now)
+        (placed_tokens bytes.now x.1.now)) }
     ensures shorter { IfOk result (λ x. length x.1.now < length tokens.now) }
     ensures counted { IfOk result (λ x. room.beyond ≤ length x.1.now) }
-    ensures reads { (start : ℕ) → room.beyond ≡ start - 1024 → IfOk result (λ x. Reads (inner start (operand room.levels) ∷ inner start (tail room.levels) ∷ []) (inner start (tail room.levels) ∷ []) (placed_tokens bytes.now tokens.now) (placed_tokens bytes.now x.1.now)) }
-    ensures halts { (start : ℕ) → room.beyond ≡ start - 1024 → IfErr result (λ e. HaltsAs (inner start (operand room.levels) ∷ inner start (tail room.levels) ∷ []) (placed_tokens bytes.now tokens.now) e) }
+    ensures reads { (start : ℕ) → room.beyond ≡ start - 1024 →
+        IfOk result (λ x. Reads
+        (inner start (operand room.levels) ∷ inner start (tail room.levels) ∷ [])
+        (inner start (tail room.levels) ∷ []) (placed_tokens bytes.now tokens.now)
+        (placed_tokens bytes.now x.1.now)) }
+    ensures halts { (start : ℕ) → room.beyond ≡ start - 1024 →
+        IfErr result (λ e. HaltsAs
+        (inner start (operand room.levels) ∷ inner start (tail room.levels) ∷ [])
+        (placed_tokens bytes.now tokens.now) e) }
     ensures looser { IfOk result (λ x. NextIsLooser level (placed_tokens bytes.now x.1.now)) }
 {
     if level == 0 {
@@ -83,11 +103,17 @@ fn read_operand<'a>(
     room: Room,
     tokens: &'a [Token],
 ) -> Result<(Expr, &'a [Token]), Stop>
-    ensures is { IfOk result (λ x. IsChain room.levels 0 (expression_tree x.0) (placed_tokens bytes.now tokens.now) (placed_tokens bytes.now x.1.now)) }
+    ensures is { IfOk result (λ x.
+        IsChain room.levels 0 (expression_tree x.0) (placed_tokens bytes.now tokens.now)
+        (placed_tokens bytes.now x.1.now)) }
     ensures shorter { IfOk result (λ x. length x.1.now < length tokens.now) }
     ensures counted { IfOk result (λ x. room.beyond ≤ length x.1.now) }
-    ensures reads { (start : ℕ) → room.beyond ≡ start - 1024 → IfOk result (λ x. Reads (inner start (operand room.levels) ∷ []) [] (placed_tokens bytes.now tokens.now) (placed_tokens bytes.now x.1.now)) }
-    ensures halts { (start : ℕ) → room.beyond ≡ start - 1024 → IfErr result (λ e. HaltsAs (inner start (operand room.levels) ∷ []) (placed_tokens bytes.now tokens.now) e) }
+    ensures reads { (start : ℕ) → room.beyond ≡ start - 1024 →
+        IfOk result (λ x. Reads (inner start (operand room.levels) ∷ []) []
+        (placed_tokens bytes.now tokens.now) (placed_tokens bytes.now x.1.now)) }
+    ensures halts { (start : ℕ) → room.beyond ≡ start - 1024 →
+        IfErr result (λ e. HaltsAs (inner start (operand room.levels) ∷ [])
+        (placed_tokens bytes.now tokens.now) e) }
 {
     let [first, ..] = tokens else {
         return Err(unexpected(tokens));
@@ -104,11 +130,18 @@ fn read_operand<'a>(
 
 // A number.
 fn read_literal(room: Room, tokens: &[Token]) -> Result<(Expr, &[Token]), Stop>
-    ensures is { (bytes : List ℕ) → IfOk result (λ x. IsChain room.levels 0 (expression_tree x.0) (placed_tokens bytes tokens.now) (placed_tokens bytes x.1.now)) }
+    ensures is { (bytes : List ℕ) →
+        IfOk result (λ x. IsChain room.levels 0 (expression_tree x.0)
+        (placed_tokens bytes tokens.now) (placed_tokens bytes x.1.now)) }
     ensures shorter { IfOk result (λ x. length x.1.now < length tokens.now) }
     ensures counted { IfOk result (λ x. room.beyond ≤ length x.1.now) }
-    ensures reads { (bytes : List ℕ) (start : ℕ) → room.beyond ≡ start - 1024 → IfOk result (λ x. Reads (inner start (operand room.levels) ∷ []) [] (placed_tokens bytes tokens.now) (placed_tokens bytes x.1.now)) }
-    ensures halts { (bytes : List ℕ) (start : ℕ) → room.beyond ≡ start - 1024 → NextIsNumber (placed_tokens bytes tokens.now) → IfErr result (λ e. HaltsAs (inner start (operand room.levels) ∷ []) (placed_tokens bytes tokens.now) e) }
+    ensures reads { (bytes : List ℕ) (start : ℕ) → room.beyond ≡ start - 1024 →
+        IfOk result (λ x. Reads (inner start (operand room.levels) ∷ []) []
+        (placed_tokens bytes tokens.now) (placed_tokens bytes x.1.now)) }
+    ensures halts { (bytes : List ℕ) (start : ℕ) → room.beyond ≡ start - 1024 →
+        NextIsNumber (placed_tokens bytes tokens.now) →
+        IfErr result (λ e. HaltsAs (inner start (operand room.levels) ∷ [])
+        (placed_tokens bytes tokens.now) e) }
 {
     let (value, place, rest) = read_number(tokens)?;
     room.count(tokens)?;
@@ -123,11 +156,18 @@ fn read_group<'a>(
     room: Room,
     tokens: &'a [Token],
 ) -> Result<(Expr, &'a [Token]), Stop>
-    ensures is { IfOk result (λ x. IsChain room.levels 0 (expression_tree x.0) (placed_tokens bytes.now tokens.now) (placed_tokens bytes.now x.1.now)) }
+    ensures is { IfOk result (λ x.
+        IsChain room.levels 0 (expression_tree x.0) (placed_tokens bytes.now tokens.now)
+        (placed_tokens bytes.now x.1.now)) }
     ensures shorter { IfOk result (λ x. length x.1.now < length tokens.now) }
     ensures counted { IfOk result (λ x. room.beyond ≤ length x.1.now) }
-    ensures reads { (start : ℕ) → room.beyond ≡ start - 1024 → IfOk result (λ x. Reads (inner start (operand room.levels) ∷ []) [] (placed_tokens bytes.now tokens.now) (placed_tokens bytes.now x.1.now)) }
-    ensures halts { (start : ℕ) → room.beyond ≡ start - 1024 → NextIsSign SignKind.OpenParenthesis (placed_tokens bytes.now tokens.now) → IfErr result (λ e. HaltsAs (inner start (operand room.levels) ∷ []) (placed_tokens bytes.now tokens.now) e) }
+    ensures reads { (start : ℕ) → room.beyond ≡ start - 1024 →
+        IfOk result (λ x. Reads (inner start (operand room.levels) ∷ []) []
+        (placed_tokens bytes.now tokens.now) (placed_tokens bytes.now x.1.now)) }
+    ensures halts { (start : ℕ) → room.beyond ≡ start - 1024 →
+        NextIsSign SignKind.OpenParenthesis (placed_tokens bytes.now tokens.now) →
+        IfErr result (λ e. HaltsAs (inner start (operand room.levels) ∷ [])
+        (placed_tokens bytes.now tokens.now) e) }
 {
     let rest = expect_sign(SignKind::OpenParenthesis, tokens)?;
     let inside = room.opened(tokens)?;
@@ -144,11 +184,18 @@ fn read_prefixed<'a>(
     room: Room,
     tokens: &'a [Token],
 ) -> Result<(Expr, &'a [Token]), Stop>
-    ensures is { IfOk result (λ x. IsChain room.levels 0 (expression_tree x.0) (placed_tokens bytes.now tokens.now) (placed_tokens bytes.now x.1.now)) }
+    ensures is { IfOk result (λ x.
+        IsChain room.levels 0 (expression_tree x.0) (placed_tokens bytes.now tokens.now)
+        (placed_tokens bytes.now x.1.now)) }
     ensures shorter { IfOk result (λ x. length x.1.now < length tokens.now) }
     ensures counted { IfOk result (λ x. room.beyond ≤ length x.1.now) }
-    ensures reads { (start : ℕ) → room.beyond ≡ start - 1024 → IfOk result (λ x. Reads (inner start (operand room.levels) ∷ []) [] (placed_tokens bytes.now tokens.now) (placed_tokens bytes.now x.1.now)) }
-    ensures halts { (start : ℕ) → room.beyond ≡ start - 1024 → NextIsAnyOperator (placed_tokens bytes.now tokens.now) → IfErr result (λ e. HaltsAs (inner start (operand room.levels) ∷ []) (placed_tokens bytes.now tokens.now) e) }
+    ensures reads { (start : ℕ) → room.beyond ≡ start - 1024 →
+        IfOk result (λ x. Reads (inner start (operand room.levels) ∷ []) []
+        (placed_tokens bytes.now tokens.now) (placed_tokens bytes.now x.1.now)) }
+    ensures halts { (start : ℕ) → room.beyond ≡ start - 1024 →
+        NextIsAnyOperator (placed_tokens bytes.now tokens.now) →
+        IfErr result (λ e. HaltsAs (inner start (operand room.levels) ∷ [])
+        (placed_tokens bytes.now tokens.now) e) }
 {
     let Some((op, place, rest)) = unary_at(tokens) else {
         return Err(unexpected(tokens));
@@ -166,11 +213,18 @@ fn read_named<'a>(
     room: Room,
     tokens: &'a [Token],
 ) -> Result<(Expr, &'a [Token]), Stop>
-    ensures is { IfOk result (λ x. IsChain room.levels 0 (expression_tree x.0) (placed_tokens bytes.now tokens.now) (placed_tokens bytes.now x.1.now)) }
+    ensures is { IfOk result (λ x.
+        IsChain room.levels 0 (expression_tree x.0) (placed_tokens bytes.now tokens.now)
+        (placed_tokens bytes.now x.1.now)) }
     ensures shorter { IfOk result (λ x. length x.1.now < length tokens.now) }
     ensures counted { IfOk result (λ x. room.beyond ≤ length x.1.now) }
-    ensures reads { (start : ℕ) → room.beyond ≡ start - 1024 → IfOk result (λ x. Reads (inner start (operand room.levels) ∷ []) [] (placed_tokens bytes.now tokens.now) (placed_tokens bytes.now x.1.now)) }
-    ensures halts { (start : ℕ) → room.beyond ≡ start - 1024 → NextIsAnyName (placed_tokens bytes.now tokens.now) → IfErr result (λ e. HaltsAs (inner start (operand room.levels) ∷ []) (placed_tokens bytes.now tokens.now) e) }
+    ensures reads { (start : ℕ) → room.beyond ≡ start - 1024 →
+        IfOk result (λ x. Reads (inner start (operand room.levels) ∷ []) []
+        (placed_tokens bytes.now tokens.now) (placed_tokens bytes.now x.1.now)) }
+    ensures halts { (start : ℕ) → room.beyond ≡ start - 1024 →
+        NextIsAnyName (placed_tokens bytes.now tokens.now) →
+        IfErr result (λ e. HaltsAs (inner start (operand room.levels) ∷ [])
+        (placed_tokens bytes.now tokens.now) e) }
 {
     let (name, place, rest) = read_name(alloc, bytes, tokens)?;
     room.count(tokens)?;
@@ -193,11 +247,20 @@ fn read_bounds<'a>(
     room: Room,
     tokens: &'a [Token],
 ) -> Result<(Expr, Option<Expr>, &'a [Token]), Stop>
-    ensures is { IfOk result (λ x. IsBounded room.levels (expression_tree x.0) (option_map expression_tree x.1) (placed_tokens bytes.now tokens.now) (placed_tokens bytes.now x.2.now)) }
+    ensures is { IfOk result (λ x.
+        IsBounded room.levels (expression_tree x.0) (option_map expression_tree x.1)
+        (placed_tokens bytes.now tokens.now) (placed_tokens bytes.now x.2.now)) }
     ensures shorter { IfOk result (λ x. length x.2.now < length tokens.now) }
     ensures counted { IfOk result (λ x. room.beyond ≤ length x.2.now) }
-    ensures reads { (start : ℕ) → room.beyond ≡ start - 1024 → IfOk result (λ x. Reads (inner start (operand room.levels) ∷ inner start (tail room.levels) ∷ inner start (selection_end room.levels) ∷ []) [] (placed_tokens bytes.now tokens.now) (placed_tokens bytes.now x.2.now)) }
-    ensures halts { (start : ℕ) → room.beyond ≡ start - 1024 → IfErr result (λ e. HaltsAs (inner start (operand room.levels) ∷ inner start (tail room.levels) ∷ inner start (selection_end room.levels) ∷ []) (placed_tokens bytes.now tokens.now) e) }
+    ensures reads { (start : ℕ) → room.beyond ≡ start - 1024 →
+        IfOk result (λ x. Reads
+        (inner start (operand room.levels) ∷ inner start (tail room.levels) ∷
+        inner start (selection_end room.levels) ∷ []) [] (placed_tokens bytes.now tokens.now)
+        (placed_tokens bytes.now x.2.now)) }
+    ensures halts { (start : ℕ) → room.beyond ≡ start - 1024 →
+        IfErr result (λ e. HaltsAs
+        (inner start (operand room.levels) ∷ inner start (tail room.levels) ∷
+        inner start (selection_end room.levels) ∷ []) (placed_tokens bytes.now tokens.now) e) }
 {
     let (first, rest) = read_inner(alloc, bytes, room, tokens)?;
     if let Some(after) = behind(SignKind::CloseBracket, rest) {
@@ -218,11 +281,18 @@ fn read_braces<'a>(
     room: Room,
     tokens: &'a [Token],
 ) -> Result<(Expr, &'a [Token]), Stop>
-    ensures is { IfOk result (λ x. IsChain room.levels 0 (expression_tree x.0) (placed_tokens bytes.now tokens.now) (placed_tokens bytes.now x.1.now)) }
+    ensures is { IfOk result (λ x.
+        IsChain room.levels 0 (expression_tree x.0) (placed_tokens bytes.now tokens.now)
+        (placed_tokens bytes.now x.1.now)) }
     ensures shorter { IfOk result (λ x. length x.1.now < length tokens.now) }
     ensures counted { IfOk result (λ x. room.beyond ≤ length x.1.now) }
-    ensures reads { (start : ℕ) → room.beyond ≡ start - 1024 → IfOk result (λ x. Reads (inner start (operand room.levels) ∷ []) [] (placed_tokens bytes.now tokens.now) (placed_tokens bytes.now x.1.now)) }
-    ensures halts { (start : ℕ) → room.beyond ≡ start - 1024 → NextIsSign SignKind.OpenBrace (placed_tokens bytes.now tokens.now) → IfErr result (λ e. HaltsAs (inner start (operand room.levels) ∷ []) (placed_tokens bytes.now tokens.now) e) }
+    ensures reads { (start : ℕ) → room.beyond ≡ start - 1024 →
+        IfOk result (λ x. Reads (inner start (operand room.levels) ∷ []) []
+        (placed_tokens bytes.now tokens.now) (placed_tokens bytes.now x.1.now)) }
+    ensures halts { (start : ℕ) → room.beyond ≡ start - 1024 →
+        NextIsSign SignKind.OpenBrace (placed_tokens bytes.now tokens.now) →
+        IfErr result (λ e. HaltsAs (inner start (operand room.levels) ∷ [])
+        (placed_tokens bytes.now tokens.now) e) }
 {
     let Some((place, rest)) = sign_at(SignKind::OpenBrace, tokens) else {
         return Err(unexpected(tokens));
@@ -247,11 +317,21 @@ fn read_repeated<'a>(
     room: Room,
     tokens: &'a [Token],
 ) -> Result<(Vec<Expr>, &'a [Token]), Stop>
-    ensures is { IfOk result (λ x. IsRepeated room.levels (expression_trees x.0.items) (placed_tokens bytes.now tokens.now) (placed_tokens bytes.now x.1.now)) }
+    ensures is { IfOk result (λ x.
+        IsRepeated room.levels (expression_trees x.0.items) (placed_tokens bytes.now tokens.now)
+        (placed_tokens bytes.now x.1.now)) }
     ensures shorter { IfOk result (λ x. length x.1.now < length tokens.now) }
     ensures counted { IfOk result (λ x. room.beyond ≤ length x.1.now) }
-    ensures reads { (start : ℕ) → room.beyond ≡ start - 1024 → IfOk result (λ x. Reads (inner start (operand room.levels) ∷ inner start (tail room.levels) ∷ inner start (members room.levels) ∷ inner start inner_brace ∷ []) [] (placed_tokens bytes.now tokens.now) (placed_tokens bytes.now x.1.now)) }
-    ensures halts { (start : ℕ) → room.beyond ≡ start - 1024 → IfErr result (λ e. HaltsAs (inner start (operand room.levels) ∷ inner start (tail room.levels) ∷ inner start (members room.levels) ∷ inner start inner_brace ∷ []) (placed_tokens bytes.now tokens.now) e) }
+    ensures reads { (start : ℕ) → room.beyond ≡ start - 1024 →
+        IfOk result (λ x. Reads
+        (inner start (operand room.levels) ∷ inner start (tail room.levels) ∷
+        inner start (members room.levels) ∷ inner start inner_brace ∷ []) []
+        (placed_tokens bytes.now tokens.now) (placed_tokens bytes.now x.1.now)) }
+    ensures halts { (start : ℕ) → room.beyond ≡ start - 1024 →
+        IfErr result (λ e. HaltsAs
+        (inner start (operand room.levels) ∷ inner start (tail room.levels) ∷
+        inner start (members room.levels) ∷ inner start inner_brace ∷ [])
+        (placed_tokens bytes.now tokens.now) e) }
 {
     let (first, rest) = read_inner(alloc, bytes, room, tokens)?;
     let (parts, rest) = read_later_parts(alloc, bytes, room, first, rest)?;
@@ -269,11 +349,19 @@ fn read_later_parts<'a>(
     first: Expr,
     tokens: &'a [Token],
 ) -> Result<(Vec<Expr>, &'a [Token]), Stop>
-    ensures is { IfOk result (λ x. AreLaterParts room.levels (expression_tree first) (expression_trees x.0.items) (placed_tokens bytes.now tokens.now) (placed_tokens bytes.now x.1.now)) }
+    ensures is { IfOk result (λ x.
+        AreLaterParts room.levels (expression_tree first) (expression_trees x.0.items)
+        (placed_tokens bytes.now tokens.now) (placed_tokens bytes.now x.1.now)) }
     ensures shorter { IfOk result (λ x. length x.1.now ≤ length tokens.now) }
-    ensures reads { (start : ℕ) → room.beyond ≡ start - 1024 → IfOk result (λ x. Reads (inner start (members room.levels) ∷ []) (inner start (members room.levels) ∷ []) (placed_tokens bytes.now tokens.now) (placed_tokens bytes.now x.1.now)) }
-    ensures halts { (start : ℕ) → room.beyond ≡ start - 1024 → IfErr result (λ e. HaltsAs (inner start (members room.levels) ∷ []) (placed_tokens bytes.now tokens.now) e) }
-    ensures ends { IfOk result (λ x. NextIsNotSign SignKind.Comma (placed_tokens bytes.now x.1.now)) }
+    ensures reads { (start : ℕ) → room.beyond ≡ start - 1024 →
+        IfOk result (λ x. Reads (inner start (members room.levels) ∷ [])
+        (inner start (members room.levels) ∷ []) (placed_tokens bytes.now tokens.now)
+        (placed_tokens bytes.now x.1.now)) }
+    ensures halts { (start : ℕ) → room.beyond ≡ start - 1024 →
+        IfErr result (λ e. HaltsAs (inner start (members room.levels) ∷ [])
+        (placed_tokens bytes.now tokens.now) e) }
+    ensures ends { IfOk result (λ x.
+        NextIsNotSign SignKind.Comma (placed_tokens bytes.now x.1.now)) }
 {
     let mut parts = Vec::new(alloc);
     parts.push(first)?;
@@ -287,17 +375,23 @@ fn read_later_parts<'a>(
     Ok((parts, rest))
 }
 
-/// An expression that stands in no other one, where so many levels are open around it, and the tokens behind it.
+/// An expression that stands in no other one, where so many levels are open around it, and the
+/// tokens behind it.
 pub fn read_expression<'a>(
     alloc: Global,
     bytes: &[u8],
     levels: usize,
     tokens: &'a [Token],
 ) -> Result<(Expr, &'a [Token]), Stop>
-    ensures is { IfOk result (λ x. IsExpression all_limits levels (expression_tree x.0) (placed_tokens bytes.now tokens.now) (placed_tokens bytes.now x.1.now)) }
+    ensures is { IfOk result (λ x.
+        IsExpression all_limits levels (expression_tree x.0) (placed_tokens bytes.now tokens.now)
+        (placed_tokens bytes.now x.1.now)) }
     ensures shorter { IfOk result (λ x. length x.1.now < length tokens.now) }
-    ensures reads { IfOk result (λ x. Reads (outer (expression levels) ∷ []) [] (placed_tokens bytes.now tokens.now) (placed_tokens bytes.now x.1.now)) }
-    ensures halts { IfErr result (λ e. HaltsAs (outer (expression levels) ∷ []) (placed_tokens bytes.now tokens.now) e) }
+    ensures reads { IfOk result (λ x.
+        Reads (outer (expression levels) ∷ []) [] (placed_tokens bytes.now tokens.now)
+        (placed_tokens bytes.now x.1.now)) }
+    ensures halts { IfErr result (λ e.
+        HaltsAs (outer (expression levels) ∷ []) (placed_tokens bytes.now tokens.now) e) }
 {
     let room = Room::of(levels, tokens);
     let (expr, rest) = read_inner(alloc, bytes, room, tokens)?;
@@ -312,7 +406,10 @@ pub fn read_expression_too_many<'a>(
     tokens: &'a [Token],
 ) -> Result<(Expr, &'a [Token]), Stop>
     ensures never { IfOk result (λ x. ⊥) }
-    ensures halts { IfErr result (λ e. HaltsAs (inner (length tokens.now + 1024) (operand levels) ∷ inner (length tokens.now + 1024) (tail levels) ∷ []) (placed_tokens bytes.now tokens.now) e) }
+    ensures halts { IfErr result (λ e.
+        HaltsAs (inner (length tokens.now + 1024) (operand levels) ∷
+        inner (length tokens.now + 1024) (tail levels) ∷ [])
+        (placed_tokens bytes.now tokens.now) e) }
 {
     read_inner(alloc, bytes, Room::none(levels, tokens), tokens)
 }
@@ -324,10 +421,18 @@ pub fn read_in_parentheses<'a>(
     levels: usize,
     tokens: &'a [Token],
 ) -> Result<(Expr, &'a [Token]), Stop>
-    ensures is { IfOk result (λ x. in_parentheses (IsExpression all_limits levels (expression_tree x.0)) (placed_tokens bytes.now tokens.now) (placed_tokens bytes.now x.1.now)) }
+    ensures is { IfOk result (λ x.
+        in_parentheses (IsExpression all_limits levels (expression_tree x.0))
+        (placed_tokens bytes.now tokens.now) (placed_tokens bytes.now x.1.now)) }
     ensures shorter { IfOk result (λ x. length x.1.now < length tokens.now) }
-    ensures reads { IfOk result (λ x. Reads (outer (punctuation SignKind.OpenParenthesis) ∷ outer (expression levels) ∷ outer (punctuation SignKind.CloseParenthesis) ∷ []) [] (placed_tokens bytes.now tokens.now) (placed_tokens bytes.now x.1.now)) }
-    ensures halts { IfErr result (λ e. HaltsAs (outer (punctuation SignKind.OpenParenthesis) ∷ outer (expression levels) ∷ outer (punctuation SignKind.CloseParenthesis) ∷ []) (placed_tokens bytes.now tokens.now) e) }
+    ensures reads { IfOk result (λ x.
+        Reads (outer (punctuation SignKind.OpenParenthesis) ∷ outer (expression levels) ∷
+        outer (punctuation SignKind.CloseParenthesis) ∷ []) [] (placed_tokens bytes.now tokens.now)
+        (placed_tokens bytes.now x.1.now)) }
+    ensures halts { IfErr result (λ e.
+        HaltsAs (outer (punctuation SignKind.OpenParenthesis) ∷ outer (expression levels) ∷
+        outer (punctuation SignKind.CloseParenthesis) ∷ [])
+        (placed_tokens bytes.now tokens.now) e) }
 {
     let rest = expect_sign(SignKind::OpenParenthesis, tokens)?;
     let (expr, rest) = read_expression(alloc, bytes, levels, rest)?;

@@ -1,5 +1,6 @@
 // From a stop to the refusal of the text.
-ghost use Rattle.std.specs.Prelude.{◌≡◌, ◌+◌, ◌-◌, ◌<◌, ◌≤◌, ◌^◌, ℕ, List, [], ◌∷◌, length, take, drop, IfOk};
+ghost use Rattle.std.specs.Prelude.{◌≡◌, ◌+◌, ◌-◌, ◌<◌, ◌≤◌, ◌^◌, ℕ, List, [], ◌∷◌, length, take};
+ghost use Rattle.std.specs.Prelude.{drop, IfOk};
 ghost use Rattle.sv_num.specs.Faults.{Refuses};
 ghost use Rattle.sv_token.specs.Lexemes.{placed_tokens};
 ghost use Rattle.sv_token.specs.Tokens.{next_place};
@@ -70,7 +71,9 @@ fn stuck_at(
     token: Token,
     after: &[Token],
 ) -> Result<Fault, AllocError>
-    ensures { IfOk result (λ fault. RefusesAt fault (stuck_at (expected_of expected)) (end_place bytes.now) (placed_tokens bytes.now before.now) (placed_tokens bytes.now (token ∷ after.now))) }
+    ensures { IfOk result (λ fault.
+        RefusesAt fault (stuck_at (expected_of expected)) (end_place bytes.now)
+        (placed_tokens bytes.now before.now) (placed_tokens bytes.now (token ∷ after.now))) }
 {
     match word_at(bytes, expected, before, token, after) {
         Some(word) => unsupported(alloc, token.place, word),
@@ -87,7 +90,9 @@ fn broken_at(
     token: Token,
     after: &[Token],
 ) -> Result<Fault, AllocError>
-    ensures { IfOk result (λ fault. RefusesAt fault (failure_of breach) (end_place bytes.now) (placed_tokens bytes.now before.now) (placed_tokens bytes.now (token ∷ after.now))) }
+    ensures { IfOk result (λ fault.
+        RefusesAt fault (failure_of breach) (end_place bytes.now)
+        (placed_tokens bytes.now before.now) (placed_tokens bytes.now (token ∷ after.now))) }
 {
     match breach {
         Breach::Stuck(expected) => stuck_at(alloc, bytes, expected, before, token, after),
@@ -96,8 +101,9 @@ fn broken_at(
     }
 }
 
-/// The fault of a text with these tokens, of which so many are left where a rule is broken: of the rule, with its names, and at the
-/// place of the first token that is left; or of rule 201 at the end of the text, where none is left. It fails where memory runs out.
+/// The fault of a text with these tokens, of which so many are left where a rule is broken: of the
+/// rule, with its names, and at the place of the first token that is left; or of rule 201 at the
+/// end of the text, where none is left. It fails where memory runs out.
 pub fn broken(
     alloc: Global,
     bytes: &[u8],
@@ -107,7 +113,9 @@ pub fn broken(
 ) -> Result<Fault, AllocError>
     requires { length bytes.now < 2 ^ 32 - 1 }
     ensures { IfOk result (λ fault.
-        RefusesAt fault (failure_of breach) (end_place bytes.now) (placed_tokens bytes.now (take (length tokens.now - left) tokens.now)) (placed_tokens bytes.now (drop (length tokens.now - left) tokens.now))) }
+        RefusesAt fault (failure_of breach) (end_place bytes.now)
+        (placed_tokens bytes.now (take (length tokens.now - left) tokens.now))
+        (placed_tokens bytes.now (drop (length tokens.now - left) tokens.now))) }
 {
     let count = tokens.len().saturating_sub(left);
     match &tokens[count..] {

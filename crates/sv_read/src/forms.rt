@@ -26,7 +26,8 @@ enum Part {
 impl Part {
     // The part behind one more token.
     fn behind(self, kind: TokenKind) -> Part
-        ensures { (bytes : List ℕ) (start stop : ℕ) → part_of result ≡ grammar.part_behind (part_of self) (lexeme_of bytes kind start stop) }
+        ensures { (bytes : List ℕ) (start stop : ℕ) →
+            part_of result ≡ grammar.part_behind (part_of self) (lexeme_of bytes kind start stop) }
     {
         match kind {
             TokenKind::Word(WordKind::Module) => Part::Header,
@@ -51,7 +52,8 @@ impl Part {
 
 // The part in which the tokens stop.
 fn last_part(tokens: &[Token]) -> Part
-    ensures { (bytes : List ℕ) → part_of result ≡ grammar.last_part (placed_tokens bytes tokens.now) }
+    ensures { (bytes : List ℕ) →
+        part_of result ≡ grammar.last_part (placed_tokens bytes tokens.now) }
 {
     let mut part = Part::Outside;
     for token in tokens {
@@ -62,7 +64,8 @@ fn last_part(tokens: &[Token]) -> Part
 
 // The last word other than `signed` behind one more token; none behind a `;`.
 fn word_behind(word: Option<WordKind>, kind: TokenKind) -> Option<WordKind>
-    ensures { (bytes : List ℕ) (start stop : ℕ) → result ≡ grammar.word_behind word (lexeme_of bytes kind start stop) }
+    ensures { (bytes : List ℕ) (start stop : ℕ) →
+        result ≡ grammar.word_behind word (lexeme_of bytes kind start stop) }
 {
     match kind {
         TokenKind::Word(WordKind::Signed) => word,
@@ -86,7 +89,8 @@ fn last_word(tokens: &[Token]) -> Option<WordKind>
 // How many brackets and braces are open behind one more token.
 fn open_behind(count: usize, kind: TokenKind) -> usize
     requires { count + 1 < 2 ^ 64 }
-    ensures is { (bytes : List ℕ) (start stop : ℕ) → result ≡ grammar.open_behind count (lexeme_of bytes kind start stop) }
+    ensures is { (bytes : List ℕ) (start stop : ℕ) →
+        result ≡ grammar.open_behind count (lexeme_of bytes kind start stop) }
     ensures more { result ≤ count + 1 }
 {
     match kind {
@@ -110,7 +114,8 @@ fn open_brackets(tokens: &[Token]) -> usize
 }
 
 fn is_name(kind: TokenKind) -> bool
-    ensures { (bytes : List ℕ) (start stop : ℕ) → result ≡ grammar.is_name (lexeme_of bytes kind start stop) }
+    ensures { (bytes : List ℕ) (start stop : ℕ) →
+        result ≡ grammar.is_name (lexeme_of bytes kind start stop) }
 {
     match kind {
         TokenKind::Name => true,
@@ -129,7 +134,8 @@ fn stop_at_name(tokens: &[Token]) -> bool
 }
 
 fn is_posedge(kind: TokenKind) -> bool
-    ensures { (bytes : List ℕ) (start stop : ℕ) → result ≡ verdict.is_posedge (lexeme_of bytes kind start stop) }
+    ensures { (bytes : List ℕ) (start stop : ℕ) →
+        result ≡ verdict.is_posedge (lexeme_of bytes kind start stop) }
 {
     match kind {
         TokenKind::Word(WordKind::Posedge) => true,
@@ -149,7 +155,8 @@ fn stop_at_clock(tokens: &[Token]) -> bool
 
 // Whether the tokens stop at a name that stands outside ranges and labels.
 fn stop_at_declared(tokens: &[Token]) -> bool
-    ensures { (bytes : List ℕ) → result ≡ verdict.stop_at_declared (placed_tokens bytes tokens.now) }
+    ensures { (bytes : List ℕ) →
+        result ≡ verdict.stop_at_declared (placed_tokens bytes tokens.now) }
 {
     stop_at_name(tokens) && open_brackets(tokens) == 0
 }
@@ -187,7 +194,8 @@ fn value_form(last: Option<WordKind>, is_declared: bool) -> Option<&'static [u8]
 
 // A name that is no refused word.
 fn name_form(expected: Expected) -> Option<&'static [u8]>
-    ensures { (text : List ℕ) → word_bytes result ≡ verdict.name_word false text (expected_of expected) }
+    ensures { (text : List ℕ) →
+        word_bytes result ≡ verdict.name_word false text (expected_of expected) }
 {
     match expected {
         Expected::Edge => Some(b"sensitivity-list"),
@@ -208,7 +216,8 @@ fn is_star(operator: BinOp) -> bool
 
 // Whether the token is a `*`.
 fn is_star_token(kind: TokenKind) -> bool
-    ensures { (bytes : List ℕ) (start stop : ℕ) → result ≡ verdict.is_star_lexeme (lexeme_of bytes kind start stop) }
+    ensures { (bytes : List ℕ) (start stop : ℕ) →
+        result ≡ verdict.is_star_lexeme (lexeme_of bytes kind start stop) }
 {
     match kind {
         TokenKind::Sign(SignKind::Operator(operator)) => match binary_operator(operator) {
@@ -277,7 +286,9 @@ fn sign_form(
     sign: SignKind,
     after: &[Token],
 ) -> Option<&'static [u8]>
-    ensures { (bytes : List ℕ) → word_bytes result ≡ verdict.refused_word (expected_of expected) (placed_tokens bytes before.now) (lexeme.sign sign) (placed_tokens bytes after.now) }
+    ensures { (bytes : List ℕ) →
+        word_bytes result ≡ verdict.refused_word (expected_of expected)
+        (placed_tokens bytes before.now) (lexeme.sign sign) (placed_tokens bytes after.now) }
 {
     match sign {
         SignKind::OpenParenthesis => parenthesis_form(expected, star_is_next(after)),
@@ -299,7 +310,8 @@ fn sign_form(
 
 // A name: a refused word, or one where something else has to come.
 fn name_word<'a>(text: &'a [u8], expected: Expected) -> Option<&'a [u8]>
-    ensures { word_bytes result ≡ verdict.name_word (is_refused_word text.now) text.now (expected_of expected) }
+    ensures { word_bytes result ≡
+        verdict.name_word (is_refused_word text.now) text.now (expected_of expected) }
 {
     if is_refused(text) {
         Some(text)
@@ -308,7 +320,8 @@ fn name_word<'a>(text: &'a [u8], expected: Expected) -> Option<&'a [u8]>
     }
 }
 
-/// The word for the form that is left out and would begin with the token, between the others, if it begins one.
+/// The word for the form that is left out and would begin with the token, between the others, if it
+/// begins one.
 pub fn word_at<'a>(
     bytes: &'a [u8],
     expected: Expected,
@@ -317,7 +330,8 @@ pub fn word_at<'a>(
     after: &[Token],
 ) -> Option<&'a [u8]>
     ensures { word_bytes result
-        ≡ verdict.refused_word (expected_of expected) (placed_tokens bytes.now before.now) (placed_of bytes.now token).lexeme (placed_tokens bytes.now after.now) }
+        ≡ verdict.refused_word (expected_of expected) (placed_tokens bytes.now before.now)
+        (placed_of bytes.now token).lexeme (placed_tokens bytes.now after.now) }
 {
     match token.kind {
         TokenKind::Name => name_word(text_of(bytes, token), expected),

@@ -1,5 +1,6 @@
 // Lists of members with commas between them.
-ghost use Rattle.std.specs.Prelude.{◌≡◌, ◌<◌, ◌≤◌, ℕ, List, [], ◌∷◌, ◌++◌, length, map, IfOk, IfErr};
+ghost use Rattle.std.specs.Prelude.{◌≡◌, ◌<◌, ◌≤◌, ℕ, List, [], ◌∷◌, ◌++◌, length, map, IfOk};
+ghost use Rattle.std.specs.Prelude.{IfErr};
 ghost use Rattle.sv_token.specs.Lexemes.{Placed, placed_tokens};
 ghost use Rattle.sv_ast.specs.Tree.{ExpressionTree};
 ghost use Rattle.sv_ast.specs.Views.{expression_tree};
@@ -45,9 +46,14 @@ pub trait Listed {
         levels: usize,
         tokens: &'a [Token],
     ) -> Result<(Self::Item, &'a [Token]), Stop>
-        ensures is { IfOk result (λ x. First levels (tree x.0) (placed_tokens bytes.now tokens.now) (placed_tokens bytes.now x.1.now)) }
-        ensures reads { Begins (placed_tokens bytes.now tokens.now) → IfOk result (λ x. Reads (start levels) (behind levels) (placed_tokens bytes.now tokens.now) (placed_tokens bytes.now x.1.now)) }
-        ensures halts { Begins (placed_tokens bytes.now tokens.now) → IfErr result (λ e. HaltsAs (start levels) (placed_tokens bytes.now tokens.now) e) }
+        ensures is { IfOk result (λ x.
+            First levels (tree x.0) (placed_tokens bytes.now tokens.now)
+            (placed_tokens bytes.now x.1.now)) }
+        ensures reads { Begins (placed_tokens bytes.now tokens.now) →
+            IfOk result (λ x. Reads (start levels) (behind levels)
+            (placed_tokens bytes.now tokens.now) (placed_tokens bytes.now x.1.now)) }
+        ensures halts { Begins (placed_tokens bytes.now tokens.now) →
+            IfErr result (λ e. HaltsAs (start levels) (placed_tokens bytes.now tokens.now) e) }
         ensures shorter { IfOk result (λ x. length x.1.now < length tokens.now) };
 
     /// A member behind another one, and the tokens behind it.
@@ -58,9 +64,14 @@ pub trait Listed {
         before: &Self::Item,
         tokens: &'a [Token],
     ) -> Result<(Self::Item, &'a [Token]), Stop>
-        ensures reads { IfOk result (λ x. Reads (next levels) [] (placed_tokens bytes.now tokens.now) (placed_tokens bytes.now x.1.now)) }
-        ensures halts { IfErr result (λ e. HaltsAs (next levels) (placed_tokens bytes.now tokens.now) e) }
-        ensures is { IfOk result (λ x. Later levels (tree before.now) (tree x.0) (placed_tokens bytes.now tokens.now) (placed_tokens bytes.now x.1.now)) }
+        ensures reads { IfOk result (λ x.
+            Reads (next levels) [] (placed_tokens bytes.now tokens.now)
+            (placed_tokens bytes.now x.1.now)) }
+        ensures halts { IfErr result (λ e.
+            HaltsAs (next levels) (placed_tokens bytes.now tokens.now) e) }
+        ensures is { IfOk result (λ x.
+            Later levels (tree before.now) (tree x.0) (placed_tokens bytes.now tokens.now)
+            (placed_tokens bytes.now x.1.now)) }
         ensures shorter { IfOk result (λ x. length x.1.now < length tokens.now) };
 }
 
@@ -81,11 +92,17 @@ pub fn read_list_from<'a, M: Listed>(
     first: M::Item,
     tokens: &'a [Token],
 ) -> Result<(Vec<M::Item>, &'a [Token]), Stop>
-    ensures is { IfOk result (λ x. AreLater M.Tree (M.Later levels) (M.tree first) (map M.tree x.0.items) (placed_tokens bytes.now tokens.now) (placed_tokens bytes.now x.1.now)) }
+    ensures is { IfOk result (λ x.
+        AreLater M.Tree (M.Later levels) (M.tree first) (map M.tree x.0.items)
+        (placed_tokens bytes.now tokens.now) (placed_tokens bytes.now x.1.now)) }
     ensures shorter { IfOk result (λ x. length x.1.now ≤ length tokens.now) }
-    ensures reads { (more : State) → GoesOn more (M.next levels) → IfOk result (λ x. Reads more more (placed_tokens bytes.now tokens.now) (placed_tokens bytes.now x.1.now)) }
-    ensures halts { (more : State) → GoesOn more (M.next levels) → IfErr result (λ e. HaltsAs more (placed_tokens bytes.now tokens.now) e) }
-    ensures ends { IfOk result (λ x. NextIsNotSign SignKind.Comma (placed_tokens bytes.now x.1.now)) }
+    ensures reads { (more : State) → GoesOn more (M.next levels) →
+        IfOk result (λ x. Reads more more (placed_tokens bytes.now tokens.now)
+        (placed_tokens bytes.now x.1.now)) }
+    ensures halts { (more : State) → GoesOn more (M.next levels) →
+        IfErr result (λ e. HaltsAs more (placed_tokens bytes.now tokens.now) e) }
+    ensures ends { IfOk result (λ x.
+        NextIsNotSign SignKind.Comma (placed_tokens bytes.now x.1.now)) }
 {
     let mut items = Vec::new(alloc);
     let mut before = first;
@@ -107,11 +124,20 @@ pub fn read_list<'a, M: Listed>(
     levels: usize,
     tokens: &'a [Token],
 ) -> Result<(Vec<M::Item>, &'a [Token]), Stop>
-    ensures is { IfOk result (λ x. listed (M.First levels) (M.Later levels) (map M.tree x.0.items) (placed_tokens bytes.now tokens.now) (placed_tokens bytes.now x.1.now)) }
+    ensures is { IfOk result (λ x.
+        listed (M.First levels) (M.Later levels) (map M.tree x.0.items)
+        (placed_tokens bytes.now tokens.now) (placed_tokens bytes.now x.1.now)) }
     ensures shorter { IfOk result (λ x. length x.1.now < length tokens.now) }
-    ensures reads { (more others : State) → GoesOn more (M.next levels) → M.behind levels ++ others ≡ more → M.Begins (placed_tokens bytes.now tokens.now) → IfOk result (λ x. Reads (M.start levels ++ others) more (placed_tokens bytes.now tokens.now) (placed_tokens bytes.now x.1.now)) }
-    ensures halts { (more others : State) → GoesOn more (M.next levels) → M.behind levels ++ others ≡ more → M.Begins (placed_tokens bytes.now tokens.now) → IfErr result (λ e. HaltsAs (M.start levels ++ others) (placed_tokens bytes.now tokens.now) e) }
-    ensures ends { IfOk result (λ x. NextIsNotSign SignKind.Comma (placed_tokens bytes.now x.1.now)) }
+    ensures reads { (more others : State) → GoesOn more (M.next levels) →
+        M.behind levels ++ others ≡ more → M.Begins (placed_tokens bytes.now tokens.now) →
+        IfOk result (λ x. Reads (M.start levels ++ others) more (placed_tokens bytes.now tokens.now)
+        (placed_tokens bytes.now x.1.now)) }
+    ensures halts { (more others : State) → GoesOn more (M.next levels) →
+        M.behind levels ++ others ≡ more → M.Begins (placed_tokens bytes.now tokens.now) →
+        IfErr result (λ e. HaltsAs (M.start levels ++ others)
+        (placed_tokens bytes.now tokens.now) e) }
+    ensures ends { IfOk result (λ x.
+        NextIsNotSign SignKind.Comma (placed_tokens bytes.now x.1.now)) }
 {
     let (first, rest) = M::first(alloc, bytes, levels, tokens)?;
     let (items, rest) = read_list_from::<M>(alloc, bytes, levels, first, rest)?;

@@ -17,7 +17,9 @@ pub fn selected(
     high: Expr,
     low: Option<Expr>,
 ) -> Result<Expr, AllocError>
-    ensures { IfOk result (λ e. expression_tree e ≡ selected_tree name place (expression_tree high) (option_map expression_tree low)) }
+    ensures { IfOk result (λ e.
+        expression_tree e ≡ selected_tree name place (expression_tree high)
+        (option_map expression_tree low)) }
 {
     let high = Box::new(alloc, high)?;
     match low {
@@ -41,7 +43,8 @@ pub fn binary(
     left: Expr,
     right: Expr,
 ) -> Result<Expr, AllocError>
-    ensures { IfOk result (λ e. expression_tree e ≡ tree.binary op place (expression_tree left) (expression_tree right)) }
+    ensures { IfOk result (λ e.
+        expression_tree e ≡ tree.binary op place (expression_tree left) (expression_tree right)) }
 {
     let left = Box::new(alloc, left)?;
     Ok(Expr::Binary(op, place, left, Box::new(alloc, right)?))
@@ -55,7 +58,9 @@ pub fn choice(
     yes: Expr,
     no: Expr,
 ) -> Result<Expr, AllocError>
-    ensures { IfOk result (λ e. expression_tree e ≡ tree.choice place (expression_tree cond) (expression_tree yes) (expression_tree no)) }
+    ensures { IfOk result (λ e.
+        expression_tree e ≡ tree.choice place (expression_tree cond) (expression_tree yes)
+        (expression_tree no)) }
 {
     let cond = Box::new(alloc, cond)?;
     let yes = Box::new(alloc, yes)?;
@@ -69,7 +74,9 @@ pub fn repeat(
     count: Expr,
     parts: Vec<Expr>,
 ) -> Result<Expr, AllocError>
-    ensures { IfOk result (λ e. expression_tree e ≡ tree.replication place (expression_tree count) (parts_of (expression_trees parts.items))) }
+    ensures { IfOk result (λ e.
+        expression_tree e ≡ tree.replication place (expression_tree count)
+        (parts_of (expression_trees parts.items))) }
 {
     Ok(Expr::Repeat(place, Box::new(alloc, count)?, parts))
 }

@@ -1,9 +1,12 @@
 // Operators, as the rows of the operator tables say.
-ghost use Rattle.std.specs.Prelude.{◌≡◌, ◌+◌, ℕ, List, length, true, false, IfSome, IfNone, option_map, option_copied, slice_get};
+ghost use Rattle.std.specs.Prelude.{◌≡◌, ◌+◌, ℕ, List, length, true, false, IfSome, IfNone};
+ghost use Rattle.std.specs.Prelude.{option_map, option_copied, slice_get};
 ghost use Rattle.sv_token.specs.Lexemes.{placed_tokens};
-ghost use Rattle.sv_ast.specs.GrammarForms.{binary_operator, unary_operator, binary_at, unary_at, somewhere};
+ghost use Rattle.sv_ast.specs.GrammarForms.{binary_operator, unary_operator, binary_at, unary_at};
+ghost use Rattle.sv_ast.specs.GrammarForms.{somewhere};
 ghost use Rattle.sv_ast.specs.GrammarGroups.{level_of};
-ghost use Rattle.sv_grammar.specs.Reads.{NextIsNoBinary, NextIsNoUnary, NextIsNotOfLevel, NextIsNoOperator};
+ghost use Rattle.sv_grammar.specs.Reads.{NextIsNoBinary, NextIsNoUnary, NextIsNotOfLevel};
+ghost use Rattle.sv_grammar.specs.Reads.{NextIsNoOperator};
 
 use sv_num::{BINARY, BinOp, BinRow, Place, UNARY, UnOp};
 use sv_token::{Operator, SignKind, Token, TokenKind};
@@ -44,10 +47,13 @@ fn unary_operator(operator: Operator) -> Option<UnOp>
 
 /// The binary operator that comes, its level and its place, and the tokens behind it.
 pub fn binary_at(tokens: &[Token]) -> Option<(BinOp, u8, Place, &[Token])>
-    ensures is { (bytes : List ℕ) → IfSome result (λ x. binary_at x.0 x.2 (placed_tokens bytes tokens.now) (placed_tokens bytes x.3.now)) }
+    ensures is { (bytes : List ℕ) →
+        IfSome result (λ x. binary_at x.0 x.2 (placed_tokens bytes tokens.now)
+        (placed_tokens bytes x.3.now)) }
     ensures level { IfSome result (λ x. x.1 ≡ level_of x.0) }
     ensures one { IfSome result (λ x. length tokens.now ≡ length x.3.now + 1) }
-    ensures none { (bytes : List ℕ) → IfNone result (NextIsNoBinary (placed_tokens bytes tokens.now)) }
+    ensures none { (bytes : List ℕ) →
+        IfNone result (NextIsNoBinary (placed_tokens bytes tokens.now)) }
 {
     match tokens {
         [first, rest @ ..] => match first.kind {
@@ -64,9 +70,12 @@ pub fn binary_at(tokens: &[Token]) -> Option<(BinOp, u8, Place, &[Token])>
 
 /// The unary operator that comes, its place, and the tokens behind it.
 pub fn unary_at(tokens: &[Token]) -> Option<(UnOp, Place, &[Token])>
-    ensures is { (bytes : List ℕ) → IfSome result (λ x. unary_at x.0 x.1 (placed_tokens bytes tokens.now) (placed_tokens bytes x.2.now)) }
+    ensures is { (bytes : List ℕ) →
+        IfSome result (λ x. unary_at x.0 x.1 (placed_tokens bytes tokens.now)
+        (placed_tokens bytes x.2.now)) }
     ensures one { IfSome result (λ x. length tokens.now ≡ length x.2.now + 1) }
-    ensures none { (bytes : List ℕ) → IfNone result (NextIsNoUnary (placed_tokens bytes tokens.now)) }
+    ensures none { (bytes : List ℕ) →
+        IfNone result (NextIsNoUnary (placed_tokens bytes tokens.now)) }
 {
     match tokens {
         [first, rest @ ..] => match first.kind {
@@ -81,10 +90,13 @@ pub fn unary_at(tokens: &[Token]) -> Option<(UnOp, Place, &[Token])>
 
 /// The binary operator of this level that comes, its place, and the tokens behind it.
 pub fn level_at(level: u8, tokens: &[Token]) -> Option<(BinOp, Place, &[Token])>
-    ensures is { (bytes : List ℕ) → IfSome result (λ x. binary_at x.0 x.1 (placed_tokens bytes tokens.now) (placed_tokens bytes x.2.now)) }
+    ensures is { (bytes : List ℕ) →
+        IfSome result (λ x. binary_at x.0 x.1 (placed_tokens bytes tokens.now)
+        (placed_tokens bytes x.2.now)) }
     ensures level { IfSome result (λ x. level_of x.0 ≡ level) }
     ensures one { IfSome result (λ x. length tokens.now ≡ length x.2.now + 1) }
-    ensures none { (bytes : List ℕ) → IfNone result (NextIsNotOfLevel level (placed_tokens bytes tokens.now)) }
+    ensures none { (bytes : List ℕ) →
+        IfNone result (NextIsNotOfLevel level (placed_tokens bytes tokens.now)) }
 {
     let (op, found, place, rest) = binary_at(tokens)?;
     if found == level {
@@ -104,9 +116,12 @@ fn is_same(a: BinOp, b: BinOp) -> bool
 
 /// The tokens behind this binary operator, if it comes.
 pub fn operator_at(op: BinOp, tokens: &[Token]) -> Option<&[Token]>
-    ensures is { (bytes : List ℕ) → IfSome result (λ rest. somewhere (binary_at op) (placed_tokens bytes tokens.now) (placed_tokens bytes rest.now)) }
+    ensures is { (bytes : List ℕ) →
+        IfSome result (λ rest.
+        somewhere (binary_at op) (placed_tokens bytes tokens.now) (placed_tokens bytes rest.now)) }
     ensures one { IfSome result (λ rest. length tokens.now ≡ length rest.now + 1) }
-    ensures none { (bytes : List ℕ) → IfNone result (NextIsNoOperator op (placed_tokens bytes tokens.now)) }
+    ensures none { (bytes : List ℕ) →
+        IfNone result (NextIsNoOperator op (placed_tokens bytes tokens.now)) }
 {
     let (found, _level, _place, rest) = binary_at(tokens)?;
     if is_same(found, op) { Some(rest) } else { None }

@@ -1,4 +1,5 @@
-// Words of the standard whose forms are left out. Their tokens are names, and no name of the grammar is one of them.
+// Words of the standard whose forms are left out. Their tokens are names, and no name of the
+// grammar is one of them.
 ghost use Rattle.std.specs.Prelude.{◌≡◌, map};
 ghost use Rattle.std.specs.List.{list_any};
 ghost use Rattle.std.specs.Str.{bytes_eq};

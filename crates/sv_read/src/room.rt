@@ -1,5 +1,6 @@
 // How much may still be read: levels, tokens of an expression.
-ghost use Rattle.std.specs.Prelude.{◌≡◌, ◌+◌, ◌-◌, ◌<◌, ◌≤◌, ℕ, List, length, [], ◌∷◌, IfOk, IfErr, IfSome, OnOk};
+ghost use Rattle.std.specs.Prelude.{◌≡◌, ◌+◌, ◌-◌, ◌<◌, ◌≤◌, ℕ, List, length, [], ◌∷◌, IfOk, IfErr};
+ghost use Rattle.std.specs.Prelude.{IfSome, OnOk};
 ghost use Rattle.sv_token.specs.Lexemes.{placed_tokens};
 ghost use Rattle.sv_ast.specs.GrammarForms.{a_sign};
 ghost use Rattle.sv_grammar.specs.Symbols.{Inner, inner};
@@ -33,7 +34,8 @@ pub fn deeper(levels: usize, tokens: &[Token]) -> Result<usize, Stop>
     }
 }
 
-/// How many levels are open, and how many tokens at the end of the text the expression cannot reach.
+/// How many levels are open, and how many tokens at the end of the text the expression cannot
+/// reach.
 #[derive(Clone, Copy)]
 pub struct Room {
     pub levels: usize,
@@ -68,7 +70,9 @@ impl Room {
         ensures counted { OnOk result (self.beyond < length tokens.now) }
         ensures stops { IfErr result (λ e. e ≡ Stop.Broken Breach.TooLong (length tokens.now)) }
         ensures long { IfErr result (λ e. length tokens.now ≤ self.beyond) }
-        ensures halts { (bytes : List ℕ) (start : ℕ) (s : Inner) (xs : List Inner) → self.beyond ≡ start - 1024 → NextTakes s 0 xs (placed_tokens bytes tokens.now) → IfErr result (λ e. HaltsAs (inner start s ∷ []) (placed_tokens bytes tokens.now) e) }
+        ensures halts { (bytes : List ℕ) (start : ℕ) (s : Inner) (xs : List Inner) →
+            self.beyond ≡ start - 1024 → NextTakes s 0 xs (placed_tokens bytes tokens.now) →
+            IfErr result (λ e. HaltsAs (inner start s ∷ []) (placed_tokens bytes tokens.now) e) }
     {
         if self.beyond < tokens.len() {
             Ok(())
@@ -77,13 +81,17 @@ impl Room {
         }
     }
 
-    /// The room behind the first token that is left, which belongs to the expression and begins a level.
+    /// The room behind the first token that is left, which belongs to the expression and begins a
+    /// level.
     pub fn opened(self, tokens: &[Token]) -> Result<Room, Stop>
         ensures levels { IfOk result (λ room. room.levels ≡ self.levels + 1) }
         ensures beyond { IfOk result (λ room. room.beyond ≡ self.beyond) }
         ensures within { IfOk result (λ room. room.levels ≤ 64) }
         ensures counted { OnOk result (self.beyond < length tokens.now) }
-        ensures halts { (bytes : List ℕ) (start : ℕ) (s : Inner) (xs : List Inner) → self.beyond ≡ start - 1024 → NextTakes s (self.levels + 1) xs (placed_tokens bytes tokens.now) → IfErr result (λ e. HaltsAs (inner start s ∷ []) (placed_tokens bytes tokens.now) e) }
+        ensures halts { (bytes : List ℕ) (start : ℕ) (s : Inner) (xs : List Inner) →
+            self.beyond ≡ start - 1024 →
+            NextTakes s (self.levels + 1) xs (placed_tokens bytes tokens.now) →
+            IfErr result (λ e. HaltsAs (inner start s ∷ []) (placed_tokens bytes tokens.now) e) }
     {
         let levels = deeper(self.levels, tokens)?;
         self.count(tokens)?;
@@ -95,11 +103,18 @@ impl Room {
 
     /// The tokens behind this punctuation of the expression, which has to come.
     pub fn expect(self, sign: SignKind, tokens: &[Token]) -> Result<&[Token], Stop>
-        ensures is { (bytes : List ℕ) → IfOk result (λ rest. a_sign sign (placed_tokens bytes tokens.now) (placed_tokens bytes rest.now)) }
+        ensures is { (bytes : List ℕ) →
+            IfOk result (λ rest.
+            a_sign sign (placed_tokens bytes tokens.now) (placed_tokens bytes rest.now)) }
         ensures one { IfOk result (λ rest. length tokens.now ≡ length rest.now + 1) }
         ensures counted { IfOk result (λ rest. self.beyond ≤ length rest.now) }
-        ensures reads { (bytes : List ℕ) (start : ℕ) (s : Inner) → self.beyond ≡ start - 1024 → Closes sign s → IfOk result (λ rest. Reads (inner start s ∷ []) [] (placed_tokens bytes tokens.now) (placed_tokens bytes rest.now)) }
-        ensures halts { (bytes : List ℕ) (start : ℕ) (s : Inner) → self.beyond ≡ start - 1024 → Closes sign s → IfErr result (λ e. HaltsAs (inner start s ∷ []) (placed_tokens bytes tokens.now) e) }
+        ensures reads { (bytes : List ℕ) (start : ℕ) (s : Inner) → self.beyond ≡ start - 1024 →
+            Closes sign s → IfOk result (λ rest.
+            Reads (inner start s ∷ []) [] (placed_tokens bytes tokens.now)
+            (placed_tokens bytes rest.now)) }
+        ensures halts { (bytes : List ℕ) (start : ℕ) (s : Inner) → self.beyond ≡ start - 1024 →
+            Closes sign s → IfErr result (λ e.
+            HaltsAs (inner start s ∷ []) (placed_tokens bytes tokens.now) e) }
     {
         let rest = expect_sign(sign, tokens)?;
         self.count(tokens)?;

@@ -36,7 +36,8 @@ pub enum Breach {
 /// Why reading stops.
 #[derive(Clone, Copy, Debug, PartialEq, Eq)]
 pub enum Stop {
-    /// A rule is broken at the first of the tokens that are left, of which there are so many; or at the end, where there are none.
+    /// A rule is broken at the first of the tokens that are left, of which there are so many; or at
+    /// the end, where there are none.
     Broken(Breach, usize),
     /// The allocator gave out no more memory.
     OutOfMemory,

@@ -1,10 +1,11 @@
--- What the private functions say of what they read of an assignment: from the tokens that they are handed to those that they give back
--- stands a form of the grammar.
+-- What the private functions say of what they read of an assignment: from the tokens that they are
+-- handed to those that they give back stands a form of the grammar.
 use Rattle.std.specs.Prelude.{◌≡◌, List, [], ◌∷◌}
 use Rattle.sv_token.specs.declared.keywords.WordKind.TheVariants as words
 use Rattle.sv_token.specs.declared.signs.SignKind.TheVariants as signs
 use Rattle.sv_ast.specs.Tree.{TargetTree, PlacedName, ItemTree, continuous, released}
-use Rattle.sv_ast.specs.GrammarForms.{Form, ◌⨾◌, ◌or◌, given, never, a_word, a_sign, commas, in_parentheses}
+use Rattle.sv_ast.specs.GrammarForms.{Form, ◌⨾◌, ◌or◌, given, never, a_word, a_sign, commas}
+use Rattle.sv_ast.specs.GrammarForms.{in_parentheses}
 use Rattle.sv_ast.specs.GrammarStatements.{BeginAt, only}
 use Rattle.sv_ast.specs.GrammarDeclarations.{IsValue}
 use Rattle.sv_ast.specs.GrammarModules.{IsPlacedName, IsContinuous}
@@ -19,7 +20,8 @@ AssignsTo targets _ = never
 -- what stands behind `$release`
 abbrev pub ReleasesAs : PlacedName → ItemTree → Form
 ReleasesAs target (released t e point) =
-    given (t ≡ target) (in_parentheses (IsValue all_limits e ⨾ a_sign signs.Comma ⨾ IsPlacedName point))
+    given (t ≡ target) (in_parentheses (IsValue all_limits e ⨾ a_sign signs.Comma
+    ⨾ IsPlacedName point))
 ReleasesAs target _ = never
 
 -- a release, behind `assign`

@@ -1,5 +1,6 @@
 // What stands before the statement of an arm (IEEE 1364-2005, clause 9.5).
-ghost use Rattle.std.specs.Prelude.{◌≡◌, ◌+◌, ◌<◌, ◌≤◌, Bool, true, false, ◌||◌, ℕ, List, length, IfOk, IfErr, OnOk, [], ◌∷◌};
+ghost use Rattle.std.specs.Prelude.{◌≡◌, ◌+◌, ◌<◌, ◌≤◌, Bool, true, false, ◌||◌, ℕ, List, length};
+ghost use Rattle.std.specs.Prelude.{IfOk, IfErr, OnOk, [], ◌∷◌};
 ghost use Rattle.sv_token.specs.Lexemes.{placed_tokens};
 ghost use Rattle.sv_token.specs.declared.signs.SignKind.TheVariants as signs;
 ghost use Rattle.sv_token.specs.declared.keywords.WordKind.TheVariants as words;
@@ -31,11 +32,20 @@ fn read_first_item<'a>(
     before: usize,
     tokens: &'a [Token],
 ) -> Result<(Expr, &'a [Token]), Stop>
-    ensures is { IfOk result (λ x. IsExpression all_limits levels (expression_tree x.0) (placed_tokens bytes.now tokens.now) (placed_tokens bytes.now x.1.now)) }
+    ensures is { IfOk result (λ x.
+        IsExpression all_limits levels (expression_tree x.0) (placed_tokens bytes.now tokens.now)
+        (placed_tokens bytes.now x.1.now)) }
     ensures shorter { IfOk result (λ x. length x.1.now < length tokens.now) }
     ensures few { OnOk result (before + 1 ≤ 256) }
-    ensures reads { (default : Bool) → ArmComes before (placed_tokens bytes.now tokens.now) → NextIsNotWord words.Default (placed_tokens bytes.now tokens.now) → IfOk result (λ x. Reads (outer (arms levels before default) ∷ []) (behind_items levels before default) (placed_tokens bytes.now tokens.now) (placed_tokens bytes.now x.1.now)) }
-    ensures halts { (default : Bool) → ArmComes before (placed_tokens bytes.now tokens.now) → NextIsNotWord words.Default (placed_tokens bytes.now tokens.now) → IfErr result (λ e. HaltsAs (outer (arms levels before default) ∷ []) (placed_tokens bytes.now tokens.now) e) }
+    ensures reads { (default : Bool) → ArmComes before (placed_tokens bytes.now tokens.now) →
+        NextIsNotWord words.Default (placed_tokens bytes.now tokens.now) →
+        IfOk result (λ x. Reads (outer (arms levels before default) ∷ [])
+        (behind_items levels before default) (placed_tokens bytes.now tokens.now)
+        (placed_tokens bytes.now x.1.now)) }
+    ensures halts { (default : Bool) → ArmComes before (placed_tokens bytes.now tokens.now) →
+        NextIsNotWord words.Default (placed_tokens bytes.now tokens.now) →
+        IfErr result (λ e. HaltsAs (outer (arms levels before default) ∷ [])
+        (placed_tokens bytes.now tokens.now) e) }
 {
     if before < MOST_ARMS {
         let (item, rest) = read_expression(alloc, bytes, levels, tokens)?;
@@ -53,11 +63,20 @@ fn read_items<'a>(
     before: usize,
     tokens: &'a [Token],
 ) -> Result<(Vec<Expr>, &'a [Token]), Stop>
-    ensures is { IfOk result (λ x. (commas (IsExpression all_limits levels) (expression_trees x.0.items) ⨾ a_sign signs.Colon) (placed_tokens bytes.now tokens.now) (placed_tokens bytes.now x.1.now)) }
+    ensures is { IfOk result (λ x.
+        (commas (IsExpression all_limits levels) (expression_trees x.0.items) ⨾ a_sign signs.Colon)
+        (placed_tokens bytes.now tokens.now) (placed_tokens bytes.now x.1.now)) }
     ensures shorter { IfOk result (λ x. length x.1.now < length tokens.now) }
     ensures few { OnOk result (before + 1 ≤ 256) }
-    ensures reads { (default : Bool) → ArmComes before (placed_tokens bytes.now tokens.now) → NextIsNotWord words.Default (placed_tokens bytes.now tokens.now) → IfOk result (λ x. Reads (outer (arms levels before default) ∷ []) (behind_arm levels before default) (placed_tokens bytes.now tokens.now) (placed_tokens bytes.now x.1.now)) }
-    ensures halts { (default : Bool) → ArmComes before (placed_tokens bytes.now tokens.now) → NextIsNotWord words.Default (placed_tokens bytes.now tokens.now) → IfErr result (λ e. HaltsAs (outer (arms levels before default) ∷ []) (placed_tokens bytes.now tokens.now) e) }
+    ensures reads { (default : Bool) → ArmComes before (placed_tokens bytes.now tokens.now) →
+        NextIsNotWord words.Default (placed_tokens bytes.now tokens.now) →
+        IfOk result (λ x. Reads (outer (arms levels before default) ∷ [])
+        (behind_arm levels before default) (placed_tokens bytes.now tokens.now)
+        (placed_tokens bytes.now x.1.now)) }
+    ensures halts { (default : Bool) → ArmComes before (placed_tokens bytes.now tokens.now) →
+        NextIsNotWord words.Default (placed_tokens bytes.now tokens.now) →
+        IfErr result (λ e. HaltsAs (outer (arms levels before default) ∷ [])
+        (placed_tokens bytes.now tokens.now) e) }
 {
     let (first, rest) = read_first_item(alloc, bytes, levels, before, tokens)?;
     let (items, rest) = read_list_from::<Expressions>(alloc, bytes, levels, first, rest)?;
@@ -73,12 +92,21 @@ fn read_placed_items<'a>(
     before: usize,
     tokens: &'a [Token],
 ) -> Result<(Place, Vec<Expr>, &'a [Token]), Stop>
-    ensures is { IfOk result (λ x. IsArmHead all_limits levels false x.0 (expression_trees x.1.items) (placed_tokens bytes.now tokens.now) (placed_tokens bytes.now x.2.now)) }
+    ensures is { IfOk result (λ x.
+        IsArmHead all_limits levels false x.0 (expression_trees x.1.items)
+        (placed_tokens bytes.now tokens.now) (placed_tokens bytes.now x.2.now)) }
     ensures shorter { IfOk result (λ x. length x.2.now < length tokens.now) }
     ensures few { OnOk result (before + 1 ≤ 256) }
     ensures items { IfOk result (λ x. is_default (expression_trees x.1.items) ≡ false) }
-    ensures reads { (default : Bool) → ArmComes before (placed_tokens bytes.now tokens.now) → NextIsNotWord words.Default (placed_tokens bytes.now tokens.now) → IfOk result (λ x. Reads (outer (arms levels before default) ∷ []) (behind_arm levels before default) (placed_tokens bytes.now tokens.now) (placed_tokens bytes.now x.2.now)) }
-    ensures halts { (default : Bool) → ArmComes before (placed_tokens bytes.now tokens.now) → NextIsNotWord words.Default (placed_tokens bytes.now tokens.now) → IfErr result (λ e. HaltsAs (outer (arms levels before default) ∷ []) (placed_tokens bytes.now tokens.now) e) }
+    ensures reads { (default : Bool) → ArmComes before (placed_tokens bytes.now tokens.now) →
+        NextIsNotWord words.Default (placed_tokens bytes.now tokens.now) →
+        IfOk result (λ x. Reads (outer (arms levels before default) ∷ [])
+        (behind_arm levels before default) (placed_tokens bytes.now tokens.now)
+        (placed_tokens bytes.now x.2.now)) }
+    ensures halts { (default : Bool) → ArmComes before (placed_tokens bytes.now tokens.now) →
+        NextIsNotWord words.Default (placed_tokens bytes.now tokens.now) →
+        IfErr result (λ e. HaltsAs (outer (arms levels before default) ∷ [])
+        (placed_tokens bytes.now tokens.now) e) }
 {
     let [first, ..] = tokens else {
         return Err(unexpected(tokens));
@@ -89,9 +117,13 @@ fn read_placed_items<'a>(
 
 // The tokens behind the `:`, if one comes.
 fn behind_colon(tokens: &[Token]) -> &[Token]
-    ensures is { (bytes : List ℕ) → optional (a_sign signs.Colon) (placed_tokens bytes tokens.now) (placed_tokens bytes result.now) }
+    ensures is { (bytes : List ℕ) →
+        optional (a_sign signs.Colon) (placed_tokens bytes tokens.now)
+        (placed_tokens bytes result.now) }
     ensures shorter { length result.now ≤ length tokens.now }
-    ensures reads { (bytes : List ℕ) → Reads (outer perhaps_colon ∷ []) [] (placed_tokens bytes tokens.now) (placed_tokens bytes result.now) }
+    ensures reads { (bytes : List ℕ) →
+        Reads (outer perhaps_colon ∷ []) [] (placed_tokens bytes tokens.now)
+        (placed_tokens bytes result.now) }
 {
     match behind(SignKind::Colon, tokens) {
         Some(rest) => rest,
@@ -103,7 +135,10 @@ fn behind_colon(tokens: &[Token]) -> &[Token]
 fn allow_default(before: usize, has_default: bool, tokens: &[Token]) -> Result<(), Stop>
     ensures few { OnOk result (before + 1 ≤ 256) }
     ensures first { OnOk result (has_default ≡ false) }
-    ensures halts { (bytes : List ℕ) (n : ℕ) → IsNext words.Default (placed_tokens bytes tokens.now) → IfErr result (λ e. HaltsAs (outer (arms n before has_default) ∷ []) (placed_tokens bytes tokens.now) e) }
+    ensures halts { (bytes : List ℕ) (n : ℕ) →
+        IsNext words.Default (placed_tokens bytes tokens.now) →
+        IfErr result (λ e. HaltsAs (outer (arms n before has_default) ∷ [])
+        (placed_tokens bytes tokens.now) e) }
 {
     if has_default {
         return Err(unexpected(tokens));
@@ -114,7 +149,8 @@ fn allow_default(before: usize, has_default: bool, tokens: &[Token]) -> Result<(
     Ok(())
 }
 
-/// The place of an arm behind so many others and perhaps a default, its items, none of the default, and the tokens of its statement.
+/// The place of an arm behind so many others and perhaps a default, its items, none of the default,
+/// and the tokens of its statement.
 pub fn read_arm_head<'a>(
     alloc: Global,
     bytes: &[u8],
@@ -123,11 +159,18 @@ pub fn read_arm_head<'a>(
     has_default: bool,
     tokens: &'a [Token],
 ) -> Result<(Place, Vec<Expr>, &'a [Token]), Stop>
-    ensures is { IfOk result (λ x. IsArmHead all_limits levels has_default x.0 (expression_trees x.1.items) (placed_tokens bytes.now tokens.now) (placed_tokens bytes.now x.2.now)) }
+    ensures is { IfOk result (λ x.
+        IsArmHead all_limits levels has_default x.0 (expression_trees x.1.items)
+        (placed_tokens bytes.now tokens.now) (placed_tokens bytes.now x.2.now)) }
     ensures shorter { IfOk result (λ x. length x.2.now < length tokens.now) }
     ensures few { OnOk result (before + 1 ≤ 256) }
-    ensures reads { ArmComes before (placed_tokens bytes.now tokens.now) → IfOk result (λ x. Reads (outer (arms levels before has_default) ∷ []) (behind_arm levels before (has_default || is_default (expression_trees x.1.items))) (placed_tokens bytes.now tokens.now) (placed_tokens bytes.now x.2.now)) }
-    ensures halts { ArmComes before (placed_tokens bytes.now tokens.now) → IfErr result (λ e. HaltsAs (outer (arms levels before has_default) ∷ []) (placed_tokens bytes.now tokens.now) e) }
+    ensures reads { ArmComes before (placed_tokens bytes.now tokens.now) →
+        IfOk result (λ x. Reads (outer (arms levels before has_default) ∷ [])
+        (behind_arm levels before (has_default || is_default (expression_trees x.1.items)))
+        (placed_tokens bytes.now tokens.now) (placed_tokens bytes.now x.2.now)) }
+    ensures halts { ArmComes before (placed_tokens bytes.now tokens.now) →
+        IfErr result (λ e. HaltsAs (outer (arms levels before has_default) ∷ [])
+        (placed_tokens bytes.now tokens.now) e) }
 {
     match word_at(WordKind::Default, tokens) {
         Some((place, rest)) => {

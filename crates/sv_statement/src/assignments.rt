@@ -7,12 +7,15 @@ ghost use Rattle.sv_ast.specs.GrammarForms.{◌or◌};
 ghost use Rattle.sv_token.specs.declared.signs.SignKind.TheVariants as signs;
 ghost use Rattle.sv_token.specs.declared.keywords.WordKind.TheVariants as words;
 ghost use Rattle.sv_ast.specs.GrammarStatements.{AreTargets, IsNext, only};
-ghost use Rattle.sv_ast.specs.GrammarModules.{IsWholeTarget, IsContinuous, AreContinuous, IsReleased};
+ghost use Rattle.sv_ast.specs.GrammarModules.{IsWholeTarget, IsContinuous, AreContinuous};
+ghost use Rattle.sv_ast.specs.GrammarModules.{IsReleased};
 ghost use Rattle.sv_ast.specs.GrammarRules.{all_limits};
-ghost use Rattle.sv_grammar.specs.Symbols.{outer, punctuation, plain_name, expression, items, assigned, later_assigned};
+ghost use Rattle.sv_grammar.specs.Symbols.{outer, punctuation, plain_name, expression, items};
+ghost use Rattle.sv_grammar.specs.Symbols.{assigned, later_assigned};
 ghost use Rattle.sv_grammar.specs.Reads.{Reads, NextIsNotSign};
 ghost use Rattle.sv_read.specs.Expectations.{HaltsAs};
-ghost use Rattle.sv_statement.specs.ReadingAssignments.{AssignsTo, ReleasesAs, IsAssignEnd, behind_targets, behind_release};
+ghost use Rattle.sv_statement.specs.ReadingAssignments.{AssignsTo, ReleasesAs, IsAssignEnd};
+ghost use Rattle.sv_statement.specs.ReadingAssignments.{behind_targets, behind_release};
 
 use crate::targets::first_place;
 use std::alloc::Global;
@@ -30,10 +33,15 @@ fn read_whole_target<'a>(
     bytes: &[u8],
     tokens: &'a [Token],
 ) -> Result<(Target, &'a [Token]), Stop>
-    ensures is { IfOk result (λ x. IsWholeTarget (target_tree x.0) (placed_tokens bytes.now tokens.now) (placed_tokens bytes.now x.1.now)) }
+    ensures is { IfOk result (λ x.
+        IsWholeTarget (target_tree x.0) (placed_tokens bytes.now tokens.now)
+        (placed_tokens bytes.now x.1.now)) }
     ensures shorter { IfOk result (λ x. length x.1.now < length tokens.now) }
-    ensures reads { IfOk result (λ x. Reads (outer plain_name ∷ []) [] (placed_tokens bytes.now tokens.now) (placed_tokens bytes.now x.1.now)) }
-    ensures halts { IfErr result (λ e. HaltsAs (outer plain_name ∷ []) (placed_tokens bytes.now tokens.now) e) }
+    ensures reads { IfOk result (λ x.
+        Reads (outer plain_name ∷ []) [] (placed_tokens bytes.now tokens.now)
+        (placed_tokens bytes.now x.1.now)) }
+    ensures halts { IfErr result (λ e.
+        HaltsAs (outer plain_name ∷ []) (placed_tokens bytes.now tokens.now) e) }
 {
     let (name, place, rest) = read_name(alloc, bytes, tokens)?;
     let target = Target {
@@ -92,11 +100,16 @@ fn read_targets<'a>(
     bytes: &[u8],
     tokens: &'a [Token],
 ) -> Result<(Vec<Target>, &'a [Token]), Stop>
-    ensures is { IfOk result (λ x. AreTargets IsWholeTarget (map target_tree x.0.items) (placed_tokens bytes.now tokens.now) (placed_tokens bytes.now x.1.now)) }
+    ensures is { IfOk result (λ x.
+        AreTargets IsWholeTarget (map target_tree x.0.items) (placed_tokens bytes.now tokens.now)
+        (placed_tokens bytes.now x.1.now)) }
     ensures shorter { IfOk result (λ x. length x.1.now < length tokens.now) }
     ensures some { IfOk result (λ x. 0 < length x.0.items) }
-    ensures reads { IfOk result (λ x. Reads (outer later_assigned ∷ []) behind_targets (placed_tokens bytes.now tokens.now) (placed_tokens bytes.now x.1.now)) }
-    ensures halts { IfErr result (λ e. HaltsAs (outer later_assigned ∷ []) (placed_tokens bytes.now tokens.now) e) }
+    ensures reads { IfOk result (λ x.
+        Reads (outer later_assigned ∷ []) behind_targets (placed_tokens bytes.now tokens.now)
+        (placed_tokens bytes.now x.1.now)) }
+    ensures halts { IfErr result (λ e.
+        HaltsAs (outer later_assigned ∷ []) (placed_tokens bytes.now tokens.now) e) }
 {
     if let Some(rest) = behind(SignKind::OpenBrace, tokens) {
         let (targets, rest) = read_list::<WholeTargets>(alloc, bytes, 0, rest)?;
@@ -115,10 +128,15 @@ fn read_valued<'a>(
     tokens: &'a [Token],
 ) -> Result<(Item, &'a [Token]), Stop>
     requires { 0 < length targets.items }
-    ensures is { IfOk result (λ x. AssignsTo (map target_tree targets.items) (item_tree x.0) (placed_tokens bytes.now tokens.now) (placed_tokens bytes.now x.1.now)) }
+    ensures is { IfOk result (λ x.
+        AssignsTo (map target_tree targets.items) (item_tree x.0)
+        (placed_tokens bytes.now tokens.now) (placed_tokens bytes.now x.1.now)) }
     ensures shorter { IfOk result (λ x. length x.1.now < length tokens.now) }
-    ensures reads { IfOk result (λ x. Reads (outer (expression 0) ∷ []) [] (placed_tokens bytes.now tokens.now) (placed_tokens bytes.now x.1.now)) }
-    ensures halts { IfErr result (λ e. HaltsAs (outer (expression 0) ∷ []) (placed_tokens bytes.now tokens.now) e) }
+    ensures reads { IfOk result (λ x.
+        Reads (outer (expression 0) ∷ []) [] (placed_tokens bytes.now tokens.now)
+        (placed_tokens bytes.now x.1.now)) }
+    ensures halts { IfErr result (λ e.
+        HaltsAs (outer (expression 0) ∷ []) (placed_tokens bytes.now tokens.now) e) }
 {
     let place = first_place(&targets);
     let (value, rest) = read_expression(alloc, bytes, 0, tokens)?;
@@ -136,10 +154,15 @@ fn read_assignment<'a>(
     bytes: &[u8],
     tokens: &'a [Token],
 ) -> Result<(Item, &'a [Token]), Stop>
-    ensures is { IfOk result (λ x. IsContinuous all_limits (item_tree x.0) (placed_tokens bytes.now tokens.now) (placed_tokens bytes.now x.1.now)) }
+    ensures is { IfOk result (λ x.
+        IsContinuous all_limits (item_tree x.0) (placed_tokens bytes.now tokens.now)
+        (placed_tokens bytes.now x.1.now)) }
     ensures shorter { IfOk result (λ x. length x.1.now < length tokens.now) }
-    ensures reads { IfOk result (λ x. Reads (outer later_assigned ∷ []) [] (placed_tokens bytes.now tokens.now) (placed_tokens bytes.now x.1.now)) }
-    ensures halts { IfErr result (λ e. HaltsAs (outer later_assigned ∷ []) (placed_tokens bytes.now tokens.now) e) }
+    ensures reads { IfOk result (λ x.
+        Reads (outer later_assigned ∷ []) [] (placed_tokens bytes.now tokens.now)
+        (placed_tokens bytes.now x.1.now)) }
+    ensures halts { IfErr result (λ e.
+        HaltsAs (outer later_assigned ∷ []) (placed_tokens bytes.now tokens.now) e) }
 {
     let (targets, rest) = read_targets(alloc, bytes, tokens)?;
     let rest = expect_sign(SignKind::Equals, rest)?;
@@ -197,10 +220,15 @@ fn read_released<'a>(
     place: Place,
     tokens: &'a [Token],
 ) -> Result<(Item, &'a [Token]), Stop>
-    ensures is { IfOk result (λ x. ReleasesAs (record { name = target; place = place }) (item_tree x.0) (placed_tokens bytes.now tokens.now) (placed_tokens bytes.now x.1.now)) }
+    ensures is { IfOk result (λ x.
+        ReleasesAs (record { name = target; place = place }) (item_tree x.0)
+        (placed_tokens bytes.now tokens.now) (placed_tokens bytes.now x.1.now)) }
     ensures shorter { IfOk result (λ x. length x.1.now < length tokens.now) }
-    ensures reads { IfOk result (λ x. Reads behind_release [] (placed_tokens bytes.now tokens.now) (placed_tokens bytes.now x.1.now)) }
-    ensures halts { IfErr result (λ e. HaltsAs behind_release (placed_tokens bytes.now tokens.now) e) }
+    ensures reads { IfOk result (λ x.
+        Reads behind_release [] (placed_tokens bytes.now tokens.now)
+        (placed_tokens bytes.now x.1.now)) }
+    ensures halts { IfErr result (λ e.
+        HaltsAs behind_release (placed_tokens bytes.now tokens.now) e) }
 {
     let rest = expect_sign(SignKind::OpenParenthesis, tokens)?;
     let (value, rest) = read_expression(alloc, bytes, 0, rest)?;
@@ -223,10 +251,15 @@ fn read_named_first<'a>(
     bytes: &[u8],
     tokens: &'a [Token],
 ) -> Result<(Vec<Item>, &'a [Token]), Stop>
-    ensures is { IfOk result (λ x. IsAssignEnd (map item_tree x.0.items) (placed_tokens bytes.now tokens.now) (placed_tokens bytes.now x.1.now)) }
+    ensures is { IfOk result (λ x.
+        IsAssignEnd (map item_tree x.0.items) (placed_tokens bytes.now tokens.now)
+        (placed_tokens bytes.now x.1.now)) }
     ensures shorter { IfOk result (λ x. length x.1.now < length tokens.now) }
-    ensures reads { NextIsNotSign signs.OpenBrace (placed_tokens bytes.now tokens.now) → IfOk result (λ x. Reads (outer assigned ∷ []) (outer (punctuation signs.Semicolon) ∷ []) (placed_tokens bytes.now tokens.now) (placed_tokens bytes.now x.1.now)) }
-    ensures halts { NextIsNotSign signs.OpenBrace (placed_tokens bytes.now tokens.now) → IfErr result (λ e. HaltsAs (outer assigned ∷ []) (placed_tokens bytes.now tokens.now) e) }
+    ensures reads { NextIsNotSign signs.OpenBrace (placed_tokens bytes.now tokens.now) →
+        IfOk result (λ x. Reads (outer assigned ∷ []) (outer (punctuation signs.Semicolon) ∷ [])
+        (placed_tokens bytes.now tokens.now) (placed_tokens bytes.now x.1.now)) }
+    ensures halts { NextIsNotSign signs.OpenBrace (placed_tokens bytes.now tokens.now) →
+        IfErr result (λ e. HaltsAs (outer assigned ∷ []) (placed_tokens bytes.now tokens.now) e) }
 {
     let (name, place, rest) = read_name(alloc, bytes, tokens)?;
     let rest = expect_sign(SignKind::Equals, rest)?;
@@ -250,10 +283,17 @@ pub fn read_assigned<'a>(
     bytes: &[u8],
     tokens: &'a [Token],
 ) -> Result<(Vec<Item>, &'a [Token]), Stop>
-    ensures is { IfOk result (λ x. (AreContinuous all_limits (map item_tree x.0.items) or only (IsReleased all_limits) (map item_tree x.0.items)) (placed_tokens bytes.now tokens.now) (placed_tokens bytes.now x.1.now)) }
+    ensures is { IfOk result (λ x.
+        (AreContinuous all_limits (map item_tree x.0.items)
+        or only (IsReleased all_limits) (map item_tree x.0.items))
+        (placed_tokens bytes.now tokens.now) (placed_tokens bytes.now x.1.now)) }
     ensures shorter { IfOk result (λ x. length x.1.now < length tokens.now) }
-    ensures reads { IsNext words.Assign (placed_tokens bytes.now tokens.now) → IfOk result (λ x. Reads (outer items ∷ []) (outer (punctuation signs.Semicolon) ∷ outer items ∷ []) (placed_tokens bytes.now tokens.now) (placed_tokens bytes.now x.1.now)) }
-    ensures halts { IsNext words.Assign (placed_tokens bytes.now tokens.now) → IfErr result (λ e. HaltsAs (outer items ∷ []) (placed_tokens bytes.now tokens.now) e) }
+    ensures reads { IsNext words.Assign (placed_tokens bytes.now tokens.now) →
+        IfOk result (λ x. Reads (outer items ∷ [])
+        (outer (punctuation signs.Semicolon) ∷ outer items ∷ [])
+        (placed_tokens bytes.now tokens.now) (placed_tokens bytes.now x.1.now)) }
+    ensures halts { IsNext words.Assign (placed_tokens bytes.now tokens.now) →
+        IfErr result (λ e. HaltsAs (outer items ∷ []) (placed_tokens bytes.now tokens.now) e) }
 {
     let (_place, rest) = expect_word(WordKind::Assign, tokens)?;
     match behind(SignKind::OpenBrace, rest) {

@@ -1,7 +1,7 @@
 //! From tokens to statements, targets and assignments.
 //!
-//! What tokens mean is said in `sv_ast` (`specs/GrammarStatements.antt`), the machine of the grammar in `sv_grammar`, and what each
-//! function that reads promises in `sv_read`.
+//! What tokens mean is said in `sv_ast` (`specs/GrammarStatements.antt`), the machine of the
+//! grammar in `sv_grammar`, and what each function that reads promises in `sv_read`.
 //!
 //! The files in `specs/` say how reading goes; what it means stands in `sv_ast`.
 #![tactic(auto)]

@@ -1,11 +1,14 @@
 // Statements (IEEE 1364-2005, clause 9).
-ghost use Rattle.std.specs.Prelude.{◌≡◌, ◌+◌, ◌<◌, ◌≤◌, ◌||◌, false, ℕ, List, [], ◌∷◌, length, IfOk, IfErr, IfSome, IfNone, OnOk, OnSome};
+ghost use Rattle.std.specs.Prelude.{◌≡◌, ◌+◌, ◌<◌, ◌≤◌, ◌||◌, false, ℕ, List, [], ◌∷◌, length};
+ghost use Rattle.std.specs.Prelude.{IfOk, IfErr, IfSome, IfNone, OnOk, OnSome};
 ghost use Rattle.sv_token.specs.Lexemes.{placed_tokens};
 ghost use Rattle.sv_token.specs.declared.keywords.WordKind.TheVariants as words;
 ghost use Rattle.sv_ast.specs.Tree as tree;
-ghost use Rattle.sv_ast.specs.Views.{expression_tree, expression_trees, statement_tree, statement_trees, statements_of, arm_tree, arm_trees, arms_of};
+ghost use Rattle.sv_ast.specs.Views.{expression_tree, expression_trees, statement_tree};
+ghost use Rattle.sv_ast.specs.Views.{statement_trees, statements_of, arm_tree, arm_trees, arms_of};
 ghost use Rattle.sv_ast.specs.GrammarForms.{◌⨾◌, a_word, optional};
-ghost use Rattle.sv_ast.specs.GrammarStatements.{assigns, block_name, IsNext, IsArmHead, is_default, IsStatement, AreStatements, AreArms};
+ghost use Rattle.sv_ast.specs.GrammarStatements.{assigns, block_name, IsNext, IsArmHead};
+ghost use Rattle.sv_ast.specs.GrammarStatements.{is_default, IsStatement, AreStatements, AreArms};
 ghost use Rattle.sv_ast.specs.GrammarRules.{all_limits};
 ghost use Rattle.sv_token.specs.declared.signs.SignKind.TheVariants as signs;
 ghost use Rattle.sv_grammar.specs.Symbols as symbol;
@@ -30,10 +33,15 @@ use sv_token::{SignKind, Token, TokenKind, WordKind};
 
 // Whether an assignment is blocking, and the tokens behind its `=` or `<=`.
 fn assigns(tokens: &[Token]) -> Result<(bool, &[Token]), Stop>
-    ensures is { (bytes : List ℕ) → IfOk result (λ x. assigns x.0 (placed_tokens bytes tokens.now) (placed_tokens bytes x.1.now)) }
+    ensures is { (bytes : List ℕ) →
+        IfOk result (λ x. assigns x.0 (placed_tokens bytes tokens.now)
+        (placed_tokens bytes x.1.now)) }
     ensures shorter { IfOk result (λ x. length x.1.now < length tokens.now) }
-    ensures reads { (bytes : List ℕ) → IfOk result (λ x. Reads (outer symbol.assigns ∷ []) [] (placed_tokens bytes tokens.now) (placed_tokens bytes x.1.now)) }
-    ensures halts { (bytes : List ℕ) → IfErr result (λ e. HaltsAs (outer symbol.assigns ∷ []) (placed_tokens bytes tokens.now) e) }
+    ensures reads { (bytes : List ℕ) →
+        IfOk result (λ x. Reads (outer symbol.assigns ∷ []) [] (placed_tokens bytes tokens.now)
+        (placed_tokens bytes x.1.now)) }
+    ensures halts { (bytes : List ℕ) →
+        IfErr result (λ e. HaltsAs (outer symbol.assigns ∷ []) (placed_tokens bytes tokens.now) e) }
 {
     if let Some(rest) = behind(SignKind::Equals, tokens) {
         return Ok((true, rest));
@@ -51,10 +59,16 @@ fn read_assignment<'a>(
     levels: usize,
     tokens: &'a [Token],
 ) -> Result<(Stmt, &'a [Token]), Stop>
-    ensures is { IfOk result (λ x. IsStatement all_limits levels (statement_tree x.0) (placed_tokens bytes.now tokens.now) (placed_tokens bytes.now x.1.now)) }
+    ensures is { IfOk result (λ x.
+        IsStatement all_limits levels (statement_tree x.0) (placed_tokens bytes.now tokens.now)
+        (placed_tokens bytes.now x.1.now)) }
     ensures shorter { IfOk result (λ x. length x.1.now < length tokens.now) }
-    ensures reads { NextIsTarget (placed_tokens bytes.now tokens.now) → IfOk result (λ x. Reads (outer (statement levels) ∷ []) [] (placed_tokens bytes.now tokens.now) (placed_tokens bytes.now x.1.now)) }
-    ensures halts { NextIsTarget (placed_tokens bytes.now tokens.now) → IfErr result (λ e. HaltsAs (outer (statement levels) ∷ []) (placed_tokens bytes.now tokens.now) e) }
+    ensures reads { NextIsTarget (placed_tokens bytes.now tokens.now) →
+        IfOk result (λ x. Reads (outer (statement levels) ∷ []) []
+        (placed_tokens bytes.now tokens.now) (placed_tokens bytes.now x.1.now)) }
+    ensures halts { NextIsTarget (placed_tokens bytes.now tokens.now) →
+        IfErr result (λ e. HaltsAs (outer (statement levels) ∷ [])
+        (placed_tokens bytes.now tokens.now) e) }
 {
     let (targets, rest) = read_targets(alloc, bytes, levels, tokens)?;
     let place = first_place(&targets);
@@ -76,10 +90,14 @@ fn behind_block_name<'a>(
     bytes: &[u8],
     tokens: &'a [Token],
 ) -> Result<&'a [Token], Stop>
-    ensures is { IfOk result (λ x. optional block_name (placed_tokens bytes.now tokens.now) (placed_tokens bytes.now x.now)) }
+    ensures is { IfOk result (λ x.
+        optional block_name (placed_tokens bytes.now tokens.now) (placed_tokens bytes.now x.now)) }
     ensures shorter { IfOk result (λ x. length x.now ≤ length tokens.now) }
-    ensures reads { IfOk result (λ x. Reads (outer symbol.perhaps_block_name ∷ []) [] (placed_tokens bytes.now tokens.now) (placed_tokens bytes.now x.now)) }
-    ensures halts { IfErr result (λ e. HaltsAs (outer symbol.perhaps_block_name ∷ []) (placed_tokens bytes.now tokens.now) e) }
+    ensures reads { IfOk result (λ x.
+        Reads (outer symbol.perhaps_block_name ∷ []) [] (placed_tokens bytes.now tokens.now)
+        (placed_tokens bytes.now x.now)) }
+    ensures halts { IfErr result (λ e.
+        HaltsAs (outer symbol.perhaps_block_name ∷ []) (placed_tokens bytes.now tokens.now) e) }
 {
     match behind(SignKind::Colon, tokens) {
         Some(rest) => {
@@ -92,7 +110,8 @@ fn behind_block_name<'a>(
 
 // An `if` without `else`.
 fn if_only(alloc: Global, place: Place, cond: Expr, yes: Stmt) -> Result<Stmt, AllocError>
-    ensures { IfOk result (λ s. statement_tree s ≡ tree.if_only place (expression_tree cond) (statement_tree yes)) }
+    ensures { IfOk result (λ s.
+        statement_tree s ≡ tree.if_only place (expression_tree cond) (statement_tree yes)) }
 {
     Ok(Stmt::If {
         place,
@@ -104,7 +123,9 @@ fn if_only(alloc: Global, place: Place, cond: Expr, yes: Stmt) -> Result<Stmt, A
 
 // An `if` with `else`.
 fn if_else(alloc: Global, place: Place, cond: Expr, yes: Stmt, no: Stmt) -> Result<Stmt, AllocError>
-    ensures { IfOk result (λ s. statement_tree s ≡ tree.if_else place (expression_tree cond) (statement_tree yes) (statement_tree no)) }
+    ensures { IfOk result (λ s.
+        statement_tree s ≡ tree.if_else place (expression_tree cond) (statement_tree yes)
+        (statement_tree no)) }
 {
     let yes = Box::new(alloc, yes)?;
     Ok(Stmt::If {
@@ -117,10 +138,13 @@ fn if_else(alloc: Global, place: Place, cond: Expr, yes: Stmt, no: Stmt) -> Resu
 
 // The tokens behind the `endcase`, if it comes behind at least one arm.
 fn behind_arms(before: usize, tokens: &[Token]) -> Option<&[Token]>
-    ensures is { (bytes : List ℕ) → IfSome result (λ rest. a_word words.Endcase (placed_tokens bytes tokens.now) (placed_tokens bytes rest.now)) }
+    ensures is { (bytes : List ℕ) →
+        IfSome result (λ rest.
+        a_word words.Endcase (placed_tokens bytes tokens.now) (placed_tokens bytes rest.now)) }
     ensures some { OnSome result (0 < before) }
     ensures one { IfSome result (λ rest. length tokens.now ≡ length rest.now + 1) }
-    ensures none { (bytes : List ℕ) → IfNone result (ArmComes before (placed_tokens bytes tokens.now)) }
+    ensures none { (bytes : List ℕ) →
+        IfNone result (ArmComes before (placed_tokens bytes tokens.now)) }
 {
     if before == 0 {
         return None;
@@ -143,10 +167,15 @@ pub fn read_statement<'a>(
     levels: usize,
     tokens: &'a [Token],
 ) -> Result<(Stmt, &'a [Token]), Stop>
-    ensures is { IfOk result (λ x. IsStatement all_limits levels (statement_tree x.0) (placed_tokens bytes.now tokens.now) (placed_tokens bytes.now x.1.now)) }
+    ensures is { IfOk result (λ x.
+        IsStatement all_limits levels (statement_tree x.0) (placed_tokens bytes.now tokens.now)
+        (placed_tokens bytes.now x.1.now)) }
     ensures shorter { IfOk result (λ x. length x.1.now < length tokens.now) }
-    ensures reads { IfOk result (λ x. Reads (outer (statement levels) ∷ []) [] (placed_tokens bytes.now tokens.now) (placed_tokens bytes.now x.1.now)) }
-    ensures halts { IfErr result (λ e. HaltsAs (outer (statement levels) ∷ []) (placed_tokens bytes.now tokens.now) e) }
+    ensures reads { IfOk result (λ x.
+        Reads (outer (statement levels) ∷ []) [] (placed_tokens bytes.now tokens.now)
+        (placed_tokens bytes.now x.1.now)) }
+    ensures halts { IfErr result (λ e.
+        HaltsAs (outer (statement levels) ∷ []) (placed_tokens bytes.now tokens.now) e) }
 {
     let [first, ..] = tokens else {
         return Err(stuck(Expected::Statement, tokens));
@@ -165,10 +194,16 @@ pub fn read_statement<'a>(
 
 // `;`
 fn read_null(tokens: &[Token]) -> Result<(Stmt, &[Token]), Stop>
-    ensures is { (bytes : List ℕ) (n : ℕ) → IfOk result (λ x. IsStatement all_limits n (statement_tree x.0) (placed_tokens bytes tokens.now) (placed_tokens bytes x.1.now)) }
+    ensures is { (bytes : List ℕ) (n : ℕ) →
+        IfOk result (λ x. IsStatement all_limits n (statement_tree x.0)
+        (placed_tokens bytes tokens.now) (placed_tokens bytes x.1.now)) }
     ensures shorter { IfOk result (λ x. length x.1.now < length tokens.now) }
-    ensures reads { (bytes : List ℕ) (n : ℕ) → IfOk result (λ x. Reads (outer (statement n) ∷ []) [] (placed_tokens bytes tokens.now) (placed_tokens bytes x.1.now)) }
-    ensures halts { (bytes : List ℕ) (n : ℕ) → NextIsSign signs.Semicolon (placed_tokens bytes tokens.now) → IfErr result (λ e. HaltsAs (outer (statement n) ∷ []) (placed_tokens bytes tokens.now) e) }
+    ensures reads { (bytes : List ℕ) (n : ℕ) →
+        IfOk result (λ x. Reads (outer (statement n) ∷ []) [] (placed_tokens bytes tokens.now)
+        (placed_tokens bytes x.1.now)) }
+    ensures halts { (bytes : List ℕ) (n : ℕ) →
+        NextIsSign signs.Semicolon (placed_tokens bytes tokens.now) →
+        IfErr result (λ e. HaltsAs (outer (statement n) ∷ []) (placed_tokens bytes tokens.now) e) }
 {
     let rest = expect_sign(SignKind::Semicolon, tokens)?;
     Ok((Stmt::Null, rest))
@@ -182,10 +217,16 @@ fn read_block<'a>(
     levels: usize,
     tokens: &'a [Token],
 ) -> Result<(Stmt, &'a [Token]), Stop>
-    ensures is { IfOk result (λ x. IsStatement all_limits levels (statement_tree x.0) (placed_tokens bytes.now tokens.now) (placed_tokens bytes.now x.1.now)) }
+    ensures is { IfOk result (λ x.
+        IsStatement all_limits levels (statement_tree x.0) (placed_tokens bytes.now tokens.now)
+        (placed_tokens bytes.now x.1.now)) }
     ensures shorter { IfOk result (λ x. length x.1.now < length tokens.now) }
-    ensures reads { IfOk result (λ x. Reads (outer (statement levels) ∷ []) [] (placed_tokens bytes.now tokens.now) (placed_tokens bytes.now x.1.now)) }
-    ensures halts { IsNext words.Begin (placed_tokens bytes.now tokens.now) → IfErr result (λ e. HaltsAs (outer (statement levels) ∷ []) (placed_tokens bytes.now tokens.now) e) }
+    ensures reads { IfOk result (λ x.
+        Reads (outer (statement levels) ∷ []) [] (placed_tokens bytes.now tokens.now)
+        (placed_tokens bytes.now x.1.now)) }
+    ensures halts { IsNext words.Begin (placed_tokens bytes.now tokens.now) →
+        IfErr result (λ e. HaltsAs (outer (statement levels) ∷ [])
+        (placed_tokens bytes.now tokens.now) e) }
 {
     let (_place, rest) = expect_word(WordKind::Begin, tokens)?;
     let inside = deeper(levels, tokens)?;
@@ -202,10 +243,16 @@ fn read_statements<'a>(
     levels: usize,
     tokens: &'a [Token],
 ) -> Result<(Vec<Stmt>, &'a [Token]), Stop>
-    ensures is { IfOk result (λ x. (AreStatements all_limits levels (statements_of (statement_trees x.0.items)) ⨾ a_word words.End) (placed_tokens bytes.now tokens.now) (placed_tokens bytes.now x.1.now)) }
+    ensures is { IfOk result (λ x.
+        (AreStatements all_limits levels (statements_of (statement_trees x.0.items))
+        ⨾ a_word words.End) (placed_tokens bytes.now tokens.now)
+        (placed_tokens bytes.now x.1.now)) }
     ensures shorter { IfOk result (λ x. length x.1.now < length tokens.now) }
-    ensures reads { IfOk result (λ x. Reads (outer (symbol.statements levels) ∷ []) [] (placed_tokens bytes.now tokens.now) (placed_tokens bytes.now x.1.now)) }
-    ensures halts { IfErr result (λ e. HaltsAs (outer (symbol.statements levels) ∷ []) (placed_tokens bytes.now tokens.now) e) }
+    ensures reads { IfOk result (λ x.
+        Reads (outer (symbol.statements levels) ∷ []) [] (placed_tokens bytes.now tokens.now)
+        (placed_tokens bytes.now x.1.now)) }
+    ensures halts { IfErr result (λ e.
+        HaltsAs (outer (symbol.statements levels) ∷ []) (placed_tokens bytes.now tokens.now) e) }
 {
     let mut stmts = Vec::new(alloc);
     let mut rest = tokens;
@@ -227,10 +274,16 @@ fn read_conditional<'a>(
     levels: usize,
     tokens: &'a [Token],
 ) -> Result<(Stmt, &'a [Token]), Stop>
-    ensures is { IfOk result (λ x. IsStatement all_limits levels (statement_tree x.0) (placed_tokens bytes.now tokens.now) (placed_tokens bytes.now x.1.now)) }
+    ensures is { IfOk result (λ x.
+        IsStatement all_limits levels (statement_tree x.0) (placed_tokens bytes.now tokens.now)
+        (placed_tokens bytes.now x.1.now)) }
     ensures shorter { IfOk result (λ x. length x.1.now < length tokens.now) }
-    ensures reads { IfOk result (λ x. Reads (outer (statement levels) ∷ []) [] (placed_tokens bytes.now tokens.now) (placed_tokens bytes.now x.1.now)) }
-    ensures halts { IsNext words.If (placed_tokens bytes.now tokens.now) → IfErr result (λ e. HaltsAs (outer (statement levels) ∷ []) (placed_tokens bytes.now tokens.now) e) }
+    ensures reads { IfOk result (λ x.
+        Reads (outer (statement levels) ∷ []) [] (placed_tokens bytes.now tokens.now)
+        (placed_tokens bytes.now x.1.now)) }
+    ensures halts { IsNext words.If (placed_tokens bytes.now tokens.now) →
+        IfErr result (λ e. HaltsAs (outer (statement levels) ∷ [])
+        (placed_tokens bytes.now tokens.now) e) }
 {
     let (place, rest) = expect_word(WordKind::If, tokens)?;
     let inside = deeper(levels, tokens)?;
@@ -251,10 +304,16 @@ fn read_case<'a>(
     levels: usize,
     tokens: &'a [Token],
 ) -> Result<(Stmt, &'a [Token]), Stop>
-    ensures is { IfOk result (λ x. IsStatement all_limits levels (statement_tree x.0) (placed_tokens bytes.now tokens.now) (placed_tokens bytes.now x.1.now)) }
+    ensures is { IfOk result (λ x.
+        IsStatement all_limits levels (statement_tree x.0) (placed_tokens bytes.now tokens.now)
+        (placed_tokens bytes.now x.1.now)) }
     ensures shorter { IfOk result (λ x. length x.1.now < length tokens.now) }
-    ensures reads { IfOk result (λ x. Reads (outer (statement levels) ∷ []) [] (placed_tokens bytes.now tokens.now) (placed_tokens bytes.now x.1.now)) }
-    ensures halts { IsNext words.Case (placed_tokens bytes.now tokens.now) → IfErr result (λ e. HaltsAs (outer (statement levels) ∷ []) (placed_tokens bytes.now tokens.now) e) }
+    ensures reads { IfOk result (λ x.
+        Reads (outer (statement levels) ∷ []) [] (placed_tokens bytes.now tokens.now)
+        (placed_tokens bytes.now x.1.now)) }
+    ensures halts { IsNext words.Case (placed_tokens bytes.now tokens.now) →
+        IfErr result (λ e. HaltsAs (outer (statement levels) ∷ [])
+        (placed_tokens bytes.now tokens.now) e) }
 {
     let (place, rest) = expect_word(WordKind::Case, tokens)?;
     let inside = deeper(levels, tokens)?;
@@ -276,10 +335,15 @@ fn read_arms<'a>(
     levels: usize,
     tokens: &'a [Token],
 ) -> Result<(Vec<Arm>, &'a [Token]), Stop>
-    ensures is { IfOk result (λ x. (AreArms all_limits levels 0 false (arms_of (arm_trees x.0.items)) ⨾ a_word words.Endcase) (placed_tokens bytes.now tokens.now) (placed_tokens bytes.now x.1.now)) }
+    ensures is { IfOk result (λ x.
+        (AreArms all_limits levels 0 false (arms_of (arm_trees x.0.items)) ⨾ a_word words.Endcase)
+        (placed_tokens bytes.now tokens.now) (placed_tokens bytes.now x.1.now)) }
     ensures shorter { IfOk result (λ x. length x.1.now < length tokens.now) }
-    ensures reads { IfOk result (λ x. Reads (outer (symbol.arms levels 0 false) ∷ []) [] (placed_tokens bytes.now tokens.now) (placed_tokens bytes.now x.1.now)) }
-    ensures halts { IfErr result (λ e. HaltsAs (outer (symbol.arms levels 0 false) ∷ []) (placed_tokens bytes.now tokens.now) e) }
+    ensures reads { IfOk result (λ x.
+        Reads (outer (symbol.arms levels 0 false) ∷ []) [] (placed_tokens bytes.now tokens.now)
+        (placed_tokens bytes.now x.1.now)) }
+    ensures halts { IfErr result (λ e.
+        HaltsAs (outer (symbol.arms levels 0 false) ∷ []) (placed_tokens bytes.now tokens.now) e) }
 {
     let mut arms = Vec::new(alloc);
     let mut has_default = false;
@@ -306,11 +370,20 @@ fn read_arm<'a>(
     has_default: bool,
     tokens: &'a [Token],
 ) -> Result<(Arm, &'a [Token]), Stop>
-    ensures is { IfOk result (λ x. (IsArmHead all_limits levels has_default (arm_tree x.0).place (arm_tree x.0).items ⨾ IsStatement all_limits levels (arm_tree x.0).body) (placed_tokens bytes.now tokens.now) (placed_tokens bytes.now x.1.now)) }
+    ensures is { IfOk result (λ x.
+        (IsArmHead all_limits levels has_default (arm_tree x.0).place (arm_tree x.0).items
+        ⨾ IsStatement all_limits levels (arm_tree x.0).body) (placed_tokens bytes.now tokens.now)
+        (placed_tokens bytes.now x.1.now)) }
     ensures shorter { IfOk result (λ x. length x.1.now < length tokens.now) }
     ensures few { OnOk result (before + 1 ≤ 256) }
-    ensures reads { ArmComes before (placed_tokens bytes.now tokens.now) → IfOk result (λ x. Reads (outer (symbol.arms levels before has_default) ∷ []) (outer (symbol.arms levels (before + 1) (has_default || is_default (arm_tree x.0).items)) ∷ []) (placed_tokens bytes.now tokens.now) (placed_tokens bytes.now x.1.now)) }
-    ensures halts { ArmComes before (placed_tokens bytes.now tokens.now) → IfErr result (λ e. HaltsAs (outer (symbol.arms levels before has_default) ∷ []) (placed_tokens bytes.now tokens.now) e) }
+    ensures reads { ArmComes before (placed_tokens bytes.now tokens.now) →
+        IfOk result (λ x. Reads (outer (symbol.arms levels before has_default) ∷ [])
+        (outer (symbol.arms levels (before + 1) (has_default
+        || is_default (arm_tree x.0).items)) ∷ []) (placed_tokens bytes.now tokens.now)
+        (placed_tokens bytes.now x.1.now)) }
+    ensures halts { ArmComes before (placed_tokens bytes.now tokens.now) →
+        IfErr result (λ e. HaltsAs (outer (symbol.arms levels before has_default) ∷ [])
+        (placed_tokens bytes.now tokens.now) e) }
 {
     let (place, items, rest) = read_arm_head(alloc, bytes, levels, before, has_default, tokens)?;
     let (body, rest) = read_statement(alloc, bytes, levels, rest)?;

@@ -27,10 +27,15 @@ fn read_select<'a>(
     levels: usize,
     tokens: &'a [Token],
 ) -> Result<(Select, &'a [Token]), Stop>
-    ensures is { IfOk result (λ x. IsSelection all_limits levels (selection_of x.0) (placed_tokens bytes.now tokens.now) (placed_tokens bytes.now x.1.now)) }
+    ensures is { IfOk result (λ x.
+        IsSelection all_limits levels (selection_of x.0) (placed_tokens bytes.now tokens.now)
+        (placed_tokens bytes.now x.1.now)) }
     ensures shorter { IfOk result (λ x. length x.1.now ≤ length tokens.now) }
-    ensures reads { IfOk result (λ x. Reads (outer (perhaps_bits levels) ∷ []) [] (placed_tokens bytes.now tokens.now) (placed_tokens bytes.now x.1.now)) }
-    ensures halts { IfErr result (λ e. HaltsAs (outer (perhaps_bits levels) ∷ []) (placed_tokens bytes.now tokens.now) e) }
+    ensures reads { IfOk result (λ x.
+        Reads (outer (perhaps_bits levels) ∷ []) [] (placed_tokens bytes.now tokens.now)
+        (placed_tokens bytes.now x.1.now)) }
+    ensures halts { IfErr result (λ e.
+        HaltsAs (outer (perhaps_bits levels) ∷ []) (placed_tokens bytes.now tokens.now) e) }
 {
     let Some(rest) = behind(SignKind::OpenBracket, tokens) else {
         return Ok((Select::Whole, tokens));
@@ -52,10 +57,16 @@ fn read_target<'a>(
     levels: usize,
     tokens: &'a [Token],
 ) -> Result<(Target, &'a [Token]), Stop>
-    ensures is { IfOk result (λ x. IsTarget all_limits levels (target_tree x.0) (placed_tokens bytes.now tokens.now) (placed_tokens bytes.now x.1.now)) }
+    ensures is { IfOk result (λ x.
+        IsTarget all_limits levels (target_tree x.0) (placed_tokens bytes.now tokens.now)
+        (placed_tokens bytes.now x.1.now)) }
     ensures shorter { IfOk result (λ x. length x.1.now < length tokens.now) }
-    ensures reads { IfOk result (λ x. Reads (outer plain_name ∷ outer (perhaps_bits levels) ∷ []) [] (placed_tokens bytes.now tokens.now) (placed_tokens bytes.now x.1.now)) }
-    ensures halts { IfErr result (λ e. HaltsAs (outer plain_name ∷ outer (perhaps_bits levels) ∷ []) (placed_tokens bytes.now tokens.now) e) }
+    ensures reads { IfOk result (λ x.
+        Reads (outer plain_name ∷ outer (perhaps_bits levels) ∷ []) []
+        (placed_tokens bytes.now tokens.now) (placed_tokens bytes.now x.1.now)) }
+    ensures halts { IfErr result (λ e.
+        HaltsAs (outer plain_name ∷ outer (perhaps_bits levels) ∷ [])
+        (placed_tokens bytes.now tokens.now) e) }
 {
     let (name, place, rest) = read_name(alloc, bytes, tokens)?;
     let (select, rest) = read_select(alloc, bytes, levels, rest)?;
@@ -116,11 +127,18 @@ pub fn read_targets<'a>(
     levels: usize,
     tokens: &'a [Token],
 ) -> Result<(Vec<Target>, &'a [Token]), Stop>
-    ensures is { IfOk result (λ x. AreTargets (IsTarget all_limits levels) (map target_tree x.0.items) (placed_tokens bytes.now tokens.now) (placed_tokens bytes.now x.1.now)) }
+    ensures is { IfOk result (λ x.
+        AreTargets (IsTarget all_limits levels) (map target_tree x.0.items)
+        (placed_tokens bytes.now tokens.now) (placed_tokens bytes.now x.1.now)) }
     ensures shorter { IfOk result (λ x. length x.1.now < length tokens.now) }
     ensures some { IfOk result (λ x. 0 < length x.0.items) }
-    ensures reads { NextIsTarget (placed_tokens bytes.now tokens.now) → IfOk result (λ x. Reads (outer (statement levels) ∷ []) (outside_on (assignment_behind levels)) (placed_tokens bytes.now tokens.now) (placed_tokens bytes.now x.1.now)) }
-    ensures halts { NextIsTarget (placed_tokens bytes.now tokens.now) → IfErr result (λ e. HaltsAs (outer (statement levels) ∷ []) (placed_tokens bytes.now tokens.now) e) }
+    ensures reads { NextIsTarget (placed_tokens bytes.now tokens.now) →
+        IfOk result (λ x. Reads (outer (statement levels) ∷ [])
+        (outside_on (assignment_behind levels)) (placed_tokens bytes.now tokens.now)
+        (placed_tokens bytes.now x.1.now)) }
+    ensures halts { NextIsTarget (placed_tokens bytes.now tokens.now) →
+        IfErr result (λ e. HaltsAs (outer (statement levels) ∷ [])
+        (placed_tokens bytes.now tokens.now) e) }
 {
     if let Some(rest) = behind(SignKind::OpenBrace, tokens) {
         let (targets, rest) = read_list::<Targets>(alloc, bytes, levels, rest)?;

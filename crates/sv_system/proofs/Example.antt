@@ -1,5 +1,7 @@
--- A system that has all the facts: the label of an input and of its copy hangs on another input, and a register keeps the copy.
-use Rattle.std.proofs.Common.{◌≡◌, ℕ, ◌<◌, ◌^◌, Bool, true, false, eqb, List, [], ◌∷◌, refl, sym, ap, subst, ◌∙◌, ⊎_elim, arith}
+-- A system that has all the facts: the label of an input and of its copy hangs on another input,
+-- and a register keeps the copy.
+use Rattle.std.proofs.Common.{◌≡◌, ℕ, ◌<◌, ◌^◌, Bool, true, false, eqb, List, [], ◌∷◌, refl, sym}
+use Rattle.std.proofs.Common.{ap, subst, ◌∙◌, ⊎_elim, arith}
 use Rattle.std.specs.Prelude.{Contains, IsTrue}
 use Rattle.std.specs.List.{IsDistinct}
 use Rattle.std.proofs.lemmas.Bool.{true≢false, false≢true}
@@ -108,12 +110,27 @@ register_is kept r = refl
 
 one_target : OneTarget example same (copying ∷ [])
 one_target = record {
-  driver_of = λ process listed. (copying, Contains-head copying [], λ e s. ap (λ (p : (Wire → ℕ) → (Wire → ℕ)). p e s) (sym (only (λ (at : Wire → ℕ). put same copy (at secret) at) process listed)));
-  process_of = λ d among. (λ (e : Wire → ℕ). put same copy (e secret) e, Contains-head _ [], λ e s. ap (λ (b : Driver Wire). put same b.target (b.value e) e s) (only copying d among));
+  driver_of =
+      λ process listed. (
+        copying,
+        Contains-head copying [],
+        λ e s.
+            ap (λ (p : (Wire → ℕ) → (Wire → ℕ)).
+            p e s) (sym (only (λ (at : Wire → ℕ). put same copy (at secret) at) process listed)),
+      );
+  process_of =
+      λ d among. (
+        λ (e : Wire → ℕ). put same copy (e secret) e,
+        Contains-head _ [],
+        λ e s.
+            ap (λ (b : Driver Wire). put same b.target (b.value e) e s) (only copying d among),
+      );
 }
 
 copied : (e : Environment Wire) → IsStill example e → e copy ≡ e secret
-copied e still = one_still_targets example same same_is is_same (copying ∷ []) one_target e still copying (Contains-head copying [])
+copied e still =
+    one_still_targets example same same_is is_same (copying ∷ []) one_target e still copying
+    (Contains-head copying [])
 
 abbrev uses : Environment Wire → Wire → List Wire
 uses e mode = []
@@ -146,19 +163,23 @@ flows_on false b c first second = refl
 flows_on true true c first second = second
 flows_on true false c first second = absurd (false≢true first)
 
-selected : (e f : Environment Wire) (s : Wire) → ((t : Wire) → Contains (selectors s) t → e t ≡ f t) → label s e ≡ label s f
+selected : (e f : Environment Wire) (s : Wire) →
+    ((t : Wire) → Contains (selectors s) t → e t ≡ f t) → label s e ≡ label s f
 selected e f mode agree = refl
 selected e f secret agree = ap (λ n. eqb n 1) (agree mode (Contains-head mode []))
 selected e f copy agree = ap (λ n. eqb n 1) (agree mode (Contains-head mode []))
 selected e f kept agree = refl
 
-selecting : (e : Environment Wire) (s t : Wire) → Contains (selectors s) t → IsTrue (flows (label t e) (label s e))
+selecting : (e : Environment Wire) (s t : Wire) → Contains (selectors s) t →
+    IsTrue (flows (label t e) (label s e))
 selecting e mode t at = absurd (Contains-nil t at)
-selecting e secret t at = subst (λ r. IsTrue (flows (label r e) (label secret e))) (only mode t at) refl
+selecting e secret t at =
+    subst (λ r. IsTrue (flows (label r e) (label secret e))) (only mode t at) refl
 selecting e copy t at = subst (λ r. IsTrue (flows (label r e) (label copy e))) (only mode t at) refl
 selecting e kept t at = absurd (Contains-nil t at)
 
-lower : (e : Environment Wire) (s t : Wire) → IsCombinational example s → Contains (uses e s) t → IsCombinational example t → depth t < depth s
+lower : (e : Environment Wire) (s t : Wire) → IsCombinational example s → Contains (uses e s) t →
+    IsCombinational example t → depth t < depth s
 lower e mode t c used d = absurd (Contains-nil t used)
 lower e secret t c used d = absurd (Contains-nil t used)
 lower e copy t c used d = absurd (true≢false (ap is_input (only secret t used) ∙ d.no_input))
@@ -183,14 +204,21 @@ guarded = record {
   selectors_within = λ s t _ _. within t;
   lower = lower;
   determined = λ e f s c _ _ e_still f_still agree.
-      subst (λ r. ((t : Wire) → Contains (uses e r) t → e t ≡ f t) → e r ≡ f r) (combinational_is s c)
-      (λ same_uses. copied e e_still ∙ same_uses secret (Contains-head secret []) ∙ sym (copied f f_still)) agree;
+      subst (λ r. ((t : Wire) → Contains (uses e r) t → e t ≡ f t) →
+      e r ≡ f r) (combinational_is s c)
+      (λ same_uses. copied e e_still ∙ same_uses secret (Contains-head secret [])
+      ∙ sym (copied f f_still)) agree;
   determined_next = λ e f s _ r _ _ _ _ agree.
-      subst (λ k. ((t : Wire) → Contains (uses e k) t → e t ≡ f t) → e copy ≡ f copy) (register_is s r) (λ same_uses. same_uses copy (Contains-head copy [])) agree;
+      subst (λ k. ((t : Wire) → Contains (uses e k) t → e t ≡ f t) → e copy ≡ f copy)
+      (register_is s r) (λ same_uses. same_uses copy (Contains-head copy [])) agree;
   guarded = λ e s t c _ _ used.
-      subst (λ r. Contains (uses e r) t → IsTrue (flows (label t e) (label r e))) (combinational_is s c)
-      (λ at. subst (λ r. IsTrue (flows (label r e) (label copy e))) (only secret t at) (flows_same (label copy e))) used;
-  guarded_next = λ e f s t _ r _ _ _ _ _ used. subst (λ k. IsTrue (flows (label t e) (label k f))) (register_is s r) (flows_up (label t e));
+      subst (λ r. Contains (uses e r) t → IsTrue (flows (label t e) (label r e)))
+      (combinational_is s c)
+      (λ at. subst (λ r. IsTrue (flows (label r e) (label copy e))) (only secret t at)
+      (flows_same (label copy e))) used;
+  guarded_next =
+      λ e f s t _ r _ _ _ _ _ used.
+      subst (λ k. IsTrue (flows (label t e) (label k f))) (register_is s r) (flows_up (label t e));
   selected = λ e f s _ agree. selected e f s agree;
   selecting = λ e s t _ _ _ at. selecting e s t at;
   transitive = flows_on;
@@ -202,15 +230,30 @@ ordered = record {
   same_is = same_is;
   is_same = is_same;
   drivers = copying ∷ [];
-  still_targets = λ e _ still. one_still_targets example same same_is is_same (copying ∷ []) one_target e still;
+  still_targets =
+      λ e _ still. one_still_targets example same same_is is_same (copying ∷ []) one_target e still;
   targets_still = λ e _. one_targets_still example same same_is is_same (copying ∷ []) one_target e;
   targets_differ = distinct;
-  targets_combinational = λ d among. subst (λ (b : Driver Wire). IsCombinational example b.target) (only copying d among) (record { among = within copy; no_input = refl; no_register = refl });
+  targets_combinational =
+      λ d among. subst (λ (b : Driver Wire).
+      IsCombinational example b.target) (only copying d among) (record {
+        among = within copy;
+        no_input = refl;
+        no_register = refl;
+      });
   driven = λ s c. subst (Contains (copy ∷ [])) (combinational_is s c) (Contains-head copy []);
   not_both = not_both;
-  values_fit = λ d among e fits. subst (λ (b : Driver Wire). b.value e < 2 ^ 1) (only copying d among) (fits 1 secret (omega arith));
+  values_fit =
+      λ d among e fits. subst (λ (b : Driver Wire).
+      b.value e < 2 ^ 1) (only copying d among) (fits 1 secret (omega arith));
   next_fits = λ e fits k d lt _. fits 2 copy (omega arith);
-  earlier = λ before after d is e f inputs _ _. subst (λ (b : Driver Wire). b.value e ≡ b.value f) (only copying d (subst (λ ds. Contains ds d) (sym is) (Contains-append_right before (d ∷ after) d (Contains-head d after)))) (inputs secret refl);
+  earlier =
+      λ before after d is e f inputs _ _.
+      subst (λ (b : Driver Wire).
+      b.value e ≡ b.value f)
+      (only copying d (subst (λ ds.
+      Contains ds d) (sym is) (Contains-append_right before (d ∷ after) d (Contains-head d after))))
+      (inputs secret refl);
   next_within = λ e f s _ _ agree. agree copy (within copy);
 }
 

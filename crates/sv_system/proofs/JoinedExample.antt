@@ -1,11 +1,14 @@
--- The example system once more, its signals by numbers. The two are joined, so what holds of the one by names holds of the one by numbers.
-use Rattle.std.proofs.Common.{◌≡◌, ℕ, zero, suc, ◌<◌, Bool, true, false, eqb, [], ◌∷◌, refl, ap, subst, ⊎_elim, arith}
+-- The example system once more, its signals by numbers. The two are joined, so what holds of the
+-- one by names holds of the one by numbers.
+use Rattle.std.proofs.Common.{◌≡◌, ℕ, zero, suc, ◌<◌, Bool, true, false, eqb, [], ◌∷◌, refl, ap}
+use Rattle.std.proofs.Common.{subst, ⊎_elim, arith}
 use Rattle.std.specs.Prelude.{Contains, IsTrue}
 use Rattle.std.proofs.lemmas.Bool.{false≢true, cases_Bool, cond-false, eqb-true}
 use Rattle.sv_system.specs.System.{System, Environment, Run, Noninterferent, HasOneTrace, put}
 use Rattle.sv_system.specs.Joining.{SameRun, Joined}
 use Rattle.sv_system.proofs.Lists.{Contains-head}
-use Rattle.sv_system.proofs.Example.{Wire, mode, secret, copy, kept, same, flows, example, within, only}
+use Rattle.sv_system.proofs.Example.{Wire, mode, secret, copy, kept, same, flows, example, within}
+use Rattle.sv_system.proofs.Example.{only}
 use Rattle.sv_system.proofs.Example.{example_is_noninterferent, example_has_one_trace}
 use Rattle.sv_system.proofs.JoinedTraces.{joined_one_trace}
 use Rattle.sv_system.proofs.JoinedViews.{joined_noninterferent}
@@ -78,7 +81,8 @@ same_registers secret = refl
 same_registers copy = refl
 same_registers kept = refl
 
-same_labels : (e : Environment Wire) (f : Environment ℕ) → e mode ≡ f 0 → (s : Wire) → example.label s e ≡ numbered.label (number s) f
+same_labels : (e : Environment Wire) (f : Environment ℕ) → e mode ≡ f 0 → (s : Wire) →
+    example.label s e ≡ numbered.label (number s) f
 same_labels e f same_mode mode = refl
 same_labels e f same_mode secret = ap (λ n. eqb n 1) same_mode
 same_labels e f same_mode copy = ap (λ n. eqb n 1) same_mode
@@ -87,7 +91,8 @@ same_labels e f same_mode kept = refl
 abbrev copy_wire : (Wire → ℕ) → (Wire → ℕ)
 copy_wire e = put same copy (e secret) e
 
-copies_agree : (e : Environment Wire) (f : Environment ℕ) → ((s : Wire) → e s ≡ f (number s)) → (s : Wire) → copy_wire e s ≡ copy_number f (number s)
+copies_agree : (e : Environment Wire) (f : Environment ℕ) → ((s : Wire) → e s ≡ f (number s)) →
+    (s : Wire) → copy_wire e s ≡ copy_number f (number s)
 copies_agree e f agree mode = agree mode
 copies_agree e f agree secret = agree secret
 copies_agree e f agree copy = agree secret
@@ -98,7 +103,9 @@ same_copy = record {
   same = λ e f agree s _. copies_agree e f (λ t. agree.same t (within t)) s;
   first_within = λ e s apart. absurd (apart (within s));
   second_within = λ f n apart. ⊎_elim
-      (λ hit. absurd (apart (subst (Contains numbered.signals) (eqb-true 2 n hit) (number_within 2 (omega arith)))))
+      (λ hit.
+      absurd (apart (subst (Contains numbered.signals) (eqb-true 2 n hit)
+      (number_within 2 (omega arith)))))
       (λ miss. cond-false (eqb 2 n) (f 1) (f n) miss)
       (cases_Bool (eqb 2 n));
 }
@@ -114,24 +121,31 @@ names_and_numbers = record {
   registers = λ s _. same_registers s;
   widths = λ s _. refl;
   first_kinds = λ s _. within s;
-  second_kinds = λ n kind. number_within n (⊎_elim (input_low n) (λ register. let is = eqb-true n 3 register in omega arith) kind);
+  second_kinds =
+      λ n kind. number_within n (⊎_elim (input_low n) (λ register. let is = eqb-true n 3 register in
+      omega arith) kind);
   over = λ run listed. (
     copy_number,
     Contains-head copy_number [],
-    subst (λ (step : Run Wire). SameRun example numbered number step copy_number) (only copy_wire run listed) same_copy,
+    subst (λ (step : Run Wire).
+        SameRun example numbered number step copy_number) (only copy_wire run listed) same_copy,
   );
   back = λ other listed. (
     copy_wire,
     Contains-head copy_wire [],
-    subst (λ (step : Run ℕ). SameRun example numbered number copy_wire step) (only copy_number other listed) same_copy,
+    subst (λ (step : Run ℕ).
+        SameRun example numbered number copy_wire step) (only copy_number other listed) same_copy,
   );
   next = λ e f agree s _. agree.same copy (within copy);
-  seen_alike = λ point e f agree s _. ap (λ b. flows b point) (same_labels e f (agree.same mode (within mode)) s);
+  seen_alike =
+      λ point e f agree s _.
+      ap (λ b. flows b point) (same_labels e f (agree.same mode (within mode)) s);
 }
 
 -- so both theorems pass from names to numbers
 numbered_is_noninterferent : Noninterferent numbered
-numbered_is_noninterferent = joined_noninterferent example numbered names_and_numbers example_is_noninterferent
+numbered_is_noninterferent =
+    joined_noninterferent example numbered names_and_numbers example_is_noninterferent
 
 numbered_has_one_trace : HasOneTrace numbered
 numbered_has_one_trace = joined_one_trace example numbered names_and_numbers example_has_one_trace

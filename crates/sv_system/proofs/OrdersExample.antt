@@ -1,13 +1,16 @@
--- A system whose processes may run in any order: a block assigns a signal, then reads it for another one, and a process that stands before
--- the block reads what the block makes. So one round in the order of the list does not settle it.
-use Rattle.std.proofs.Common.{◌≡◌, ℕ, zero, suc, eqb, eqb-true, eq-eqb, ◌<◌, ◌^◌, Bool, true, false, List, [], ◌∷◌, ◌++◌, refl, sym, ap, subst, ◌∙◌, ⊎_elim, arith}
+-- A system whose processes may run in any order: a block assigns a signal, then reads it for
+-- another one, and a process that stands before the block reads what the block makes. So one round
+-- in the order of the list does not settle it.
+use Rattle.std.proofs.Common.{◌≡◌, ℕ, zero, suc, eqb, eqb-true, eq-eqb, ◌<◌, ◌^◌, Bool, true, false}
+use Rattle.std.proofs.Common.{List, [], ◌∷◌, ◌++◌, refl, sym, ap, subst, ◌∙◌, ⊎_elim, arith}
 use Rattle.std.specs.Prelude.{Contains, IsTrue, flat_map}
 use Rattle.std.specs.List.{IsDistinct}
 use Rattle.std.proofs.lemmas.Bool.{true≢false, false≢true}
 use Rattle.std.proofs.lemmas.List.Elements.{All-replicate}
 use Rattle.sv_system.specs.System.{System, Environment, Run, put}
 use Rattle.sv_system.specs.Facts.{IsCombinational, Driver, Ordered}
-use Rattle.sv_system.specs.Schedules.{after_runs, runs_at, IsRound, IsTheSettled, RestIsSettled, RoundsSettle, Block, Scheduled}
+use Rattle.sv_system.specs.Schedules.{after_runs, runs_at, IsRound, IsTheSettled, RestIsSettled}
+use Rattle.sv_system.specs.Schedules.{RoundsSettle, Block, Scheduled}
 use Rattle.sv_system.proofs.Lists.{Contains-nil, Contains-cases}
 use Rattle.sv_system.proofs.Orders.{rest_is_settled, enough_rounds_settle}
 use Rattle.sv_system.proofs.ManyTargets.{ManyTargets, many_ordered}
@@ -107,14 +110,17 @@ is_same : (s : Net) → same s s ≡ true
 is_same s = eq-eqb (place s) (place s) refl
 
 -- what holds of the elements of a list, by the list
-at_two : {X : Type 0} (P : X → Type 0) (x y : X) → P x → P y → (z : X) → Contains (x ∷ y ∷ []) z → P z
+at_two : {X : Type 0} (P : X → Type 0) (x y : X) → P x → P y → (z : X) →
+    Contains (x ∷ y ∷ []) z → P z
 at_two P x y holds_x holds_y z at = ⊎_elim
     (λ e. subst P e holds_x)
-    (λ later. ⊎_elim (λ e. subst P e holds_y) (λ none. absurd (Contains-nil z none)) (Contains-cases y [] z later))
+    (λ later. ⊎_elim (λ e. subst P e holds_y) (λ none.
+    absurd (Contains-nil z none)) (Contains-cases y [] z later))
     (Contains-cases x (y ∷ []) z at)
 
 -- what the first, second and last are, all combinational signals are
-at_combinational : (P : Net → Type 0) → P first → P second → P last → (s : Net) → IsCombinational chain s → P s
+at_combinational : (P : Net → Type 0) → P first → P second → P last → (s : Net) →
+    IsCombinational chain s → P s
 at_combinational P one two three given is = absurd (true≢false is.no_input)
 at_combinational P one two three first is = one
 at_combinational P one two three second is = two
@@ -137,7 +143,8 @@ not_both second input = refl
 not_both last input = refl
 not_both held input = absurd (false≢true input)
 
--- The blocks: a run leaves in the second signal what it took from the input, whatever the first signal had before.
+-- The blocks: a run leaves in the second signal what it took from the input, whatever the first
+-- signal had before.
 abbrev both_block : Block Net
 both_block = record { targets = first ∷ second ∷ []; run = both }
 
@@ -151,7 +158,8 @@ depth second = 2
 depth last = 3
 depth held = 0
 
-both_leaves : (e : Environment Net) (s : Net) → (Contains (first ∷ second ∷ []) s → ⊥) → both e s ≡ e s
+both_leaves : (e : Environment Net) (s : Net) → (Contains (first ∷ second ∷ []) s → ⊥) →
+    both e s ≡ e s
 both_leaves e given apart = refl
 both_leaves e first apart = absurd (apart (0, omega arith, refl))
 both_leaves e second apart = absurd (apart (1, omega arith, refl))
@@ -177,22 +185,30 @@ scheduled = record {
   blocks = blocks;
   are_processes = refl;
   depth = depth;
-  targets_combinational = at_two (λ (b : Block Net). (s : Net) → Contains b.targets s → IsCombinational chain s) ending_block both_block
-      (λ s at. ⊎_elim (λ e. subst (IsCombinational chain) e combinational_last) (λ none. absurd (Contains-nil s none)) (Contains-cases last [] s at))
+  targets_combinational =
+      at_two (λ (b : Block Net). (s : Net) → Contains b.targets s → IsCombinational chain s)
+      ending_block both_block
+      (λ s at. ⊎_elim (λ e. subst (IsCombinational chain) e combinational_last) (λ none.
+      absurd (Contains-nil s none)) (Contains-cases last [] s at))
       (at_two (IsCombinational chain) first second combinational_first combinational_second);
   assigned = at_combinational (λ s. (b : Block Net) × Contains blocks b × Contains b.targets s)
       (both_block, (1, omega arith, refl), (0, omega arith, refl))
       (both_block, (1, omega arith, refl), (1, omega arith, refl))
       (ending_block, (0, omega arith, refl), (0, omega arith, refl));
-  leaves = at_two (λ (b : Block Net). (e : Environment Net) (s : Net) → (Contains b.targets s → ⊥) → b.run e s ≡ e s)
+  leaves =
+      at_two (λ (b : Block Net). (e : Environment Net) (s : Net) → (Contains b.targets s → ⊥) →
+      b.run e s ≡ e s)
       ending_block both_block ending_leaves both_leaves;
   made_from_lower = λ b among s target e f inputs _ lower.
-      at_two (λ (c : Block Net). (r : Net) → Contains c.targets r → AgreeBelow e f r → c.run e r ≡ c.run f r) ending_block both_block
+      at_two (λ (c : Block Net). (r : Net) → Contains c.targets r → AgreeBelow e f r →
+      c.run e r ≡ c.run f r) ending_block both_block
       (λ r at. ⊎_elim
-      (λ is. subst (λ q. AgreeBelow e f q → ending e q ≡ ending f q) is (λ below. below second combinational_second (omega arith)))
+      (λ is. subst (λ q. AgreeBelow e f q → ending e q ≡ ending f q) is (λ below.
+      below second combinational_second (omega arith)))
       (λ none. absurd (Contains-nil r none))
       (Contains-cases last [] r at))
-      (at_two (λ r. AgreeBelow e f r → both e r ≡ both f r) first second (λ below. inputs given refl) (λ below. inputs given refl))
+      (at_two (λ r. AgreeBelow e f r → both e r ≡ both f r) first second (λ below.
+      inputs given refl) (λ below. inputs given refl))
       b among s target lower;
 }
 
@@ -203,7 +219,8 @@ left_by run s = record { target = s; value = λ (e : Net → ℕ). run e s }
 abbrev drivers : List (Driver Net)
 drivers = left_by both first ∷ left_by both second ∷ left_by ending last ∷ []
 
-at_drivers : (P : Driver Net → Type 0) → P (left_by both first) → P (left_by both second) → P (left_by ending last)
+at_drivers : (P : Driver Net → Type 0) → P (left_by both first) → P (left_by both second)
+    → P (left_by ending last)
     → (d : Driver Net) → Contains drivers d → P d
 at_drivers P one two three d at = ⊎_elim
     (λ e. subst P e one)
@@ -225,20 +242,25 @@ module _ {X : Type 0} where
 lower_first : (before after : List (Driver Net)) (d : Driver Net) → drivers ≡ before ++ d ∷ after
     → (t : Net) → IsCombinational chain t → depth t < depth d.target → Contains (targets before) t
 lower_first [] after d is t t_is lower =
-    let low = subst (λ (b : Driver Net). depth t < depth b.target) (sym (head_is _ _ _ _ is)) lower in
-    at_combinational (λ s. depth s < 1 → Contains [] s) (λ l. absurd (omega arith)) (λ l. absurd (omega arith)) (λ l. absurd (omega arith)) t t_is low
+    let low = subst (λ (b : Driver Net).
+    depth t < depth b.target) (sym (head_is _ _ _ _ is)) lower in
+    at_combinational (λ s. depth s < 1 → Contains [] s) (λ l. absurd (omega arith)) (λ l.
+    absurd (omega arith)) (λ l. absurd (omega arith)) t t_is low
 lower_first (x ∷ []) after d is t t_is lower =
-    let low = subst (λ (b : Driver Net). depth t < depth b.target) (sym (head_is _ _ _ _ (tail_is _ _ _ _ is))) lower in
+    let low = subst (λ (b : Driver Net).
+    depth t < depth b.target) (sym (head_is _ _ _ _ (tail_is _ _ _ _ is))) lower in
     let x_is = ap (λ (b : Driver Net). b.target) (sym (head_is _ _ _ _ is)) in
     at_combinational (λ s. depth s < 2 → Contains (x.target ∷ []) s)
     (λ l. (0, omega arith, x_is)) (λ l. absurd (omega arith)) (λ l. absurd (omega arith)) t t_is low
 lower_first (x ∷ y ∷ []) after d is t t_is lower =
     let rest = tail_is _ _ _ _ is in
-    let low = subst (λ (b : Driver Net). depth t < depth b.target) (sym (head_is _ _ _ _ (tail_is _ _ _ _ rest))) lower in
+    let low = subst (λ (b : Driver Net).
+    depth t < depth b.target) (sym (head_is _ _ _ _ (tail_is _ _ _ _ rest))) lower in
     let x_is = ap (λ (b : Driver Net). b.target) (sym (head_is _ _ _ _ is)) in
     let y_is = ap (λ (b : Driver Net). b.target) (sym (head_is _ _ _ _ rest)) in
     at_combinational (λ s. depth s < 3 → Contains (x.target ∷ y.target ∷ []) s)
-    (λ l. (0, omega arith, x_is)) (λ l. (1, omega arith, y_is)) (λ l. absurd (omega arith)) t t_is low
+    (λ l. (0, omega arith, x_is)) (λ l. (1, omega arith, y_is)) (λ l.
+    absurd (omega arith)) t t_is low
 lower_first (x ∷ y ∷ z ∷ before) after d is t t_is lower =
     absurd (no_more before after d (tail_is _ _ _ _ (tail_is _ _ _ _ (tail_is _ _ _ _ is))))
 
@@ -248,28 +270,40 @@ distinct = ((refl, (refl, tt)), ((refl, tt), (tt, tt)))
 
 -- a driver for a target of a block
 abbrev HasDriver : Block Net → Net → Type 0
-HasDriver b s = (d : Driver Net) × Contains drivers d × (d.target ≡ s) × ((e : Environment Net) → d.value e ≡ b.run e s)
+HasDriver b s =
+    (d : Driver Net) × Contains drivers d × (d.target ≡ s)
+    × ((e : Environment Net) → d.value e ≡ b.run e s)
 
 many_targets : ManyTargets chain scheduled same
 unfolding scheduled
 many_targets = record {
   drivers = drivers;
   targets_differ = distinct;
-  driver_of = at_two (λ (b : Block Net). (s : Net) → Contains b.targets s → HasDriver b s) ending_block both_block
+  driver_of =
+      at_two (λ (b : Block Net). (s : Net) → Contains b.targets s → HasDriver b s) ending_block
+      both_block
       (λ s at. ⊎_elim
-      (λ is. subst (HasDriver ending_block) is (left_by ending last, (2, omega arith, refl), refl, λ e. refl))
+      (λ is. subst (HasDriver ending_block) is
+      (left_by ending last, (2, omega arith, refl), refl, λ e. refl))
       (λ none. absurd (Contains-nil s none))
       (Contains-cases last [] s at))
-      (at_two (HasDriver both_block) first second
-      (left_by both first, (0, omega arith, refl), refl, λ e. refl) (left_by both second, (1, omega arith, refl), refl, λ e. refl));
+      (at_two (HasDriver both_block) first second (
+        left_by both first,
+        (0, omega arith, refl),
+        refl,
+        λ e.
+            refl,
+      ) (left_by both second, (1, omega arith, refl), refl, λ e. refl));
   driven_by = at_drivers
-      (λ d. (b : Block Net) × Contains blocks b × Contains b.targets d.target × ((e : Environment Net) → d.value e ≡ b.run e d.target))
+      (λ d. (b : Block Net) × Contains blocks b × Contains b.targets d.target
+      × ((e : Environment Net) → d.value e ≡ b.run e d.target))
       (both_block, (1, omega arith, refl), (0, omega arith, refl), λ e. refl)
       (both_block, (1, omega arith, refl), (1, omega arith, refl), λ e. refl)
       (ending_block, (0, omega arith, refl), (0, omega arith, refl), λ e. refl);
   lower_first = lower_first;
   values_fit = λ d among e fits. at_drivers (λ b. b.value e < 2 ^ 1)
-      (fits 0 given (omega arith)) (fits 0 given (omega arith)) (fits 2 given (omega arith)) d among;
+      (fits 0 given (omega arith)) (fits 0 given (omega arith)) (fits 2 given (omega arith))
+      d among;
 }
 
 ordered : Ordered chain
@@ -305,7 +339,11 @@ is_round = places_round chain (0 ∷ 1 ∷ [])
     (each (λ k. k < 2) (0 ∷ 1 ∷ []) (at_two (λ k. k < 2) 0 1 (omega arith) (omega arith)))
     places_all
 
-three_rounds_settle : IsTheSettled chain start start (after_runs (flat_map (λ r. r) (round ∷ round ∷ round ∷ [])) start)
-three_rounds_settle = chain_rounds_settle start (round ∷ round ∷ round ∷ []) (fits_from chain start (λ s within. start_low s))
+three_rounds_settle :
+    IsTheSettled chain start start
+    (after_runs (flat_map (λ r. r) (round ∷ round ∷ round ∷ [])) start)
+three_rounds_settle =
+    chain_rounds_settle start (round ∷ round ∷ round ∷ [])
+    (fits_from chain start (λ s within. start_low s))
     (All-replicate (IsRound chain) 3 round is_round)
     (omega arith)

@@ -8,7 +8,8 @@ use Rattle.sv_system.specs.Schedules.{IsSchedule, IsRound, runs_at}
 use Rattle.sv_system.proofs.Lists.{Contains-map}
 use Rattle.sv_system.proofs.Pointwise.{each}
 
-module _ {Signal Point : Type 0} (system : System Signal Point) (places : List ℕ) (within : All (λ k. k < length system.processes) places) where
+module _ {Signal Point : Type 0} (system : System Signal Point) (places : List ℕ)
+    (within : All (λ k. k < length system.processes) places) where
   abbrev at_place : ℕ → Run Signal
   at_place k = get_or system.processes k (λ e. e)
 
@@ -19,10 +20,13 @@ module _ {Signal Point : Type 0} (system : System Signal Point) (places : List �
       (λ k low. Contains-get_or system.processes k (λ e. e) low) places within)
 
   -- and a round where each place stands among them
-  pub places_round : ((k : ℕ) → k < length system.processes → Contains places k) → IsRound system (runs_at system places)
+  pub places_round : ((k : ℕ) → k < length system.processes → Contains places k) →
+      IsRound system (runs_at system places)
   places_round all = record {
     schedule = places_schedule;
     whole = each (Contains (runs_at system places)) system.processes (λ run listed.
-        let is : at_place listed.0 ≡ run = get_or_default system.processes listed.0 (λ e. e) run listed.1 ∙ listed.2 in
-        subst (Contains (runs_at system places)) is (Contains-map at_place places listed.0 (all listed.0 listed.1)));
+        let is : at_place listed.0 ≡ run =
+        get_or_default system.processes listed.0 (λ e. e) run listed.1 ∙ listed.2 in
+        subst (Contains (runs_at system places)) is
+        (Contains-map at_place places listed.0 (all listed.0 listed.1)));
   }

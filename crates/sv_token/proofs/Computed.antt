@@ -13,13 +13,15 @@ use Rattle.sv_token.specs.Words.{word_of, name_at, system_name_at}
 
 -- an example names this one definition to compute with all of them
 unfoldable pub computed : List ℕ → Lexed
-unfolding front_at word_of name_at system_name_at block_comment_at directive_at number_at unsized_number_at sign_of sign_text sign_at
+unfolding front_at word_of name_at system_name_at block_comment_at directive_at number_at
+    unsized_number_at sign_of sign_text sign_at
 computed bytes = lexed bytes
 
 -- tokens, each with its line and column
 
 abbrev pub placed : Lexeme → ℕ → ℕ → Placed
-placed lexeme line column = record { lexeme = lexeme; place = record { line = line; column = column } }
+placed lexeme line column =
+    record { lexeme = lexeme; place = record { line = line; column = column } }
 
 abbrev pub the_word : WordKind → ℕ → ℕ → Placed
 the_word w = placed (word w)

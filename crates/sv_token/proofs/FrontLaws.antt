@@ -1,5 +1,6 @@
 -- What stands at the front, by its first bytes.
-use Rattle.std.proofs.Common.{◌≡◌, ℕ, ◌<◌, Bool, true, false, ◌&&◌, List, [], ◌∷◌, drop, length, get_or, refl, sym, ap, subst, arith}
+use Rattle.std.proofs.Common.{◌≡◌, ℕ, ◌<◌, Bool, true, false, ◌&&◌, List, [], ◌∷◌, drop, length}
+use Rattle.std.proofs.Common.{get_or, refl, sym, ap, subst, arith}
 use Rattle.std.specs.Prelude.{codes, if◌then◌else◌}
 use Rattle.std.proofs.lemmas.Bool.{ne_eqb}
 use Rattle.sv_token.specs.Bytes.{begin_with, is_blank, is_digit, begins_name}
@@ -15,14 +16,17 @@ pub blank_front : (bytes : List ℕ) → 0 < length bytes → is_blank (get_or b
 unfolding front_at
 blank_front bytes some blank = rw blank refl
 
-pub line_front : (bytes : List ℕ) → 0 < length bytes → is_blank (get_or bytes 0 0) ≡ false → begin_with (codes "//") bytes ≡ true →
+pub line_front : (bytes : List ℕ) → 0 < length bytes → is_blank (get_or bytes 0 0) ≡ false →
+    begin_with (codes "//") bytes ≡ true →
     front_at (get_or bytes 0 0) (drop 1 bytes) ≡ gap (rest_of_line (drop 1 bytes))
 unfolding front_at
 line_front [] some blank line = absurd (omega arith)
 line_front (b ∷ bs) some blank line = rw (blank, line) refl
 
-pub block_front : (bytes : List ℕ) → 0 < length bytes → is_blank (get_or bytes 0 0) ≡ false → begin_with (codes "//") bytes ≡ false →
-    begin_with (codes "/*") bytes ≡ true → front_at (get_or bytes 0 0) (drop 1 bytes) ≡ block_comment_at (drop 1 bytes)
+pub block_front : (bytes : List ℕ) → 0 < length bytes → is_blank (get_or bytes 0 0) ≡ false →
+    begin_with (codes "//") bytes ≡ false →
+    begin_with (codes "/*") bytes ≡ true →
+    front_at (get_or bytes 0 0) (drop 1 bytes) ≡ block_comment_at (drop 1 bytes)
 unfolding front_at
 block_front [] some blank line block = absurd (omega arith)
 block_front (b ∷ bs) some blank line block = rw (blank, line, block) refl
@@ -79,7 +83,8 @@ pub record IsOther (b : ℕ) : Type 0 where
   pub dollar : b ≡ 36 → ⊥
   pub apostrophe : b ≡ 39 → ⊥
 
-pub other_front : (bytes : List ℕ) → 0 < length bytes → is_blank (get_or bytes 0 0) ≡ false → begin_with (codes "//") bytes ≡ false →
+pub other_front : (bytes : List ℕ) → 0 < length bytes → is_blank (get_or bytes 0 0) ≡ false →
+    begin_with (codes "//") bytes ≡ false →
     begin_with (codes "/*") bytes ≡ false → IsOther (get_or bytes 0 0) →
     front_at (get_or bytes 0 0) (drop 1 bytes) ≡
     (if is_digit (get_or bytes 0 0) then number_at (get_or bytes 0 0) (drop 1 bytes)

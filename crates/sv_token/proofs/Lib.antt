@@ -12,3 +12,4 @@ mod SignExamples
 mod SpanExamples
 mod TextExamples
 mod WordExamples
+mod LineLaws

@@ -3,13 +3,15 @@ use Rattle.std.proofs.Common.{◌≡◌, true, false, [], ◌∷◌, map, replic
 use Rattle.std.specs.Prelude.{codes}
 use Rattle.sv_token.specs.declared.signs.SignKind.TheVariants.{Dot}
 use Rattle.sv_token.specs.Lexed.{lexed, tokens}
-use Rattle.sv_token.proofs.Computed.{computed, the_name, the_sign, the_operator, sized, unsized, refused_at, left_out_at}
+use Rattle.sv_token.proofs.Computed.{computed, the_name, the_sign, the_operator, sized, unsized}
+use Rattle.sv_token.proofs.Computed.{refused_at, left_out_at}
 
 -- a plain decimal has 32 bits and a sign
 pub plain_decimals :
     lexed (codes "12 1_000 007 4294967295") ≡
     tokens
-    (unsized true 12 1 1 ∷ unsized true 1000 1 4 ∷ unsized true 7 1 10 ∷ unsized true 4294967295 1 14
+    (unsized true 12 1 1 ∷ unsized true 1000 1 4 ∷ unsized true 7 1 10 ∷
+    unsized true 4294967295 1 14
     ∷ [])
 unfolding computed
 plain_decimals = refl

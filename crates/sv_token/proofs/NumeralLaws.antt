@@ -1,16 +1,25 @@
 -- Digits one by one.
-use Rattle.std.proofs.Common.{◌≡◌, Option, None, Some, ℕ, suc, ◌+◌, ◌-◌, ◌^◌, ◌*◌, ◌<◌, ◌≤◌, Bool, true, false, cond, List, [], ◌∷◌, take, drop, length, get_or, refl, sym, ap, subst, ◌∙◌, arith, not, ◌||◌, ◌&&◌}
+use Rattle.std.proofs.Common.{◌≡◌, Option, None, Some, ℕ, suc, ◌+◌, ◌-◌, ◌^◌, ◌*◌, ◌<◌, ◌≤◌, Bool}
+use Rattle.std.proofs.Common.{true, false, cond, List, [], ◌∷◌, take, drop, length, get_or, refl}
+use Rattle.std.proofs.Common.{sym, ap, subst, ◌∙◌, arith, not, ◌||◌, ◌&&◌}
 use Rattle.std.specs.List.{fold, list_all, list_any, prefix_len}
 use Rattle.std.proofs.lemmas.List.Sums.{fold_more, fold-append, prefix_len-le-length}
-use Rattle.std.specs.Prelude.{nat_lt, nat_le, nat_eq, option_map, unwrap_or, if◌then◌else◌, codes, take_while}
+use Rattle.std.specs.Prelude.{nat_lt, nat_le, nat_eq, option_map, unwrap_or, if◌then◌else◌, codes}
+use Rattle.std.specs.Prelude.{take_while}
 use Rattle.std.specs.Option.{option_map_or}
-use Rattle.std.proofs.lemmas.List.{take-append-drop, take_all, length-take, length-take-le, length-drop, drop-drop}
-use Rattle.std.proofs.lemmas.Bool.{cond-true, cond-false, ne_eqb, eq-eqb, lt-ltb, lt-leb, le-leb, and_from}
+use Rattle.std.proofs.lemmas.List.{take-append-drop, take_all, length-take, length-take-le}
+use Rattle.std.proofs.lemmas.List.{length-drop, drop-drop}
+use Rattle.std.proofs.lemmas.Bool.{cond-true, cond-false, ne_eqb, eq-eqb, lt-ltb, lt-leb, le-leb}
+use Rattle.std.proofs.lemmas.Bool.{and_from}
 use Rattle.std.proofs.lemmas.List.Folds.{length-prefix_len}
 use Rattle.sv_token.specs.Bytes.{is_underscore, next_is}
 use Rattle.sv_token.specs.Fronts.{Front, token, bad_byte, bad_number, unsupported}
 use Rattle.sv_token.specs.Lexemes.{numeral}
-use Rattle.sv_token.specs.Numerals.{digit_value, without_underscores, value_in, are_digits_in, head_at, quoted_head_at, Head, begins_fraction, spoils_decimal, plain_literal, decimal_at, is_four_state, is_size, value_bound, based_literal, based_at, continues_digits, continues_decimal, number_at, unsized_number_at}
+use Rattle.sv_token.specs.Numerals.{digit_value, without_underscores, value_in, are_digits_in}
+use Rattle.sv_token.specs.Numerals.{head_at, quoted_head_at, Head, begins_fraction, spoils_decimal}
+use Rattle.sv_token.specs.Numerals.{plain_literal, decimal_at, is_four_state, is_size, value_bound}
+use Rattle.sv_token.specs.Numerals.{based_literal, based_at, continues_digits, continues_decimal}
+use Rattle.sv_token.specs.Numerals.{number_at, unsized_number_at}
 use Rattle.sv_token.specs.Views.{head_behind, literal_value}
 use Rattle.sv_token.specs.declared.numerals.Head.{Head as CodeHead}
 
@@ -19,19 +28,23 @@ abbrev pub value_behind : ℕ → ℕ → ℕ → ℕ
 value_behind base value b = cond (is_underscore b) value (value * base + digit_value b)
 
 by_bytes : (base value : ℕ) (digits : List ℕ) →
-    fold (λ v d. v * base + digit_value d) value (without_underscores digits) ≡ fold (value_behind base) value digits
+    fold (λ v d. v * base + digit_value d) value (without_underscores digits) ≡
+    fold (value_behind base) value digits
 by_bytes base value [] = refl
 by_bytes base value (b ∷ bs) = step (is_underscore b) (λ v. by_bytes base v bs)
   where
     step : (u : Bool) →
-        ((v : ℕ) → fold (λ v d. v * base + digit_value d) v (without_underscores bs) ≡ fold (value_behind base) v bs) →
-        fold (λ v d. v * base + digit_value d) value (cond (not u) (b ∷ without_underscores bs) (without_underscores bs)) ≡
+        ((v : ℕ) → fold (λ v d. v * base + digit_value d) v (without_underscores bs) ≡
+        fold (value_behind base) v bs) →
+        fold (λ v d. v * base + digit_value d) value
+        (cond (not u) (b ∷ without_underscores bs) (without_underscores bs)) ≡
         fold (value_behind base) (cond u value (value * base + digit_value b)) bs
     step true others = others value
     step false others = others (value * base + digit_value b)
 
 -- the value of digits, byte by byte
-pub value_in-bytes : (base : ℕ) (digits : List ℕ) → value_in base digits ≡ fold (value_behind base) 0 digits
+pub value_in-bytes : (base : ℕ) (digits : List ℕ) →
+    value_in base digits ≡ fold (value_behind base) 0 digits
 value_in-bytes base digits = by_bytes base 0 digits
 
 -- one more byte
@@ -58,7 +71,9 @@ pub value_grows : (base : ℕ) (digits : List ℕ) (i : ℕ) → 1 ≤ base →
     fold (value_behind base) 0 (take i digits) ≤ value_in base digits
 value_grows base digits i h =
     let P : ℕ → Type 0 = λ n. fold (value_behind base) 0 (take i digits) ≤ n in
-    subst P (sym (fold-append (value_behind base) 0 (take i digits) (drop i digits)) ∙ ap (fold (value_behind base) 0) (take-append-drop i digits) ∙ sym (value_in-bytes base digits))
+    subst P (sym (fold-append (value_behind base) 0 (take i digits) (drop i digits))
+    ∙ ap (fold (value_behind base) 0) (take-append-drop i digits)
+    ∙ sym (value_in-bytes base digits))
     (fold-le base (fold (value_behind base) 0 (take i digits)) (drop i digits) h)
 
 -- a test of each digit passes over `_`
@@ -67,31 +82,38 @@ pub all_digits : (test : ℕ → Bool) (digits : List ℕ) →
 all_digits test [] = refl
 all_digits test (b ∷ bs) = step (is_underscore b) (all_digits test bs)
   where
-    step : (u : Bool) → list_all test (without_underscores bs) ≡ list_all (λ b. is_underscore b || test b) bs →
+    step : (u : Bool) → list_all test (without_underscores bs) ≡ list_all (λ b.
+        is_underscore b || test b) bs →
         list_all test (cond (not u) (b ∷ without_underscores bs) (without_underscores bs)) ≡
         ((u || test b) && list_all (λ b. is_underscore b || test b) bs)
     step true others = others
     step false others = ap (λ r. test b && r) others
 
 -- a digit that is read makes the value no larger than that of all digits
-pub not_above : (base : ℕ) (digits : List ℕ) (i : ℕ) → 1 ≤ base → i < length digits → (get_or digits i 0 ≡ 95 → ⊥) →
-    fold (value_behind base) 0 (take i digits) * base + digit_value (get_or digits i 0) ≤ value_in base digits
+pub not_above : (base : ℕ) (digits : List ℕ) (i : ℕ) → 1 ≤ base → i < length digits →
+    (get_or digits i 0 ≡ 95 → ⊥) →
+    fold (value_behind base) 0 (take i digits) * base + digit_value (get_or digits i 0)
+    ≤ value_in base digits
 not_above base digits i some h other =
     let P : ℕ → Type 0 = λ n. n ≤ value_in base digits in
-    subst P (value_more base digits i h ∙ cond-false (is_underscore (get_or digits i 0)) _ _ (ne_eqb _ _ other))
+    subst P (value_more base digits i h
+    ∙ cond-false (is_underscore (get_or digits i 0)) _ _ (ne_eqb _ _ other))
     (value_grows base digits (i + 1) some)
 
 -- the value of all bytes that were read
 pub value_whole : (base : ℕ) (digits : List ℕ) (i : ℕ) → length digits ≤ i →
     fold (value_behind base) 0 (take i digits) ≡ value_in base digits
-value_whole base digits i h = ap (fold (value_behind base) 0) (take_all i digits h) ∙ sym (value_in-bytes base digits)
+value_whole base digits i h =
+    ap (fold (value_behind base) 0) (take_all i digits h) ∙ sym (value_in-bytes base digits)
 
 -- the test of the code is that of the definition
 pub are_digits : (base : ℕ) (digits : List ℕ) (t : Bool) → 0 < length digits →
-    t ≡ list_all (λ b. is_underscore b || nat_lt (digit_value b) base) digits → t ≡ are_digits_in base digits
+    t ≡ list_all (λ b. is_underscore b || nat_lt (digit_value b) base) digits →
+    t ≡ are_digits_in base digits
 are_digits base digits t some is =
     is ∙ sym (all_digits (λ d. nat_lt (digit_value d) base) digits)
-    ∙ ap (λ u. u && list_all (λ d. nat_lt (digit_value d) base) (without_underscores digits)) (sym (lt-ltb 0 (length digits) some))
+    ∙ ap (λ u. u && list_all (λ d. nat_lt (digit_value d) base) (without_underscores digits))
+    (sym (lt-ltb 0 (length digits) some))
 
 pub no_digits : (base : ℕ) (digits : List ℕ) → length digits ≡ 0 → are_digits_in base digits ≡ false
 no_digits base [] h = refl
@@ -126,26 +148,32 @@ pub decimal_is : (bytes : List ℕ) (n : ℕ) → 1 ≤ n → n ≤ length bytes
 decimal_is bytes n some within =
     let count : length (take (n - 1) (drop 1 bytes)) ≡ n - 1 =
     length-take-le (n - 1) (drop 1 bytes) (simp length-drop (omega arith)) in
-    ap (λ (ds : List ℕ). decimal_front (value_in 10 ds) (length (take (n - 1) (drop 1 bytes))) (drop n bytes)) (first_bytes bytes n some within)
+    ap (λ (ds : List ℕ).
+    decimal_front (value_in 10 ds) (length (take (n - 1) (drop 1 bytes))) (drop n bytes))
+    (first_bytes bytes n some within)
     ∙ ap (λ (m : ℕ). decimal_front (value_in 10 (take n bytes)) m (drop n bytes)) count
 
-pub decimal_plain : (value more : ℕ) (rest : List ℕ) → begins_fraction rest ≡ false → next_is spoils_decimal rest ≡ false →
+pub decimal_plain : (value more : ℕ) (rest : List ℕ) → begins_fraction rest ≡ false →
+    next_is spoils_decimal rest ≡ false →
     value < 2 ^ 32 → decimal_front value more rest ≡ token (numeral (plain_literal value)) more
 decimal_plain value more rest whole clean small =
     let test : nat_le (2 ^ 32) value ≡ false = lt-leb (2 ^ 32) value small in
     rw (whole, clean, test) refl
 
-pub decimal_spoiled : (value more : ℕ) (rest : List ℕ) → begins_fraction rest ≡ false → next_is spoils_decimal rest ≡ true →
+pub decimal_spoiled : (value more : ℕ) (rest : List ℕ) → begins_fraction rest ≡ false →
+    next_is spoils_decimal rest ≡ true →
     decimal_front value more rest ≡ bad_number
 decimal_spoiled value more rest whole spoiled = rw (whole, spoiled) refl
 
-pub decimal_large : (value more : ℕ) (rest : List ℕ) → begins_fraction rest ≡ false → 2 ^ 32 ≤ value →
+pub decimal_large : (value more : ℕ) (rest : List ℕ) → begins_fraction rest ≡ false →
+    2 ^ 32 ≤ value →
     decimal_front value more rest ≡ bad_number
 decimal_large value more rest whole large =
     let test : nat_le (2 ^ 32) value ≡ true = le-leb (2 ^ 32) value large in
     rw (whole, test) (step (next_is spoils_decimal rest))
   where
-    step : (t : Bool) → (if t || true then bad_number else token (numeral (plain_literal value)) more) ≡ bad_number
+    step : (t : Bool) → (if t || true then bad_number
+        else token (numeral (plain_literal value)) more) ≡ bad_number
     step true = refl
     step false = refl
 
@@ -154,10 +182,12 @@ pub no_value : (size : Option ℕ) (base : ℕ) (digits : List ℕ) → are_digi
     literal_value size base digits ≡ None
 no_value size base digits none = rw none refl
 
-pub large_value : (size : Option ℕ) (base : ℕ) (digits : List ℕ) → value_bound size ≤ value_in base digits →
+pub large_value : (size : Option ℕ) (base : ℕ) (digits : List ℕ) →
+    value_bound size ≤ value_in base digits →
     literal_value size base digits ≡ None
 large_value size base digits large =
-    let test : nat_le (value_bound size) (value_in base digits) ≡ true = le-leb (value_bound size) (value_in base digits) large in
+    let test : nat_le (value_bound size) (value_in base digits) ≡ true =
+    le-leb (value_bound size) (value_in base digits) large in
     rw test (step (not (are_digits_in base digits)))
   where
     step : (t : Bool) → (if t || true then None else Some (value_in base digits)) ≡ None
@@ -168,10 +198,13 @@ pub bound-le : (size : Option ℕ) → value_bound size ≤ 2 ^ 128
 bound-le None = omega arith
 bound-le (Some n) = omega arith
 
-pub known_value : (size : Option ℕ) (base : ℕ) (digits : List ℕ) → are_digits_in base digits ≡ true →
-    value_in base digits < value_bound size → literal_value size base digits ≡ Some (value_in base digits)
+pub known_value : (size : Option ℕ) (base : ℕ) (digits : List ℕ) →
+    are_digits_in base digits ≡ true →
+    value_in base digits < value_bound size →
+    literal_value size base digits ≡ Some (value_in base digits)
 known_value size base digits all small =
-    let test : nat_le (value_bound size) (value_in base digits) ≡ false = lt-leb (value_bound size) (value_in base digits) small in
+    let test : nat_le (value_bound size) (value_in base digits) ≡ false =
+    lt-leb (value_bound size) (value_in base digits) small in
     rw (all, test) refl
 
 -- a based literal by its digits
@@ -179,43 +212,58 @@ abbrev pub based_front : Option ℕ → Bool → ℕ → List ℕ → ℕ → Fr
 based_front size signed base digits more =
     if next_is is_underscore digits then bad_number
     else (if list_any is_four_state digits then unsupported (codes "four-state")
-    else option_map_or (λ v. token (numeral (based_literal size signed v)) more) (literal_value size base digits) bad_number)
+    else option_map_or (λ v.
+    token (numeral (based_literal size signed v)) more) (literal_value size base digits)
+    bad_number)
 
 sized : (size : Option ℕ) → 1 ≤ unwrap_or size 32 → unwrap_or size 32 ≤ 64 → is_size size ≡ true
 sized None some few = refl
 sized (Some n) some few = and_from (nat_le 1 n) (nat_le n 64) (le-leb 1 n some) (le-leb n 64 few)
 
 valued : (size : Option ℕ) (signed : Bool) (base : ℕ) (digits : List ℕ) (more : ℕ) →
-    (if not (are_digits_in base digits) || nat_le (value_bound size) (value_in base digits) then bad_number
+    (if not (are_digits_in base digits) || nat_le (value_bound size) (value_in base digits)
+    then bad_number
     else token (numeral (based_literal size signed (value_in base digits))) more) ≡
-    option_map_or (λ v. token (numeral (based_literal size signed v)) more) (literal_value size base digits) bad_number
-valued size signed base digits more = step (not (are_digits_in base digits) || nat_le (value_bound size) (value_in base digits))
+    option_map_or (λ v. token (numeral (based_literal size signed v)) more)
+    (literal_value size base digits) bad_number
+valued size signed base digits more =
+    step (not (are_digits_in base digits) || nat_le (value_bound size) (value_in base digits))
   where
     step : (t : Bool) →
-        (if t then bad_number else token (numeral (based_literal size signed (value_in base digits))) more) ≡
-        option_map_or (λ v. token (numeral (based_literal size signed v)) more) (if t then None else Some (value_in base digits)) bad_number
+        (if t then bad_number
+        else token (numeral (based_literal size signed (value_in base digits))) more) ≡
+        option_map_or (λ v. token (numeral (based_literal size signed v)) more) (if t then None
+        else Some (value_in base digits)) bad_number
     step true = refl
     step false = refl
 
 pub based_is : (bytes : List ℕ) (start : ℕ) (size : Option ℕ) (head : Head) (digits : List ℕ) →
-    1 ≤ unwrap_or size 32 → unwrap_or size 32 ≤ 64 → 1 ≤ start → start ≤ length bytes → head.behind ≡ drop start bytes →
+    1 ≤ unwrap_or size 32 → unwrap_or size 32 ≤ 64 → 1 ≤ start → start ≤ length bytes →
+    head.behind ≡ drop start bytes →
     digits ≡ take_while continues_digits (drop start bytes) →
-    based_at (drop 1 bytes) size head ≡ based_front size head.signed head.base digits (start + length digits - 1)
+    based_at (drop 1 bytes) size head ≡
+    based_front size head.signed head.base digits (start + length digits - 1)
 based_is bytes start size head digits some few one within behind is =
-    let here : take_while continues_digits head.behind ≡ digits = ap (take_while continues_digits) behind ∙ sym is in
+    let here : take_while continues_digits head.behind ≡ digits =
+    ap (take_while continues_digits) behind ∙ sym is in
     let test : is_size size ≡ true = sized size some few in
     let short : length digits ≤ length (drop start bytes) =
-    rw is (simp (length-take) (omega (arith, prefix_len-le-length continues_digits (drop start bytes)))) in
-    let count : length (drop 1 bytes) - length (drop (length digits) (drop start bytes)) ≡ start + length digits - 1 =
+    rw is (simp (length-take)
+    (omega (arith, prefix_len-le-length continues_digits (drop start bytes)))) in
+    let count : length (drop 1 bytes) - length (drop (length digits) (drop start bytes)) ≡
+    start + length digits - 1 =
     simp length-drop (omega (arith, simp length-drop at short)) in
     rw (here, behind, test, count) (ap (λ f. if next_is is_underscore digits then bad_number
-    else (if list_any is_four_state digits then unsupported (codes "four-state") else f)) (valued size head.signed head.base digits (start + length digits - 1)))
+    else (if list_any is_four_state digits then unsupported (codes "four-state")
+    else f)) (valued size head.signed head.base digits (start + length digits - 1)))
 
-pub bad_size : (bs : List ℕ) (size : Option ℕ) (head : Head) → is_size size ≡ false → based_at bs size head ≡ bad_number
+pub bad_size : (bs : List ℕ) (size : Option ℕ) (head : Head) → is_size size ≡ false →
+    based_at bs size head ≡ bad_number
 bad_size bs size head is = rw is refl
 
 -- a head seen from the bytes before it
-pub head_moved : (bytes : List ℕ) (n : ℕ) (head : CodeHead) → head_behind (drop n bytes) 1 head ≡ head_behind bytes (n + 1) head
+pub head_moved : (bytes : List ℕ) (n : ℕ) (head : CodeHead) →
+    head_behind (drop n bytes) 1 head ≡ head_behind bytes (n + 1) head
 head_moved bytes n head =
     let behind : drop 1 (drop n bytes) ≡ drop (n + 1) bytes = drop-drop 1 n bytes in
     rw behind refl
@@ -224,37 +272,48 @@ head_moved bytes n head =
 abbrev pub IsNumberBy : ℕ → List ℕ → ℕ → ℕ → Type 0
 IsNumberBy b bs n m =
     number_at b bs ≡
-    option_map_or (based_at bs (Some (value_in 10 (take n (b ∷ bs))))) (quoted_head_at (drop n (b ∷ bs)))
+    option_map_or (based_at bs (Some (value_in 10 (take n (b ∷ bs)))))
+    (quoted_head_at (drop n (b ∷ bs)))
     (decimal_at b (take m bs) (drop n (b ∷ bs)))
 
-number_by : (b : ℕ) (bs : List ℕ) → IsNumberBy b bs (suc (prefix_len continues_decimal bs)) (prefix_len continues_decimal bs)
+number_by : (b : ℕ) (bs : List ℕ) →
+    IsNumberBy b bs (suc (prefix_len continues_decimal bs)) (prefix_len continues_decimal bs)
 unfolding number_at
 number_by b bs =
     let more : List ℕ = take_while continues_decimal bs in
-    ap (λ (k : ℕ). option_map_or (based_at bs (Some (value_in 10 (b ∷ more)))) (quoted_head_at (drop k bs)) (decimal_at b more (drop k bs)))
+    ap (λ (k : ℕ). option_map_or (based_at bs (Some (value_in 10 (b ∷ more))))
+    (quoted_head_at (drop k bs)) (decimal_at b more (drop k bs)))
     (length-prefix_len continues_decimal bs)
 
-pub number_is : (bytes : List ℕ) (n : ℕ) → 0 < length bytes → n ≡ 1 + prefix_len continues_decimal (drop 1 bytes) →
+pub number_is : (bytes : List ℕ) (n : ℕ) → 0 < length bytes →
+    n ≡ 1 + prefix_len continues_decimal (drop 1 bytes) →
     number_at (get_or bytes 0 0) (drop 1 bytes) ≡
-    option_map_or (based_at (drop 1 bytes) (Some (value_in 10 (take n bytes)))) (quoted_head_at (drop n bytes))
+    option_map_or (based_at (drop 1 bytes) (Some (value_in 10 (take n bytes))))
+    (quoted_head_at (drop n bytes))
     (decimal_at (get_or bytes 0 0) (take (n - 1) (drop 1 bytes)) (drop n bytes))
 number_is [] n some is = absurd (omega arith)
 number_is (b ∷ bs) n some is =
     let next : suc (prefix_len continues_decimal bs) ≡ n = omega arith in
     let less : prefix_len continues_decimal bs ≡ n - 1 = omega arith in
-    subst (λ (m : ℕ). IsNumberBy b bs n m) less (subst (λ (k : ℕ). IsNumberBy b bs k (prefix_len continues_decimal bs)) next (number_by b bs))
+    subst (λ (m : ℕ). IsNumberBy b bs n m) less
+    (subst (λ (k : ℕ). IsNumberBy b bs k (prefix_len continues_decimal bs)) next
+    (number_by b bs))
 
 pub unsized_is : (bytes : List ℕ) (o : Option Head) → o ≡ head_at (drop 1 bytes) →
     unsized_number_at (drop 1 bytes) ≡ option_map_or (based_at (drop 1 bytes) None) o bad_byte
 unfolding unsized_number_at
-unsized_is bytes o is = ap (λ (p : Option Head). option_map_or (based_at (drop 1 bytes) None) p bad_byte) (sym is)
+unsized_is bytes o is =
+    ap (λ (p : Option Head). option_map_or (based_at (drop 1 bytes) None) p bad_byte) (sym is)
 
-pub number_none : (bytes : List ℕ) (n : ℕ) → 0 < length bytes → n ≡ 1 + prefix_len continues_decimal (drop 1 bytes) →
+pub number_none : (bytes : List ℕ) (n : ℕ) → 0 < length bytes →
+    n ≡ 1 + prefix_len continues_decimal (drop 1 bytes) →
     None ≡ quoted_head_at (drop n bytes) →
-    number_at (get_or bytes 0 0) (drop 1 bytes) ≡ decimal_at (get_or bytes 0 0) (take (n - 1) (drop 1 bytes)) (drop n bytes)
+    number_at (get_or bytes 0 0) (drop 1 bytes) ≡
+    decimal_at (get_or bytes 0 0) (take (n - 1) (drop 1 bytes)) (drop n bytes)
 number_none bytes n some is none =
     number_is bytes n some is
-    ∙ ap (λ (o : Option Head). option_map_or (based_at (drop 1 bytes) (Some (value_in 10 (take n bytes)))) o
+    ∙ ap (λ (o : Option Head).
+    option_map_or (based_at (drop 1 bytes) (Some (value_in 10 (take n bytes)))) o
     (decimal_at (get_or bytes 0 0) (take (n - 1) (drop 1 bytes)) (drop n bytes))) (sym none)
 
 pub number_some : (bytes : List ℕ) (n : ℕ) (head : CodeHead) → 0 < length bytes →
@@ -264,24 +323,31 @@ pub number_some : (bytes : List ℕ) (n : ℕ) (head : CodeHead) → 0 < length 
     based_at (drop 1 bytes) (Some (value_in 10 (take n bytes))) (head_behind bytes (n + 1) head)
 number_some bytes n head some is found =
     number_is bytes n some is
-    ∙ ap (λ (o : Option Head). option_map_or (based_at (drop 1 bytes) (Some (value_in 10 (take n bytes)))) o
+    ∙ ap (λ (o : Option Head).
+    option_map_or (based_at (drop 1 bytes) (Some (value_in 10 (take n bytes)))) o
     (decimal_at (get_or bytes 0 0) (take (n - 1) (drop 1 bytes)) (drop n bytes))) (sym found)
     ∙ ap (based_at (drop 1 bytes) (Some (value_in 10 (take n bytes)))) (head_moved bytes n head)
 
 -- the digits that the code takes are those of the definition
-pub digits_are : (rest others : List ℕ) (n : ℕ) → rest ≡ others → n ≡ prefix_len continues_digits rest →
+pub digits_are : (rest others : List ℕ) (n : ℕ) → rest ≡ others →
+    n ≡ prefix_len continues_digits rest →
     take n rest ≡ take_while continues_digits others
 digits_are rest others n same is =
-    ap (λ (k : ℕ). take k rest) is ∙ ap (λ (bs : List ℕ). take (prefix_len continues_digits bs) bs) same
+    ap (λ (k : ℕ). take k rest) is ∙ ap (λ (bs : List ℕ).
+    take (prefix_len continues_digits bs) bs) same
 
 pub based_four : (size : Option ℕ) (signed : Bool) (base : ℕ) (digits : List ℕ) (more : ℕ) →
     next_is is_underscore digits ≡ false → list_any is_four_state digits ≡ true →
     based_front size signed base digits more ≡ unsupported (codes "four-state")
 based_four size signed base digits more clean four = rw (clean, four) refl
 
-pub based_known : (size : Option ℕ) (signed : Bool) (base : ℕ) (digits : List ℕ) (more : ℕ) (o : Option ℕ) →
-    next_is is_underscore digits ≡ false → list_any is_four_state digits ≡ false → o ≡ literal_value size base digits →
+pub based_known : (size : Option ℕ) (signed : Bool) (base : ℕ) (digits : List ℕ) (more : ℕ)
+    (o : Option ℕ) →
+    next_is is_underscore digits ≡ false → list_any is_four_state digits ≡ false →
+    o ≡ literal_value size base digits →
     based_front size signed base digits more ≡
     option_map_or (λ v. token (numeral (based_literal size signed v)) more) o bad_number
 based_known size signed base digits more o clean two is =
-    rw (clean, two) (ap (λ (p : Option ℕ). option_map_or (λ v. token (numeral (based_literal size signed v)) more) p bad_number) (sym is))
+    rw (clean, two) (ap (λ (p : Option ℕ).
+    option_map_or (λ v. token (numeral (based_literal size signed v)) more) p bad_number)
+    (sym is))

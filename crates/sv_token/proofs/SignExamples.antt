@@ -1,15 +1,21 @@
 -- Signs: what the plain program finds.
 use Rattle.std.proofs.Common.{◌≡◌, true, [], ◌∷◌, map, replicate, Some, None, refl}
 use Rattle.std.specs.Prelude.{codes}
-use Rattle.sv_token.specs.declared.signs.SignKind.TheVariants.{Question, Colon, Semicolon, Comma, Dot, OpenParenthesis, CloseParenthesis, OpenBracket, CloseBracket, OpenBrace, CloseBrace, Equals, Hash, At}
+use Rattle.sv_token.specs.declared.signs.SignKind.TheVariants.{Question, Colon, Semicolon, Comma}
+use Rattle.sv_token.specs.declared.signs.SignKind.TheVariants.{Dot, OpenParenthesis}
+use Rattle.sv_token.specs.declared.signs.SignKind.TheVariants.{CloseParenthesis, OpenBracket}
+use Rattle.sv_token.specs.declared.signs.SignKind.TheVariants.{CloseBracket, OpenBrace, CloseBrace}
+use Rattle.sv_token.specs.declared.signs.SignKind.TheVariants.{Equals, Hash, At}
 use Rattle.sv_token.specs.Lexed.{lexed, tokens}
-use Rattle.sv_token.proofs.Computed.{computed, the_name, the_sign, the_operator, unsized, refused_at, left_out_at}
+use Rattle.sv_token.proofs.Computed.{computed, the_name, the_sign, the_operator, unsized}
+use Rattle.sv_token.proofs.Computed.{refused_at, left_out_at}
 
 -- the operators between two operands; some stand before one too
 pub binary_operators :
     lexed (codes "* / % + - << >> <<< >>> < <= > >= == != & ^ ~^ ^~ | && ||") ≡
     tokens
-    (the_operator (Some 0) None 1 1 ∷ the_operator (Some 1) None 1 3 ∷ the_operator (Some 2) None 1 5
+    (the_operator (Some 0) None 1 1 ∷ the_operator (Some 1) None 1 3 ∷
+    the_operator (Some 2) None 1 5
     ∷ the_operator (Some 3) (Some 0) 1 7 ∷ the_operator (Some 4) (Some 1) 1 9
     ∷ the_operator (Some 5) None 1 11 ∷ the_operator (Some 6) None 1 14
     ∷ the_operator (Some 7) None 1 17 ∷ the_operator (Some 8) None 1 21
@@ -27,7 +33,8 @@ binary_operators = refl
 pub unary_operators :
     lexed (codes "! ~ ~& ~|") ≡
     tokens
-    (the_operator None (Some 2) 1 1 ∷ the_operator None (Some 3) 1 3 ∷ the_operator None (Some 5) 1 5
+    (the_operator None (Some 2) 1 1 ∷ the_operator None (Some 3) 1 3 ∷
+    the_operator None (Some 5) 1 5
     ∷ the_operator None (Some 7) 1 8 ∷ [])
 unfolding computed
 unary_operators = refl
@@ -87,7 +94,8 @@ signs_side_by_side = refl
 -- signs of forms that are left out
 pub left_out_signs :
     map lexed
-    (codes "a===b" ∷ codes "a!==!b" ∷ codes "a**b" ∷ codes "1+:1" ∷ codes "a-:1" ∷ codes "@->" ∷ []) ≡
+    (codes "a===b" ∷ codes "a!==!b" ∷ codes "a**b" ∷ codes "1+:1" ∷ codes "a-:1" ∷
+    codes "@->" ∷ []) ≡
     left_out_at (codes "case-equality") 1 2 ∷ left_out_at (codes "case-equality") 1 2
     ∷ left_out_at (codes "power") 1 2 ∷ left_out_at (codes "indexed-part") 1 2
     ∷ left_out_at (codes "indexed-part") 1 2 ∷ left_out_at (codes "event") 1 2 ∷ []

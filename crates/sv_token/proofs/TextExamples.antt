@@ -1,4 +1,5 @@
--- Gaps between tokens, and places: what the plain program finds. At the end the same is said by the relation.
+-- Gaps between tokens, and places: what the plain program finds. At the end the same is said by the
+-- relation.
 use Rattle.std.proofs.Common.{◌≡◌, false, [], ◌∷◌, ◌++◌, map, replicate, Some, None, refl}
 use Rattle.std.specs.Prelude.{codes}
 use Rattle.sv_token.specs.declared.keywords.WordKind.TheVariants.{Module, Endmodule}
@@ -6,7 +7,8 @@ use Rattle.sv_token.specs.declared.signs.SignKind.TheVariants.{Semicolon}
 use Rattle.sv_token.specs.Lexed.{lexed, tokens}
 use Rattle.sv_token.specs.Tokens.{AreTokensOf, BreaksLexis}
 use Rattle.sv_token.proofs.Agreement.{found_are_tokens, found_is_broken}
-use Rattle.sv_token.proofs.Computed.{computed, the_word, the_name, the_sign, the_operator, sized, refused_at, left_out_at}
+use Rattle.sv_token.proofs.Computed.{computed, the_word, the_name, the_sign, the_operator, sized}
+use Rattle.sv_token.proofs.Computed.{refused_at, left_out_at}
 
 -- an empty text has no tokens
 pub empty_text : lexed [] ≡ tokens []
@@ -59,7 +61,8 @@ unfolding computed
 parted_by_comments = refl
 
 -- lines of two directives are skipped from the backquote on, whatever stands there
-pub skipped_lines : lexed (codes "a `timescale 1ns/1ps /* ' \\\nb `default_nettype none\nc `timescale") ≡
+pub skipped_lines : lexed
+    (codes "a `timescale 1ns/1ps /* ' \\\nb `default_nettype none\nc `timescale") ≡
     tokens (the_name (codes "a") 1 1 ∷ the_name (codes "b") 2 1 ∷ the_name (codes "c") 3 1 ∷ [])
 unfolding computed
 skipped_lines = refl

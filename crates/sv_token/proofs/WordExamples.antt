@@ -1,12 +1,20 @@
 -- Words and names: what the plain program finds.
 use Rattle.std.proofs.Common.{◌≡◌, ℕ, true, false, List, [], ◌∷◌, ◌++◌, map, replicate, refl}
 use Rattle.std.specs.Prelude.{codes, flat_map}
-use Rattle.sv_token.specs.declared.keywords.WordKind.TheVariants.{Always, Assign, Begin, Case, Default, Else, End, Endcase, Endmodule, If, Input, Localparam, Module, Output, Parameter, Posedge, Reg, Signed, Wire, Lattice, Endlattice, Labelmap, Endlabelmap, Point, Invariant, Release}
+use Rattle.sv_token.specs.declared.keywords.WordKind.TheVariants.{Always, Assign, Begin, Case}
+use Rattle.sv_token.specs.declared.keywords.WordKind.TheVariants.{Default, Else, End, Endcase}
+use Rattle.sv_token.specs.declared.keywords.WordKind.TheVariants.{Endmodule, If, Input, Localparam}
+use Rattle.sv_token.specs.declared.keywords.WordKind.TheVariants.{Module, Output, Parameter}
+use Rattle.sv_token.specs.declared.keywords.WordKind.TheVariants.{Posedge, Reg, Signed, Wire}
+use Rattle.sv_token.specs.declared.keywords.WordKind.TheVariants.{Lattice, Endlattice, Labelmap}
+use Rattle.sv_token.specs.declared.keywords.WordKind.TheVariants.{Endlabelmap, Point, Invariant}
+use Rattle.sv_token.specs.declared.keywords.WordKind.TheVariants.{Release}
 use Rattle.sv_token.specs.declared.signs.SignKind.TheVariants.{OpenParenthesis}
 use Rattle.sv_token.specs.Lexed.{Lexed, lexed, tokens, refused}
 use Rattle.sv_token.specs.Lexemes.{Lexeme, word, identifier, numeral, sign}
 use Rattle.sv_token.specs.Words.{word_of, is_refused_word, is_reserved}
-use Rattle.sv_token.proofs.Computed.{computed, the_word, the_name, the_sign, refused_at, left_out_at}
+use Rattle.sv_token.proofs.Computed.{computed, the_word, the_name, the_sign, refused_at}
+use Rattle.sv_token.proofs.Computed.{left_out_at}
 
 -- each word of the grammar
 pub each_word :
@@ -55,7 +63,8 @@ each_refused_word = refl
 -- a word names nothing, refused or not; other texts may
 pub reserved_words :
     map is_reserved
-    (codes "and" ∷ codes "point" ∷ codes "invariant" ∷ codes "$release" ∷ codes "x" ∷ codes "And" ∷ []) ≡
+    (codes "and" ∷ codes "point" ∷ codes "invariant" ∷ codes "$release" ∷ codes "x" ∷
+    codes "And" ∷ []) ≡
     true ∷ true ∷ true ∷ true ∷ false ∷ false ∷ []
 unfolding word_of is_refused_word
 reserved_words = refl

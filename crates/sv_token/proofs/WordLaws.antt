@@ -1,5 +1,7 @@
 -- Words and their kinds.
-use Rattle.std.proofs.Common.{◌≡◌, ℕ, ◌+◌, ◌-◌, ◌<◌, Bool, true, false, cond, Bor, List, [], ◌∷◌, take, drop, length, get_or, map, Option, Some, refl, sym, ap, subst, ◌∙◌, arith}
+use Rattle.std.proofs.Common.{◌≡◌, ℕ, ◌+◌, ◌-◌, ◌<◌, Bool, true, false, cond, Bor, List, [], ◌∷◌}
+use Rattle.std.proofs.Common.{take, drop, length, get_or, map, Option, Some, refl, sym, ap, subst}
+use Rattle.std.proofs.Common.{◌∙◌, arith}
 use Rattle.std.specs.Prelude.{option_map, codes, find, if◌then◌else◌}
 use Rattle.std.specs.List.{prefix_len}
 use Rattle.std.specs.Option.{option_map_or}
@@ -8,7 +10,8 @@ use Rattle.std.proofs.lemmas.Cmp.{nat_list_eq_equiv}
 use Rattle.std.proofs.lemmas.List.Folds.{length-prefix_len}
 use Rattle.std.proofs.Math.Numerals.{add-one}
 use Rattle.sv_token.specs.declared.keywords.WordKind.{WordKind}
-use Rattle.sv_token.specs.declared.keywords.WordKind.TheVariants.{Else, End, Endcase, Endmodule, Endlattice, Endlabelmap}
+use Rattle.sv_token.specs.declared.keywords.WordKind.TheVariants.{Else, End, Endcase, Endmodule}
+use Rattle.sv_token.specs.declared.keywords.WordKind.TheVariants.{Endlattice, Endlabelmap}
 use Rattle.sv_token.specs.Bytes.{entry, continues_name, begins_name, next_is}
 use Rattle.sv_token.specs.Fronts.{token, unsupported, bad_byte}
 use Rattle.sv_token.specs.Lexemes.{word, identifier, between}
@@ -19,16 +22,24 @@ abbrev pub row_of : Bor (List ℕ) × WordKind → List ℕ × WordKind
 row_of row = (row.0.now, row.1)
 
 pub found_entry : (text : List ℕ) (rows : List (Bor (List ℕ) × WordKind)) →
-    option_map (λ (row : Bor (List ℕ) × WordKind). row.1) (find (λ (row : Bor (List ℕ) × WordKind). bytes_eq row.0.now text) rows) ≡
+    option_map (λ (row : Bor (List ℕ) × WordKind).
+    row.1) (find (λ (row : Bor (List ℕ) × WordKind). bytes_eq row.0.now text) rows) ≡
     entry (map row_of rows) text
 found_entry text [] = refl
-found_entry text (row ∷ rows) = step (bytes_eq row.0.now text) (bytes_eq text row.0.now) (nat_list_eq_equiv.symm row.0.now text) (found_entry text rows)
+found_entry text (row ∷ rows) =
+    step (bytes_eq row.0.now text) (bytes_eq text row.0.now) (nat_list_eq_equiv.symm row.0.now text)
+    (found_entry text rows)
   where
     step : (t u : Bool) → t ≡ u →
-        option_map (λ (row : Bor (List ℕ) × WordKind). row.1) (find (λ (row : Bor (List ℕ) × WordKind). bytes_eq row.0.now text) rows) ≡
+        option_map (λ (row : Bor (List ℕ) × WordKind).
+        row.1) (find (λ (row : Bor (List ℕ) × WordKind). bytes_eq row.0.now text) rows) ≡
         entry (map row_of rows) text →
-        option_map (λ (row : Bor (List ℕ) × WordKind). row.1) (cond t (Some row) (find (λ (row : Bor (List ℕ) × WordKind). bytes_eq row.0.now text) rows)) ≡
-        option_map (λ (row : List ℕ × WordKind). row.1) (cond u (Some (row_of row)) (find (λ (row : List ℕ × WordKind). bytes_eq text row.0) (map row_of rows)))
+        option_map (λ (row : Bor (List ℕ) × WordKind).
+        row.1) (cond t (Some row) (find (λ (row : Bor (List ℕ) × WordKind).
+        bytes_eq row.0.now text) rows)) ≡
+        option_map (λ (row : List ℕ × WordKind).
+        row.1) (cond u (Some (row_of row)) (find (λ (row : List ℕ × WordKind).
+        bytes_eq text row.0) (map row_of rows)))
     step true true e others = refl
     step false false e others = others
     step true false e others = absurd cc
@@ -40,36 +51,45 @@ take-first b bs n = rw add-one refl
 -- a name by what its text is
 pub name_is : (bytes : List ℕ) (n : ℕ) (o : Option WordKind) → 0 < length bytes →
     n ≡ prefix_len continues_name (drop 1 bytes) → o ≡ word_of (take (n + 1) bytes) →
-    name_at (get_or bytes 0 0) (drop 1 bytes) ≡ token (option_map_or word o (identifier (between 0 (n + 1) bytes))) n
+    name_at (get_or bytes 0 0) (drop 1 bytes) ≡
+    token (option_map_or word o (identifier (between 0 (n + 1) bytes))) n
 unfolding name_at
 name_is [] n o some is kind = absurd (omega arith)
 name_is (b ∷ bs) n o some is kind =
     let text : b ∷ take (prefix_len continues_name bs) bs ≡ take (n + 1) (b ∷ bs) =
     ap (λ k. b ∷ take k bs) (sym is) ∙ sym (take-first b bs n) in
-    let known : word_of (b ∷ take (prefix_len continues_name bs) bs) ≡ o = ap word_of text ∙ sym kind in
-    let count : length (take (prefix_len continues_name bs) bs) ≡ n = length-prefix_len continues_name bs ∙ sym is in
+    let known : word_of (b ∷ take (prefix_len continues_name bs) bs) ≡ o =
+    ap word_of text ∙ sym kind in
+    let count : length (take (prefix_len continues_name bs) bs) ≡ n =
+    length-prefix_len continues_name bs ∙ sym is in
     let all : (n + 1) - 0 ≡ n + 1 = omega arith in
     rw (known, text, count, all) refl
 
 -- a name of the system by what its text is
-pub system_name_is : (bytes : List ℕ) (n : ℕ) (o : Option WordKind) → 0 < length bytes → get_or bytes 0 0 ≡ 36 →
+pub system_name_is : (bytes : List ℕ) (n : ℕ) (o : Option WordKind) → 0 < length bytes →
+    get_or bytes 0 0 ≡ 36 →
     n ≡ prefix_len continues_name (drop 1 bytes) → o ≡ word_of (take (n + 1) bytes) →
     system_name_at (drop 1 bytes) ≡
     option_map_or (λ w. token (word w) n) o
-    (if next_is begins_name (take n (drop 1 bytes)) then unsupported (codes "system-name") else bad_byte)
+    (if next_is begins_name (take n (drop 1 bytes)) then unsupported (codes "system-name")
+    else bad_byte)
 unfolding system_name_at
 system_name_is [] n o some dollar is kind = absurd (omega arith)
 system_name_is (b ∷ bs) n o some dollar is kind =
     let text : 36 ∷ take (prefix_len continues_name bs) bs ≡ take (n + 1) (b ∷ bs) =
-    ap (λ k. 36 ∷ take k bs) (sym is) ∙ ap (λ d. d ∷ take n bs) (sym dollar) ∙ sym (take-first b bs n) in
-    let known : word_of (36 ∷ take (prefix_len continues_name bs) bs) ≡ o = ap word_of text ∙ sym kind in
-    let count : length (take (prefix_len continues_name bs) bs) ≡ n = length-prefix_len continues_name bs ∙ sym is in
+    ap (λ k. 36 ∷ take k bs) (sym is) ∙ ap (λ d. d ∷ take n bs) (sym dollar)
+    ∙ sym (take-first b bs n) in
+    let known : word_of (36 ∷ take (prefix_len continues_name bs) bs) ≡ o =
+    ap word_of text ∙ sym kind in
+    let count : length (take (prefix_len continues_name bs) bs) ≡ n =
+    length-prefix_len continues_name bs ∙ sym is in
     rw (known, count, ← is) refl
 
 -- the words of the table that begin with `e`
 abbrev pub e_rows : List (List ℕ × WordKind)
 e_rows =
-    (codes "else", Else) ∷ (codes "end", End) ∷ (codes "endcase", Endcase) ∷ (codes "endmodule", Endmodule)
+    (codes "else", Else) ∷ (codes "end", End) ∷ (codes "endcase", Endcase) ∷
+    (codes "endmodule", Endmodule)
     ∷ (codes "endlattice", Endlattice) ∷ (codes "endlabelmap", Endlabelmap) ∷ []
 
 pub e_words : (text : List ℕ) → get_or text 0 0 ≡ 101 → entry e_rows text ≡ word_of text

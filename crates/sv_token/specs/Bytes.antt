@@ -1,5 +1,6 @@
 -- Bytes and what they can stand in (IEEE 1364-2005, clause 3). Letters are those of ASCII.
-use Rattle.std.specs.Prelude.{ℕ, Bool, false, ◌&&◌, ◌||◌, nat_eq, nat_le, List, [], ◌∷◌, find, Option, option_map}
+use Rattle.std.specs.Prelude.{ℕ, Bool, false, ◌&&◌, ◌||◌, nat_eq, nat_le, List, [], ◌∷◌, find}
+use Rattle.std.specs.Prelude.{Option, option_map}
 use Rattle.std.specs.List.{starts_with}
 use Rattle.std.specs.Str.{bytes_eq}
 

@@ -2,8 +2,8 @@
 use Rattle.std.specs.Prelude.{ℕ, List, [], ◌∷◌}
 use Rattle.sv_token.specs.Lexemes.{Lexeme}
 
--- the first byte and so many behind it are a gap between tokens; or they are a token; or a rule is broken,
--- with its number and its names
+-- the first byte and so many behind it are a gap between tokens; or they are a token; or a rule is
+-- broken, with its number and its names
 pub data Front : Type 0 where
   gap : ℕ → Front
   token : Lexeme → ℕ → Front

@@ -9,7 +9,8 @@ use Rattle.sv_token.specs.declared.tokens.Token.{Token}
 use Rattle.sv_token.specs.declared.tokens.TokenKind.{TokenKind}
 use Rattle.sv_token.specs.declared.tokens.TokenKind.TheVariants as token_kind
 
--- a number of the text: its length in bits, its sign, its value below 2^width, and whether its length is written
+-- a number of the text: its length in bits, its sign, its value below 2^width, and whether its
+-- length is written
 pub record Literal : Type 0 where
   pub width : ℕ
   pub signed : Bool
@@ -28,7 +29,13 @@ pub record Placed : Type 0 where
   pub place : Place
 
 abbrev pub literal_of : Lit → Literal
-literal_of l = record { width = width_of l.bits; signed = is_signed l.bits; value = value_of l.bits; sized = l.sized }
+literal_of l =
+    record {
+      width = width_of l.bits;
+      signed = is_signed l.bits;
+      value = value_of l.bits;
+      sized = l.sized;
+    }
 
 -- the bytes from one place of a list up to another
 abbrev pub between : ℕ → ℕ → List ℕ → List ℕ

@@ -2,10 +2,14 @@
 -- that it says, and is signed where it says so. This project's profile: numbers without a length
 -- have 32 bits and are below 2^32, lengths are 1 to 64, values below 2^128, and no blanks stand
 -- within a number.
-use Rattle.std.specs.Prelude.{ℕ, ◌+◌, ◌-◌, ◌*◌, ◌%◌, ◌^◌, Bool, true, false, not, ◌&&◌, ◌||◌, nat_eq, nat_le, nat_lt, if◌then◌else◌, List, [], ◌∷◌, length, drop, filter, find, fold, take_while, Option, Some, None, option_map, is_some, unwrap_or, codes}
+use Rattle.std.specs.Prelude.{ℕ, ◌+◌, ◌-◌, ◌*◌, ◌%◌, ◌^◌, Bool, true, false, not, ◌&&◌, ◌||◌}
+use Rattle.std.specs.Prelude.{nat_eq, nat_le, nat_lt, if◌then◌else◌, List, [], ◌∷◌, length, drop}
+use Rattle.std.specs.Prelude.{filter, find, fold, take_while, Option, Some, None, option_map}
+use Rattle.std.specs.Prelude.{is_some, unwrap_or, codes}
 use Rattle.std.specs.List.{list_any, list_all}
 use Rattle.std.specs.Option.{option_map_or}
-use Rattle.sv_token.specs.Bytes.{is_letter, is_upper_case, is_lower_case, is_digit, is_underscore, is_dollar, next_is}
+use Rattle.sv_token.specs.Bytes.{is_letter, is_upper_case, is_lower_case, is_digit, is_underscore}
+use Rattle.sv_token.specs.Bytes.{is_dollar, next_is}
 use Rattle.sv_token.specs.Fronts.{Front, token, bad_byte, bad_number, unsupported}
 use Rattle.sv_token.specs.Lexemes.{Literal, numeral}
 
@@ -31,7 +35,8 @@ value_in base digits =
 -- whether there are digits, and all are digits of the base
 abbrev pub are_digits_in : ℕ → List ℕ → Bool
 are_digits_in base digits =
-    nat_lt 0 (length digits) && list_all (λ digit. nat_lt (digit_value digit) base) (without_underscores digits)
+    nat_lt 0 (length digits) && list_all (λ digit.
+    nat_lt (digit_value digit) base) (without_underscores digits)
 
 -- Plain decimals.
 
@@ -137,7 +142,8 @@ unfoldable pub number_at : ℕ → List ℕ → Front
 number_at b bs =
     let more = take_while continues_decimal bs in
     let rest = drop (length more) bs in
-    option_map_or (based_at bs (Some (value_in 10 (b ∷ more)))) (quoted_head_at rest) (decimal_at b more rest)
+    option_map_or (based_at bs (Some (value_in 10 (b ∷ more)))) (quoted_head_at rest)
+    (decimal_at b more rest)
 
 -- behind `'`: a based literal without a size
 unfoldable pub unsized_number_at : List ℕ → Front

@@ -1,6 +1,7 @@
--- Operators and punctuation (IEEE 1364-2005, clauses 3 and 5). The longest sign is taken, where signs of forms that
--- are left out count too.
-use Rattle.std.specs.Prelude.{ℕ, ◌-◌, max, ◌||◌, if◌then◌else◌, List, [], ◌∷◌, ◌++◌, length, map, take, position, fold, Option, Some, None, is_some, codes}
+-- Operators and punctuation (IEEE 1364-2005, clauses 3 and 5). The longest sign is taken, where
+-- signs of forms that are left out count too.
+use Rattle.std.specs.Prelude.{ℕ, ◌-◌, max, ◌||◌, if◌then◌else◌, List, [], ◌∷◌, ◌++◌, length, map}
+use Rattle.std.specs.Prelude.{take, position, fold, Option, Some, None, is_some, codes}
 use Rattle.std.specs.Option.{option_map_or}
 use Rattle.std.specs.Str.{bytes_eq}
 use Rattle.sv_num.specs.OperatorTables.{binary_table, unary_table}
@@ -60,7 +61,8 @@ abbrev pub operator_of : List ℕ → Option SignKind
 operator_of text =
     let binary = row_of binary_spellings text in
     let unary = row_of unary_spellings text in
-    if is_some binary || is_some unary then Some (sign_kind.Operator (record { binary = binary; unary = unary }))
+    if is_some binary || is_some unary
+    then Some (sign_kind.Operator (record { binary = binary; unary = unary }))
     else None
 
 -- the sign that the text spells
@@ -69,11 +71,13 @@ sign_of text = option_map_or Some (entry punctuation text) (operator_of text)
 
 -- every spelling of a sign
 abbrev pub sign_spellings : List (List ℕ)
-sign_spellings = binary_spellings ++ unary_spellings ++ spellings punctuation ++ spellings left_out_signs
+sign_spellings =
+    binary_spellings ++ unary_spellings ++ spellings punctuation ++ spellings left_out_signs
 
 -- the length of the longest of the texts that the bytes begin with, or 0
 abbrev pub longest : List (List ℕ) → List ℕ → ℕ
-longest texts bytes = fold (λ n text. if begin_with text bytes then max n (length text) else n) 0 texts
+longest texts bytes =
+    fold (λ n text. if begin_with text bytes then max n (length text) else n) 0 texts
 
 -- the longest sign at the front of the bytes, as its text
 unfoldable pub sign_text : List ℕ → List ℕ

@@ -11,7 +11,8 @@ IsAtSpan bytes t =
     (b : ℕ) × (bs : List ℕ) × (drop t.start bytes ≡ b ∷ bs)
     × (front_at b bs ≡ token (lexeme_of bytes t.kind t.start t.«end») (t.«end» - t.start - 1))
 
--- each span holds a byte or more, and begins where the one before it ends or later; the first from `from` on
+-- each span holds a byte or more, and begins where the one before it ends or later; the first from
+-- `from` on
 abbrev pub AreInOrder : ℕ → List Token → Type 0
 AreInOrder from [] = Unit {0}
 AreInOrder from (t ∷ ts) = (from ≤ t.start) × (t.start < t.«end») × AreInOrder t.«end» ts

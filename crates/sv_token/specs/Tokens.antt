@@ -1,4 +1,5 @@
--- The tokens of a text (IEEE 1364-2005, clause 3), and the first place where it breaks a rule on tokens.
+-- The tokens of a text (IEEE 1364-2005, clause 3), and the first place where it breaks a rule on
+-- tokens.
 use Rattle.std.specs.Prelude.{◌≡◌, ℕ, ◌+◌, if◌then◌else◌, List, [], ◌∷◌, drop, take, fold, codes}
 use Rattle.sv_num.specs.declared.faults.Place.{Place}
 use Rattle.sv_token.specs.Bytes.{is_blank, is_line_feed, is_digit, begins_name, begin_with}
@@ -39,7 +40,8 @@ next_place place b =
 abbrev pub place_behind : Place → List ℕ → Place
 place_behind place text = fold next_place place text
 
--- from a place on the bytes have these tokens, up to the place `stop` from which the bytes `rest` are left
+-- from a place on the bytes have these tokens, up to the place `stop` from which the bytes `rest`
+-- are left
 pub data HasTokensUpTo (stop : Place) (rest : List ℕ) : Place → List ℕ → List Placed → Type 0 where
   stopped : HasTokensUpTo stop rest stop rest []
   past_gap : {place : Place} {b : ℕ} {bs : List ℕ} {n : ℕ} {ts : List Placed} →

@@ -1,12 +1,16 @@
 -- What the fronts of the code say.
-use Rattle.std.specs.Prelude.{ℕ, ◌+◌, ◌-◌, not, ◌||◌, nat_le, if◌then◌else◌, List, [], ◌∷◌, length, drop, Option, Some, None, option_map, codes}
+use Rattle.std.specs.Prelude.{ℕ, ◌+◌, ◌-◌, not, ◌||◌, nat_le, if◌then◌else◌, List, [], ◌∷◌, length}
+use Rattle.std.specs.Prelude.{drop, Option, Some, None, option_map, codes}
 use Rattle.std.specs.Option.{option_map_or}
 use Rattle.sv_num.specs.declared.faults.Fault.{Fault}
 use Rattle.sv_num.specs.declared.faults.Fault.TheVariants.{Rule, OutOfMemory}
 use Rattle.sv_token.specs.declared.fronts.Form.{Form}
-use Rattle.sv_token.specs.declared.fronts.Form.TheVariants.{SystemName, Directive, EscapedName, Text, Real, FourState, CaseEquality, Power, IndexedPart, Event}
+use Rattle.sv_token.specs.declared.fronts.Form.TheVariants.{SystemName, Directive, EscapedName}
+use Rattle.sv_token.specs.declared.fronts.Form.TheVariants.{Text, Real, FourState, CaseEquality}
+use Rattle.sv_token.specs.declared.fronts.Form.TheVariants.{Power, IndexedPart, Event}
 use Rattle.sv_token.specs.declared.fronts.Breach.{Breach}
-use Rattle.sv_token.specs.declared.fronts.Breach.TheVariants.{BadByte, BadNumber, OpenComment, LeftOut}
+use Rattle.sv_token.specs.declared.fronts.Breach.TheVariants.{BadByte, BadNumber, OpenComment}
+use Rattle.sv_token.specs.declared.fronts.Breach.TheVariants.{LeftOut}
 use Rattle.sv_token.specs.declared.fronts.Front.{Front as CodeFront}
 use Rattle.sv_token.specs.declared.fronts.Front.TheVariants as code_front
 use Rattle.sv_token.specs.Bytes.{entry}
@@ -67,7 +71,8 @@ spelled text =
     let known = option_map (λ s. token (sign s) (length text - 1)) (sign_of text) in
     option_map_or (λ form. Some (unsupported form)) (entry left_out_signs text) known
 
--- a text that breaks a rule is refused for the first that it breaks, where it breaks it. Memory may run out at any text
+-- a text that breaks a rule is refused for the first that it breaks, where it breaks it. Memory may
+-- run out at any text
 abbrev pub IsFaultOf : List ℕ → Fault → Type 0
 IsFaultOf bytes (Rule refusal) = BreaksLexis refusal.number refusal.names.items refusal.place bytes
 IsFaultOf bytes OutOfMemory = Unit {0}

@@ -1,7 +1,8 @@
 // Bytes and what they can stand in.
 ghost use Rattle.std.specs.Prelude.{◌≡◌, ◌≤◌, length};
 ghost use Rattle.std.specs.List.{prefix_len, position_or_len};
-ghost use Rattle.sv_token.specs.Bytes.{is_blank, is_digit, is_line_feed, begins_name, continues_name, next_is};
+ghost use Rattle.sv_token.specs.Bytes.{is_blank, is_digit, is_line_feed, begins_name};
+ghost use Rattle.sv_token.specs.Bytes.{continues_name, next_is};
 
 /// Whether the byte is a blank (IEEE 1364-2005, clause 3).
 pub fn is_blank(byte: u8) -> bool
@@ -36,14 +37,10 @@ pub fn name_length(bytes: &[u8]) -> usize
     ensures is { result ≡ prefix_len continues_name bytes.now }
     ensures within { result ≤ length bytes.now }
 {
-    let mut length = 0;
-    for byte in bytes {
-        if !continues_name(*byte) {
-            return length;
-        }
-        length += 1;
-    }
-    length
+    bytes
+        .iter()
+        .take_while(|byte| continues_name(**byte))
+        .count()
 }
 
 /// Whether a name begins here.
@@ -57,15 +54,9 @@ pub fn name_is_next(bytes: &[u8]) -> bool
 }
 
 /// How many bytes stand before the line feed, or how many there are where there is none.
+#[tactic(auto, using(crate::proofs::LineLaws::before_line_feed))]
 pub fn rest_of_line(bytes: &[u8]) -> usize
     ensures { result ≡ position_or_len is_line_feed bytes.now }
 {
-    let mut length = 0;
-    for byte in bytes {
-        if *byte == b'\n' {
-            return length;
-        }
-        length += 1;
-    }
-    length
+    bytes.iter().take_while(|byte| **byte != b'\n').count()
 }

@@ -33,7 +33,7 @@ pub enum Form {
 }
 
 impl Form {
-    /// The word that a refusal of the form gives.
+    // The word that a refusal of the form gives.
     fn word(self) -> &'static [u8]
         ensures { result.now ≡ form_word self }
     {

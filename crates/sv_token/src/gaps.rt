@@ -2,7 +2,8 @@
 ghost use Rattle.std.specs.Prelude.{◌≡◌, ◌<◌, ◌≤◌, length, drop, IfSome};
 ghost use Rattle.std.specs.List.{list_any};
 ghost use Rattle.std.specs.Str.{bytes_eq};
-ghost use Rattle.sv_token.specs.Gaps.{close_length, skipped_directives, block_comment_at, directive_at};
+ghost use Rattle.sv_token.specs.Gaps.{close_length, skipped_directives, block_comment_at};
+ghost use Rattle.sv_token.specs.Gaps.{directive_at};
 ghost use Rattle.sv_token.specs.Views.{front_of};
 
 use crate::bytes::{name_is_next, name_length, rest_of_line};

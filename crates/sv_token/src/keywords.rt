@@ -1,7 +1,7 @@
 // Reserved words that stand in the grammar.
 
-/// A word of the grammar. Most are those of the standard (IEEE 1364-2005, annex B); those of labels, of invariants and
-/// `$release` are SecVerilog's and this project's.
+/// A word of the grammar. Most are those of the standard (IEEE 1364-2005, annex B); those of
+/// labels, of invariants and `$release` are SecVerilog's and this project's.
 #[derive(Clone, Copy, Debug, PartialEq, Eq)]
 pub enum WordKind {
     /// `always`

@@ -1,5 +1,6 @@
 // From bytes to tokens.
-ghost use Rattle.std.specs.Prelude.{◌≡◌, ◌+◌, ◌-◌, ◌^◌, ◌<◌, ◌≤◌, length, take, drop, slice_index, All, IfOk, IfErr};
+ghost use Rattle.std.specs.Prelude.{◌≡◌, ◌+◌, ◌-◌, ◌^◌, ◌<◌, ◌≤◌, length, take, drop, slice_index};
+ghost use Rattle.std.specs.Prelude.{All, IfOk, IfErr};
 ghost use Rattle.sv_token.specs.Tokens.{AreTokensOf, front_at, next_place, place_behind};
 ghost use Rattle.sv_token.specs.Lexemes.{placed_tokens};
 ghost use Rattle.sv_token.specs.Spans.{IsAtSpan, AreInOrder};
@@ -84,7 +85,8 @@ impl Cursor {
         ensures position { result.position ≡ self.position + more + 1 }
         ensures line { result.place.line ≤ self.place.line + more + 1 }
         ensures column { result.place.column ≤ self.place.column + more + 1 }
-        ensures place { result.place ≡ place_behind self.place (take (more + 1) (drop self.position bytes.now)) }
+        ensures place { result.place ≡
+            place_behind self.place (take (more + 1) (drop self.position bytes.now)) }
     {
         let position = self.position + more + 1;
         let mut place = self.place;
@@ -95,13 +97,15 @@ impl Cursor {
     }
 }
 
-/// The tokens of a text (IEEE 1364-2005, clause 3), each with the bytes that it spans and its place. A text that breaks a
-/// rule on tokens is refused at the first place where it does: rule 101 where a byte begins no token, 102 where a number
-/// is none, 103 where a comment has no end, 104, with the word for the form, where a form of the standard is left out.
-/// Each byte is read a bounded number of times, and memory is taken only for the tokens and for a refusal.
+/// The tokens of a text (IEEE 1364-2005, clause 3), each with the bytes that it spans and its
+/// place. A text that breaks a rule on tokens is refused at the first place where it does: rule 101
+/// where a byte begins no token, 102 where a number is none, 103 where a comment has no end, 104,
+/// with the word for the form, where a form of the standard is left out. Each byte is read a
+/// bounded number of times, and memory is taken only for the tokens and for a refusal.
 pub fn lex(alloc: Global, bytes: &[u8]) -> Result<Vec<Token>, Fault>
     requires { length bytes.now < 2 ^ 32 - 1 }
-    ensures tokens { IfOk result (λ tokens. AreTokensOf bytes.now (placed_tokens bytes.now tokens.items)) }
+    ensures tokens { IfOk result (λ tokens.
+        AreTokensOf bytes.now (placed_tokens bytes.now tokens.items)) }
     ensures spans { IfOk result (λ tokens. All (IsAtSpan bytes.now) tokens.items) }
     ensures order { IfOk result (λ tokens. AreInOrder 0 tokens.items) }
     ensures refusal { IfErr result (λ fault. IsFaultOf bytes.now fault) }

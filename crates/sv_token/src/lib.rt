@@ -1,7 +1,7 @@
 //! Tokens: what a text is made of, without its blanks, comments and skipped lines.
 //!
-//! A token is plain data: its kind, the bytes that it spans and its place. What bytes are which tokens, and where a text
-//! breaks a lexical rule, is said in `specs/`; `lex` reads them.
+//! A token is plain data: its kind, the bytes that it spans and its place. What bytes are which
+//! tokens, and where a text breaks a lexical rule, is said in `specs/`; `lex` reads them.
 #![tactic(auto)]
 
 mod bytes;

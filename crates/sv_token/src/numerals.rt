@@ -1,9 +1,15 @@
 // Numbers (IEEE 1364-2005, clause 3.5).
-ghost use Rattle.std.specs.Prelude.{◌≡◌, ℕ, ◌+◌, ◌-◌, ◌%◌, ◌^◌, ◌<◌, ◌≤◌, false, Some, Option, length, take, drop, slice_index, option_map, MatchOption, IfSome, is_some, unwrap_or, ◌||◌, nat_lt};
+ghost use Rattle.std.specs.Prelude.{◌≡◌, ℕ, ◌+◌, ◌-◌, ◌%◌, ◌^◌, ◌<◌, ◌≤◌, false, Some, Option};
+ghost use Rattle.std.specs.Prelude.{length, take, drop, slice_index, option_map, MatchOption};
+ghost use Rattle.std.specs.Prelude.{IfSome, is_some, unwrap_or, ◌||◌, nat_lt};
 ghost use Rattle.std.specs.List.{prefix_len, list_all, list_any};
 ghost use Rattle.sv_token.specs.Lexemes.{literal_of};
 ghost use Rattle.sv_token.specs.Bytes.{is_underscore, next_is};
-ghost use Rattle.sv_token.specs.Numerals.{digit_value, value_in, are_digits_in, begins_fraction, spoils_decimal, continues_decimal, continues_digits, base_of, head_at, quoted_head_at, is_four_state, is_size, value_bound, based_literal, plain_literal, based_at, decimal_at, number_at, unsized_number_at};
+ghost use Rattle.sv_token.specs.Numerals.{digit_value, value_in, are_digits_in, begins_fraction};
+ghost use Rattle.sv_token.specs.Numerals.{spoils_decimal, continues_decimal, continues_digits};
+ghost use Rattle.sv_token.specs.Numerals.{base_of, head_at, quoted_head_at, is_four_state, is_size};
+ghost use Rattle.sv_token.specs.Numerals.{value_bound, based_literal, plain_literal, based_at};
+ghost use Rattle.sv_token.specs.Numerals.{decimal_at, number_at, unsized_number_at};
 ghost use Rattle.sv_token.specs.Views.{front_of, head_behind, literal_value};
 
 use crate::fronts::{Breach, Form, Front};
@@ -25,7 +31,8 @@ fn digit_value(byte: u8) -> u8
 // The number that digits spell in a base. None from 2^128 on.
 fn value_in(base: u8, digits: &[u8]) -> Option<u128>
     requires { 1 ≤ base }
-    ensures { MatchOption result (2 ^ 128 ≤ value_in base digits.now) (λ value. value ≡ value_in base digits.now) }
+    ensures { MatchOption result (2 ^ 128 ≤ value_in base digits.now) (λ value.
+        value ≡ value_in base digits.now) }
 {
     let mut value: u128 = 0;
     for byte in digits {
@@ -95,7 +102,9 @@ fn is_spoiled(bytes: &[u8]) -> bool
 fn decimal_at(bytes: &[u8], count: usize) -> Front
     requires some { 1 ≤ count }
     requires within { count ≤ length bytes.now }
-    ensures { front_of bytes.now result ≡ decimal_at (slice_index bytes.now 0) (take (count - 1) (drop 1 bytes.now)) (drop count bytes.now) }
+    ensures { front_of bytes.now result ≡
+        decimal_at (slice_index bytes.now 0) (take (count - 1) (drop 1 bytes.now))
+        (drop count bytes.now) }
 {
     let rest = &bytes[count..];
     if begins_fraction(rest) {
@@ -222,7 +231,8 @@ fn based_literal(size: Option<u8>, signed: bool, value: u128) -> Lit
     }
 }
 
-// The value of digits that are digits of the base. None where they are not, or where the value is too large.
+// The value of digits that are digits of the base. None where they are not, or where the value is
+// too large.
 fn checked_value(size: Option<u8>, base: u8, digits: &[u8]) -> Option<u128>
     requires { 1 ≤ base }
     ensures { result ≡ literal_value size base digits.now }
@@ -243,7 +253,8 @@ fn based_at(bytes: &[u8], quote: usize, size: Option<u8>, head: Head) -> Front
     requires base { 2 ≤ head.base }
     requires some { 1 ≤ unwrap_or size 32 }
     requires few { unwrap_or size 32 ≤ 64 }
-    ensures { front_of bytes.now result ≡ based_at (drop 1 bytes.now) size (head_behind bytes.now (quote + 1) head) }
+    ensures { front_of bytes.now result ≡
+        based_at (drop 1 bytes.now) size (head_behind bytes.now (quote + 1) head) }
 {
     let start = quote + 1 + head.length;
     let rest = &bytes[start..];
@@ -265,7 +276,8 @@ fn based_at(bytes: &[u8], quote: usize, size: Option<u8>, head: Head) -> Front
 
 // The size that digits spell. None unless it is 1 to 64.
 fn size_in(digits: &[u8]) -> Option<u8>
-    ensures { MatchOption result (is_size (Some (value_in 10 digits.now)) ≡ false) (λ n. (n ≡ value_in 10 digits.now) × (1 ≤ n) × (n ≤ 64)) }
+    ensures { MatchOption result (is_size (Some (value_in 10 digits.now)) ≡ false) (λ n.
+        (n ≡ value_in 10 digits.now) × (1 ≤ n) × (n ≤ 64)) }
 {
     match value_in(10, digits) {
         Some(size) if 1 <= size && size <= 64 => Some(size as u8),

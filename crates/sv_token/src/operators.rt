@@ -1,7 +1,8 @@
 // Signs by their texts.
 ghost use Rattle.std.specs.Prelude.{◌≡◌, ◌<◌, ◌≤◌, length, take, option_map};
 ghost use Rattle.sv_token.specs.Bytes.{entry};
-ghost use Rattle.sv_token.specs.Signs.{punctuation, row_of, binary_spellings, unary_spellings, operator_of, left_out_signs, sign_of, sign_at};
+ghost use Rattle.sv_token.specs.Signs.{punctuation, row_of, binary_spellings, unary_spellings};
+ghost use Rattle.sv_token.specs.Signs.{operator_of, left_out_signs, sign_of, sign_at};
 ghost use Rattle.sv_token.specs.Views.{form_word, front_of, spelled};
 
 use crate::fronts::{Breach, Form, Front};

@@ -1,7 +1,8 @@
 // Signs: operators and punctuation.
 
-/// An operator by the rows of its spelling in the operator tables (`sv_num::BINARY`, `sv_num::UNARY`), counted from 0.
-/// At least one of the rows is there; both are where the spelling stands between operands as well as before one, as `-`.
+/// An operator by the rows of its spelling in the operator tables (`sv_num::BINARY`,
+/// `sv_num::UNARY`), counted from 0. At least one of the rows is there; both are where the spelling
+/// stands between operands as well as before one, as `-`.
 #[derive(Clone, Copy, Debug, PartialEq, Eq)]
 pub struct Operator {
     /// The row among the binary operators.

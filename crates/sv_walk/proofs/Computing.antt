@@ -2,26 +2,37 @@
 use Rattle.sv_ast.specs.Values.{value, sign_of}
 use Rattle.sv_walk.specs.Walks.{each}
 use Rattle.sv_walk.specs.TypedExpressions.{names_signal, typed_of}
-use Rattle.sv_walk.specs.ExpressionSteps.{sized_parts, typed_walk, expression_walk, constant_walk, divisors, asked}
+use Rattle.sv_walk.specs.ExpressionSteps.{sized_parts, typed_walk, expression_walk, constant_walk}
+use Rattle.sv_walk.specs.ExpressionSteps.{divisors, asked}
 use Rattle.sv_walk.specs.Targets.{selection_steps, target_steps, targets_steps, assignment_walk}
 use Rattle.sv_walk.specs.CaseChains.{item_length, item_sign, keeps_length, is_complete}
 use Rattle.sv_walk.specs.Statements.{items_walk, statement_walk}
-use Rattle.sv_walk.specs.Declarations.{range_steps, final_walk, parameter_walk, signal_walk, declaration_walk, declarations_walk, declared_until}
+use Rattle.sv_walk.specs.Declarations.{range_steps, final_walk, parameter_walk, signal_walk}
+use Rattle.sv_walk.specs.Declarations.{declaration_walk, declarations_walk, declared_until}
 use Rattle.sv_walk.specs.Lattices.{answered, pair_steps, order_steps, checked_order, lattice_walk}
 use Rattle.sv_walk.specs.LabelMaps.{rows_walk, default_walk, map_walk, maps_walk}
-use Rattle.sv_walk.specs.LabelSteps.{second_selector, second_fits, label_walk, given_label, labels_walk}
+use Rattle.sv_walk.specs.LabelSteps.{second_selector, second_fits, label_walk, given_label}
+use Rattle.sv_walk.specs.LabelSteps.{labels_walk}
 use Rattle.sv_walk.specs.Overrides.{named_walk, ordered_walk, overrides_walk}
-use Rattle.sv_walk.specs.Links.{input_link, output_link, link_walk, optional_link, named_links_walk, ordered_links_walk, links_walk}
-use Rattle.sv_walk.specs.InstanceSteps.{value_walk, assign_walk, always_walk, ports_of, instance_walk, item_walk, items_from, module_walk, site_walk}
+use Rattle.sv_walk.specs.Links.{input_link, output_link, link_walk, optional_link, named_links_walk}
+use Rattle.sv_walk.specs.Links.{ordered_links_walk, links_walk}
+use Rattle.sv_walk.specs.InstanceSteps.{value_walk, assign_walk, always_walk, ports_of}
+use Rattle.sv_walk.specs.InstanceSteps.{instance_walk, item_walk, items_from, module_walk}
+use Rattle.sv_walk.specs.InstanceSteps.{site_walk}
 use Rattle.sv_walk.specs.Texts.{module_names, top_walk, walk_of}
 
 unfoldable pub computing : Unit {0}
-unfolding value sign_of each names_signal typed_of sized_parts typed_walk expression_walk constant_walk
+unfolding value sign_of each names_signal typed_of sized_parts typed_walk expression_walk
+    constant_walk
     divisors asked selection_steps target_steps targets_steps assignment_walk item_length item_sign
-    keeps_length is_complete items_walk statement_walk range_steps final_walk parameter_walk signal_walk
-    declaration_walk declarations_walk declared_until answered pair_steps order_steps checked_order lattice_walk
+    keeps_length is_complete items_walk statement_walk range_steps final_walk parameter_walk
+    signal_walk
+    declaration_walk declarations_walk declared_until answered pair_steps order_steps checked_order
+    lattice_walk
     rows_walk default_walk map_walk maps_walk second_selector second_fits label_walk given_label
-    labels_walk named_walk ordered_walk overrides_walk input_link output_link link_walk optional_link named_links_walk
-    ordered_links_walk links_walk value_walk assign_walk always_walk ports_of instance_walk item_walk
+    labels_walk named_walk ordered_walk overrides_walk input_link output_link link_walk
+    optional_link named_links_walk
+    ordered_links_walk links_walk value_walk assign_walk always_walk ports_of instance_walk
+    item_walk
     items_from module_walk site_walk module_names top_walk walk_of
 computing = tt

@@ -15,13 +15,15 @@ same_ends passed (Err s) f g h = refl
 -- some declarations and then others are walked as all of them
 pub declared_in_two : (base least : ℕ) (site : Site) (xs ys : List ItemTree) (so_far : Declared)
     → (declarations_walk base least site so_far (xs ++ ys)).end
-    ≡ (declarations_walk base least site so_far xs >>= λ next. declarations_walk base least site next ys).end
+    ≡ (declarations_walk base least site so_far xs >>= λ next.
+    declarations_walk base least site next ys).end
 unfolding declarations_walk
 declared_in_two base least site [] ys so_far = refl
 declared_in_two base least site (item ∷ xs) ys so_far =
     let first : Walk Declared = declaration_walk base least site so_far item in
     same_ends first.passed first.end (λ next. declarations_walk base least site next (xs ++ ys))
-    (λ next. declarations_walk base least site next xs >>= λ last. declarations_walk base least site last ys)
+    (λ next. declarations_walk base least site next xs >>= λ last.
+    declarations_walk base least site last ys)
     (λ next. declared_in_two base least site xs ys next)
     ∙ sym (joined_ends first (λ next. declarations_walk base least site next xs)
     (λ last. declarations_walk base least site last ys))

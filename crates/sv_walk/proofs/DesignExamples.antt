@@ -1,26 +1,37 @@
 -- Flat designs of small texts, compared whole or in the part that an example is about.
 use Prim.Native.String.{String}
-use Rattle.std.proofs.Common.{◌≡◌, ℕ, ◌-◌, true, false, List, [], ◌∷◌, Option, Some, None, map, refl}
+use Rattle.std.proofs.Common.{◌≡◌, ℕ, ◌-◌, true, false, List, [], ◌∷◌, Option, Some, None, map}
+use Rattle.std.proofs.Common.{refl}
 use Rattle.std.specs.Prelude.{codes, option_map}
 use Rattle.sv_num.specs.declared.operators.UnOp.TheVariants as unop
 use Rattle.sv_num.specs.declared.operators.BinOp.TheVariants as binop
 use Rattle.sv_lattice.specs.declared.labels.Label.{Label}
 use Rattle.sv_lattice.specs.declared.labels.Label.TheVariants as label
-use Rattle.sv_ast.specs.Tree.{unary, named_overrides, ordered_overrides, named_links, ordered_links, if_only, case_of, more_arms, no_arms, block, TextTree}
+use Rattle.sv_ast.specs.Tree.{unary, named_overrides, ordered_overrides, named_links, ordered_links}
+use Rattle.sv_ast.specs.Tree.{if_only, case_of, more_arms, no_arms, block, TextTree}
 use Rattle.sv_ast.specs.declared.declarations.DeclKind.TheVariants as kind
 use Rattle.sv_flat.specs.declared.signals.SigKind.{SigKind}
 use Rattle.sv_flat.specs.declared.signals.SigKind.TheVariants as signal_kind
-use Rattle.sv_flat.specs.Design.{SignalForm, TypedTree, typed, constant, read, binary, PieceForm, FlatStatement, nothing, after, assign, branch, ProcessKind, continuous, port_in, port_out, combinational, clocked, ProcessForm, FlatDesign}
+use Rattle.sv_flat.specs.Design.{SignalForm, TypedTree, typed, constant, read, binary, PieceForm}
+use Rattle.sv_flat.specs.Design.{FlatStatement, nothing, after, assign, branch, ProcessKind}
+use Rattle.sv_flat.specs.Design.{continuous, port_in, port_out, combinational, clocked, ProcessForm}
+use Rattle.sv_flat.specs.Design.{FlatDesign}
 use Rattle.sv_walk.specs.Texts.{flat_of}
 use Rattle.sv_walk.proofs.Computing.{computing}
-use Rattle.sv_walk.proofs.SmallTexts.{at, name, decimal, bits, op, target, target_part, gets, gets_later, in_order, range, declares, input, output, output_reg, wire_with, point_of, pair_table, sets_default, parameter, assigns, always, on_edge, override, link, stands, module_of, placed, pair, lattice_of, pair_row, map_tree, span, text_of}
+use Rattle.sv_walk.proofs.SmallTexts.{at, name, decimal, bits, op, target, target_part, gets}
+use Rattle.sv_walk.proofs.SmallTexts.{gets_later, in_order, range, declares, input, output}
+use Rattle.sv_walk.proofs.SmallTexts.{output_reg, wire_with, point_of, pair_table, sets_default}
+use Rattle.sv_walk.proofs.SmallTexts.{parameter, assigns, always, on_edge, override, link, stands}
+use Rattle.sv_walk.proofs.SmallTexts.{module_of, placed, pair, lattice_of, pair_row, map_tree, span}
+use Rattle.sv_walk.proofs.SmallTexts.{text_of}
 
 -- point 0, the least one where the text has no lattice
 abbrev low : Label
 low = label.Point (record { 0 = 0 })
 
 abbrev signal_form : String → ℕ → SigKind → ℕ → SignalForm
-signal_form n w k c = record { name = codes n; width = w; signed = false; kind = k; label = low; place = at c }
+signal_form n w k c =
+    record { name = codes n; width = w; signed = false; kind = k; label = low; place = at c }
 
 -- a signal at a length, without sign
 abbrev reads : (width signal column : ℕ) → TypedTree
@@ -48,7 +59,8 @@ abbrev processes : TextTree → Option (List ProcessForm)
 processes text = option_map (λ (d : FlatDesign). d.processes) (flat_of text None)
 
 abbrev labels : TextTree → Option (List Label)
-labels text = option_map (λ (d : FlatDesign). map (λ (s : SignalForm). s.label) d.signals) (flat_of text None)
+labels text =
+    option_map (λ (d : FlatDesign). map (λ (s : SignalForm). s.label) d.signals) (flat_of text None)
 
 abbrev equal : (selector item : TypedTree) → TypedTree
 equal a b = typed 1 false (binary binop.Eq a b)
@@ -102,12 +114,14 @@ pub two_counters : flat_of counters None ≡ Some (record {
       ∷ process 224 port_in (now 5 224 1 (reads 1 1 224))
       ∷ process 232 port_out (now 2 232 4 (reads 4 6 232))
       ∷ process 76 (clocked 4) (branch (at 98) (reads 1 5 102)
-      (later 6 106 4 (typed 32 false (binary binop.Add (reads 32 6 111) (constant_at 32 1)))) nothing)
+      (later 6 106 4 (typed 32 false (binary binop.Add (reads 32 6 111) (constant_at 32 1))))
+      nothing)
       ∷ process 249 port_in (now 7 249 1 (reads 1 0 249))
       ∷ process 254 port_in (now 8 254 1 (reads 1 1 254))
       ∷ process 258 port_out (now 3 258 8 (reads 8 9 258))
       ∷ process 76 (clocked 7) (branch (at 98) (reads 1 8 102)
-      (later 9 106 8 (typed 32 false (binary binop.Add (reads 32 9 111) (constant_at 32 1)))) nothing) ∷ [];
+      (later 9 106 8 (typed 32 false (binary binop.Add (reads 32 9 111) (constant_at 32 1))))
+      nothing) ∷ [];
   lattice = 0b11 ∷ 0b10 ∷ [];
   points = codes "L" ∷ codes "H" ∷ [];
   maps = [];
@@ -203,9 +217,11 @@ carried =
     no_arms))) ∷ []) ∷ [])
 
 pub a_carry_passes_the_own_bits : processes carried ≡ Some (process 34 combinational
-    (branch (at 60) (equal (typed 32 false (binary binop.Add (reads 32 0 50) (constant_at 32 1))) (constant_at 32 0))
+    (branch (at 60) (equal (typed 32 false (binary binop.Add (reads 32 0 50) (constant_at 32 1)))
+    (constant_at 32 0))
     (now 1 63 1 (typed 32 true (constant 1)))
-    (branch (at 70) (equal (typed 32 false (binary binop.Add (reads 32 0 50) (constant_at 32 1))) (constant_at 32 1))
+    (branch (at 70) (equal (typed 32 false (binary binop.Add (reads 32 0 50) (constant_at 32 1)))
+    (constant_at 32 1))
     (now 1 73 1 (typed 32 true (constant 0)))
     nothing)) ∷ [])
 unfolding computing
@@ -227,12 +243,14 @@ divided =
     (op binop.Div 91 (unary unop.Minus (at 88) (decimal 7 89)) (decimal 2 93)) ∷ []) ∷ [])
 
 pub divisions_are_values : processes divided ≡ Some
-    (process 49 continuous (now 1 49 9 (typed 9 false (binary binop.Add (reads 9 0 53) (constant_at 9 127))))
+    (process 49 continuous
+    (now 1 49 9 (typed 9 false (binary binop.Add (reads 9 0 53) (constant_at 9 127))))
     ∷ process 84 continuous (now 2 84 32 (typed 32 true (constant 0xfffffffd))) ∷ [])
 unfolding computing
 divisions_are_values = refl
 
--- Targets: the last one has the lowest bits, and the right side is taken at the sum of their lengths.
+-- Targets: the last one has the lowest bits, and the right side is taken at the sum of their
+-- lengths.
 
 -- module m(input [3:0] a, input [3:0] b, output reg [3:0] s, output reg c, output reg [3:0] p);
 -- always @* {c, s} = a + b; always @* begin p[1:0] = a; p[3:2] = b; end endmodule
@@ -260,9 +278,11 @@ pub pieces_of_a_sum : processes carrying ≡ Some
     (process 95 combinational (assign (piece 3 106 1 4 ∷ piece 2 109 4 0 ∷ []) (at 106) true
     (typed 5 false (binary binop.Add (reads 5 0 114) (reads 5 1 118))))
     ∷ process 121 combinational (after
-    (assign (record { signal = 4; place = at 137; high = 1; low = 0; from = 0 } ∷ []) (at 137) true (reads 4 0 146))
+    (assign (record { signal = 4; place = at 137; high = 1; low = 0; from = 0 } ∷ []) (at 137) true
+    (reads 4 0 146))
     (after
-    (assign (record { signal = 4; place = at 149; high = 3; low = 2; from = 0 } ∷ []) (at 149) true (reads 4 1 158))
+    (assign (record { signal = 4; place = at 149; high = 3; low = 2; from = 0 } ∷ []) (at 149) true
+    (reads 4 1 158))
     nothing)) ∷ [])
 unfolding computing
 pieces_of_a_sum = refl
@@ -278,7 +298,8 @@ ranged =
     (op binop.Add 52 (bits 4 15 47) (bits 4 1 54))
     ∷ assigns (target "y" 67 ∷ []) 67 (name "U" 71) ∷ []) ∷ [])
 
-pub a_carry_is_lost_before_the_range : processes ranged ≡ Some (process 67 continuous (now 0 67 8 (constant_at 8 0)) ∷ [])
+pub a_carry_is_lost_before_the_range : processes ranged ≡
+    Some (process 67 continuous (now 0 67 8 (constant_at 8 0)) ∷ [])
 unfolding computing
 a_carry_is_lost_before_the_range = refl
 
@@ -302,11 +323,12 @@ pub a_label_of_two_selectors : labels selected ≡ Some (low ∷ low ∷ label.T
 unfolding computing
 a_label_of_two_selectors = refl
 
-pub rows_in_order : option_map (λ (d : FlatDesign). d.maps) (flat_of selected None) ≡ Some ((record {
-  first = 1;
-  second = Some 2;
-  rows = map (λ n. record { 0 = n }) (0 ∷ 1 ∷ 1 ∷ 1 ∷ 1 ∷ 1 ∷ 1 ∷ 0 ∷ []);
-}) ∷ [])
+pub rows_in_order : option_map (λ (d : FlatDesign). d.maps) (flat_of selected None) ≡
+    Some ((record {
+      first = 1;
+      second = Some 2;
+      rows = map (λ n. record { 0 = n }) (0 ∷ 1 ∷ 1 ∷ 1 ∷ 1 ∷ 1 ∷ 1 ∷ 0 ∷ []);
+    }) ∷ [])
 unfolding computing
 rows_in_order = refl
 
@@ -325,7 +347,8 @@ turned =
     (input None "a" 85 ∷ declares kind.Input None (point_of "D" 95) "b" 98 None ∷ [])
     [] ∷ [])
 
-pub the_least_point : labels turned ≡ Some (label.Point (record { 0 = 3 }) ∷ label.Point (record { 0 = 0 }) ∷ [])
+pub the_least_point :
+    labels turned ≡ Some (label.Point (record { 0 = 3 }) ∷ label.Point (record { 0 = 0 }) ∷ [])
 unfolding computing
 the_least_point = refl
 

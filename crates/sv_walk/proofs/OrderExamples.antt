@@ -3,10 +3,15 @@ use Rattle.std.proofs.Common.{◌≡◌, [], ◌∷◌, Some, None, refl}
 use Rattle.std.specs.Prelude.{codes}
 use Rattle.sv_num.specs.declared.operators.BinOp.TheVariants as binop
 use Rattle.sv_ast.specs.declared.declarations.DeclKind.TheVariants as kind
-use Rattle.sv_ast.specs.Tree.{named_overrides, ordered_links, named_links, case_of, more_arms, no_arms, declared}
+use Rattle.sv_ast.specs.Tree.{named_overrides, ordered_links, named_links, case_of, more_arms}
+use Rattle.sv_ast.specs.Tree.{no_arms, declared}
 use Rattle.sv_walk.specs.Texts.{walk_of}
 use Rattle.sv_walk.proofs.Computing.{computing}
-use Rattle.sv_walk.proofs.SmallTexts.{at, name, decimal, bits, op, bit, joined, target, target_bit, gets, range, declares, input, output, output_reg, wire, wire_with, point_of, parameter, assigns, always, override, no_overrides, no_links, link, stands, module_of, placed, pair, lattice_of, row, map_tree, span, text_of, breaks}
+use Rattle.sv_walk.proofs.SmallTexts.{at, name, decimal, bits, op, bit, joined, target, target_bit}
+use Rattle.sv_walk.proofs.SmallTexts.{gets, range, declares, input, output, output_reg, wire}
+use Rattle.sv_walk.proofs.SmallTexts.{wire_with, point_of, parameter, assigns, always, override}
+use Rattle.sv_walk.proofs.SmallTexts.{no_overrides, no_links, link, stands, module_of, placed, pair}
+use Rattle.sv_walk.proofs.SmallTexts.{lattice_of, row, map_tree, span, text_of, breaks}
 
 -- The lattice and the maps.
 
@@ -65,7 +70,8 @@ a_range_before_the_name = refl
 pub a_signal_may_be_named_before_it_is_declared : (walk_of (
     text_of None []
     (module_of "m" 8 [] (input None "a" 16 ∷ [])
-    (wire_with None "w" 25 (name "x" 29) ∷ wire_with None "x" 37 (name "nope" 41) ∷ []) ∷ [])) None).end
+    (wire_with None "w" 25 (name "x" 29) ∷ wire_with None "x" 37 (name "nope" 41) ∷ []) ∷ []))
+    None).end
     ≡ breaks 401 41 ("nope" ∷ [])
 unfolding computing
 a_signal_may_be_named_before_it_is_declared = refl
@@ -108,7 +114,8 @@ pub a_zero_divisor_after_the_other_rules : (walk_of (
     text_of None []
     (module_of "m" 8 [] []
     (wire_with None "w" 16
-    (op binop.Add 26 (op binop.Div 22 (decimal 1 20) (decimal 0 24)) (name "nope" 28)) ∷ []) ∷ [])) None).end
+    (op binop.Add 26 (op binop.Div 22 (decimal 1 20) (decimal 0 24)) (name "nope" 28)) ∷ []) ∷ []))
+    None).end
     ≡ breaks 401 28 ("nope" ∷ [])
 unfolding computing
 a_zero_divisor_after_the_other_rules = refl
@@ -141,7 +148,8 @@ pub the_pushed_length_of_a_divisor : (walk_of (
     (wire_with (range (decimal 15 17) (decimal 0 20)) "w" 23
     (op binop.Div 32 (bits 8 1 27) (op binop.Add 42 (bits 8 255 35) (bits 8 1 44)))
     ∷ wire_with None "x" 56
-    (op binop.Div 65 (bits 8 1 60) (op binop.Add 75 (bits 8 255 68) (bits 8 1 77))) ∷ []) ∷ [])) None).end
+    (op binop.Div 65 (bits 8 1 60) (op binop.Add 75 (bits 8 255 68) (bits 8 1 77))) ∷ []) ∷ []))
+    None).end
     ≡ breaks 405 75 []
 unfolding computing
 the_pushed_length_of_a_divisor = refl
@@ -154,7 +162,8 @@ pub targets_before_the_right_side : (walk_of (
     (module_of "m" 8 []
     (output_reg (range (decimal 63 22) (decimal 0 25)) "y" 28 ∷ [])
     (always 32
-    (gets (target "y" 43 ∷ target_bit "y" 46 (decimal 0 48) ∷ []) 43 (name "nope" 54)) ∷ []) ∷ [])) None).end
+    (gets (target "y" 43 ∷ target_bit "y" 46 (decimal 0 48) ∷ []) 43 (name "nope" 54)) ∷ []) ∷ []))
+    None).end
     ≡ breaks 402 43 []
 unfolding computing
 targets_before_the_right_side = refl
@@ -192,7 +201,8 @@ a_body_before_the_next_items = refl
 -- module m; wire u; q u(); endmodule
 pub the_module_before_the_name : (walk_of (
     text_of None []
-    (module_of "m" 8 [] [] (wire None "u" 16 ∷ stands "q" 19 no_overrides "u" 21 no_links ∷ []) ∷ [])) None).end
+    (module_of "m" 8 [] []
+    (wire None "u" 16 ∷ stands "q" 19 no_overrides "u" 21 no_links ∷ []) ∷ [])) None).end
     ≡ breaks 311 19 ("q" ∷ [])
 unfolding computing
 the_module_before_the_name = refl
@@ -200,7 +210,9 @@ the_module_before_the_name = refl
 -- module m; wire u; m u(); endmodule
 pub the_name_before_the_module_around : (walk_of (
     text_of None []
-    (module_of "m" 8 [] [] (wire None "u" 16 ∷ stands "m" 19 no_overrides "u" 21 no_links ∷ []) ∷ [])) (Some (codes "m"))).end
+    (module_of "m" 8 [] []
+    (wire None "u" 16 ∷ stands "m" 19 no_overrides "u" 21 no_links ∷ []) ∷ []))
+    (Some (codes "m"))).end
     ≡ breaks 312 21 ("u" ∷ [])
 unfolding computing
 the_name_before_the_module_around = refl
@@ -221,12 +233,14 @@ pub links_before_the_inside : (walk_of (
     text_of None []
     (module_of "m" 8 [] []
     (stands "s" 11 no_overrides "u" 13 (ordered_links (name "nope" 15 ∷ [])) ∷ [])
-    ∷ module_of "s" 39 [] (input None "i" 47 ∷ []) (wire_with None "w" 56 (name "z" 60) ∷ []) ∷ [])) None).end
+    ∷ module_of "s" 39 [] (input None "i" 47 ∷ []) (wire_with None "w" 56 (name "z" 60) ∷ []) ∷ []))
+    None).end
     ≡ breaks 401 15 ("nope" ∷ [])
 unfolding computing
 links_before_the_inside = refl
 
--- module m; s u(8'd1 / (8'd255 + 8'd1)); endmodule module s(input [15:0] i, input [z:0] j); endmodule
+-- module m; s u(8'd1 / (8'd255 + 8'd1)); endmodule module s(input [15:0] i, input [z:0] j);
+-- endmodule
 pub the_width_of_a_port_before_a_broken_one : (walk_of (
     text_of None []
     (module_of "m" 8 [] []
@@ -263,8 +277,10 @@ pub no_width_of_a_broken_port : (walk_of (
     text_of None []
     (module_of "m" 8 [] []
     (stands "s" 11 no_overrides "u" 13
-    (ordered_links (op binop.Div 20 (bits 4 1 15) (op binop.Add 28 (bits 4 8 23) (bits 4 8 30)) ∷ [])) ∷ [])
-    ∷ module_of "s" 55 [] (input (range (name "z" 64) (decimal 0 66)) "i" 69 ∷ []) [] ∷ [])) None).end
+    (ordered_links (op binop.Div 20 (bits 4 1 15)
+    (op binop.Add 28 (bits 4 8 23) (bits 4 8 30)) ∷ [])) ∷ [])
+    ∷ module_of "s" 55 [] (input (range (name "z" 64) (decimal 0 66)) "i" 69 ∷ []) [] ∷ []))
+    None).end
     ≡ breaks 405 28 []
 unfolding computing
 no_width_of_a_broken_port = refl

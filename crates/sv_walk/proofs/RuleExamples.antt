@@ -3,10 +3,16 @@ use Rattle.std.proofs.Common.{◌≡◌, [], ◌∷◌, Some, None, refl}
 use Rattle.std.specs.Prelude.{codes}
 use Rattle.sv_num.specs.declared.operators.BinOp.TheVariants as binop
 use Rattle.sv_ast.specs.declared.declarations.DeclKind.TheVariants as kind
-use Rattle.sv_ast.specs.Tree.{named_overrides, ordered_overrides, named_links, ordered_links, declared}
+use Rattle.sv_ast.specs.Tree.{named_overrides, ordered_overrides, named_links, ordered_links}
+use Rattle.sv_ast.specs.Tree.{declared}
 use Rattle.sv_walk.specs.Texts.{walk_of}
 use Rattle.sv_walk.proofs.Computing.{computing}
-use Rattle.sv_walk.proofs.SmallTexts.{name, decimal, op, bit, part, joined, times, target, gets_later, range, declares, input, output, output_reg, wire, wire_with, point_of, table_of, local, parameter, on_edge, override, no_overrides, link, no_link, no_links, stands, module_of, placed, pair, lattice_of, row, map_tree, span, text_of, breaks}
+use Rattle.sv_walk.proofs.SmallTexts.{name, decimal, op, bit, part, joined, times, target}
+use Rattle.sv_walk.proofs.SmallTexts.{gets_later, range, declares, input, output, output_reg, wire}
+use Rattle.sv_walk.proofs.SmallTexts.{wire_with, point_of, table_of, local, parameter, on_edge}
+use Rattle.sv_walk.proofs.SmallTexts.{override, no_overrides, link, no_link, no_links, stands}
+use Rattle.sv_walk.proofs.SmallTexts.{module_of, placed, pair, lattice_of, row, map_tree, span}
+use Rattle.sv_walk.proofs.SmallTexts.{text_of, breaks}
 
 -- The lattice.
 
@@ -62,7 +68,8 @@ two_points_without_a_meet = refl
 
 -- Label maps.
 
--- labelmap D [0:0] default: H; endlabelmap labelmap D [0:0] default: H; endlabelmap module m; endmodule
+-- labelmap D [0:0] default: H; endlabelmap labelmap D [0:0] default: H; endlabelmap module m;
+-- endmodule
 pub a_map_twice : (walk_of (
     text_of None
     (map_tree "D" 10 (span (decimal 0 13) (decimal 0 15)) None [] (Some (codes "H"))
@@ -115,7 +122,8 @@ two_modules_without_instances = refl
 
 -- module m; q u(); endmodule
 pub an_instance_of_no_module : (walk_of (
-    text_of None [] (module_of "m" 8 [] [] (stands "q" 11 no_overrides "u" 13 no_links ∷ []) ∷ [])) None).end
+    text_of None [] (module_of "m" 8 [] [] (stands "q" 11 no_overrides "u" 13 no_links ∷ []) ∷ []))
+    None).end
     ≡ breaks 311 11 ("q" ∷ [])
 unfolding computing
 an_instance_of_no_module = refl
@@ -129,7 +137,8 @@ a_module_twice = refl
 
 -- module m; wire x, x; endmodule
 pub a_signal_twice : (walk_of (
-    text_of None [] (module_of "m" 8 [] [] (wire None "x" 16 ∷ wire None "x" 19 ∷ []) ∷ [])) None).end
+    text_of None [] (module_of "m" 8 [] [] (wire None "x" 16 ∷ wire None "x" 19 ∷ []) ∷ []))
+    None).end
     ≡ breaks 312 19 ("x" ∷ [])
 unfolding computing
 a_signal_twice = refl
@@ -190,7 +199,8 @@ an_output_linked_to_a_bit = refl
 
 -- module m; m u(); endmodule
 pub a_module_inside_itself : (walk_of (
-    text_of None [] (module_of "m" 8 [] [] (stands "m" 11 no_overrides "u" 13 no_links ∷ []) ∷ [])) (Some (codes "m"))).end
+    text_of None [] (module_of "m" 8 [] [] (stands "m" 11 no_overrides "u" 13 no_links ∷ []) ∷ []))
+    (Some (codes "m"))).end
     ≡ breaks 314 11 ("m" ∷ [])
 unfolding computing
 a_module_inside_itself = refl
@@ -219,7 +229,8 @@ an_override_too_many = refl
 
 -- module m; wire w = nope; endmodule
 pub an_unknown_name : (walk_of (
-    text_of None [] (module_of "m" 8 [] [] (wire_with None "w" 16 (name "nope" 20) ∷ []) ∷ [])) None).end
+    text_of None [] (module_of "m" 8 [] [] (wire_with None "w" 16 (name "nope" 20) ∷ []) ∷ []))
+    None).end
     ≡ breaks 401 20 ("nope" ∷ [])
 unfolding computing
 an_unknown_name = refl
@@ -248,7 +259,8 @@ a_parameter_after_posedge = refl
 pub a_join_of_more_than_64_bits : (walk_of (
     text_of None []
     (module_of "m" 8 [] (input (range (decimal 63 17) (decimal 0 20)) "a" 23 ∷ [])
-    (wire_with None "w" 32 (joined 36 (name "a" 37 ∷ bit "a" 40 (decimal 0 42) ∷ [])) ∷ []) ∷ [])) None).end
+    (wire_with None "w" 32 (joined 36 (name "a" 37 ∷ bit "a" 40 (decimal 0 42) ∷ [])) ∷ []) ∷ []))
+    None).end
     ≡ breaks 402 36 []
 unfolding computing
 a_join_of_more_than_64_bits = refl

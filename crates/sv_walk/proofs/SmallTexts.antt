@@ -6,7 +6,15 @@ use Rattle.sv_num.specs.declared.faults.Place.{Place}
 use Rattle.sv_num.specs.declared.operators.BinOp.{BinOp}
 use Rattle.sv_ast.specs.declared.declarations.DeclKind.{DeclKind}
 use Rattle.sv_ast.specs.declared.declarations.DeclKind.TheVariants as kind
-use Rattle.sv_ast.specs.Tree.{ExpressionTree, ExpressionTrees, literal, named, bit_of, part_of, binary, join, replication, no_expressions, more_expressions, whole, bit_at, part_from, TargetTree, StatementTree, assignment, StatementTrees, no_statements, more_statements, SpanTree, LabelTree, point_label, table_label, DeclarationTree, ParameterTree, NamedOverride, OverrideTrees, ordered_overrides, NamedLink, LinkTrees, ordered_links, PlacedName, ItemTree, parameter_item, declared, continuous, always_item, instance_item, ModuleTree, PairTree, LatticeTree, KeyTree, RowTree, MapTree, TextTree}
+use Rattle.sv_ast.specs.Tree.{ExpressionTree, ExpressionTrees, literal, named, bit_of, part_of}
+use Rattle.sv_ast.specs.Tree.{binary, join, replication, no_expressions, more_expressions, whole}
+use Rattle.sv_ast.specs.Tree.{bit_at, part_from, TargetTree, StatementTree, assignment}
+use Rattle.sv_ast.specs.Tree.{StatementTrees, no_statements, more_statements, SpanTree, LabelTree}
+use Rattle.sv_ast.specs.Tree.{point_label, table_label, DeclarationTree, ParameterTree}
+use Rattle.sv_ast.specs.Tree.{NamedOverride, OverrideTrees, ordered_overrides, NamedLink, LinkTrees}
+use Rattle.sv_ast.specs.Tree.{ordered_links, PlacedName, ItemTree, parameter_item, declared}
+use Rattle.sv_ast.specs.Tree.{continuous, always_item, instance_item, ModuleTree, PairTree}
+use Rattle.sv_ast.specs.Tree.{LatticeTree, KeyTree, RowTree, MapTree, TextTree}
 use Rattle.sv_walk.specs.Walks.{Step}
 use Rattle.sv_walk.specs.Rules.{step}
 use Rattle.sv_flat.specs.Design.{FlatDesign}
@@ -71,9 +79,19 @@ in_order (s ∷ ss) = more_statements s (in_order ss)
 abbrev pub range : ExpressionTree → ExpressionTree → Option SpanTree
 range h l = Some (record { high = h; low = l })
 
-abbrev pub declares : DeclKind → Option SpanTree → Option LabelTree → String → ℕ → Option ExpressionTree
+abbrev pub declares : DeclKind → Option SpanTree → Option LabelTree → String → ℕ
+    → Option ExpressionTree
     → DeclarationTree
-declares k r l n c v = record { kind = k; signed = false; span = r; label = l; name = codes n; place = at c; value = v }
+declares k r l n c v =
+    record {
+      kind = k;
+      signed = false;
+      span = r;
+      label = l;
+      name = codes n;
+      place = at c;
+      value = v;
+    }
 
 abbrev pub input : Option SpanTree → String → ℕ → DeclarationTree
 input r n c = declares kind.Input r None n c None
@@ -100,7 +118,8 @@ abbrev pub pair_table : String → ℕ → String → String → Option LabelTre
 pair_table n c s t = Some (table_label (codes n) (codes s) (Some (codes t)) (at c))
 
 abbrev pub parameter_tree : Bool → Option SpanTree → String → ℕ → ExpressionTree → ParameterTree
-parameter_tree l r n c e = record { local = l; signed = false; span = r; name = codes n; place = at c; value = e }
+parameter_tree l r n c e =
+    record { local = l; signed = false; span = r; name = codes n; place = at c; value = e }
 
 abbrev pub sets_default : Option SpanTree → String → ℕ → ExpressionTree → ParameterTree
 sets_default = parameter_tree false
@@ -143,13 +162,21 @@ no_link n c = record { name = codes n; place = at c; value = None }
 -- an instance of a module
 abbrev pub stands : String → ℕ → OverrideTrees → String → ℕ → LinkTrees → ItemTree
 stands m c os n d ls =
-    instance_item (record { master = codes m; place = at c; overrides = os; name = codes n; name_place = at d; links = ls })
+    instance_item (record {
+      master = codes m;
+      place = at c;
+      overrides = os;
+      name = codes n;
+      name_place = at d;
+      links = ls;
+    })
 
 -- Texts.
 
 abbrev pub module_of : String → ℕ → List ParameterTree → List DeclarationTree → List ItemTree
     → ModuleTree
-module_of n c ps ports items = record { name = codes n; place = at c; parameters = ps; ports = ports; items = items }
+module_of n c ps ports items =
+    record { name = codes n; place = at c; parameters = ps; ports = ports; items = items }
 
 abbrev pub pair : String → ℕ → String → ℕ → PairTree
 pair a c b d = record { lower = placed a c; upper = placed b d }
@@ -159,7 +186,8 @@ lattice_of c points pairs = Some (record { place = at c; points = points; pairs 
 
 -- a row with one key, and one with two; each key is a plain decimal
 abbrev pub key : (n column : ℕ) → KeyTree
-key n c = record { value = record { width = 32; signed = true; value = n; sized = false }; place = at c }
+key n c =
+    record { value = record { width = 32; signed = true; value = n; sized = false }; place = at c }
 
 abbrev pub row : (n column : ℕ) → String → RowTree
 row n c p = record { first = key n c; second = None; to = codes p }
@@ -167,7 +195,8 @@ row n c p = record { first = key n c; second = None; to = codes p }
 abbrev pub pair_row : (n column m second : ℕ) → String → RowTree
 pair_row n c m d p = record { first = key n c; second = Some (key m d); to = codes p }
 
-abbrev pub map_tree : String → ℕ → SpanTree → Option SpanTree → List RowTree → Option (List ℕ) → MapTree
+abbrev pub map_tree : String → ℕ → SpanTree → Option SpanTree → List RowTree →
+    Option (List ℕ) → MapTree
 map_tree n c s t rows other =
     record { name = codes n; place = at c; span = s; second = t; rows = rows; other = other }
 

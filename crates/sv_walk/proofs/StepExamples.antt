@@ -9,7 +9,8 @@ use Rattle.sv_walk.specs.LabelSteps.{Tables}
 use Rattle.sv_walk.specs.InstanceSteps.{Built, site_walk}
 use Rattle.sv_walk.specs.Texts.{walk_of}
 use Rattle.sv_walk.proofs.Computing.{computing}
-use Rattle.sv_walk.proofs.SmallTexts.{at, name, decimal, op, range, input, wire_with, no_overrides, no_links, stands, module_of, text_of}
+use Rattle.sv_walk.proofs.SmallTexts.{at, name, decimal, op, range, input, wire_with, no_overrides}
+use Rattle.sv_walk.proofs.SmallTexts.{no_links, stands, module_of, text_of}
 
 -- module m(input a); wire [3:0] w = a + 1; endmodule
 abbrev small : TextTree
@@ -54,14 +55,17 @@ pub the_last_instances : is_ok (site_walk 3 tables site (after_instances 1022)).
 unfolding computing
 the_last_instances = refl
 
-pub an_instance_too_many : (site_walk 3 tables site (after_instances 1023)).end ≡ Err (too_many (at 11))
+pub an_instance_too_many : (site_walk 3 tables site (after_instances 1023)).end ≡
+    Err (too_many (at 11))
 unfolding computing
 an_instance_too_many = refl
 
-pub the_last_signal : is_ok (signal_walk 4095 0 site nothing_declared (input None "a" 16)).end ≡ true
+pub the_last_signal :
+    is_ok (signal_walk 4095 0 site nothing_declared (input None "a" 16)).end ≡ true
 unfolding computing
 the_last_signal = refl
 
-pub a_signal_too_many : (signal_walk 4096 0 site nothing_declared (input None "a" 16)).end ≡ Err (too_many (at 16))
+pub a_signal_too_many : (signal_walk 4096 0 site nothing_declared (input None "a" 16)).end ≡
+    Err (too_many (at 16))
 unfolding computing
 a_signal_too_many = refl

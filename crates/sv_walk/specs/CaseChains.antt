@@ -1,22 +1,26 @@
--- A case as a chain of `if`: the first arm with an item equal to the selector is taken (IEEE 1364-2005,
--- clause 9.5). Selector and items stand at one length and sign.
-use Rattle.std.specs.Prelude.{ℕ, max, ◌^◌, Bool, true, false, not, ◌&&◌, ◌||◌, ◌==◌, nat_le, List, [], ◌∷◌, ◌++◌, Option, Some, None, map, if◌then◌else◌}
+-- A case as a chain of `if`: the first arm with an item equal to the selector is taken (IEEE
+-- 1364-2005, clause 9.5). Selector and items stand at one length and sign.
+use Rattle.std.specs.Prelude.{ℕ, max, ◌^◌, Bool, true, false, not, ◌&&◌, ◌||◌, ◌==◌, nat_le, List}
+use Rattle.std.specs.Prelude.{[], ◌∷◌, ◌++◌, Option, Some, None, map, if◌then◌else◌}
 use Rattle.std.specs.List.{list_all, list_any, range_with_len}
 use Rattle.sv_num.specs.declared.faults.Place.{Place}
 use Rattle.sv_num.specs.declared.operators.UnOp.TheVariants.{Plus}
 use Rattle.sv_num.specs.declared.operators.BinOp.{BinOp}
-use Rattle.sv_num.specs.declared.operators.BinOp.TheVariants.{Eq, And, Or, Xor, LogicOr, Shr, SignShr}
+use Rattle.sv_num.specs.declared.operators.BinOp.TheVariants.{Eq, And, Or, Xor, LogicOr, Shr}
+use Rattle.sv_num.specs.declared.operators.BinOp.TheVariants.{SignShr}
 use Rattle.sv_num.specs.declared.operators.UnOp.{UnOp}
 use Rattle.sv_num.specs.declared.operators.OpClass.{OpClass}
 use Rattle.sv_num.specs.declared.operators.OpClass.TheVariants.{Context, Compare, Logical, Shift}
 use Rattle.sv_num.specs.UnaryValues.{gives_one_bit}
 use Rattle.sv_num.specs.BinaryValues.{class_of}
 use Rattle.sv_ast.specs.Scopes.{Scope}
-use Rattle.sv_ast.specs.Tree.{ExpressionTree, literal, named, bit_of, part_of, unary, binary, choice, join, replication, ArmTrees, no_arms, more_arms}
+use Rattle.sv_ast.specs.Tree.{ExpressionTree, literal, named, bit_of, part_of, unary, binary}
+use Rattle.sv_ast.specs.Tree.{choice, join, replication, ArmTrees, no_arms, more_arms}
 use Rattle.sv_ast.specs.Instances.{is_empty}
 use Rattle.sv_num.specs.Parts.{extended}
 use Rattle.sv_ast.specs.Values.{nowhere, length_of, sign_of, value}
-use Rattle.sv_flat.specs.Design.{TypedTree, typed, binary as binary_node, FlatStatement, nothing, branch}
+use Rattle.sv_flat.specs.Design.{TypedTree, typed, binary as binary_node, FlatStatement, nothing}
+use Rattle.sv_flat.specs.Design.{branch}
 use Rattle.sv_walk.specs.Walks.{value_or, ◌>>=◌, done}
 use Rattle.sv_walk.specs.Names.{Names}
 use Rattle.sv_walk.specs.ExpressionSteps.{asked}
@@ -26,8 +30,8 @@ abbrev pub arm_items : ArmTrees → List ExpressionTree
 arm_items no_arms = []
 arm_items (more_arms p items body arms) = items ++ arm_items arms
 
--- The common type of a case, worked out before its arms are walked: an item that breaks a rule has no
--- length, and changes no sign.
+-- The common type of a case, worked out before its arms are walked: an item that breaks a rule has
+-- no length, and changes no sign.
 
 unfoldable pub item_length : Names → ExpressionTree → ℕ
 item_length names e = value_or ((asked names true e >>= λ _. done (length_of names.scope e)).end) 0
@@ -47,7 +51,8 @@ items_sign names (e ∷ es) = item_sign names e && items_sign names es
 
 abbrev pub arms_length : Names → ArmTrees → ℕ
 arms_length names no_arms = 0
-arms_length names (more_arms p items body arms) = max (items_length names items) (arms_length names arms)
+arms_length names (more_arms p items body arms) =
+    max (items_length names items) (arms_length names arms)
 
 abbrev pub arms_sign : Names → ArmTrees → Bool
 arms_sign names no_arms = true
@@ -73,16 +78,19 @@ equals s e = typed 1 false (binary_node Eq s e)
 -- or one of the next items, from left to right
 abbrev pub or_equals : (selector : TypedTree) → (before : TypedTree) → List TypedTree → TypedTree
 or_equals s before [] = before
-or_equals s before (e ∷ es) = or_equals s (typed 1 false (binary_node LogicOr before (equals s e))) es
+or_equals s before (e ∷ es) =
+    or_equals s (typed 1 false (binary_node LogicOr before (equals s e))) es
 
 -- an arm is taken before the rest where the selector equals one of its items
-abbrev pub arm_branch : (selector : TypedTree) → Place → List TypedTree → (body rest : FlatStatement)
+abbrev pub arm_branch : (selector : TypedTree) → Place → List TypedTree
+    → (body rest : FlatStatement)
     → FlatStatement
 arm_branch s p [] body rest = rest
 arm_branch s p (e ∷ es) body rest = branch p (or_equals s (equals s e) es) body rest
 
 -- the arms, and what else is done
-abbrev pub chain : (selector : TypedTree) → List FlatArm → (otherwise : FlatStatement) → FlatStatement
+abbrev pub chain : (selector : TypedTree) → List FlatArm → (otherwise : FlatStatement) →
+    FlatStatement
 chain s [] otherwise = otherwise
 chain s (arm ∷ arms) otherwise = arm_branch s arm.place arm.items arm.body (chain s arms otherwise)
 
@@ -90,7 +98,8 @@ chain s (arm ∷ arms) otherwise = arm_branch s arm.place arm.items arm.body (ch
 abbrev pub closed_chain : (selector : TypedTree) → List FlatArm → FlatStatement
 closed_chain s [] = nothing
 closed_chain s (arm ∷ []) = arm.body
-closed_chain s (arm ∷ next ∷ arms) = arm_branch s arm.place arm.items arm.body (closed_chain s (next ∷ arms))
+closed_chain s (arm ∷ next ∷ arms) =
+    arm_branch s arm.place arm.items arm.body (closed_chain s (next ∷ arms))
 
 -- the statement of the default, the arm without items
 abbrev pub default_of : List FlatArm → Option FlatStatement
@@ -123,15 +132,16 @@ abbrev pub keeps_operand : UnOp → Bool
 keeps_operand Plus = true
 keeps_operand _ = false
 
--- whether an expression has only the values of its own bits, also at a greater length; it does not where
--- a carry can pass them
+-- whether an expression has only the values of its own bits, also at a greater length; it does not
+-- where a carry can pass them
 unfoldable pub keeps_length : (signed : Bool) → ExpressionTree → Bool
 keeps_length signed (literal l p) = true
 keeps_length signed (named n p) = true
 keeps_length signed (bit_of n p i) = true
 keeps_length signed (part_of n p h l) = true
 keeps_length signed (unary op p e) = gives_one_bit op || keeps_operand op && keeps_length signed e
-keeps_length signed (binary op p a b) = of_class (class_of op) (keeps_length signed a) (keeps_length signed b)
+keeps_length signed (binary op p a b) =
+    of_class (class_of op) (keeps_length signed a) (keeps_length signed b)
   where
     of_class : OpClass → (left right : Bool) → Bool
     of_class Context left right = keeps_bits op && left && right
@@ -152,8 +162,10 @@ cover own n s values =
     list_all (λ v. list_any (λ item. item == extended s own n v) values) (numbers_below (2 ^ own))
 
 -- whether a selector has the values of at most 8 bits, also at the common length and sign
-abbrev pub has_few_values : Scope → (selector : ExpressionTree) → (length : ℕ) → (signed : Bool) → Bool
-has_few_values scope e n s = nat_le (length_of scope e) 8 && (nat_le n (length_of scope e) || keeps_length s e)
+abbrev pub has_few_values : Scope → (selector : ExpressionTree) → (length : ℕ) →
+    (signed : Bool) → Bool
+has_few_values scope e n s =
+    nat_le (length_of scope e) 8 && (nat_le n (length_of scope e) || keeps_length s e)
 
 -- whether the items leave no value of the selector out: it has few, and they hold each of them
 unfoldable pub is_complete : Scope → (selector : ExpressionTree) → (items : List ExpressionTree)

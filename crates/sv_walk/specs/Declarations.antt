@@ -1,12 +1,17 @@
--- The walk of an instance's parameters and declarations, in textual order: of each its range, its value,
--- its name, and the number of signals (IEEE 1364-2005, clauses 4.2, 4.3 for ranges, 4.10 and 12.3).
-use Rattle.std.specs.Prelude.{ℕ, ◌+◌, Bool, false, not, ◌||◌, nat_lt, List, [], ◌∷◌, ◌++◌, length, Option, Some, None, if◌then◌else◌, ℤ, pos, negsuc, ◌==◌, ◌&&◌, Ok, Err}
+-- The walk of an instance's parameters and declarations, in textual order: of each its range, its
+-- value, its name, and the number of signals (IEEE 1364-2005, clauses 4.2, 4.3 for ranges, 4.10 and
+-- 12.3).
+use Rattle.std.specs.Prelude.{ℕ, ◌+◌, Bool, false, not, ◌||◌, nat_lt, List, [], ◌∷◌, ◌++◌, length}
+use Rattle.std.specs.Prelude.{Option, Some, None, if◌then◌else◌, ℤ, pos, negsuc, ◌==◌, ◌&&◌, Ok}
+use Rattle.std.specs.Prelude.{Err}
 use Rattle.std.specs.List.{join_with_byte}
 use Rattle.sv_lattice.specs.declared.labels.Label.TheVariants.{Point as Declared_point}
 use Rattle.sv_ast.specs.declared.declarations.DeclKind.{DeclKind}
-use Rattle.sv_ast.specs.declared.declarations.DeclKind.TheVariants.{Input, OutputWire, OutputReg, Wire, Reg}
+use Rattle.sv_ast.specs.declared.declarations.DeclKind.TheVariants.{Input, OutputWire, OutputReg}
+use Rattle.sv_ast.specs.declared.declarations.DeclKind.TheVariants.{Wire, Reg}
 use Rattle.sv_ast.specs.Scopes.{Number, Binding, parameter, signal}
-use Rattle.sv_ast.specs.Tree.{ExpressionTree, SpanTree, DeclarationTree, ParameterTree, ItemTree, parameter_item, declared, ModuleTree}
+use Rattle.sv_ast.specs.Tree.{ExpressionTree, SpanTree, DeclarationTree, ParameterTree, ItemTree}
+use Rattle.sv_ast.specs.Tree.{parameter_item, declared, ModuleTree}
 use Rattle.sv_ast.specs.Values.{whole_number}
 use Rattle.sv_ast.specs.Instances.{entry, is_empty, span_width, in_range}
 use Rattle.sv_flat.specs.declared.signals.SigKind.{SigKind}
@@ -17,8 +22,8 @@ use Rattle.sv_walk.specs.Rules.{twice, too_many, bad_range}
 use Rattle.sv_walk.specs.Names.{Names, is_bound, names_at, place_of}
 use Rattle.sv_walk.specs.ExpressionSteps.{is_below, constant_walk}
 
--- an instance: the names of the instances down to it, the modules that it stands inside of with its own,
--- and what it sets
+-- an instance: the names of the instances down to it, the modules that it stands inside of with its
+-- own, and what it sets
 pub record Site : Type 0 where
   pub path : List (List ℕ)
   pub around : List (List ℕ)
@@ -44,10 +49,11 @@ range_steps names (Some span) = do
   ask (is_range 64 (whole_number names.scope span.high) (whole_number names.scope span.low))
       (bad_range (place_of span.high))
 
--- what the instance sets a parameter to, if it does: neither a local one nor one whose name was declared
--- before
+-- what the instance sets a parameter to, if it does: neither a local one nor one whose name was
+-- declared before
 abbrev pub override_of : Site → (earlier : List (List ℕ × Binding)) → ParameterTree → Option Number
-override_of site earlier p = if p.local || is_bound (entry earlier p.name) then None else entry site.set p.name
+override_of site earlier p =
+    if p.local || is_bound (entry earlier p.name) then None else entry site.set p.name
 
 -- the final value of a parameter: what it is set to, or else its default
 unfoldable pub final_walk : Names → Option Number → ExpressionTree → Walk Number
@@ -61,7 +67,8 @@ parameter_walk base site so_far p =
       final ← final_walk names (override_of site so_far.bindings p) p.value
       _ ← ask (not (is_bound (entry so_far.bindings p.name))) (twice p.place p.name)
       done (record {
-        bindings = so_far.bindings ++ (p.name, parameter (in_range names.scope p.signed p.span final)) ∷ [];
+        bindings = so_far.bindings
+            ++ (p.name, parameter (in_range names.scope p.signed p.span final)) ∷ [];
         signals = so_far.signals;
       })
 
@@ -106,7 +113,8 @@ declaration_walk base least site so_far (parameter_item p) = parameter_walk base
 declaration_walk base least site so_far (declared d) = signal_walk base least site so_far d
 declaration_walk base least site so_far _ = done so_far
 
-unfoldable pub declarations_walk : (base least : ℕ) → Site → Declared → List ItemTree → Walk Declared
+unfoldable pub declarations_walk : (base least : ℕ) → Site → Declared → List ItemTree →
+    Walk Declared
 declarations_walk base least site so_far [] = done so_far
 declarations_walk base least site so_far (item ∷ items) = do
   next ← declaration_walk base least site so_far item
@@ -115,10 +123,11 @@ declarations_walk base least site so_far (item ∷ items) = do
 -- what the items have declared up to the first that breaks a rule
 unfoldable pub declared_until : (base least : ℕ) → Site → Declared → List ItemTree → Declared
 declared_until base least site so_far [] = so_far
-declared_until base least site so_far (item ∷ items) = elim (declaration_walk base least site so_far item).end [
-  | Ok next ↦ declared_until base least site next items
-  | Err s ↦ so_far
-]
+declared_until base least site so_far (item ∷ items) =
+    elim (declaration_walk base least site so_far item).end [
+      | Ok next ↦ declared_until base least site next items
+      | Err s ↦ so_far
+    ]
 
 abbrev pub nothing_declared : Declared
 nothing_declared = record { bindings = []; signals = [] }

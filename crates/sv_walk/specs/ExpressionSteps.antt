@@ -1,18 +1,24 @@
--- The rules that an expression is asked: 401 to 404 and 406 to 408 in a first walk, operands from left
--- to right before their operator, then 405 in a second one at the lengths and signs that are pushed
--- down (IEEE 1364-2005, clauses 5.1.14, 5.2.1, 5.4 and 5.5; the rules' order is this project's profile).
--- Bounds, constant indices and counts are expressions of their own.
-use Rattle.std.specs.Prelude.{ℕ, max, Bool, true, false, not, ◌==◌, ◌||◌, ◌&&◌, nat_lt, nat_le, ℤ, pos, negsuc}
+-- The rules that an expression is asked: 401 to 404 and 406 to 408 in a first walk, operands from
+-- left to right before their operator, then 405 in a second one at the lengths and signs that are
+-- pushed down (IEEE 1364-2005, clauses 5.1.14, 5.2.1, 5.4 and 5.5; the rules' order is this
+-- project's profile). Bounds, constant indices and counts are expressions of their own.
+use Rattle.std.specs.Prelude.{ℕ, max, Bool, true, false, not, ◌==◌, ◌||◌, ◌&&◌, nat_lt, nat_le, ℤ}
+use Rattle.std.specs.Prelude.{pos, negsuc}
 use Rattle.sv_num.specs.UnaryValues.{gives_one_bit}
 use Rattle.sv_num.specs.BinaryValues.{class_of}
 use Rattle.sv_ast.specs.Scopes.{Scope, Number, width_of}
-use Rattle.sv_ast.specs.Tree.{ExpressionTree, ExpressionTrees, literal, named, bit_of, part_of, unary, binary, choice, join, replication, no_expressions, more_expressions}
-use Rattle.sv_ast.specs.Values.{nowhere, length_of, joined_length, sign_of, value, whole_number, constant_of}
+use Rattle.sv_ast.specs.Tree.{ExpressionTree, ExpressionTrees, literal, named, bit_of, part_of}
+use Rattle.sv_ast.specs.Tree.{unary, binary, choice, join, replication, no_expressions}
+use Rattle.sv_ast.specs.Tree.{more_expressions}
+use Rattle.sv_ast.specs.Values.{nowhere, length_of, joined_length, sign_of, value, whole_number}
+use Rattle.sv_ast.specs.Values.{constant_of}
 use Rattle.sv_flat.specs.Design.{TypedTree}
 use Rattle.sv_walk.specs.Walks.{Walk, Steps, done, ask, ◌>>=◌}
-use Rattle.sv_walk.specs.Rules.{unknown_name, too_wide, bad_select, not_constant, zero_divisor, division, unsized_part, bad_count}
+use Rattle.sv_walk.specs.Rules.{unknown_name, too_wide, bad_select, not_constant, zero_divisor}
+use Rattle.sv_walk.specs.Rules.{division, unsized_part, bad_count}
 use Rattle.sv_walk.specs.Names.{Names, is_parameter, in_reach, means_signal, place_of}
-use Rattle.sv_walk.specs.TypedExpressions.{is_division, names_signal, left_length, right_length, left_sign, right_sign, typed_of}
+use Rattle.sv_walk.specs.TypedExpressions.{is_division, names_signal, left_length, right_length}
+use Rattle.sv_walk.specs.TypedExpressions.{left_sign, right_sign, typed_of}
 
 unfoldable mutual
   -- the second walk, at a length and sign: no constant divisor is 0
@@ -99,7 +105,8 @@ unfoldable mutual
       | false ↦ do
         _ ← asked names true i
         _ ← own_divisors names.scope i
-        ask (is_below (width_of (names.scope n)) (whole_number names.scope i)) (bad_select (place_of i))
+        ask (is_below (width_of (names.scope n)) (whole_number names.scope i))
+            (bad_select (place_of i))
     ]
   asked names constant (part_of n p h l) = do
     _ ← ask (means_signal names n) (unknown_name p n)
@@ -108,7 +115,8 @@ unfoldable mutual
     _ ← own_divisors names.scope h
     _ ← asked names true l
     _ ← own_divisors names.scope l
-    ask (is_part (width_of (names.scope n)) (whole_number names.scope h) (whole_number names.scope l)) (bad_select p)
+    ask (is_part (width_of (names.scope n)) (whole_number names.scope h)
+        (whole_number names.scope l)) (bad_select p)
   asked names constant (unary op p e) = asked names constant e
   asked names constant (binary op p a b) = do
     _ ← asked names constant a
@@ -146,10 +154,11 @@ typed_walk names e n s = do
   _ ← divisors names.scope e n s
   done (typed_of names e n s)
 
--- a right side for targets of so many bits in all (clause 5.4.1): its typed form at the larger of both
--- lengths; for no target, at its own
+-- a right side for targets of so many bits in all (clause 5.4.1): its typed form at the larger of
+-- both lengths; for no target, at its own
 unfoldable pub expression_walk : Names → ExpressionTree → (width : ℕ) → Walk TypedTree
-expression_walk names e width = typed_walk names e (max (length_of names.scope e) width) (sign_of names.scope e)
+expression_walk names e width =
+    typed_walk names e (max (length_of names.scope e) width) (sign_of names.scope e)
 
 -- a constant: its value at its own length and sign
 unfoldable pub constant_walk : Names → ExpressionTree → Walk Number

@@ -1,14 +1,20 @@
--- The walk of one instance with all that it holds (IEEE 1364-2005, clauses 12.1 to 12.3): declarations,
--- labels, then `wire` values, `assign`, `always` and instances in textual order, each instance whole.
-use Rattle.std.specs.Prelude.{ℕ, zero, suc, ◌+◌, true, not, nat_lt, List, [], ◌∷◌, ◌++◌, length, map, Option, Some, None}
+-- The walk of one instance with all that it holds (IEEE 1364-2005, clauses 12.1 to 12.3):
+-- declarations, labels, then `wire` values, `assign`, `always` and instances in textual order, each
+-- instance whole.
+use Rattle.std.specs.Prelude.{ℕ, zero, suc, ◌+◌, true, not, nat_lt, List, [], ◌∷◌, ◌++◌, length}
+use Rattle.std.specs.Prelude.{map, Option, Some, None}
 use Rattle.std.specs.List.{list_any}
 use Rattle.std.specs.Str.{bytes_eq}
 use Rattle.sv_num.specs.declared.faults.Place.{Place}
 use Rattle.sv_ast.specs.Scopes.{Binding, width_of}
-use Rattle.sv_ast.specs.Tree.{ExpressionTree, TargetTree, StatementTree, PlacedName, DeclarationTree, InstanceTree, ItemTree, parameter_item, declared, memory_item, continuous, released, always_item, invariant_item, instance_item}
+use Rattle.sv_ast.specs.Tree.{ExpressionTree, TargetTree, StatementTree, PlacedName}
+use Rattle.sv_ast.specs.Tree.{DeclarationTree, InstanceTree, ItemTree, parameter_item, declared}
+use Rattle.sv_ast.specs.Tree.{memory_item, continuous, released, always_item, invariant_item}
+use Rattle.sv_ast.specs.Tree.{instance_item}
 use Rattle.sv_ast.specs.Instances.{entry, module_named, all_items, is_signal}
 use Rattle.sv_ast.specs.Parts.{declarations}
-use Rattle.sv_flat.specs.Design.{SignalForm, ProcessForm, continuous as continuous_kind, combinational, clocked}
+use Rattle.sv_flat.specs.Design.{SignalForm, ProcessForm, continuous as continuous_kind}
+use Rattle.sv_flat.specs.Design.{combinational, clocked}
 use Rattle.sv_walk.specs.Walks.{Walk, done, ask, found, ◌>>=◌}
 use Rattle.sv_walk.specs.Rules.{unknown_module, twice, recursive, too_many, unknown_name}
 use Rattle.sv_walk.specs.Names.{Names, names_of}
@@ -20,8 +26,8 @@ use Rattle.sv_walk.specs.LabelSteps.{Tables, labels_walk}
 use Rattle.sv_walk.specs.Overrides.{overrides_walk}
 use Rattle.sv_walk.specs.Links.{Ports, whole_assignment, links_walk}
 
--- what the walk has built so far: the flat signals and processes in order, and how many instances there
--- are
+-- what the walk has built so far: the flat signals and processes in order, and how many instances
+-- there are
 pub record Built : Type 0 where
   pub signals : List SignalForm
   pub processes : List ProcessForm
@@ -36,7 +42,8 @@ value_walk names built d None = done built
 value_walk names built d (Some e) = do
   value ← expression_walk names e (width_of (names.scope d.name))
   done (with_process built
-      (whole_assignment d.place continuous_kind (names.number d.name) (width_of (names.scope d.name)) value))
+      (whole_assignment d.place continuous_kind (names.number d.name)
+      (width_of (names.scope d.name)) value))
 
 unfoldable pub assign_walk : Names → Built → List TargetTree → Place → ExpressionTree → Walk Built
 assign_walk names built ts p e = do
@@ -51,10 +58,14 @@ always_walk names built p None s = do
 always_walk names built p (Some clock) s = do
   _ ← ask (is_signal (names.scope clock.name)) (unknown_name clock.place clock.name)
   body ← statement_walk names s
-  done (with_process built (record { place = p; kind = clocked (names.number clock.name); body = body }))
+  done (with_process built (record {
+    place = p;
+    kind = clocked (names.number clock.name);
+    body = body;
+  }))
 
--- what the declarations of a module's header will say of its ports; a port whose declaration breaks a
--- rule, and each after it, has no width
+-- what the declarations of a module's header will say of its ports; a port whose declaration breaks
+-- a rule, and each after it, has no width
 unfoldable pub ports_of : (least : ℕ) → Site → (base : ℕ) → Ports
 ports_of least site base = record {
   base = base;
@@ -73,9 +84,19 @@ instance_walk inside tables site names taken built i = do
   _ ← ask (not (list_any (bytes_eq i.master) site.around)) (recursive i.place i.master)
   _ ← ask (nat_lt built.instances 1024) (too_many i.place)
   set ← overrides_walk names m i.overrides
-  let next : Site = record { path = site.path ++ i.name ∷ []; around = i.master ∷ site.around; master = m; set = set }
-  processes ← links_walk names (ports_of tables.least next (length built.signals)) built.processes i.links
-  inside next (record { signals = built.signals; processes = processes; instances = built.instances + 1 })
+  let next : Site = record {
+    path = site.path ++ i.name ∷ [];
+    around = i.master ∷ site.around;
+    master = m;
+    set = set;
+  }
+  processes ← links_walk names (ports_of tables.least next (length built.signals))
+      built.processes i.links
+  inside next (record {
+    signals = built.signals;
+    processes = processes;
+    instances = built.instances + 1;
+  })
 
 -- the names that an item takes besides those of its declarations
 abbrev pub instance_names : ItemTree → List (List ℕ)
@@ -90,9 +111,11 @@ item_walk inside tables site names taken built (declared d) = value_walk names b
 item_walk inside tables site names taken built (memory_item m) = done built
 item_walk inside tables site names taken built (continuous ts p e) = assign_walk names built ts p e
 item_walk inside tables site names taken built (released t e to) = done built
-item_walk inside tables site names taken built (always_item p clock s) = always_walk names built p clock s
+item_walk inside tables site names taken built (always_item p clock s) =
+    always_walk names built p clock s
 item_walk inside tables site names taken built (invariant_item p e) = done built
-item_walk inside tables site names taken built (instance_item i) = instance_walk inside tables site names taken built i
+item_walk inside tables site names taken built (instance_item i) =
+    instance_walk inside tables site names taken built i
 
 unfoldable pub items_from : (inside : Site → Built → Walk Built) → Tables → Site → Names
     → (taken : List (List ℕ)) → Built → List ItemTree → Walk Built
@@ -102,16 +125,18 @@ items_from inside tables site names taken built (item ∷ items) = do
   items_from inside tables site names (taken ++ instance_names item) next items
 
 -- all of one instance, given the walk of the instances in it
-unfoldable pub module_walk : (inside : Site → Built → Walk Built) → Tables → Site → Built → Walk Built
+unfoldable pub module_walk : (inside : Site → Built → Walk Built) → Tables → Site → Built →
+    Walk Built
 module_walk inside tables site built = do
-  declared_all ← declarations_walk (length built.signals) tables.least site nothing_declared (all_items site.master)
+  declared_all ← declarations_walk (length built.signals) tables.least site nothing_declared
+      (all_items site.master)
   let names = names_of (length built.signals) declared_all.bindings
   signals ← labels_walk tables names (declarations site.master) declared_all.signals
   items_from inside tables site names (map (λ (b : List ℕ × Binding). b.0) declared_all.bindings)
       (record built { signals = built.signals ++ signals }) site.master.items
 
--- an instance with at most so many levels of instances in it; each level costs an instance, so a number
--- above their limit is never used up
+-- an instance with at most so many levels of instances in it; each level costs an instance, so a
+-- number above their limit is never used up
 unfoldable pub site_walk : (levels : ℕ) → Tables → Site → Built → Walk Built
 site_walk zero tables site built = done built
 site_walk (suc levels) tables site built = module_walk (site_walk levels tables) tables site built

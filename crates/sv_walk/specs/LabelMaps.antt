@@ -1,6 +1,8 @@
--- The walk of the label maps: each has one or two ranges of selectors, and a point for each of their
--- values (this project's profile).
-use Rattle.std.specs.Prelude.{ℕ, ◌+◌, ◌*◌, ◌^◌, Bool, true, false, not, ◌&&◌, ◌||◌, ◌==◌, nat_le, List, [], ◌∷◌, ◌++◌, map, find, Option, Some, None, option_map, unwrap_or, is_some, is_none, ℤ}
+-- The walk of the label maps: each has one or two ranges of selectors, and a point for each of
+-- their values (this project's profile).
+use Rattle.std.specs.Prelude.{ℕ, ◌+◌, ◌*◌, ◌^◌, Bool, true, false, not, ◌&&◌, ◌||◌, ◌==◌, nat_le}
+use Rattle.std.specs.Prelude.{List, [], ◌∷◌, ◌++◌, map, find, Option, Some, None, option_map}
+use Rattle.std.specs.Prelude.{unwrap_or, is_some, is_none, ℤ}
 use Rattle.std.specs.List.{list_all, list_any}
 use Rattle.std.specs.Str.{bytes_eq}
 use Rattle.sv_num.specs.Vectors.{as_number}
@@ -51,11 +53,13 @@ second_value (Some key) = natural (key_number key)
 
 -- the value of a key: of the pair of its parts, the second has the low bits
 abbrev pub key_value : Option ℕ → RowTree → ℕ
-key_value second row = natural (key_number row.first) * 2 ^ unwrap_or second 0 + second_value row.second
+key_value second row =
+    natural (key_number row.first) * 2 ^ unwrap_or second 0 + second_value row.second
 
 -- the number of the point of a value, by the rows
 abbrev pub point_at : List (ℕ × ℕ) → ℕ → Option ℕ
-point_at rows value = option_map (λ (row : ℕ × ℕ). row.1) (find (λ (row : ℕ × ℕ). row.0 == value) rows)
+point_at rows value =
+    option_map (λ (row : ℕ × ℕ). row.1) (find (λ (row : ℕ × ℕ). row.0 == value) rows)
 
 -- the rows of a map after earlier ones, each as its key's value and its point's number
 unfoldable pub rows_walk : (points : List (List ℕ)) → MapTree → (first : ℕ) → (second : Option ℕ)
@@ -77,11 +81,13 @@ default_walk points t (Some n) = do
 -- the points of all values of so many bits, in order
 abbrev pub all_rows : (bits : ℕ) → List (ℕ × ℕ) → (other : Option ℕ) → List Point
 all_rows bits rows other =
-    map (λ value. record { 0 = unwrap_or (point_at rows value) (unwrap_or other 0) }) (numbers_below (2 ^ bits))
+    map (λ value. record { 0 = unwrap_or (point_at rows value) (unwrap_or other 0) })
+    (numbers_below (2 ^ bits))
 
 -- whether each value of so many bits has a row
 abbrev pub has_all_rows : (bits : ℕ) → List (ℕ × ℕ) → Bool
-has_all_rows bits rows = list_all (λ value. is_some (point_at rows value)) (numbers_below (2 ^ bits))
+has_all_rows bits rows =
+    list_all (λ value. is_some (point_at rows value)) (numbers_below (2 ^ bits))
 
 -- whether a map of that name was declared
 abbrev pub is_map : List (List ℕ × MapRows) → List ℕ → Bool
@@ -95,14 +101,16 @@ map_walk points earlier t =
     let second = option_map (λ span. span_width no_names (Some span)) t.second in
     let bits = first + unwrap_or second 0 in do
       _ ← ask (not (is_map earlier t.name)) (map_name t.place t.name)
-      _ ← ask (is_map_range t.span && is_second_range t.second && nat_le bits 8) (map_row t.place t.name)
+      _ ← ask (is_map_range t.span && is_second_range t.second && nat_le bits 8)
+          (map_row t.place t.name)
       rows ← rows_walk points t first second [] t.rows
       other ← default_walk points t t.other
       _ ← ask (is_some other || has_all_rows bits rows) (map_hole t.place t.name)
       done (record { first = first; second = second; rows = all_rows bits rows other })
 
 -- the maps of a text after earlier ones, each with its name
-unfoldable pub maps_walk : (points : List (List ℕ)) → (earlier : List (List ℕ × MapRows)) → List MapTree
+unfoldable pub maps_walk : (points : List (List ℕ)) → (earlier : List (List ℕ × MapRows))
+    → List MapTree
     → Walk (List (List ℕ × MapRows))
 maps_walk points earlier [] = done earlier
 maps_walk points earlier (t ∷ ts) = do

@@ -1,6 +1,7 @@
--- The walk of the labels of an instance's signals, in textual order (SecVerilog, ASPLOS 2015): a point,
--- or a map with the signals that select its row.
-use Rattle.std.specs.Prelude.{ℕ, Bool, true, false, ◌==◌, List, [], ◌∷◌, Option, Some, None, position}
+-- The walk of the labels of an instance's signals, in textual order (SecVerilog, ASPLOS 2015): a
+-- point, or a map with the signals that select its row.
+use Rattle.std.specs.Prelude.{ℕ, Bool, true, false, ◌==◌, List, [], ◌∷◌, Option, Some, None}
+use Rattle.std.specs.Prelude.{position}
 use Rattle.std.specs.Str.{bytes_eq}
 use Rattle.sv_num.specs.declared.faults.Place.{Place}
 use Rattle.sv_lattice.specs.declared.labels.Label.{Label}
@@ -16,8 +17,8 @@ use Rattle.sv_walk.specs.Rules.{bad_label}
 use Rattle.sv_walk.specs.Names.{Names}
 use Rattle.sv_walk.specs.Lattices.{point_number}
 
--- what all instances of a text share: its modules, the names of its points, the number of the least one,
--- and its maps with their names
+-- what all instances of a text share: its modules, the names of its points, the number of the least
+-- one, and its maps with their names
 pub record Tables : Type 0 where
   pub modules : List ModuleTree
   pub points : List (List ℕ)
@@ -46,8 +47,8 @@ abbrev pub second_number : Names → Option (List ℕ) → Option ℕ
 second_number names None = None
 second_number names (Some n) = Some (names.number n)
 
--- a label; the selectors are known, their number is that of the ranges, and their widths are those of
--- the ranges
+-- a label; the selectors are known, their number is that of the ranges, and their widths are those
+-- of the ranges
 unfoldable pub label_walk : Tables → Names → LabelTree → Walk Label
 label_walk tables names (point_label n p) = do
   point ← found (point_number tables.points n) (bad_label p n)

@@ -1,6 +1,9 @@
--- The walk of the lattice of labels (SecVerilog, ASPLOS 2015): its points, its pairs, and whether they
--- are a lattice.
-use Rattle.std.specs.Prelude.{ℕ, ◌-◌, ◌^◌, Bool, not, ◌&&◌, ◌||◌, ◌==◌, nat_lt, nat_le, List, [], ◌∷◌, ◌++◌, length, map, flat_map, fold, position, slice_index, slice_index_or, bit_and, bit_or, Option, Some, None, unwrap_or, if◌then◌else◌, codes}
+-- The walk of the lattice of labels (SecVerilog, ASPLOS 2015): its points, its pairs, and whether
+-- they are a lattice.
+use Rattle.std.specs.Prelude.{ℕ, ◌-◌, ◌^◌, Bool, not, ◌&&◌, ◌||◌, ◌==◌, nat_lt, nat_le, List, []}
+use Rattle.std.specs.Prelude.{◌∷◌, ◌++◌, length, map, flat_map, fold, position, slice_index}
+use Rattle.std.specs.Prelude.{slice_index_or, bit_and, bit_or, Option, Some, None, unwrap_or}
+use Rattle.std.specs.Prelude.{if◌then◌else◌, codes}
 use Rattle.std.specs.List.{list_any}
 use Rattle.std.specs.Int.{bit_at}
 use Rattle.std.specs.Str.{bytes_eq}
@@ -11,8 +14,8 @@ use Rattle.sv_walk.specs.Walks.{Step, Walk, Steps, done, ask, each, ◌>>=◌}
 use Rattle.sv_walk.specs.Rules.{lattice_size, lattice_name, circle, no_join, no_meet}
 use Rattle.sv_walk.specs.CaseChains.{numbers_below}
 
--- the names of the points, by number, and for each point the set of the points that it flows to, as a
--- number
+-- the names of the points, by number, and for each point the set of the points that it flows to, as
+-- a number
 pub record Order : Type 0 where
   pub points : List (List ℕ)
   pub table : List ℕ
@@ -55,8 +58,14 @@ point_questions earlier (p ∷ ps) =
 abbrev pub pair_questions : (points : List (List ℕ)) → List PairTree → List Question
 pair_questions points [] = []
 pair_questions points (pair ∷ pairs) =
-    (record { holds = is_point points pair.lower.name; step = lattice_name pair.lower.place pair.lower.name })
-    ∷ (record { holds = is_point points pair.upper.name; step = lattice_name pair.upper.place pair.upper.name })
+    (record {
+      holds = is_point points pair.lower.name;
+      step = lattice_name pair.lower.place pair.lower.name;
+    })
+    ∷ (record {
+      holds = is_point points pair.upper.name;
+      step = lattice_name pair.upper.place pair.upper.name;
+    })
     ∷ pair_questions points pairs
 
 unfoldable pub answered : Question → Steps
@@ -68,9 +77,11 @@ answered q = ask q.holds q.step
 abbrev pub contains : (set point : ℕ) → Bool
 contains set a = bit_at set a == 1
 
--- the table after a pair more: what flows to the first point flows to all that the second one flows to
+-- the table after a pair more: what flows to the first point flows to all that the second one flows
+-- to
 abbrev pub with_pair : List ℕ → ℕ × ℕ → List ℕ
-with_pair table (a, b) = map (λ row. if contains row a then bit_or row (slice_index table b) else row) table
+with_pair table (a, b) =
+    map (λ row. if contains row a then bit_or row (slice_index table b) else row) table
 
 abbrev pub with_pairs : List ℕ → List (ℕ × ℕ) → List ℕ
 with_pairs table [] = table
@@ -83,7 +94,8 @@ table_of n pairs = with_pairs (map (λ a. 2 ^ a) (numbers_below n)) pairs
 -- the set of the points that flow to a point
 abbrev pub flowing_to : List ℕ → ℕ → ℕ
 flowing_to table b =
-    fold (λ set a. if flow_test table a b then bit_or set (2 ^ a) else set) 0 (numbers_below (length table))
+    fold (λ set a. if flow_test table a b then bit_or set (2 ^ a)
+    else set) 0 (numbers_below (length table))
 
 -- the table of the flows the other way round
 abbrev pub turned : List ℕ → List ℕ
@@ -96,7 +108,8 @@ are_apart table a b = a == b || not (flow_test table a b && flow_test table b a)
 -- one of the points of a set flows to all of them
 abbrev pub has_least : List ℕ → (set : ℕ) → Bool
 has_least table set =
-    list_any (λ c. contains set c && bit_and (slice_index table c) set == set) (numbers_below (length table))
+    list_any (λ c. contains set c && bit_and (slice_index table c) set == set)
+    (numbers_below (length table))
 
 -- two points have a least upper point
 abbrev pub have_join : List ℕ → ℕ → ℕ → Bool
@@ -127,14 +140,20 @@ point_names t = map (λ (p : PlacedName). p.name) t.points
 
 -- the numbers of a pair's points
 abbrev pub numbered_pair : List (List ℕ) → PairTree → ℕ × ℕ
-numbered_pair points pair =
-    (unwrap_or (point_number points pair.lower.name) 0, unwrap_or (point_number points pair.upper.name) 0)
+numbered_pair points pair = (
+  unwrap_or (point_number points pair.lower.name) 0,
+  unwrap_or
+      (point_number points pair.upper.name) 0,
+)
 
 -- the order of declared points
 abbrev pub declared_order : LatticeTree → Order
 declared_order t =
     let points = point_names t in
-    record { points = points; table = table_of (length points) (map (numbered_pair points) t.pairs) }
+    record {
+      points = points;
+      table = table_of (length points) (map (numbered_pair points) t.pairs);
+    }
 
 -- a text without a lattice has the points L and H, and L flows to H
 abbrev pub two_points : Order
@@ -149,7 +168,8 @@ unfoldable pub lattice_walk : Option LatticeTree → Walk Order
 lattice_walk None = done two_points
 lattice_walk (Some t) = do
   _ ← ask (nat_le 1 (length t.points) && nat_le (length t.points) 32) (lattice_size t.place)
-  _ ← each answered (in_textual_order (point_questions [] t.points ++ pair_questions (point_names t) t.pairs))
+  _ ← each answered (in_textual_order
+      (point_questions [] t.points ++ pair_questions (point_names t) t.pairs))
   checked_order t.place (declared_order t)
 
 -- the number of the point that flows to every point

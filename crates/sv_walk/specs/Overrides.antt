@@ -4,7 +4,8 @@ use Rattle.std.specs.Prelude.{ℕ, Bool, not, ◌&&◌, List, [], ◌∷◌, ◌
 use Rattle.std.specs.List.{list_any}
 use Rattle.std.specs.Str.{bytes_eq}
 use Rattle.sv_ast.specs.Scopes.{Number}
-use Rattle.sv_ast.specs.Tree.{ExpressionTree, ParameterTree, NamedOverride, OverrideTrees, named_overrides, ordered_overrides, ModuleTree}
+use Rattle.sv_ast.specs.Tree.{ExpressionTree, ParameterTree, NamedOverride, OverrideTrees}
+use Rattle.sv_ast.specs.Tree.{named_overrides, ordered_overrides, ModuleTree}
 use Rattle.sv_ast.specs.Instances.{entry, open_parameters}
 use Rattle.sv_walk.specs.Walks.{Walk, done, ask, broken, ◌>>=◌}
 use Rattle.sv_walk.specs.Rules.{wrong_override, overrides_over}

@@ -30,8 +30,8 @@ no_meet p a b = step 305 p (a ∷ b ∷ [])
 abbrev pub map_name : Place → List ℕ → Step
 map_name p map = step 306 p (map ∷ [])
 
--- a range that is not `[m:0]`, more than 8 bits in all, a key with another number of parts than there
--- are ranges, a part out of range, a key twice, or an unknown point
+-- a range that is not `[m:0]`, more than 8 bits in all, a key with another number of parts than
+-- there are ranges, a part out of range, a key twice, or an unknown point
 abbrev pub map_row : Place → List ℕ → Step
 map_row p map = step 307 p (map ∷ [])
 
@@ -39,7 +39,8 @@ map_row p map = step 307 p (map ∷ [])
 abbrev pub map_hole : Place → List ℕ → Step
 map_hole p map = step 308 p (map ∷ [])
 
--- the module asked for is absent or, none asked for, not exactly one module is without instances of it
+-- the module asked for is absent or, none asked for, not exactly one module is without instances of
+-- it
 abbrev pub no_top : Step
 no_top = step 310 (record { line = 1; column = 1 }) []
 
@@ -76,7 +77,8 @@ wrong_override p parameter = step 316 p (parameter ∷ [])
 abbrev pub overrides_over : Place → Step
 overrides_over p = step 316 p []
 
--- a name stands for no signal and no parameter in reach, or for a parameter where a signal is wanted
+-- a name stands for no signal and no parameter in reach, or for a parameter where a signal is
+-- wanted
 abbrev pub unknown_name : Place → List ℕ → Step
 unknown_name p name = step 401 p (name ∷ [])
 

@@ -1,7 +1,9 @@
--- The walk of statements (IEEE 1364-2005, clause 9), in textual order, and the flat statement at its
--- end.
+-- The walk of statements (IEEE 1364-2005, clause 9), in textual order, and the flat statement at
+-- its end.
 use Rattle.std.specs.Prelude.{ℕ, Bool, true, List, [], ◌∷◌, filter, not}
-use Rattle.sv_ast.specs.Tree.{ExpressionTree, StatementTree, null, assignment, block, if_only, if_else, case_of, StatementTrees, no_statements, more_statements, ArmTrees, no_arms, more_arms}
+use Rattle.sv_ast.specs.Tree.{ExpressionTree, StatementTree, null, assignment, block, if_only}
+use Rattle.sv_ast.specs.Tree.{if_else, case_of, StatementTrees, no_statements, more_statements}
+use Rattle.sv_ast.specs.Tree.{ArmTrees, no_arms, more_arms}
 use Rattle.sv_ast.specs.Instances.{is_empty}
 use Rattle.sv_flat.specs.Design.{TypedTree, FlatStatement, nothing, after, branch}
 use Rattle.sv_walk.specs.Walks.{Walk, done, ◌>>=◌}
@@ -9,7 +11,8 @@ use Rattle.sv_walk.specs.Names.{Names}
 use Rattle.sv_walk.specs.TypedExpressions.{typed_of}
 use Rattle.sv_walk.specs.ExpressionSteps.{asked, divisors, typed_walk, expression_walk}
 use Rattle.sv_walk.specs.Targets.{assignment_walk}
-use Rattle.sv_walk.specs.CaseChains.{FlatArm, arm_items, common_length, common_sign, case_chain, default_of, is_complete}
+use Rattle.sv_walk.specs.CaseChains.{FlatArm, arm_items, common_length, common_sign, case_chain}
+use Rattle.sv_walk.specs.CaseChains.{default_of, is_complete}
 
 -- the items of an arm, each a constant at the common length and sign
 unfoldable pub items_walk : Names → (length : ℕ) → (signed : Bool) → List ExpressionTree

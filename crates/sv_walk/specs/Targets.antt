@@ -1,6 +1,6 @@
--- What an assignment changes: its targets from left to right, and the bits of the right side that each
--- of them gets (IEEE 1364-2005, clauses 6.1 and 9.2; targets are constant bits and parts in this
--- project's profile).
+-- What an assignment changes: its targets from left to right, and the bits of the right side that
+-- each of them gets (IEEE 1364-2005, clauses 6.1 and 9.2; targets are constant bits and parts in
+-- this project's profile).
 use Rattle.std.specs.Prelude.{ℕ, ◌-◌, Bool, List, [], ◌∷◌, nat_le}
 use Rattle.sv_num.specs.declared.faults.Place.{Place}
 use Rattle.sv_ast.specs.Scopes.{Scope, width_of}
@@ -34,7 +34,8 @@ selection_steps names n p (bit_at i) = do
 selection_steps names n p (part_from h l) = do
   _ ← constant_walk names h
   _ ← constant_walk names l
-  ask (is_part (width_of (names.scope n)) (whole_number names.scope h) (whole_number names.scope l)) (bad_select p)
+  ask (is_part (width_of (names.scope n)) (whole_number names.scope h) (whole_number names.scope l))
+      (bad_select p)
 
 -- a target is a signal
 unfoldable pub target_steps : Names → TargetTree → Steps
@@ -60,7 +61,8 @@ pieces_of names (t ∷ ts) = (record {
 }) ∷ pieces_of names ts
 
 -- an assignment: its targets, then its right side
-unfoldable pub assignment_walk : Names → List TargetTree → Place → (blocking : Bool) → ExpressionTree
+unfoldable pub assignment_walk : Names → List TargetTree → Place → (blocking : Bool)
+    → ExpressionTree
     → Walk FlatStatement
 assignment_walk names ts place blocking e = do
   _ ← targets_steps names ts place

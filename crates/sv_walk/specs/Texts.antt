@@ -1,7 +1,8 @@
--- The walk of a whole text (this project's profile): the lattice, the maps, the names of modules, the
--- top, then the top's instance. Its end is the first broken rule, or the flat design that the text
--- stands for.
-use Rattle.std.specs.Prelude.{◌≡◌, ℕ, not, List, [], ◌∷◌, ◌++◌, map, Option, Some, None, Result, Ok, Err}
+-- The walk of a whole text (this project's profile): the lattice, the maps, the names of modules,
+-- the top, then the top's instance. Its end is the first broken rule, or the flat design that the
+-- text stands for.
+use Rattle.std.specs.Prelude.{◌≡◌, ℕ, not, List, [], ◌∷◌, ◌++◌, map, Option, Some, None, Result, Ok}
+use Rattle.std.specs.Prelude.{Err}
 use Rattle.std.specs.List.{list_any}
 use Rattle.std.specs.Str.{bytes_eq}
 use Rattle.sv_num.specs.declared.faults.Place.{Place}
@@ -70,6 +71,7 @@ abbrev pub flat_of : TextTree → (top : Option (List ℕ)) → Option FlatDesig
 flat_of text top = value_in (walk_of text top).end
 
 -- the rule is the first one of the walk that the text breaks, at that place and with those names
-abbrev pub BreaksRule : (rule : ℕ) → Place → (names : List (List ℕ)) → TextTree → (top : Option (List ℕ))
+abbrev pub BreaksRule : (rule : ℕ) → Place → (names : List (List ℕ)) → TextTree
+    → (top : Option (List ℕ))
     → Type 0
 BreaksRule rule place names text top = (walk_of text top).end ≡ Err (step rule place names)

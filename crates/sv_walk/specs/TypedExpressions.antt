@@ -1,6 +1,6 @@
--- The typed form of a source expression: a length and a sign are pushed down to each operand or are its
--- own (IEEE 1364-2005, clauses 5.4 and 5.5). Names of signals are numbers; literals, parameters and
--- divisions stand as their values, other constant expressions as they are written.
+-- The typed form of a source expression: a length and a sign are pushed down to each operand or are
+-- its own (IEEE 1364-2005, clauses 5.4 and 5.5). Names of signals are numbers; literals, parameters
+-- and divisions stand as their values, other constant expressions as they are written.
 use Rattle.std.specs.Prelude.{ℕ, max, Bool, true, false, ◌||◌, ◌&&◌, Option, Some, None}
 use Rattle.sv_num.specs.declared.faults.Place.{Place}
 use Rattle.sv_num.specs.declared.operators.BinOp.{BinOp}
@@ -10,11 +10,15 @@ use Rattle.sv_num.specs.declared.operators.OpClass.TheVariants.{Context, Compare
 use Rattle.sv_num.specs.UnaryValues.{gives_one_bit}
 use Rattle.sv_num.specs.BinaryValues.{class_of}
 use Rattle.sv_ast.specs.Scopes.{Scope, Binding, parameter, signal}
-use Rattle.sv_ast.specs.Tree.{ExpressionTree, ExpressionTrees, literal, named, bit_of, part_of, unary, binary, choice, join, replication, no_expressions, more_expressions}
+use Rattle.sv_ast.specs.Tree.{ExpressionTree, ExpressionTrees, literal, named, bit_of, part_of}
+use Rattle.sv_ast.specs.Tree.{unary, binary, choice, join, replication, no_expressions}
+use Rattle.sv_ast.specs.Tree.{more_expressions}
 use Rattle.sv_num.specs.Parts.{extended}
 use Rattle.sv_ast.specs.Values.{natural, nowhere, length_of, sign_of, value, whole_number}
 use Rattle.sv_flat.specs.Design.{TypedTree, NodeTree, TypedTrees, no_parts, more_parts}
-use Rattle.sv_flat.specs.Design.{typed, constant, read, read_bit, read_part, unary as unary_node, binary as binary_node, choice as choice_node, join as join_node, replication as replication_node}
+use Rattle.sv_flat.specs.Design.{typed, constant, read, read_bit, read_part, unary as unary_node}
+use Rattle.sv_flat.specs.Design.{binary as binary_node, choice as choice_node, join as join_node}
+use Rattle.sv_flat.specs.Design.{replication as replication_node}
 use Rattle.sv_ast.specs.Instances.{is_signal}
 use Rattle.sv_walk.specs.Names.{Names}
 
@@ -29,18 +33,22 @@ unfoldable mutual
   names_signal scope (literal l p) = false
   names_signal scope (named n p) = is_signal (scope n)
   names_signal scope (bit_of n p i) = is_signal (scope n) || names_signal scope i
-  names_signal scope (part_of n p h l) = is_signal (scope n) || names_signal scope h || names_signal scope l
+  names_signal scope (part_of n p h l) =
+      is_signal (scope n) || names_signal scope h || names_signal scope l
   names_signal scope (unary op p e) = names_signal scope e
   names_signal scope (binary op p a b) = names_signal scope a || names_signal scope b
-  names_signal scope (choice p c a b) = names_signal scope c || names_signal scope a || names_signal scope b
+  names_signal scope (choice p c a b) =
+      names_signal scope c || names_signal scope a || names_signal scope b
   names_signal scope (join p es) = some_names_signal scope es
   names_signal scope (replication p k es) = names_signal scope k || some_names_signal scope es
 
   pub some_names_signal : Scope → ExpressionTrees → Bool
   some_names_signal scope no_expressions = false
-  some_names_signal scope (more_expressions e es) = names_signal scope e || some_names_signal scope es
+  some_names_signal scope (more_expressions e es) =
+      names_signal scope e || some_names_signal scope es
 
--- the length at which a binary operator's left operand stands, from the pushed length and both own ones
+-- the length at which a binary operator's left operand stands, from the pushed length and both own
+-- ones
 abbrev pub left_length : OpClass → (pushed own_left own_right : ℕ) → ℕ
 left_length Context n a b = n
 left_length Compare n a b = max a b
@@ -67,7 +75,8 @@ right_sign Logical s a b = b
 right_sign Shift s a b = b
 
 -- the typed form of a name: a parameter stands as its value
-abbrev pub named_node : Option Binding → (number : ℕ) → Place → (length : ℕ) → (signed : Bool) → NodeTree
+abbrev pub named_node : Option Binding → (number : ℕ) → Place → (length : ℕ) → (signed : Bool) →
+    NodeTree
 named_node (Some (parameter v)) k p n s = constant (extended s v.width n v.value)
 named_node (Some (signal width signed)) k p n s = read k p
 named_node None k p n s = read k p
@@ -79,11 +88,14 @@ unfoldable mutual
   typed_of names (literal l p) n s = typed n s (constant (extended s l.width n l.value))
   typed_of names (named m p) n s = typed n s (named_node (names.scope m) (names.number m) p n s)
   typed_of names (bit_of m p i) n s = typed n s
-      (read_bit (names.number m) p (typed_of names i (length_of names.scope i) (sign_of names.scope i)))
+      (read_bit (names.number m) p
+      (typed_of names i (length_of names.scope i) (sign_of names.scope i)))
   typed_of names (part_of m p h l) n s = typed n s
-      (read_part (names.number m) p (natural (whole_number names.scope h)) (natural (whole_number names.scope l)))
+      (read_part (names.number m) p (natural (whole_number names.scope h))
+      (natural (whole_number names.scope l)))
   typed_of names (unary op p e) n s = elim (gives_one_bit op) [
-    | true ↦ typed n s (unary_node op (typed_of names e (length_of names.scope e) (sign_of names.scope e)))
+    | true ↦ typed n s (unary_node op
+        (typed_of names e (length_of names.scope e) (sign_of names.scope e)))
     | false ↦ typed n s (unary_node op (typed_of names e n s))
   ]
   typed_of names (binary op p a b) n s = elim (is_division op) [
@@ -97,7 +109,8 @@ unfoldable mutual
         (right_sign (class_of op) s (sign_of names.scope a) (sign_of names.scope b))))
   ]
   typed_of names (choice p c a b) n s = typed n s (choice_node p
-      (typed_of names c (length_of names.scope c) (sign_of names.scope c)) (typed_of names a n s) (typed_of names b n s))
+      (typed_of names c (length_of names.scope c) (sign_of names.scope c)) (typed_of names a n s)
+      (typed_of names b n s))
   typed_of names (join p es) n s = typed n s (join_node (typed_parts names es))
   typed_of names (replication p k es) n s = typed n s
       (replication_node (natural (whole_number names.scope k)) (typed_parts names es))
@@ -106,4 +119,5 @@ unfoldable mutual
   pub typed_parts : Names → ExpressionTrees → TypedTrees
   typed_parts names no_expressions = no_parts
   typed_parts names (more_expressions e es) =
-      more_parts (typed_of names e (length_of names.scope e) (sign_of names.scope e)) (typed_parts names es)
+      more_parts (typed_of names e (length_of names.scope e) (sign_of names.scope e))
+      (typed_parts names es)

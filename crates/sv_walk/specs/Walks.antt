@@ -1,6 +1,7 @@
--- A walk over a text: the rules that it asks, in order. It ends at the first one that is broken, or else
--- with what it found (this project's profile).
-use Rattle.std.specs.Prelude.{ℕ, Bool, true, false, List, [], ◌∷◌, ◌++◌, Option, Some, None, Result, Ok, Err}
+-- A walk over a text: the rules that it asks, in order. It ends at the first one that is broken, or
+-- else with what it found (this project's profile).
+use Rattle.std.specs.Prelude.{ℕ, Bool, true, false, List, [], ◌∷◌, ◌++◌, Option, Some, None, Result}
+use Rattle.std.specs.Prelude.{Ok, Err}
 use Rattle.sv_num.specs.declared.faults.Place.{Place}
 
 -- a rule that is asked, by its number, with the place and the names of a refusal by it
@@ -37,7 +38,8 @@ broken s = record { passed = []; end = Err s }
 
 -- what follows where nothing was broken
 abbrev pub then_walk : {X Y : Type 0} → List Step → Result X Step → (X → Walk Y) → Walk Y
-then_walk passed (Ok x) more = let next = more x in record { passed = passed ++ next.passed; end = next.end }
+then_walk passed (Ok x) more =
+    let next = more x in record { passed = passed ++ next.passed; end = next.end }
 then_walk passed (Err s) more = record { passed = passed; end = Err s }
 
 -- one walk, and then the one that follows from what it found

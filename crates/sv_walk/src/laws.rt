@@ -5,7 +5,9 @@ ghost use Rattle.sv_lattice.specs.Flows.{IsKnown};
 ghost use Rattle.sv_lattice.specs.Tables.{IsTableOf};
 ghost use Rattle.sv_walk.specs.Lattices.{table_of};
 
-/// The table that the walk makes of a lattice's pairs says of any two points exactly whether declared pairs lead from the one to the other.
+/// The table that the walk makes of a lattice's pairs says of any two points exactly whether
+/// declared pairs lead from the one to the other.
 pub fn tables_of_lattices_are_exact()
-    ensures { (count : ℕ) (pairs : List (ℕ × ℕ)) → All (IsKnown count) pairs → IsTableOf count pairs (table_of count pairs) }
+    ensures { (count : ℕ) (pairs : List (ℕ × ℕ)) → All (IsKnown count) pairs →
+        IsTableOf count pairs (table_of count pairs) }
 {}

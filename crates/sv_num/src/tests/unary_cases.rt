@@ -1,4 +1,5 @@
-// What unary operators give at the edges of some widths, worked out with whole numbers outside this program.
+// What unary operators give at the edges of some widths, worked out with whole numbers outside this
+// program.
 
 /// Width, sign, the operand, and the value of each operator of the unary table in order.
 pub const UNARY_CASES: [(u8, bool, u64, [u64; 11]); 31] = [

@@ -6,4 +6,5 @@ use Rattle.sv_ast.proofs.declarations.are_header_params.Given as goal
 -- the answer is that of the params that are left
 abbrev pub invariant-loop-param : goal.invariant-loop-param
 invariant-loop-param l =
-    are_header_parameters (map parameter_tree (drop l.param-index l.params)) ≡ are_header_parameters (map parameter_tree l.params)
+    are_header_parameters (map parameter_tree (drop l.param-index l.params)) ≡
+    are_header_parameters (map parameter_tree l.params)

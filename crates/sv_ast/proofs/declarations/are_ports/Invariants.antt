@@ -6,4 +6,5 @@ use Rattle.sv_ast.proofs.declarations.are_ports.Given as goal
 -- the answer is that of the decls that are left
 abbrev pub invariant-loop-decl : goal.invariant-loop-decl
 invariant-loop-decl l =
-    are_ports (map declaration_tree (drop l.decl-index l.decls)) ≡ are_ports (map declaration_tree l.decls)
+    are_ports (map declaration_tree (drop l.decl-index l.decls)) ≡
+    are_ports (map declaration_tree l.decls)

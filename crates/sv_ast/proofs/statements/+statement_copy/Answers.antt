@@ -13,5 +13,6 @@ Stmt::copy-returns-in_ok-copies-in-Block t c =
 pub Stmt::copy-returns-in_ok-arm_copies-in-Case : goal.Stmt::copy-returns-in_ok-arm_copies-in-Case
 Stmt::copy-returns-in_ok-arm_copies-in-Case t c =
     let arms = c.in_ok-arm_copies-in-Case.ensures ∙ ap arm_trees c.deref-in-Case.ensures.value in
-    same_cases c.in-Case.place c.in_ok-arm_copies-in-Case.field-0 c.in-Case.arms _ _ c.in_ok-copy-in-Case.ensures arms
+    same_cases c.in-Case.place c.in_ok-arm_copies-in-Case.field-0 c.in-Case.arms _ _
+    c.in_ok-copy-in-Case.ensures arms
     ∙ ap statement_tree (sym c.in-Case.is)

@@ -5,7 +5,8 @@ use Rattle.sv_ast.proofs.statements.+statement_copy.Given as goal
 -- the copies so far and the statements that are left have the plain forms of all
 abbrev pub invariant-copies-loop-stmt : goal.invariant-copies-loop-stmt
 invariant-copies-loop-stmt l =
-    statement_trees l.copies.items ++ statement_trees (drop l.stmt-index l.stmts) ≡ statement_trees l.stmts
+    statement_trees l.copies.items ++ statement_trees (drop l.stmt-index l.stmts) ≡
+    statement_trees l.stmts
 
 -- the same of arms
 abbrev pub invariant-arm_copies-loop-arm : goal.invariant-arm_copies-loop-arm

@@ -5,4 +5,6 @@ use Rattle.sv_first.proofs.ListSteps.{with_front}
 use Rattle.sv_first.proofs.declarations.read_ports.Given as goal
 
 abbrev pub invariant-loop : goal.invariant-loop
-invariant-loop l = with_front l.ports.items (ports_at (length l.tokens - l.counter) (lexemes l.bytes l.rest)) ≡ ports_of (lexemes l.bytes l.tokens)
+invariant-loop l =
+    with_front l.ports.items (ports_at (length l.tokens - l.counter) (lexemes l.bytes l.rest)) ≡
+    ports_of (lexemes l.bytes l.tokens)

@@ -6,7 +6,8 @@ use Rattle.sv_first_ast.specs.Names.{holds}
 use Rattle.sv_first.proofs.identifiers.is_among.Goals as goal
 
 -- `==` the other way round
-flipped : (ws : List (Bor (List ℕ))) (t : List ℕ) → list_any (λ w. bytes_eq w.now t) ws ≡ holds (map (λ w. w.now) ws) t
+flipped : (ws : List (Bor (List ℕ))) (t : List ℕ) →
+    list_any (λ w. bytes_eq w.now t) ws ≡ holds (map (λ w. w.now) ws) t
 flipped [] t = refl
 flipped (w ∷ ws) t = rw (nat_list_eq_equiv.symm w.now t, flipped ws t) refl
 

@@ -10,5 +10,6 @@ pub returns : goal.returns
 returns c =
     let bytes = c.args.bytes.now in
     count_from_yields_List c.take_while.result _ c.count.ensures.ran
-    (YieldsList-from_take_while _ continues_word (YieldsList-from_slice bytes cc) c.take_while.ensures.closure c.take_while.ensures.done (λ x b q k. search (rules, tests)))
+    (YieldsList-from_take_while _ continues_word (YieldsList-from_slice bytes cc)
+    c.take_while.ensures.closure c.take_while.ensures.done (λ x b q k. search (rules, tests)))
     ∙ length-prefix_len continues_word bytes

@@ -6,4 +6,7 @@ use Rattle.sv_first.proofs.ListSteps.{with_front}
 use Rattle.sv_first.proofs.items.read_items.Given as goal
 
 abbrev pub invariant-loop : goal.invariant-loop
-invariant-loop l = with_front (map item_tree l.items.items) (items_at (length l.tokens - l.counter) (lexemes l.bytes l.rest)) ≡ items_of (lexemes l.bytes l.tokens)
+invariant-loop l =
+    with_front (map item_tree l.items.items)
+    (items_at (length l.tokens - l.counter) (lexemes l.bytes l.rest)) ≡
+    items_of (lexemes l.bytes l.tokens)

@@ -5,7 +5,9 @@ use Rattle.sv_first.specs.Values.{inverted}
 use Rattle.sv_first.proofs.values.inverted.Goals as goal
 
 pub loop-preserved : goal.loop-preserved
-loop-preserved c = rw (add-one, ← c.loop.invariant) (ap (λ e. unary Invert (expression_tree e)) c.in_ok-new.ensures.ok)
+loop-preserved c =
+    rw (add-one, ← c.loop.invariant)
+    (ap (λ e. unary Invert (expression_tree e)) c.in_ok-new.ensures.ok)
 
 pub returns : goal.returns
 returns c =

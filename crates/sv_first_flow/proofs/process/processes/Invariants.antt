@@ -8,4 +8,5 @@ use Rattle.sv_first_flow.proofs.process.processes.Given as goal
 -- the processes so far, and those of the items that are left, are all
 abbrev pub invariant-loop-item : goal.invariant-loop-item
 invariant-loop-item l =
-    plain_processes l.found.items ++ filter_map process_of (map item_tree (drop l.item-index l.item-items)) ≡ processes (module_tree l.module)
+    plain_processes l.found.items ++ filter_map process_of
+    (map item_tree (drop l.item-index l.item-items)) ≡ processes (module_tree l.module)

@@ -12,4 +12,6 @@ invariant-loop-port l = plain_declarations l.found.items ≡ take l.port-index l
 -- the declarations so far, and those of the items that are left, are all
 abbrev pub invariant-loop-item : goal.invariant-loop-item
 invariant-loop-item l =
-    plain_declarations l.found.items ++ filter_map meaning.declaration_of (map item_tree (drop l.item-index l.item-items)) ≡ meaning.declarations (module_tree l.module)
+    plain_declarations l.found.items ++ filter_map meaning.declaration_of
+    (map item_tree (drop l.item-index l.item-items)) ≡
+    meaning.declarations (module_tree l.module)

@@ -13,5 +13,6 @@ FNode::copy-returns-in_ok-copies-in-Join t c =
 pub FNode::copy-returns-in_ok-copies-in-Repeat : goal.FNode::copy-returns-in_ok-copies-in-Repeat
 FNode::copy-returns-in_ok-copies-in-Repeat t c =
     let parts = c.in_ok-copies-in-Repeat.ensures ∙ ap typed_trees c.deref-in-Repeat.ensures.value in
-    ap (replication c.in-Repeat.count) (same_parts c.in_ok-copies-in-Repeat.field-0 c.in-Repeat.parts parts)
+    ap (replication c.in-Repeat.count)
+    (same_parts c.in_ok-copies-in-Repeat.field-0 c.in-Repeat.parts parts)
     ∙ ap node_tree (sym c.in-Repeat.is)

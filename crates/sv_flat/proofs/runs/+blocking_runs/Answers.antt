@@ -1,4 +1,5 @@
-use Rattle.std.proofs.Common.{sym, ap, subst, refl, ◌∙◌, ◌+◌, Bool, true, false, List, [], map, fold, drop}
+use Rattle.std.proofs.Common.{sym, ap, subst, refl, ◌∙◌, ◌+◌, Bool, true, false, List, [], map}
+use Rattle.std.proofs.Common.{fold, drop}
 use Rattle.std.specs.Prelude.{IsTrue}
 use Rattle.sv_flat.specs.declared.statements.FStmt.{the_lemmas}
 use Rattle.sv_flat.specs.declared.statements.Piece.{Piece}
@@ -8,7 +9,8 @@ use Rattle.sv_flat.specs.Runs.{put_piece, run_alone}
 use Rattle.sv_flat.specs.Soundness.{statement_sound}
 use Rattle.sv_flat.specs.Values.{value}
 use Rattle.sv_flat.specs.Views.{typed_tree, piece_form, flat_statement}
-use Rattle.sv_flat.proofs.NumberedRuns.{chain, chain_at, holds_at, alone_after, block_is, pieces_stay}
+use Rattle.sv_flat.proofs.NumberedRuns.{chain, chain_at, holds_at, alone_after, block_is}
+use Rattle.sv_flat.proofs.NumberedRuns.{pieces_stay}
 use Rattle.sv_flat.proofs.runs.+blocking_runs.Goals as goal
 
 pub run_all-run_body-requires : goal.run_all-run_body-requires
@@ -16,7 +18,9 @@ run_all-run_body-requires t c =
     let forms = signal_forms c.args.signals.now in (
       search (rules, the_lemmas),
       (
-        holds_at (statement_sound forms) (λ a b. refl) c.args.stmts.now c.loop-stmt.stmt-index c.stmt-item.result c.loop-stmt-test.true c.stmt-item.is c.requires.sound,
+        holds_at (statement_sound forms) (λ a b.
+            refl) c.args.stmts.now c.loop-stmt.stmt-index c.stmt-item.result c.loop-stmt-test.true
+            c.stmt-item.is c.requires.sound,
         (c.requires.words, c.loop-stmt.invariant.1),
       ),
     )
@@ -27,7 +31,8 @@ run_all-loop-stmt-preserved t c =
     let s = c.stmt-item.result in
     let left = chain (drop (c.loop-stmt.stmt-index + 1) c.args.stmts.now) in
     let e = by_number c.loop-stmt.values in
-    let at = chain_at c.args.stmts.now c.loop-stmt.stmt-index s c.loop-stmt-test.true c.stmt-item.is in (
+    let at = chain_at c.args.stmts.now c.loop-stmt.stmt-index s c.loop-stmt-test.true
+    c.stmt-item.is in (
       ap (run_alone forms left) c.run_body.ensures.run
           ∙ sym (alone_after forms (flat_statement s) left e)
           ∙ sym (ap (λ body. run_alone forms body e) at)
@@ -38,16 +43,22 @@ run_all-loop-stmt-preserved t c =
 pub run_body-run_all-requires : goal.run_body-run_all-requires
 run_body-run_all-requires t c =
     let forms = signal_forms c.args.signals.now in
-    let block = block_is c.selected.result.now c.in-Block.stmts c.deref-in-Block.result.now c.in-Block.is c.deref-in-Block.ensures.value in (
+    let block = block_is c.selected.result.now c.in-Block.stmts c.deref-in-Block.result.now
+    c.in-Block.is c.deref-in-Block.ensures.value in (
       search (rules, the_lemmas),
-      (subst (λ body. IsTrue (statement_sound forms body)) block c.selected.ensures.sound, (c.requires.words, c.requires.fit)),
+      (
+        subst (λ body. IsTrue (statement_sound forms body)) block
+            c.selected.ensures.sound,
+        (c.requires.words, c.requires.fit),
+      ),
     )
 
 pub run_body-returns-in-Block-clause-run : goal.run_body-returns-in-Block-clause-run
 run_body-returns-in-Block-clause-run t c =
     let forms = signal_forms c.args.signals.now in
     let e = by_number c.args.values.now in
-    let block = block_is c.selected.result.now c.in-Block.stmts c.deref-in-Block.result.now c.in-Block.is c.deref-in-Block.ensures.value in
+    let block = block_is c.selected.result.now c.in-Block.stmts c.deref-in-Block.result.now
+    c.in-Block.is c.deref-in-Block.ensures.value in
     c.run_all.ensures.run
     ∙ sym (ap (λ body. run_alone forms body e) block)
     ∙ ap (λ z. z.0) (c.selected.ensures.run [])
@@ -58,8 +69,11 @@ run_body-returns-then-blocking-clause-run t c =
     let e = by_number c.args.values.now in
     let right = value forms e (typed_tree c.in-Assign.value) in
     c.assign.ensures.run
-    ∙ ap (λ (ps : List Piece). (fold (put_piece forms true right) (e, []) (map piece_form ps)).0) c.deref.ensures.value
-    ∙ ap (λ (b : Bool). (fold (put_piece forms b right) (e, []) (map piece_form c.in-Assign.pieces.items)).0) (sym c.if-blocking.true)
+    ∙ ap (λ (ps : List Piece). (fold (put_piece forms true right) (e, []) (map piece_form ps)).0)
+    c.deref.ensures.value
+    ∙ ap (λ (b : Bool).
+    (fold (put_piece forms b right) (e, []) (map piece_form c.in-Assign.pieces.items)).0)
+    (sym c.if-blocking.true)
     ∙ ap (λ s. run_alone forms (flat_statement s) e) (sym c.in-Assign.is)
     ∙ ap (λ z. z.0) (c.selected.ensures.run [])
 
@@ -69,6 +83,8 @@ run_body-returns-else-blocking-clause-run t c =
     let e = by_number c.args.values.now in
     let right = value forms e (typed_tree c.in-Assign.value) in
     sym (pieces_stay forms right (map piece_form c.in-Assign.pieces.items) (e, []))
-    ∙ ap (λ (b : Bool). (fold (put_piece forms b right) (e, []) (map piece_form c.in-Assign.pieces.items)).0) (sym c.if-blocking.false)
+    ∙ ap (λ (b : Bool).
+    (fold (put_piece forms b right) (e, []) (map piece_form c.in-Assign.pieces.items)).0)
+    (sym c.if-blocking.false)
     ∙ ap (λ s. run_alone forms (flat_statement s) e) (sym c.in-Assign.is)
     ∙ ap (λ z. z.0) (c.selected.ensures.run [])

@@ -14,5 +14,6 @@ invariant-update_all-loop-stmt l =
     let e = by_number l.values in
     ((updates : Updates) → by_number l.initial.next ≡ updated e updates
     → (made : Updates) × (by_number l.next ≡ updated e made)
-    × (run forms (chain_of (flat_statements (drop l.stmt-index l.stmts))) (e, made) ≡ run forms (chain_of (flat_statements l.stmts)) (e, updates)))
+    × (run forms (chain_of (flat_statements (drop l.stmt-index l.stmts))) (e, made) ≡
+    run forms (chain_of (flat_statements l.stmts)) (e, updates)))
     × FitSignals forms l.next

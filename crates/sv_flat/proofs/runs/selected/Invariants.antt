@@ -13,6 +13,9 @@ invariant-loop-body l =
     let forms = signal_forms l.signals in
     let e = by_number l.values in
     IsTrue (statement_sound forms (flat_statement l.body))
-    × (IsTrue (is_nonblocking (flat_statement l.initial.body)) → IsTrue (is_nonblocking (flat_statement l.body)))
-    × ((updates : Updates) → run forms (flat_statement l.body) (e, updates) ≡ run forms (flat_statement l.initial.body) (e, updates))
+    × (IsTrue (is_nonblocking (flat_statement l.initial.body)) →
+    IsTrue (is_nonblocking (flat_statement l.body)))
+    × ((updates : Updates) →
+    run forms (flat_statement l.body) (e, updates) ≡
+    run forms (flat_statement l.initial.body) (e, updates))
     × (size-FStmt l.body ≤ size-FStmt l.initial.body)

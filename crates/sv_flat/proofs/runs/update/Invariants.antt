@@ -12,5 +12,6 @@ invariant-loop-piece l =
     let e = by_number l.values in
     ((updates : Updates) → by_number l.initial.next ≡ updated e updates
     → (made : Updates) × (by_number l.next ≡ updated e made)
-    × ((fold step (e, made) (map piece_form (drop l.piece-index l.pieces))) ≡ (fold step (e, updates) (map piece_form l.pieces))))
+    × ((fold step (e, made) (map piece_form (drop l.piece-index l.pieces))) ≡
+    (fold step (e, updates) (map piece_form l.pieces))))
     × FitSignals forms l.next

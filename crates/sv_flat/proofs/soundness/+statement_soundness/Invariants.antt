@@ -9,11 +9,13 @@ use Rattle.sv_flat.proofs.soundness.+statement_soundness.Given as goal
 abbrev pub invariant-are_statements_sound-loop-stmt : goal.invariant-are_statements_sound-loop-stmt
 invariant-are_statements_sound-loop-stmt l =
     let signals = signal_forms l.signals in
-    statement_sound signals (chain_of (flat_statements (drop l.stmt-index l.stmts))) ≡ statement_sound signals (chain_of (flat_statements l.stmts))
+    statement_sound signals (chain_of (flat_statements (drop l.stmt-index l.stmts))) ≡
+    statement_sound signals (chain_of (flat_statements l.stmts))
 
 -- the answer is that of the arm that is left, which is no deeper
 abbrev pub invariant-is_statement_sound-loop-stmt : goal.invariant-is_statement_sound-loop-stmt
 invariant-is_statement_sound-loop-stmt l =
     let signals = signal_forms l.signals in
-    (statement_sound signals (flat_statement l.stmt) ≡ statement_sound signals (flat_statement l.fn.stmt))
+    (statement_sound signals (flat_statement l.stmt) ≡
+    statement_sound signals (flat_statement l.fn.stmt))
     × (size-FStmt l.stmt ≤ size-FStmt l.fn.stmt)

@@ -8,4 +8,5 @@ use Rattle.sv_flat.proofs.soundness.are_invariants_sound.Given as goal
 abbrev pub invariant-loop-expression : goal.invariant-loop-expression
 invariant-loop-expression l =
     let test = invariant_sound (design_of l.flat) in
-    list_all test (map invariant_form (drop l.expression-index l.flat.invariants.items)) ≡ list_all test (map invariant_form l.flat.invariants.items)
+    list_all test (map invariant_form (drop l.expression-index l.flat.invariants.items)) ≡
+    list_all test (map invariant_form l.flat.invariants.items)

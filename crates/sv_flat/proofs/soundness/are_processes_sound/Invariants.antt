@@ -8,4 +8,5 @@ use Rattle.sv_flat.proofs.soundness.are_processes_sound.Given as goal
 abbrev pub invariant-loop-process : goal.invariant-loop-process
 invariant-loop-process l =
     let test = process_sound (design_of l.flat) in
-    list_all test (map process_form (drop l.process-index l.flat.processes.items)) ≡ list_all test (map process_form l.flat.processes.items)
+    list_all test (map process_form (drop l.process-index l.flat.processes.items)) ≡
+    list_all test (map process_form l.flat.processes.items)

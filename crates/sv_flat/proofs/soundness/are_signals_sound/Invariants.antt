@@ -9,4 +9,5 @@ use Rattle.sv_flat.proofs.soundness.are_signals_sound.Given as goal
 abbrev pub invariant-loop-signal : goal.invariant-loop-signal
 invariant-loop-signal l =
     let test = signal_sound (design_of l.flat) in
-    list_all test (signal_forms (drop l.signal-index l.flat.signals.items)) ≡ list_all test (signal_forms l.flat.signals.items)
+    list_all test (signal_forms (drop l.signal-index l.flat.signals.items)) ≡
+    list_all test (signal_forms l.flat.signals.items)

@@ -9,4 +9,5 @@ use Rattle.sv_flat.proofs.soundness.do_pieces_fit.Given as goal
 abbrev pub invariant-loop-piece : goal.invariant-loop-piece
 invariant-loop-piece l =
     let test = piece_fits (signal_forms l.signals) (typed_tree l.value) in
-    list_all test (map piece_form (drop l.piece-index l.pieces)) ≡ list_all test (map piece_form l.pieces)
+    list_all test (map piece_form (drop l.piece-index l.pieces)) ≡
+    list_all test (map piece_form l.pieces)

@@ -7,4 +7,5 @@ use Rattle.sv_flat.proofs.typing.width_within.Given as goal
 abbrev pub invariant-loop-part : goal.invariant-loop-part
 invariant-loop-part l =
     (l.width ≤ l.most)
-    × (l.width + parts_width (parts_of (typed_trees (drop l.part-index l.parts))) ≡ parts_width (parts_of (typed_trees l.parts)))
+    × (l.width + parts_width (parts_of (typed_trees (drop l.part-index l.parts))) ≡
+    parts_width (parts_of (typed_trees l.parts)))

@@ -5,7 +5,9 @@ pub returns-clause-means_or_breaks : goal.returns-clause-means_or_breaks
 returns-clause-means_or_breaks c bytes = text_or_rule bytes
 
 pub returns-clause-never_both : goal.returns-clause-never_both
-returns-clause-never_both c bytes text means number names place breaks = text_breaks_nothing bytes text means number names place breaks
+returns-clause-never_both c bytes text means number names place breaks =
+    text_breaks_nothing bytes text means number names place breaks
 
 pub returns-clause-one_rule : goal.returns-clause-one_rule
-returns-clause-one_rule c bytes number other names others place elsewhere first second = one_syntax_rule bytes number other names others place elsewhere first second
+returns-clause-one_rule c bytes number other names others place elsewhere first second =
+    one_syntax_rule bytes number other names others place elsewhere first second

@@ -5,7 +5,8 @@ use Rattle.sv_io.proofs.traits.put_all.Given as goal
 abbrev pub invariant-loop-rest : goal.invariant-loop-rest
 invariant-loop-rest g l = record {
   counts : g.K.Sink.faults l.initial.out ≤ g.K.Sink.faults l.out;
-  accepted : (front : List ℕ) × (l.piece ≡ front ++ l.rest) × (g.K.Sink.accepted l.out ≡ g.K.Sink.accepted l.initial.out ++ front);
+  accepted : (front : List ℕ) × (l.piece ≡ front ++ l.rest)
+      × (g.K.Sink.accepted l.out ≡ g.K.Sink.accepted l.initial.out ++ front);
 }
 
 abbrev pub decreases-loop-rest : goal.decreases-loop-rest

@@ -4,4 +4,5 @@ use Rattle.sv_lattice.specs.Tables.{FlowsTo}
 use Rattle.sv_lattice.proofs.bounds.unjoined_with.Given as goal
 
 abbrev pub invariant-loop-second : goal.invariant-loop-second
-invariant-loop-second l = (b : ℕ) → b < l.second → HasJoin (length l.table) (FlowsTo l.table) l.first b
+invariant-loop-second l =
+    (b : ℕ) → b < l.second → HasJoin (length l.table) (FlowsTo l.table) l.first b

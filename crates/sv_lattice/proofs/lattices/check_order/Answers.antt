@@ -12,10 +12,12 @@ returns-in-Some-first_unjoined-2 c =
     let n : ℕ = length table in
     let pair = c.in-Some-first_unjoined-2 in
     let first : IsFirstWithout n (HasJoin n (FlowsTo turned)) pair.first pair.second =
-    subst (λ m. IsFirstWithout m (HasJoin m (FlowsTo turned)) pair.first pair.second) c.requires.size pair.ensures in (
+    subst (λ m. IsFirstWithout m (HasJoin m (FlowsTo turned)) pair.first pair.second)
+    c.requires.size pair.ensures in (
       c.in_default.ensures,
       c.in_default-first_unjoined.ensures,
-      first_along n (HasJoin n (FlowsTo turned)) (HasMeet n (FlowsTo table)) pair.first pair.second (same_meets n table turned c.requires.turned) first,
+      first_along n (HasJoin n (FlowsTo turned)) (HasMeet n (FlowsTo table)) pair.first pair.second
+          (same_meets n table turned c.requires.turned) first,
     )
 
 pub returns : goal.returns
@@ -24,9 +26,12 @@ returns c =
     let turned : List ℕ = c.args.turned.now in
     let n : ℕ = length table in
     let joins : EachPair n (HasJoin n (FlowsTo turned)) =
-    subst (λ m. EachPair m (HasJoin m (FlowsTo turned))) c.requires.size c.in_default-first_unjoined-2.ensures in
+    subst (λ m. EachPair m (HasJoin m (FlowsTo turned))) c.requires.size
+    c.in_default-first_unjoined-2.ensures in
     record {
       apart = c.in_default.ensures;
       joins = c.in_default-first_unjoined.ensures;
-      meets = each_along n (HasJoin n (FlowsTo turned)) (HasMeet n (FlowsTo table)) (same_meets n table turned c.requires.turned) joins;
+      meets =
+          each_along n (HasJoin n (FlowsTo turned)) (HasMeet n (FlowsTo table))
+          (same_meets n table turned c.requires.turned) joins;
     }

@@ -8,4 +8,6 @@ returns-then-amount-lt64 c =
     given ∙ word_low (c.args.a.value * 2 ^ c.args.amount) c.args.a.width c.args.a.in_range.1
 
 pub returns-else-amount-lt64 : goal.returns-else-amount-lt64
-returns-else-amount-lt64 c = sym (shifted_out c.args.a.width c.args.a.value c.args.amount c.args.a.in_range.1 c.if-amount-lt64.false)
+returns-else-amount-lt64 c =
+    sym (shifted_out c.args.a.width c.args.a.value c.args.amount c.args.a.in_range.1
+    c.if-amount-lt64.false)

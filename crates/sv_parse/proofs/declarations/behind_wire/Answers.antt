@@ -10,4 +10,5 @@ returns-in-Some-clause-reads c =
 
 pub returns-in-Some-clause-output : goal.returns-in-Some-clause-output
 returns-in-Some-clause-output c =
-    λ bytes no_reg. (word_taken perhaps_wire_or_reg words.Wire [] _ _ refl (c.in-Some.ensures.is bytes))
+    λ bytes no_reg.
+    (word_taken perhaps_wire_or_reg words.Wire [] _ _ refl (c.in-Some.ensures.is bytes))

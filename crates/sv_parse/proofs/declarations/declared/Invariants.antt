@@ -5,4 +5,5 @@ use Rattle.sv_parse.proofs.declarations.declared.Given as goal
 
 -- the items so far are those of the members so far
 abbrev pub invariant-loop-decl : goal.invariant-loop-decl
-invariant-loop-decl l = map item_tree l.items.items ≡ map (λ m. tree.declared (declaration_tree m)) l.yielded
+invariant-loop-decl l =
+    map item_tree l.items.items ≡ map (λ m. tree.declared (declaration_tree m)) l.yielded

@@ -21,4 +21,5 @@ pub returns-clause-reads : goal.returns-clause-reads
 returns-clause-reads c =
     λ next. reads_then _ _ _ _ _ _
     (c.in_ok-wires.ensures.reads (outer more_wires ∷ outer items ∷ []) [] wires_go_on refl next)
-    (reads_before (outer more_wires ∷ []) (outer (punctuation signs.Semicolon) ∷ []) (outer items ∷ []) _ _ (ends_more_wires _ c.in_ok-wires.ensures.ends))
+    (reads_before (outer more_wires ∷ []) (outer (punctuation signs.Semicolon) ∷ [])
+    (outer items ∷ []) _ _ (ends_more_wires _ c.in_ok-wires.ensures.ends))

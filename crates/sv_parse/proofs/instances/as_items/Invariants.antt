@@ -5,4 +5,5 @@ use Rattle.sv_parse.proofs.instances.as_items.Given as goal
 
 -- the items so far are those of the members so far
 abbrev pub invariant-loop-instance : goal.invariant-loop-instance
-invariant-loop-instance l = map item_tree l.items.items ≡ map (λ m. tree.instance_item (instance_tree m)) l.yielded
+invariant-loop-instance l =
+    map item_tree l.items.items ≡ map (λ m. tree.instance_item (instance_tree m)) l.yielded

@@ -12,28 +12,67 @@ use Rattle.sv_parse.proofs.instances.read_named_override.Goals as goal
 
 pub returns-clause-is : goal.returns-clause-is
 returns-clause-is c =
-    dotted_is c.in_ok-name.name c.in_ok-name.place (IsValue all_limits (expression_tree c.in_ok-value.value)) (placed_tokens c.args.bytes.now c.args.tokens.now) (placed_tokens c.args.bytes.now c.in_ok-name.rest.now) (placed_tokens c.args.bytes.now c.in_ok-rest.rest.now) c.in_ok-name.ensures.is ((placed_tokens c.args.bytes.now c.in_ok-value.rest.now), c.in_ok-value.ensures.is, c.in_ok-rest.ensures.is c.args.bytes.now)
+    dotted_is c.in_ok-name.name c.in_ok-name.place
+    (IsValue all_limits (expression_tree c.in_ok-value.value))
+    (placed_tokens c.args.bytes.now c.args.tokens.now)
+    (placed_tokens c.args.bytes.now c.in_ok-name.rest.now)
+    (placed_tokens c.args.bytes.now c.in_ok-rest.rest.now) c.in_ok-name.ensures.is (
+      (placed_tokens c.args.bytes.now c.in_ok-value.rest.now),
+      c.in_ok-value.ensures.is,
+      c.in_ok-rest.ensures.is c.args.bytes.now,
+    )
 
 pub returns-in_err-name-clause-halts : goal.returns-in_err-name-clause-halts
 returns-in_err-name-clause-halts c =
     passed _ _ _ c.from_residual.ensures.1
-    (stops_before (outer (punctuation signs.Dot) ∷ outer plain_name ∷ outer (punctuation signs.OpenParenthesis) ∷ []) (outer (expression 0) ∷ outer (punctuation signs.CloseParenthesis) ∷ []) _ _ c.in_err-name.ensures.halts)
+    (stops_before (outer (punctuation signs.Dot) ∷ outer plain_name ∷
+    outer (punctuation signs.OpenParenthesis) ∷ [])
+    (outer (expression 0) ∷ outer (punctuation signs.CloseParenthesis) ∷ []) _ _
+    c.in_err-name.ensures.halts)
 
 pub returns-in_err-value-clause-halts : goal.returns-in_err-value-clause-halts
 returns-in_err-value-clause-halts c =
     passed _ _ _ c.from_residual-in_err-value.ensures.1
-    (stops_then (outer (punctuation signs.Dot) ∷ outer plain_name ∷ outer (punctuation signs.OpenParenthesis) ∷ outer (expression 0) ∷ outer (punctuation signs.CloseParenthesis) ∷ []) (outer (expression 0) ∷ outer (punctuation signs.CloseParenthesis) ∷ []) _ _ _ (reads_before (outer (punctuation signs.Dot) ∷ outer plain_name ∷ outer (punctuation signs.OpenParenthesis) ∷ []) [] (outer (expression 0) ∷ outer (punctuation signs.CloseParenthesis) ∷ []) _ _ c.in_ok-name.ensures.reads)
-    (stops_before (outer (expression 0) ∷ []) (outer (punctuation signs.CloseParenthesis) ∷ []) _ _ c.in_err-value.ensures.halts))
+    (stops_then (outer (punctuation signs.Dot) ∷ outer plain_name ∷
+    outer (punctuation signs.OpenParenthesis) ∷ outer (expression 0) ∷
+    outer (punctuation signs.CloseParenthesis) ∷ [])
+    (outer (expression 0) ∷ outer (punctuation signs.CloseParenthesis) ∷ []) _ _ _
+    (reads_before (outer (punctuation signs.Dot) ∷ outer plain_name ∷
+    outer (punctuation signs.OpenParenthesis) ∷ []) []
+    (outer (expression 0) ∷ outer (punctuation signs.CloseParenthesis) ∷ []) _ _
+    c.in_ok-name.ensures.reads)
+    (stops_before (outer (expression 0) ∷ []) (outer (punctuation signs.CloseParenthesis) ∷ []) _ _
+    c.in_err-value.ensures.halts))
 
 pub returns-in_err-rest-clause-halts : goal.returns-in_err-rest-clause-halts
 returns-in_err-rest-clause-halts c =
     passed _ _ _ c.from_residual-in_err-rest.ensures.1
-    (stops_then (outer (punctuation signs.Dot) ∷ outer plain_name ∷ outer (punctuation signs.OpenParenthesis) ∷ outer (expression 0) ∷ outer (punctuation signs.CloseParenthesis) ∷ []) (outer (expression 0) ∷ outer (punctuation signs.CloseParenthesis) ∷ []) _ _ _ (reads_before (outer (punctuation signs.Dot) ∷ outer plain_name ∷ outer (punctuation signs.OpenParenthesis) ∷ []) [] (outer (expression 0) ∷ outer (punctuation signs.CloseParenthesis) ∷ []) _ _ c.in_ok-name.ensures.reads)
-    (stops_then (outer (expression 0) ∷ outer (punctuation signs.CloseParenthesis) ∷ []) (outer (punctuation signs.CloseParenthesis) ∷ []) _ _ _ (reads_before (outer (expression 0) ∷ []) [] (outer (punctuation signs.CloseParenthesis) ∷ []) _ _ c.in_ok-value.ensures.reads)
+    (stops_then (outer (punctuation signs.Dot) ∷ outer plain_name ∷
+    outer (punctuation signs.OpenParenthesis) ∷ outer (expression 0) ∷
+    outer (punctuation signs.CloseParenthesis) ∷ [])
+    (outer (expression 0) ∷ outer (punctuation signs.CloseParenthesis) ∷ []) _ _ _
+    (reads_before (outer (punctuation signs.Dot) ∷ outer plain_name ∷
+    outer (punctuation signs.OpenParenthesis) ∷ []) []
+    (outer (expression 0) ∷ outer (punctuation signs.CloseParenthesis) ∷ []) _ _
+    c.in_ok-name.ensures.reads)
+    (stops_then (outer (expression 0) ∷ outer (punctuation signs.CloseParenthesis) ∷ [])
+    (outer (punctuation signs.CloseParenthesis) ∷ []) _ _ _
+    (reads_before (outer (expression 0) ∷ []) []
+    (outer (punctuation signs.CloseParenthesis) ∷ []) _ _ c.in_ok-value.ensures.reads)
     (c.in_err-rest.ensures.halts c.args.bytes.now)))
 
 pub returns-clause-reads : goal.returns-clause-reads
 returns-clause-reads c =
-    (reads_then (outer (punctuation signs.Dot) ∷ outer plain_name ∷ outer (punctuation signs.OpenParenthesis) ∷ outer (expression 0) ∷ outer (punctuation signs.CloseParenthesis) ∷ []) (outer (expression 0) ∷ outer (punctuation signs.CloseParenthesis) ∷ []) [] _ _ _ (reads_before (outer (punctuation signs.Dot) ∷ outer plain_name ∷ outer (punctuation signs.OpenParenthesis) ∷ []) [] (outer (expression 0) ∷ outer (punctuation signs.CloseParenthesis) ∷ []) _ _ c.in_ok-name.ensures.reads)
-    (reads_then (outer (expression 0) ∷ outer (punctuation signs.CloseParenthesis) ∷ []) (outer (punctuation signs.CloseParenthesis) ∷ []) [] _ _ _ (reads_before (outer (expression 0) ∷ []) [] (outer (punctuation signs.CloseParenthesis) ∷ []) _ _ c.in_ok-value.ensures.reads)
+    (reads_then (outer (punctuation signs.Dot) ∷ outer plain_name ∷
+    outer (punctuation signs.OpenParenthesis) ∷ outer (expression 0) ∷
+    outer (punctuation signs.CloseParenthesis) ∷ [])
+    (outer (expression 0) ∷ outer (punctuation signs.CloseParenthesis) ∷ []) [] _ _ _
+    (reads_before (outer (punctuation signs.Dot) ∷ outer plain_name ∷
+    outer (punctuation signs.OpenParenthesis) ∷ []) []
+    (outer (expression 0) ∷ outer (punctuation signs.CloseParenthesis) ∷ []) _ _
+    c.in_ok-name.ensures.reads)
+    (reads_then (outer (expression 0) ∷ outer (punctuation signs.CloseParenthesis) ∷ [])
+    (outer (punctuation signs.CloseParenthesis) ∷ []) [] _ _ _
+    (reads_before (outer (expression 0) ∷ []) []
+    (outer (punctuation signs.CloseParenthesis) ∷ []) _ _ c.in_ok-value.ensures.reads)
     (c.in_ok-rest.ensures.reads c.args.bytes.now refl)))

@@ -11,34 +11,69 @@ use Rattle.sv_parse.proofs.instances.read_overrides.Goals as goal
 
 pub returns-in-Some-clause-is : goal.returns-in-Some-clause-is
 returns-in-Some-clause-is c =
-    overrides_are (override_trees c.in_ok-overrides.overrides) (placed_tokens c.args.bytes.now c.args.tokens.now) (placed_tokens c.args.bytes.now c.in-Some.rest.now) (placed_tokens c.args.bytes.now c.in_ok-rest.rest.now) (placed_tokens c.args.bytes.now c.in_ok-overrides.rest.now) (placed_tokens c.args.bytes.now c.in_ok-rest-2.rest.now) (c.in-Some.ensures.is c.args.bytes.now) (c.in_ok-rest.ensures.is c.args.bytes.now) c.in_ok-overrides.ensures.is (c.in_ok-rest-2.ensures.is c.args.bytes.now)
+    overrides_are (override_trees c.in_ok-overrides.overrides)
+    (placed_tokens c.args.bytes.now c.args.tokens.now)
+    (placed_tokens c.args.bytes.now c.in-Some.rest.now)
+    (placed_tokens c.args.bytes.now c.in_ok-rest.rest.now)
+    (placed_tokens c.args.bytes.now c.in_ok-overrides.rest.now)
+    (placed_tokens c.args.bytes.now c.in_ok-rest-2.rest.now)
+    (c.in-Some.ensures.is c.args.bytes.now) (c.in_ok-rest.ensures.is c.args.bytes.now)
+    c.in_ok-overrides.ensures.is (c.in_ok-rest-2.ensures.is c.args.bytes.now)
 
 pub returns-in_err-rest-clause-halts : goal.returns-in_err-rest-clause-halts
 returns-in_err-rest-clause-halts c =
     passed _ _ _ c.from_residual.ensures.1
-    (stops_then (outer perhaps_overrides ∷ []) (outer (punctuation signs.OpenParenthesis) ∷ outer overrides ∷ []) _ _ _ (sign_taken perhaps_overrides signs.Hash ((punctuation signs.OpenParenthesis) ∷ overrides ∷ []) _ _ refl (c.in-Some.ensures.is c.args.bytes.now))
-    (stops_before (outer (punctuation signs.OpenParenthesis) ∷ []) (outer overrides ∷ []) _ _ (c.in_err-rest.ensures.halts c.args.bytes.now)))
+    (stops_then (outer perhaps_overrides ∷ [])
+    (outer (punctuation signs.OpenParenthesis) ∷ outer overrides ∷ []) _ _ _
+    (sign_taken perhaps_overrides signs.Hash
+    ((punctuation signs.OpenParenthesis) ∷ overrides ∷ []) _ _ refl
+    (c.in-Some.ensures.is c.args.bytes.now))
+    (stops_before (outer (punctuation signs.OpenParenthesis) ∷ []) (outer overrides ∷ []) _ _
+    (c.in_err-rest.ensures.halts c.args.bytes.now)))
 
 pub returns-in_err-overrides-clause-halts : goal.returns-in_err-overrides-clause-halts
 returns-in_err-overrides-clause-halts c =
     passed _ _ _ c.from_residual-in_err-overrides.ensures.1
-    (stops_then (outer perhaps_overrides ∷ []) (outer (punctuation signs.OpenParenthesis) ∷ outer overrides ∷ []) _ _ _ (sign_taken perhaps_overrides signs.Hash ((punctuation signs.OpenParenthesis) ∷ overrides ∷ []) _ _ refl (c.in-Some.ensures.is c.args.bytes.now))
-    (stops_then (outer (punctuation signs.OpenParenthesis) ∷ outer overrides ∷ []) (outer overrides ∷ []) _ _ _ (reads_before (outer (punctuation signs.OpenParenthesis) ∷ []) [] (outer overrides ∷ []) _ _ (c.in_ok-rest.ensures.reads c.args.bytes.now refl))
+    (stops_then (outer perhaps_overrides ∷ [])
+    (outer (punctuation signs.OpenParenthesis) ∷ outer overrides ∷ []) _ _ _
+    (sign_taken perhaps_overrides signs.Hash
+    ((punctuation signs.OpenParenthesis) ∷ overrides ∷ []) _ _ refl
+    (c.in-Some.ensures.is c.args.bytes.now))
+    (stops_then (outer (punctuation signs.OpenParenthesis) ∷ outer overrides ∷ [])
+    (outer overrides ∷ []) _ _ _
+    (reads_before (outer (punctuation signs.OpenParenthesis) ∷ []) [] (outer overrides ∷ []) _ _
+    (c.in_ok-rest.ensures.reads c.args.bytes.now refl))
     c.in_err-overrides.ensures.halts))
 
 pub returns-in_err-rest-2-clause-halts : goal.returns-in_err-rest-2-clause-halts
 returns-in_err-rest-2-clause-halts c =
     passed _ _ _ c.from_residual-in_err-rest-2.ensures.1
-    (stops_then (outer perhaps_overrides ∷ []) (outer (punctuation signs.OpenParenthesis) ∷ outer overrides ∷ []) _ _ _ (sign_taken perhaps_overrides signs.Hash ((punctuation signs.OpenParenthesis) ∷ overrides ∷ []) _ _ refl (c.in-Some.ensures.is c.args.bytes.now))
-    (stops_then (outer (punctuation signs.OpenParenthesis) ∷ outer overrides ∷ []) (outer overrides ∷ []) _ _ _ (reads_before (outer (punctuation signs.OpenParenthesis) ∷ []) [] (outer overrides ∷ []) _ _ (c.in_ok-rest.ensures.reads c.args.bytes.now refl))
-    (stops_then (outer overrides ∷ []) (outer (punctuation signs.CloseParenthesis) ∷ []) _ _ _ c.in_ok-overrides.ensures.reads
+    (stops_then (outer perhaps_overrides ∷ [])
+    (outer (punctuation signs.OpenParenthesis) ∷ outer overrides ∷ []) _ _ _
+    (sign_taken perhaps_overrides signs.Hash
+    ((punctuation signs.OpenParenthesis) ∷ overrides ∷ []) _ _ refl
+    (c.in-Some.ensures.is c.args.bytes.now))
+    (stops_then (outer (punctuation signs.OpenParenthesis) ∷ outer overrides ∷ [])
+    (outer overrides ∷ []) _ _ _
+    (reads_before (outer (punctuation signs.OpenParenthesis) ∷ []) [] (outer overrides ∷ []) _ _
+    (c.in_ok-rest.ensures.reads c.args.bytes.now refl))
+    (stops_then (outer overrides ∷ []) (outer (punctuation signs.CloseParenthesis) ∷ []) _ _ _
+    c.in_ok-overrides.ensures.reads
     (c.in_err-rest-2.ensures.halts c.args.bytes.now))))
 
 pub returns-in-Some-clause-reads : goal.returns-in-Some-clause-reads
 returns-in-Some-clause-reads c =
-    (reads_then (outer perhaps_overrides ∷ []) (outer (punctuation signs.OpenParenthesis) ∷ outer overrides ∷ []) [] _ _ _ (sign_taken perhaps_overrides signs.Hash ((punctuation signs.OpenParenthesis) ∷ overrides ∷ []) _ _ refl (c.in-Some.ensures.is c.args.bytes.now))
-    (reads_then (outer (punctuation signs.OpenParenthesis) ∷ outer overrides ∷ []) (outer overrides ∷ []) [] _ _ _ (reads_before (outer (punctuation signs.OpenParenthesis) ∷ []) [] (outer overrides ∷ []) _ _ (c.in_ok-rest.ensures.reads c.args.bytes.now refl))
-    (reads_then (outer overrides ∷ []) (outer (punctuation signs.CloseParenthesis) ∷ []) [] _ _ _ c.in_ok-overrides.ensures.reads
+    (reads_then (outer perhaps_overrides ∷ [])
+    (outer (punctuation signs.OpenParenthesis) ∷ outer overrides ∷ []) [] _ _ _
+    (sign_taken perhaps_overrides signs.Hash
+    ((punctuation signs.OpenParenthesis) ∷ overrides ∷ []) _ _ refl
+    (c.in-Some.ensures.is c.args.bytes.now))
+    (reads_then (outer (punctuation signs.OpenParenthesis) ∷ outer overrides ∷ [])
+    (outer overrides ∷ []) [] _ _ _
+    (reads_before (outer (punctuation signs.OpenParenthesis) ∷ []) [] (outer overrides ∷ []) _ _
+    (c.in_ok-rest.ensures.reads c.args.bytes.now refl))
+    (reads_then (outer overrides ∷ []) (outer (punctuation signs.CloseParenthesis) ∷ []) [] _ _ _
+    c.in_ok-overrides.ensures.reads
     (c.in_ok-rest-2.ensures.reads c.args.bytes.now refl))))
 
 pub returns-clause-reads : goal.returns-clause-reads

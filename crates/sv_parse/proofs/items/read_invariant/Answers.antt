@@ -10,8 +10,14 @@ use Rattle.sv_token.specs.declared.keywords.WordKind.TheVariants as words
 use Rattle.sv_parse.proofs.items.read_invariant.Goals as goal
 
 pub returns-clause-is : goal.returns-clause-is
-returns-clause-is c =
-    (c.place_of.ensures, ((placed_tokens c.args.bytes.now c.in_ok-_place.rest.now), (c.in_ok-_place._place, c.in_ok-_place.ensures.is c.args.bytes.now), c.in_ok-expr.ensures.is))
+returns-clause-is c = (
+  c.place_of.ensures,
+  (
+    (placed_tokens c.args.bytes.now c.in_ok-_place.rest.now),
+    (c.in_ok-_place._place, c.in_ok-_place.ensures.is c.args.bytes.now),
+    c.in_ok-expr.ensures.is,
+  ),
+)
 
 pub returns-in_err-_place-clause-halts : goal.returns-in_err-_place-clause-halts
 returns-in_err-_place-clause-halts c = λ is.
@@ -21,10 +27,21 @@ returns-in_err-_place-clause-halts c = λ is.
 pub returns-in_err-expr-clause-halts : goal.returns-in_err-expr-clause-halts
 returns-in_err-expr-clause-halts c = λ is.
     passed _ _ _ c.from_residual-in_err-expr.ensures.1
-    (stops_then (outer items ∷ []) (outer (expression 0) ∷ outer (punctuation signs.Semicolon) ∷ outer items ∷ []) _ _ _ (word_taken items words.Invariant ((expression 0) ∷ (punctuation signs.Semicolon) ∷ items ∷ []) _ _ refl (c.in_ok-_place._place, c.in_ok-_place.ensures.is c.args.bytes.now))
-    (stops_before (outer (expression 0) ∷ []) (outer (punctuation signs.Semicolon) ∷ outer items ∷ []) _ _ c.in_err-expr.ensures.halts))
+    (stops_then (outer items ∷ [])
+    (outer (expression 0) ∷ outer (punctuation signs.Semicolon) ∷ outer items ∷ []) _ _ _
+    (word_taken items words.Invariant
+    ((expression 0) ∷ (punctuation signs.Semicolon) ∷ items ∷ []) _ _ refl
+    (c.in_ok-_place._place, c.in_ok-_place.ensures.is c.args.bytes.now))
+    (stops_before (outer (expression 0) ∷ [])
+    (outer (punctuation signs.Semicolon) ∷ outer items ∷ []) _ _ c.in_err-expr.ensures.halts))
 
 pub returns-clause-reads : goal.returns-clause-reads
 returns-clause-reads c = λ is.
-    (reads_then (outer items ∷ []) (outer (expression 0) ∷ outer (punctuation signs.Semicolon) ∷ outer items ∷ []) (outer (punctuation signs.Semicolon) ∷ outer items ∷ []) _ _ _ (word_taken items words.Invariant ((expression 0) ∷ (punctuation signs.Semicolon) ∷ items ∷ []) _ _ refl (c.in_ok-_place._place, c.in_ok-_place.ensures.is c.args.bytes.now))
-    (reads_before (outer (expression 0) ∷ []) [] (outer (punctuation signs.Semicolon) ∷ outer items ∷ []) _ _ c.in_ok-expr.ensures.reads))
+    (reads_then (outer items ∷ [])
+    (outer (expression 0) ∷ outer (punctuation signs.Semicolon) ∷ outer items ∷ [])
+    (outer (punctuation signs.Semicolon) ∷ outer items ∷ []) _ _ _
+    (word_taken items words.Invariant
+    ((expression 0) ∷ (punctuation signs.Semicolon) ∷ items ∷ []) _ _ refl
+    (c.in_ok-_place._place, c.in_ok-_place.ensures.is c.args.bytes.now))
+    (reads_before (outer (expression 0) ∷ []) []
+    (outer (punctuation signs.Semicolon) ∷ outer items ∷ []) _ _ c.in_ok-expr.ensures.reads))

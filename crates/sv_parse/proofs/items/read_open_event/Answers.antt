@@ -12,34 +12,56 @@ use Rattle.sv_read.specs.declared.stop.Expected.TheVariants as expected
 use Rattle.sv_parse.proofs.items.read_open_event.Goals as goal
 
 pub returns-in-Some-clause-is : goal.returns-in-Some-clause-is
-returns-in-Some-clause-is c =
-    ((placed_tokens c.args.bytes.now c.in-Some.rest.now), (c.in-Some.ensures.is c.args.bytes.now), c.in_ok-clock.ensures.is)
+returns-in-Some-clause-is c = (
+  (placed_tokens c.args.bytes.now c.in-Some.rest.now),
+  (c.in-Some.ensures.is c.args.bytes.now),
+  c.in_ok-clock.ensures.is,
+)
 
 pub returns-in_err-clock-clause-halts : goal.returns-in_err-clock-clause-halts
 returns-in_err-clock-clause-halts c =
     passed _ _ _ c.from_residual.ensures.1
-    (stops_then (outer event_inside ∷ []) (outer plain_name ∷ outer (punctuation signs.CloseParenthesis) ∷ []) _ _ _ (word_taken event_inside words.Posedge (plain_name ∷ (punctuation signs.CloseParenthesis) ∷ []) _ _ refl (c.in-Some.ensures.is c.args.bytes.now))
+    (stops_then (outer event_inside ∷ [])
+    (outer plain_name ∷ outer (punctuation signs.CloseParenthesis) ∷ []) _ _ _
+    (word_taken event_inside words.Posedge
+    (plain_name ∷ (punctuation signs.CloseParenthesis) ∷ []) _ _ refl
+    (c.in-Some.ensures.is c.args.bytes.now))
     c.in_err-clock.ensures.halts)
 
 pub returns-in-Some-clause-reads : goal.returns-in-Some-clause-reads
 returns-in-Some-clause-reads c =
-    (reads_then (outer event_inside ∷ []) (outer plain_name ∷ outer (punctuation signs.CloseParenthesis) ∷ []) [] _ _ _ (word_taken event_inside words.Posedge (plain_name ∷ (punctuation signs.CloseParenthesis) ∷ []) _ _ refl (c.in-Some.ensures.is c.args.bytes.now))
+    (reads_then (outer event_inside ∷ [])
+    (outer plain_name ∷ outer (punctuation signs.CloseParenthesis) ∷ []) [] _ _ _
+    (word_taken event_inside words.Posedge
+    (plain_name ∷ (punctuation signs.CloseParenthesis) ∷ []) _ _ refl
+    (c.in-Some.ensures.is c.args.bytes.now))
     c.in_ok-clock.ensures.reads)
 
 pub returns-in-None-clause-halts : goal.returns-in-None-clause-halts
 returns-in-None-clause-halts c =
-    (stops_here c.args.bytes.now _ (outer event_inside ∷ []) (Stuck expected.Edge) _ (halts_event_inside _ (c.in-None.ensures.none c.args.bytes.now) (c.in_default.ensures.none c.args.bytes.now)) c.stuck.ensures)
+    (stops_here c.args.bytes.now _ (outer event_inside ∷ []) (Stuck expected.Edge) _
+    (halts_event_inside _ (c.in-None.ensures.none c.args.bytes.now)
+    (c.in_default.ensures.none c.args.bytes.now)) c.stuck.ensures)
 
-pub returns-in_err-rest-in-Some-operator_at-clause-halts : goal.returns-in_err-rest-in-Some-operator_at-clause-halts
+pub returns-in_err-rest-in-Some-operator_at-clause-halts :
+    goal.returns-in_err-rest-in-Some-operator_at-clause-halts
 returns-in_err-rest-in-Some-operator_at-clause-halts c =
     passed _ _ _ c.from_residual-in_err-rest-in-Some-operator_at.ensures.1
-    (stops_then (outer event_inside ∷ []) (outer (punctuation signs.CloseParenthesis) ∷ []) _ _ _ (star_inside_read _ _ (c.in-Some-operator_at.ensures.is c.args.bytes.now))
+    (stops_then (outer event_inside ∷ []) (outer (punctuation signs.CloseParenthesis) ∷ []) _ _ _
+    (star_inside_read _ _ (c.in-Some-operator_at.ensures.is c.args.bytes.now))
     (c.in_err-rest-in-Some-operator_at.ensures.halts c.args.bytes.now))
 
-pub returns-in_ok-rest-in-Some-operator_at-clause-reads : goal.returns-in_ok-rest-in-Some-operator_at-clause-reads
+pub returns-in_ok-rest-in-Some-operator_at-clause-reads :
+    goal.returns-in_ok-rest-in-Some-operator_at-clause-reads
 returns-in_ok-rest-in-Some-operator_at-clause-reads c =
-    (reads_then (outer event_inside ∷ []) (outer (punctuation signs.CloseParenthesis) ∷ []) [] _ _ _ (star_inside_read _ _ (c.in-Some-operator_at.ensures.is c.args.bytes.now))
+    (reads_then (outer event_inside ∷ []) (outer (punctuation signs.CloseParenthesis) ∷ []) [] _ _ _
+    (star_inside_read _ _ (c.in-Some-operator_at.ensures.is c.args.bytes.now))
     (c.in_ok-rest-in-Some-operator_at.ensures.reads c.args.bytes.now refl))
 
-pub returns-in_ok-rest-in-Some-operator_at-clause-is : goal.returns-in_ok-rest-in-Some-operator_at-clause-is
-returns-in_ok-rest-in-Some-operator_at-clause-is c = (_, (c.in-Some-operator_at.ensures.is c.args.bytes.now), (c.in_ok-rest-in-Some-operator_at.ensures.is c.args.bytes.now))
+pub returns-in_ok-rest-in-Some-operator_at-clause-is :
+    goal.returns-in_ok-rest-in-Some-operator_at-clause-is
+returns-in_ok-rest-in-Some-operator_at-clause-is c = (
+  _,
+  (c.in-Some-operator_at.ensures.is c.args.bytes.now),
+  (c.in_ok-rest-in-Some-operator_at.ensures.is c.args.bytes.now),
+)

@@ -1,5 +1,6 @@
 use Rattle.std.proofs.Common.{[], ◌∷◌, refl}
-use Rattle.sv_grammar.specs.Symbols.{outer, punctuation, plain_name, plain_number, map_name, perhaps_maps, perhaps_key_range, rows, end_of_map}
+use Rattle.sv_grammar.specs.Symbols.{outer, punctuation, plain_name, plain_number, map_name}
+use Rattle.sv_grammar.specs.Symbols.{perhaps_maps, perhaps_key_range, rows, end_of_map}
 use Rattle.sv_grammar.proofs.ReadSteps.{reads_then, reads_before}
 use Rattle.sv_grammar.proofs.ReadRows.{word_taken, halts_end_of_map}
 use Rattle.sv_read.proofs.Halting.{passed, stops_then, stops_before, stops_by}
@@ -17,71 +18,317 @@ returns-in_err-_word-clause-halts c = λ is.
 pub returns-in_err-name-clause-halts : goal.returns-in_err-name-clause-halts
 returns-in_err-name-clause-halts c = λ is.
     passed _ _ _ c.from_residual-in_err-name.ensures.1
-    (stops_then (outer perhaps_maps ∷ []) (outer map_name ∷ outer perhaps_key_range ∷ outer rows ∷ outer perhaps_maps ∷ []) _ _ _ (word_taken perhaps_maps words.Labelmap (map_name ∷ perhaps_key_range ∷ rows ∷ perhaps_maps ∷ []) _ _ refl (c.in_ok-_word._word, c.in_ok-_word.ensures.is c.args.bytes.now))
-    (stops_then (outer map_name ∷ outer perhaps_key_range ∷ outer rows ∷ outer perhaps_maps ∷ []) (outer plain_name ∷ outer (punctuation signs.OpenBracket) ∷ outer plain_number ∷ outer (punctuation signs.Colon) ∷ outer plain_number ∷ outer (punctuation signs.CloseBracket) ∷ outer perhaps_key_range ∷ outer rows ∷ outer perhaps_maps ∷ []) _ _ _ (reads_before (outer map_name ∷ []) (outer plain_name ∷ outer (punctuation signs.OpenBracket) ∷ outer plain_number ∷ outer (punctuation signs.Colon) ∷ outer plain_number ∷ outer (punctuation signs.CloseBracket) ∷ []) (outer perhaps_key_range ∷ outer rows ∷ outer perhaps_maps ∷ []) _ _ (begins_map_name _))
-    (stops_before (outer plain_name ∷ []) (outer (punctuation signs.OpenBracket) ∷ outer plain_number ∷ outer (punctuation signs.Colon) ∷ outer plain_number ∷ outer (punctuation signs.CloseBracket) ∷ outer perhaps_key_range ∷ outer rows ∷ outer perhaps_maps ∷ []) _ _ c.in_err-name.ensures.halts)))
+    (stops_then (outer perhaps_maps ∷ [])
+    (outer map_name ∷ outer perhaps_key_range ∷ outer rows ∷ outer perhaps_maps ∷ []) _ _ _
+    (word_taken perhaps_maps words.Labelmap
+    (map_name ∷ perhaps_key_range ∷ rows ∷ perhaps_maps ∷ []) _ _ refl
+    (c.in_ok-_word._word, c.in_ok-_word.ensures.is c.args.bytes.now))
+    (stops_then (outer map_name ∷ outer perhaps_key_range ∷ outer rows ∷ outer perhaps_maps ∷ [])
+    (outer plain_name ∷ outer (punctuation signs.OpenBracket) ∷ outer plain_number ∷
+    outer (punctuation signs.Colon) ∷ outer plain_number ∷
+    outer (punctuation signs.CloseBracket) ∷ outer perhaps_key_range ∷ outer rows ∷
+    outer perhaps_maps ∷ []) _ _ _
+    (reads_before (outer map_name ∷ [])
+    (outer plain_name ∷ outer (punctuation signs.OpenBracket) ∷ outer plain_number ∷
+    outer (punctuation signs.Colon) ∷ outer plain_number ∷
+    outer (punctuation signs.CloseBracket) ∷ [])
+    (outer perhaps_key_range ∷ outer rows ∷ outer perhaps_maps ∷ []) _ _ (begins_map_name _))
+    (stops_before (outer plain_name ∷ [])
+    (outer (punctuation signs.OpenBracket) ∷ outer plain_number ∷
+    outer (punctuation signs.Colon) ∷ outer plain_number ∷
+    outer (punctuation signs.CloseBracket) ∷ outer perhaps_key_range ∷ outer rows ∷
+    outer perhaps_maps ∷ []) _ _ c.in_err-name.ensures.halts)))
 
 pub returns-in_err-span-clause-halts : goal.returns-in_err-span-clause-halts
 returns-in_err-span-clause-halts c = λ is.
     passed _ _ _ c.from_residual-in_err-span.ensures.1
-    (stops_then (outer perhaps_maps ∷ []) (outer map_name ∷ outer perhaps_key_range ∷ outer rows ∷ outer perhaps_maps ∷ []) _ _ _ (word_taken perhaps_maps words.Labelmap (map_name ∷ perhaps_key_range ∷ rows ∷ perhaps_maps ∷ []) _ _ refl (c.in_ok-_word._word, c.in_ok-_word.ensures.is c.args.bytes.now))
-    (stops_then (outer map_name ∷ outer perhaps_key_range ∷ outer rows ∷ outer perhaps_maps ∷ []) (outer plain_name ∷ outer (punctuation signs.OpenBracket) ∷ outer plain_number ∷ outer (punctuation signs.Colon) ∷ outer plain_number ∷ outer (punctuation signs.CloseBracket) ∷ outer perhaps_key_range ∷ outer rows ∷ outer perhaps_maps ∷ []) _ _ _ (reads_before (outer map_name ∷ []) (outer plain_name ∷ outer (punctuation signs.OpenBracket) ∷ outer plain_number ∷ outer (punctuation signs.Colon) ∷ outer plain_number ∷ outer (punctuation signs.CloseBracket) ∷ []) (outer perhaps_key_range ∷ outer rows ∷ outer perhaps_maps ∷ []) _ _ (begins_map_name _))
-    (stops_then (outer plain_name ∷ outer (punctuation signs.OpenBracket) ∷ outer plain_number ∷ outer (punctuation signs.Colon) ∷ outer plain_number ∷ outer (punctuation signs.CloseBracket) ∷ outer perhaps_key_range ∷ outer rows ∷ outer perhaps_maps ∷ []) (outer (punctuation signs.OpenBracket) ∷ outer plain_number ∷ outer (punctuation signs.Colon) ∷ outer plain_number ∷ outer (punctuation signs.CloseBracket) ∷ outer perhaps_key_range ∷ outer rows ∷ outer perhaps_maps ∷ []) _ _ _ (reads_before (outer plain_name ∷ []) [] (outer (punctuation signs.OpenBracket) ∷ outer plain_number ∷ outer (punctuation signs.Colon) ∷ outer plain_number ∷ outer (punctuation signs.CloseBracket) ∷ outer perhaps_key_range ∷ outer rows ∷ outer perhaps_maps ∷ []) _ _ c.in_ok-name.ensures.reads)
-    (stops_before (outer (punctuation signs.OpenBracket) ∷ outer plain_number ∷ outer (punctuation signs.Colon) ∷ outer plain_number ∷ outer (punctuation signs.CloseBracket) ∷ []) (outer perhaps_key_range ∷ outer rows ∷ outer perhaps_maps ∷ []) _ _ (c.in_err-span.ensures.halts c.args.bytes.now)))))
+    (stops_then (outer perhaps_maps ∷ [])
+    (outer map_name ∷ outer perhaps_key_range ∷ outer rows ∷ outer perhaps_maps ∷ []) _ _ _
+    (word_taken perhaps_maps words.Labelmap
+    (map_name ∷ perhaps_key_range ∷ rows ∷ perhaps_maps ∷ []) _ _ refl
+    (c.in_ok-_word._word, c.in_ok-_word.ensures.is c.args.bytes.now))
+    (stops_then (outer map_name ∷ outer perhaps_key_range ∷ outer rows ∷ outer perhaps_maps ∷ [])
+    (outer plain_name ∷ outer (punctuation signs.OpenBracket) ∷ outer plain_number ∷
+    outer (punctuation signs.Colon) ∷ outer plain_number ∷
+    outer (punctuation signs.CloseBracket) ∷ outer perhaps_key_range ∷ outer rows ∷
+    outer perhaps_maps ∷ []) _ _ _
+    (reads_before (outer map_name ∷ [])
+    (outer plain_name ∷ outer (punctuation signs.OpenBracket) ∷ outer plain_number ∷
+    outer (punctuation signs.Colon) ∷ outer plain_number ∷
+    outer (punctuation signs.CloseBracket) ∷ [])
+    (outer perhaps_key_range ∷ outer rows ∷ outer perhaps_maps ∷ []) _ _ (begins_map_name _))
+    (stops_then (outer plain_name ∷ outer (punctuation signs.OpenBracket) ∷ outer plain_number ∷
+    outer (punctuation signs.Colon) ∷ outer plain_number ∷
+    outer (punctuation signs.CloseBracket) ∷ outer perhaps_key_range ∷ outer rows ∷
+    outer perhaps_maps ∷ [])
+    (outer (punctuation signs.OpenBracket) ∷ outer plain_number ∷
+    outer (punctuation signs.Colon) ∷ outer plain_number ∷
+    outer (punctuation signs.CloseBracket) ∷ outer perhaps_key_range ∷ outer rows ∷
+    outer perhaps_maps ∷ []) _ _ _
+    (reads_before (outer plain_name ∷ []) []
+    (outer (punctuation signs.OpenBracket) ∷ outer plain_number ∷
+    outer (punctuation signs.Colon) ∷ outer plain_number ∷
+    outer (punctuation signs.CloseBracket) ∷ outer perhaps_key_range ∷ outer rows ∷
+    outer perhaps_maps ∷ []) _ _ c.in_ok-name.ensures.reads)
+    (stops_before (outer (punctuation signs.OpenBracket) ∷ outer plain_number ∷
+    outer (punctuation signs.Colon) ∷ outer plain_number ∷
+    outer (punctuation signs.CloseBracket) ∷ [])
+    (outer perhaps_key_range ∷ outer rows ∷ outer perhaps_maps ∷ []) _ _
+    (c.in_err-span.ensures.halts c.args.bytes.now)))))
 
 pub returns-in_err-second-clause-halts : goal.returns-in_err-second-clause-halts
 returns-in_err-second-clause-halts c = λ is.
     passed _ _ _ c.from_residual-in_err-second.ensures.1
-    (stops_then (outer perhaps_maps ∷ []) (outer map_name ∷ outer perhaps_key_range ∷ outer rows ∷ outer perhaps_maps ∷ []) _ _ _ (word_taken perhaps_maps words.Labelmap (map_name ∷ perhaps_key_range ∷ rows ∷ perhaps_maps ∷ []) _ _ refl (c.in_ok-_word._word, c.in_ok-_word.ensures.is c.args.bytes.now))
-    (stops_then (outer map_name ∷ outer perhaps_key_range ∷ outer rows ∷ outer perhaps_maps ∷ []) (outer plain_name ∷ outer (punctuation signs.OpenBracket) ∷ outer plain_number ∷ outer (punctuation signs.Colon) ∷ outer plain_number ∷ outer (punctuation signs.CloseBracket) ∷ outer perhaps_key_range ∷ outer rows ∷ outer perhaps_maps ∷ []) _ _ _ (reads_before (outer map_name ∷ []) (outer plain_name ∷ outer (punctuation signs.OpenBracket) ∷ outer plain_number ∷ outer (punctuation signs.Colon) ∷ outer plain_number ∷ outer (punctuation signs.CloseBracket) ∷ []) (outer perhaps_key_range ∷ outer rows ∷ outer perhaps_maps ∷ []) _ _ (begins_map_name _))
-    (stops_then (outer plain_name ∷ outer (punctuation signs.OpenBracket) ∷ outer plain_number ∷ outer (punctuation signs.Colon) ∷ outer plain_number ∷ outer (punctuation signs.CloseBracket) ∷ outer perhaps_key_range ∷ outer rows ∷ outer perhaps_maps ∷ []) (outer (punctuation signs.OpenBracket) ∷ outer plain_number ∷ outer (punctuation signs.Colon) ∷ outer plain_number ∷ outer (punctuation signs.CloseBracket) ∷ outer perhaps_key_range ∷ outer rows ∷ outer perhaps_maps ∷ []) _ _ _ (reads_before (outer plain_name ∷ []) [] (outer (punctuation signs.OpenBracket) ∷ outer plain_number ∷ outer (punctuation signs.Colon) ∷ outer plain_number ∷ outer (punctuation signs.CloseBracket) ∷ outer perhaps_key_range ∷ outer rows ∷ outer perhaps_maps ∷ []) _ _ c.in_ok-name.ensures.reads)
-    (stops_then (outer (punctuation signs.OpenBracket) ∷ outer plain_number ∷ outer (punctuation signs.Colon) ∷ outer plain_number ∷ outer (punctuation signs.CloseBracket) ∷ outer perhaps_key_range ∷ outer rows ∷ outer perhaps_maps ∷ []) (outer perhaps_key_range ∷ outer rows ∷ outer perhaps_maps ∷ []) _ _ _ (reads_before (outer (punctuation signs.OpenBracket) ∷ outer plain_number ∷ outer (punctuation signs.Colon) ∷ outer plain_number ∷ outer (punctuation signs.CloseBracket) ∷ []) [] (outer perhaps_key_range ∷ outer rows ∷ outer perhaps_maps ∷ []) _ _ (c.in_ok-span.ensures.reads c.args.bytes.now))
-    (stops_before (outer perhaps_key_range ∷ []) (outer rows ∷ outer perhaps_maps ∷ []) _ _ (c.in_err-second.ensures.halts c.args.bytes.now))))))
+    (stops_then (outer perhaps_maps ∷ [])
+    (outer map_name ∷ outer perhaps_key_range ∷ outer rows ∷ outer perhaps_maps ∷ []) _ _ _
+    (word_taken perhaps_maps words.Labelmap
+    (map_name ∷ perhaps_key_range ∷ rows ∷ perhaps_maps ∷ []) _ _ refl
+    (c.in_ok-_word._word, c.in_ok-_word.ensures.is c.args.bytes.now))
+    (stops_then (outer map_name ∷ outer perhaps_key_range ∷ outer rows ∷ outer perhaps_maps ∷ [])
+    (outer plain_name ∷ outer (punctuation signs.OpenBracket) ∷ outer plain_number ∷
+    outer (punctuation signs.Colon) ∷ outer plain_number ∷
+    outer (punctuation signs.CloseBracket) ∷ outer perhaps_key_range ∷ outer rows ∷
+    outer perhaps_maps ∷ []) _ _ _
+    (reads_before (outer map_name ∷ [])
+    (outer plain_name ∷ outer (punctuation signs.OpenBracket) ∷ outer plain_number ∷
+    outer (punctuation signs.Colon) ∷ outer plain_number ∷
+    outer (punctuation signs.CloseBracket) ∷ [])
+    (outer perhaps_key_range ∷ outer rows ∷ outer perhaps_maps ∷ []) _ _ (begins_map_name _))
+    (stops_then (outer plain_name ∷ outer (punctuation signs.OpenBracket) ∷ outer plain_number ∷
+    outer (punctuation signs.Colon) ∷ outer plain_number ∷
+    outer (punctuation signs.CloseBracket) ∷ outer perhaps_key_range ∷ outer rows ∷
+    outer perhaps_maps ∷ [])
+    (outer (punctuation signs.OpenBracket) ∷ outer plain_number ∷
+    outer (punctuation signs.Colon) ∷ outer plain_number ∷
+    outer (punctuation signs.CloseBracket) ∷ outer perhaps_key_range ∷ outer rows ∷
+    outer perhaps_maps ∷ []) _ _ _
+    (reads_before (outer plain_name ∷ []) []
+    (outer (punctuation signs.OpenBracket) ∷ outer plain_number ∷
+    outer (punctuation signs.Colon) ∷ outer plain_number ∷
+    outer (punctuation signs.CloseBracket) ∷ outer perhaps_key_range ∷ outer rows ∷
+    outer perhaps_maps ∷ []) _ _ c.in_ok-name.ensures.reads)
+    (stops_then (outer (punctuation signs.OpenBracket) ∷ outer plain_number ∷
+    outer (punctuation signs.Colon) ∷ outer plain_number ∷
+    outer (punctuation signs.CloseBracket) ∷ outer perhaps_key_range ∷ outer rows ∷
+    outer perhaps_maps ∷ []) (outer perhaps_key_range ∷ outer rows ∷ outer perhaps_maps ∷ []) _
+    _ _ (reads_before (outer (punctuation signs.OpenBracket) ∷ outer plain_number ∷
+    outer (punctuation signs.Colon) ∷ outer plain_number ∷
+    outer (punctuation signs.CloseBracket) ∷ []) []
+    (outer perhaps_key_range ∷ outer rows ∷ outer perhaps_maps ∷ []) _ _
+    (c.in_ok-span.ensures.reads c.args.bytes.now))
+    (stops_before (outer perhaps_key_range ∷ []) (outer rows ∷ outer perhaps_maps ∷ []) _ _
+    (c.in_err-second.ensures.halts c.args.bytes.now))))))
 
 pub returns-in_err-rows-clause-halts : goal.returns-in_err-rows-clause-halts
 returns-in_err-rows-clause-halts c = λ is.
     passed _ _ _ c.from_residual-in_err-rows.ensures.1
-    (stops_then (outer perhaps_maps ∷ []) (outer map_name ∷ outer perhaps_key_range ∷ outer rows ∷ outer perhaps_maps ∷ []) _ _ _ (word_taken perhaps_maps words.Labelmap (map_name ∷ perhaps_key_range ∷ rows ∷ perhaps_maps ∷ []) _ _ refl (c.in_ok-_word._word, c.in_ok-_word.ensures.is c.args.bytes.now))
-    (stops_then (outer map_name ∷ outer perhaps_key_range ∷ outer rows ∷ outer perhaps_maps ∷ []) (outer plain_name ∷ outer (punctuation signs.OpenBracket) ∷ outer plain_number ∷ outer (punctuation signs.Colon) ∷ outer plain_number ∷ outer (punctuation signs.CloseBracket) ∷ outer perhaps_key_range ∷ outer rows ∷ outer perhaps_maps ∷ []) _ _ _ (reads_before (outer map_name ∷ []) (outer plain_name ∷ outer (punctuation signs.OpenBracket) ∷ outer plain_number ∷ outer (punctuation signs.Colon) ∷ outer plain_number ∷ outer (punctuation signs.CloseBracket) ∷ []) (outer perhaps_key_range ∷ outer rows ∷ outer perhaps_maps ∷ []) _ _ (begins_map_name _))
-    (stops_then (outer plain_name ∷ outer (punctuation signs.OpenBracket) ∷ outer plain_number ∷ outer (punctuation signs.Colon) ∷ outer plain_number ∷ outer (punctuation signs.CloseBracket) ∷ outer perhaps_key_range ∷ outer rows ∷ outer perhaps_maps ∷ []) (outer (punctuation signs.OpenBracket) ∷ outer plain_number ∷ outer (punctuation signs.Colon) ∷ outer plain_number ∷ outer (punctuation signs.CloseBracket) ∷ outer perhaps_key_range ∷ outer rows ∷ outer perhaps_maps ∷ []) _ _ _ (reads_before (outer plain_name ∷ []) [] (outer (punctuation signs.OpenBracket) ∷ outer plain_number ∷ outer (punctuation signs.Colon) ∷ outer plain_number ∷ outer (punctuation signs.CloseBracket) ∷ outer perhaps_key_range ∷ outer rows ∷ outer perhaps_maps ∷ []) _ _ c.in_ok-name.ensures.reads)
-    (stops_then (outer (punctuation signs.OpenBracket) ∷ outer plain_number ∷ outer (punctuation signs.Colon) ∷ outer plain_number ∷ outer (punctuation signs.CloseBracket) ∷ outer perhaps_key_range ∷ outer rows ∷ outer perhaps_maps ∷ []) (outer perhaps_key_range ∷ outer rows ∷ outer perhaps_maps ∷ []) _ _ _ (reads_before (outer (punctuation signs.OpenBracket) ∷ outer plain_number ∷ outer (punctuation signs.Colon) ∷ outer plain_number ∷ outer (punctuation signs.CloseBracket) ∷ []) [] (outer perhaps_key_range ∷ outer rows ∷ outer perhaps_maps ∷ []) _ _ (c.in_ok-span.ensures.reads c.args.bytes.now))
-    (stops_then (outer perhaps_key_range ∷ outer rows ∷ outer perhaps_maps ∷ []) (outer rows ∷ outer perhaps_maps ∷ []) _ _ _ (reads_before (outer perhaps_key_range ∷ []) [] (outer rows ∷ outer perhaps_maps ∷ []) _ _ (c.in_ok-second.ensures.reads c.args.bytes.now))
+    (stops_then (outer perhaps_maps ∷ [])
+    (outer map_name ∷ outer perhaps_key_range ∷ outer rows ∷ outer perhaps_maps ∷ []) _ _ _
+    (word_taken perhaps_maps words.Labelmap
+    (map_name ∷ perhaps_key_range ∷ rows ∷ perhaps_maps ∷ []) _ _ refl
+    (c.in_ok-_word._word, c.in_ok-_word.ensures.is c.args.bytes.now))
+    (stops_then (outer map_name ∷ outer perhaps_key_range ∷ outer rows ∷ outer perhaps_maps ∷ [])
+    (outer plain_name ∷ outer (punctuation signs.OpenBracket) ∷ outer plain_number ∷
+    outer (punctuation signs.Colon) ∷ outer plain_number ∷
+    outer (punctuation signs.CloseBracket) ∷ outer perhaps_key_range ∷ outer rows ∷
+    outer perhaps_maps ∷ []) _ _ _
+    (reads_before (outer map_name ∷ [])
+    (outer plain_name ∷ outer (punctuation signs.OpenBracket) ∷ outer plain_number ∷
+    outer (punctuation signs.Colon) ∷ outer plain_number ∷
+    outer (punctuation signs.CloseBracket) ∷ [])
+    (outer perhaps_key_range ∷ outer rows ∷ outer perhaps_maps ∷ []) _ _ (begins_map_name _))
+    (stops_then (outer plain_name ∷ outer (punctuation signs.OpenBracket) ∷ outer plain_number ∷
+    outer (punctuation signs.Colon) ∷ outer plain_number ∷
+    outer (punctuation signs.CloseBracket) ∷ outer perhaps_key_range ∷ outer rows ∷
+    outer perhaps_maps ∷ [])
+    (outer (punctuation signs.OpenBracket) ∷ outer plain_number ∷
+    outer (punctuation signs.Colon) ∷ outer plain_number ∷
+    outer (punctuation signs.CloseBracket) ∷ outer perhaps_key_range ∷ outer rows ∷
+    outer perhaps_maps ∷ []) _ _ _
+    (reads_before (outer plain_name ∷ []) []
+    (outer (punctuation signs.OpenBracket) ∷ outer plain_number ∷
+    outer (punctuation signs.Colon) ∷ outer plain_number ∷
+    outer (punctuation signs.CloseBracket) ∷ outer perhaps_key_range ∷ outer rows ∷
+    outer perhaps_maps ∷ []) _ _ c.in_ok-name.ensures.reads)
+    (stops_then (outer (punctuation signs.OpenBracket) ∷ outer plain_number ∷
+    outer (punctuation signs.Colon) ∷ outer plain_number ∷
+    outer (punctuation signs.CloseBracket) ∷ outer perhaps_key_range ∷ outer rows ∷
+    outer perhaps_maps ∷ []) (outer perhaps_key_range ∷ outer rows ∷ outer perhaps_maps ∷ []) _
+    _ _ (reads_before (outer (punctuation signs.OpenBracket) ∷ outer plain_number ∷
+    outer (punctuation signs.Colon) ∷ outer plain_number ∷
+    outer (punctuation signs.CloseBracket) ∷ []) []
+    (outer perhaps_key_range ∷ outer rows ∷ outer perhaps_maps ∷ []) _ _
+    (c.in_ok-span.ensures.reads c.args.bytes.now))
+    (stops_then (outer perhaps_key_range ∷ outer rows ∷ outer perhaps_maps ∷ [])
+    (outer rows ∷ outer perhaps_maps ∷ []) _ _ _
+    (reads_before (outer perhaps_key_range ∷ []) [] (outer rows ∷ outer perhaps_maps ∷ []) _ _
+    (c.in_ok-second.ensures.reads c.args.bytes.now))
     (stops_before (outer rows ∷ []) (outer perhaps_maps ∷ []) _ _ c.in_err-rows.ensures.halts))))))
 
 pub returns-in_err-other-clause-halts : goal.returns-in_err-other-clause-halts
 returns-in_err-other-clause-halts c = λ is.
     passed _ _ _ c.from_residual-in_err-other.ensures.1
-    (stops_then (outer perhaps_maps ∷ []) (outer map_name ∷ outer perhaps_key_range ∷ outer rows ∷ outer perhaps_maps ∷ []) _ _ _ (word_taken perhaps_maps words.Labelmap (map_name ∷ perhaps_key_range ∷ rows ∷ perhaps_maps ∷ []) _ _ refl (c.in_ok-_word._word, c.in_ok-_word.ensures.is c.args.bytes.now))
-    (stops_then (outer map_name ∷ outer perhaps_key_range ∷ outer rows ∷ outer perhaps_maps ∷ []) (outer plain_name ∷ outer (punctuation signs.OpenBracket) ∷ outer plain_number ∷ outer (punctuation signs.Colon) ∷ outer plain_number ∷ outer (punctuation signs.CloseBracket) ∷ outer perhaps_key_range ∷ outer rows ∷ outer perhaps_maps ∷ []) _ _ _ (reads_before (outer map_name ∷ []) (outer plain_name ∷ outer (punctuation signs.OpenBracket) ∷ outer plain_number ∷ outer (punctuation signs.Colon) ∷ outer plain_number ∷ outer (punctuation signs.CloseBracket) ∷ []) (outer perhaps_key_range ∷ outer rows ∷ outer perhaps_maps ∷ []) _ _ (begins_map_name _))
-    (stops_then (outer plain_name ∷ outer (punctuation signs.OpenBracket) ∷ outer plain_number ∷ outer (punctuation signs.Colon) ∷ outer plain_number ∷ outer (punctuation signs.CloseBracket) ∷ outer perhaps_key_range ∷ outer rows ∷ outer perhaps_maps ∷ []) (outer (punctuation signs.OpenBracket) ∷ outer plain_number ∷ outer (punctuation signs.Colon) ∷ outer plain_number ∷ outer (punctuation signs.CloseBracket) ∷ outer perhaps_key_range ∷ outer rows ∷ outer perhaps_maps ∷ []) _ _ _ (reads_before (outer plain_name ∷ []) [] (outer (punctuation signs.OpenBracket) ∷ outer plain_number ∷ outer (punctuation signs.Colon) ∷ outer plain_number ∷ outer (punctuation signs.CloseBracket) ∷ outer perhaps_key_range ∷ outer rows ∷ outer perhaps_maps ∷ []) _ _ c.in_ok-name.ensures.reads)
-    (stops_then (outer (punctuation signs.OpenBracket) ∷ outer plain_number ∷ outer (punctuation signs.Colon) ∷ outer plain_number ∷ outer (punctuation signs.CloseBracket) ∷ outer perhaps_key_range ∷ outer rows ∷ outer perhaps_maps ∷ []) (outer perhaps_key_range ∷ outer rows ∷ outer perhaps_maps ∷ []) _ _ _ (reads_before (outer (punctuation signs.OpenBracket) ∷ outer plain_number ∷ outer (punctuation signs.Colon) ∷ outer plain_number ∷ outer (punctuation signs.CloseBracket) ∷ []) [] (outer perhaps_key_range ∷ outer rows ∷ outer perhaps_maps ∷ []) _ _ (c.in_ok-span.ensures.reads c.args.bytes.now))
-    (stops_then (outer perhaps_key_range ∷ outer rows ∷ outer perhaps_maps ∷ []) (outer rows ∷ outer perhaps_maps ∷ []) _ _ _ (reads_before (outer perhaps_key_range ∷ []) [] (outer rows ∷ outer perhaps_maps ∷ []) _ _ (c.in_ok-second.ensures.reads c.args.bytes.now))
-    (stops_then (outer rows ∷ outer perhaps_maps ∷ []) (outer rows ∷ outer perhaps_maps ∷ []) _ _ _ (reads_before (outer rows ∷ []) (outer rows ∷ []) (outer perhaps_maps ∷ []) _ _ c.in_ok-rows.ensures.reads)
-    (stops_before (outer rows ∷ []) (outer perhaps_maps ∷ []) _ _ (c.in_err-other.ensures.halts c.in_ok-rows.ensures.ends))))))))
+    (stops_then (outer perhaps_maps ∷ [])
+    (outer map_name ∷ outer perhaps_key_range ∷ outer rows ∷ outer perhaps_maps ∷ []) _ _ _
+    (word_taken perhaps_maps words.Labelmap
+    (map_name ∷ perhaps_key_range ∷ rows ∷ perhaps_maps ∷ []) _ _ refl
+    (c.in_ok-_word._word, c.in_ok-_word.ensures.is c.args.bytes.now))
+    (stops_then (outer map_name ∷ outer perhaps_key_range ∷ outer rows ∷ outer perhaps_maps ∷ [])
+    (outer plain_name ∷ outer (punctuation signs.OpenBracket) ∷ outer plain_number ∷
+    outer (punctuation signs.Colon) ∷ outer plain_number ∷
+    outer (punctuation signs.CloseBracket) ∷ outer perhaps_key_range ∷ outer rows ∷
+    outer perhaps_maps ∷ []) _ _ _
+    (reads_before (outer map_name ∷ [])
+    (outer plain_name ∷ outer (punctuation signs.OpenBracket) ∷ outer plain_number ∷
+    outer (punctuation signs.Colon) ∷ outer plain_number ∷
+    outer (punctuation signs.CloseBracket) ∷ [])
+    (outer perhaps_key_range ∷ outer rows ∷ outer perhaps_maps ∷ []) _ _ (begins_map_name _))
+    (stops_then (outer plain_name ∷ outer (punctuation signs.OpenBracket) ∷ outer plain_number ∷
+    outer (punctuation signs.Colon) ∷ outer plain_number ∷
+    outer (punctuation signs.CloseBracket) ∷ outer perhaps_key_range ∷ outer rows ∷
+    outer perhaps_maps ∷ [])
+    (outer (punctuation signs.OpenBracket) ∷ outer plain_number ∷
+    outer (punctuation signs.Colon) ∷ outer plain_number ∷
+    outer (punctuation signs.CloseBracket) ∷ outer perhaps_key_range ∷ outer rows ∷
+    outer perhaps_maps ∷ []) _ _ _
+    (reads_before (outer plain_name ∷ []) []
+    (outer (punctuation signs.OpenBracket) ∷ outer plain_number ∷
+    outer (punctuation signs.Colon) ∷ outer plain_number ∷
+    outer (punctuation signs.CloseBracket) ∷ outer perhaps_key_range ∷ outer rows ∷
+    outer perhaps_maps ∷ []) _ _ c.in_ok-name.ensures.reads)
+    (stops_then (outer (punctuation signs.OpenBracket) ∷ outer plain_number ∷
+    outer (punctuation signs.Colon) ∷ outer plain_number ∷
+    outer (punctuation signs.CloseBracket) ∷ outer perhaps_key_range ∷ outer rows ∷
+    outer perhaps_maps ∷ []) (outer perhaps_key_range ∷ outer rows ∷ outer perhaps_maps ∷ []) _
+    _ _ (reads_before (outer (punctuation signs.OpenBracket) ∷ outer plain_number ∷
+    outer (punctuation signs.Colon) ∷ outer plain_number ∷
+    outer (punctuation signs.CloseBracket) ∷ []) []
+    (outer perhaps_key_range ∷ outer rows ∷ outer perhaps_maps ∷ []) _ _
+    (c.in_ok-span.ensures.reads c.args.bytes.now))
+    (stops_then (outer perhaps_key_range ∷ outer rows ∷ outer perhaps_maps ∷ [])
+    (outer rows ∷ outer perhaps_maps ∷ []) _ _ _
+    (reads_before (outer perhaps_key_range ∷ []) [] (outer rows ∷ outer perhaps_maps ∷ []) _ _
+    (c.in_ok-second.ensures.reads c.args.bytes.now))
+    (stops_then (outer rows ∷ outer perhaps_maps ∷ []) (outer rows ∷ outer perhaps_maps ∷ []) _ _ _
+    (reads_before (outer rows ∷ []) (outer rows ∷ []) (outer perhaps_maps ∷ []) _ _
+    c.in_ok-rows.ensures.reads)
+    (stops_before (outer rows ∷ []) (outer perhaps_maps ∷ []) _ _
+    (c.in_err-other.ensures.halts c.in_ok-rows.ensures.ends))))))))
 
 pub returns-in_err-_last-clause-halts : goal.returns-in_err-_last-clause-halts
 returns-in_err-_last-clause-halts c = λ is.
     passed _ _ _ c.from_residual-in_err-_last.ensures.1
-    (stops_then (outer perhaps_maps ∷ []) (outer map_name ∷ outer perhaps_key_range ∷ outer rows ∷ outer perhaps_maps ∷ []) _ _ _ (word_taken perhaps_maps words.Labelmap (map_name ∷ perhaps_key_range ∷ rows ∷ perhaps_maps ∷ []) _ _ refl (c.in_ok-_word._word, c.in_ok-_word.ensures.is c.args.bytes.now))
-    (stops_then (outer map_name ∷ outer perhaps_key_range ∷ outer rows ∷ outer perhaps_maps ∷ []) (outer plain_name ∷ outer (punctuation signs.OpenBracket) ∷ outer plain_number ∷ outer (punctuation signs.Colon) ∷ outer plain_number ∷ outer (punctuation signs.CloseBracket) ∷ outer perhaps_key_range ∷ outer rows ∷ outer perhaps_maps ∷ []) _ _ _ (reads_before (outer map_name ∷ []) (outer plain_name ∷ outer (punctuation signs.OpenBracket) ∷ outer plain_number ∷ outer (punctuation signs.Colon) ∷ outer plain_number ∷ outer (punctuation signs.CloseBracket) ∷ []) (outer perhaps_key_range ∷ outer rows ∷ outer perhaps_maps ∷ []) _ _ (begins_map_name _))
-    (stops_then (outer plain_name ∷ outer (punctuation signs.OpenBracket) ∷ outer plain_number ∷ outer (punctuation signs.Colon) ∷ outer plain_number ∷ outer (punctuation signs.CloseBracket) ∷ outer perhaps_key_range ∷ outer rows ∷ outer perhaps_maps ∷ []) (outer (punctuation signs.OpenBracket) ∷ outer plain_number ∷ outer (punctuation signs.Colon) ∷ outer plain_number ∷ outer (punctuation signs.CloseBracket) ∷ outer perhaps_key_range ∷ outer rows ∷ outer perhaps_maps ∷ []) _ _ _ (reads_before (outer plain_name ∷ []) [] (outer (punctuation signs.OpenBracket) ∷ outer plain_number ∷ outer (punctuation signs.Colon) ∷ outer plain_number ∷ outer (punctuation signs.CloseBracket) ∷ outer perhaps_key_range ∷ outer rows ∷ outer perhaps_maps ∷ []) _ _ c.in_ok-name.ensures.reads)
-    (stops_then (outer (punctuation signs.OpenBracket) ∷ outer plain_number ∷ outer (punctuation signs.Colon) ∷ outer plain_number ∷ outer (punctuation signs.CloseBracket) ∷ outer perhaps_key_range ∷ outer rows ∷ outer perhaps_maps ∷ []) (outer perhaps_key_range ∷ outer rows ∷ outer perhaps_maps ∷ []) _ _ _ (reads_before (outer (punctuation signs.OpenBracket) ∷ outer plain_number ∷ outer (punctuation signs.Colon) ∷ outer plain_number ∷ outer (punctuation signs.CloseBracket) ∷ []) [] (outer perhaps_key_range ∷ outer rows ∷ outer perhaps_maps ∷ []) _ _ (c.in_ok-span.ensures.reads c.args.bytes.now))
-    (stops_then (outer perhaps_key_range ∷ outer rows ∷ outer perhaps_maps ∷ []) (outer rows ∷ outer perhaps_maps ∷ []) _ _ _ (reads_before (outer perhaps_key_range ∷ []) [] (outer rows ∷ outer perhaps_maps ∷ []) _ _ (c.in_ok-second.ensures.reads c.args.bytes.now))
-    (stops_then (outer rows ∷ outer perhaps_maps ∷ []) (outer rows ∷ outer perhaps_maps ∷ []) _ _ _ (reads_before (outer rows ∷ []) (outer rows ∷ []) (outer perhaps_maps ∷ []) _ _ c.in_ok-rows.ensures.reads)
-    (stops_then (outer rows ∷ outer perhaps_maps ∷ []) (outer end_of_map ∷ outer perhaps_maps ∷ []) _ _ _ (reads_before (outer rows ∷ []) (outer end_of_map ∷ []) (outer perhaps_maps ∷ []) _ _ (c.in_ok-other.ensures.reads c.in_ok-rows.ensures.ends))
-    (stops_before (outer end_of_map ∷ []) (outer perhaps_maps ∷ []) _ _ (stops_by c.args.bytes.now _ (outer end_of_map ∷ []) _ _ (halts_end_of_map _) (c.in_err-_last.ensures.stops c.args.bytes.now))))))))))
+    (stops_then (outer perhaps_maps ∷ [])
+    (outer map_name ∷ outer perhaps_key_range ∷ outer rows ∷ outer perhaps_maps ∷ []) _ _ _
+    (word_taken perhaps_maps words.Labelmap
+    (map_name ∷ perhaps_key_range ∷ rows ∷ perhaps_maps ∷ []) _ _ refl
+    (c.in_ok-_word._word, c.in_ok-_word.ensures.is c.args.bytes.now))
+    (stops_then (outer map_name ∷ outer perhaps_key_range ∷ outer rows ∷ outer perhaps_maps ∷ [])
+    (outer plain_name ∷ outer (punctuation signs.OpenBracket) ∷ outer plain_number ∷
+    outer (punctuation signs.Colon) ∷ outer plain_number ∷
+    outer (punctuation signs.CloseBracket) ∷ outer perhaps_key_range ∷ outer rows ∷
+    outer perhaps_maps ∷ []) _ _ _
+    (reads_before (outer map_name ∷ [])
+    (outer plain_name ∷ outer (punctuation signs.OpenBracket) ∷ outer plain_number ∷
+    outer (punctuation signs.Colon) ∷ outer plain_number ∷
+    outer (punctuation signs.CloseBracket) ∷ [])
+    (outer perhaps_key_range ∷ outer rows ∷ outer perhaps_maps ∷ []) _ _ (begins_map_name _))
+    (stops_then (outer plain_name ∷ outer (punctuation signs.OpenBracket) ∷ outer plain_number ∷
+    outer (punctuation signs.Colon) ∷ outer plain_number ∷
+    outer (punctuation signs.CloseBracket) ∷ outer perhaps_key_range ∷ outer rows ∷
+    outer perhaps_maps ∷ [])
+    (outer (punctuation signs.OpenBracket) ∷ outer plain_number ∷
+    outer (punctuation signs.Colon) ∷ outer plain_number ∷
+    outer (punctuation signs.CloseBracket) ∷ outer perhaps_key_range ∷ outer rows ∷
+    outer perhaps_maps ∷ []) _ _ _
+    (reads_before (outer plain_name ∷ []) []
+    (outer (punctuation signs.OpenBracket) ∷ outer plain_number ∷
+    outer (punctuation signs.Colon) ∷ outer plain_number ∷
+    outer (punctuation signs.CloseBracket) ∷ outer perhaps_key_range ∷ outer rows ∷
+    outer perhaps_maps ∷ []) _ _ c.in_ok-name.ensures.reads)
+    (stops_then (outer (punctuation signs.OpenBracket) ∷ outer plain_number ∷
+    outer (punctuation signs.Colon) ∷ outer plain_number ∷
+    outer (punctuation signs.CloseBracket) ∷ outer perhaps_key_range ∷ outer rows ∷
+    outer perhaps_maps ∷ []) (outer perhaps_key_range ∷ outer rows ∷ outer perhaps_maps ∷ []) _
+    _ _ (reads_before (outer (punctuation signs.OpenBracket) ∷ outer plain_number ∷
+    outer (punctuation signs.Colon) ∷ outer plain_number ∷
+    outer (punctuation signs.CloseBracket) ∷ []) []
+    (outer perhaps_key_range ∷ outer rows ∷ outer perhaps_maps ∷ []) _ _
+    (c.in_ok-span.ensures.reads c.args.bytes.now))
+    (stops_then (outer perhaps_key_range ∷ outer rows ∷ outer perhaps_maps ∷ [])
+    (outer rows ∷ outer perhaps_maps ∷ []) _ _ _
+    (reads_before (outer perhaps_key_range ∷ []) [] (outer rows ∷ outer perhaps_maps ∷ []) _ _
+    (c.in_ok-second.ensures.reads c.args.bytes.now))
+    (stops_then (outer rows ∷ outer perhaps_maps ∷ []) (outer rows ∷ outer perhaps_maps ∷ []) _ _ _
+    (reads_before (outer rows ∷ []) (outer rows ∷ []) (outer perhaps_maps ∷ []) _ _
+    c.in_ok-rows.ensures.reads)
+    (stops_then (outer rows ∷ outer perhaps_maps ∷ []) (outer end_of_map ∷ outer perhaps_maps ∷ [])
+    _ _ _ (reads_before (outer rows ∷ []) (outer end_of_map ∷ []) (outer perhaps_maps ∷ []) _ _
+    (c.in_ok-other.ensures.reads c.in_ok-rows.ensures.ends))
+    (stops_before (outer end_of_map ∷ []) (outer perhaps_maps ∷ []) _ _
+    (stops_by c.args.bytes.now _ (outer end_of_map ∷ []) _ _ (halts_end_of_map _)
+    (c.in_err-_last.ensures.stops c.args.bytes.now))))))))))
 
 pub returns-clause-reads : goal.returns-clause-reads
 returns-clause-reads c = λ is.
-    (reads_then (outer perhaps_maps ∷ []) (outer map_name ∷ outer perhaps_key_range ∷ outer rows ∷ outer perhaps_maps ∷ []) (outer perhaps_maps ∷ []) _ _ _ (word_taken perhaps_maps words.Labelmap (map_name ∷ perhaps_key_range ∷ rows ∷ perhaps_maps ∷ []) _ _ refl (c.in_ok-_word._word, c.in_ok-_word.ensures.is c.args.bytes.now))
-    (reads_then (outer map_name ∷ outer perhaps_key_range ∷ outer rows ∷ outer perhaps_maps ∷ []) (outer plain_name ∷ outer (punctuation signs.OpenBracket) ∷ outer plain_number ∷ outer (punctuation signs.Colon) ∷ outer plain_number ∷ outer (punctuation signs.CloseBracket) ∷ outer perhaps_key_range ∷ outer rows ∷ outer perhaps_maps ∷ []) (outer perhaps_maps ∷ []) _ _ _ (reads_before (outer map_name ∷ []) (outer plain_name ∷ outer (punctuation signs.OpenBracket) ∷ outer plain_number ∷ outer (punctuation signs.Colon) ∷ outer plain_number ∷ outer (punctuation signs.CloseBracket) ∷ []) (outer perhaps_key_range ∷ outer rows ∷ outer perhaps_maps ∷ []) _ _ (begins_map_name _))
-    (reads_then (outer plain_name ∷ outer (punctuation signs.OpenBracket) ∷ outer plain_number ∷ outer (punctuation signs.Colon) ∷ outer plain_number ∷ outer (punctuation signs.CloseBracket) ∷ outer perhaps_key_range ∷ outer rows ∷ outer perhaps_maps ∷ []) (outer (punctuation signs.OpenBracket) ∷ outer plain_number ∷ outer (punctuation signs.Colon) ∷ outer plain_number ∷ outer (punctuation signs.CloseBracket) ∷ outer perhaps_key_range ∷ outer rows ∷ outer perhaps_maps ∷ []) (outer perhaps_maps ∷ []) _ _ _ (reads_before (outer plain_name ∷ []) [] (outer (punctuation signs.OpenBracket) ∷ outer plain_number ∷ outer (punctuation signs.Colon) ∷ outer plain_number ∷ outer (punctuation signs.CloseBracket) ∷ outer perhaps_key_range ∷ outer rows ∷ outer perhaps_maps ∷ []) _ _ c.in_ok-name.ensures.reads)
-    (reads_then (outer (punctuation signs.OpenBracket) ∷ outer plain_number ∷ outer (punctuation signs.Colon) ∷ outer plain_number ∷ outer (punctuation signs.CloseBracket) ∷ outer perhaps_key_range ∷ outer rows ∷ outer perhaps_maps ∷ []) (outer perhaps_key_range ∷ outer rows ∷ outer perhaps_maps ∷ []) (outer perhaps_maps ∷ []) _ _ _ (reads_before (outer (punctuation signs.OpenBracket) ∷ outer plain_number ∷ outer (punctuation signs.Colon) ∷ outer plain_number ∷ outer (punctuation signs.CloseBracket) ∷ []) [] (outer perhaps_key_range ∷ outer rows ∷ outer perhaps_maps ∷ []) _ _ (c.in_ok-span.ensures.reads c.args.bytes.now))
-    (reads_then (outer perhaps_key_range ∷ outer rows ∷ outer perhaps_maps ∷ []) (outer rows ∷ outer perhaps_maps ∷ []) (outer perhaps_maps ∷ []) _ _ _ (reads_before (outer perhaps_key_range ∷ []) [] (outer rows ∷ outer perhaps_maps ∷ []) _ _ (c.in_ok-second.ensures.reads c.args.bytes.now))
-    (reads_then (outer rows ∷ outer perhaps_maps ∷ []) (outer rows ∷ outer perhaps_maps ∷ []) (outer perhaps_maps ∷ []) _ _ _ (reads_before (outer rows ∷ []) (outer rows ∷ []) (outer perhaps_maps ∷ []) _ _ c.in_ok-rows.ensures.reads)
-    (reads_then (outer rows ∷ outer perhaps_maps ∷ []) (outer end_of_map ∷ outer perhaps_maps ∷ []) (outer perhaps_maps ∷ []) _ _ _ (reads_before (outer rows ∷ []) (outer end_of_map ∷ []) (outer perhaps_maps ∷ []) _ _ (c.in_ok-other.ensures.reads c.in_ok-rows.ensures.ends))
-    (reads_before (outer end_of_map ∷ []) [] (outer perhaps_maps ∷ []) _ _ (word_taken end_of_map words.Endlabelmap [] _ _ refl (c.in_ok-_last._last, c.in_ok-_last.ensures.is c.args.bytes.now))))))))))
+    (reads_then (outer perhaps_maps ∷ [])
+    (outer map_name ∷ outer perhaps_key_range ∷ outer rows ∷ outer perhaps_maps ∷ [])
+    (outer perhaps_maps ∷ []) _ _ _
+    (word_taken perhaps_maps words.Labelmap
+    (map_name ∷ perhaps_key_range ∷ rows ∷ perhaps_maps ∷ []) _ _ refl
+    (c.in_ok-_word._word, c.in_ok-_word.ensures.is c.args.bytes.now))
+    (reads_then (outer map_name ∷ outer perhaps_key_range ∷ outer rows ∷ outer perhaps_maps ∷ [])
+    (outer plain_name ∷ outer (punctuation signs.OpenBracket) ∷ outer plain_number ∷
+    outer (punctuation signs.Colon) ∷ outer plain_number ∷
+    outer (punctuation signs.CloseBracket) ∷ outer perhaps_key_range ∷ outer rows ∷
+    outer perhaps_maps ∷ []) (outer perhaps_maps ∷ []) _ _ _
+    (reads_before (outer map_name ∷ [])
+    (outer plain_name ∷ outer (punctuation signs.OpenBracket) ∷ outer plain_number ∷
+    outer (punctuation signs.Colon) ∷ outer plain_number ∷
+    outer (punctuation signs.CloseBracket) ∷ [])
+    (outer perhaps_key_range ∷ outer rows ∷ outer perhaps_maps ∷ []) _ _ (begins_map_name _))
+    (reads_then (outer plain_name ∷ outer (punctuation signs.OpenBracket) ∷ outer plain_number ∷
+    outer (punctuation signs.Colon) ∷ outer plain_number ∷
+    outer (punctuation signs.CloseBracket) ∷ outer perhaps_key_range ∷ outer rows ∷
+    outer perhaps_maps ∷ [])
+    (outer (punctuation signs.OpenBracket) ∷ outer plain_number ∷
+    outer (punctuation signs.Colon) ∷ outer plain_number ∷
+    outer (punctuation signs.CloseBracket) ∷ outer perhaps_key_range ∷ outer rows ∷
+    outer perhaps_maps ∷ []) (outer perhaps_maps ∷ []) _ _ _
+    (reads_before (outer plain_name ∷ []) []
+    (outer (punctuation signs.OpenBracket) ∷ outer plain_number ∷
+    outer (punctuation signs.Colon) ∷ outer plain_number ∷
+    outer (punctuation signs.CloseBracket) ∷ outer perhaps_key_range ∷ outer rows ∷
+    outer perhaps_maps ∷ []) _ _ c.in_ok-name.ensures.reads)
+    (reads_then (outer (punctuation signs.OpenBracket) ∷ outer plain_number ∷
+    outer (punctuation signs.Colon) ∷ outer plain_number ∷
+    outer (punctuation signs.CloseBracket) ∷ outer perhaps_key_range ∷ outer rows ∷
+    outer perhaps_maps ∷ []) (outer perhaps_key_range ∷ outer rows ∷ outer perhaps_maps ∷ [])
+    (outer perhaps_maps ∷ []) _ _ _
+    (reads_before (outer (punctuation signs.OpenBracket) ∷ outer plain_number ∷
+    outer (punctuation signs.Colon) ∷ outer plain_number ∷
+    outer (punctuation signs.CloseBracket) ∷ []) []
+    (outer perhaps_key_range ∷ outer rows ∷ outer perhaps_maps ∷ []) _ _
+    (c.in_ok-span.ensures.reads c.args.bytes.now))
+    (reads_then (outer perhaps_key_range ∷ outer rows ∷ outer perhaps_maps ∷ [])
+    (outer rows ∷ outer perhaps_maps ∷ []) (outer perhaps_maps ∷ []) _ _ _
+    (reads_before (outer perhaps_key_range ∷ []) [] (outer rows ∷ outer perhaps_maps ∷ []) _ _
+    (c.in_ok-second.ensures.reads c.args.bytes.now))
+    (reads_then (outer rows ∷ outer perhaps_maps ∷ []) (outer rows ∷ outer perhaps_maps ∷ [])
+    (outer perhaps_maps ∷ []) _ _ _
+    (reads_before (outer rows ∷ []) (outer rows ∷ []) (outer perhaps_maps ∷ []) _ _
+    c.in_ok-rows.ensures.reads)
+    (reads_then (outer rows ∷ outer perhaps_maps ∷ []) (outer end_of_map ∷ outer perhaps_maps ∷ [])
+    (outer perhaps_maps ∷ []) _ _ _
+    (reads_before (outer rows ∷ []) (outer end_of_map ∷ []) (outer perhaps_maps ∷ []) _ _
+    (c.in_ok-other.ensures.reads c.in_ok-rows.ensures.ends))
+    (reads_before (outer end_of_map ∷ []) [] (outer perhaps_maps ∷ []) _ _
+    (word_taken end_of_map words.Endlabelmap [] _ _ refl
+    (c.in_ok-_last._last, c.in_ok-_last.ensures.is c.args.bytes.now))))))))))
 
 pub returns-clause-is : goal.returns-clause-is
 returns-clause-is c =
-    map_is _ _ _ _ _ _ _ _ _ (c.in_ok-_word._word, c.in_ok-_word.ensures.is c.args.bytes.now) c.in_ok-name.ensures.is (c.in_ok-span.ensures.is c.args.bytes.now) (c.in_ok-second.ensures.is c.args.bytes.now) c.in_ok-rows.ensures.is c.in_ok-other.ensures.is (c.in_ok-_last._last, c.in_ok-_last.ensures.is c.args.bytes.now)
+    map_is _ _ _ _ _ _ _ _ _ (c.in_ok-_word._word, c.in_ok-_word.ensures.is c.args.bytes.now)
+    c.in_ok-name.ensures.is (c.in_ok-span.ensures.is c.args.bytes.now)
+    (c.in_ok-second.ensures.is c.args.bytes.now) c.in_ok-rows.ensures.is
+    c.in_ok-other.ensures.is (c.in_ok-_last._last, c.in_ok-_last.ensures.is c.args.bytes.now)

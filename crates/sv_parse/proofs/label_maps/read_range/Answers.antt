@@ -10,20 +10,38 @@ use Rattle.sv_parse.proofs.label_maps.read_range.Goals as goal
 
 pub returns-clause-is : goal.returns-clause-is
 returns-clause-is c =
-    λ bytes. key_range_is (span_tree c.in_ok-span.span) (placed_tokens bytes c.args.tokens.now) (placed_tokens bytes c.in_ok-rest.rest.now) (placed_tokens bytes c.in_ok-span.rest.now) (c.in_ok-rest.ensures.is bytes) (c.in_ok-span.ensures.is bytes)
+    λ bytes. key_range_is (span_tree c.in_ok-span.span) (placed_tokens bytes c.args.tokens.now)
+    (placed_tokens bytes c.in_ok-rest.rest.now) (placed_tokens bytes c.in_ok-span.rest.now)
+    (c.in_ok-rest.ensures.is bytes) (c.in_ok-span.ensures.is bytes)
 
 pub returns-in_err-rest-clause-halts : goal.returns-in_err-rest-clause-halts
 returns-in_err-rest-clause-halts c = λ bytes.
     passed _ _ _ c.from_residual.ensures.1
-    (stops_before (outer (punctuation signs.OpenBracket) ∷ []) (outer plain_number ∷ outer (punctuation signs.Colon) ∷ outer plain_number ∷ outer (punctuation signs.CloseBracket) ∷ []) _ _ (c.in_err-rest.ensures.halts bytes))
+    (stops_before (outer (punctuation signs.OpenBracket) ∷ [])
+    (outer plain_number ∷ outer (punctuation signs.Colon) ∷ outer plain_number ∷
+    outer (punctuation signs.CloseBracket) ∷ []) _ _ (c.in_err-rest.ensures.halts bytes))
 
 pub returns-in_err-span-clause-halts : goal.returns-in_err-span-clause-halts
 returns-in_err-span-clause-halts c = λ bytes.
     passed _ _ _ c.from_residual-in_err-span.ensures.1
-    (stops_then (outer (punctuation signs.OpenBracket) ∷ outer plain_number ∷ outer (punctuation signs.Colon) ∷ outer plain_number ∷ outer (punctuation signs.CloseBracket) ∷ []) (outer plain_number ∷ outer (punctuation signs.Colon) ∷ outer plain_number ∷ outer (punctuation signs.CloseBracket) ∷ []) _ _ _ (reads_before (outer (punctuation signs.OpenBracket) ∷ []) [] (outer plain_number ∷ outer (punctuation signs.Colon) ∷ outer plain_number ∷ outer (punctuation signs.CloseBracket) ∷ []) _ _ (c.in_ok-rest.ensures.reads bytes refl))
+    (stops_then (outer (punctuation signs.OpenBracket) ∷ outer plain_number ∷
+    outer (punctuation signs.Colon) ∷ outer plain_number ∷
+    outer (punctuation signs.CloseBracket) ∷ [])
+    (outer plain_number ∷ outer (punctuation signs.Colon) ∷ outer plain_number ∷
+    outer (punctuation signs.CloseBracket) ∷ []) _ _ _
+    (reads_before (outer (punctuation signs.OpenBracket) ∷ []) []
+    (outer plain_number ∷ outer (punctuation signs.Colon) ∷ outer plain_number ∷
+    outer (punctuation signs.CloseBracket) ∷ []) _ _ (c.in_ok-rest.ensures.reads bytes refl))
     (c.in_err-span.ensures.halts bytes))
 
 pub returns-clause-reads : goal.returns-clause-reads
 returns-clause-reads c = λ bytes.
-    (reads_then (outer (punctuation signs.OpenBracket) ∷ outer plain_number ∷ outer (punctuation signs.Colon) ∷ outer plain_number ∷ outer (punctuation signs.CloseBracket) ∷ []) (outer plain_number ∷ outer (punctuation signs.Colon) ∷ outer plain_number ∷ outer (punctuation signs.CloseBracket) ∷ []) [] _ _ _ (reads_before (outer (punctuation signs.OpenBracket) ∷ []) [] (outer plain_number ∷ outer (punctuation signs.Colon) ∷ outer plain_number ∷ outer (punctuation signs.CloseBracket) ∷ []) _ _ (c.in_ok-rest.ensures.reads bytes refl))
+    (reads_then (outer (punctuation signs.OpenBracket) ∷ outer plain_number ∷
+    outer (punctuation signs.Colon) ∷ outer plain_number ∷
+    outer (punctuation signs.CloseBracket) ∷ [])
+    (outer plain_number ∷ outer (punctuation signs.Colon) ∷ outer plain_number ∷
+    outer (punctuation signs.CloseBracket) ∷ []) [] _ _ _
+    (reads_before (outer (punctuation signs.OpenBracket) ∷ []) []
+    (outer plain_number ∷ outer (punctuation signs.Colon) ∷ outer plain_number ∷
+    outer (punctuation signs.CloseBracket) ∷ []) _ _ (c.in_ok-rest.ensures.reads bytes refl))
     (c.in_ok-span.ensures.reads bytes))

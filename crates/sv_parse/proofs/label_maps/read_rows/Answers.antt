@@ -1,5 +1,6 @@
 use Rattle.std.proofs.Common.{[], ◌∷◌}
-use Rattle.sv_grammar.specs.Symbols.{outer, punctuation, plain_name, plain_number, rows, perhaps_second_key}
+use Rattle.sv_grammar.specs.Symbols.{outer, punctuation, plain_name, plain_number, rows}
+use Rattle.sv_grammar.specs.Symbols.{perhaps_second_key}
 use Rattle.sv_grammar.proofs.ReadSteps.{reads_then, reads_before}
 use Rattle.sv_read.proofs.Halting.{passed, stops_then, stops_before}
 use Rattle.sv_parse.proofs.ReadingSymbols.{begins_row}
@@ -13,17 +14,35 @@ pub returns-in_err-row-clause-halts : goal.returns-in_err-row-clause-halts
 returns-in_err-row-clause-halts c =
     passed _ _ _ c.from_residual.ensures.1
     (stops_then (outer rows ∷ []) (outer rows ∷ []) _ _ _ c.loop-alloc.invariant.reads
-    (stops_then (outer rows ∷ []) (outer plain_number ∷ outer perhaps_second_key ∷ outer (punctuation signs.Colon) ∷ outer plain_name ∷ outer (punctuation signs.Semicolon) ∷ outer rows ∷ []) _ _ _ (begins_row _ (c.loop-alloc-test.ensures.default c.args.bytes.now (search rules)) (c.loop-alloc-test.ensures.last c.args.bytes.now (search rules)))
-    (stops_before (outer plain_number ∷ outer perhaps_second_key ∷ outer (punctuation signs.Colon) ∷ outer plain_name ∷ outer (punctuation signs.Semicolon) ∷ []) (outer rows ∷ []) _ _ c.in_err-row.ensures.halts)))
+    (stops_then (outer rows ∷ [])
+    (outer plain_number ∷ outer perhaps_second_key ∷ outer (punctuation signs.Colon) ∷
+    outer plain_name ∷ outer (punctuation signs.Semicolon) ∷
+    outer rows ∷ []) _ _ _
+    (begins_row _ (c.loop-alloc-test.ensures.default c.args.bytes.now (search rules))
+    (c.loop-alloc-test.ensures.last c.args.bytes.now (search rules)))
+    (stops_before (outer plain_number ∷ outer perhaps_second_key ∷ outer (punctuation signs.Colon) ∷
+    outer plain_name ∷ outer (punctuation signs.Semicolon) ∷ []) (outer rows ∷ []) _ _
+    c.in_err-row.ensures.halts)))
 
 pub loop-alloc-preserved : goal.loop-alloc-preserved
 loop-alloc-preserved c = record {
-  are = pushed_each _ _ row_tree _ _ _ _ _ _ _ c.in_ok-push.ensures.items c.loop-alloc.invariant.are c.in_ok-row.ensures.is;
+  are =
+      pushed_each _ _ row_tree _ _ _ _ _ _ _ c.in_ok-push.ensures.items c.loop-alloc.invariant.are
+      c.in_ok-row.ensures.is;
   shorter = search rules;
   reads =
-      reads_then (outer rows ∷ []) (outer rows ∷ []) (outer rows ∷ []) _ _ _ c.loop-alloc.invariant.reads
-      (reads_then (outer rows ∷ []) (outer plain_number ∷ outer perhaps_second_key ∷ outer (punctuation signs.Colon) ∷ outer plain_name ∷ outer (punctuation signs.Semicolon) ∷ outer rows ∷ []) (outer rows ∷ []) _ _ _ (begins_row _ (c.loop-alloc-test.ensures.default c.args.bytes.now (search rules)) (c.loop-alloc-test.ensures.last c.args.bytes.now (search rules)))
-      (reads_before (outer plain_number ∷ outer perhaps_second_key ∷ outer (punctuation signs.Colon) ∷ outer plain_name ∷ outer (punctuation signs.Semicolon) ∷ []) [] (outer rows ∷ []) _ _ c.in_ok-row.ensures.reads));
+      reads_then (outer rows ∷ []) (outer rows ∷ []) (outer rows ∷ []) _ _ _
+      c.loop-alloc.invariant.reads
+      (reads_then (outer rows ∷ [])
+      (outer plain_number ∷ outer perhaps_second_key ∷ outer (punctuation signs.Colon) ∷
+      outer plain_name ∷ outer (punctuation signs.Semicolon) ∷
+      outer rows ∷ []) (outer rows ∷ []) _ _ _
+      (begins_row _ (c.loop-alloc-test.ensures.default c.args.bytes.now (search rules))
+      (c.loop-alloc-test.ensures.last c.args.bytes.now (search rules)))
+      (reads_before (outer plain_number ∷ outer perhaps_second_key ∷
+      outer (punctuation signs.Colon) ∷ outer plain_name ∷
+      outer (punctuation signs.Semicolon) ∷ []) [] (outer rows ∷ []) _ _
+      c.in_ok-row.ensures.reads));
 }
 
 pub returns-clause-is : goal.returns-clause-is

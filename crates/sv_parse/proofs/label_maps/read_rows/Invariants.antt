@@ -10,9 +10,11 @@ use Rattle.sv_parse.proofs.label_maps.read_rows.Given as goal
 
 abbrev pub invariant-loop-alloc : goal.invariant-loop-alloc
 invariant-loop-alloc l = record {
-  are : AreOpenEach RowTree IsRow (map row_tree l.rows.items) (placed_tokens l.bytes l.tokens) (placed_tokens l.bytes l.rest);
+  are : AreOpenEach RowTree IsRow (map row_tree l.rows.items) (placed_tokens l.bytes l.tokens)
+      (placed_tokens l.bytes l.rest);
   shorter : length l.rest ≤ length l.tokens;
-  reads : Reads (outer rows ∷ []) (outer rows ∷ []) (placed_tokens l.bytes l.tokens) (placed_tokens l.bytes l.rest);
+  reads : Reads (outer rows ∷ []) (outer rows ∷ []) (placed_tokens l.bytes l.tokens)
+      (placed_tokens l.bytes l.rest);
 }
 
 abbrev pub decreases-loop-alloc : goal.decreases-loop-alloc

@@ -9,17 +9,26 @@ use Rattle.sv_parse.proofs.label_maps.read_second_key.Goals as goal
 
 pub returns-in_ok-value-in-Some-clause-is : goal.returns-in_ok-value-in-Some-clause-is
 returns-in_ok-value-in-Some-clause-is c =
-    λ bytes. ((placed_tokens bytes c.in-Some.rest.now), c.in-Some.ensures.is bytes, c.in_ok-value-in-Some.ensures.is bytes)
+    λ bytes. (
+      (placed_tokens bytes c.in-Some.rest.now),
+      c.in-Some.ensures.is
+          bytes,
+      c.in_ok-value-in-Some.ensures.is bytes,
+    )
 
 pub returns-in_err-value-in-Some-clause-halts : goal.returns-in_err-value-in-Some-clause-halts
 returns-in_err-value-in-Some-clause-halts c = λ bytes.
     passed _ _ _ c.from_residual.ensures.1
-    (stops_then (outer perhaps_second_key ∷ []) (outer plain_number ∷ []) _ _ _ (sign_taken perhaps_second_key signs.Comma (plain_number ∷ []) _ _ refl (c.in-Some.ensures.is bytes))
+    (stops_then (outer perhaps_second_key ∷ []) (outer plain_number ∷ []) _ _ _
+    (sign_taken perhaps_second_key signs.Comma (plain_number ∷ []) _ _ refl
+    (c.in-Some.ensures.is bytes))
     (c.in_err-value-in-Some.ensures.halts bytes))
 
 pub returns-in_ok-value-in-Some-clause-reads : goal.returns-in_ok-value-in-Some-clause-reads
 returns-in_ok-value-in-Some-clause-reads c = λ bytes.
-    (reads_then (outer perhaps_second_key ∷ []) (outer plain_number ∷ []) [] _ _ _ (sign_taken perhaps_second_key signs.Comma (plain_number ∷ []) _ _ refl (c.in-Some.ensures.is bytes))
+    (reads_then (outer perhaps_second_key ∷ []) (outer plain_number ∷ []) [] _ _ _
+    (sign_taken perhaps_second_key signs.Comma (plain_number ∷ []) _ _ refl
+    (c.in-Some.ensures.is bytes))
     (c.in_ok-value-in-Some.ensures.reads bytes))
 
 pub returns-in-None-clause-reads : goal.returns-in-None-clause-reads

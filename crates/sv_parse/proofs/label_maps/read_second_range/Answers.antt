@@ -11,17 +11,30 @@ use Rattle.sv_parse.proofs.label_maps.read_second_range.Goals as goal
 
 pub returns-in_ok-span-in-Some-clause-is : goal.returns-in_ok-span-in-Some-clause-is
 returns-in_ok-span-in-Some-clause-is c =
-    λ bytes. key_range_is (span_tree c.in_ok-span-in-Some.span) (placed_tokens bytes c.args.tokens.now) (placed_tokens bytes c.in-Some.rest.now) (placed_tokens bytes c.in_ok-span-in-Some.rest.now) (c.in-Some.ensures.is bytes) (c.in_ok-span-in-Some.ensures.is bytes)
+    λ bytes. key_range_is (span_tree c.in_ok-span-in-Some.span)
+    (placed_tokens bytes c.args.tokens.now) (placed_tokens bytes c.in-Some.rest.now)
+    (placed_tokens bytes c.in_ok-span-in-Some.rest.now) (c.in-Some.ensures.is bytes)
+    (c.in_ok-span-in-Some.ensures.is bytes)
 
 pub returns-in_err-span-in-Some-clause-halts : goal.returns-in_err-span-in-Some-clause-halts
 returns-in_err-span-in-Some-clause-halts c = λ bytes.
     passed _ _ _ c.from_residual.ensures.1
-    (stops_then (outer perhaps_key_range ∷ []) (outer plain_number ∷ outer (punctuation signs.Colon) ∷ outer plain_number ∷ outer (punctuation signs.CloseBracket) ∷ []) _ _ _ (sign_taken perhaps_key_range signs.OpenBracket (plain_number ∷ (punctuation signs.Colon) ∷ plain_number ∷ (punctuation signs.CloseBracket) ∷ []) _ _ refl (c.in-Some.ensures.is bytes))
+    (stops_then (outer perhaps_key_range ∷ [])
+    (outer plain_number ∷ outer (punctuation signs.Colon) ∷ outer plain_number ∷
+    outer (punctuation signs.CloseBracket) ∷ []) _ _ _
+    (sign_taken perhaps_key_range signs.OpenBracket
+    (plain_number ∷ (punctuation signs.Colon) ∷ plain_number ∷
+    (punctuation signs.CloseBracket) ∷ []) _ _ refl (c.in-Some.ensures.is bytes))
     (c.in_err-span-in-Some.ensures.halts bytes))
 
 pub returns-in_ok-span-in-Some-clause-reads : goal.returns-in_ok-span-in-Some-clause-reads
 returns-in_ok-span-in-Some-clause-reads c = λ bytes.
-    (reads_then (outer perhaps_key_range ∷ []) (outer plain_number ∷ outer (punctuation signs.Colon) ∷ outer plain_number ∷ outer (punctuation signs.CloseBracket) ∷ []) [] _ _ _ (sign_taken perhaps_key_range signs.OpenBracket (plain_number ∷ (punctuation signs.Colon) ∷ plain_number ∷ (punctuation signs.CloseBracket) ∷ []) _ _ refl (c.in-Some.ensures.is bytes))
+    (reads_then (outer perhaps_key_range ∷ [])
+    (outer plain_number ∷ outer (punctuation signs.Colon) ∷ outer plain_number ∷
+    outer (punctuation signs.CloseBracket) ∷ []) [] _ _ _
+    (sign_taken perhaps_key_range signs.OpenBracket
+    (plain_number ∷ (punctuation signs.Colon) ∷ plain_number ∷
+    (punctuation signs.CloseBracket) ∷ []) _ _ refl (c.in-Some.ensures.is bytes))
     (c.in_ok-span-in-Some.ensures.reads bytes))
 
 pub returns-in-None-clause-reads : goal.returns-in-None-clause-reads

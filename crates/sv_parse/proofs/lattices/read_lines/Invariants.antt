@@ -8,9 +8,11 @@ use Rattle.sv_parse.proofs.lattices.read_lines.Given as goal
 
 abbrev pub invariant-loop-after : goal.invariant-loop-after
 invariant-loop-after l = record {
-  are : AreOpenLines (map placed_name l.lines.points.items) (map pair_tree l.lines.pairs.items) (placed_tokens l.bytes l.tokens) (placed_tokens l.bytes l.rest);
+  are : AreOpenLines (map placed_name l.lines.points.items) (map pair_tree l.lines.pairs.items)
+      (placed_tokens l.bytes l.tokens) (placed_tokens l.bytes l.rest);
   shorter : length l.rest ≤ length l.tokens;
-  reads : Reads (outer lattice_lines ∷ []) (outer lattice_lines ∷ []) (placed_tokens l.bytes l.tokens) (placed_tokens l.bytes l.rest);
+  reads : Reads (outer lattice_lines ∷ []) (outer lattice_lines ∷ [])
+      (placed_tokens l.bytes l.tokens) (placed_tokens l.bytes l.rest);
 }
 
 abbrev pub decreases-loop-after : goal.decreases-loop-after

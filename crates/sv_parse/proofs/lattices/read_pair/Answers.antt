@@ -11,37 +11,92 @@ use Rattle.sv_read.specs.declared.stop.Expected.TheVariants as expected
 use Rattle.sv_parse.proofs.lattices.read_pair.Goals as goal
 
 pub returns-clause-is : goal.returns-clause-is
-returns-clause-is c =
-    ((placed_tokens c.args.bytes.now c.in_ok-lower.rest.now), c.in_ok-lower.ensures.is, ((placed_tokens c.args.bytes.now c.in-Some.rest.now), (c.in-Some.ensures.is c.args.bytes.now), ((placed_tokens c.args.bytes.now c.in_ok-upper.rest.now), c.in_ok-upper.ensures.is, c.in_ok-rest.ensures.is c.args.bytes.now)))
+returns-clause-is c = (
+  (placed_tokens c.args.bytes.now c.in_ok-lower.rest.now),
+  c.in_ok-lower.ensures.is,
+  (
+    (placed_tokens c.args.bytes.now c.in-Some.rest.now),
+    (c.in-Some.ensures.is c.args.bytes.now),
+    (
+      (placed_tokens c.args.bytes.now c.in_ok-upper.rest.now),
+      c.in_ok-upper.ensures.is,
+      c.in_ok-rest.ensures.is c.args.bytes.now,
+    ),
+  ),
+)
 
 pub returns-in_err-lower-clause-halts : goal.returns-in_err-lower-clause-halts
 returns-in_err-lower-clause-halts c =
     passed _ _ _ c.from_residual.ensures.1
-    (stops_before (outer plain_name ∷ []) (outer less_equal ∷ outer plain_name ∷ outer (punctuation signs.Semicolon) ∷ []) _ _ c.in_err-lower.ensures.halts)
+    (stops_before (outer plain_name ∷ [])
+    (outer less_equal ∷ outer plain_name ∷ outer (punctuation signs.Semicolon) ∷ []) _ _
+    c.in_err-lower.ensures.halts)
 
 pub returns-in_default-clause-halts : goal.returns-in_default-clause-halts
 returns-in_default-clause-halts c =
-    (stops_then (outer plain_name ∷ outer less_equal ∷ outer plain_name ∷ outer (punctuation signs.Semicolon) ∷ []) (outer less_equal ∷ outer plain_name ∷ outer (punctuation signs.Semicolon) ∷ []) _ _ _ (reads_before (outer plain_name ∷ []) [] (outer less_equal ∷ outer plain_name ∷ outer (punctuation signs.Semicolon) ∷ []) _ _ c.in_ok-lower.ensures.reads)
-    (stops_before (outer less_equal ∷ []) (outer plain_name ∷ outer (punctuation signs.Semicolon) ∷ []) _ _ (stops_here c.args.bytes.now _ (outer less_equal ∷ []) (Stuck expected.Something) _ (halts_less_equal _ (c.in_default.ensures.none c.args.bytes.now)) c.unexpected.ensures)))
+    (stops_then (outer plain_name ∷ outer less_equal ∷ outer plain_name ∷
+    outer (punctuation signs.Semicolon) ∷ [])
+    (outer less_equal ∷ outer plain_name ∷ outer (punctuation signs.Semicolon) ∷ []) _ _ _
+    (reads_before (outer plain_name ∷ []) []
+    (outer less_equal ∷ outer plain_name ∷ outer (punctuation signs.Semicolon) ∷ []) _ _
+    c.in_ok-lower.ensures.reads)
+    (stops_before (outer less_equal ∷ [])
+    (outer plain_name ∷ outer (punctuation signs.Semicolon) ∷ []) _ _
+    (stops_here c.args.bytes.now _ (outer less_equal ∷ []) (Stuck expected.Something) _
+    (halts_less_equal _ (c.in_default.ensures.none c.args.bytes.now)) c.unexpected.ensures)))
 
 pub returns-in_err-upper-clause-halts : goal.returns-in_err-upper-clause-halts
 returns-in_err-upper-clause-halts c =
     passed _ _ _ c.from_residual-in_err-upper.ensures.1
-    (stops_then (outer plain_name ∷ outer less_equal ∷ outer plain_name ∷ outer (punctuation signs.Semicolon) ∷ []) (outer less_equal ∷ outer plain_name ∷ outer (punctuation signs.Semicolon) ∷ []) _ _ _ (reads_before (outer plain_name ∷ []) [] (outer less_equal ∷ outer plain_name ∷ outer (punctuation signs.Semicolon) ∷ []) _ _ c.in_ok-lower.ensures.reads)
-    (stops_then (outer less_equal ∷ outer plain_name ∷ outer (punctuation signs.Semicolon) ∷ []) (outer plain_name ∷ outer (punctuation signs.Semicolon) ∷ []) _ _ _ (reads_before (outer less_equal ∷ []) [] (outer plain_name ∷ outer (punctuation signs.Semicolon) ∷ []) _ _ (less_equal_read _ _ (c.in-Some.ensures.is c.args.bytes.now)))
-    (stops_before (outer plain_name ∷ []) (outer (punctuation signs.Semicolon) ∷ []) _ _ c.in_err-upper.ensures.halts)))
+    (stops_then (outer plain_name ∷ outer less_equal ∷ outer plain_name ∷
+    outer (punctuation signs.Semicolon) ∷ [])
+    (outer less_equal ∷ outer plain_name ∷ outer (punctuation signs.Semicolon) ∷ []) _ _ _
+    (reads_before (outer plain_name ∷ []) []
+    (outer less_equal ∷ outer plain_name ∷ outer (punctuation signs.Semicolon) ∷ []) _ _
+    c.in_ok-lower.ensures.reads)
+    (stops_then (outer less_equal ∷ outer plain_name ∷ outer (punctuation signs.Semicolon) ∷ [])
+    (outer plain_name ∷ outer (punctuation signs.Semicolon) ∷ []) _ _ _
+    (reads_before (outer less_equal ∷ []) []
+    (outer plain_name ∷ outer (punctuation signs.Semicolon) ∷ []) _ _
+    (less_equal_read _ _ (c.in-Some.ensures.is c.args.bytes.now)))
+    (stops_before (outer plain_name ∷ []) (outer (punctuation signs.Semicolon) ∷ []) _ _
+    c.in_err-upper.ensures.halts)))
 
 pub returns-in_err-rest-clause-halts : goal.returns-in_err-rest-clause-halts
 returns-in_err-rest-clause-halts c =
     passed _ _ _ c.from_residual-in_err-rest.ensures.1
-    (stops_then (outer plain_name ∷ outer less_equal ∷ outer plain_name ∷ outer (punctuation signs.Semicolon) ∷ []) (outer less_equal ∷ outer plain_name ∷ outer (punctuation signs.Semicolon) ∷ []) _ _ _ (reads_before (outer plain_name ∷ []) [] (outer less_equal ∷ outer plain_name ∷ outer (punctuation signs.Semicolon) ∷ []) _ _ c.in_ok-lower.ensures.reads)
-    (stops_then (outer less_equal ∷ outer plain_name ∷ outer (punctuation signs.Semicolon) ∷ []) (outer plain_name ∷ outer (punctuation signs.Semicolon) ∷ []) _ _ _ (reads_before (outer less_equal ∷ []) [] (outer plain_name ∷ outer (punctuation signs.Semicolon) ∷ []) _ _ (less_equal_read _ _ (c.in-Some.ensures.is c.args.bytes.now)))
-    (stops_then (outer plain_name ∷ outer (punctuation signs.Semicolon) ∷ []) (outer (punctuation signs.Semicolon) ∷ []) _ _ _ (reads_before (outer plain_name ∷ []) [] (outer (punctuation signs.Semicolon) ∷ []) _ _ c.in_ok-upper.ensures.reads)
+    (stops_then (outer plain_name ∷ outer less_equal ∷ outer plain_name ∷
+    outer (punctuation signs.Semicolon) ∷ [])
+    (outer less_equal ∷ outer plain_name ∷ outer (punctuation signs.Semicolon) ∷ []) _ _ _
+    (reads_before (outer plain_name ∷ []) []
+    (outer less_equal ∷ outer plain_name ∷ outer (punctuation signs.Semicolon) ∷ []) _ _
+    c.in_ok-lower.ensures.reads)
+    (stops_then (outer less_equal ∷ outer plain_name ∷ outer (punctuation signs.Semicolon) ∷ [])
+    (outer plain_name ∷ outer (punctuation signs.Semicolon) ∷ []) _ _ _
+    (reads_before (outer less_equal ∷ []) []
+    (outer plain_name ∷ outer (punctuation signs.Semicolon) ∷ []) _ _
+    (less_equal_read _ _ (c.in-Some.ensures.is c.args.bytes.now)))
+    (stops_then (outer plain_name ∷ outer (punctuation signs.Semicolon) ∷ [])
+    (outer (punctuation signs.Semicolon) ∷ []) _ _ _
+    (reads_before (outer plain_name ∷ []) [] (outer (punctuation signs.Semicolon) ∷ []) _ _
+    c.in_ok-upper.ensures.reads)
     (c.in_err-rest.ensures.halts c.args.bytes.now))))
 
 pub returns-clause-reads : goal.returns-clause-reads
 returns-clause-reads c =
-    (reads_then (outer plain_name ∷ outer less_equal ∷ outer plain_name ∷ outer (punctuation signs.Semicolon) ∷ []) (outer less_equal ∷ outer plain_name ∷ outer (punctuation signs.Semicolon) ∷ []) [] _ _ _ (reads_before (outer plain_name ∷ []) [] (outer less_equal ∷ outer plain_name ∷ outer (punctuation signs.Semicolon) ∷ []) _ _ c.in_ok-lower.ensures.reads)
-    (reads_then (outer less_equal ∷ outer plain_name ∷ outer (punctuation signs.Semicolon) ∷ []) (outer plain_name ∷ outer (punctuation signs.Semicolon) ∷ []) [] _ _ _ (reads_before (outer less_equal ∷ []) [] (outer plain_name ∷ outer (punctuation signs.Semicolon) ∷ []) _ _ (less_equal_read _ _ (c.in-Some.ensures.is c.args.bytes.now)))
-    (reads_then (outer plain_name ∷ outer (punctuation signs.Semicolon) ∷ []) (outer (punctuation signs.Semicolon) ∷ []) [] _ _ _ (reads_before (outer plain_name ∷ []) [] (outer (punctuation signs.Semicolon) ∷ []) _ _ c.in_ok-upper.ensures.reads)
+    (reads_then (outer plain_name ∷ outer less_equal ∷ outer plain_name ∷
+    outer (punctuation signs.Semicolon) ∷ [])
+    (outer less_equal ∷ outer plain_name ∷ outer (punctuation signs.Semicolon) ∷ []) [] _ _ _
+    (reads_before (outer plain_name ∷ []) []
+    (outer less_equal ∷ outer plain_name ∷ outer (punctuation signs.Semicolon) ∷ []) _ _
+    c.in_ok-lower.ensures.reads)
+    (reads_then (outer less_equal ∷ outer plain_name ∷ outer (punctuation signs.Semicolon) ∷ [])
+    (outer plain_name ∷ outer (punctuation signs.Semicolon) ∷ []) [] _ _ _
+    (reads_before (outer less_equal ∷ []) []
+    (outer plain_name ∷ outer (punctuation signs.Semicolon) ∷ []) _ _
+    (less_equal_read _ _ (c.in-Some.ensures.is c.args.bytes.now)))
+    (reads_then (outer plain_name ∷ outer (punctuation signs.Semicolon) ∷ [])
+    (outer (punctuation signs.Semicolon) ∷ []) [] _ _ _
+    (reads_before (outer plain_name ∷ []) [] (outer (punctuation signs.Semicolon) ∷ []) _ _
+    c.in_ok-upper.ensures.reads)
     (c.in_ok-rest.ensures.reads c.args.bytes.now refl))))

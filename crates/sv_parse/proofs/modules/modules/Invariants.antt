@@ -11,9 +11,11 @@ use Rattle.sv_parse.proofs.modules.modules.Given as goal
 
 abbrev pub invariant-loop-rest : goal.invariant-loop-rest
 invariant-loop-rest l = record {
-  are : AreOpenEach ModuleTree (IsModule all_limits) (map module_tree l.modules.items) (placed_tokens l.bytes l.tokens) (placed_tokens l.bytes l.rest);
+  are : AreOpenEach ModuleTree (IsModule all_limits) (map module_tree l.modules.items)
+      (placed_tokens l.bytes l.tokens) (placed_tokens l.bytes l.rest);
   some : 0 < length l.modules.items;
-  runs : run all_limits (outer one_module ∷ []) (placed_tokens l.bytes l.tokens) ≡ run all_limits [] (placed_tokens l.bytes l.rest);
+  runs : run all_limits (outer one_module ∷ []) (placed_tokens l.bytes l.tokens) ≡
+      run all_limits [] (placed_tokens l.bytes l.rest);
 }
 
 abbrev pub decreases-loop-rest : goal.decreases-loop-rest

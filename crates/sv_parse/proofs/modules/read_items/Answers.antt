@@ -10,20 +10,28 @@ use Rattle.sv_ast.specs.Views.{item_tree}
 use Rattle.sv_parse.proofs.modules.read_items.Goals as goal
 
 pub returns-in-Some-clause-is : goal.returns-in-Some-clause-is
-returns-in-Some-clause-is c = (_, items_end _ _ _ c.loop-after.invariant.are, (c.in-Some.ensures.is c.args.bytes.now))
+returns-in-Some-clause-is c =
+    (_, items_end _ _ _ c.loop-after.invariant.are, (c.in-Some.ensures.is c.args.bytes.now))
 
 pub returns-in-Some-clause-reads : goal.returns-in-Some-clause-reads
 returns-in-Some-clause-reads c =
-    reads_then (outer items ∷ []) (outer items ∷ []) [] _ _ _ c.loop-after.invariant.reads (word_taken items words.Endmodule [] _ _ refl (c.in-Some.ensures.is c.args.bytes.now))
+    reads_then (outer items ∷ []) (outer items ∷ []) [] _ _ _ c.loop-after.invariant.reads
+    (word_taken items words.Endmodule [] _ _ refl (c.in-Some.ensures.is c.args.bytes.now))
 
 pub returns-in_err-more-clause-halts : goal.returns-in_err-more-clause-halts
 returns-in_err-more-clause-halts c =
     passed _ _ _ c.from_residual.ensures.1
-    (stops_then (outer items ∷ []) (outer items ∷ []) _ _ _ c.loop-after.invariant.reads (c.in_err-more.ensures.halts (c.in_default.ensures.none c.args.bytes.now)))
+    (stops_then (outer items ∷ []) (outer items ∷ []) _ _ _ c.loop-after.invariant.reads
+    (c.in_err-more.ensures.halts (c.in_default.ensures.none c.args.bytes.now)))
 
 pub loop-after-preserved : goal.loop-after-preserved
 loop-after-preserved c = record {
-  are = appended_items _ item_tree _ _ _ _ _ _ c.in_ok-append.ensures.items c.loop-after.invariant.are c.in_ok-more.ensures.is;
+  are =
+      appended_items _ item_tree _ _ _ _ _ _ c.in_ok-append.ensures.items c.loop-after.invariant.are
+      c.in_ok-more.ensures.is;
   shorter = search rules;
-  reads = reads_then (outer items ∷ []) (outer items ∷ []) (outer items ∷ []) _ _ _ c.loop-after.invariant.reads (c.in_ok-more.ensures.reads (c.in_default.ensures.none c.args.bytes.now));
+  reads =
+      reads_then (outer items ∷ []) (outer items ∷ []) (outer items ∷ []) _ _ _
+      c.loop-after.invariant.reads
+      (c.in_ok-more.ensures.reads (c.in_default.ensures.none c.args.bytes.now));
 }

@@ -8,9 +8,11 @@ use Rattle.sv_parse.proofs.modules.read_items.Given as goal
 
 abbrev pub invariant-loop-after : goal.invariant-loop-after
 invariant-loop-after l = record {
-  are : AreOpenItems (map item_tree l.items.items) (placed_tokens l.bytes l.tokens) (placed_tokens l.bytes l.rest);
+  are : AreOpenItems (map item_tree l.items.items) (placed_tokens l.bytes l.tokens)
+      (placed_tokens l.bytes l.rest);
   shorter : length l.rest ≤ length l.tokens;
-  reads : Reads (outer items ∷ []) (outer items ∷ []) (placed_tokens l.bytes l.tokens) (placed_tokens l.bytes l.rest);
+  reads : Reads (outer items ∷ []) (outer items ∷ []) (placed_tokens l.bytes l.tokens)
+      (placed_tokens l.bytes l.rest);
 }
 
 abbrev pub decreases-loop-after : goal.decreases-loop-after

@@ -14,16 +14,27 @@ pub returns-clause-is : goal.returns-clause-is
 returns-clause-is c = each_end _ _ _ _ _ c.loop-maps.invariant.are
 
 pub returns-clause-reads : goal.returns-clause-reads
-returns-clause-reads c = reads_then (outer perhaps_maps ∷ []) (outer perhaps_maps ∷ []) [] _ _ _ c.loop-maps.invariant.reads (skips_perhaps_maps _ (c.in_default.ensures.none c.args.bytes.now))
+returns-clause-reads c =
+    reads_then (outer perhaps_maps ∷ []) (outer perhaps_maps ∷ []) [] _ _ _
+    c.loop-maps.invariant.reads (skips_perhaps_maps _ (c.in_default.ensures.none c.args.bytes.now))
 
 pub returns-in_err-map-clause-halts : goal.returns-in_err-map-clause-halts
 returns-in_err-map-clause-halts c =
     passed _ _ _ c.from_residual.ensures.1
-    (stops_then (outer perhaps_maps ∷ []) (outer perhaps_maps ∷ []) _ _ _ c.loop-maps.invariant.reads (c.in_err-map.ensures.halts (word_is_next words.Labelmap _ _ (c.in-Some.ensures.is c.args.bytes.now))))
+    (stops_then (outer perhaps_maps ∷ []) (outer perhaps_maps ∷ []) _ _ _
+    c.loop-maps.invariant.reads
+    (c.in_err-map.ensures.halts
+    (word_is_next words.Labelmap _ _ (c.in-Some.ensures.is c.args.bytes.now))))
 
 pub loop-maps-preserved : goal.loop-maps-preserved
 loop-maps-preserved c = record {
-  are = pushed_each _ _ map_tree _ _ _ _ _ _ _ c.in_ok-push.ensures.items c.loop-maps.invariant.are c.in_ok-map.ensures.is;
+  are =
+      pushed_each _ _ map_tree _ _ _ _ _ _ _ c.in_ok-push.ensures.items c.loop-maps.invariant.are
+      c.in_ok-map.ensures.is;
   shorter = search rules;
-  reads = reads_then (outer perhaps_maps ∷ []) (outer perhaps_maps ∷ []) (outer perhaps_maps ∷ []) _ _ _ c.loop-maps.invariant.reads (c.in_ok-map.ensures.reads (word_is_next words.Labelmap _ _ (c.in-Some.ensures.is c.args.bytes.now)));
+  reads =
+      reads_then (outer perhaps_maps ∷ []) (outer perhaps_maps ∷ []) (outer perhaps_maps ∷ []) _ _ _
+      c.loop-maps.invariant.reads
+      (c.in_ok-map.ensures.reads
+      (word_is_next words.Labelmap _ _ (c.in-Some.ensures.is c.args.bytes.now)));
 }

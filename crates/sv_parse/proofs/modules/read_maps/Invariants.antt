@@ -10,9 +10,11 @@ use Rattle.sv_parse.proofs.modules.read_maps.Given as goal
 
 abbrev pub invariant-loop-maps : goal.invariant-loop-maps
 invariant-loop-maps l = record {
-  are : AreOpenEach MapTree IsMap (map map_tree l.maps.items) (placed_tokens l.bytes l.tokens) (placed_tokens l.bytes l.rest);
+  are : AreOpenEach MapTree IsMap (map map_tree l.maps.items) (placed_tokens l.bytes l.tokens)
+      (placed_tokens l.bytes l.rest);
   shorter : length l.rest ≤ length l.tokens;
-  reads : Reads (outer perhaps_maps ∷ []) (outer perhaps_maps ∷ []) (placed_tokens l.bytes l.tokens) (placed_tokens l.bytes l.rest);
+  reads : Reads (outer perhaps_maps ∷ []) (outer perhaps_maps ∷ []) (placed_tokens l.bytes l.tokens)
+      (placed_tokens l.bytes l.rest);
 }
 
 abbrev pub decreases-loop-maps : goal.decreases-loop-maps

@@ -1,5 +1,6 @@
 use Rattle.std.proofs.Common.{[], ◌∷◌, refl}
-use Rattle.sv_grammar.specs.Symbols.{outer, punctuation, perhaps_header_parameters, header_parameter, more_header_parameters}
+use Rattle.sv_grammar.specs.Symbols.{outer, punctuation, perhaps_header_parameters}
+use Rattle.sv_grammar.specs.Symbols.{header_parameter, more_header_parameters}
 use Rattle.sv_grammar.proofs.ReadSteps.{reads_then, reads_before}
 use Rattle.sv_grammar.proofs.ReadRows.{sign_taken, skips_perhaps_header_parameters}
 use Rattle.sv_read.proofs.Halting.{passed, stops_then, stops_before}
@@ -10,29 +11,69 @@ use Rattle.sv_parse.proofs.modules.read_parameter_list.Goals as goal
 pub returns-in_err-rest-in-Some-clause-halts : goal.returns-in_err-rest-in-Some-clause-halts
 returns-in_err-rest-in-Some-clause-halts c =
     passed _ _ _ c.from_residual.ensures.1
-    (stops_then (outer perhaps_header_parameters ∷ []) (outer (punctuation signs.OpenParenthesis) ∷ outer header_parameter ∷ outer more_header_parameters ∷ []) _ _ _ (sign_taken perhaps_header_parameters signs.Hash ((punctuation signs.OpenParenthesis) ∷ header_parameter ∷ more_header_parameters ∷ []) _ _ refl (c.in-Some.ensures.is c.args.bytes.now))
-    (stops_before (outer (punctuation signs.OpenParenthesis) ∷ []) (outer header_parameter ∷ outer more_header_parameters ∷ []) _ _ (c.in_err-rest-in-Some.ensures.halts c.args.bytes.now)))
+    (stops_then (outer perhaps_header_parameters ∷ [])
+    (outer (punctuation signs.OpenParenthesis) ∷ outer header_parameter ∷
+    outer more_header_parameters ∷ []) _ _ _
+    (sign_taken perhaps_header_parameters signs.Hash
+    ((punctuation signs.OpenParenthesis) ∷ header_parameter ∷ more_header_parameters ∷ []) _ _
+    refl (c.in-Some.ensures.is c.args.bytes.now))
+    (stops_before (outer (punctuation signs.OpenParenthesis) ∷ [])
+    (outer header_parameter ∷ outer more_header_parameters ∷ []) _ _
+    (c.in_err-rest-in-Some.ensures.halts c.args.bytes.now)))
 
 pub returns-in_err-params-in-Some-clause-halts : goal.returns-in_err-params-in-Some-clause-halts
 returns-in_err-params-in-Some-clause-halts c =
     passed _ _ _ c.from_residual-in_err-params-in-Some.ensures.1
-    (stops_then (outer perhaps_header_parameters ∷ []) (outer (punctuation signs.OpenParenthesis) ∷ outer header_parameter ∷ outer more_header_parameters ∷ []) _ _ _ (sign_taken perhaps_header_parameters signs.Hash ((punctuation signs.OpenParenthesis) ∷ header_parameter ∷ more_header_parameters ∷ []) _ _ refl (c.in-Some.ensures.is c.args.bytes.now))
-    (stops_then (outer (punctuation signs.OpenParenthesis) ∷ outer header_parameter ∷ outer more_header_parameters ∷ []) (outer header_parameter ∷ outer more_header_parameters ∷ []) _ _ _ (reads_before (outer (punctuation signs.OpenParenthesis) ∷ []) [] (outer header_parameter ∷ outer more_header_parameters ∷ []) _ _ (c.in_ok-rest-in-Some.ensures.reads c.args.bytes.now refl))
+    (stops_then (outer perhaps_header_parameters ∷ [])
+    (outer (punctuation signs.OpenParenthesis) ∷ outer header_parameter ∷
+    outer more_header_parameters ∷ []) _ _ _
+    (sign_taken perhaps_header_parameters signs.Hash
+    ((punctuation signs.OpenParenthesis) ∷ header_parameter ∷ more_header_parameters ∷ []) _ _
+    refl (c.in-Some.ensures.is c.args.bytes.now))
+    (stops_then (outer (punctuation signs.OpenParenthesis) ∷ outer header_parameter ∷
+    outer more_header_parameters ∷ [])
+    (outer header_parameter ∷ outer more_header_parameters ∷ []) _ _ _
+    (reads_before (outer (punctuation signs.OpenParenthesis) ∷ []) []
+    (outer header_parameter ∷ outer more_header_parameters ∷ []) _ _
+    (c.in_ok-rest-in-Some.ensures.reads c.args.bytes.now refl))
     c.in_err-params-in-Some.ensures.halts))
 
 pub returns-in_err-rest-in-Some-2-clause-halts : goal.returns-in_err-rest-in-Some-2-clause-halts
 returns-in_err-rest-in-Some-2-clause-halts c =
     passed _ _ _ c.from_residual-in_err-rest-in-Some-2.ensures.1
-    (stops_then (outer perhaps_header_parameters ∷ []) (outer (punctuation signs.OpenParenthesis) ∷ outer header_parameter ∷ outer more_header_parameters ∷ []) _ _ _ (sign_taken perhaps_header_parameters signs.Hash ((punctuation signs.OpenParenthesis) ∷ header_parameter ∷ more_header_parameters ∷ []) _ _ refl (c.in-Some.ensures.is c.args.bytes.now))
-    (stops_then (outer (punctuation signs.OpenParenthesis) ∷ outer header_parameter ∷ outer more_header_parameters ∷ []) (outer header_parameter ∷ outer more_header_parameters ∷ []) _ _ _ (reads_before (outer (punctuation signs.OpenParenthesis) ∷ []) [] (outer header_parameter ∷ outer more_header_parameters ∷ []) _ _ (c.in_ok-rest-in-Some.ensures.reads c.args.bytes.now refl))
-    (stops_then (outer header_parameter ∷ outer more_header_parameters ∷ []) (outer (punctuation signs.CloseParenthesis) ∷ []) _ _ _ c.in_ok-params-in-Some.ensures.reads
+    (stops_then (outer perhaps_header_parameters ∷ [])
+    (outer (punctuation signs.OpenParenthesis) ∷ outer header_parameter ∷
+    outer more_header_parameters ∷ []) _ _ _
+    (sign_taken perhaps_header_parameters signs.Hash
+    ((punctuation signs.OpenParenthesis) ∷ header_parameter ∷ more_header_parameters ∷ []) _ _
+    refl (c.in-Some.ensures.is c.args.bytes.now))
+    (stops_then (outer (punctuation signs.OpenParenthesis) ∷ outer header_parameter ∷
+    outer more_header_parameters ∷ [])
+    (outer header_parameter ∷ outer more_header_parameters ∷ []) _ _ _
+    (reads_before (outer (punctuation signs.OpenParenthesis) ∷ []) []
+    (outer header_parameter ∷ outer more_header_parameters ∷ []) _ _
+    (c.in_ok-rest-in-Some.ensures.reads c.args.bytes.now refl))
+    (stops_then (outer header_parameter ∷ outer more_header_parameters ∷ [])
+    (outer (punctuation signs.CloseParenthesis) ∷ []) _ _ _ c.in_ok-params-in-Some.ensures.reads
     (c.in_err-rest-in-Some-2.ensures.halts c.args.bytes.now))))
 
 pub returns-in_ok-rest-in-Some-2-clause-reads : goal.returns-in_ok-rest-in-Some-2-clause-reads
 returns-in_ok-rest-in-Some-2-clause-reads c =
-    (reads_then (outer perhaps_header_parameters ∷ []) (outer (punctuation signs.OpenParenthesis) ∷ outer header_parameter ∷ outer more_header_parameters ∷ []) [] _ _ _ (sign_taken perhaps_header_parameters signs.Hash ((punctuation signs.OpenParenthesis) ∷ header_parameter ∷ more_header_parameters ∷ []) _ _ refl (c.in-Some.ensures.is c.args.bytes.now))
-    (reads_then (outer (punctuation signs.OpenParenthesis) ∷ outer header_parameter ∷ outer more_header_parameters ∷ []) (outer header_parameter ∷ outer more_header_parameters ∷ []) [] _ _ _ (reads_before (outer (punctuation signs.OpenParenthesis) ∷ []) [] (outer header_parameter ∷ outer more_header_parameters ∷ []) _ _ (c.in_ok-rest-in-Some.ensures.reads c.args.bytes.now refl))
-    (reads_then (outer header_parameter ∷ outer more_header_parameters ∷ []) (outer (punctuation signs.CloseParenthesis) ∷ []) [] _ _ _ c.in_ok-params-in-Some.ensures.reads
+    (reads_then (outer perhaps_header_parameters ∷ [])
+    (outer (punctuation signs.OpenParenthesis) ∷ outer header_parameter ∷
+    outer more_header_parameters ∷ []) [] _ _ _
+    (sign_taken perhaps_header_parameters signs.Hash
+    ((punctuation signs.OpenParenthesis) ∷ header_parameter ∷ more_header_parameters ∷ []) _ _
+    refl (c.in-Some.ensures.is c.args.bytes.now))
+    (reads_then (outer (punctuation signs.OpenParenthesis) ∷ outer header_parameter ∷
+    outer more_header_parameters ∷ [])
+    (outer header_parameter ∷ outer more_header_parameters ∷ []) [] _ _ _
+    (reads_before (outer (punctuation signs.OpenParenthesis) ∷ []) []
+    (outer header_parameter ∷ outer more_header_parameters ∷ []) _ _
+    (c.in_ok-rest-in-Some.ensures.reads c.args.bytes.now refl))
+    (reads_then (outer header_parameter ∷ outer more_header_parameters ∷ [])
+    (outer (punctuation signs.CloseParenthesis) ∷ []) [] _ _ _
+    c.in_ok-params-in-Some.ensures.reads
     (c.in_ok-rest-in-Some-2.ensures.reads c.args.bytes.now refl))))
 
 pub returns-in-None-clause-reads : goal.returns-in-None-clause-reads
@@ -41,4 +82,12 @@ returns-in-None-clause-reads c =
 
 pub returns-in_ok-rest-in-Some-2-clause-is : goal.returns-in_ok-rest-in-Some-2-clause-is
 returns-in_ok-rest-in-Some-2-clause-is c =
-    inr (_, (c.in-Some.ensures.is c.args.bytes.now), (_, c.in_ok-rest-in-Some.ensures.is c.args.bytes.now, (_, c.in_ok-params-in-Some.ensures.is, c.in_ok-rest-in-Some-2.ensures.is c.args.bytes.now)))
+    inr (
+      _,
+      (c.in-Some.ensures.is c.args.bytes.now),
+      (
+        _,
+        c.in_ok-rest-in-Some.ensures.is c.args.bytes.now,
+        (_, c.in_ok-params-in-Some.ensures.is, c.in_ok-rest-in-Some-2.ensures.is c.args.bytes.now),
+      ),
+    )

@@ -6,18 +6,31 @@ use Rattle.sv_parse.proofs.ReadingItems.{text_is}
 use Rattle.sv_parse.proofs.modules.text.Goals as goal
 
 pub returns-clause-is : goal.returns-clause-is
-returns-clause-is c = text_is _ _ _ _ c.in_ok-lattice.ensures.is c.in_ok-maps.ensures.is c.in_ok-modules.ensures.are
+returns-clause-is c =
+    text_is _ _ _ _ c.in_ok-lattice.ensures.is c.in_ok-maps.ensures.is c.in_ok-modules.ensures.are
 
 pub returns-in_err-lattice-clause-fails : goal.returns-in_err-lattice-clause-fails
 returns-in_err-lattice-clause-fails c =
-    passed _ _ _ c.from_residual.ensures.1 (halting_fails (outer perhaps_lattice ∷ outer perhaps_maps ∷ outer one_module ∷ []) _ _ (stops_before (outer perhaps_lattice ∷ []) (outer perhaps_maps ∷ outer one_module ∷ []) _ _ c.in_err-lattice.ensures.halts))
+    passed _ _ _ c.from_residual.ensures.1
+    (halting_fails (outer perhaps_lattice ∷ outer perhaps_maps ∷ outer one_module ∷ []) _ _
+    (stops_before (outer perhaps_lattice ∷ []) (outer perhaps_maps ∷ outer one_module ∷ []) _ _
+    c.in_err-lattice.ensures.halts))
 
 pub returns-in_err-maps-clause-fails : goal.returns-in_err-maps-clause-fails
 returns-in_err-maps-clause-fails c =
     passed _ _ _ c.from_residual-in_err-maps.ensures.1
-    (fails_then (outer perhaps_lattice ∷ outer perhaps_maps ∷ outer one_module ∷ []) (outer perhaps_maps ∷ outer one_module ∷ []) _ _ _ (c.in_ok-lattice.ensures.reads.runs (outer perhaps_maps ∷ outer one_module ∷ [])) (halting_fails (outer perhaps_maps ∷ outer one_module ∷ []) _ _ (stops_before (outer perhaps_maps ∷ []) (outer one_module ∷ []) _ _ c.in_err-maps.ensures.halts)))
+    (fails_then (outer perhaps_lattice ∷ outer perhaps_maps ∷ outer one_module ∷ [])
+    (outer perhaps_maps ∷ outer one_module ∷ []) _ _ _
+    (c.in_ok-lattice.ensures.reads.runs (outer perhaps_maps ∷ outer one_module ∷ []))
+    (halting_fails (outer perhaps_maps ∷ outer one_module ∷ []) _ _
+    (stops_before (outer perhaps_maps ∷ []) (outer one_module ∷ []) _ _
+    c.in_err-maps.ensures.halts)))
 
 pub returns-in_err-modules-clause-fails : goal.returns-in_err-modules-clause-fails
 returns-in_err-modules-clause-fails c =
     passed _ _ _ c.from_residual-in_err-modules.ensures.1
-    (fails_then (outer perhaps_lattice ∷ outer perhaps_maps ∷ outer one_module ∷ []) (outer perhaps_maps ∷ outer one_module ∷ []) _ _ _ (c.in_ok-lattice.ensures.reads.runs (outer perhaps_maps ∷ outer one_module ∷ [])) (fails_then (outer perhaps_maps ∷ outer one_module ∷ []) (outer one_module ∷ []) _ _ _ (c.in_ok-maps.ensures.reads.runs (outer one_module ∷ [])) c.in_err-modules.ensures.fails))
+    (fails_then (outer perhaps_lattice ∷ outer perhaps_maps ∷ outer one_module ∷ [])
+    (outer perhaps_maps ∷ outer one_module ∷ []) _ _ _
+    (c.in_ok-lattice.ensures.reads.runs (outer perhaps_maps ∷ outer one_module ∷ []))
+    (fails_then (outer perhaps_maps ∷ outer one_module ∷ []) (outer one_module ∷ []) _ _ _
+    (c.in_ok-maps.ensures.reads.runs (outer one_module ∷ [])) c.in_err-modules.ensures.fails))

@@ -5,4 +5,5 @@ use Rattle.sv_parse.proofs.parameters.declared.Given as goal
 
 -- the items so far are those of the members so far
 abbrev pub invariant-loop-param : goal.invariant-loop-param
-invariant-loop-param l = map item_tree l.items.items ≡ map (λ m. tree.parameter_item (parameter_tree m)) l.yielded
+invariant-loop-param l =
+    map item_tree l.items.items ≡ map (λ m. tree.parameter_item (parameter_tree m)) l.yielded

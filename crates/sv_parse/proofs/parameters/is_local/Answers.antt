@@ -7,8 +7,10 @@ use Rattle.sv_parse.proofs.parameters.is_local.Goals as goal
 
 pub returns-in-Some-clause-reads : goal.returns-in-Some-clause-reads
 returns-in-Some-clause-reads c =
-    λ bytes next. (word_taken items words.Parameter (typed_value ++ more_parameters ∷ items ∷ []) _ _ refl (c.in-Some.ensures.is bytes))
+    λ bytes next. (word_taken items words.Parameter (typed_value ++ more_parameters ∷ items ∷ []) _
+    _ refl (c.in-Some.ensures.is bytes))
 
 pub returns-in-Some-behind_word-clause-reads : goal.returns-in-Some-behind_word-clause-reads
 returns-in-Some-behind_word-clause-reads c =
-    λ bytes next. (word_taken items words.Localparam (typed_value ++ more_parameters ∷ items ∷ []) _ _ refl (c.in-Some-behind_word.ensures.is bytes))
+    λ bytes next. (word_taken items words.Localparam (typed_value ++ more_parameters ∷ items ∷ []) _
+    _ refl (c.in-Some-behind_word.ensures.is bytes))

@@ -10,7 +10,12 @@ returns-clause-is c = (
   (
     placed_tokens c.args.bytes.now c.in_ok-name.rest.now,
     c.in_ok-name.ensures.is,
-    (placed_tokens c.args.bytes.now c.in_ok-rest.rest.now, c.in_ok-rest.ensures.is c.args.bytes.now, c.in_ok-value.ensures.is),
+    (
+      placed_tokens c.args.bytes.now c.in_ok-rest.rest.now,
+      c.in_ok-rest.ensures.is
+          c.args.bytes.now,
+      c.in_ok-value.ensures.is,
+    ),
   ),
 )
 

@@ -19,35 +19,49 @@ returns-in-Some-clause-is c = (
 )
 
 pub returns-in-Some-behind-clause-is : goal.returns-in-Some-behind-clause-is
-returns-in-Some-behind-clause-is c =
-    (placed_tokens c.args.bytes.now c.args.tokens.now, refl, range_is _ _ _ _ (c.in-Some-behind.ensures.is c.args.bytes.now) c.in_ok-span-2.ensures.is)
+returns-in-Some-behind-clause-is c = (
+  placed_tokens c.args.bytes.now c.args.tokens.now,
+  refl,
+  range_is _ _ _ _
+      (c.in-Some-behind.ensures.is c.args.bytes.now) c.in_ok-span-2.ensures.is,
+)
 
 pub returns-in_err-rest-clause-halts : goal.returns-in_err-rest-clause-halts
 returns-in_err-rest-clause-halts c =
     passed _ _ _ c.from_residual.ensures.1
-    (stops_then _ _ _ _ _ (word_taken parameter_type words.Signed (punctuation signs.OpenBracket ∷ value_range) _ _ refl (c.in-Some.ensures.is c.args.bytes.now))
+    (stops_then _ _ _ _ _
+    (word_taken parameter_type words.Signed (punctuation signs.OpenBracket ∷ value_range) _ _
+    refl (c.in-Some.ensures.is c.args.bytes.now))
     (front_stop _ _ _ _ (c.in_err-rest.ensures.halts c.args.bytes.now)))
 
 pub returns-in_err-span-clause-halts : goal.returns-in_err-span-clause-halts
 returns-in_err-span-clause-halts c =
     passed _ _ _ c.from_residual-in_err-span.ensures.1
-    (stops_then _ _ _ _ _ (word_taken parameter_type words.Signed (punctuation signs.OpenBracket ∷ value_range) _ _ refl (c.in-Some.ensures.is c.args.bytes.now))
+    (stops_then _ _ _ _ _
+    (word_taken parameter_type words.Signed (punctuation signs.OpenBracket ∷ value_range) _ _
+    refl (c.in-Some.ensures.is c.args.bytes.now))
     (and_stop _ _ _ _ _ (c.in_ok-rest.ensures.reads c.args.bytes.now refl)
     (c.in_err-span.ensures.halts)))
 
 pub returns-in-Some-clause-reads : goal.returns-in-Some-clause-reads
 returns-in-Some-clause-reads c =
-    reads_then _ _ _ _ _ _ (word_taken parameter_type words.Signed (punctuation signs.OpenBracket ∷ value_range) _ _ refl (c.in-Some.ensures.is c.args.bytes.now))
+    reads_then _ _ _ _ _ _
+    (word_taken parameter_type words.Signed (punctuation signs.OpenBracket ∷ value_range) _ _
+    refl (c.in-Some.ensures.is c.args.bytes.now))
     (and_read _ _ _ _ _ _ (c.in_ok-rest.ensures.reads c.args.bytes.now refl)
     (c.in_ok-span.ensures.reads))
 
 pub returns-in_err-span-2-clause-halts : goal.returns-in_err-span-2-clause-halts
 returns-in_err-span-2-clause-halts c =
     passed _ _ _ c.from_residual-in_err-span-2.ensures.1
-    (stops_then _ _ _ _ _ (sign_taken parameter_type signs.OpenBracket value_range _ _ refl (c.in-Some-behind.ensures.is c.args.bytes.now))
+    (stops_then _ _ _ _ _
+    (sign_taken parameter_type signs.OpenBracket value_range _ _ refl
+    (c.in-Some-behind.ensures.is c.args.bytes.now))
     (c.in_err-span-2.ensures.halts))
 
 pub returns-in-Some-behind-clause-reads : goal.returns-in-Some-behind-clause-reads
 returns-in-Some-behind-clause-reads c =
-    reads_then _ _ _ _ _ _ (sign_taken parameter_type signs.OpenBracket value_range _ _ refl (c.in-Some-behind.ensures.is c.args.bytes.now))
+    reads_then _ _ _ _ _ _
+    (sign_taken parameter_type signs.OpenBracket value_range _ _ refl
+    (c.in-Some-behind.ensures.is c.args.bytes.now))
     (c.in_ok-span-2.ensures.reads)

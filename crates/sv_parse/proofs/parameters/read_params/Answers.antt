@@ -9,16 +9,22 @@ use Rattle.sv_grammar.proofs.ReadLists.{ends_more_parameters}
 use Rattle.sv_parse.proofs.parameters.read_params.Goals as goal
 
 pub returns-clause-is : goal.returns-clause-is
-returns-clause-is c =
-    (map parameter_tree c.in_ok-params.params.items, c.in_ok-items.ensures, c.in_ok-params.ensures.is)
+returns-clause-is c = (
+  map parameter_tree c.in_ok-params.params.items,
+  c.in_ok-items.ensures,
+  c.in_ok-params.ensures.is,
+)
 
 pub returns-in_err-params-clause-halts : goal.returns-in_err-params-clause-halts
 returns-in_err-params-clause-halts c =
     λ next. passed _ _ _ c.from_residual.ensures.1
-    (c.in_err-params.ensures.halts (outer more_parameters ∷ outer items ∷ []) [] parameters_go_on refl next)
+    (c.in_err-params.ensures.halts (outer more_parameters ∷ outer items ∷ []) [] parameters_go_on
+    refl next)
 
 pub returns-clause-reads : goal.returns-clause-reads
 returns-clause-reads c =
     λ next. reads_then _ _ _ _ _ _
-    (c.in_ok-params.ensures.reads (outer more_parameters ∷ outer items ∷ []) [] parameters_go_on refl next)
-    (reads_before (outer more_parameters ∷ []) (outer (punctuation signs.Semicolon) ∷ []) (outer items ∷ []) _ _ (ends_more_parameters _ c.in_ok-params.ensures.ends))
+    (c.in_ok-params.ensures.reads (outer more_parameters ∷ outer items ∷ []) [] parameters_go_on
+    refl next)
+    (reads_before (outer more_parameters ∷ []) (outer (punctuation signs.Semicolon) ∷ [])
+    (outer items ∷ []) _ _ (ends_more_parameters _ c.in_ok-params.ensures.ends))

@@ -6,7 +6,10 @@ use Rattle.sv_parse.proofs.parser.parse.Goals as goal
 
 pub returns-in-Ok-clause-only : goal.returns-in-Ok-clause-only
 returns-in-Ok-clause-only c other means =
-    one_text (placed_tokens c.args.bytes.now c.args.tokens.now) other (text_tree c.in-Ok.text) means c.in-Ok.ensures.is
+    one_text (placed_tokens c.args.bytes.now c.args.tokens.now) other (text_tree c.in-Ok.text) means
+    c.in-Ok.ensures.is
 
 pub returns-in-Ok-clause-shaped : goal.returns-in-Ok-clause-shaped
-returns-in-Ok-clause-shaped c = text_is_shaped (placed_tokens c.args.bytes.now c.args.tokens.now) c.in-Ok.text c.in-Ok.ensures.is
+returns-in-Ok-clause-shaped c =
+    text_is_shaped (placed_tokens c.args.bytes.now c.args.tokens.now) c.in-Ok.text
+    c.in-Ok.ensures.is

@@ -8,5 +8,7 @@ use Rattle.sv_parse.proofs.reader.read_text.Goals as goal
 pub returns-clause-only : goal.returns-clause-only
 returns-clause-only c other means =
     let bytes = c.args.bytes.now in
-    let are = subst (λ ts. AreTokensOf bytes (placed_tokens bytes ts)) (sym c.deref.ensures.value) c.in_ok-tokens.ensures.tokens in
-    c.in_ok-text.ensures.only other (subst (λ ts. TokensMean ts other) (tokens_are_one means.1 are) means.2)
+    let are = subst (λ ts. AreTokensOf bytes (placed_tokens bytes ts)) (sym c.deref.ensures.value)
+    c.in_ok-tokens.ensures.tokens in
+    c.in_ok-text.ensures.only other
+    (subst (λ ts. TokensMean ts other) (tokens_are_one means.1 are) means.2)

@@ -14,7 +14,12 @@ returns-clause-is c =
         (
           placed_tokens bytes c.in_ok-first.rest.now,
           (c.in_ok-first._place, c.in_ok-first.ensures.is bytes),
-          (placed_tokens bytes c.in_ok-rest-2.rest.now, c.in_ok-rest-2.ensures.is bytes, (c.in_ok-last._at, c.in_ok-last.ensures.is bytes)),
+          (
+            placed_tokens bytes c.in_ok-rest-2.rest.now,
+            c.in_ok-rest-2.ensures.is
+                bytes,
+            (c.in_ok-last._at, c.in_ok-last.ensures.is bytes),
+          ),
         ),
         c.in_ok-rest-3.ensures.is bytes,
       ),

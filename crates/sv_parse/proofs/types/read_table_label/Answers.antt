@@ -13,7 +13,12 @@ returns-clause-is c = (
     (
       placed_tokens c.args.bytes.now c.in_ok-second.rest.now,
       c.in_ok-second.ensures.is,
-      (placed_tokens c.args.bytes.now c.in_ok-rest.rest.now, c.in_ok-rest.ensures.is c.args.bytes.now, c.in_ok-rest-2.ensures.is c.args.bytes.now),
+      (
+        placed_tokens c.args.bytes.now c.in_ok-rest.rest.now,
+        c.in_ok-rest.ensures.is
+            c.args.bytes.now,
+        c.in_ok-rest-2.ensures.is c.args.bytes.now,
+      ),
     ),
   ),
 )

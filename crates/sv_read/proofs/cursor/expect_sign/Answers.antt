@@ -5,8 +5,10 @@ use Rattle.sv_read.specs.declared.stop.Expected.TheVariants as expected
 use Rattle.sv_read.proofs.cursor.expect_sign.Goals as goal
 
 pub returns-in-Some-clause-reads : goal.returns-in-Some-clause-reads
-returns-in-Some-clause-reads c = λ bytes kind. punctuation_read _ _ _ kind (c.in-Some.ensures.is bytes)
+returns-in-Some-clause-reads c =
+    λ bytes kind. punctuation_read _ _ _ kind (c.in-Some.ensures.is bytes)
 
 pub returns-in-None-clause-halts : goal.returns-in-None-clause-halts
 returns-in-None-clause-halts c =
-    λ bytes. stops_here bytes c.args.tokens.now _ (Stuck expected.Something) c.unexpected.result (halts_punctuation _ _ (c.in-None.ensures.none bytes)) c.unexpected.ensures
+    λ bytes. stops_here bytes c.args.tokens.now _ (Stuck expected.Something) c.unexpected.result
+    (halts_punctuation _ _ (c.in-None.ensures.none bytes)) c.unexpected.ensures

@@ -44,10 +44,14 @@ decreases-read_chain-loop-op l = length l.rest
 
 abbrev pub invariant-read_chain-loop-op : goal.invariant-read_chain-loop-op
 invariant-read_chain-loop-op l = record {
-  is : IsChain l.room.levels l.level (expression_tree l.left) (placed_tokens l.bytes l.tokens) (placed_tokens l.bytes l.rest);
+  is : IsChain l.room.levels l.level (expression_tree l.left) (placed_tokens l.bytes l.tokens)
+      (placed_tokens l.bytes l.rest);
   shorter : length l.rest < length l.tokens;
   counted : l.room.beyond ≤ length l.rest;
-  reads : (start : ℕ) → l.room.beyond ≡ start - 1024 → Reads (inner start (operand l.room.levels) ∷ inner start (tail l.room.levels) ∷ []) (inner start (tail l.room.levels) ∷ []) (placed_tokens l.bytes l.tokens) (placed_tokens l.bytes l.rest);
+  reads : (start : ℕ) → l.room.beyond ≡ start - 1024 →
+      Reads (inner start (operand l.room.levels) ∷ inner start (tail l.room.levels) ∷ [])
+      (inner start (tail l.room.levels) ∷ []) (placed_tokens l.bytes l.tokens)
+      (placed_tokens l.bytes l.rest);
   looser : NextIsLooser (l.level - 1) (placed_tokens l.bytes l.rest);
 }
 
@@ -56,7 +60,10 @@ decreases-read_later_parts-loop-after l = length l.rest
 
 abbrev pub invariant-read_later_parts-loop-after : goal.invariant-read_later_parts-loop-after
 invariant-read_later_parts-loop-after l = record {
-  are : AreOpenParts l.room.levels (expression_tree l.fn.first) (expression_trees l.parts.items) (placed_tokens l.bytes l.tokens) (placed_tokens l.bytes l.rest);
+  are : AreOpenParts l.room.levels (expression_tree l.fn.first) (expression_trees l.parts.items)
+      (placed_tokens l.bytes l.tokens) (placed_tokens l.bytes l.rest);
   shorter : length l.rest ≤ length l.tokens;
-  reads : (start : ℕ) → l.room.beyond ≡ start - 1024 → Reads (inner start (members l.room.levels) ∷ []) (inner start (members l.room.levels) ∷ []) (placed_tokens l.bytes l.tokens) (placed_tokens l.bytes l.rest);
+  reads : (start : ℕ) → l.room.beyond ≡ start - 1024 →
+      Reads (inner start (members l.room.levels) ∷ []) (inner start (members l.room.levels) ∷ [])
+      (placed_tokens l.bytes l.tokens) (placed_tokens l.bytes l.rest);
 }

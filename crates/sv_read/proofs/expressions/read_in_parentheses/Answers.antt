@@ -8,13 +8,23 @@ use Rattle.sv_read.proofs.ReadingRuns.{then_read}
 use Rattle.sv_read.proofs.expressions.read_in_parentheses.Goals as goal
 
 pub returns-clause-is : goal.returns-clause-is
-returns-clause-is c =
-    ((placed_tokens c.args.bytes.now c.in_ok-rest.rest.now), c.in_ok-rest.ensures.is c.args.bytes.now, ((placed_tokens c.args.bytes.now c.in_ok-expr.rest.now), c.in_ok-expr.ensures.is, c.in_ok-rest-2.ensures.is c.args.bytes.now))
+returns-clause-is c = (
+  (placed_tokens c.args.bytes.now c.in_ok-rest.rest.now),
+  c.in_ok-rest.ensures.is
+      c.args.bytes.now,
+  (
+    (placed_tokens c.args.bytes.now c.in_ok-expr.rest.now),
+    c.in_ok-expr.ensures.is,
+    c.in_ok-rest-2.ensures.is c.args.bytes.now,
+  ),
+)
 
 pub returns-in_err-rest-clause-halts : goal.returns-in_err-rest-clause-halts
 returns-in_err-rest-clause-halts c =
     passed _ _ _ c.from_residual.ensures.1
-    (stops_before (outer (punctuation signs.OpenParenthesis) ∷ []) (outer (expression c.args.levels) ∷ outer (punctuation signs.CloseParenthesis) ∷ []) _ _ (c.in_err-rest.ensures.halts c.args.bytes.now))
+    (stops_before (outer (punctuation signs.OpenParenthesis) ∷ [])
+    (outer (expression c.args.levels) ∷ outer (punctuation signs.CloseParenthesis) ∷ []) _ _
+    (c.in_err-rest.ensures.halts c.args.bytes.now))
 
 pub returns-in_err-rest-2-clause-halts : goal.returns-in_err-rest-2-clause-halts
 returns-in_err-rest-2-clause-halts c =
@@ -24,6 +34,7 @@ returns-in_err-rest-2-clause-halts c =
     passed _ _ _ c.from_residual-in_err-rest-2.ensures.1
     (stops_then _ close_last _ _ _
     (then_read _ expr close_last _ _ _
-    (reads_before open_first [] (outer (expression c.args.levels) ∷ close_last) _ _ (c.in_ok-rest.ensures.reads c.args.bytes.now refl))
+    (reads_before open_first [] (outer (expression c.args.levels) ∷ close_last) _ _
+    (c.in_ok-rest.ensures.reads c.args.bytes.now refl))
     c.in_ok-expr.ensures.reads)
     (c.in_err-rest-2.ensures.halts c.args.bytes.now))

@@ -5,4 +5,6 @@ use Rattle.sv_read.specs.Expectations.{part_of}
 use Rattle.sv_read.proofs.forms.last_part.Given as goal
 
 abbrev pub invariant-loop-token : goal.invariant-loop-token
-invariant-loop-token l = (bytes : List ℕ) → part_of l.part ≡ grammar.last_part (placed_tokens bytes (take l.token-index l.tokens))
+invariant-loop-token l =
+    (bytes : List ℕ) → part_of l.part ≡
+    grammar.last_part (placed_tokens bytes (take l.token-index l.tokens))

@@ -6,4 +6,5 @@ use Rattle.sv_read.proofs.forms.name_word.Goals as goal
 pub returns-else-is_refused : goal.returns-else-is_refused
 returns-else-is_refused c =
     c.name_form.ensures c.args.text.now
-    ∙ ap (λ b. name_word b c.args.text.now (expected_of c.args.expected)) (sym c.if-is_refused.false ∙ c.is_refused.ensures)
+    ∙ ap (λ b. name_word b c.args.text.now (expected_of c.args.expected)) (sym c.if-is_refused.false
+    ∙ c.is_refused.ensures)

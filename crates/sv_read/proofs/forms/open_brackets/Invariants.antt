@@ -7,5 +7,6 @@ abbrev pub invariant-loop-token : goal.invariant-loop-token
 invariant-loop-token l =
     record {
       within : l.count ≤ l.token-index;
-      is : (bytes : List ℕ) → l.count ≡ grammar.open_brackets (placed_tokens bytes (take l.token-index l.tokens));
+      is : (bytes : List ℕ) →
+          l.count ≡ grammar.open_brackets (placed_tokens bytes (take l.token-index l.tokens));
     }

@@ -10,7 +10,10 @@ decreases-loop-after g l = length l.rest
 
 abbrev pub invariant-loop-after : goal.invariant-loop-after
 invariant-loop-after g l = record {
-  are : AreOpen g.M.Listed.Tree (g.M.Listed.Later l.levels) (g.M.Listed.tree l.fn.first) (map g.M.Listed.tree l.items.items) (g.M.Listed.tree l.before) (placed_tokens l.bytes l.tokens) (placed_tokens l.bytes l.rest);
+  are : AreOpen g.M.Listed.Tree (g.M.Listed.Later l.levels) (g.M.Listed.tree l.fn.first)
+      (map g.M.Listed.tree l.items.items) (g.M.Listed.tree l.before)
+      (placed_tokens l.bytes l.tokens) (placed_tokens l.bytes l.rest);
   shorter : length l.rest ≤ length l.tokens;
-  reads : (more : State) → GoesOn more (g.M.Listed.next l.levels) → Reads more more (placed_tokens l.bytes l.tokens) (placed_tokens l.bytes l.rest);
+  reads : (more : State) → GoesOn more (g.M.Listed.next l.levels) →
+      Reads more more (placed_tokens l.bytes l.tokens) (placed_tokens l.bytes l.rest);
 }

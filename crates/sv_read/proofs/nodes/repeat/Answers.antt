@@ -7,5 +7,7 @@ use Rattle.sv_read.proofs.nodes.repeat.Goals as goal
 
 pub returns : goal.returns
 returns c =
-    ap (λ e. tree.replication c.args.place (expression_tree e) (row_parts (hidden-the_row-Expr-0 c.args.parts))) c.in_ok-new.ensures.ok
-    ∙ ap (tree.replication c.args.place (expression_tree c.args.count)) (row_parts-hidden c.args.parts)
+    ap (λ e. tree.replication c.args.place (expression_tree e)
+    (row_parts (hidden-the_row-Expr-0 c.args.parts))) c.in_ok-new.ensures.ok
+    ∙ ap (tree.replication c.args.place (expression_tree c.args.count))
+    (row_parts-hidden c.args.parts)

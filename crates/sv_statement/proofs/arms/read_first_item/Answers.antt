@@ -9,15 +9,21 @@ use Rattle.sv_statement.proofs.arms.read_first_item.Goals as goal
 pub returns-in_err-item-clause-halts : goal.returns-in_err-item-clause-halts
 returns-in_err-item-clause-halts c = λ default comes none.
     passed _ _ _ c.from_residual.ensures.1
-    (then_stop _ (outer (expression c.args.levels) ∷ []) (behind_items c.args.levels c.args.before default) _ _ _
-    (arm_begins c.args.levels c.args.before default _ (omega (arith, c.if-before-lt-MOST_ARMS.true)) comes none) c.in_err-item.ensures.halts)
+    (then_stop _ (outer (expression c.args.levels) ∷ [])
+    (behind_items c.args.levels c.args.before default) _ _ _
+    (arm_begins c.args.levels c.args.before default _ (omega (arith, c.if-before-lt-MOST_ARMS.true))
+    comes none) c.in_err-item.ensures.halts)
 
-pub returns-then-before-lt-MOST_ARMS-clause-reads : goal.returns-then-before-lt-MOST_ARMS-clause-reads
+pub returns-then-before-lt-MOST_ARMS-clause-reads :
+    goal.returns-then-before-lt-MOST_ARMS-clause-reads
 returns-then-before-lt-MOST_ARMS-clause-reads c = λ default comes none.
-    then_read _ (outer (expression c.args.levels) ∷ []) (behind_items c.args.levels c.args.before default) _ _ _
-    (arm_begins c.args.levels c.args.before default _ (omega (arith, c.if-before-lt-MOST_ARMS.true)) comes none) c.in_ok-item.ensures.reads
+    then_read _ (outer (expression c.args.levels) ∷ [])
+    (behind_items c.args.levels c.args.before default) _ _ _
+    (arm_begins c.args.levels c.args.before default _ (omega (arith, c.if-before-lt-MOST_ARMS.true))
+    comes none) c.in_ok-item.ensures.reads
 
 pub returns-in_err-item-2-clause-halts : goal.returns-in_err-item-2-clause-halts
 returns-in_err-item-2-clause-halts c = λ default comes none.
     passed _ _ _ c.from_residual-in_err-item-2.ensures.1
-    (arm_stops c.args.bytes.now c.args.tokens.now c.args.levels c.args.before default _ c.if-before-lt-MOST_ARMS.false comes none c.in_err-item-2.ensures.halts)
+    (arm_stops c.args.bytes.now c.args.tokens.now c.args.levels c.args.before default _
+    c.if-before-lt-MOST_ARMS.false comes none c.in_err-item-2.ensures.halts)

@@ -13,8 +13,14 @@ use Rattle.sv_statement.proofs.ArmRuns.{items_closing}
 use Rattle.sv_statement.proofs.arms.read_items.Goals as goal
 
 pub returns-clause-is : goal.returns-clause-is
-returns-clause-is c =
-    (placed_tokens c.args.bytes.now c.in_ok-items.rest.now, list_is _ (IsExpression all_limits c.args.levels) (λ before. IsExpression all_limits c.args.levels) _ _ _ _ _ c.in_ok-first.ensures.is c.in_ok-items.ensures.is, c.in_ok-rest.ensures.is c.args.bytes.now)
+returns-clause-is c = (
+  placed_tokens c.args.bytes.now c.in_ok-items.rest.now,
+  list_is _
+      (IsExpression all_limits c.args.levels) (λ before.
+      IsExpression all_limits c.args.levels) _ _ _ _ _ c.in_ok-first.ensures.is
+      c.in_ok-items.ensures.is,
+  c.in_ok-rest.ensures.is c.args.bytes.now,
+)
 
 -- ---- the machine of the grammar
 
@@ -27,7 +33,8 @@ returns-in_err-items-clause-halts c = λ default comes none.
     let n = c.args.levels in
     passed _ _ _ c.from_residual-in_err-items.ensures.1
     (then_stop _ (outer (more_choices n) ∷ []) (behind_arm n c.args.before default) _ _ _
-    (c.in_ok-first.ensures.reads default comes none) (c.in_err-items.ensures.halts (outer (more_choices n) ∷ []) (choices_go_on n)))
+    (c.in_ok-first.ensures.reads default comes none)
+    (c.in_err-items.ensures.halts (outer (more_choices n) ∷ []) (choices_go_on n)))
 
 pub returns-in_err-rest-clause-halts : goal.returns-in_err-rest-clause-halts
 returns-in_err-rest-clause-halts c = λ default comes none.
@@ -35,7 +42,8 @@ returns-in_err-rest-clause-halts c = λ default comes none.
     passed _ _ _ c.from_residual-in_err-rest.ensures.1
     (then_stop _ (outer (punctuation signs.Colon) ∷ []) (behind_arm n c.args.before default) _ _ _
     (items_closing n c.args.before default _ _ _ (c.in_ok-first.ensures.reads default comes none)
-    (c.in_ok-items.ensures.reads (outer (more_choices n) ∷ []) (choices_go_on n)) c.in_ok-items.ensures.ends)
+    (c.in_ok-items.ensures.reads (outer (more_choices n) ∷ []) (choices_go_on n))
+    c.in_ok-items.ensures.ends)
     (c.in_err-rest.ensures.halts c.args.bytes.now))
 
 pub returns-clause-reads : goal.returns-clause-reads
@@ -43,5 +51,6 @@ returns-clause-reads c = λ default comes none.
     let n = c.args.levels in
     then_read _ (outer (punctuation signs.Colon) ∷ []) (behind_arm n c.args.before default) _ _ _
     (items_closing n c.args.before default _ _ _ (c.in_ok-first.ensures.reads default comes none)
-    (c.in_ok-items.ensures.reads (outer (more_choices n) ∷ []) (choices_go_on n)) c.in_ok-items.ensures.ends)
+    (c.in_ok-items.ensures.reads (outer (more_choices n) ∷ []) (choices_go_on n))
+    c.in_ok-items.ensures.ends)
     (c.in_ok-rest.ensures.reads c.args.bytes.now refl)

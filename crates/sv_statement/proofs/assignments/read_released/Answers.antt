@@ -18,7 +18,12 @@ returns-clause-is c = (
       (
         placed_tokens c.args.bytes.now c.in_ok-value.rest.now,
         c.in_ok-value.ensures.is,
-        (placed_tokens c.args.bytes.now c.in_ok-rest-2.rest.now, c.in_ok-rest-2.ensures.is c.args.bytes.now, c.in_ok-point.ensures.is),
+        (
+          placed_tokens c.args.bytes.now c.in_ok-rest-2.rest.now,
+          c.in_ok-rest-2.ensures.is
+              c.args.bytes.now,
+          c.in_ok-point.ensures.is,
+        ),
       ),
       c.in_ok-rest-3.ensures.is c.args.bytes.now,
     ),
@@ -30,25 +35,31 @@ returns-clause-is c = (
 pub returns-in_err-rest-clause-halts : goal.returns-in_err-rest-clause-halts
 returns-in_err-rest-clause-halts c =
     passed _ _ _ c.from_residual.ensures.1
-    (stops_before (outer (punctuation signs.OpenParenthesis) ∷ []) (outer (expression 0) ∷ outer (punctuation signs.Comma) ∷ behind_value) _ _
+    (stops_before (outer (punctuation signs.OpenParenthesis) ∷ [])
+    (outer (expression 0) ∷ outer (punctuation signs.Comma) ∷ behind_value) _ _
     (c.in_err-rest.ensures.halts c.args.bytes.now))
 
 pub returns-in_err-rest-2-clause-halts : goal.returns-in_err-rest-2-clause-halts
 returns-in_err-rest-2-clause-halts c =
     passed _ _ _ c.from_residual-in_err-rest-2.ensures.1
     (then_stop _ (outer (punctuation signs.Comma) ∷ []) behind_value _ _ _
-    (release_value _ _ _ (c.in_ok-rest.ensures.reads c.args.bytes.now refl) c.in_ok-value.ensures.reads)
+    (release_value _ _ _ (c.in_ok-rest.ensures.reads c.args.bytes.now refl)
+    c.in_ok-value.ensures.reads)
     (c.in_err-rest-2.ensures.halts c.args.bytes.now))
 
 pub returns-in_err-rest-3-clause-halts : goal.returns-in_err-rest-3-clause-halts
 returns-in_err-rest-3-clause-halts c =
     passed _ _ _ c.from_residual-in_err-rest-3.ensures.1
     (then_stop _ (outer (punctuation signs.CloseParenthesis) ∷ []) [] _ _ _
-    (release_point _ _ _ _ _ (c.in_ok-rest.ensures.reads c.args.bytes.now refl) c.in_ok-value.ensures.reads (c.in_ok-rest-2.ensures.reads c.args.bytes.now refl) c.in_ok-point.ensures.reads)
+    (release_point _ _ _ _ _ (c.in_ok-rest.ensures.reads c.args.bytes.now refl)
+    c.in_ok-value.ensures.reads (c.in_ok-rest-2.ensures.reads c.args.bytes.now refl)
+    c.in_ok-point.ensures.reads)
     (c.in_err-rest-3.ensures.halts c.args.bytes.now))
 
 pub returns-clause-reads : goal.returns-clause-reads
 returns-clause-reads c =
     then_read _ (outer (punctuation signs.CloseParenthesis) ∷ []) [] _ _ _
-    (release_point _ _ _ _ _ (c.in_ok-rest.ensures.reads c.args.bytes.now refl) c.in_ok-value.ensures.reads (c.in_ok-rest-2.ensures.reads c.args.bytes.now refl) c.in_ok-point.ensures.reads)
+    (release_point _ _ _ _ _ (c.in_ok-rest.ensures.reads c.args.bytes.now refl)
+    c.in_ok-value.ensures.reads (c.in_ok-rest-2.ensures.reads c.args.bytes.now refl)
+    c.in_ok-point.ensures.reads)
     (c.in_ok-rest-3.ensures.reads c.args.bytes.now refl)

@@ -34,9 +34,11 @@ decreases-read_statements-loop-after l = length l.rest
 
 abbrev pub invariant-read_statements-loop-after : goal.invariant-read_statements-loop-after
 invariant-read_statements-loop-after l = record {
-  are : AreOpenStatements l.levels (statement_trees l.stmts.items) (placed_tokens l.bytes l.tokens) (placed_tokens l.bytes l.rest);
+  are : AreOpenStatements l.levels (statement_trees l.stmts.items) (placed_tokens l.bytes l.tokens)
+      (placed_tokens l.bytes l.rest);
   shorter : length l.rest ≤ length l.tokens;
-  reads : Reads (outer (statements l.levels) ∷ []) (outer (statements l.levels) ∷ []) (placed_tokens l.bytes l.tokens) (placed_tokens l.bytes l.rest);
+  reads : Reads (outer (statements l.levels) ∷ []) (outer (statements l.levels) ∷ [])
+      (placed_tokens l.bytes l.tokens) (placed_tokens l.bytes l.rest);
 }
 
 abbrev pub decreases-read_arms-loop-after : goal.decreases-read_arms-loop-after
@@ -44,7 +46,10 @@ decreases-read_arms-loop-after l = length l.rest
 
 abbrev pub invariant-read_arms-loop-after : goal.invariant-read_arms-loop-after
 invariant-read_arms-loop-after l = record {
-  are : AreOpenArms l.levels (arm_trees l.arms.items) l.has_default (placed_tokens l.bytes l.tokens) (placed_tokens l.bytes l.rest);
+  are : AreOpenArms l.levels (arm_trees l.arms.items) l.has_default (placed_tokens l.bytes l.tokens)
+      (placed_tokens l.bytes l.rest);
   shorter : length l.rest ≤ length l.tokens;
-  reads : Reads (outer (arms l.levels 0 false) ∷ []) (outer (arms l.levels (length l.arms.items) l.has_default) ∷ []) (placed_tokens l.bytes l.tokens) (placed_tokens l.bytes l.rest);
+  reads : Reads (outer (arms l.levels 0 false) ∷ [])
+      (outer (arms l.levels (length l.arms.items) l.has_default) ∷ [])
+      (placed_tokens l.bytes l.tokens) (placed_tokens l.bytes l.rest);
 }

@@ -9,12 +9,15 @@ use Rattle.sv_statement.proofs.SymbolsAlike.{less_equal_assigns}
 use Rattle.sv_statement.proofs.statements.assigns.Goals as goal
 
 pub returns-in-Some-clause-reads : goal.returns-in-Some-clause-reads
-returns-in-Some-clause-reads c = λ bytes. sign_taken assigns signs.Equals [] _ _ refl (c.in-Some.ensures.is bytes)
+returns-in-Some-clause-reads c =
+    λ bytes. sign_taken assigns signs.Equals [] _ _ refl (c.in-Some.ensures.is bytes)
 
 pub returns-in-Some-operator_at-clause-reads : goal.returns-in-Some-operator_at-clause-reads
-returns-in-Some-operator_at-clause-reads c = λ bytes. less_equal_assigns _ _ (c.in-Some-operator_at.ensures.is bytes)
+returns-in-Some-operator_at-clause-reads c =
+    λ bytes. less_equal_assigns _ _ (c.in-Some-operator_at.ensures.is bytes)
 
 pub returns-in-None-clause-halts : goal.returns-in-None-clause-halts
 returns-in-None-clause-halts c = λ bytes.
     stops_here bytes c.args.tokens.now _ (Stuck expected.Something) c.unexpected.result
-    (halts_assigns _ (c.in_default.ensures.none bytes) (c.in-None.ensures.none bytes)) c.unexpected.ensures
+    (halts_assigns _ (c.in_default.ensures.none bytes) (c.in-None.ensures.none bytes))
+    c.unexpected.ensures

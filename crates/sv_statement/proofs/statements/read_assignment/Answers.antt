@@ -8,7 +8,8 @@ use Rattle.sv_statement.proofs.statements.read_assignment.Goals as goal
 pub returns-in_err-blocking-clause-halts : goal.returns-in_err-blocking-clause-halts
 returns-in_err-blocking-clause-halts c = λ comes.
     passed _ _ _ c.from_residual-in_err-blocking.ensures.1
-    (then_stop _ (outer assigns ∷ []) (outer (expression c.args.levels) ∷ outer (punctuation signs.Semicolon) ∷ []) _ _ _
+    (then_stop _ (outer assigns ∷ [])
+    (outer (expression c.args.levels) ∷ outer (punctuation signs.Semicolon) ∷ []) _ _ _
     (c.in_ok-targets.ensures.reads comes) (c.in_err-blocking.ensures.halts c.args.bytes.now))
 
 pub returns-in_err-value-clause-halts : goal.returns-in_err-value-clause-halts
@@ -16,7 +17,8 @@ returns-in_err-value-clause-halts c = λ comes.
     let n = c.args.levels in
     passed _ _ _ c.from_residual-in_err-value.ensures.1
     (then_stop _ (outer (expression n) ∷ []) (outer (punctuation signs.Semicolon) ∷ []) _ _ _
-    (then_read _ (outer assigns ∷ []) (outer (expression n) ∷ outer (punctuation signs.Semicolon) ∷ []) _ _ _
+    (then_read _ (outer assigns ∷ [])
+    (outer (expression n) ∷ outer (punctuation signs.Semicolon) ∷ []) _ _ _
     (c.in_ok-targets.ensures.reads comes) (c.in_ok-blocking.ensures.reads c.args.bytes.now))
     c.in_err-value.ensures.halts)
 
@@ -26,7 +28,8 @@ returns-in_err-rest-clause-halts c = λ comes.
     passed _ _ _ c.from_residual-in_err-rest.ensures.1
     (then_stop _ (outer (punctuation signs.Semicolon) ∷ []) [] _ _ _
     (then_read _ (outer (expression n) ∷ []) (outer (punctuation signs.Semicolon) ∷ []) _ _ _
-    (then_read _ (outer assigns ∷ []) (outer (expression n) ∷ outer (punctuation signs.Semicolon) ∷ []) _ _ _
+    (then_read _ (outer assigns ∷ [])
+    (outer (expression n) ∷ outer (punctuation signs.Semicolon) ∷ []) _ _ _
     (c.in_ok-targets.ensures.reads comes) (c.in_ok-blocking.ensures.reads c.args.bytes.now))
     c.in_ok-value.ensures.reads)
     (c.in_err-rest.ensures.halts c.args.bytes.now))
@@ -36,7 +39,8 @@ returns-clause-reads c = λ comes.
     let n = c.args.levels in
     then_read _ (outer (punctuation signs.Semicolon) ∷ []) [] _ _ _
     (then_read _ (outer (expression n) ∷ []) (outer (punctuation signs.Semicolon) ∷ []) _ _ _
-    (then_read _ (outer assigns ∷ []) (outer (expression n) ∷ outer (punctuation signs.Semicolon) ∷ []) _ _ _
+    (then_read _ (outer assigns ∷ [])
+    (outer (expression n) ∷ outer (punctuation signs.Semicolon) ∷ []) _ _ _
     (c.in_ok-targets.ensures.reads comes) (c.in_ok-blocking.ensures.reads c.args.bytes.now))
     c.in_ok-value.ensures.reads)
     (c.in_ok-rest.ensures.reads c.args.bytes.now refl)

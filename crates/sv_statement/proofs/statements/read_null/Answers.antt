@@ -8,7 +8,9 @@ use Rattle.sv_statement.proofs.statements.read_null.Goals as goal
 
 pub returns-in_err-rest-clause-halts : goal.returns-in_err-rest-clause-halts
 returns-in_err-rest-clause-halts c = λ bytes n comes.
-    passed _ _ _ c.from_residual.ensures.1 (sign_is_there _ signs.Semicolon _ _ _ _ comes (c.in_err-rest.ensures.stops bytes))
+    passed _ _ _ c.from_residual.ensures.1
+    (sign_is_there _ signs.Semicolon _ _ _ _ comes (c.in_err-rest.ensures.stops bytes))
 
 pub returns-clause-reads : goal.returns-clause-reads
-returns-clause-reads c = λ bytes n. sign_taken (statement n) signs.Semicolon [] _ _ refl (c.in_ok-rest.ensures.is bytes)
+returns-clause-reads c =
+    λ bytes n. sign_taken (statement n) signs.Semicolon [] _ _ refl (c.in_ok-rest.ensures.is bytes)

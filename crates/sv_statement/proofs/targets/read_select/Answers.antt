@@ -9,24 +9,51 @@ use Rattle.sv_statement.proofs.SymbolsAlike.{bits_begun, part_begun}
 use Rattle.sv_statement.proofs.targets.read_select.Goals as goal
 
 pub returns-in-Some-behind-clause-is : goal.returns-in-Some-behind-clause-is
-returns-in-Some-behind-clause-is c =
-    ((placed_tokens c.args.bytes.now c.in-Some.rest.now), c.in-Some.ensures.is c.args.bytes.now, ((placed_tokens c.args.bytes.now c.in_ok-first.rest.now), c.in_ok-first.ensures.is, c.in-Some-behind.ensures.is c.args.bytes.now))
+returns-in-Some-behind-clause-is c = (
+  (placed_tokens c.args.bytes.now c.in-Some.rest.now),
+  c.in-Some.ensures.is
+      c.args.bytes.now,
+  (
+    (placed_tokens c.args.bytes.now c.in_ok-first.rest.now),
+    c.in_ok-first.ensures.is,
+    c.in-Some-behind.ensures.is c.args.bytes.now,
+  ),
+)
 
 pub returns-clause-is : goal.returns-clause-is
-returns-clause-is c =
-    ((placed_tokens c.args.bytes.now c.in-Some.rest.now), c.in-Some.ensures.is c.args.bytes.now, ((placed_tokens c.args.bytes.now c.in_ok-low.rest.now), ((placed_tokens c.args.bytes.now c.in_ok-first.rest.now), c.in_ok-first.ensures.is, ((placed_tokens c.args.bytes.now c.in_ok-rest.rest.now), c.in_ok-rest.ensures.is c.args.bytes.now, c.in_ok-low.ensures.is)), c.in_ok-rest-2.ensures.is c.args.bytes.now))
+returns-clause-is c = (
+  (placed_tokens c.args.bytes.now c.in-Some.rest.now),
+  c.in-Some.ensures.is
+      c.args.bytes.now,
+  (
+    (placed_tokens c.args.bytes.now c.in_ok-low.rest.now),
+    (
+      (placed_tokens c.args.bytes.now c.in_ok-first.rest.now),
+      c.in_ok-first.ensures.is,
+      (
+        (placed_tokens c.args.bytes.now c.in_ok-rest.rest.now),
+        c.in_ok-rest.ensures.is
+            c.args.bytes.now,
+        c.in_ok-low.ensures.is,
+      ),
+    ),
+    c.in_ok-rest-2.ensures.is c.args.bytes.now,
+  ),
+)
 
 -- ---- the machine of the grammar
 
 pub returns-in_default-clause-reads : goal.returns-in_default-clause-reads
-returns-in_default-clause-reads c = skips_perhaps_bits c.args.levels _ (c.in_default.ensures.none c.args.bytes.now)
+returns-in_default-clause-reads c =
+    skips_perhaps_bits c.args.levels _ (c.in_default.ensures.none c.args.bytes.now)
 
 pub returns-in_err-first-clause-halts : goal.returns-in_err-first-clause-halts
 returns-in_err-first-clause-halts c =
     let n = c.args.levels in
     passed _ _ _ c.from_residual.ensures.1
     (then_stop _ (outer (expression n) ∷ []) (outer (bits_end n) ∷ []) _ _ _
-    (sign_taken (perhaps_bits n) signs.OpenBracket (expression n ∷ bits_end n ∷ []) _ _ refl (c.in-Some.ensures.is c.args.bytes.now))
+    (sign_taken (perhaps_bits n) signs.OpenBracket (expression n ∷ bits_end n ∷ []) _ _ refl
+    (c.in-Some.ensures.is c.args.bytes.now))
     c.in_err-first.ensures.halts)
 
 pub returns-in-Some-behind-clause-reads : goal.returns-in-Some-behind-clause-reads
@@ -34,7 +61,8 @@ returns-in-Some-behind-clause-reads c =
     let n = c.args.levels in
     then_read _ (outer (bits_end n) ∷ []) [] _ _ _
     (bits_begun n _ _ _ (c.in-Some.ensures.is c.args.bytes.now) c.in_ok-first.ensures.reads)
-    (sign_taken (bits_end n) signs.CloseBracket [] _ _ refl (c.in-Some-behind.ensures.is c.args.bytes.now))
+    (sign_taken (bits_end n) signs.CloseBracket [] _ _ refl
+    (c.in-Some-behind.ensures.is c.args.bytes.now))
 
 pub returns-in_err-rest-clause-halts : goal.returns-in_err-rest-clause-halts
 returns-in_err-rest-clause-halts c =
@@ -42,14 +70,17 @@ returns-in_err-rest-clause-halts c =
     passed _ _ _ c.from_residual-in_err-rest.ensures.1
     (then_stop _ (outer (bits_end n) ∷ []) [] _ _ _
     (bits_begun n _ _ _ (c.in-Some.ensures.is c.args.bytes.now) c.in_ok-first.ensures.reads)
-    (stops_by c.args.bytes.now _ _ _ _ (λ no_colon. halts_bits_end n _ (c.in_default-behind.ensures.none c.args.bytes.now) no_colon) (c.in_err-rest.ensures.stops c.args.bytes.now)))
+    (stops_by c.args.bytes.now _ _ _ _ (λ no_colon.
+    halts_bits_end n _ (c.in_default-behind.ensures.none c.args.bytes.now) no_colon)
+    (c.in_err-rest.ensures.stops c.args.bytes.now)))
 
 pub returns-in_err-low-clause-halts : goal.returns-in_err-low-clause-halts
 returns-in_err-low-clause-halts c =
     let n = c.args.levels in
     passed _ _ _ c.from_residual-in_err-low.ensures.1
     (then_stop _ (outer (expression n) ∷ []) (outer (punctuation signs.CloseBracket) ∷ []) _ _ _
-    (part_begun n _ _ _ _ (c.in-Some.ensures.is c.args.bytes.now) c.in_ok-first.ensures.reads (c.in_ok-rest.ensures.is c.args.bytes.now))
+    (part_begun n _ _ _ _ (c.in-Some.ensures.is c.args.bytes.now) c.in_ok-first.ensures.reads
+    (c.in_ok-rest.ensures.is c.args.bytes.now))
     c.in_err-low.ensures.halts)
 
 pub returns-in_err-rest-2-clause-halts : goal.returns-in_err-rest-2-clause-halts
@@ -58,7 +89,8 @@ returns-in_err-rest-2-clause-halts c =
     passed _ _ _ c.from_residual-in_err-rest-2.ensures.1
     (then_stop _ (outer (punctuation signs.CloseBracket) ∷ []) [] _ _ _
     (then_read _ (outer (expression n) ∷ []) (outer (punctuation signs.CloseBracket) ∷ []) _ _ _
-    (part_begun n _ _ _ _ (c.in-Some.ensures.is c.args.bytes.now) c.in_ok-first.ensures.reads (c.in_ok-rest.ensures.is c.args.bytes.now))
+    (part_begun n _ _ _ _ (c.in-Some.ensures.is c.args.bytes.now) c.in_ok-first.ensures.reads
+    (c.in_ok-rest.ensures.is c.args.bytes.now))
     c.in_ok-low.ensures.reads)
     (c.in_err-rest-2.ensures.halts c.args.bytes.now))
 
@@ -67,6 +99,7 @@ returns-clause-reads c =
     let n = c.args.levels in
     then_read _ (outer (punctuation signs.CloseBracket) ∷ []) [] _ _ _
     (then_read _ (outer (expression n) ∷ []) (outer (punctuation signs.CloseBracket) ∷ []) _ _ _
-    (part_begun n _ _ _ _ (c.in-Some.ensures.is c.args.bytes.now) c.in_ok-first.ensures.reads (c.in_ok-rest.ensures.is c.args.bytes.now))
+    (part_begun n _ _ _ _ (c.in-Some.ensures.is c.args.bytes.now) c.in_ok-first.ensures.reads
+    (c.in_ok-rest.ensures.is c.args.bytes.now))
     c.in_ok-low.ensures.reads)
     (c.in_ok-rest-2.ensures.reads c.args.bytes.now refl)

@@ -2,7 +2,9 @@ use Rattle.std.proofs.Common.{sym, ap, ◌∙◌, get_or, arith}
 use Rattle.std.proofs.lemmas.List.{take_rest}
 use Rattle.sv_token.specs.Fronts.{gap}
 use Rattle.sv_token.specs.Gaps.{rest_of_line}
-use Rattle.sv_token.proofs.FrontLaws.{IsOther, blank_front, line_front, block_front, directive_front, escaped_front, text_front, system_front, unsized_front, other_front}
+use Rattle.sv_token.proofs.FrontLaws.{IsOther, blank_front, line_front, block_front}
+use Rattle.sv_token.proofs.FrontLaws.{directive_front, escaped_front, text_front, system_front}
+use Rattle.sv_token.proofs.FrontLaws.{unsized_front, other_front}
 use Rattle.sv_token.proofs.lexer.front_at.Goals as goal
 
 pub returns-then-is_blank : goal.returns-then-is_blank
@@ -13,7 +15,8 @@ pub returns-then-starts_with : goal.returns-then-starts_with
 returns-then-starts_with c =
     let clear = sym c.is_blank.ensures ∙ c.if-is_blank.false in
     let line = sym c.starts_with.ensures.value ∙ c.if-starts_with.true in
-    ap gap (c.rest_of_line.ensures ∙ ap rest_of_line (take_rest c.args.bytes.now 1)) ∙ sym (line_front c.args.bytes.now c.requires clear line)
+    ap gap (c.rest_of_line.ensures ∙ ap rest_of_line (take_rest c.args.bytes.now 1))
+    ∙ sym (line_front c.args.bytes.now c.requires clear line)
 
 pub returns-then-starts_with-2 : goal.returns-then-starts_with-2
 returns-then-starts_with-2 c =

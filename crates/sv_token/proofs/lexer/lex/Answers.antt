@@ -4,96 +4,189 @@ use Rattle.std.proofs.lemmas.List.Elements.{All-push}
 use Rattle.sv_token.specs.Lexemes.{lexeme_of, placed_tokens}
 use Rattle.sv_token.specs.Spans.{IsAtSpan}
 use Rattle.sv_token.specs.Views.{rule_number, rule_names}
-use Rattle.sv_token.proofs.LexLaws.{front_here, gap_fits, token_fits, token_here, read_gap, read_token, read_break, read_all, at_span, placed_push, order_push, order_later, in_order, fault_is}
+use Rattle.sv_token.proofs.LexLaws.{front_here, gap_fits, token_fits, token_here, read_gap}
+use Rattle.sv_token.proofs.LexLaws.{read_token, read_break, read_all, at_span, placed_push}
+use Rattle.sv_token.proofs.LexLaws.{order_push, order_later, in_order, fault_is}
 use Rattle.sv_token.proofs.lexer.lex.Goals as goal
 
 pub behind-here-requires-clause-within : goal.behind-here-requires-clause-within
 behind-here-requires-clause-within c =
-    let is = front_here c.args.bytes.now c.loop-here.here.position _ c.front_at.result (take_rest c.args.bytes.now c.loop-here.here.position) c.loop-here-test.true c.front_at.ensures in
+    let is = front_here c.args.bytes.now c.loop-here.here.position _ c.front_at.result
+    (take_rest c.args.bytes.now c.loop-here.here.position) c.loop-here-test.true
+    c.front_at.ensures in
     let gap_is = rw c.in-Gap.is at is in
-    let fits = gap_fits c.args.bytes.now c.loop-here.here.position c.in-Gap.more c.loop-here-test.true gap_is in
+    let fits = gap_fits c.args.bytes.now c.loop-here.here.position c.in-Gap.more
+    c.loop-here-test.true gap_is in
     omega (arith, fits)
 
 pub behind-next-requires-clause-within : goal.behind-next-requires-clause-within
 behind-next-requires-clause-within c =
-    let is = front_here c.args.bytes.now c.loop-here.here.position _ c.front_at.result (take_rest c.args.bytes.now c.loop-here.here.position) c.loop-here-test.true c.front_at.ensures in
+    let is = front_here c.args.bytes.now c.loop-here.here.position _ c.front_at.result
+    (take_rest c.args.bytes.now c.loop-here.here.position) c.loop-here-test.true
+    c.front_at.ensures in
     let found = rw c.in-Token.is at is in
-    let token_is = token_here c.args.bytes.now c.loop-here.here.position c.in-Token.kind c.in-Token.more found in
-    let fits = token_fits c.args.bytes.now c.loop-here.here.position (lexeme_of c.args.bytes.now c.in-Token.kind c.loop-here.here.position (c.loop-here.here.position + c.in-Token.more + 1)) c.in-Token.more c.loop-here-test.true token_is in
+    let token_is = token_here c.args.bytes.now c.loop-here.here.position c.in-Token.kind
+    c.in-Token.more found in
+    let fits = token_fits c.args.bytes.now c.loop-here.here.position
+    (lexeme_of c.args.bytes.now c.in-Token.kind c.loop-here.here.position
+    (c.loop-here.here.position + c.in-Token.more + 1)) c.in-Token.more c.loop-here-test.true
+    token_is in
     omega (arith, fits)
 
 pub behind-here-requires-clause-line : goal.behind-here-requires-clause-line
 behind-here-requires-clause-line c =
-    let is = front_here c.args.bytes.now c.loop-here.here.position _ c.front_at.result (take_rest c.args.bytes.now c.loop-here.here.position) c.loop-here-test.true c.front_at.ensures in
+    let is = front_here c.args.bytes.now c.loop-here.here.position _ c.front_at.result
+    (take_rest c.args.bytes.now c.loop-here.here.position) c.loop-here-test.true
+    c.front_at.ensures in
     let gap_is = rw c.in-Gap.is at is in
-    let fits = gap_fits c.args.bytes.now c.loop-here.here.position c.in-Gap.more c.loop-here-test.true gap_is in
+    let fits = gap_fits c.args.bytes.now c.loop-here.here.position c.in-Gap.more
+    c.loop-here-test.true gap_is in
     omega (arith, fits, c.loop-here.invariant.line)
 
 pub behind-next-requires-clause-line : goal.behind-next-requires-clause-line
 behind-next-requires-clause-line c =
-    let is = front_here c.args.bytes.now c.loop-here.here.position _ c.front_at.result (take_rest c.args.bytes.now c.loop-here.here.position) c.loop-here-test.true c.front_at.ensures in
+    let is = front_here c.args.bytes.now c.loop-here.here.position _ c.front_at.result
+    (take_rest c.args.bytes.now c.loop-here.here.position) c.loop-here-test.true
+    c.front_at.ensures in
     let found = rw c.in-Token.is at is in
-    let token_is = token_here c.args.bytes.now c.loop-here.here.position c.in-Token.kind c.in-Token.more found in
-    let fits = token_fits c.args.bytes.now c.loop-here.here.position (lexeme_of c.args.bytes.now c.in-Token.kind c.loop-here.here.position (c.loop-here.here.position + c.in-Token.more + 1)) c.in-Token.more c.loop-here-test.true token_is in
+    let token_is = token_here c.args.bytes.now c.loop-here.here.position c.in-Token.kind
+    c.in-Token.more found in
+    let fits = token_fits c.args.bytes.now c.loop-here.here.position
+    (lexeme_of c.args.bytes.now c.in-Token.kind c.loop-here.here.position
+    (c.loop-here.here.position + c.in-Token.more + 1)) c.in-Token.more c.loop-here-test.true
+    token_is in
     omega (arith, fits, c.loop-here.invariant.line)
 
 pub behind-here-requires-clause-column : goal.behind-here-requires-clause-column
 behind-here-requires-clause-column c =
-    let is = front_here c.args.bytes.now c.loop-here.here.position _ c.front_at.result (take_rest c.args.bytes.now c.loop-here.here.position) c.loop-here-test.true c.front_at.ensures in
+    let is = front_here c.args.bytes.now c.loop-here.here.position _ c.front_at.result
+    (take_rest c.args.bytes.now c.loop-here.here.position) c.loop-here-test.true
+    c.front_at.ensures in
     let gap_is = rw c.in-Gap.is at is in
-    let fits = gap_fits c.args.bytes.now c.loop-here.here.position c.in-Gap.more c.loop-here-test.true gap_is in
+    let fits = gap_fits c.args.bytes.now c.loop-here.here.position c.in-Gap.more
+    c.loop-here-test.true gap_is in
     omega (arith, fits, c.loop-here.invariant.column)
 
 pub behind-next-requires-clause-column : goal.behind-next-requires-clause-column
 behind-next-requires-clause-column c =
-    let is = front_here c.args.bytes.now c.loop-here.here.position _ c.front_at.result (take_rest c.args.bytes.now c.loop-here.here.position) c.loop-here-test.true c.front_at.ensures in
+    let is = front_here c.args.bytes.now c.loop-here.here.position _ c.front_at.result
+    (take_rest c.args.bytes.now c.loop-here.here.position) c.loop-here-test.true
+    c.front_at.ensures in
     let found = rw c.in-Token.is at is in
-    let token_is = token_here c.args.bytes.now c.loop-here.here.position c.in-Token.kind c.in-Token.more found in
-    let fits = token_fits c.args.bytes.now c.loop-here.here.position (lexeme_of c.args.bytes.now c.in-Token.kind c.loop-here.here.position (c.loop-here.here.position + c.in-Token.more + 1)) c.in-Token.more c.loop-here-test.true token_is in
+    let token_is = token_here c.args.bytes.now c.loop-here.here.position c.in-Token.kind
+    c.in-Token.more found in
+    let fits = token_fits c.args.bytes.now c.loop-here.here.position
+    (lexeme_of c.args.bytes.now c.in-Token.kind c.loop-here.here.position
+    (c.loop-here.here.position + c.in-Token.more + 1)) c.in-Token.more c.loop-here-test.true
+    token_is in
     omega (arith, fits, c.loop-here.invariant.column)
 
 pub loop-here-preserved-in-Gap : goal.loop-here-preserved-in-Gap
 loop-here-preserved-in-Gap c =
-    let is = front_here c.args.bytes.now c.loop-here.here.position _ c.front_at.result (take_rest c.args.bytes.now c.loop-here.here.position) c.loop-here-test.true c.front_at.ensures in
+    let is = front_here c.args.bytes.now c.loop-here.here.position _ c.front_at.result
+    (take_rest c.args.bytes.now c.loop-here.here.position) c.loop-here-test.true
+    c.front_at.ensures in
     let gap_is = rw c.in-Gap.is at is in
-    let fits = gap_fits c.args.bytes.now c.loop-here.here.position c.in-Gap.more c.loop-here-test.true gap_is in
-    let next = read_gap c.args.bytes.now (placed_tokens c.args.bytes.now c.loop-here.tokens.items) c.loop-here.here.position c.loop-here.here.place c.in-Gap.more c.loop-here-test.true gap_is c.loop-here.invariant.read in
+    let fits = gap_fits c.args.bytes.now c.loop-here.here.position c.in-Gap.more
+    c.loop-here-test.true gap_is in
+    let next = read_gap c.args.bytes.now (placed_tokens c.args.bytes.now c.loop-here.tokens.items)
+    c.loop-here.here.position c.loop-here.here.place c.in-Gap.more c.loop-here-test.true gap_is
+    c.loop-here.invariant.read in
     record {
       within = omega (arith, fits, c.behind-here.ensures.position);
-      line = omega (arith, c.loop-here.invariant.line, c.behind-here.ensures.position, c.behind-here.ensures.line);
-      column = omega (arith, c.loop-here.invariant.column, c.behind-here.ensures.position, c.behind-here.ensures.column);
+      line =
+          omega (
+            arith,
+            c.loop-here.invariant.line,
+            c.behind-here.ensures.position,
+            c.behind-here.ensures.line,
+          );
+      column =
+          omega (
+            arith,
+            c.loop-here.invariant.column,
+            c.behind-here.ensures.position,
+            c.behind-here.ensures.column,
+          );
       read = rw (c.behind-here.ensures.position, c.behind-here.ensures.place) next;
       spans = c.loop-here.invariant.spans;
-      order = order_later 0 c.loop-here.tokens.items c.loop-here.here.position c.behind-here.result.position (omega (arith, c.behind-here.ensures.position)) c.loop-here.invariant.order;
+      order =
+          order_later 0 c.loop-here.tokens.items c.loop-here.here.position
+          c.behind-here.result.position (omega (arith, c.behind-here.ensures.position))
+          c.loop-here.invariant.order;
     }
 
 pub loop-here-preserved : goal.loop-here-preserved
 loop-here-preserved c =
-    let is = front_here c.args.bytes.now c.loop-here.here.position _ c.front_at.result (take_rest c.args.bytes.now c.loop-here.here.position) c.loop-here-test.true c.front_at.ensures in
+    let is = front_here c.args.bytes.now c.loop-here.here.position _ c.front_at.result
+    (take_rest c.args.bytes.now c.loop-here.here.position) c.loop-here-test.true
+    c.front_at.ensures in
     let found = rw c.in-Token.is at is in
-    let token_is = token_here c.args.bytes.now c.loop-here.here.position c.in-Token.kind c.in-Token.more found in
-    let fits = token_fits c.args.bytes.now c.loop-here.here.position (lexeme_of c.args.bytes.now c.in-Token.kind c.loop-here.here.position (c.loop-here.here.position + c.in-Token.more + 1)) c.in-Token.more c.loop-here-test.true token_is in
-    let next = read_token c.args.bytes.now (placed_tokens c.args.bytes.now c.loop-here.tokens.items) c.loop-here.here.position c.loop-here.here.place (lexeme_of c.args.bytes.now c.in-Token.kind c.loop-here.here.position (c.loop-here.here.position + c.in-Token.more + 1)) c.in-Token.more c.loop-here-test.true token_is c.loop-here.invariant.read in
-    let spanned = at_span c.args.bytes.now c.in-Token.kind c.loop-here.here.position c.in-Token.more c.loop-here.here.place c.loop-here-test.true token_is in
+    let token_is = token_here c.args.bytes.now c.loop-here.here.position c.in-Token.kind
+    c.in-Token.more found in
+    let fits = token_fits c.args.bytes.now c.loop-here.here.position
+    (lexeme_of c.args.bytes.now c.in-Token.kind c.loop-here.here.position
+    (c.loop-here.here.position + c.in-Token.more + 1)) c.in-Token.more c.loop-here-test.true
+    token_is in
+    let next = read_token c.args.bytes.now (placed_tokens c.args.bytes.now c.loop-here.tokens.items)
+    c.loop-here.here.position c.loop-here.here.place
+    (lexeme_of c.args.bytes.now c.in-Token.kind c.loop-here.here.position
+    (c.loop-here.here.position + c.in-Token.more + 1)) c.in-Token.more c.loop-here-test.true
+    token_is c.loop-here.invariant.read in
+    let spanned = at_span c.args.bytes.now c.in-Token.kind c.loop-here.here.position c.in-Token.more
+    c.loop-here.here.place c.loop-here-test.true token_is in
     record {
       within = omega (arith, fits, c.behind-next.ensures.position);
-      line = omega (arith, c.loop-here.invariant.line, c.behind-next.ensures.position, c.behind-next.ensures.line);
-      column = omega (arith, c.loop-here.invariant.column, c.behind-next.ensures.position, c.behind-next.ensures.column);
-      read = rw (c.in_ok-push-in-Token.ensures.items, placed_push, c.behind-next.ensures.position, c.behind-next.ensures.place) next;
-      spans = rw (c.in_ok-push-in-Token.ensures.items, c.behind-next.ensures.position) (All-push (IsAtSpan c.args.bytes.now) c.loop-here.tokens.items _ c.loop-here.invariant.spans spanned);
-      order = rw c.in_ok-push-in-Token.ensures.items (order_push 0 c.loop-here.tokens.items c.loop-here.here.position _ (omega arith) (omega (arith, c.behind-next.ensures.position)) c.loop-here.invariant.order);
+      line =
+          omega (
+            arith,
+            c.loop-here.invariant.line,
+            c.behind-next.ensures.position,
+            c.behind-next.ensures.line,
+          );
+      column =
+          omega (
+            arith,
+            c.loop-here.invariant.column,
+            c.behind-next.ensures.position,
+            c.behind-next.ensures.column,
+          );
+      read =
+          rw (
+            c.in_ok-push-in-Token.ensures.items,
+            placed_push,
+            c.behind-next.ensures.position,
+            c.behind-next.ensures.place,
+          ) next;
+      spans =
+          rw (c.in_ok-push-in-Token.ensures.items, c.behind-next.ensures.position)
+          (All-push (IsAtSpan c.args.bytes.now) c.loop-here.tokens.items _
+          c.loop-here.invariant.spans spanned);
+      order =
+          rw c.in_ok-push-in-Token.ensures.items
+          (order_push 0 c.loop-here.tokens.items c.loop-here.here.position _ (omega arith)
+          (omega (arith, c.behind-next.ensures.position)) c.loop-here.invariant.order);
     }
 
 pub returns-in-Broken-clause-refusal : goal.returns-in-Broken-clause-refusal
 returns-in-Broken-clause-refusal c =
-    let is = front_here c.args.bytes.now c.loop-here.here.position _ c.front_at.result (take_rest c.args.bytes.now c.loop-here.here.position) c.loop-here-test.true c.front_at.ensures in
+    let is = front_here c.args.bytes.now c.loop-here.here.position _ c.front_at.result
+    (take_rest c.args.bytes.now c.loop-here.here.position) c.loop-here-test.true
+    c.front_at.ensures in
     let broken_is = rw c.in-Broken.is at is in
-    let breaks = read_break c.args.bytes.now (placed_tokens c.args.bytes.now c.loop-here.tokens.items) c.loop-here.here.position c.loop-here.here.place (rule_number c.in-Broken.breach) (rule_names c.in-Broken.breach) c.loop-here-test.true broken_is c.loop-here.invariant.read in
-    fault_is c.args.bytes.now c.in_ok-fault-in-Broken.field-0 (rule_number c.in-Broken.breach) c.loop-here.here.place (rule_names c.in-Broken.breach) c.in_ok-fault-in-Broken.ensures breaks
+    let breaks = read_break c.args.bytes.now
+    (placed_tokens c.args.bytes.now c.loop-here.tokens.items) c.loop-here.here.position
+    c.loop-here.here.place (rule_number c.in-Broken.breach) (rule_names c.in-Broken.breach)
+    c.loop-here-test.true broken_is c.loop-here.invariant.read in
+    fault_is c.args.bytes.now c.in_ok-fault-in-Broken.field-0 (rule_number c.in-Broken.breach)
+    c.loop-here.here.place (rule_names c.in-Broken.breach)
+    c.in_ok-fault-in-Broken.ensures breaks
 
 pub returns-clause-tokens : goal.returns-clause-tokens
 returns-clause-tokens c =
-    read_all c.args.bytes.now (placed_tokens c.args.bytes.now c.loop-here.tokens.items) c.loop-here.here.position c.loop-here.here.place c.loop-here-test.false c.loop-here.invariant.read
+    read_all c.args.bytes.now (placed_tokens c.args.bytes.now c.loop-here.tokens.items)
+    c.loop-here.here.position c.loop-here.here.place c.loop-here-test.false
+    c.loop-here.invariant.read
 
 pub returns-clause-order : goal.returns-clause-order
 returns-clause-order c =

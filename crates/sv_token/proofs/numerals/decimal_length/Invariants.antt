@@ -4,4 +4,7 @@ use Rattle.sv_token.specs.Numerals.{continues_decimal}
 use Rattle.sv_token.proofs.numerals.decimal_length.Given as goal
 
 abbrev pub invariant-loop-byte : goal.invariant-loop-byte
-invariant-loop-byte l = (l.length ≡ l.byte-index) × (prefix_len continues_decimal l.bytes ≡ l.length + prefix_len continues_decimal (drop l.byte-index l.bytes))
+invariant-loop-byte l =
+    (l.length ≡ l.byte-index)
+    × (prefix_len continues_decimal l.bytes ≡
+    l.length + prefix_len continues_decimal (drop l.byte-index l.bytes))

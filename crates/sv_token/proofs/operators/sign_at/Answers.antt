@@ -14,7 +14,9 @@ pub loop-count-preserved : goal.loop-count-preserved
 loop-count-preserved c =
     record {
       within = omega (arith, c.loop-count.invariant.within);
-      none = none_more c.args.bytes.now c.loop-count.count c.loop-count.invariant.none c.in_default.ensures;
+      none =
+          none_more c.args.bytes.now c.loop-count.count c.loop-count.invariant.none
+          c.in_default.ensures;
     }
 
 pub returns : goal.returns
@@ -25,4 +27,5 @@ returns c =
 
 pub returns-in-Some : goal.returns-in-Some
 returns-in-Some c =
-    sign_is c.args.bytes.now c.loop-count.count (front_of c.args.bytes.now c.in-Some.front) c.loop-count.invariant.within c.in-Some.ensures c.loop-count.invariant.none
+    sign_is c.args.bytes.now c.loop-count.count (front_of c.args.bytes.now c.in-Some.front)
+    c.loop-count.invariant.within c.in-Some.ensures c.loop-count.invariant.none

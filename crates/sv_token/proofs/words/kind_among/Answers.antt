@@ -7,5 +7,7 @@ use Rattle.sv_token.proofs.words.kind_among.Goals as goal
 
 pub returns : goal.returns
 returns c =
-    let mapped : c.map.result ≡ option_map (λ (row : Bor (List ℕ) × WordKind). row.1) (option_copied c.row_among.result) = search rules in
-    mapped ∙ ap (option_map (λ (row : Bor (List ℕ) × WordKind). row.1)) c.row_among.ensures ∙ found_entry c.args.text.now c.args.rows.now
+    let mapped : c.map.result ≡ option_map (λ (row : Bor (List ℕ) × WordKind).
+    row.1) (option_copied c.row_among.result) = search rules in
+    mapped ∙ ap (option_map (λ (row : Bor (List ℕ) × WordKind). row.1)) c.row_among.ensures
+    ∙ found_entry c.args.text.now c.args.rows.now

@@ -11,6 +11,8 @@ pub returns : goal.returns
 returns c =
     let test = is_driven c.args.targets.now.keys in
     let asked =
-    all_from_yields_List (λ (d : Bor Decl). is_driven c.args.targets.now.keys d.now) _ _ c.all.result c.all.ensures.ran
+    all_from_yields_List (λ (d : Bor Decl).
+    is_driven c.args.targets.now.keys d.now) _ _ c.all.result c.all.ensures.ran
     (YieldsList-from_slice c.declarations.result.now cc) (λ x b q k. search (rules, tests)) in
-    asked ∙ sym (list_all-map test (λ (d : Bor Decl). d.now) c.declarations.result.now) ∙ ap (list_all test) c.declarations.ensures
+    asked ∙ sym (list_all-map test (λ (d : Bor Decl). d.now) c.declarations.result.now)
+    ∙ ap (list_all test) c.declarations.ensures

@@ -12,7 +12,10 @@ returns c =
     let clocks = filter_map (λ (p : Process). p.clock) c.processes.result.now in
     let first =
     next_gives clocks c.next.result _
-    (YieldsList-from_filter_map _ (λ (p : Process). p.clock) (YieldsList-from_slice c.processes.result.now cc) c.filter_map.ensures.closure (λ x r q k. search (rules, tests)))
+    (YieldsList-from_filter_map _ (λ (p : Process).
+    p.clock) (YieldsList-from_slice c.processes.result.now cc) c.filter_map.ensures.closure
+    (λ x r q k. search (rules, tests)))
     c.next.ensures.steps in
     first_plain c.next.result c.processes.result.now first
-    ∙ ap (λ (ps : List meaning.Process). slice_get (filter_map (λ (p : meaning.Process). p.clock) ps) 0) c.processes.ensures
+    ∙ ap (λ (ps : List meaning.Process).
+    slice_get (filter_map (λ (p : meaning.Process). p.clock) ps) 0) c.processes.ensures

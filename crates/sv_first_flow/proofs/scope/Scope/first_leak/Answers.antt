@@ -16,9 +16,15 @@ returns c =
     let m = module_tree c.args.self.now in
     let is_read = holds (form.reads (expression_tree c.args.value.now)) in
     let found =
-    find_from_yields_List (λ (d : Bor Decl). is_leak m c.requires is_read c.args.to d.now) _ _ c.find-leaks.result c.find-leaks.ensures.ran
+    find_from_yields_List (λ (d : Bor Decl).
+    is_leak m c.requires is_read c.args.to d.now) _ _ c.find-leaks.result
+    c.find-leaks.ensures.ran
     (YieldsList-from_slice c.declarations.result.now cc) (λ x b q k. search (rules, tests)) in
-    let named : option_copied c.map.result ≡ option_map (λ (d : Bor (Bor Decl)). d.now.now.name) c.find-leaks.result = search (rules, tests) in
-    named ∙ first_name (is_leak m c.requires is_read c.args.to) c.find-leaks.result c.declarations.result.now found
-    ∙ ap (λ (ds : List Decl). option_map (λ (d : Decl). d.name) (find (is_leak m c.requires is_read c.args.to) ds)) c.declarations.ensures
+    let named : option_copied c.map.result ≡ option_map (λ (d : Bor (Bor Decl)).
+    d.now.now.name) c.find-leaks.result = search (rules, tests) in
+    named ∙ first_name (is_leak m c.requires is_read c.args.to) c.find-leaks.result
+    c.declarations.result.now found
+    ∙ ap (λ (ds : List Decl).
+    option_map (λ (d : Decl). d.name) (find (is_leak m c.requires is_read c.args.to) ds))
+    c.declarations.ensures
     ∙ first_leak_named m c.requires is_read c.args.to

@@ -13,6 +13,9 @@ pub returns : goal.returns
 returns c =
     let test = form.target_fits (module_tree c.args.self.now) in
     let asked =
-    all_from_yields_List (λ (p : Process). form.target_fits (module_tree c.args.self.now) (plain_process p)) _ _ c.all.result c.all.ensures.ran
+    all_from_yields_List (λ (p : Process).
+    form.target_fits (module_tree c.args.self.now) (plain_process p)) _ _ c.all.result
+    c.all.ensures.ran
     (YieldsList-from_slice c.processes.result.now cc) (λ x b q k. search (rules, tests)) in
-    asked ∙ sym (list_all-map test plain_process c.processes.result.now) ∙ ap (list_all test) c.processes.ensures
+    asked ∙ sym (list_all-map test plain_process c.processes.result.now)
+    ∙ ap (list_all test) c.processes.ensures

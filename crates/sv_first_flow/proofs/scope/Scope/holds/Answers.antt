@@ -12,6 +12,9 @@ returns c =
     let m = module_tree c.args.self.now in
     let n = c.args.declaration.now.name in
     c.all_flow.ensures
-    ∙ ap (λ (rs : List (List ℕ)). list_all (λ r. meaning.flows (meaning.label_of m r) c.label.result) rs) c.source-value.ensures
-    ∙ ap (λ (to : Point). list_all (λ r. meaning.flows (meaning.label_of m r) to) (sources m n)) (c.label.ensures ∙ sym (own_label m c.args.declaration.now c.requires.own))
+    ∙ ap (λ (rs : List (List ℕ)).
+    list_all (λ r. meaning.flows (meaning.label_of m r) c.label.result) rs)
+    c.source-value.ensures
+    ∙ ap (λ (to : Point). list_all (λ r. meaning.flows (meaning.label_of m r) to) (sources m n))
+    (c.label.ensures ∙ sym (own_label m c.args.declaration.now c.requires.own))
     ∙ asks_of_source m c.requires.first_form n

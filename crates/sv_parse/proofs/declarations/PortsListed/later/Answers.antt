@@ -6,7 +6,8 @@ use Rattle.sv_parse.proofs.declarations.PortsListed.later.Goals as goal
 
 pub returns-in-Some-clause-is : goal.returns-in-Some-clause-is
 returns-in-Some-clause-is c =
-    inl (port_is c.in-Some.kind _ _ _ _ (c.in-Some.ensures.is c.args.bytes.now) c.in_ok-port.ensures.is)
+    inl (port_is c.in-Some.kind _ _ _ _ (c.in-Some.ensures.is c.args.bytes.now)
+    c.in_ok-port.ensures.is)
 
 pub returns-clause-is : goal.returns-clause-is
 returns-clause-is c =

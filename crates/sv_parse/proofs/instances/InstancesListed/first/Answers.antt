@@ -10,28 +10,71 @@ use Rattle.sv_parse.proofs.instances.InstancesListed.first.Goals as goal
 
 pub returns-clause-is : goal.returns-clause-is
 returns-clause-is c =
-    instance_is c.in_ok-module.module c.in_ok-module.place (override_trees c.in_ok-overrides.overrides) (instance_tree c.in_ok-instance.instance) (placed_tokens c.args.bytes.now c.args.tokens.now) (placed_tokens c.args.bytes.now c.in_ok-module.rest.now) (placed_tokens c.args.bytes.now c.in_ok-overrides.rest.now) (placed_tokens c.args.bytes.now c.in_ok-instance.rest.now) c.in_ok-module.ensures.is c.in_ok-overrides.ensures.is c.in_ok-instance.ensures.is
+    instance_is c.in_ok-module.module c.in_ok-module.place
+    (override_trees c.in_ok-overrides.overrides) (instance_tree c.in_ok-instance.instance)
+    (placed_tokens c.args.bytes.now c.args.tokens.now)
+    (placed_tokens c.args.bytes.now c.in_ok-module.rest.now)
+    (placed_tokens c.args.bytes.now c.in_ok-overrides.rest.now)
+    (placed_tokens c.args.bytes.now c.in_ok-instance.rest.now) c.in_ok-module.ensures.is
+    c.in_ok-overrides.ensures.is c.in_ok-instance.ensures.is
 
 pub returns-in_err-module-clause-halts : goal.returns-in_err-module-clause-halts
 returns-in_err-module-clause-halts c = λ begins.
     passed _ _ _ c.from_residual.ensures.1
-    (stops_before (outer plain_name ∷ []) (outer perhaps_overrides ∷ outer plain_name ∷ outer (punctuation signs.OpenParenthesis) ∷ outer links ∷ []) _ _ c.in_err-module.ensures.halts)
+    (stops_before (outer plain_name ∷ [])
+    (outer perhaps_overrides ∷ outer plain_name ∷ outer (punctuation signs.OpenParenthesis) ∷
+    outer links ∷ []) _ _ c.in_err-module.ensures.halts)
 
 pub returns-in_err-overrides-clause-halts : goal.returns-in_err-overrides-clause-halts
 returns-in_err-overrides-clause-halts c = λ begins.
     passed _ _ _ c.from_residual-in_err-overrides.ensures.1
-    (stops_then (outer plain_name ∷ outer perhaps_overrides ∷ outer plain_name ∷ outer (punctuation signs.OpenParenthesis) ∷ outer links ∷ []) (outer perhaps_overrides ∷ outer plain_name ∷ outer (punctuation signs.OpenParenthesis) ∷ outer links ∷ []) _ _ _ (reads_before (outer plain_name ∷ []) [] (outer perhaps_overrides ∷ outer plain_name ∷ outer (punctuation signs.OpenParenthesis) ∷ outer links ∷ []) _ _ c.in_ok-module.ensures.reads)
-    (stops_before (outer perhaps_overrides ∷ []) (outer plain_name ∷ outer (punctuation signs.OpenParenthesis) ∷ outer links ∷ []) _ _ c.in_err-overrides.ensures.halts))
+    (stops_then (outer plain_name ∷ outer perhaps_overrides ∷ outer plain_name ∷
+    outer (punctuation signs.OpenParenthesis) ∷
+    outer links ∷ []) (outer perhaps_overrides ∷ outer plain_name ∷
+    outer (punctuation signs.OpenParenthesis) ∷
+    outer links ∷ []) _ _ _
+    (reads_before (outer plain_name ∷ []) []
+    (outer perhaps_overrides ∷ outer plain_name ∷ outer (punctuation signs.OpenParenthesis) ∷
+    outer links ∷ []) _ _ c.in_ok-module.ensures.reads)
+    (stops_before (outer perhaps_overrides ∷ [])
+    (outer plain_name ∷ outer (punctuation signs.OpenParenthesis) ∷ outer links ∷ []) _ _
+    c.in_err-overrides.ensures.halts))
 
 pub returns-in_err-instance-clause-halts : goal.returns-in_err-instance-clause-halts
 returns-in_err-instance-clause-halts c = λ begins.
     passed _ _ _ c.from_residual-in_err-instance.ensures.1
-    (stops_then (outer plain_name ∷ outer perhaps_overrides ∷ outer plain_name ∷ outer (punctuation signs.OpenParenthesis) ∷ outer links ∷ []) (outer perhaps_overrides ∷ outer plain_name ∷ outer (punctuation signs.OpenParenthesis) ∷ outer links ∷ []) _ _ _ (reads_before (outer plain_name ∷ []) [] (outer perhaps_overrides ∷ outer plain_name ∷ outer (punctuation signs.OpenParenthesis) ∷ outer links ∷ []) _ _ c.in_ok-module.ensures.reads)
-    (stops_then (outer perhaps_overrides ∷ outer plain_name ∷ outer (punctuation signs.OpenParenthesis) ∷ outer links ∷ []) (outer plain_name ∷ outer (punctuation signs.OpenParenthesis) ∷ outer links ∷ []) _ _ _ (reads_before (outer perhaps_overrides ∷ []) [] (outer plain_name ∷ outer (punctuation signs.OpenParenthesis) ∷ outer links ∷ []) _ _ c.in_ok-overrides.ensures.reads)
+    (stops_then (outer plain_name ∷ outer perhaps_overrides ∷ outer plain_name ∷
+    outer (punctuation signs.OpenParenthesis) ∷
+    outer links ∷ []) (outer perhaps_overrides ∷ outer plain_name ∷
+    outer (punctuation signs.OpenParenthesis) ∷
+    outer links ∷ []) _ _ _
+    (reads_before (outer plain_name ∷ []) []
+    (outer perhaps_overrides ∷ outer plain_name ∷ outer (punctuation signs.OpenParenthesis) ∷
+    outer links ∷ []) _ _ c.in_ok-module.ensures.reads)
+    (stops_then (outer perhaps_overrides ∷ outer plain_name ∷
+    outer (punctuation signs.OpenParenthesis) ∷
+    outer links ∷ []) (outer plain_name ∷ outer (punctuation signs.OpenParenthesis) ∷
+    outer links ∷ []) _ _ _
+    (reads_before (outer perhaps_overrides ∷ []) []
+    (outer plain_name ∷ outer (punctuation signs.OpenParenthesis) ∷ outer links ∷ []) _ _
+    c.in_ok-overrides.ensures.reads)
     c.in_err-instance.ensures.halts))
 
 pub returns-clause-reads : goal.returns-clause-reads
 returns-clause-reads c = λ begins.
-    (reads_then (outer plain_name ∷ outer perhaps_overrides ∷ outer plain_name ∷ outer (punctuation signs.OpenParenthesis) ∷ outer links ∷ []) (outer perhaps_overrides ∷ outer plain_name ∷ outer (punctuation signs.OpenParenthesis) ∷ outer links ∷ []) [] _ _ _ (reads_before (outer plain_name ∷ []) [] (outer perhaps_overrides ∷ outer plain_name ∷ outer (punctuation signs.OpenParenthesis) ∷ outer links ∷ []) _ _ c.in_ok-module.ensures.reads)
-    (reads_then (outer perhaps_overrides ∷ outer plain_name ∷ outer (punctuation signs.OpenParenthesis) ∷ outer links ∷ []) (outer plain_name ∷ outer (punctuation signs.OpenParenthesis) ∷ outer links ∷ []) [] _ _ _ (reads_before (outer perhaps_overrides ∷ []) [] (outer plain_name ∷ outer (punctuation signs.OpenParenthesis) ∷ outer links ∷ []) _ _ c.in_ok-overrides.ensures.reads)
+    (reads_then (outer plain_name ∷ outer perhaps_overrides ∷ outer plain_name ∷
+    outer (punctuation signs.OpenParenthesis) ∷
+    outer links ∷ []) (outer perhaps_overrides ∷ outer plain_name ∷
+    outer (punctuation signs.OpenParenthesis) ∷
+    outer links ∷ []) [] _ _ _
+    (reads_before (outer plain_name ∷ []) []
+    (outer perhaps_overrides ∷ outer plain_name ∷ outer (punctuation signs.OpenParenthesis) ∷
+    outer links ∷ []) _ _ c.in_ok-module.ensures.reads)
+    (reads_then (outer perhaps_overrides ∷ outer plain_name ∷
+    outer (punctuation signs.OpenParenthesis) ∷
+    outer links ∷ []) (outer plain_name ∷ outer (punctuation signs.OpenParenthesis) ∷
+    outer links ∷ []) [] _ _ _
+    (reads_before (outer perhaps_overrides ∷ []) []
+    (outer plain_name ∷ outer (punctuation signs.OpenParenthesis) ∷ outer links ∷ []) _ _
+    c.in_ok-overrides.ensures.reads)
     c.in_ok-instance.ensures.reads))

@@ -5,4 +5,8 @@ use Rattle.sv_parse.proofs.instances.InstancesListed.later.Goals as goal
 
 pub returns-clause-is : goal.returns-clause-is
 returns-clause-is c =
-    later_instance (instance_tree c.args.before.now) (instance_tree c.in_ok-instance.instance) c.in_ok-module.module (override_trees c.in_ok-overrides.overrides) (placed_tokens c.args.bytes.now c.args.tokens.now) (placed_tokens c.args.bytes.now c.in_ok-instance.rest.now) c.in_ok-module.ensures c.in_ok-overrides.ensures c.in_ok-instance.ensures.is
+    later_instance (instance_tree c.args.before.now) (instance_tree c.in_ok-instance.instance)
+    c.in_ok-module.module (override_trees c.in_ok-overrides.overrides)
+    (placed_tokens c.args.bytes.now c.args.tokens.now)
+    (placed_tokens c.args.bytes.now c.in_ok-instance.rest.now) c.in_ok-module.ensures
+    c.in_ok-overrides.ensures c.in_ok-instance.ensures.is

@@ -11,7 +11,8 @@ use Rattle.sv_parse.proofs.parameters.HeaderParamsListed.later.Goals as goal
 
 pub returns-in-Some-clause-is : goal.returns-in-Some-clause-is
 returns-in-Some-clause-is c =
-    inl (header_parameter_is _ _ _ _ (c.in-Some.ensures.is c.args.bytes.now) c.in_ok-param.ensures.is)
+    inl (header_parameter_is _ _ _ _ (c.in-Some.ensures.is c.args.bytes.now)
+    c.in_ok-param.ensures.is)
 
 pub returns-clause-is : goal.returns-clause-is
 returns-clause-is c =
@@ -20,12 +21,16 @@ returns-clause-is c =
 pub returns-in_err-param-clause-halts : goal.returns-in_err-param-clause-halts
 returns-in_err-param-clause-halts c =
     passed _ _ _ c.from_residual.ensures.1
-    (stops_then _ _ _ _ _ (word_taken later_header_parameter words.Parameter typed_value _ _ refl (c.in-Some.ensures.is c.args.bytes.now))
+    (stops_then _ _ _ _ _
+    (word_taken later_header_parameter words.Parameter typed_value _ _ refl
+    (c.in-Some.ensures.is c.args.bytes.now))
     (c.in_err-param.ensures.halts))
 
 pub returns-in-Some-clause-reads : goal.returns-in-Some-clause-reads
 returns-in-Some-clause-reads c =
-    reads_then _ _ _ _ _ _ (word_taken later_header_parameter words.Parameter typed_value _ _ refl (c.in-Some.ensures.is c.args.bytes.now))
+    reads_then _ _ _ _ _ _
+    (word_taken later_header_parameter words.Parameter typed_value _ _ refl
+    (c.in-Some.ensures.is c.args.bytes.now))
     (c.in_ok-param.ensures.reads)
 
 pub returns-in_err-alike-clause-halts : goal.returns-in_err-alike-clause-halts

@@ -26,6 +26,12 @@ SYNTAX = [(b"module m; \x80", b"refused 101 bad-byte 1:11\n"), (b"8'q1", b"refus
           (b"module m(a, b); endmodule", b"refused 202 unsupported 1:10 header-names\n"), (b"module m(inout a); endmodule", b"refused 202 unsupported 1:10 inout\n"),
           (b"module m(input a, output y); assign y = " + b"-" * 65 + b"a; endmodule", b"refused 203 too-deep 1:105\n"),
           (b"module m(input a, output y); assign y = " + b"a+" * 512 + b"a; endmodule", b"refused 204 too-long 1:1065\n")]
+# What is said of a broken rule to a person, by its number.
+SAID = {101: "no token begins with this byte", 102: "this is no number, or too large a one", 103: "this comment has no end",
+        104: "this form of Verilog is left out", 202: "this form of Verilog is left out",
+        201: "no text goes on with this token, or the text ends too early", 203: "this opens a level too many: at most 64 may be open",
+        204: "this is too long: an expression has at most 1,024 tokens, a case 256 arms"}
+USAGE = "; usage: secv check FILE (`secv --help` says more)"
 STATUS = {"accepted": 0, "refused": 1, "usage": 2, "unknown": 3}
 passed = failed = 0
 
@@ -74,36 +80,45 @@ def shown_in_readme():
 def words_and_faults():
     help_text = run(["--help"])
     compare("--help is a text", (help_text.stdout.startswith(b"secv "), help_text.returncode), (True, 0))
+    compare("-h is the same text", run(["-h"]).stdout, help_text.stdout)
     version = run(["--version"])
     compare("--version", (version.stdout, version.returncode), (b"secv 0.1.0\n", 0))
-    for words, kind in [([], "no-command"), (["chekc", "f"], "unknown-command"), (["check"], "words"), (["check", "--f"], "words"),
-                        (["check", "f", "g"], "words"), (["--help", "more"], "unknown-command"), ([b"\xff"], "words")]:
+    wrong = "`check` takes one FILE, which does not begin with `-`" + USAGE
+    for words, kind, said in [([], "no-command", "no command is given" + USAGE),
+                              (["chekc", "f"], "unknown-command", "there is no command chekc; `secv --help` shows all"),
+                              (["--help", "more"], "unknown-command", "there is no command --help; `secv --help` shows all"),
+                              (["check"], "words", wrong), (["check", "--f"], "words", wrong), (["check", "f", "g"], "words", wrong),
+                              ([b"\xff"], "words", "an argument is not UTF-8" + USAGE)]:
         answer = run(words)
         compare(f"words {words}", (answer.stdout, answer.returncode), (f"usage {kind}\n".encode(), 2))
-        compare(f"words {words} are explained", answer.stderr != b"", True)
+        compare(f"words {words} are explained", answer.stderr.decode(), f"secv: {said}\n")
     with tempfile.TemporaryDirectory() as folder:
-        for name, path in [("a missing file", os.path.join(folder, "none.v")), ("a directory", folder)]:
+        for name, path, cause in [("a missing file", os.path.join(folder, "none.v"), "No such file or directory (os error 2)"),
+                                  ("a directory", folder, "Is a directory (os error 21)")]:
             answer = run(["check", path])
             compare(name, (answer.stdout, answer.returncode), (b"", 4))
-            compare(f"{name} is explained", path.encode() in answer.stderr and answer.stderr.count(b"\n") == 1, True)
+            compare(f"{name} is explained", answer.stderr.decode(), f"secv: {path}: {cause}\n")
         other = os.path.join(folder, "other.v")
         with open(other, "w", encoding="ascii") as file:
             file.write("module m(input [7:0] a, output y); assign y = a == 3; endmodule\n")
         answer = run(["check", other])
         compare("a text that is not built", (answer.stdout, answer.returncode), (b"refused 199 not-built 1:1\n", 1))
-        compare("it is explained", answer.stderr.count(b"\n"), 1)
+        compare("it is explained", answer.stderr.decode(),
+                "secv: only modules of one-bit signals are read so far; docs/language.md says which\n")
         for text, wanted in SYNTAX:
             with open(other, "wb") as file:
                 file.write(text)
             answer = run(["check", other])
             compare(f"a text {text!r}", (answer.stdout, answer.returncode), (wanted, 1))
-            place = wanted.split(b" ")[3].strip()
-            compare(f"it is explained, {text!r}", (place in answer.stderr, answer.stderr.count(b"\n")), (True, 1))
+            number, place = wanted.decode().split(" ")[1:4:2]
+            compare(f"it is explained, {text!r}", answer.stderr.decode(),
+                    f"secv: {other}:{place.strip()}: {SAID[int(number)]}; docs/language.md says more\n")
     for words in (["check", "examples/and.v"], ["--help"]):
         with open("/dev/full", "wb") as full:
             answer = run(words, stdout=full)
         compare(f"a full device, {words}", answer.returncode, 5)
-        compare(f"a full device is explained, {words}", answer.stderr.count(b"\n"), 1)
+        compare(f"a full device is explained, {words}", answer.stderr.decode(),
+                "secv: the output could not be written: No space left on device (os error 28)\n")
         answer = run(words, stdout=None, before=lambda: os.close(1))
         compare(f"a closed output, {words}", answer.returncode, 5)
     answer = subprocess.run([SECV, "check", "examples/leak.v"], cwd=TOP, stdout=subprocess.PIPE, stderr=None,

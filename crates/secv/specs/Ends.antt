@@ -8,16 +8,20 @@ use Rattle.sv_cli.specs.Answer.{status_of, answer_of, misused, Reads, IsAnswer, 
 
 -- the words ask for a text about the program itself
 abbrev pub IsShown : List (List ℕ) → Type 0
-IsShown words = (words ≡ codes "--help" ∷ []) ⊎ (words ≡ codes "--version" ∷ [])
+IsShown words =
+    (words ≡ codes "--help" ∷ []) ⊎ (words ≡ codes "-h" ∷ []) ⊎ (words ≡ codes "--version" ∷ [])
 
--- The status is that of an outcome. With an answer the text is the one that the files handed out, the answer is that of the words and
--- this text, and exactly what is defined for it was printed.
+-- The status is that of an outcome. With an answer the text is the one that the files handed out,
+-- the answer is that of the words and this text, and exactly what is defined for it was printed.
 pub record Ends (words : List (List ℕ)) (status : ℕ) : Type 0 where
   pub outcome : Outcome
   pub is : status ≡ status_of outcome
   -- what passed between the program and the files, and what the output accepted
   pub exchanges : List Exchange
   pub printed : List ℕ
-  pub answer : IfSome (answer_of outcome) (λ a. (text : List ℕ) × Reads words text [] exchanges × IsAnswer words text a printed)
-  pub secrets : outcome ≡ Done → (text : List ℕ) × (exchanges ≡ fetched (file_of words) (whole text) ∷ []) × KeepsSecrets text
-  pub usage : MatchOption (usage_of words) ⊤ (λ kind. IfSome (answer_of outcome) (λ a. a ≡ misused kind))
+  pub answer : IfSome (answer_of outcome) (λ a.
+      (text : List ℕ) × Reads words text [] exchanges × IsAnswer words text a printed)
+  pub secrets : outcome ≡ Done → (text : List ℕ)
+      × (exchanges ≡ fetched (file_of words) (whole text) ∷ []) × KeepsSecrets text
+  pub usage : MatchOption (usage_of words) ⊤ (λ kind.
+      IfSome (answer_of outcome) (λ a. a ≡ misused kind))

@@ -19,7 +19,7 @@ const HELP: &str =
 
 usage:
   secv check FILE    say whether a secret can reach a public signal
-  secv --help        print this text
+  secv --help, -h    print this text
   secv --version     print the version
 
 exit status: 0 accepted, 1 refused, 2 wrong words, 4 unreadable file, 5 unwritable output,
@@ -62,6 +62,7 @@ fn answer(rt: &HostRuntime, words: &[String]) -> u8
 {
     match words {
         [word] if word.as_str() == "--help" => print(rt, HELP, DONE),
+        [word] if word.as_str() == "-h" => print(rt, HELP, DONE),
         [word] if word.as_str() == "--version" => print(rt, VERSION, DONE),
         words => check(rt, words),
     }

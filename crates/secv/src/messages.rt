@@ -27,6 +27,7 @@ pub fn explain(
         Outcome::ReadFault => explain_file(rt, words, file_error),
         Outcome::WriteFault => explain_output(rt, output_error),
         Outcome::OutOfMemory => {
+            // not used: where this cannot be written, the status tells of it
             let _ = rt.eprintln(MEMORY);
         }
     }
@@ -43,6 +44,7 @@ fn explain_rule(rt: &HostRuntime, words: &[String], refusal: &Refusal) {
         203 => "this opens a level too many: at most 64 may be open",
         204 => "this is too long: an expression has at most 1,024 tokens, a case 256 arms",
         _ => {
+            // not used: where this cannot be written, the status tells of the rule
             let _ = rt.eprintln(UNBUILT);
             return;
         }
@@ -52,12 +54,14 @@ fn explain_rule(rt: &HostRuntime, words: &[String], refusal: &Refusal) {
     };
     let name = file.as_str().escape_debug();
     let Place { line, column } = refusal.place;
+    // not used: where this cannot be written, the status tells of the rule
     let _ = eprintln!(rt; "secv: {name}:{line}:{column}: {fault}; docs/language.md says more");
 }
 
 fn explain_usage(rt: &HostRuntime, words: &[String], kind: UsageKind) {
     match (kind, words) {
         (UsageKind::UnknownCommand, [word, ..]) => {
+            // not used: where this cannot be written, the status tells of it
             let _ = eprintln!(rt;
                 "secv: there is no command {}; `secv --help` shows all",
                 word.as_str().escape_debug()
@@ -72,6 +76,7 @@ fn explain_usage(rt: &HostRuntime, words: &[String], kind: UsageKind) {
 
 /// What is wrong with the words, and how they are written.
 pub fn explain_words(rt: &HostRuntime, fault: &str) {
+    // not used: where this cannot be written, the status tells of it
     let _ = eprintln!(rt; "secv: {fault}; usage: secv check FILE (`secv --help` says more)");
 }
 
@@ -81,6 +86,7 @@ fn explain_file(rt: &HostRuntime, words: &[String], error: Option<&io::Error>) {
         return;
     };
     let name = file.as_str().escape_debug();
+    // not used: where this cannot be written, the status tells of it
     let _ = match error {
         Some(error) => eprintln!(rt; "secv: {name}: {error}"),
         None => eprintln!(rt; "secv: {name}: the file could not be read"),
@@ -89,6 +95,7 @@ fn explain_file(rt: &HostRuntime, words: &[String], error: Option<&io::Error>) {
 
 /// Why the system did not write the output.
 pub fn explain_output(rt: &HostRuntime, error: Option<&io::Error>) {
+    // not used: where this cannot be written, the status tells of it
     let _ = match error {
         Some(error) => eprintln!(rt; "secv: the output could not be written: {error}"),
         None => rt.eprintln("secv: the output could not be written"),

@@ -1,5 +1,6 @@
 -- Each text has a verdict, and so exactly one.
-use Rattle.std.proofs.Common.{◌≡◌, ℕ, suc, zero, ◌+◌, ◌<◌, ◌≤◌, Bool, true, false, ◌&&◌, List, [], ◌∷◌, length, take, Some, ◌⊎◌, inl, inr, refl, sym, ◌∙◌, ap, arith}
+use Rattle.std.proofs.Common.{◌≡◌, ℕ, suc, zero, ◌+◌, ◌<◌, ◌≤◌, Bool, true, false, ◌&&◌, List, []}
+use Rattle.std.proofs.Common.{◌∷◌, length, take, Some, ◌⊎◌, inl, inr, refl, sym, ◌∙◌, ap, arith}
 use Rattle.std.specs.Prelude.{not, slice_get}
 use Rattle.std.specs.List.{list_all, find}
 use Rattle.std.proofs.lemmas.Bool.{and_from, both_ways, cases_order}
@@ -11,7 +12,8 @@ use Rattle.sv_first_ast.specs.Obligations.{obligations, flow_holds, zeros}
 use Rattle.sv_first_ast.proofs.Leak.{leak_falsifies}
 use Rattle.sv_first.proofs.Readings.{MeansOne, MeansNone, one_or_none}
 use Rattle.sv_cli.specs.Text.{accepted_text, refusal_text, limit_text, leak_text}
-use Rattle.sv_cli.specs.Answer.{Answer, accepted, rule_broken, limit_passed, falsified, largest_file, HasTree, IsFirstForm, IsVerdict}
+use Rattle.sv_cli.specs.Answer.{Answer, accepted, rule_broken, limit_passed, falsified}
+use Rattle.sv_cli.specs.Answer.{largest_file, HasTree, IsFirstForm, IsVerdict}
 use Rattle.sv_cli.proofs.Verdicts.{verdict_is_one}
 use Rattle.sv_cli.proofs.Deciding.{start}
 
@@ -25,12 +27,20 @@ record IsFirstFailing {X : Type 0} (p : X → Bool) (xs : List X) (k : ℕ) (x :
 abbrev SomeFails : {X : Type 0} → (X → Bool) → List X → Type 0
 SomeFails {X} p xs = (k : ℕ) × (x : X) × IsFirstFailing p xs k x
 
-fails_here : {X : Type 0} (p : X → Bool) (x : X) (xs : List X) (b : Bool) → p x ≡ b → list_all p (x ∷ xs) ≡ false
+fails_here : {X : Type 0} (p : X → Bool) (x : X) (xs : List X) (b : Bool) → p x ≡ b
+    → list_all p (x ∷ xs) ≡ false
     → (list_all p xs ≡ false → SomeFails p xs) → SomeFails p (x ∷ xs)
 fails_here p x xs false is h later = (zero, x, record { stands = refl; fails = is; earlier = refl })
 fails_here p x xs true is h later =
-    let rest = later (sym (ap (λ (b : Bool). b && list_all p xs) is) ∙ h) in
-    (suc rest.0, rest.1, record { stands = rest.2.stands; fails = rest.2.fails; earlier = and_from (p x) _ is rest.2.earlier })
+    let rest = later (sym (ap (λ (b : Bool). b && list_all p xs) is) ∙ h) in (
+      suc rest.0,
+      rest.1,
+      record {
+        stands = rest.2.stands;
+        fails = rest.2.fails;
+        earlier = and_from (p x) _ is rest.2.earlier;
+      },
+    )
 
 some_fails : {X : Type 0} (p : X → Bool) (xs : List X) → list_all p xs ≡ false → SomeFails p xs
 some_fails p [] h = absurd cc
@@ -40,10 +50,12 @@ some_fails p (x ∷ xs) h = fails_here p x xs (p x) refl h (some_fails p xs)
 abbrev IsFound : {X : Type 0} → (X → Bool) → List X → Type 0
 IsFound {X} p xs = (x : X) × (find (λ y. not (p y)) xs ≡ Some x)
 
-found_here : {X : Type 0} (p : X → Bool) (x : X) (xs : List X) (b : Bool) → p x ≡ b → list_all p (x ∷ xs) ≡ false
+found_here : {X : Type 0} (p : X → Bool) (x : X) (xs : List X) (b : Bool) → p x ≡ b
+    → list_all p (x ∷ xs) ≡ false
     → (list_all p xs ≡ false → IsFound p xs) → IsFound p (x ∷ xs)
 found_here p x xs false is h later = (x, rw is refl)
-found_here p x xs true is h later = behind (later (sym (ap (λ (b : Bool). b && list_all p xs) is) ∙ h))
+found_here p x xs true is h later =
+    behind (later (sym (ap (λ (b : Bool). b && list_all p xs) is) ∙ h))
   where
     behind : IsFound p xs → IsFound p (x ∷ xs)
     behind rest = (rest.0, rw is rest.1)
@@ -58,24 +70,43 @@ abbrev HasVerdict : List ℕ → Type 0
 HasVerdict text = (answer : Answer) × (printed : List ℕ) × IsVerdict text answer printed
 
 -- of a text that means a tree and is of no form that is read
-unbuilt : (text : List ℕ) → length text ≤ largest_file → HasTree text → ((m : ModuleTree) → IsFirstForm text m → ⊥) → HasVerdict text
+unbuilt : (text : List ℕ) → length text ≤ largest_file → HasTree text →
+    ((m : ModuleTree) → IsFirstForm text m → ⊥) → HasVerdict text
 unbuilt text within whole none = (
   rule_broken 199 start [],
   refusal_text 199 start [],
   record {
     within = within;
-    broken = inr (record { whole = whole; no_form = none; numbered = refl; placed = refl; nameless = refl });
+    broken =
+        inr (record {
+          whole = whole;
+          no_form = none;
+          numbered = refl;
+          placed = refl;
+          nameless = refl;
+        });
     prints = refl;
   },
 )
 
 -- of a text of the first form, by whether all obligations hold
-by_flows : (text : List ℕ) (m : ModuleTree) → IsFirstForm text m → (b : Bool) → list_all (flow_holds m) (obligations m) ≡ b → HasVerdict text
-by_flows text m form true holds = (accepted, accepted_text (length (obligations m)), record { tree = m; form = form; flows_hold = holds; prints = refl })
+by_flows : (text : List ℕ) (m : ModuleTree) → IsFirstForm text m → (b : Bool) →
+    list_all (flow_holds m) (obligations m) ≡ b → HasVerdict text
+by_flows text m form true holds = (
+  accepted,
+  accepted_text (length (obligations m)),
+  record {
+    tree = m;
+    form = form;
+    flows_hold = holds;
+    prints = refl;
+  },
+)
 by_flows text m form false leaks =
     let first = some_fails (flow_holds m) (obligations m) leaks in
     let failing = first.1 in
-    let read = found (λ r. flows (label_of m r) (label_of m failing.target)) failing.reads first.2.fails in (
+    let read = found (λ r. flows (label_of m r) (label_of m failing.target)) failing.reads
+    first.2.fails in (
       falsified (first.0 + 1) (zeros m),
       leak_text m (first.0 + 1) failing read.0 (zeros m),
       record {
@@ -95,16 +126,19 @@ by_flows text m form false leaks =
     )
 
 -- of a text that means one module, by whether it is of the first form
-by_form : (text : List ℕ) → length text ≤ largest_file → HasTree text → (one : MeansOne text) → (b : Bool) → is_first_form one.0 ≡ b → HasVerdict text
+by_form : (text : List ℕ) → length text ≤ largest_file → HasTree text → (one : MeansOne text) →
+    (b : Bool) → is_first_form one.0 ≡ b → HasVerdict text
 by_form text within whole one true is =
-    let form : IsFirstForm text one.0 = record { within = within; whole = whole; means = one.1.means; form = is } in
+    let form : IsFirstForm text one.0 =
+    record { within = within; whole = whole; means = one.1.means; form = is } in
     by_flows text one.0 form (list_all (flow_holds one.0) (obligations one.0)) refl
 by_form text within whole one false is = unbuilt text within whole other
   where
     other : (m : ModuleTree) → IsFirstForm text m → ⊥
     other m f = both_ways (is_first_form m) (ap is_first_form (one.1.only m f.means) ∙ is) f.form
 
-by_syntax : (text : List ℕ) → length text ≤ largest_file → MeansOrBreaksSyntax text → HasVerdict text
+by_syntax : (text : List ℕ) → length text ≤ largest_file → MeansOrBreaksSyntax text →
+    HasVerdict text
 by_syntax text within (inr broken) = (
   rule_broken broken.0 broken.2 broken.1,
   refusal_text broken.0 broken.2 broken.1,
@@ -117,7 +151,12 @@ by_syntax text within (inl whole) = by_meaning (one_or_none text)
     by_meaning (inr none) = unbuilt text within whole (λ m f. none m f.means)
 
 within_or_not : (n m : ℕ) → (n ≤ m) ⊎ (m < n)
-within_or_not n m = elim (cases_order n m) [ inl e ↦ inl (omega arith) | inr d ↦ elim d [ inl l ↦ inl (omega arith) | inr l ↦ inr l ] ]
+within_or_not n m =
+    elim (cases_order n m) [
+      | inl e ↦ inl (omega arith)
+      | inr d ↦
+          elim d [ inl l ↦ inl (omega arith) | inr l ↦ inr l ]
+    ]
 
 has_verdict : (text : List ℕ) → HasVerdict text
 has_verdict text = by_size (within_or_not (length text) largest_file)
@@ -126,8 +165,10 @@ has_verdict text = by_size (within_or_not (length text) largest_file)
     by_size (inl within) = by_syntax text within (text_or_rule text)
     by_size (inr large) = (limit_passed 701 [], limit_text 701 [], (large, refl, refl, refl))
 
-pub one_verdict : (text : List ℕ) → (answer : Answer) × (printed : List ℕ) × IsVerdict text answer printed
-    × ((other : Answer) (others : List ℕ) → IsVerdict text other others → (other ≡ answer) × (others ≡ printed))
+pub one_verdict : (text : List ℕ) → (answer : Answer) × (printed : List ℕ)
+    × IsVerdict text answer printed
+    × ((other : Answer) (others : List ℕ) → IsVerdict text other others →
+    (other ≡ answer) × (others ≡ printed))
 one_verdict text =
     let v = has_verdict text in
     (v.0, v.1, v.2, verdict_is_one text v.0 v.1 v.2)

@@ -13,9 +13,12 @@ not_false : (b : Bool) → (b ≡ false → ⊥) → IsTrue b
 not_false true none = refl
 not_false false none = absurd (none refl)
 
-pub holds_unfalsified : (m : ModuleTree) → IsTrue (is_shaped m) → IsTrue (is_first_form m) → (o : Obligation)
+pub holds_unfalsified : (m : ModuleTree) → IsTrue (is_shaped m) → IsTrue (is_first_form m)
+    → (o : Obligation)
     → IsTrue (flow_holds m o) ↔ ((v : Values) → Falsifies m v o → ⊥)
 holds_unfalsified m shaped first o = (
-  λ holds v falsified. let fails : flow_holds m o ≡ false = falsified.fails in both_ways (flow_holds m o) fails holds,
-  λ none. not_false (flow_holds m o) (λ leaks. none (zeros m) (leak_falsifies m shaped first o leaks)),
+  λ holds v falsified. let fails : flow_holds m o ≡ false = falsified.fails in
+      both_ways (flow_holds m o) fails holds,
+  λ none. not_false (flow_holds m o) (λ leaks.
+      none (zeros m) (leak_falsifies m shaped first o leaks)),
 )

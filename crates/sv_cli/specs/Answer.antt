@@ -1,5 +1,6 @@
 -- What the program answers, and when.
-use Rattle.std.specs.Prelude.{◌≡◌, ℕ, ◌+◌, ◌<◌, ◌≤◌, ◌⊎◌, ◌++◌, ◌∷◌, not, IsTrue, List, [], length, take, slice_get, Option, Some, None, MatchOption}
+use Rattle.std.specs.Prelude.{◌≡◌, ℕ, ◌+◌, ◌<◌, ◌≤◌, ◌⊎◌, ◌++◌, ◌∷◌, not, IsTrue, List, [], length}
+use Rattle.std.specs.Prelude.{take, slice_get, Option, Some, None, MatchOption}
 use Rattle.std.specs.List.{list_all, find}
 use Rattle.sv_num.specs.declared.faults.Place.{Place}
 use Rattle.sv_system.specs.System.{Noninterferent, HasOneTrace}
@@ -9,7 +10,8 @@ use Rattle.sv_first_ast.specs.Tree.{ModuleTree}
 use Rattle.sv_first_ast.specs.Meaning.{label_of, flows, system}
 use Rattle.sv_first_ast.specs.Form.{is_first_form}
 use Rattle.sv_first_ast.specs.Spelling.{Means}
-use Rattle.sv_first_ast.specs.Obligations.{Obligation, Values, obligations, flow_holds, Falsifies, zeros}
+use Rattle.sv_first_ast.specs.Obligations.{Obligation, Values, obligations, flow_holds, Falsifies}
+use Rattle.sv_first_ast.specs.Obligations.{zeros}
 use Rattle.sv_cli.specs.declared.outcome.UsageKind.{UsageKind}
 use Rattle.sv_cli.specs.declared.outcome.Valuation.{Valuation}
 use Rattle.sv_cli.specs.declared.outcome.Outcome.{Outcome}
@@ -37,7 +39,8 @@ pub data Answer : Type 0 where
   misused : UsageKind → Answer
 
 abbrev pub values_of : Valuation → Values
-values_of v = record { registers = v.regs.items; inputs = v.inputs.items; next_inputs = v.next_inputs.items }
+values_of v =
+    record { registers = v.regs.items; inputs = v.inputs.items; next_inputs = v.next_inputs.items }
 
 -- the answer of an outcome; a failing object and want of memory give none
 abbrev pub answer_of : Outcome → Option Answer
@@ -65,16 +68,20 @@ pub record IsFirstForm (text : List ℕ) (m : ModuleTree) : Type 0 where
   pub means : Means text m
   pub form : IsTrue (is_first_form m)
 
--- The text means a tree and is of no form that is read so far. This is told at its first place, whatever it is.
-pub record IsNotBuilt (text : List ℕ) (number : ℕ) (place : Place) (names : List (List ℕ)) : Type 0 where
+-- The text means a tree and is of no form that is read so far. This is told at its first place,
+-- whatever it is.
+pub record IsNotBuilt (text : List ℕ) (number : ℕ) (place : Place) (names : List (List ℕ)) :
+    Type 0 where
   pub whole : HasTree text
   pub no_form : (m : ModuleTree) → IsFirstForm text m → ⊥
   pub numbered : number ≡ 199
   pub placed : place ≡ record { line = 1; column = 1 }
   pub nameless : names ≡ []
 
--- The first rule that a text within the limit breaks: one on tokens or on the grammar, at the first place where it breaks one, or else 199.
-pub record IsRefused (text : List ℕ) (number : ℕ) (place : Place) (names : List (List ℕ)) (printed : List ℕ) : Type 0 where
+-- The first rule that a text within the limit breaks: one on tokens or on the grammar, at the first
+-- place where it breaks one, or else 199.
+pub record IsRefused (text : List ℕ) (number : ℕ) (place : Place) (names : List (List ℕ))
+    (printed : List ℕ) : Type 0 where
   pub within : length text ≤ largest_file
   pub broken : BreaksSyntax number names place text ⊎ IsNotBuilt text number place names
   pub prints : printed ≡ refusal_text number place names
@@ -98,34 +105,41 @@ pub record IsFalsified (text : List ℕ) (number : ℕ) (v : Values) (printed : 
   pub falsifies : Falsifies tree v failing
   pub zero : v ≡ zeros tree
   pub read : List ℕ
-  pub first_read : find (λ r. not (flows (label_of tree r) (label_of tree failing.target))) failing.reads ≡ Some read
+  pub first_read : find (λ r. not (flows (label_of tree r) (label_of tree failing.target)))
+      failing.reads ≡ Some read
   pub prints : printed ≡ leak_text tree number failing read v
 
 -- What `check` answers for a text, and what it prints.
 abbrev pub IsVerdict : List ℕ → Answer → List ℕ → Type 0
 IsVerdict text accepted printed = IsAccepted text printed
 IsVerdict text (rule_broken number place names) printed = IsRefused text number place names printed
-IsVerdict text (limit_passed number names) printed = (largest_file < length text) × (number ≡ 701) × (names ≡ []) × (printed ≡ limit_text number names)
+IsVerdict text (limit_passed number names) printed =
+    (largest_file < length text) × (number ≡ 701) × (names ≡ [])
+    × (printed ≡ limit_text number names)
 IsVerdict text (falsified number v) printed = IsFalsified text number v printed
 IsVerdict text (misused kind) printed = ⊥
 
--- One fetch of FILE was made, and it handed out this text: all of it or, where FILE is larger than the largest file, its first
--- bytes, one more than are allowed.
+-- One fetch of FILE was made, and it handed out this text: all of it or, where FILE is larger than
+-- the largest file, its first bytes, one more than are allowed.
 abbrev pub ReadsFile : List ℕ → List ℕ → List Exchange → List Exchange → Type 0
-ReadsFile file text old new = ((new ≡ old ++ fetched file (whole text) ∷ []) × (length text ≤ largest_file))
+ReadsFile file text old new =
+    ((new ≡ old ++ fetched file (whole text) ∷ []) × (length text ≤ largest_file))
     ⊎ ((new ≡ old ++ fetched file (too_long text) ∷ []) × (length text ≡ largest_file + 1))
 
--- What passes between the program and the cabinet for these words, where the text is read: the one fetch of FILE, and nothing
--- where the words are no command.
+-- What passes between the program and the cabinet for these words, where the text is read: the one
+-- fetch of FILE, and nothing where the words are no command.
 abbrev pub Reads : List (List ℕ) → List ℕ → List Exchange → List Exchange → Type 0
-Reads words text old new = MatchOption (usage_of words) (ReadsFile (file_of words) text old new) (λ kind. new ≡ old)
+Reads words text old new =
+    MatchOption (usage_of words) (ReadsFile (file_of words) text old new) (λ kind. new ≡ old)
 
 -- What the program answers to these words and the text that it reads, and what it prints.
 abbrev pub IsAnswer : List (List ℕ) → List ℕ → Answer → List ℕ → Type 0
-IsAnswer words text answer printed = MatchOption (usage_of words) (IsVerdict text answer printed) (λ kind. (answer ≡ misused kind) × (printed ≡ usage_text kind))
+IsAnswer words text answer printed =
+    MatchOption (usage_of words) (IsVerdict text answer printed) (λ kind.
+    (answer ≡ misused kind) × (printed ≡ usage_text kind))
 
--- The text means exactly one module. Any two of its traces that look alike to a level have equal views for it at every cycle, and
--- each start and each list of inputs has exactly one trace.
+-- The text means exactly one module. Any two of its traces that look alike to a level have equal
+-- views for it at every cycle, and each start and each list of inputs has exactly one trace.
 pub record KeepsSecrets (text : List ℕ) : Type 0 where
   pub tree : ModuleTree
   pub means : Means text tree

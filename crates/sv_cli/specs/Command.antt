@@ -1,5 +1,6 @@
 -- The words of the program.
-use Rattle.std.specs.Prelude.{ℕ, Bool, false, not, nat_eq, List, [], ◌∷◌, map, Option, Some, None, codes, string_bytes, String, cond}
+use Rattle.std.specs.Prelude.{ℕ, Bool, false, not, nat_eq, List, [], ◌∷◌, map, Option, Some, None}
+use Rattle.std.specs.Prelude.{codes, string_bytes, String, cond}
 use Rattle.std.specs.declared.alloc.Global.{Global}
 use Rattle.std.specs.Str.{bytes_eq}
 use Rattle.sv_cli.specs.declared.outcome.UsageKind.{UsageKind}
@@ -23,7 +24,8 @@ check_usage (file ∷ word ∷ words) = Some Words
 -- What is wrong with the words; nothing is where they are `check FILE`.
 abbrev pub usage_of : List (List ℕ) → Option UsageKind
 usage_of [] = Some NoCommand
-usage_of (command ∷ words) = cond (bytes_eq command (codes "check")) (check_usage words) (Some UnknownCommand)
+usage_of (command ∷ words) =
+    cond (bytes_eq command (codes "check")) (check_usage words) (Some UnknownCommand)
 
 -- FILE of `check FILE`
 abbrev pub file_of : List (List ℕ) → List ℕ

@@ -19,5 +19,6 @@ pub record Decides (text : List ℕ) (outcome : Outcome) (printed : List ℕ) : 
   pub answer : Answer
   pub gives : answer_of outcome ≡ Some answer
   pub verdict : IsVerdict text answer printed
-  pub only : (other : Answer) (others : List ℕ) → IsVerdict text other others → (other ≡ answer) × (others ≡ printed)
+  pub only : (other : Answer) (others : List ℕ) → IsVerdict text other others →
+      (other ≡ answer) × (others ≡ printed)
   pub secrets : outcome ≡ Done → KeepsSecrets text

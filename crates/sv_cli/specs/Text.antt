@@ -1,5 +1,6 @@
 -- The texts that the program writes. Each line ends with a line feed.
-use Rattle.std.specs.Prelude.{ℕ, Bool, false, List, [], ◌∷◌, ◌++◌, codes, decimal, filter, if◌then◌else◌}
+use Rattle.std.specs.Prelude.{ℕ, Bool, false, List, [], ◌∷◌, ◌++◌, codes, decimal, filter}
+use Rattle.std.specs.Prelude.{if◌then◌else◌}
 use Rattle.std.specs.Fmt.{digits}
 use Rattle.sv_num.specs.declared.faults.Place.{Place}
 use Rattle.sv_first_ast.specs.Tree.{ModuleTree}
@@ -33,22 +34,28 @@ refusal_text number place names =
 
 -- a limit that is passed
 abbrev pub limit_text : ℕ → List (List ℕ) → List ℕ
-limit_text number names = codes "refused " ++ decimal number ++ codes " " ++ rule_name number ++ names_text names ++ codes "\n"
+limit_text number names =
+    codes "refused " ++ decimal number ++ codes " " ++ rule_name number ++ names_text names
+    ++ codes "\n"
 
 -- a line for each name with its value in lower-case hexadecimal
 abbrev pub value_lines : List ℕ → List (List ℕ) → List ℕ → List ℕ
 value_lines word [] values = []
 value_lines word (n ∷ names) [] = []
-value_lines word (n ∷ names) (v ∷ values) = word ++ n ++ codes " " ++ digits 16 false v ++ codes "\n" ++ value_lines word names values
+value_lines word (n ∷ names) (v ∷ values) =
+    word ++ n ++ codes " " ++ digits 16 false v ++ codes "\n" ++ value_lines word names values
 
--- the obligation, its target and the first read that does not flow, then the values that show it: those of the registers, of the
--- inputs and, where the target is a register, of the next inputs
+-- the obligation, its target and the first read that does not flow, then the values that show it:
+-- those of the registers, of the inputs and, where the target is a register, of the next inputs
 abbrev pub flow_text : ℕ → List ℕ → List ℕ → Bool → List (List ℕ) → List (List ℕ) → Values → List ℕ
 flow_text number target read clocked registers inputs v =
-    codes "refused flow " ++ decimal number ++ codes " " ++ target ++ codes " from " ++ read ++ codes "\n"
+    codes "refused flow " ++ decimal number ++ codes " " ++ target ++ codes " from " ++ read
+    ++ codes "\n"
     ++ value_lines (codes "reg ") registers v.registers
     ++ value_lines (codes "in ") inputs v.inputs
     ++ (if clocked then value_lines (codes "next ") inputs v.next_inputs else [])
 
 abbrev pub leak_text : ModuleTree → ℕ → Obligation → List ℕ → Values → List ℕ
-leak_text m number o read v = flow_text number o.target read (is_register m o.target) (filter (is_register m) (signals m)) (filter (is_input m) (signals m)) v
+leak_text m number o read v =
+    flow_text number o.target read (is_register m o.target) (filter (is_register m) (signals m))
+    (filter (is_input m) (signals m)) v

@@ -16,6 +16,3 @@ mod top;
 pub use laws::{each_text_has_one_verdict, flow_holds_where_nothing_falsifies_it};
 pub use outcome::{Broken, Outcome, UsageKind, Valuation};
 pub use top::run;
-
-#[cfg(test)]
-mod tests;

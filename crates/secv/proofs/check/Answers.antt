@@ -5,5 +5,9 @@ use Rattle.secv.proofs.check.Goals as goal
 
 pub returns : goal.returns
 returns c =
-    ended (words_of c.args.words.now) c.status.result c.run-outcome.result (file_exchanges c.new-cabinet.result) (file_exchanges c.run-outcome.new.cabinet) (sink_accepted c.new-out.result) (sink_accepted c.run-outcome.new.out)
-    c.new-cabinet.ensures.no_exchange c.new-out.ensures.none_accepted c.status.ensures c.run-outcome.ensures.answer c.run-outcome.ensures.noninterference c.run-outcome.ensures.usage
+    ended (words_of c.args.words.now) c.status.result c.run-outcome.result
+    (file_exchanges c.new-cabinet.result) (file_exchanges c.run-outcome.new.cabinet)
+    (sink_accepted c.new-out.result) (sink_accepted c.run-outcome.new.out)
+    c.new-cabinet.ensures.no_exchange c.new-out.ensures.none_accepted c.status.ensures
+    c.run-outcome.ensures.answer c.run-outcome.ensures.noninterference
+    c.run-outcome.ensures.usage

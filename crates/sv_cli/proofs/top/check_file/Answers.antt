@@ -5,24 +5,37 @@ use Rattle.sv_cli.proofs.top.check_file.Goals as goal
 
 pub returns-in-Ok-clause-noninterference : goal.returns-in-Ok-clause-noninterference
 returns-in-Ok-clause-noninterference g c done =
-    secrets_sent c.args.file.now (g.C.Cabinet.exchanges c.args.cabinet.now) (g.C.Cabinet.exchanges c.report_on_file.new.cabinet) c.in-Ok.report.outcome c.in-Ok.report.text.items
+    secrets_sent c.args.file.now (g.C.Cabinet.exchanges c.args.cabinet.now)
+    (g.C.Cabinet.exchanges c.report_on_file.new.cabinet) c.in-Ok.report.outcome
+    c.in-Ok.report.text.items
     c.in-Ok.ensures.report (c.send.ensures.done done)
 
 pub returns-in-Ok-clause-answer : goal.returns-in-Ok-clause-answer
 returns-in-Ok-clause-answer g c =
-    answer_sent (answer_of c.send.result) (λ (text : List ℕ). ReadsFile c.args.file.now text (g.C.Cabinet.exchanges c.args.cabinet.now) (g.C.Cabinet.exchanges c.report_on_file.new.cabinet))
-    c.in-Ok.report.outcome c.in-Ok.report.text.items (g.K.Sink.accepted c.args.out.now) (g.K.Sink.accepted c.send.new.out) c.in-Ok.ensures.report c.send.ensures.answered c.send.ensures.whole
+    answer_sent (answer_of c.send.result) (λ (text : List ℕ).
+    ReadsFile c.args.file.now text (g.C.Cabinet.exchanges c.args.cabinet.now)
+    (g.C.Cabinet.exchanges c.report_on_file.new.cabinet))
+    c.in-Ok.report.outcome c.in-Ok.report.text.items (g.K.Sink.accepted c.args.out.now)
+    (g.K.Sink.accepted c.send.new.out) c.in-Ok.ensures.report c.send.ensures.answered
+    c.send.ensures.whole
 
 pub returns-in-Ok-clause-only : goal.returns-in-Ok-clause-only
 returns-in-Ok-clause-only g c =
-    only_sent (answer_of c.send.result) c.args.file.now (g.C.Cabinet.exchanges c.args.cabinet.now) (g.C.Cabinet.exchanges c.report_on_file.new.cabinet) c.in-Ok.report.outcome c.in-Ok.report.text.items
+    only_sent (answer_of c.send.result) c.args.file.now (g.C.Cabinet.exchanges c.args.cabinet.now)
+    (g.C.Cabinet.exchanges c.report_on_file.new.cabinet) c.in-Ok.report.outcome
+    c.in-Ok.report.text.items
     c.in-Ok.ensures.report c.send.ensures.answered
 
 pub returns-in-Ok-clause-front : goal.returns-in-Ok-clause-front
 returns-in-Ok-clause-front g c =
-    front_sent (answer_of c.send.result) c.args.file.now (g.C.Cabinet.exchanges c.args.cabinet.now) (g.C.Cabinet.exchanges c.report_on_file.new.cabinet) c.in-Ok.report.outcome c.in-Ok.report.text.items
-    (g.K.Sink.accepted c.args.out.now) (g.K.Sink.accepted c.send.new.out) c.in-Ok.ensures.report c.send.ensures.front
+    front_sent (answer_of c.send.result) c.args.file.now (g.C.Cabinet.exchanges c.args.cabinet.now)
+    (g.C.Cabinet.exchanges c.report_on_file.new.cabinet) c.in-Ok.report.outcome
+    c.in-Ok.report.text.items
+    (g.K.Sink.accepted c.args.out.now) (g.K.Sink.accepted c.send.new.out) c.in-Ok.ensures.report
+    c.send.ensures.front
 
 pub returns-in-Ok-clause-silent : goal.returns-in-Ok-clause-silent
 returns-in-Ok-clause-silent g c failed =
-    absurd (reads_none c.args.file.now c.in-Ok.ensures.report.0 (g.C.Cabinet.exchanges c.args.cabinet.now) (g.C.Cabinet.exchanges c.report_on_file.new.cabinet) c.in-Ok.ensures.report.1 failed)
+    absurd (reads_none c.args.file.now c.in-Ok.ensures.report.0
+    (g.C.Cabinet.exchanges c.args.cabinet.now)
+    (g.C.Cabinet.exchanges c.report_on_file.new.cabinet) c.in-Ok.ensures.report.1 failed)

@@ -6,12 +6,17 @@ use Rattle.sv_cli.proofs.top.report_on_file.Goals as goal
 
 pub returns-in-Ok-clause-report : goal.returns-in-Ok-clause-report
 returns-in-Ok-clause-report g c =
-    whole_reported c.args.file.now c.in-Ok.bytes c.report_on_text.result (g.C.Cabinet.exchanges c.args.cabinet.now) (g.C.Cabinet.exchanges c.fetch_text.new.cabinet)
+    whole_reported c.args.file.now c.in-Ok.bytes c.report_on_text.result
+    (g.C.Cabinet.exchanges c.args.cabinet.now) (g.C.Cabinet.exchanges c.fetch_text.new.cabinet)
     c.in-Ok.ensures.exchange c.in-Ok.ensures.within
-    (subst (λ (t : List ℕ). IfOk c.report_on_text.result (λ p. Decides t p.outcome p.text.items)) c.deref.ensures.value c.report_on_text.ensures.report)
+    (subst (λ (t : List ℕ). IfOk c.report_on_text.result (λ p. Decides t p.outcome p.text.items))
+    c.deref.ensures.value c.report_on_text.ensures.report)
 
-pub returns-in-Ok-report_of_large_file-clause-report : goal.returns-in-Ok-report_of_large_file-clause-report
+pub returns-in-Ok-report_of_large_file-clause-report :
+    goal.returns-in-Ok-report_of_large_file-clause-report
 returns-in-Ok-report_of_large_file-clause-report g c =
-    large_decided c.in-Err-Long.field-0 c.in-Err-Long.field-0-0 c.args.file.now c.in-Ok-report_of_large_file.report.outcome c.in-Ok-report_of_large_file.report.text.items
-    (g.C.Cabinet.exchanges c.args.cabinet.now) (g.C.Cabinet.exchanges c.fetch_text.new.cabinet) c.in-Err-Long.field-0-is c.in-Err-Long.ensures.exchange c.in-Err-Long.ensures.long_length
+    large_decided c.in-Err-Long.field-0 c.in-Err-Long.field-0-0 c.args.file.now
+    c.in-Ok-report_of_large_file.report.outcome c.in-Ok-report_of_large_file.report.text.items
+    (g.C.Cabinet.exchanges c.args.cabinet.now) (g.C.Cabinet.exchanges c.fetch_text.new.cabinet)
+    c.in-Err-Long.field-0-is c.in-Err-Long.ensures.exchange c.in-Err-Long.ensures.long_length
     c.in-Ok-report_of_large_file.ensures.answer c.in-Ok-report_of_large_file.ensures.text

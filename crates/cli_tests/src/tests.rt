@@ -1,7 +1,8 @@
-use crate::*;
+// Whole outputs of `run` on worked examples.
 use std::alloc::{AllocError, Global};
 use std::test::Fail;
 use sv_ast::{Expr, Item, Stmt, Text};
+use sv_cli::run;
 use sv_io::{MemCabinet, MemSink, SureSource};
 use sv_num::BinOp;
 use sv_parse::read_text;

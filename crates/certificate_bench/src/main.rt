@@ -15,6 +15,7 @@ use sv_proof::{check_log, read_proof, write_proof};
 
 fn main(rt: HostRuntime) -> Result<()> {
     let mut words = env::args(&rt)?;
+    // the first word is the program's own name
     let _program = words.next();
     let resolutions = words
         .next()

@@ -28,6 +28,7 @@ struct Instance {
 
 fn main(rt: HostRuntime) -> Result<()> {
     let mut words = env::args(&rt)?;
+    // the first word is the program's own name
     let _program = words.next();
     let budget = words
         .next()
@@ -108,6 +109,7 @@ fn read_instances(rt: &impl Input, alloc: Global) -> Result<Vec<Instance>> {
 // The instance of a line `p cnf VARIABLES CLAUSES`, with no clause yet.
 fn begin_instance(alloc: Global, text: &str) -> Result<Instance> {
     let mut words = text.split_whitespace();
+    // the words `p` and `cnf`, of which nothing is kept
     let _p = words.next();
     let _cnf = words.next();
     let variables = words.next().context("how many variables?")?.parse::<u32>()?;

@@ -1,5 +1,6 @@
 -- The text of a certificate: a function of the logs that it holds.
-use Rattle.std.specs.Prelude.{◌≢◌, ℕ, ◌+◌, ◌<◌, ◌^◌, List, [], ◌∷◌, ◌++◌, map, length, All, ℤ, codes, decimal}
+use Rattle.std.specs.Prelude.{◌≢◌, ℕ, ◌+◌, ◌<◌, ◌^◌, List, [], ◌∷◌, ◌++◌, map, length, All, ℤ}
+use Rattle.std.specs.Prelude.{codes, decimal}
 use Rattle.std.specs.List.{flat_map}
 use Rattle.std.specs.Fmt.{signed_decimal}
 use Rattle.sv_clause.specs.Literals.{IsClause}
@@ -24,7 +25,8 @@ number_words chain = flat_map (λ number. word (decimal number)) chain
 
 -- a step's line: the literals of its clause, 0, the numbers of its chain, 0
 abbrev pub step_line : Step → List ℕ
-step_line step = literal_words step.clause ++ (word (codes "0") ++ (number_words step.chain ++ codes "0"))
+step_line step =
+    literal_words step.clause ++ (word (codes "0") ++ (number_words step.chain ++ codes "0"))
 
 -- the line before the steps of a log: the log's number from 1, and how many steps follow
 abbrev pub log_line : ℕ → ℕ → List ℕ
@@ -33,11 +35,14 @@ log_line number steps = codes "o " ++ (word (decimal number) ++ decimal steps)
 -- the lines of logs that are numbered from a number on
 abbrev pub log_lines : ℕ → List (List Step) → List (List ℕ)
 log_lines number [] = []
-log_lines number (steps ∷ logs) = log_line number (length steps) ∷ map step_line steps ++ log_lines (number + 1) logs
+log_lines number (steps ∷ logs) =
+    log_line number (length steps) ∷ map step_line steps ++ log_lines (number + 1) logs
 
 -- the lines of the certificate of logs
 abbrev pub proof_lines : List (List Step) → List (List ℕ)
-proof_lines logs = codes "secv-proof 1" ∷ (codes "obligations " ++ decimal (length logs)) ∷ log_lines 1 logs ++ codes "end" ∷ []
+proof_lines logs =
+    codes "secv-proof 1" ∷ (codes "obligations " ++ decimal (length logs)) ∷ log_lines 1 logs
+    ++ codes "end" ∷ []
 
 -- lines as bytes: a line feed stands behind each
 abbrev pub text_of : List (List ℕ) → List ℕ

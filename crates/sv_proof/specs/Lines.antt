@@ -12,10 +12,13 @@ Lacks byte bytes = AllByRecursion (λ other. other ≢ byte) bytes
 
 -- some certificate begins with these lines
 abbrev pub BeginCertificate : List (List ℕ) → Type 0
-BeginCertificate lines = (logs : List (List Step)) × (more : List (List ℕ)) × AreLogs logs × (proof_lines logs ≡ lines ++ more)
+BeginCertificate lines =
+    (logs : List (List Step)) × (more : List (List ℕ)) × AreLogs logs
+    × (proof_lines logs ≡ lines ++ more)
 
--- line n, counted from 1, is the first that breaks the text: the lines before it begin a certificate, and with it they begin
--- none; or it is missing or has no line feed, and the bytes are no certificate
+-- line n, counted from 1, is the first that breaks the text: the lines before it begin a
+-- certificate, and with it they begin none; or it is missing or has no line feed, and the bytes are
+-- no certificate
 pub record IsFirstBroken (bytes : List ℕ) (n : ℕ) : Type 0 where
   pub lines : List (List ℕ)
   pub rest : List ℕ
@@ -23,7 +26,8 @@ pub record IsFirstBroken (bytes : List ℕ) (n : ℕ) : Type 0 where
   pub each : AllByRecursion (Lacks 10) lines
   pub number : n ≡ length lines + 1
   pub begins : BeginCertificate lines
-  pub breaks : (line more : List ℕ) → Lacks 10 line → rest ≡ line ++ 10 ∷ more → BeginCertificate (lines ++ line ∷ []) → ⊥
+  pub breaks : (line more : List ℕ) → Lacks 10 line → rest ≡ line ++ 10 ∷ more →
+      BeginCertificate (lines ++ line ∷ []) → ⊥
   pub incomplete : (logs : List (List Step)) → AreLogs logs → bytes ≡ proof_text logs → ⊥
 
 -- the fault of bytes that are no certificate; want of memory says nothing

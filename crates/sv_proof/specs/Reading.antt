@@ -1,14 +1,16 @@
 -- What is read of a certificate on the way, and where it stops.
 use Rattle.std.specs.Prelude.{◌≡◌, ◌⊎◌, ℕ, ◌+◌, ◌<◌, ◌^◌, List, ◌∷◌, ◌++◌, map, length, All}
 use Rattle.sv_clause.specs.Logs.{Step}
-use Rattle.sv_proof.specs.Certificate.{step_line, log_line, log_lines, text_of, IsWritable, IsWritableLog}
+use Rattle.sv_proof.specs.Certificate.{step_line, log_line, log_lines, text_of, IsWritable}
+use Rattle.sv_proof.specs.Certificate.{IsWritableLog}
 use Rattle.sv_proof.specs.Lines.{Lacks}
 use Rattle.sv_proof.specs.declared.read.ProofFault.{ProofFault}
 use Rattle.sv_proof.specs.declared.read.ProofFault.TheVariants.{Text, OutOfMemory}
 
 -- no line of a kind comes next
 abbrev pub NextIsNo : (List ℕ → Type 0) → List ℕ → Type 0
-NextIsNo kind bytes = (line more : List ℕ) → Lacks 10 line → bytes ≡ line ++ 10 ∷ more → kind line → ⊥
+NextIsNo kind bytes =
+    (line more : List ℕ) → Lacks 10 line → bytes ≡ line ++ 10 ∷ more → kind line → ⊥
 
 -- the line of a step
 abbrev pub IsStepLine : List ℕ → Type 0
@@ -62,10 +64,12 @@ pub record StopsInLog (bytes : List ℕ) (count place : ℕ) : Type 0 where
 
 -- a fault in the steps, the first of them on this line
 abbrev pub StepsFault : List ℕ → ℕ → ℕ → ProofFault → Type 0
-StepsFault bytes count first (Text line) = (place : ℕ) × (line ≡ first + place) × StopsInSteps bytes count place
+StepsFault bytes count first (Text line) =
+    (place : ℕ) × (line ≡ first + place) × StopsInSteps bytes count place
 StepsFault bytes count first OutOfMemory = Unit {0}
 
 -- a fault in the logs, the first of them on line 3
 abbrev pub LogsFault : List ℕ → ℕ → ProofFault → Type 0
-LogsFault bytes count (Text line) = (place : ℕ) × (line ≡ 3 + place) × (StopsAtLog bytes count place ⊎ StopsInLog bytes count place)
+LogsFault bytes count (Text line) =
+    (place : ℕ) × (line ≡ 3 + place) × (StopsAtLog bytes count place ⊎ StopsInLog bytes count place)
 LogsFault bytes count OutOfMemory = Unit {0}

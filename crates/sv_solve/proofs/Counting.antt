@@ -1,9 +1,12 @@
 -- How many clauses there are over some variables.
-use Rattle.std.proofs.Common.{◌≡◌, ◌≢◌, ℕ, zero, suc, ◌+◌, ◌*◌, ◌<◌, ◌≤◌, ◌^◌, Bool, true, false, cond, ℤ, pos, negsuc, neg_ℤ, unsigned_abs, List, [], ◌∷◌, refl, sym, ap, ◌∙◌, ⊎_elim, length, get_or, map, eqb, arith}
+use Rattle.std.proofs.Common.{◌≡◌, ◌≢◌, ℕ, zero, suc, ◌+◌, ◌*◌, ◌<◌, ◌≤◌, ◌^◌, Bool, true, false}
+use Rattle.std.proofs.Common.{cond, ℤ, pos, negsuc, neg_ℤ, unsigned_abs, List, [], ◌∷◌, refl, sym}
+use Rattle.std.proofs.Common.{ap, ◌∙◌, ⊎_elim, length, get_or, map, eqb, arith}
 use Rattle.std.specs.Prelude.{All}
 use Rattle.std.specs.List.{list_any}
 use Rattle.std.proofs.Math.Nat.{pow-suc, mul-le-mul_left}
-use Rattle.std.proofs.lemmas.Bool.{false≢true, or_cases, cases_lt, cases_order, eqb-true, ne_eqb, false_from_ne_true}
+use Rattle.std.proofs.lemmas.Bool.{false≢true, or_cases, cases_lt, cases_order, eqb-true, ne_eqb}
+use Rattle.std.proofs.lemmas.Bool.{false_from_ne_true}
 use Rattle.std.proofs.lemmas.List.{get_or-map, length-map}
 use Rattle.std.proofs.lemmas.Map.Keys.{IsDistinct-from_apart}
 use Rattle.std.proofs.lemmas.Map.Steps.{length-le_from_distinct_below}
@@ -38,7 +41,8 @@ unfolding number
 number-below zero clause = omega arith
 number-below (suc n) clause =
     let below : number n clause < 3 ^ n = number-below n clause in
-    let top : 3 ^ n * digit (suc n) clause ≤ 3 ^ n * 2 = mul-le-mul_left (3 ^ n) (digit-small (suc n) clause) in
+    let top : 3 ^ n * digit (suc n) clause ≤ 3 ^ n * 2 =
+    mul-le-mul_left (3 ^ n) (digit-small (suc n) clause) in
     let size : 3 ^ suc n ≡ 3 ^ n * 3 = pow-suc 3 n in
     omega arith
 
@@ -50,20 +54,26 @@ lower_top a b x y p h lt e =
 
 same_top : (a b x y p : ℕ) → a < p → b < p → a + p * x ≡ b + p * y → (a ≡ b) × (x ≡ y)
 same_top a b x y p ha hb e =
-    let top : x ≡ y = ⊎_elim (λ same. same) (λ other. ⊎_elim (λ lt. absurd (lower_top a b x y p ha lt e)) (λ gt. absurd (lower_top b a y x p hb gt (sym e))) other) (cases_order x y) in
+    let top : x ≡ y = ⊎_elim (λ same. same) (λ other.
+    ⊎_elim (λ lt. absurd (lower_top a b x y p ha lt e)) (λ gt.
+    absurd (lower_top b a y x p hb gt (sym e))) other) (cases_order x y) in
     (let e' : a + p * y ≡ b + p * y = ap (λ z. a + p * z) (sym top) ∙ e in omega arith, top)
 
-same_digits : (n : ℕ) (c d : List ℤ) → number n c ≡ number n d → (v : ℕ) → 0 < v → v ≤ n → digit v c ≡ digit v d
+same_digits : (n : ℕ) (c d : List ℤ) → number n c ≡ number n d → (v : ℕ) → 0 < v → v ≤ n →
+    digit v c ≡ digit v d
 unfolding number
 same_digits zero c d e v low high = absurd (omega arith)
 same_digits (suc n) c d e v low high =
-    let parts = same_top (number n c) (number n d) (digit (suc n) c) (digit (suc n) d) (3 ^ n) (number-below n c) (number-below n d) e in
+    let parts = same_top (number n c) (number n d) (digit (suc n) c) (digit (suc n) d) (3 ^ n)
+    (number-below n c) (number-below n d) e in
     ⊎_elim
     (λ same. ap (λ z. digit z c) same ∙ parts.1 ∙ ap (λ z. digit z d) (sym same))
-    (λ other. ⊎_elim (λ lt. same_digits n c d parts.0 v low (omega arith)) (λ gt. absurd (omega arith)) other)
+    (λ other. ⊎_elim (λ lt. same_digits n c d parts.0 v low (omega arith)) (λ gt.
+    absurd (omega arith)) other)
     (cases_order v (suc n))
 
-same_conds : (p q r s : Bool) → (p ≡ true → q ≡ true → ⊥) → (r ≡ true → s ≡ true → ⊥) → ◌≡◌ {A = ℕ} (cond p 1 (cond q 2 0)) (cond r 1 (cond s 2 0)) → (p ≡ r) × (q ≡ s)
+same_conds : (p q r s : Bool) → (p ≡ true → q ≡ true → ⊥) → (r ≡ true → s ≡ true → ⊥) →
+    ◌≡◌ {A = ℕ} (cond p 1 (cond q 2 0)) (cond r 1 (cond s 2 0)) → (p ≡ r) × (q ≡ s)
 same_conds true true r s n m e = absurd (n refl refl)
 same_conds true false true true n m e = absurd (m refl refl)
 same_conds true false true false n m e = (refl, refl)
@@ -76,50 +86,74 @@ same_conds false false true s n m e = absurd (omega arith)
 same_conds false false false true n m e = absurd (omega arith)
 same_conds false false false false n m e = (refl, refl)
 
-same_signs : (n : ℕ) (c d : List ℤ) (v : ℕ) → IsClauseOf n c → IsClauseOf n d → digit v c ≡ digit v d → (stands (pos v) c ≡ stands (pos v) d) × (stands (neg_ℤ (pos v)) c ≡ stands (neg_ℤ (pos v)) d)
+same_signs : (n : ℕ) (c d : List ℤ) (v : ℕ) → IsClauseOf n c → IsClauseOf n d →
+    digit v c ≡ digit v d → (stands (pos v) c ≡ stands (pos v) d)
+    × (stands (neg_ℤ (pos v)) c ≡ stands (neg_ℤ (pos v)) d)
 unfolding digit
 same_signs n c d v hc hd e =
-    same_conds (stands (pos v) c) (stands (neg_ℤ (pos v)) c) (stands (pos v) d) (stands (neg_ℤ (pos v)) d) (one_sign (pos v) c hc.normal) (one_sign (pos v) d hd.normal) e
+    same_conds (stands (pos v) c) (stands (neg_ℤ (pos v)) c) (stands (pos v) d)
+    (stands (neg_ℤ (pos v)) d) (one_sign (pos v) c hc.normal) (one_sign (pos v) d hd.normal) e
 
 -- a literal of another variable does not stand there
-stands_not : (n : ℕ) (c : List ℤ) (l : ℤ) → IsClauseOf n c → (0 < unsigned_abs l → unsigned_abs l ≤ n → ⊥) → stands l c ≡ false
-stands_not n c l h out = false_from_ne_true (stands l c) (λ e. out (above 0 l c h.normal e) (h.within l e))
+stands_not : (n : ℕ) (c : List ℤ) (l : ℤ) → IsClauseOf n c →
+    (0 < unsigned_abs l → unsigned_abs l ≤ n → ⊥) → stands l c ≡ false
+stands_not n c l h out =
+    false_from_ne_true (stands l c) (λ e. out (above 0 l c h.normal e) (h.within l e))
 
-same_literals : (n : ℕ) (c d : List ℤ) → IsClauseOf n c → IsClauseOf n d → number n c ≡ number n d → SameLiterals c d
-same_literals n c d hc hd e (pos zero) = stands_not n c (pos zero) hc (λ low high. omega arith) ∙ sym (stands_not n d (pos zero) hd (λ low high. omega arith))
+same_literals : (n : ℕ) (c d : List ℤ) → IsClauseOf n c → IsClauseOf n d → number n c ≡ number n d →
+    SameLiterals c d
+same_literals n c d hc hd e (pos zero) =
+    stands_not n c (pos zero) hc (λ low high. omega arith)
+    ∙ sym (stands_not n d (pos zero) hd (λ low high. omega arith))
 same_literals n c d hc hd e (pos (suc k)) =
-    ⊎_elim (λ high. (same_signs n c d (suc k) hc hd (same_digits n c d e (suc k) (omega arith) (omega arith))).0)
-    (λ out. stands_not n c (pos (suc k)) hc (λ low high. omega arith) ∙ sym (stands_not n d (pos (suc k)) hd (λ low high. omega arith)))
+    ⊎_elim (λ high.
+    (same_signs n c d (suc k) hc hd
+    (same_digits n c d e (suc k) (omega arith) (omega arith))).0)
+    (λ out. stands_not n c (pos (suc k)) hc (λ low high. omega arith)
+    ∙ sym (stands_not n d (pos (suc k)) hd (λ low high. omega arith)))
     (cases_lt k n)
 same_literals n c d hc hd e (negsuc k) =
-    ⊎_elim (λ high. (same_signs n c d (suc k) hc hd (same_digits n c d e (suc k) (omega arith) (omega arith))).1)
-    (λ out. stands_not n c (negsuc k) hc (λ low high. omega arith) ∙ sym (stands_not n d (negsuc k) hd (λ low high. omega arith)))
+    ⊎_elim (λ high.
+    (same_signs n c d (suc k) hc hd
+    (same_digits n c d e (suc k) (omega arith) (omega arith))).1)
+    (λ out. stands_not n c (negsuc k) hc (λ low high. omega arith)
+    ∙ sym (stands_not n d (negsuc k) hd (λ low high. omega arith)))
     (cases_lt k n)
 
 -- a clause is known by its number
-same_number : (n : ℕ) (c d : List ℤ) → IsClauseOf n c → IsClauseOf n d → number n c ≡ number n d → c ≡ d
+same_number : (n : ℕ) (c d : List ℤ) → IsClauseOf n c → IsClauseOf n d →
+    number n c ≡ number n d → c ≡ d
 same_number n c d hc hd e = same_clause c d hc.normal hd.normal (same_literals n c d hc hd e)
 
-any_place : (test : ℕ → Bool) (xs : List ℕ) → list_any test xs ≡ true → (i : ℕ) × (i < length xs) × (test (get_or xs i 0) ≡ true)
+any_place : (test : ℕ → Bool) (xs : List ℕ) → list_any test xs ≡ true →
+    (i : ℕ) × (i < length xs) × (test (get_or xs i 0) ≡ true)
 any_place test [] e = absurd (false≢true e)
 any_place test (x ∷ xs) e =
-    ⊎_elim (λ here. (0, omega arith, here)) (λ there. let r = any_place test xs there in let small : r.0 < length xs = r.1 in (suc r.0, omega arith, r.2)) (or_cases (test x) (list_any test xs) e)
+    ⊎_elim (λ here. (0, omega arith, here)) (λ there. let r = any_place test xs there in
+    let small : r.0 < length xs = r.1 in
+    (suc r.0, omega arith, r.2)) (or_cases (test x) (list_any test xs) e)
 
 -- different clauses over n variables are at most 3 ^ n
-clauses_below : (n : ℕ) (clauses : List (List ℤ)) → All (IsClauseOf n) clauses → ((i j : ℕ) → i < j → j < length clauses → get_or clauses i [] ≢ get_or clauses j []) → length clauses ≤ 3 ^ n
+clauses_below : (n : ℕ) (clauses : List (List ℤ)) → All (IsClauseOf n) clauses →
+    ((i j : ℕ) → i < j → j < length clauses → get_or clauses i [] ≢ get_or clauses j []) →
+    length clauses ≤ 3 ^ n
 clauses_below n clauses of apart =
     let numbers = map (number n) clauses in
     let size : length numbers ≡ length clauses = length-map clauses (number n) in
-    let at : (i d : ℕ) → i < length clauses → get_or numbers i d ≡ number n (get_or clauses i []) = λ i d h. get_or-map (number n) clauses i [] d h in
+    let at : (i d : ℕ) → i < length clauses → get_or numbers i d ≡ number n (get_or clauses i []) =
+    λ i d h. get_or-map (number n) clauses i [] d h in
     let most : length numbers ≤ 3 ^ n =
     length-le_from_distinct_below numbers (3 ^ n)
     (IsDistinct-from_apart eqb numbers
     (λ i j d lt h. let small : j < length clauses = omega arith in
     ne_eqb (get_or numbers i d) (get_or numbers j d)
-    (λ e. apart i j lt small (same_number n (get_or clauses i []) (get_or clauses j []) (of i [] (omega arith)) (of j [] small) (sym (at i d (omega arith)) ∙ e ∙ at j d small)))))
+    (λ e. apart i j lt small
+    (same_number n (get_or clauses i []) (get_or clauses j []) (of i [] (omega arith))
+    (of j [] small) (sym (at i d (omega arith)) ∙ e ∙ at j d small)))))
     (λ q e. let r = any_place (eqb q) numbers e in
     let here : r.0 < length clauses = let low : r.0 < length numbers = r.1 in omega arith in
-    let is : q ≡ number n (get_or clauses r.0 []) = eqb-true q (get_or numbers r.0 0) r.2 ∙ at r.0 0 here in
+    let is : q ≡ number n (get_or clauses r.0 []) =
+    eqb-true q (get_or numbers r.0 0) r.2 ∙ at r.0 0 here in
     let below : number n (get_or clauses r.0 []) < 3 ^ n = number-below n (get_or clauses r.0 []) in
     omega arith) in
     omega arith
@@ -127,24 +161,30 @@ clauses_below n clauses of apart =
 empty_of : (n : ℕ) → IsClauseOf n []
 empty_of n = record { normal = tt; within = λ l e. absurd (false≢true e) }
 
-all_more : (n : ℕ) (clauses : List (List ℤ)) → All (IsClauseOf n) clauses → All (IsClauseOf n) ([] ∷ clauses)
+all_more : (n : ℕ) (clauses : List (List ℤ)) → All (IsClauseOf n) clauses →
+    All (IsClauseOf n) ([] ∷ clauses)
 all_more n clauses of zero d h = empty_of n
 all_more n clauses of (suc k) d h = of k d (omega arith)
 
-apart_more : (clauses : List (List ℤ)) → ((i : ℕ) → i < length clauses → get_or clauses i [] ≢ []) → ((i j : ℕ) → i < j → j < length clauses → get_or clauses i [] ≢ get_or clauses j [])
-    → (i j : ℕ) → i < j → j < length ([] ∷ clauses) → get_or ([] ∷ clauses) i [] ≢ get_or ([] ∷ clauses) j []
+apart_more : (clauses : List (List ℤ)) → ((i : ℕ) → i < length clauses → get_or clauses i [] ≢ [])
+    → ((i j : ℕ) → i < j → j < length clauses → get_or clauses i [] ≢ get_or clauses j [])
+    → (i j : ℕ) → i < j → j < length ([] ∷ clauses)
+    → get_or ([] ∷ clauses) i [] ≢ get_or ([] ∷ clauses) j []
 apart_more clauses some apart zero zero lt h e = absurd (omega arith)
 apart_more clauses some apart zero (suc j) lt h e = some j (omega arith) (sym e)
 apart_more clauses some apart (suc i) zero lt h e = absurd (omega arith)
 apart_more clauses some apart (suc i) (suc j) lt h e = apart i j (omega arith) (omega arith) e
 
 -- different clauses over n variables that are not empty are fewer than 3 ^ n
-pub steps_below : (n : ℕ) (steps : List Step) → All (IsClauseOf n) (clauses_of steps) → All (λ step. step.clause ≢ []) steps → AreDifferent steps → length steps < 3 ^ n
+pub steps_below : (n : ℕ) (steps : List Step) → All (IsClauseOf n) (clauses_of steps) →
+    All (λ step. step.clause ≢ []) steps → AreDifferent steps → length steps < 3 ^ n
 steps_below n steps of some apart =
     let clauses = clauses_of steps in
     let size : length clauses ≡ length steps = length-map steps (λ s. s.clause) in
     let none : Step = record { clause = []; chain = [] } in
     let most : length ([] ∷ clauses) ≤ 3 ^ n =
     clauses_below n ([] ∷ clauses) (all_more n clauses of)
-    (apart_more clauses (λ i h e. some i none (omega arith) (sym (get_or-map (λ s. s.clause) steps i none [] (omega arith)) ∙ e)) (λ i j lt h. apart i j [] lt h)) in
+    (apart_more clauses (λ i h e.
+    some i none (omega arith) (sym (get_or-map (λ s. s.clause) steps i none [] (omega arith))
+    ∙ e)) (λ i j lt h. apart i j [] lt h)) in
     omega arith

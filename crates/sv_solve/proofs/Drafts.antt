@@ -1,5 +1,6 @@
 -- A learned while it is drafted.
-use Rattle.std.proofs.Common.{◌≡◌, ℕ, ◌+◌, ◌-◌, ◌<◌, ◌≤◌, true, false, ℤ, pos, neg_ℤ, List, [], ◌∷◌, ◌++◌, refl, sym, ap, ◌∙◌, ⊎_elim, length, take, get_or, arith}
+use Rattle.std.proofs.Common.{◌≡◌, ℕ, ◌+◌, ◌-◌, ◌<◌, ◌≤◌, true, false, ℤ, pos, neg_ℤ, List, [], ◌∷◌}
+use Rattle.std.proofs.Common.{◌++◌, refl, sym, ap, ◌∙◌, ⊎_elim, length, take, get_or, arith}
 use Rattle.std.specs.Ordering.{int_eq}
 use Rattle.sv_clause.specs.Literals.{stands, SameLiterals}
 use Rattle.sv_clause.specs.Units.{IsOpen}
@@ -8,24 +9,32 @@ use Rattle.sv_clause.proofs.Merging.{neg-neg}
 use Rattle.sv_solve.specs.Lists.{EachOpen}
 use Rattle.sv_solve.specs.ConflictClauses.{BecameFalse, IsDraft}
 use Rattle.sv_solve.specs.Search.{OthersFalse}
-use Rattle.sv_solve.proofs.Places.{stands_push_old, stands_push_new, stands_push_cases, stands_is, not_stands_take_le, or_nothing}
+use Rattle.sv_solve.proofs.Places.{stands_push_old, stands_push_new, stands_push_cases, stands_is}
+use Rattle.sv_solve.proofs.Places.{not_stands_take_le, or_nothing}
 use Rattle.sv_solve.proofs.Trails.{stands_before}
 
 module _ (trail : List ℤ) (first : ℤ) (mark : ℕ) where
-  pub draft_start : (literals : List ℤ) (bound : ℕ) → literals ≡ first ∷ [] → IsDraft trail first literals bound 0 mark
+  pub draft_start : (literals : List ℤ) (bound : ℕ) → literals ≡ first ∷ [] →
+      IsDraft trail first literals bound 0 mark
   draft_start literals bound is =
       record {
         early = omega arith;
         reach = λ h. absurd (omega arith);
-        member = ap (stands first) is ∙ or_nothing (int_eq first first) ∙ int_eq-same first first refl;
-        others = λ l e ne. absurd (ne (same_from_int_eq l first (sym (or_nothing (int_eq l first)) ∙ sym (ap (stands l) is) ∙ e)));
+        member =
+            ap (stands first) is ∙ or_nothing (int_eq first first) ∙ int_eq-same first first refl;
+        others =
+            λ l e ne.
+            absurd (ne (same_from_int_eq l first (sym (or_nothing (int_eq l first))
+            ∙ sym (ap (stands l) is) ∙ e)));
         latest = λ h. absurd (omega arith);
       }
 
-  earlier : (l : ℤ) (from from' to : ℕ) → from' ≤ from → BecameFalse trail l from to → BecameFalse trail l from' to
+  earlier : (l : ℤ) (from from' to : ℕ) → from' ≤ from → BecameFalse trail l from to →
+      BecameFalse trail l from' to
   earlier l from from' to le (i, low, high, at) = (i, omega arith, high, at)
 
-  pub draft_down : (literals : List ℤ) (bound p keep : ℕ) → p ≤ bound → IsDraft trail first literals bound keep mark → IsDraft trail first literals p keep mark
+  pub draft_down : (literals : List ℤ) (bound p keep : ℕ) → p ≤ bound →
+      IsDraft trail first literals bound keep mark → IsDraft trail first literals p keep mark
   draft_down literals bound p keep le d =
       record {
         early = d.early;
@@ -36,7 +45,9 @@ module _ (trail : List ℤ) (first : ℤ) (mark : ℕ) where
       }
 
   -- one literal more, where there is another already
-  pub draft_more : (literals now : List ℤ) (bound p keep : ℕ) → bound ≡ p + 1 → 0 < keep → now ≡ literals ++ neg_ℤ (get_or trail p (pos 0)) ∷ [] → IsDraft trail first literals bound keep mark → IsDraft trail first now p keep mark
+  pub draft_more : (literals now : List ℤ) (bound p keep : ℕ) → bound ≡ p + 1 → 0 < keep →
+      now ≡ literals ++ neg_ℤ (get_or trail p (pos 0)) ∷ [] →
+      IsDraft trail first literals bound keep mark → IsDraft trail first now p keep mark
   draft_more literals now bound p keep at some is d =
       let t = get_or trail p (pos 0) in
       let r = d.reach some in
@@ -48,11 +59,16 @@ module _ (trail : List ℤ) (first : ℤ) (mark : ℕ) where
             (λ old. earlier l bound p keep (omega arith) (d.others l old ne))
             (λ same. (p, omega arith, omega (arith, r), sym (ap neg_ℤ same ∙ neg-neg t)))
             (stands_push_cases l (neg_ℤ t) literals (sym (ap (stands l) is) ∙ e));
-        latest = λ h. ap (stands (neg_ℤ (get_or trail (keep - 1) (pos 0)))) is ∙ stands_push_old (neg_ℤ (get_or trail (keep - 1) (pos 0))) (neg_ℤ t) literals (d.latest h);
+        latest =
+            λ h. ap (stands (neg_ℤ (get_or trail (keep - 1) (pos 0)))) is
+            ∙ stands_push_old (neg_ℤ (get_or trail (keep - 1) (pos 0))) (neg_ℤ t) literals
+            (d.latest h);
       }
 
   -- the first one beside the first literal
-  pub draft_other : (literals now : List ℤ) (bound p keep : ℕ) → bound ≡ p + 1 → p < mark → keep ≡ 0 → now ≡ literals ++ neg_ℤ (get_or trail p (pos 0)) ∷ [] → IsDraft trail first literals bound keep mark
+  pub draft_other : (literals now : List ℤ) (bound p keep : ℕ) → bound ≡ p + 1 → p < mark → keep ≡ 0
+      → now ≡ literals ++ neg_ℤ (get_or trail p (pos 0)) ∷ []
+      → IsDraft trail first literals bound keep mark
       → IsDraft trail first now p (p + 1) mark
   draft_other literals now bound p keep at below none is d =
       let t = get_or trail p (pos 0) in
@@ -62,13 +78,17 @@ module _ (trail : List ℤ) (first : ℤ) (mark : ℕ) where
         reach = λ h. omega arith;
         member = ap (stands first) is ∙ stands_push_old first (neg_ℤ t) literals d.member;
         others = λ l e ne. ⊎_elim
-            (λ old. let b = d.others l old ne in let high : b.0 < keep = b.2 in absurd (omega arith))
+            (λ old. let b = d.others l old ne in let high : b.0 < keep = b.2 in
+            absurd (omega arith))
             (λ same. (p, omega arith, omega arith, sym (ap neg_ℤ same ∙ neg-neg t)))
             (stands_push_cases l (neg_ℤ t) literals (sym (ap (stands l) is) ∙ e));
-        latest = λ h. ap (λ z. stands (neg_ℤ (get_or trail z (pos 0))) now) last ∙ ap (stands (neg_ℤ t)) is ∙ stands_push_new (neg_ℤ t) literals;
+        latest =
+            λ h. ap (λ z. stands (neg_ℤ (get_or trail z (pos 0))) now) last
+            ∙ ap (stands (neg_ℤ t)) is ∙ stands_push_new (neg_ℤ t) literals;
       }
 
-  pub draft_like : (literals clause : List ℤ) (bound keep : ℕ) → SameLiterals clause literals → IsDraft trail first literals bound keep mark → IsDraft trail first clause bound keep mark
+  pub draft_like : (literals clause : List ℤ) (bound keep : ℕ) → SameLiterals clause literals →
+      IsDraft trail first literals bound keep mark → IsDraft trail first clause bound keep mark
   draft_like literals clause bound keep same d =
       record {
         early = d.early;
@@ -79,22 +99,33 @@ module _ (trail : List ℤ) (first : ℤ) (mark : ℕ) where
       }
 
   -- a drafted literal became false from the bound on
-  pub draft_late : (literals : List ℤ) (bound keep : ℕ) → EachOpen trail → mark ≤ length trail → bound ≤ mark → stands (neg_ℤ first) trail ≡ true → IsOpen (take mark trail) first → IsDraft trail first literals bound keep mark
-      → (l : ℤ) → stands l literals ≡ true → (stands (neg_ℤ l) (take bound trail) ≡ false) × (stands (neg_ℤ l) trail ≡ true)
+  pub draft_late : (literals : List ℤ) (bound keep : ℕ) → EachOpen trail → mark ≤ length trail
+      → bound ≤ mark → stands (neg_ℤ first) trail ≡ true → IsOpen (take mark trail) first
+      → IsDraft trail first literals bound keep mark
+      → (l : ℤ) → stands l literals ≡ true → (stands (neg_ℤ l) (take bound trail) ≡ false)
+      × (stands (neg_ℤ l) trail ≡ true)
   draft_late literals bound keep o size le wrong free d l e =
       ⊎_elim
-      (λ same. (ap (λ z. stands (neg_ℤ z) (take bound trail)) same ∙ not_stands_take_le (neg_ℤ first) trail bound mark le free.1, ap (λ z. stands (neg_ℤ z) trail) same ∙ wrong))
+      (λ same. (
+        ap (λ z. stands (neg_ℤ z) (take bound trail)) same
+            ∙ not_stands_take_le (neg_ℤ first) trail bound mark le free.1,
+        ap (λ z.
+            stands (neg_ℤ z) trail) same ∙ wrong,
+      ))
       (λ ne. let b = d.others l e ne in
       let low : bound ≤ b.0 = b.1 in
       let high : b.0 < keep = b.2 in
       let early = d.early in
       let within : b.0 < length trail = omega (arith, early) in (
-        ap (λ z. stands z (take bound trail)) (sym b.3) ∙ not_stands_take_le (get_or trail b.0 (pos 0)) trail bound b.0 low (o b.0 within).0,
+        ap (λ z. stands z (take bound trail)) (sym b.3)
+            ∙ not_stands_take_le (get_or trail b.0 (pos 0)) trail bound b.0 low (o b.0 within).0,
         stands_is (neg_ℤ l) trail b.0 within b.3,
       ))
       (cases_int l first)
 
-  pub draft_others : (literals : List ℤ) (bound keep to : ℕ) → mark ≤ length trail → keep ≤ to → to ≤ mark → IsDraft trail first literals bound keep mark → OthersFalse (take to trail) literals first
+  pub draft_others : (literals : List ℤ) (bound keep to : ℕ) → mark ≤ length trail → keep ≤ to →
+      to ≤ mark → IsDraft trail first literals bound keep mark →
+      OthersFalse (take to trail) literals first
   draft_others literals bound keep to size le early d l e ne =
       let b = d.others l e ne in
       let high : b.0 < keep = b.2 in

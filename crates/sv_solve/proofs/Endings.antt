@@ -1,5 +1,6 @@
 -- How the solver ends: with values, with a refutation, or with a spent log.
-use Rattle.std.proofs.Common.{◌≡◌, ℕ, ◌+◌, ◌^◌, ◌<◌, ◌≤◌, Bool, ℤ, List, [], ◌∷◌, length, refl, sym, subst, min, arith}
+use Rattle.std.proofs.Common.{◌≡◌, ℕ, ◌+◌, ◌^◌, ◌<◌, ◌≤◌, Bool, ℤ, List, [], ◌∷◌, length, refl, sym}
+use Rattle.std.proofs.Common.{subst, min, arith}
 use Rattle.std.specs.Prelude.{All, Result, Ok, Err, IfOk}
 use Rattle.std.proofs.Math.Nat.{pow-le-pow_right}
 use Rattle.sv_clause.specs.Literals.{Satisfies}
@@ -21,15 +22,21 @@ none_below [] all = refl
 none_below (x ∷ xs) all = let low : x < 0 = all 0 0 (omega arith) in absurd (omega arith)
 
 -- values under a trail that was found
-pub found_ending : (variables : ℕ) (clauses : List (List ℤ)) (known : Known) (trail : Assigned) (values : List Bool) → known.given ≡ clauses → known.variables ≡ min variables 2147483647
-    → IsFound known trail → AreValues variables trail values → (length values ≡ variables) × Satisfies (value_of values) clauses
+pub found_ending : (variables : ℕ) (clauses : List (List ℤ)) (known : Known) (trail : Assigned)
+    (values : List Bool) → known.given ≡ clauses → known.variables ≡ min variables 2147483647
+    → IsFound known trail → AreValues variables trail values
+    → (length values ≡ variables) × Satisfies (value_of values) clauses
 found_ending variables clauses known trail values given most found are =
     let same : trail.variables ≡ known.variables = found.variables in
-    let answer = found_answer variables known.given (clauses_known known) (clauses_of known.steps) trail values refl are (omega arith) found.rest
-    (subst (λ v. AllAssigned v trail.literals) (sym same) found.assigned) (subst (λ v. All (IsClauseOf v) (clauses_known known)) (sym same) found.of) in
+    let answer = found_answer variables known.given (clauses_known known) (clauses_of known.steps)
+    trail values refl are (omega arith) found.rest
+    (subst (λ v. AllAssigned v trail.literals) (sym same) found.assigned)
+    (subst (λ v. All (IsClauseOf v) (clauses_known known)) (sym same) found.of) in
     subst (λ z. (length values ≡ variables) × Satisfies (value_of values) z) given answer
 
-spending : (variables budget : ℕ) (known : Known) (answer : Solved) → known.variables ≤ variables → length known.steps ≡ budget → IsSpending known answer → IsAnswer variables known.given budget answer
+spending : (variables budget : ℕ) (known : Known) (answer : Solved) → known.variables ≤ variables →
+    length known.steps ≡ budget → IsSpending known answer →
+    IsAnswer variables known.given budget answer
 spending variables budget known (Found values) most count never = absurd never
 spending variables budget known (Refuted log) most count refutation =
     let size : length (plain_log log) ≡ length known.steps + 1 = refutation.size in
@@ -40,7 +47,11 @@ spending variables budget known (Spent log) most count spent =
     (subst (IsSpentLog known.given (plain_log log)) count spent.0, spent.1, omega arith)
 
 -- what is answered once the budget is spent
-pub spent_ending : {E : Type 0} (variables budget : ℕ) (clauses : List (List ℤ)) (known : Known) (result : Result Solved E) → known.given ≡ clauses → known.variables ≡ min variables 2147483647
-    → length known.steps ≡ budget → IfOk result (IsSpending known) → IfOk result (IsAnswer variables clauses budget)
-spent_ending variables budget clauses known (Ok answer) given most count h = subst (λ z. IsAnswer variables z budget answer) given (spending variables budget known answer (omega arith) count h)
+pub spent_ending : {E : Type 0} (variables budget : ℕ) (clauses : List (List ℤ)) (known : Known)
+    (result : Result Solved E) → known.given ≡ clauses → known.variables ≡ min variables 2147483647
+    → length known.steps ≡ budget → IfOk result (IsSpending known)
+    → IfOk result (IsAnswer variables clauses budget)
+spent_ending variables budget clauses known (Ok answer) given most count h =
+    subst (λ z. IsAnswer variables z budget answer) given
+    (spending variables budget known answer (omega arith) count h)
 spent_ending variables budget clauses known (Err e) given most count h = tt

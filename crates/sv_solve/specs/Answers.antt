@@ -1,5 +1,6 @@
 -- What the solver answers.
-use Rattle.std.specs.Prelude.{◌≡◌, ◌≢◌, ℕ, ◌+◌, ◌-◌, ◌^◌, ◌<◌, ◌≤◌, Bool, false, IsTrue, ℤ, unsigned_abs, List, [], length, take, All, AllPairs, slice_index_or}
+use Rattle.std.specs.Prelude.{◌≡◌, ◌≢◌, ℕ, ◌+◌, ◌-◌, ◌^◌, ◌<◌, ◌≤◌, Bool, false, IsTrue, ℤ}
+use Rattle.std.specs.Prelude.{unsigned_abs, List, [], length, take, All, AllPairs, slice_index_or}
 use Rattle.sv_clause.specs.Literals.{stands, Satisfies}
 use Rattle.sv_clause.specs.Logs.{Step, clauses_of, plain_log, Refutes}
 use Rattle.sv_clause.specs.Units.{IsSpentLog}
@@ -8,7 +9,8 @@ use Rattle.sv_solve.specs.declared.solver.Solved.TheVariants.{Found, Refuted, Sp
 
 -- every literal of the clause is of a variable up to this one
 abbrev pub IsWithin : ℕ → List ℤ → Type 0
-IsWithin variables clause = (literal : ℤ) → IsTrue (stands literal clause) → unsigned_abs literal ≤ variables
+IsWithin variables clause =
+    (literal : ℤ) → IsTrue (stands literal clause) → unsigned_abs literal ≤ variables
 
 -- the value of each variable, the first of the list for variable 1
 abbrev pub value_of : List Bool → ℕ → Bool
@@ -46,6 +48,11 @@ IsNotSpent answer = WhereSpent (λ _. ⊥) answer
 
 -- what is said of each answer
 abbrev pub IsAnswer : ℕ → List (List ℤ) → ℕ → Solved → Type 0
-IsAnswer variables clauses budget (Found values) = (length values.items ≡ variables) × Satisfies (value_of values.items) clauses
-IsAnswer variables clauses budget (Refuted log) = Refutes clauses (plain_log log) × OnlyLastIsEmpty (plain_log log) × (length (plain_log log) ≤ budget + 1)
-IsAnswer variables clauses budget (Spent log) = IsSpentLog clauses (plain_log log) budget × AreDifferent (plain_log log) × (budget < 3 ^ variables)
+IsAnswer variables clauses budget (Found values) =
+    (length values.items ≡ variables) × Satisfies (value_of values.items) clauses
+IsAnswer variables clauses budget (Refuted log) =
+    Refutes clauses (plain_log log) × OnlyLastIsEmpty (plain_log log)
+    × (length (plain_log log) ≤ budget + 1)
+IsAnswer variables clauses budget (Spent log) =
+    IsSpentLog clauses (plain_log log) budget × AreDifferent (plain_log log)
+    × (budget < 3 ^ variables)

@@ -1,5 +1,6 @@
 -- Literals as numbers that index tables.
-use Rattle.std.specs.Prelude.{◌≡◌, ℕ, zero, suc, ◌+◌, ◌*◌, ◌/◌, ◌%◌, ◌<◌, ◌≤◌, nat_eq, ℤ, pos, negsuc, neg_ℤ, unsigned_abs, if◌then◌else◌}
+use Rattle.std.specs.Prelude.{◌≡◌, ℕ, zero, suc, ◌+◌, ◌*◌, ◌/◌, ◌%◌, ◌<◌, ◌≤◌, nat_eq, ℤ, pos}
+use Rattle.std.specs.Prelude.{negsuc, neg_ℤ, unsigned_abs, if◌then◌else◌}
 use Rattle.std.proofs.Common.{ap, ◌∙◌, ⊎_elim, arith}
 use Rattle.std.proofs.lemmas.Bool.{cases_Bool, cond-true, cond-false, eqb-true, eqb-false}
 
@@ -26,6 +27,10 @@ pub code-literal : (c : ℕ) → 2 ≤ c → code_of (literal_of c) ≡ c
 unfolding code_of
 code-literal c h =
     ⊎_elim
-    (λ even. let e : c % 2 ≡ 0 = eqb-true (c % 2) 0 even in ap code_of (cond-true (nat_eq (c % 2) 0) (pos (c / 2)) (neg_ℤ (pos (c / 2))) even) ∙ omega arith)
-    (λ odd. let e : (c % 2 ≡ 0 → ⊥) = eqb-false (c % 2) 0 odd in ap code_of (cond-false (nat_eq (c % 2) 0) (pos (c / 2)) (neg_ℤ (pos (c / 2))) odd) ∙ (code-neg_pos (c / 2) (omega arith) ∙ omega arith))
+    (λ even. let e : c % 2 ≡ 0 = eqb-true (c % 2) 0 even in
+    ap code_of (cond-true (nat_eq (c % 2) 0) (pos (c / 2)) (neg_ℤ (pos (c / 2))) even)
+    ∙ omega arith)
+    (λ odd. let e : (c % 2 ≡ 0 → ⊥) = eqb-false (c % 2) 0 odd in
+    ap code_of (cond-false (nat_eq (c % 2) 0) (pos (c / 2)) (neg_ℤ (pos (c / 2))) odd)
+    ∙ (code-neg_pos (c / 2) (omega arith) ∙ omega arith))
     (cases_Bool (nat_eq (c % 2) 0))

@@ -1,5 +1,7 @@
--- What a false clause teaches: a clause of which one literal is left once the newest decision is taken back.
-use Rattle.std.specs.Prelude.{◌≡◌, ◌≢◌, ℕ, ◌-◌, ◌<◌, ◌≤◌, IsTrue, ℤ, pos, neg_ℤ, List, length, take, Option, Some, None, slice_index_or, All, Contains}
+-- What a false clause teaches: a clause of which one literal is left once the newest decision is
+-- taken back.
+use Rattle.std.specs.Prelude.{◌≡◌, ◌≢◌, ℕ, ◌-◌, ◌<◌, ◌≤◌, IsTrue, ℤ, pos, neg_ℤ, List, length, take}
+use Rattle.std.specs.Prelude.{Option, Some, None, slice_index_or, All, Contains}
 use Rattle.std.specs.Bool.{IsFalse}
 use Rattle.sv_clause.specs.Literals.{stands}
 use Rattle.sv_clause.specs.Units.{IsOpen}
@@ -8,10 +10,14 @@ use Rattle.sv_solve.specs.Search.{OthersFalse}
 -- the latest of the clause's other literals to become false, none where there is no other one
 abbrev pub IsLatest : List ℤ → List ℤ → ℤ → ℕ → Option ℤ → Type 0
 IsLatest trail clause first keep None = (length clause < 2) × (keep ≡ 0)
-IsLatest trail clause first keep (Some other) = (other ≢ first) × IsTrue (stands other clause) × (0 < keep) × IsFalse (stands (neg_ℤ other) (take (keep - 1) trail))
+IsLatest trail clause first keep (Some other) =
+    (other ≢ first) × IsTrue (stands other clause) × (0 < keep)
+    × IsFalse (stands (neg_ℤ other) (take (keep - 1) trail))
 
--- a clause of which one literal is left before the mark: it is open there, and the first `keep` literals make the others false
-pub record IsAsserting (trail : List ℤ) (mark : ℕ) (clause : List ℤ) (first : ℤ) (other : Option ℤ) (keep : ℕ) : Type 0 where
+-- a clause of which one literal is left before the mark: it is open there, and the first `keep`
+-- literals make the others false
+pub record IsAsserting (trail : List ℤ) (mark : ℕ) (clause : List ℤ) (first : ℤ) (other : Option ℤ)
+    (keep : ℕ) : Type 0 where
   pub early : keep ≤ mark
   pub member : IsTrue (stands first clause)
   pub open_first : IsOpen (take mark trail) first
@@ -20,19 +26,24 @@ pub record IsAsserting (trail : List ℤ) (mark : ℕ) (clause : List ℤ) (firs
 
 -- a literal of the trail from one place to another makes this one false
 abbrev pub BecameFalse : List ℤ → ℤ → ℕ → ℕ → Type 0
-BecameFalse trail literal from to = (i : ℕ) × (from ≤ i) × (i < to) × (slice_index_or trail i (pos 0) ≡ neg_ℤ literal)
+BecameFalse trail literal from to =
+    (i : ℕ) × (from ≤ i) × (i < to) × (slice_index_or trail i (pos 0) ≡ neg_ℤ literal)
 
--- a first literal and others, which became false from the bound on; the last of the first `keep` literals makes one of them false
-pub record IsDraft (trail : List ℤ) (first : ℤ) (literals : List ℤ) (bound keep mark : ℕ) : Type 0 where
+-- a first literal and others, which became false from the bound on; the last of the first `keep`
+-- literals makes one of them false
+pub record IsDraft (trail : List ℤ) (first : ℤ) (literals : List ℤ) (bound keep mark : ℕ) :
+    Type 0 where
   pub early : keep ≤ mark
   pub reach : 0 < keep → bound ≤ keep
   pub member : IsTrue (stands first literals)
-  pub others : (literal : ℤ) → IsTrue (stands literal literals) → literal ≢ first → BecameFalse trail literal bound keep
+  pub others : (literal : ℤ) → IsTrue (stands literal literals) → literal ≢ first →
+      BecameFalse trail literal bound keep
   pub latest : 0 < keep → IsTrue (stands (neg_ℤ (slice_index_or trail (keep - 1) (pos 0))) literals)
 
 -- every literal of the clause but one is seen
 abbrev pub OthersSeen : List ℤ → List ℤ → ℤ → Type 0
-OthersSeen seen clause left = (literal : ℤ) → IsTrue (stands literal clause) → literal ≢ left → IsTrue (stands literal seen)
+OthersSeen seen clause left =
+    (literal : ℤ) → IsTrue (stands literal clause) → literal ≢ left → IsTrue (stands literal seen)
 
 -- the literal of the trail at the place is seen negated
 abbrev pub IsSeenAt : List ℤ → List ℤ → ℕ → Type 0

@@ -4,4 +4,5 @@ use Rattle.sv_solve.specs.Search.{AllFalse}
 
 -- the clause at the place is false
 abbrev pub IsConflict : List (List ℤ) → List ℤ → ℕ → Type 0
-IsConflict clauses literals place = (place < length clauses) × AllFalse literals (slice_index_or clauses place [])
+IsConflict clauses literals place =
+    (place < length clauses) × AllFalse literals (slice_index_or clauses place [])

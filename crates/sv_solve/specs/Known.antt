@@ -16,7 +16,9 @@ clauses_known known = known.given ++ clauses_of known.steps
 
 -- each step is new to the given clauses and those of the steps before it
 abbrev pub EachNew : List (List ℤ) → List Step → Type 0
-EachNew given steps = (i : ℕ) (step : Step) → slice_get steps i ≡ Some step → IsNew (given ++ clauses_of (take i steps)) step.clause
+EachNew given steps =
+    (i : ℕ) (step : Step) → slice_get steps i ≡ Some step →
+    IsNew (given ++ clauses_of (take i steps)) step.clause
 
 -- the kept clauses are the known ones, and every learned step is derived and new
 pub record IsKnown (known : Known) (kept : List (List ℤ)) : Type 0 where

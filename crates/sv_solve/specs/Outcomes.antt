@@ -22,16 +22,20 @@ pub record IsRefutation (known : Known) (log : Log) : Type 0 where
 
 -- the log holds all that was learned, is spent in full, and is shorter than there are clauses
 abbrev pub IsSpent : Known → Log → Type 0
-IsSpent known log = IsSpentLog known.given (plain_log log) (length known.steps) × AreDifferent (plain_log log) × (length known.steps < 3 ^ known.variables)
+IsSpent known log =
+    IsSpentLog known.given (plain_log log) (length known.steps) × AreDifferent (plain_log log)
+    × (length known.steps < 3 ^ known.variables)
 
 -- nothing is learned yet
 abbrev pub IsFresh : ℕ → List (List ℤ) → Known → Type 0
-IsFresh variables clauses known = (known.given ≡ clauses) × (known.steps ≡ []) × (known.variables ≡ variables)
+IsFresh variables clauses known =
+    (known.given ≡ clauses) × (known.steps ≡ []) × (known.variables ≡ variables)
 
 -- the search begins with the given clauses, or they are refuted
 abbrev pub IsBegun : ℕ → List (List ℤ) → Begun → Type 0
 IsBegun variables clauses (begun.Ready state) = IsFresh variables clauses state.known
-IsBegun variables clauses (begun.Refuted log) = (known : Known) × IsFresh variables clauses known × IsRefutation known log
+IsBegun variables clauses (begun.Refuted log) =
+    (known : Known) × IsFresh variables clauses known × IsRefutation known log
 
 -- all variables of the clauses are assigned, and the clauses are at rest
 pub record IsFound (known : Known) (trail : Assigned) : Type 0 where
@@ -44,7 +48,9 @@ pub record IsFound (known : Known) (trail : Assigned) : Type 0 where
 abbrev pub IsOutcome : Known → Outcome → Type 0
 IsOutcome known (outcome.Found trail) = IsFound known trail
 IsOutcome known (outcome.Refuted log) = IsRefutation known log
-IsOutcome known (outcome.Learned state) = (state.known.given ≡ known.given) × (length state.known.steps ≡ length known.steps + 1) × (state.known.variables ≡ known.variables)
+IsOutcome known (outcome.Learned state) =
+    (state.known.given ≡ known.given) × (length state.known.steps ≡ length known.steps + 1)
+    × (state.known.variables ≡ known.variables)
 
 -- the clauses are refuted after all, or the log is spent
 abbrev pub IsSpending : Known → Solved → Type 0

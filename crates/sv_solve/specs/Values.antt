@@ -6,4 +6,5 @@ use Rattle.sv_solve.specs.Lists.{Assigned}
 -- one value a variable: whether it is true under the trail
 pub record AreValues (variables : ℕ) (trail : Assigned) (values : List Bool) : Type 0 where
   pub size : length values ≡ variables
-  pub each : (before : ℕ) → before < length values → before < trail.variables → slice_index_or values before false ≡ stands (pos (before + 1)) trail.literals
+  pub each : (before : ℕ) → before < length values → before < trail.variables →
+      slice_index_or values before false ≡ stands (pos (before + 1)) trail.literals

@@ -14,10 +14,17 @@ returns c =
     let from = c.in-Some.from.now in
     let clause = c.args.step.now.clause in
     let items = c.args.step.now.chain.items in
-    let both = chain_by_first all chain rest (get_or chain 0 0) from clause (first_rest chain 0 (omega arith)) c.in-Some.ensures in
+    let both = chain_by_first all chain rest (get_or chain 0 0) from clause
+    (first_rest chain 0 (omega arith)) c.in-Some.ensures in
     let is : chain ≡ items = c.as_slice.ensures.value in
     IfOk-weaker c.resolves_to.result
-    (λ (yes : Bool). (IsTrue yes → ResolvesTo all from rest clause) × (ResolvesTo all from rest clause → IsTrue yes))
-    (λ (yes : Bool). (IsTrue yes → ChainGives all items clause) × (ChainGives all items clause → IsTrue yes))
-    (λ yes h. (λ t. subst (λ z. ChainGives all z clause) is (both.0 (h.0 t)), λ g. h.1 (both.1 (subst (λ z. ChainGives all z clause) (sym is) g))))
+    (λ (yes : Bool). (IsTrue yes → ResolvesTo all from rest clause)
+    × (ResolvesTo all from rest clause → IsTrue yes))
+    (λ (yes : Bool). (IsTrue yes → ChainGives all items clause)
+    × (ChainGives all items clause → IsTrue yes))
+    (λ yes h. (
+      λ t. subst (λ z. ChainGives all z clause) is (both.0 (h.0 t)),
+      λ g.
+          h.1 (both.1 (subst (λ z. ChainGives all z clause) (sym is) g)),
+    ))
     c.resolves_to.ensures

@@ -9,5 +9,6 @@ returns c =
     let xs = c.args.first.now in
     let ys = c.args.second.now in (
       λ yes l. ap (stands l) ((signed_items xs ys).0 (sym c.eq.ensures ∙ yes)),
-      λ same. c.eq.ensures ∙ (signed_items xs ys).1 (same_clause xs ys c.requires.first c.requires.second same),
+      λ same. c.eq.ensures
+          ∙ (signed_items xs ys).1 (same_clause xs ys c.requires.first c.requires.second same),
     )

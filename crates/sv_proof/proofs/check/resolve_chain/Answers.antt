@@ -10,10 +10,17 @@ chain-preserved c =
     let all = c.args.clauses.now ++ clauses_of (map plain_step c.args.earlier.now) in
     let out = c.resolve_into.new.out.items in
     let found = rw c.in-Some-2.is at c.in_ok-_pivot.ensures.resolvent in
-    let from_work = subst (λ z. IsResolvent z c.literals.result.now c.in-Some-2._pivot out) c.as_slice.ensures.value found in
-    let resolvent : IsResolvent c.chain.work.items c.in-Some.next.now c.in-Some-2._pivot out = subst (λ z. IsResolvent c.chain.work.items z c.in-Some-2._pivot out) c.literals.ensures.value from_work in
-    let number : Some c.in-Some.next.now ≡ numbered all (slice_index_or c.args.chain.now c.chain.number-index 0) = search rules in
+    let from_work = subst (λ z. IsResolvent z c.literals.result.now c.in-Some-2._pivot out)
+    c.as_slice.ensures.value found in
+    let resolvent : IsResolvent c.chain.work.items c.in-Some.next.now c.in-Some-2._pivot out =
+    subst (λ z. IsResolvent c.chain.work.items z c.in-Some-2._pivot out)
+    c.literals.ensures.value from_work in
+    let number : Some c.in-Some.next.now ≡
+    numbered all (slice_index_or c.args.chain.now c.chain.number-index 0) = search rules in
     let now : out ≡ c.swap.new.x.items = ap (λ z. z.items) (sym c.swap.ensures.x_after) in
-    let moved : IsResolvent c.chain.work.items c.in-Some.next.now c.in-Some-2._pivot c.swap.new.x.items = subst (λ z. IsResolvent c.chain.work.items c.in-Some.next.now c.in-Some-2._pivot z) now resolvent in
-    goes_on all _ c.args.chain.now c.chain.work.items c.chain.number-index c.chain.invariant (omega arith) c.in-Some.next.now c.in-Some-2._pivot c.swap.new.x.items number moved
+    let moved : IsResolvent c.chain.work.items c.in-Some.next.now c.in-Some-2._pivot
+    c.swap.new.x.items = subst (λ z.
+    IsResolvent c.chain.work.items c.in-Some.next.now c.in-Some-2._pivot z) now resolvent in
+    goes_on all _ c.args.chain.now c.chain.work.items c.chain.number-index c.chain.invariant
+    (omega arith) c.in-Some.next.now c.in-Some-2._pivot c.swap.new.x.items number moved
     (subst IsClause now c.in_ok-_pivot.ensures.normal)

@@ -4,4 +4,6 @@ use Rattle.sv_proof.proofs.Chains.{GoesOn}
 use Rattle.sv_proof.proofs.check.resolve_chain.Given as goal
 
 abbrev pub invariant-chain : goal.invariant-chain
-invariant-chain l = GoesOn (l.clauses ++ clauses_of (map plain_step l.earlier)) l.fn.work.items l.chain l.work.items l.number-index
+invariant-chain l =
+    GoesOn (l.clauses ++ clauses_of (map plain_step l.earlier)) l.fn.work.items l.chain l.work.items
+    l.number-index

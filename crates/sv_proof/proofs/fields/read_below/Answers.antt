@@ -8,5 +8,6 @@ returns-then-number-bound-clause-none c =
     let number = c.in_ok-number.number in
     let fits : number < 2 ^ 64 = search rules in
     let wide : c.args.bound < 2 ^ 64 = search rules in
-    let same : number ≡ n = decimal_injective number n fits (omega arith) (sym c.in_ok-number.ensures.some ∙ e) in
+    let same : number ≡ n =
+    decimal_injective number n fits (omega arith) (sym c.in_ok-number.ensures.some ∙ e) in
     absurd (omega arith)

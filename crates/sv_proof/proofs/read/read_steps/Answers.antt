@@ -30,7 +30,9 @@ returns-in_default-2-clause-fault c =
         begins = c.steps.invariant.0;
         fewer = omega (arith, c.steps.invariant.1);
         place_is = sym c.steps.invariant.1;
-        next = no_next_wrong IsStepLine c.steps.rest.now c.in-Some.text.now c.in-Some.after.now c.in-Some.ensures.some.0 c.in-Some.ensures.some.1 (λ (s, w, is). none refl s w is);
+        next =
+            no_next_wrong IsStepLine c.steps.rest.now c.in-Some.text.now c.in-Some.after.now
+            c.in-Some.ensures.some.0 c.in-Some.ensures.some.1 (λ (s, w, is). none refl s w is);
       },
     )
 
@@ -40,10 +42,16 @@ steps-preserved c =
     let writable = rw c.in-Some-2.is at c.in_ok-step.ensures.writable in
     let step = plain_step c.in-Some-2.step in
     let steps = map plain_step c.steps.steps.items in
-    let now : map plain_step c.push.new.self.items ≡ steps ++ step ∷ [] = ap (map plain_step) c.in_ok-push.ensures.items ∙ map_push plain_step c.steps.steps.items c.in-Some-2.step in
-    let shorter = rest_shorter c.steps.rest.now c.in-Some.text.now c.in-Some.after.now c.in-Some.ensures.some.0 in
-    let more : length (map plain_step c.push.new.self.items) ≡ length steps + 1 = ap length now ∙ length_push steps step in (
-      step_added c.args.bytes.now c.steps.rest.now c.in-Some.text.now c.in-Some.after.now steps (map plain_step c.push.new.self.items) step c.steps.invariant.0 c.in-Some.ensures.some.0 is writable now,
+    let now : map plain_step c.push.new.self.items ≡ steps ++ step ∷ [] =
+    ap (map plain_step) c.in_ok-push.ensures.items
+    ∙ map_push plain_step c.steps.steps.items c.in-Some-2.step in
+    let shorter = rest_shorter c.steps.rest.now c.in-Some.text.now c.in-Some.after.now
+    c.in-Some.ensures.some.0 in
+    let more : length (map plain_step c.push.new.self.items) ≡ length steps + 1 =
+    ap length now ∙ length_push steps step in (
+      step_added c.args.bytes.now c.steps.rest.now c.in-Some.text.now c.in-Some.after.now steps
+          (map plain_step c.push.new.self.items) step c.steps.invariant.0 c.in-Some.ensures.some.0
+          is writable now,
       omega (arith, c.steps.invariant.1),
       omega arith,
       omega (arith, c.steps.invariant.3),

@@ -4,28 +4,35 @@ use Rattle.std.proofs.lemmas.Bool.{false≢true, eqb-true, eq-eqb}
 use Rattle.std.proofs.lemmas.List.{nil_from_length}
 use Rattle.sv_proof.specs.Certificate.{plain_logs}
 use Rattle.sv_proof.proofs.Following.{no_next_unended, no_next_wrong}
-use Rattle.sv_proof.proofs.Beginning.{IsCountLine, broken_first, broken_second, broken_in_logs, broken_at_end, broken_behind, read_whole}
+use Rattle.sv_proof.proofs.Beginning.{IsCountLine, broken_first, broken_second, broken_in_logs}
+use Rattle.sv_proof.proofs.Beginning.{broken_at_end, broken_behind, read_whole}
 use Rattle.sv_proof.proofs.read.read_text.Goals as goal
 
 pub returns-in_default-clause-fault : goal.returns-in_default-clause-fault
 returns-in_default-clause-fault c =
-    broken_first c.args.bytes.now (no_next_unended (λ line. line ≡ codes "secv-proof 1") c.args.bytes.now (c.in_default.ensures.none refl))
+    broken_first c.args.bytes.now (no_next_unended (λ line.
+    line ≡ codes "secv-proof 1") c.args.bytes.now (c.in_default.ensures.none refl))
 
 pub returns-then-not-is_line-clause-fault : goal.returns-then-not-is_line-clause-fault
 returns-then-not-is_line-clause-fault c =
     broken_first c.args.bytes.now
-    (no_next_wrong (λ line. line ≡ codes "secv-proof 1") c.args.bytes.now c.in-Some.first.now c.in-Some.rest.now c.in-Some.ensures.some.0 c.in-Some.ensures.some.1
+    (no_next_wrong (λ line. line ≡ codes "secv-proof 1") c.args.bytes.now c.in-Some.first.now
+    c.in-Some.rest.now c.in-Some.ensures.some.0 c.in-Some.ensures.some.1
     (λ is. false≢true (sym c.if-not-is_line.true ∙ c.is_line.ensures.1 is)))
 
 pub returns-in_default-split_first-clause-fault : goal.returns-in_default-split_first-clause-fault
 returns-in_default-split_first-clause-fault c =
-    broken_second c.args.bytes.now c.in-Some.first.now c.in-Some.rest.now c.in-Some.ensures.some.0 (c.is_line.ensures.0 c.if-not-is_line.false)
+    broken_second c.args.bytes.now c.in-Some.first.now c.in-Some.rest.now c.in-Some.ensures.some.0
+    (c.is_line.ensures.0 c.if-not-is_line.false)
     (no_next_unended IsCountLine c.in-Some.rest.now (c.in_default-split_first.ensures.none refl))
 
 pub returns-in_default-read_counted-clause-fault : goal.returns-in_default-read_counted-clause-fault
 returns-in_default-read_counted-clause-fault c =
-    broken_second c.args.bytes.now c.in-Some.first.now c.in-Some.rest.now c.in-Some.ensures.some.0 (c.is_line.ensures.0 c.if-not-is_line.false)
-    (no_next_wrong IsCountLine c.in-Some.rest.now c.in-Some-split_first.second.now c.in-Some-split_first.rest.now c.in-Some-split_first.ensures.some.0 c.in-Some-split_first.ensures.some.1
+    broken_second c.args.bytes.now c.in-Some.first.now c.in-Some.rest.now c.in-Some.ensures.some.0
+    (c.is_line.ensures.0 c.if-not-is_line.false)
+    (no_next_wrong IsCountLine c.in-Some.rest.now c.in-Some-split_first.second.now
+    c.in-Some-split_first.rest.now c.in-Some-split_first.ensures.some.0
+    c.in-Some-split_first.ensures.some.1
     (λ (count, few, is). c.in_default-read_counted.ensures.none refl count few is))
 
 pub returns-in_err-logs-clause-fault : goal.returns-in_err-logs-clause-fault
@@ -33,44 +40,68 @@ returns-in_err-logs-clause-fault c =
     let p = err_from_is_err_and c.from_residual.result c.from_residual.ensures.1 in
     let counted = c.in-Some-read_counted.ensures.some in
     rw (p.1, p.2)
-    (broken_in_logs c.args.bytes.now c.in-Some.first.now c.in-Some.rest.now c.in-Some-split_first.second.now c.in-Some-split_first.rest.now c.in-Some-read_counted.count
-    c.in-Some.ensures.some.0 (c.is_line.ensures.0 c.if-not-is_line.false) c.in-Some-split_first.ensures.some.0 counted.0 counted.1 c.in_err-logs.field-0.0 c.in_err-logs.ensures.fault)
+    (broken_in_logs c.args.bytes.now c.in-Some.first.now c.in-Some.rest.now
+    c.in-Some-split_first.second.now c.in-Some-split_first.rest.now c.in-Some-read_counted.count
+    c.in-Some.ensures.some.0 (c.is_line.ensures.0 c.if-not-is_line.false)
+    c.in-Some-split_first.ensures.some.0 counted.0 counted.1 c.in_err-logs.field-0.0
+    c.in_err-logs.ensures.fault)
 
-pub returns-in_default-split_first-2-clause-fault : goal.returns-in_default-split_first-2-clause-fault
+pub returns-in_default-split_first-2-clause-fault :
+    goal.returns-in_default-split_first-2-clause-fault
 returns-in_default-split_first-2-clause-fault c =
     let counted = c.in-Some-read_counted.ensures.some in
     let read = c.in_ok-logs.logs in
-    broken_at_end c.args.bytes.now c.in-Some.first.now c.in-Some.rest.now c.in-Some-split_first.second.now c.in-Some-split_first.rest.now c.in-Some-read_counted.count
-    c.in-Some.ensures.some.0 (c.is_line.ensures.0 c.if-not-is_line.false) c.in-Some-split_first.ensures.some.0 counted.0 counted.1
-    (plain_logs read.logs.items) read.rest.now c.in_ok-logs.ensures.logs c.in_ok-logs.ensures.count read.line c.in_ok-logs.ensures.line
-    (no_next_unended (λ last. last ≡ codes "end") read.rest.now (c.in_default-split_first-2.ensures.none refl))
+    broken_at_end c.args.bytes.now c.in-Some.first.now c.in-Some.rest.now
+    c.in-Some-split_first.second.now c.in-Some-split_first.rest.now c.in-Some-read_counted.count
+    c.in-Some.ensures.some.0 (c.is_line.ensures.0 c.if-not-is_line.false)
+    c.in-Some-split_first.ensures.some.0 counted.0 counted.1
+    (plain_logs read.logs.items) read.rest.now c.in_ok-logs.ensures.logs c.in_ok-logs.ensures.count
+    read.line c.in_ok-logs.ensures.line
+    (no_next_unended (λ last.
+    last ≡ codes "end") read.rest.now (c.in_default-split_first-2.ensures.none refl))
 
 pub returns-then-not-is_line-2-clause-fault : goal.returns-then-not-is_line-2-clause-fault
 returns-then-not-is_line-2-clause-fault c =
     let counted = c.in-Some-read_counted.ensures.some in
     let read = c.in_ok-logs.logs in
-    broken_at_end c.args.bytes.now c.in-Some.first.now c.in-Some.rest.now c.in-Some-split_first.second.now c.in-Some-split_first.rest.now c.in-Some-read_counted.count
-    c.in-Some.ensures.some.0 (c.is_line.ensures.0 c.if-not-is_line.false) c.in-Some-split_first.ensures.some.0 counted.0 counted.1
-    (plain_logs read.logs.items) read.rest.now c.in_ok-logs.ensures.logs c.in_ok-logs.ensures.count read.line c.in_ok-logs.ensures.line
-    (no_next_wrong (λ last. last ≡ codes "end") read.rest.now c.in-Some-split_first-2.last.now c.in-Some-split_first-2.rest.now c.in-Some-split_first-2.ensures.some.0 c.in-Some-split_first-2.ensures.some.1
+    broken_at_end c.args.bytes.now c.in-Some.first.now c.in-Some.rest.now
+    c.in-Some-split_first.second.now c.in-Some-split_first.rest.now c.in-Some-read_counted.count
+    c.in-Some.ensures.some.0 (c.is_line.ensures.0 c.if-not-is_line.false)
+    c.in-Some-split_first.ensures.some.0 counted.0 counted.1
+    (plain_logs read.logs.items) read.rest.now c.in_ok-logs.ensures.logs c.in_ok-logs.ensures.count
+    read.line c.in_ok-logs.ensures.line
+    (no_next_wrong (λ last. last ≡ codes "end") read.rest.now c.in-Some-split_first-2.last.now
+    c.in-Some-split_first-2.rest.now c.in-Some-split_first-2.ensures.some.0
+    c.in-Some-split_first-2.ensures.some.1
     (λ is. false≢true (sym c.if-not-is_line-2.true ∙ c.is_line-2.ensures.1 is)))
 
 pub returns-then-not-is_empty-clause-fault : goal.returns-then-not-is_empty-clause-fault
 returns-then-not-is_empty-clause-fault c =
     let counted = c.in-Some-read_counted.ensures.some in
     let read = c.in_ok-logs.logs in
-    broken_behind c.args.bytes.now c.in-Some.first.now c.in-Some.rest.now c.in-Some-split_first.second.now c.in-Some-split_first.rest.now c.in-Some-read_counted.count
-    c.in-Some.ensures.some.0 (c.is_line.ensures.0 c.if-not-is_line.false) c.in-Some-split_first.ensures.some.0 counted.0 counted.1
+    broken_behind c.args.bytes.now c.in-Some.first.now c.in-Some.rest.now
+    c.in-Some-split_first.second.now c.in-Some-split_first.rest.now c.in-Some-read_counted.count
+    c.in-Some.ensures.some.0 (c.is_line.ensures.0 c.if-not-is_line.false)
+    c.in-Some-split_first.ensures.some.0 counted.0 counted.1
     (plain_logs read.logs.items) read.rest.now c.in_ok-logs.ensures.logs c.in_ok-logs.ensures.count
-    c.in-Some-split_first-2.last.now c.in-Some-split_first-2.rest.now c.in-Some-split_first-2.ensures.some.0 (c.is_line-2.ensures.0 c.if-not-is_line-2.false) read.line c.in_ok-logs.ensures.line
-    (λ none. false≢true (sym c.if-not-is_empty.true ∙ (c.is_empty.ensures ∙ eq-eqb (length c.in-Some-split_first-2.rest.now) 0 (ap length none))))
+    c.in-Some-split_first-2.last.now c.in-Some-split_first-2.rest.now
+    c.in-Some-split_first-2.ensures.some.0 (c.is_line-2.ensures.0 c.if-not-is_line-2.false)
+    read.line c.in_ok-logs.ensures.line
+    (λ none. false≢true (sym c.if-not-is_empty.true
+    ∙ (c.is_empty.ensures
+    ∙ eq-eqb (length c.in-Some-split_first-2.rest.now) 0 (ap length none))))
 
 pub returns-clause-text : goal.returns-clause-text
 returns-clause-text c =
     let counted = c.in-Some-read_counted.ensures.some in
     let read = c.in_ok-logs.logs in
-    read_whole c.args.bytes.now c.in-Some.first.now c.in-Some.rest.now c.in-Some-split_first.second.now c.in-Some-split_first.rest.now c.in-Some-read_counted.count
-    c.in-Some.ensures.some.0 (c.is_line.ensures.0 c.if-not-is_line.false) c.in-Some-split_first.ensures.some.0 counted.0 counted.1
+    read_whole c.args.bytes.now c.in-Some.first.now c.in-Some.rest.now
+    c.in-Some-split_first.second.now c.in-Some-split_first.rest.now c.in-Some-read_counted.count
+    c.in-Some.ensures.some.0 (c.is_line.ensures.0 c.if-not-is_line.false)
+    c.in-Some-split_first.ensures.some.0 counted.0 counted.1
     (plain_logs read.logs.items) read.rest.now c.in_ok-logs.ensures.logs c.in_ok-logs.ensures.count
-    c.in-Some-split_first-2.last.now c.in-Some-split_first-2.rest.now c.in-Some-split_first-2.ensures.some.0 (c.is_line-2.ensures.0 c.if-not-is_line-2.false)
-    (nil_from_length c.in-Some-split_first-2.rest.now (eqb-true (length c.in-Some-split_first-2.rest.now) 0 (sym c.is_empty.ensures ∙ c.if-not-is_empty.false)))
+    c.in-Some-split_first-2.last.now c.in-Some-split_first-2.rest.now
+    c.in-Some-split_first-2.ensures.some.0 (c.is_line-2.ensures.0 c.if-not-is_line-2.false)
+    (nil_from_length c.in-Some-split_first-2.rest.now
+    (eqb-true (length c.in-Some-split_first-2.rest.now) 0 (sym c.is_empty.ensures
+    ∙ c.if-not-is_empty.false)))

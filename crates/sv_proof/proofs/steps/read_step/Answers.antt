@@ -9,5 +9,6 @@ returns-in_default-2-clause-none c =
     let some = rw c.in-Some.is at c.in_ok-literals.ensures.some in
     let normal = rw c.in-Some.is at c.in_ok-literals.ensures.normal in
     let stuck = rw c.in_default-2.is at c.in_ok-chain.ensures.none in
-    let parts = same_literals 0 c.in-Some.literals.items step.clause c.in-Some.rest.now (number_words step.chain ++ codes "0") normal writable.clause (sym some ∙ e) in
+    let parts = same_literals 0 c.in-Some.literals.items step.clause c.in-Some.rest.now
+    (number_words step.chain ++ codes "0") normal writable.clause (sym some ∙ e) in
     stuck refl step.chain writable.chain parts.1

@@ -5,4 +5,6 @@ use Rattle.sv_proof.specs.Certificate.{word}
 use Rattle.sv_proof.proofs.write.push_literals.Given as goal
 
 abbrev pub invariant-literals : goal.invariant-literals
-invariant-literals l = l.text.items ≡ l.fn.text.items ++ flat_map (λ literal. word (signed_decimal literal)) (take l.literal-index l.literals)
+invariant-literals l =
+    l.text.items ≡ l.fn.text.items ++ flat_map (λ literal.
+    word (signed_decimal literal)) (take l.literal-index l.literals)

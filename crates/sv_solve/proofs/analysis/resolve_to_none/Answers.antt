@@ -1,4 +1,5 @@
-use Rattle.std.proofs.Common.{[], ◌<◌, ◌≡◌, ◌-◌, ◌&&◌, ◌||◌, length, arith, sym, ap, ◌∙◌, pos, neg_ℤ, get_or, true, false}
+use Rattle.std.proofs.Common.{[], ◌<◌, ◌≡◌, ◌-◌, ◌&&◌, ◌||◌, length, arith, sym, ap, ◌∙◌, pos}
+use Rattle.std.proofs.Common.{neg_ℤ, get_or, true, false}
 use Rattle.std.proofs.lemmas.Bool.{false≢true}
 use Rattle.sv_clause.specs.Literals.{stands}
 use Rattle.sv_solve.proofs.Clauses.{numbered_place}
@@ -9,21 +10,34 @@ pub back-preserved-then-not-contains : goal.back-preserved-then-not-contains
 back-preserved-then-not-contains c =
     let trail = c.args.trail.now.literals in
     let p = c.back.bound - 1 in
-    let unseen : stands (neg_ℤ (get_or trail p (pos 0))) c.back.seen.literals ≡ false = ap (λ z. stands z c.back.seen.literals) (sym (c.negated.ensures ∙ ap neg_ℤ c.at.ensures.value)) ∙ sym c.if-not-contains.ensures in
-    (omega arith, c.back.invariant.1, derive_skip c.args.clauses.now trail c.back.chain.items [] c.back.seen.literals c.back.bound p (omega arith) (omega arith) unseen c.back.invariant.2)
+    let unseen : stands (neg_ℤ (get_or trail p (pos 0))) c.back.seen.literals ≡ false =
+    ap (λ z. stands z c.back.seen.literals)
+    (sym (c.negated.ensures ∙ ap neg_ℤ c.at.ensures.value)) ∙ sym c.if-not-contains.ensures in (
+      omega arith,
+      c.back.invariant.1,
+      derive_skip c.args.clauses.now trail c.back.chain.items []
+          c.back.seen.literals c.back.bound p (omega arith) (omega arith) unseen c.back.invariant.2,
+    )
 
 pub back-preserved : goal.back-preserved
 back-preserved c =
     let trail = c.args.trail.now.literals in
     let p = c.back.bound - 1 in
     let small : p < length trail = omega arith in
-    let here : stands (neg_ℤ (get_or trail p (pos 0))) c.back.seen.literals ≡ true = ap (λ z. stands z c.back.seen.literals) (sym (c.negated.ensures ∙ ap neg_ℤ c.at.ensures.value)) ∙ sym c.if-not-contains.ensures in
+    let here : stands (neg_ℤ (get_or trail p (pos 0))) c.back.seen.literals ≡ true =
+    ap (λ z. stands z c.back.seen.literals)
+    (sym (c.negated.ensures ∙ ap neg_ℤ c.at.ensures.value)) ∙ sym c.if-not-contains.ensures in
     let n = get_or c.args.trail.now.reasons p 0 in
     let h = c.requires.implied p (omega arith) small in
     let at = (numbered_place c.args.clauses.now n h.clause h.is).2 in (
       omega arith,
       c.in_ok-resolve_at.ensures.variables ∙ c.back.invariant.1,
-      derive_step c.args.clauses.now trail c.back.chain.items c.resolve_at.new.chain.items [] c.back.seen.literals c.resolve_at.new.seen.literals c.back.bound p n (omega arith) small c.len-bound.ensures.consistent (c.len-bound.ensures.each_open p small)
-          here h c.in_ok-resolve_at.ensures.chain (λ l. c.in_ok-resolve_at.ensures.seen l ∙ ap (λ z. stands l c.back.seen.literals || (stands l z && stands (neg_ℤ l) trail)) at)
+      derive_step c.args.clauses.now trail c.back.chain.items c.resolve_at.new.chain.items []
+          c.back.seen.literals c.resolve_at.new.seen.literals c.back.bound p n (omega arith) small
+          c.len-bound.ensures.consistent (c.len-bound.ensures.each_open p small)
+          here h c.in_ok-resolve_at.ensures.chain (λ l.
+          c.in_ok-resolve_at.ensures.seen l
+          ∙ ap (λ z. stands l c.back.seen.literals
+          || (stands l z && stands (neg_ℤ l) trail)) at)
           (λ l e. absurd (false≢true e)) c.back.invariant.2,
     )

@@ -7,8 +7,10 @@ use Rattle.sv_solve.proofs.minimization.adds_none.Given as goal
 
 abbrev pub invariant-literals : goal.invariant-literals
 invariant-literals l =
-    (l.index ≤ length l.clause) × (IsTrue l.is_member → IsTrue (stands (get_or l.trail.literals l.place (pos 0)) l.clause))
-    × OthersFalse (take l.place l.trail.literals) (take l.index l.clause) (get_or l.trail.literals l.place (pos 0))
+    (l.index ≤ length l.clause)
+    × (IsTrue l.is_member → IsTrue (stands (get_or l.trail.literals l.place (pos 0)) l.clause))
+    × OthersFalse (take l.place l.trail.literals) (take l.index l.clause)
+    (get_or l.trail.literals l.place (pos 0))
     × OthersSeen l.seen.literals (take l.index l.clause) (get_or l.trail.literals l.place (pos 0))
 
 abbrev pub decreases-literals : goal.decreases-literals

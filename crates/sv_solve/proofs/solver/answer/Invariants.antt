@@ -3,7 +3,9 @@ use Rattle.sv_solve.proofs.solver.answer.Given as goal
 
 abbrev pub invariant-budget : goal.invariant-budget
 invariant-budget l =
-    (l.state.known.given ≡ l.clauses) × (length l.state.known.steps ≡ l.learned) × (l.learned ≤ l.budget) × (l.state.known.variables ≡ min l.variables 2147483647) × (l.seen.variables ≡ l.state.known.variables)
+    (l.state.known.given ≡ l.clauses) × (length l.state.known.steps ≡ l.learned)
+    × (l.learned ≤ l.budget) × (l.state.known.variables ≡ min l.variables 2147483647)
+    × (l.seen.variables ≡ l.state.known.variables)
 
 abbrev pub decreases-budget : goal.decreases-budget
 decreases-budget l = l.budget - l.learned

@@ -10,7 +10,11 @@ returns c =
     let same : literals ≡ c.args.clause.now = c.literals.ensures.value in (
       λ yes l e.
           let p = place_of l literals (ap (stands l) same ∙ e) in
-          subst (λ z. unsigned_abs z ≤ c.args.variables) p.2 (c.are_within.ensures.0 yes p.0 (pos 0) p.1),
+          subst (λ z. unsigned_abs z ≤ c.args.variables) p.2
+          (c.are_within.ensures.0 yes p.0 (pos 0) p.1),
       λ within. c.are_within.ensures.1
-          (λ k d h. subst (λ z. unsigned_abs z ≤ c.args.variables) (get_or_default literals k (pos 0) d h) (within (get_or literals k (pos 0)) (ap (stands (get_or literals k (pos 0))) (sym same) ∙ stands_at literals k h))),
+          (λ k d h. subst (λ z.
+          unsigned_abs z ≤ c.args.variables) (get_or_default literals k (pos 0) d h)
+          (within (get_or literals k (pos 0))
+          (ap (stands (get_or literals k (pos 0))) (sym same) ∙ stands_at literals k h))),
     )

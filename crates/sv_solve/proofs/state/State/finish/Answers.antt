@@ -9,6 +9,8 @@ pub returns : goal.returns
 returns c =
     let s = c.self.inside in
     subst (λ z. IsSpent z.known c.finish.result) c.self.view_is
-    (spent_known s.known (plain_log c.finish.result) s.trail.literals c.finish.ensures.steps c.finish.ensures.derived c.finish.ensures.each_new c.finish.ensures.of
+    (spent_known s.known (plain_log c.finish.result) s.trail.literals c.finish.ensures.steps
+    c.finish.ensures.derived c.finish.ensures.each_new c.finish.ensures.of
     (rest_here (state_of s) c.self.invariant c.len-len.ensures.consistent
-    (ap (λ z. z.propagated) c.self.view_is ∙ c.requires ∙ sym (ap (λ z. length z.trail.literals) c.self.view_is))))
+    (ap (λ z. z.propagated) c.self.view_is ∙ c.requires
+    ∙ sym (ap (λ z. length z.trail.literals) c.self.view_is))))

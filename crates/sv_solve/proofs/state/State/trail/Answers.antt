@@ -8,4 +8,5 @@ pub returns-clause-rest : goal.returns-clause-rest
 returns-clause-rest c =
     λ all. subst (λ z. IsAtRest (clauses_known z.known) z.trail.literals) c.self.view_is
     (rest_here (state_of c.self.inside) c.self.invariant c.len-len.ensures.consistent
-    (ap (λ z. z.propagated) c.self.view_is ∙ all ∙ sym (ap (λ z. length z.trail.literals) c.self.view_is)))
+    (ap (λ z. z.propagated) c.self.view_is ∙ all
+    ∙ sym (ap (λ z. length z.trail.literals) c.self.view_is)))

@@ -5,4 +5,6 @@ use Rattle.sv_solve.proofs.trail.Trail.len.Goals as goal
 
 pub returns-clause-consistent : goal.returns-clause-consistent
 returns-clause-consistent c =
-    subst (λ z. IsConsistent z.literals) c.self.view_is (consistent_from c.self.inside.assigned.literals c.self.invariant.each_open (λ l e. (c.len.ensures.of l e).0))
+    subst (λ z. IsConsistent z.literals) c.self.view_is
+    (consistent_from c.self.inside.assigned.literals c.self.invariant.each_open (λ l e.
+    (c.len.ensures.of l e).0))

@@ -1,7 +1,7 @@
 use Rattle.std.proofs.Common.{◌-◌, length}
 use Rattle.std.specs.Prelude.{All}
 use Rattle.sv_solve.specs.Answers.{IsWithin}
-use Rattle.sv_solve.proofs.solver.tests.clauses_of.Given as goal
+use Rattle.solver_tests.proofs.solving.clauses_of.Given as goal
 
 abbrev pub invariant-lists : goal.invariant-lists
 invariant-lists l = All (IsWithin l.variables) l.clauses.items

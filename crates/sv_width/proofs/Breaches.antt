@@ -1,5 +1,5 @@
 -- What refuses by a step.
-use Rattle.std.proofs.Common.{◌≡◌, ℕ, List, [], ◌∷◌, sym, ap, ◌∙◌}
+use Rattle.std.proofs.Common.{◌≡◌, ℕ, List, sym, ap, ◌∙◌}
 use Rattle.std.specs.Prelude.{Result, Ok, Err, IfOk, OnOk, IfErr}
 use Rattle.sv_num.specs.declared.faults.Place.{Place}
 use Rattle.sv_num.specs.declared.faults.Fault.{Fault}
@@ -10,25 +10,32 @@ use Rattle.sv_walk.specs.Rules.{step}
 use Rattle.sv_width.specs.Answers.{IsBreach}
 
 pub breach_of : {X : Type 0} (f : Fault) (number : ℕ) (place : Place) (names given : List (List ℕ))
-    → Refuses f number place names → names ≡ given → (end : Result X Step) → end ≡ Err (step number place given) → IsBreach end f
+    → Refuses f number place names → names ≡ given → (end : Result X Step)
+    → end ≡ Err (step number place given) → IsBreach end f
 breach_of (Rule r) number place names given refuses is end e =
-    e ∙ sym (ap (λ (s : Step). Err s) (ap (λ (t : ℕ × Place × List (List ℕ)). step t.0 t.1 t.2) refuses ∙ ap (λ ns. step number place ns) is))
+    e ∙ sym (ap (λ (s : Step).
+    Err s) (ap (λ (t : ℕ × Place × List (List ℕ)). step t.0 t.1 t.2) refuses
+    ∙ ap (λ ns. step number place ns) is))
 breach_of OutOfMemory number place names given refuses is end e = tt
 
-pub breach_memory : {X : Type 0} (f : Fault) → f ≡ OutOfMemory → (end : Result X Step) → IsBreach end f
+pub breach_memory : {X : Type 0} (f : Fault) → f ≡ OutOfMemory → (end : Result X Step) →
+    IsBreach end f
 breach_memory (Rule r) is end = absurd (cc is)
 breach_memory OutOfMemory is end = tt
 
 -- ---- what a call answers, taken on
 
-pub ok_both : {T E : Type 0} (r : Result T E) (P : Type 0) (Q R : T → Type 0) → (P → (x : T) → Q x → R x) → OnOk r P → IfOk r Q → IfOk r R
+pub ok_both : {T E : Type 0} (r : Result T E) (P : Type 0) (Q R : T → Type 0) →
+    (P → (x : T) → Q x → R x) → OnOk r P → IfOk r Q → IfOk r R
 ok_both (Ok x) P Q R f p q = f p x q
 ok_both (Err e) P Q R f p q = tt
 
-pub ok_weaker : {T E : Type 0} (r : Result T E) (Q R : T → Type 0) → ((x : T) → Q x → R x) → IfOk r Q → IfOk r R
+pub ok_weaker : {T E : Type 0} (r : Result T E) (Q R : T → Type 0) → ((x : T) → Q x → R x) →
+    IfOk r Q → IfOk r R
 ok_weaker (Ok x) Q R f q = f x q
 ok_weaker (Err e) Q R f q = tt
 
-pub err_weaker : {T E : Type 0} (r : Result T E) (P Q : E → Type 0) → ((e : E) → P e → Q e) → IfErr r P → IfErr r Q
+pub err_weaker : {T E : Type 0} (r : Result T E) (P Q : E → Type 0) → ((e : E) → P e → Q e) →
+    IfErr r P → IfErr r Q
 err_weaker (Ok x) P Q f h = tt
 err_weaker (Err e) P Q f h = f e h

@@ -1,5 +1,6 @@
 -- What a map says of a name is what the list of its entries says.
-use Rattle.std.proofs.Common.{◌≡◌, ℕ, Bool, true, false, cond, List, [], ◌∷◌, Option, Some, None, refl, ap, ◌∙◌}
+use Rattle.std.proofs.Common.{◌≡◌, ℕ, Bool, true, false, cond, List, [], ◌∷◌, Option, Some, None}
+use Rattle.std.proofs.Common.{refl, ap, ◌∙◌}
 use Rattle.std.specs.Prelude.{option_map, find, is_some, IsTrue}
 use Rattle.std.specs.Map.{lookup}
 use Rattle.std.specs.Str.{bytes_eq}
@@ -16,11 +17,13 @@ chosen : {A B : Type 0} (f : A → B) (b : Bool) (x : A) (rest : Option A)
 chosen f true x rest = refl
 chosen f false x rest = refl
 
-pub lookup_is_entry : {A : Type 0} (n : List ℕ) (es : List (List ℕ × A)) → lookup (bytes_eq n) es ≡ entry es n
+pub lookup_is_entry : {A : Type 0} (n : List ℕ) (es : List (List ℕ × A)) →
+    lookup (bytes_eq n) es ≡ entry es n
 lookup_is_entry n [] = refl
 lookup_is_entry {A} n (e ∷ es) =
     ap (λ (r : Option A). cond (bytes_eq n e.0) (Some e.1) r) (lookup_is_entry n es)
-    ∙ chosen (λ (row : List ℕ × A). row.1) (bytes_eq n e.0) e (find (λ (row : List ℕ × A). bytes_eq n row.0) es)
+    ∙ chosen (λ (row : List ℕ × A).
+    row.1) (bytes_eq n e.0) e (find (λ (row : List ℕ × A). bytes_eq n row.0) es)
 
 pub none_there : {A : Type 0} (r : Option A) → is_some r ≡ false → r ≡ None
 none_there None h = refl
@@ -28,7 +31,11 @@ none_there (Some x) h = absurd (cc h)
 
 -- a refusal with rule 312
 pub refuses_twice : (known : Known) (n : List ℕ) (place : Place) (f : Fault) (names : List (List ℕ))
-    → Refuses f 312 place names → names ≡ n ∷ [] → IsTrue (is_some (meaning_of known n)) → IsTwice known n place f
-refuses_twice known n place (Rule r) names refuses is there =
-    (ap (λ (t : ℕ × Place × List (List ℕ)). step t.0 t.1 t.2) refuses ∙ ap (λ ns. step 312 place ns) is, there)
+    → Refuses f 312 place names → names ≡ n ∷ [] → IsTrue (is_some (meaning_of known n))
+    → IsTwice known n place f
+refuses_twice known n place (Rule r) names refuses is there = (
+  ap (λ (t : ℕ × Place × List (List ℕ)). step t.0 t.1 t.2) refuses
+      ∙ ap (λ ns. step 312 place ns) is,
+  there,
+)
 refuses_twice known n place OutOfMemory names refuses is there = tt

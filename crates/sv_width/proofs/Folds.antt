@@ -1,35 +1,43 @@
 -- Values of operators, from those of their operands.
-use Rattle.std.proofs.Common.{◌≡◌, ◌≢◌, ℕ, zero, suc, ◌+◌, ◌-◌, ◌*◌, ◌/◌, ◌%◌, ◌^◌, ◌<◌, ◌≤◌, min, max, Bool, true, false, refl, sym, ap, subst, ◌∙◌, arith}
-use Rattle.std.specs.Prelude.{not, ◌==◌, ◌&&◌, if◌then◌else◌, nat_le, Option, Some, None, unwrap_or, IsTrue, ℤ, pos, negsuc, Result, Ok, Err}
+use Rattle.std.proofs.Common.{◌≡◌, ◌≢◌, ℕ, zero, suc, ◌+◌, ◌-◌, ◌*◌, ◌/◌, ◌%◌, ◌^◌, ◌<◌, ◌≤◌, min}
+use Rattle.std.proofs.Common.{Bool, true, false, refl, sym, ap, subst, ◌∙◌, arith}
+use Rattle.std.specs.Prelude.{◌&&◌, nat_le, Option, unwrap_or}
+use Rattle.std.specs.Prelude.{ℤ, pos, negsuc, Result, Ok}
 use Rattle.std.proofs.lemmas.Bool.{le-leb, lt-leb, leb-true, leb-false}
-use Rattle.std.proofs.lemmas.Nat.{pow_pos, pow-add, mod_below}
-use Rattle.std.proofs.Math.Nat.{add-mul-mod_self_right, div-add-mod', mul-le-mul_right, mul-le-mul_left}
+use Rattle.std.proofs.lemmas.Nat.{pow-add, mod_below}
+use Rattle.std.proofs.Math.Nat.{add-mul-mod_self_right, div-add-mod', mul-le-mul_right}
+use Rattle.std.proofs.Math.Nat.{mul-le-mul_left}
 use Rattle.sv_num.specs.declared.faults.Place.{Place}
 use Rattle.sv_num.specs.declared.faults.Fault.{Fault}
 use Rattle.sv_num.specs.declared.operators.BinOp.{BinOp}
-use Rattle.sv_num.specs.declared.operators.BinOp.TheVariants.{Mul, Div, Rem, Add, Sub, Shl, Shr, SignShl, SignShr, Lt, Le, Gt, Ge, Eq, Ne, And, Xor, Xnor, Or, LogicAnd, LogicOr}
+use Rattle.sv_num.specs.declared.operators.BinOp.TheVariants.{Mul, Div, Rem, Add, Sub, Shl, Shr}
+use Rattle.sv_num.specs.declared.operators.BinOp.TheVariants.{SignShl, SignShr, Lt, Le, Gt, Ge, Eq}
+use Rattle.sv_num.specs.declared.operators.BinOp.TheVariants.{Ne, And, Xor, Xnor, Or, LogicAnd}
+use Rattle.sv_num.specs.declared.operators.BinOp.TheVariants.{LogicOr}
 use Rattle.sv_num.specs.declared.operators.OpClass.{OpClass}
 use Rattle.sv_num.specs.declared.operators.OpClass.TheVariants.{Context, Compare, Logical, Shift}
 use Rattle.sv_num.specs.declared.vectors.Bits.{Bits}
-use Rattle.sv_num.specs.Vectors.{width_of, is_signed, value_of, number_of}
+use Rattle.sv_num.specs.Vectors.{width_of, is_signed, value_of}
 use Rattle.sv_num.specs.BinaryValues.{class_of, binary_value, HaveOneType, HasDivisor}
 use Rattle.sv_num.proofs.NumberLemmas.{word_low}
 use Rattle.sv_ast.specs.Values.{natural}
-use Rattle.sv_walk.specs.Walks.{Step, Steps, ask, done}
+use Rattle.sv_walk.specs.Walks.{Step}
 use Rattle.sv_walk.specs.ExpressionSteps.{is_count}
-use Rattle.sv_walk.specs.Rules.{zero_divisor}
-use Rattle.sv_walk.specs.TypedExpressions.{is_division, left_length, left_sign, right_length, right_sign}
+use Rattle.sv_walk.specs.TypedExpressions.{is_division, left_length, left_sign, right_length}
+use Rattle.sv_walk.specs.TypedExpressions.{right_sign}
 use Rattle.sv_width.specs.Answers.{IsBreach}
 use Rattle.sv_width.specs.Measured.{OwnForm, MeasuredTree, MeasuredTrees}
 use Rattle.sv_width.specs.Measured as measured
-use Rattle.sv_width.specs.Pushed.{behind, behind_times, folded_of, joined_from, divisors_of, divisors_in, left_at, left_as, right_at, right_as}
+use Rattle.sv_width.specs.Pushed.{behind, behind_times, folded_of, joined_from, divisors_of}
+use Rattle.sv_width.specs.Pushed.{divisors_in, left_at, left_as, right_at, right_as}
 use Rattle.sv_width.specs.Outcomes.{IsFolded, zero_steps, whole_part}
-use Rattle.sv_width.proofs.Measures.{breach_first, breach_after, passes_on}
+use Rattle.sv_width.proofs.Measures.{breach_after, passes_on}
 
 -- ---- words
 
 pub power_split : (n k : ℕ) → n ≤ k → 2 ^ k ≡ 2 ^ (k - n) * 2 ^ n
-power_split n k few = ap (λ j. 2 ^ j) (let j : k ≡ k - n + n = omega arith in j) ∙ pow-add 2 (k - n) n
+power_split n k few =
+    ap (λ j. 2 ^ j) (let j : k ≡ k - n + n = omega arith in j) ∙ pow-add 2 (k - n) n
 
 -- what a multiple of a greater power of two adds is cut
 far_sum : (n k v x : ℕ) → n ≤ k → (v * 2 ^ k + x) % 2 ^ n ≡ x % 2 ^ n
@@ -45,7 +53,8 @@ word_sum n p x few =
     word_low (p % 2 ^ 64 + x) n few
     ∙ sym (ap (λ y. y % 2 ^ n) whole ∙ far_sum n 64 (p / 2 ^ 64) (p % 2 ^ 64 + x) few)
 
-pub far_behind : (n w v x : ℕ) → n ≤ 64 → 64 ≤ w → (0 + x) % 2 ^ 64 % 2 ^ n ≡ (v * 2 ^ w + x) % 2 ^ n
+pub far_behind : (n w v x : ℕ) → n ≤ 64 → 64 ≤ w →
+    (0 + x) % 2 ^ 64 % 2 ^ n ≡ (v * 2 ^ w + x) % 2 ^ n
 far_behind n w v x few far =
     word_low (0 + x) n few ∙ ap (λ y. y % 2 ^ n) (omega arith) ∙ sym (far_sum n w v x (omega arith))
 
@@ -54,7 +63,8 @@ capped : (n w v x : ℕ) → n ≤ 64 → behind n v (min w 65) x ≡ behind n v
 capped n w v x few = by (nat_le w 65) refl
   where
     by : (b : Bool) → nat_le w 65 ≡ b → behind n v (min w 65) x ≡ behind n v w x
-    by true h = ap (λ k. behind n v k x) (let k : min w 65 ≡ w = omega (arith, leb-true w 65 h) in k)
+    by true h =
+        ap (λ k. behind n v k x) (let k : min w 65 ≡ w = omega (arith, leb-true w 65 h) in k)
     by false h =
         let more : 65 < w = leb-false w 65 h in
         far_sum n (min w 65) v x (omega (arith, more)) ∙ sym (far_sum n w v x (omega (arith, more)))
@@ -62,25 +72,31 @@ capped n w v x few = by (nat_le w 65) refl
 pub capped_times : (n k w v : ℕ) → n ≤ 64 → behind_times n k (min w 65) v ≡ behind_times n k w v
 capped_times n zero w v few = refl
 capped_times n (suc k) w v few =
-    ap (λ y. behind n y (min w 65) v) (capped_times n k w v few) ∙ capped n w (behind_times n k w v) v few
+    ap (λ y. behind n y (min w 65) v) (capped_times n k w v few)
+    ∙ capped n w (behind_times n k w v) v few
 
 -- ---- operators
 
 pub one_type : (op : BinOp) (n la lb : ℕ) (s sa sb : Bool) (left right : Bits)
-    → width_of left ≡ left_length (class_of op) n la lb → is_signed left ≡ left_sign (class_of op) s sa sb
-    → width_of right ≡ right_length (class_of op) n la lb → is_signed right ≡ right_sign (class_of op) s sa sb
+    → width_of left ≡ left_length (class_of op) n la lb
+    → is_signed left ≡ left_sign (class_of op) s sa sb
+    → width_of right ≡ right_length (class_of op) n la lb
+    → is_signed right ≡ right_sign (class_of op) s sa sb
     → HaveOneType (class_of op) left right
 one_type op n la lb s sa sb left right p q u v = by (class_of op) p q u v
   where
-    by : (c : OpClass) → width_of left ≡ left_length c n la lb → is_signed left ≡ left_sign c s sa sb
-        → width_of right ≡ right_length c n la lb → is_signed right ≡ right_sign c s sa sb → HaveOneType c left right
+    by : (c : OpClass) → width_of left ≡ left_length c n la lb
+        → is_signed left ≡ left_sign c s sa sb
+        → width_of right ≡ right_length c n la lb → is_signed right ≡ right_sign c s sa sb
+        → HaveOneType c left right
     by Context p q u v = (p ∙ sym u, q ∙ sym v)
     by Compare p q u v = (p ∙ sym u, q ∙ sym v)
     by Logical p q u v = tt
     by Shift p q u v = tt
 
 -- where a divisor was asked, it is one
-pub asked_divisor : (op : BinOp) (b : Bits) → (is_division op ≡ true → value_of b ≢ 0) → HasDivisor op b
+pub asked_divisor : (op : BinOp) (b : Bits) → (is_division op ≡ true → value_of b ≢ 0) →
+    HasDivisor op b
 asked_divisor Div b h = h refl
 asked_divisor Rem b h = h refl
 asked_divisor Mul b h = tt
@@ -103,46 +119,66 @@ asked_divisor Or b h = tt
 asked_divisor LogicAnd b h = tt
 asked_divisor LogicOr b h = tt
 
-module _ (own : OwnForm) (op : BinOp) (place : Place) (A B : MeasuredTree) (n : ℕ) (s : Bool) (lw rw : ℕ) (ls rs : Bool)
-    (lefts : lw ≡ left_at op n A B) (left_signs : ls ≡ left_as op s A B) (rights : rw ≡ right_at op n A B) (right_signs : rs ≡ right_as op s A B) where
+module _ (own : OwnForm) (op : BinOp) (place : Place) (A B : MeasuredTree) (n : ℕ) (s : Bool)
+    (lw rw : ℕ) (ls rs : Bool)
+    (lefts : lw ≡ left_at op n A B) (left_signs : ls ≡ left_as op s A B)
+    (rights : rw ≡ right_at op n A B) (right_signs : rs ≡ right_as op s A B) where
   left_end : (divisors_of A (left_at op n A B) (left_as op s A B)).end ≡ (divisors_of A lw ls).end
-  left_end = sym (ap (λ x. (divisors_of A x ls).end) lefts ∙ ap (λ x. (divisors_of A (left_at op n A B) x).end) left_signs)
+  left_end =
+      sym (ap (λ x. (divisors_of A x ls).end) lefts
+      ∙ ap (λ x. (divisors_of A (left_at op n A B) x).end) left_signs)
 
-  right_end : (divisors_of B (right_at op n A B) (right_as op s A B)).end ≡ (divisors_of B rw rs).end
-  right_end = sym (ap (λ x. (divisors_of B x rs).end) rights ∙ ap (λ x. (divisors_of B (right_at op n A B) x).end) right_signs)
+  right_end : (divisors_of B (right_at op n A B) (right_as op s A B)).end ≡
+      (divisors_of B rw rs).end
+  right_end =
+      sym (ap (λ x. (divisors_of B x rs).end) rights
+      ∙ ap (λ x. (divisors_of B (right_at op n A B) x).end) right_signs)
 
   right_value : folded_of B rw rs ≡ folded_of B (right_at op n A B) (right_as op s A B)
-  right_value = ap (λ x. folded_of B x rs) rights ∙ ap (λ x. folded_of B (right_at op n A B) x) right_signs
+  right_value =
+      ap (λ x. folded_of B x rs) rights ∙ ap (λ x. folded_of B (right_at op n A B) x) right_signs
 
   left_value : folded_of A lw ls ≡ folded_of A (left_at op n A B) (left_as op s A B)
-  left_value = ap (λ x. folded_of A x ls) lefts ∙ ap (λ x. folded_of A (left_at op n A B) x) left_signs
+  left_value =
+      ap (λ x. folded_of A x ls) lefts ∙ ap (λ x. folded_of A (left_at op n A B) x) left_signs
 
-  zero_end : (right : Bits) → value_of right ≡ folded_of B rw rs → (zero_steps op place (folded_of B (right_at op n A B) (right_as op s A B))).end ≡ (zero_steps op place (value_of right)).end
+  zero_end : (right : Bits) → value_of right ≡ folded_of B rw rs →
+      (zero_steps op place (folded_of B (right_at op n A B) (right_as op s A B))).end ≡
+      (zero_steps op place (value_of right)).end
   zero_end right is = sym (ap (λ x. (zero_steps op place x).end) (is ∙ right_value))
 
   pub binary_folded : (left right bits : Bits) → IsFolded A lw ls left → IsFolded B rw rs right
       → (zero_steps op place (value_of right)).end ≡ Ok tt → width_of bits ≡ n → is_signed bits ≡ s
-      → value_of bits ≡ binary_value op (width_of left) (is_signed left) (value_of left) (value_of right)
+      → value_of bits ≡ binary_value op (width_of left) (is_signed left) (value_of left)
+      (value_of right)
       → IsFolded (measured.binary own op place A B) n s bits
   unfolding folded_of joined_from divisors_of divisors_in
   binary_folded left right bits first second asked width sign value = (
     passes_on (divisors_of A (left_at op n A B) (left_as op s A B)) _ _ (left_end ∙ first.0)
-        (passes_on (divisors_of B (right_at op n A B) (right_as op s A B)) _ _ (right_end ∙ second.0) (zero_end right second.3 ∙ asked)),
+        (passes_on (divisors_of B (right_at op n A B) (right_as op s A B)) _ _ (right_end
+        ∙ second.0) (zero_end right second.3 ∙ asked)),
     width,
     sign,
     value
-        ∙ ap (λ x. binary_value op x (is_signed left) (value_of left) (value_of right)) (first.1 ∙ lefts)
-        ∙ ap (λ x. binary_value op (left_at op n A B) x (value_of left) (value_of right)) (first.2 ∙ left_signs)
-        ∙ ap (λ x. binary_value op (left_at op n A B) (left_as op s A B) x (value_of right)) (first.3 ∙ left_value)
-        ∙ ap (λ x. binary_value op (left_at op n A B) (left_as op s A B) (folded_of A (left_at op n A B) (left_as op s A B)) x) (second.3 ∙ right_value),
+        ∙ ap (λ x. binary_value op x (is_signed left) (value_of left) (value_of right)) (first.1
+        ∙ lefts)
+        ∙ ap (λ x. binary_value op (left_at op n A B) x (value_of left) (value_of right)) (first.2
+        ∙ left_signs)
+        ∙ ap (λ x. binary_value op (left_at op n A B) (left_as op s A B) x (value_of right))
+        (first.3 ∙ left_value)
+        ∙ ap (λ x. binary_value op (left_at op n A B) (left_as op s A B)
+        (folded_of A (left_at op n A B) (left_as op s A B)) x) (second.3 ∙ right_value),
   )
 
-  pub binary_zero : (right : Bits) (f : Fault) → (divisors_of A lw ls).end ≡ Ok tt → IsFolded B rw rs right
-      → IsBreach (zero_steps op place (value_of right)).end f → IsBreach (divisors_of (measured.binary own op place A B) n s).end f
+  pub binary_zero : (right : Bits) (f : Fault) → (divisors_of A lw ls).end ≡ Ok tt
+      → IsFolded B rw rs right
+      → IsBreach (zero_steps op place (value_of right)).end f
+      → IsBreach (divisors_of (measured.binary own op place A B) n s).end f
   unfolding divisors_of divisors_in
   binary_zero right f first second h =
       breach_after (divisors_of A (left_at op n A B) (left_as op s A B)) _ tt f (left_end ∙ first)
-      (breach_after (divisors_of B (right_at op n A B) (right_as op s A B)) _ tt f (right_end ∙ second.0)
+      (breach_after (divisors_of B (right_at op n A B) (right_as op s A B)) _ tt f (right_end
+      ∙ second.0)
       (subst (λ (r : Result (Unit {0}) Step). IsBreach r f) (sym (zero_end right second.3)) h))
 
 -- ---- replications
@@ -156,7 +192,8 @@ too_many t j some far =
     let m : ℕ = min j 65 in
     let parts : 64 / m * m + 64 % m ≡ 64 = div-add-mod' 64 m in
     let low : 64 % m < m = mod_below 64 m (omega arith) in
-    let more : (64 / m + 1) * m ≤ t * m = mul-le-mul_right {m = 64 / m + 1} {n = t} m (omega arith) in
+    let more : (64 / m + 1) * m ≤ t * m =
+    mul-le-mul_right {m = 64 / m + 1} {n = t} m (omega arith) in
     let least : t * m ≤ t * j = mul-le-mul_left {m = m} {n = j} t (omega arith) in
     lt-leb (t * j) 64 (omega (arith, parts, low, more, least))
 
@@ -180,6 +217,7 @@ pub product_few : (t j : ℕ) → 1 ≤ j → t ≤ 64 / min j 65 → nat_le (t 
 product_few zero j some few = le-leb (0 * j) 64 (omega arith)
 product_few (suc t) j some few =
     let same = few_parts (suc t) j some few (omega arith) in
-    let least : suc t * j ≤ 64 / j * j = mul-le-mul_right {m = suc t} {n = 64 / j} j (subst (λ x. suc t ≤ 64 / x) same few) in
+    let least : suc t * j ≤ 64 / j * j =
+    mul-le-mul_right {m = suc t} {n = 64 / j} j (subst (λ x. suc t ≤ 64 / x) same few) in
     let parts : 64 / j * j + 64 % j ≡ 64 = div-add-mod' 64 j in
     le-leb (suc t * j) 64 (omega (arith, least, parts))

@@ -1,26 +1,29 @@
 -- An expression that breaks no rule has a length of 1 to 64 bits.
-use Rattle.std.proofs.Common.{◌≡◌, ℕ, zero, suc, ◌+◌, ◌-◌, ◌*◌, ◌<◌, ◌≤◌, max, Bool, true, false, List, refl, sym, ap, subst, ◌∙◌, arith}
-use Rattle.std.specs.Prelude.{not, ◌||◌, ◌&&◌, nat_le, nat_lt, if◌then◌else◌, Option, Some, None, IsTrue, ℤ, pos, negsuc}
+use Rattle.std.proofs.Common.{◌≡◌, ℕ, zero, suc, ◌*◌, ◌<◌, ◌≤◌, Bool, true, false}
+use Rattle.std.proofs.Common.{List, refl, arith}
+use Rattle.std.specs.Prelude.{not, ◌||◌, ◌&&◌, nat_le, nat_lt, if◌then◌else◌, Option, Some, None}
+use Rattle.std.specs.Prelude.{IsTrue, ℤ, pos, negsuc}
 use Rattle.std.proofs.lemmas.Bool.{and_parts, ltb-true, leb-true}
-use Rattle.sv_num.specs.declared.operators.BinOp.{BinOp}
 use Rattle.sv_num.specs.declared.operators.OpClass.{OpClass}
 use Rattle.sv_num.specs.declared.operators.OpClass.TheVariants.{Context, Compare, Logical, Shift}
-use Rattle.sv_num.specs.declared.operators.UnOp.{UnOp}
 use Rattle.sv_num.specs.UnaryValues.{gives_one_bit}
 use Rattle.sv_num.specs.BinaryValues.{class_of}
-use Rattle.sv_ast.specs.Scopes.{Scope, Binding, parameter, signal, width_of}
-use Rattle.sv_ast.specs.Tree.{ExpressionTree, ExpressionTrees, literal, named, bit_of, part_of, unary, binary, choice, join, replication, no_expressions, more_expressions}
+use Rattle.sv_ast.specs.Scopes.{Scope, Binding, width_of}
+use Rattle.sv_ast.specs.Tree.{ExpressionTree, ExpressionTrees, literal, named, bit_of, part_of}
+use Rattle.sv_ast.specs.Tree.{unary, binary, choice, join, replication, no_expressions}
+use Rattle.sv_ast.specs.Tree.{more_expressions}
 use Rattle.sv_ast.specs.Shape.{is_shaped_expression, are_shaped_parts, has_part}
 use Rattle.sv_ast.specs.Values.{natural, binary_length, length_of, joined_length, whole_number}
-use Rattle.sv_num.specs.Parts.{span_of}
 use Rattle.sv_ast.specs.Instances.{is_signal}
 use Rattle.sv_walk.specs.Names.{Names, is_bound, is_parameter, in_reach, means_signal}
 use Rattle.sv_walk.specs.ExpressionSteps.{is_count, is_part}
-use Rattle.sv_width.specs.Agreement.{AllDeclared, HaveLengths, IsLength, NumbersHaveLengths, PartsHaveLengths}
+use Rattle.sv_width.specs.Agreement.{AllDeclared, HaveLengths, IsLength, NumbersHaveLengths}
+use Rattle.sv_width.specs.Agreement.{PartsHaveLengths}
 use Rattle.sv_width.proofs.Sound.{Sound, SoundParts}
 use Rattle.sv_width.proofs.SameValue.{reached, meant}
 
-pub bound_length : (scope : Scope) → HaveLengths scope → (m : List ℕ) (b : Option Binding) → scope m ≡ b → IsTrue (is_bound b) → IsLength (width_of b)
+pub bound_length : (scope : Scope) → HaveLengths scope → (m : List ℕ) (b : Option Binding) →
+    scope m ≡ b → IsTrue (is_bound b) → IsLength (width_of b)
 bound_length scope lengths m (Some b) is bound = lengths m b is
 bound_length scope lengths m None is bound = absurd (cc bound)
 
@@ -67,7 +70,8 @@ parameter_bound : (b : Option Binding) → IsTrue (is_parameter b) → IsTrue (i
 parameter_bound (Some b) h = refl
 parameter_bound None h = absurd (cc h)
 
-pub reached_in : (names : Names) (c : Bool) → KnownIn names c → (m : List ℕ) → IsTrue (in_reach names m)
+pub reached_in : (names : Names) (c : Bool) → KnownIn names c → (m : List ℕ)
+    → IsTrue (in_reach names m)
     → IsTrue (not c || is_parameter (names.scope m)) → IsTrue (is_bound (names.scope m))
 reached_in names true known m h p = parameter_bound (names.scope m) p
 reached_in names false known m h p = reached names m (known refl m) h
@@ -76,7 +80,8 @@ pub open_place : (c : Bool) → IsTrue (not c) → c ≡ false
 open_place true h = absurd (cc h)
 open_place false h = refl
 
-pub meant_in : (names : Names) (c : Bool) → KnownIn names c → (m : List ℕ) → IsTrue (means_signal names m) → IsTrue (not c)
+pub meant_in : (names : Names) (c : Bool) → KnownIn names c → (m : List ℕ)
+    → IsTrue (means_signal names m) → IsTrue (not c)
     → is_signal (names.scope m) ≡ true
 meant_in names c known m h p = meant names m (known (open_place c p) m) h
 
@@ -84,30 +89,41 @@ module _ (names : Names) (lengths : HaveLengths names.scope) where
   mutual
     unfolding length_of joined_length Sound SoundParts
 
-    pub own_length : (c : Bool) → KnownIn names c → (e : ExpressionTree) → Sound names c e → IsTrue (is_shaped_expression e) → NumbersHaveLengths e
+    pub own_length : (c : Bool) → KnownIn names c → (e : ExpressionTree) → Sound names c e
+        → IsTrue (is_shaped_expression e) → NumbersHaveLengths e
         → IsLength (length_of names.scope e)
     own_length c known (literal l p) q shape numbers = numbers
     own_length c known (named m p) q shape numbers =
         bound_length names.scope lengths m (names.scope m) refl (reached_in names c known m q.0 q.1)
     own_length c known (bit_of m p i) q shape numbers = (omega arith, omega arith)
     own_length c known (part_of m p h l) q shape numbers =
-        let there = bound_length names.scope lengths m (names.scope m) refl (signal_bound (names.scope m) (meant_in names c known m q.0 q.1)) in
-        let inside = part_inside (width_of (names.scope m)) (whole_number names.scope h) (whole_number names.scope l) q.6 in
-        (omega (arith, there.0, there.1, inside.0, inside.1), omega (arith, there.0, there.1, inside.0, inside.1))
+        let there = bound_length names.scope lengths m (names.scope m) refl
+        (signal_bound (names.scope m) (meant_in names c known m q.0 q.1)) in
+        let inside = part_inside (width_of (names.scope m)) (whole_number names.scope h)
+        (whole_number names.scope l) q.6 in (
+          omega (arith, there.0, there.1, inside.0, inside.1),
+          omega
+              (arith, there.0, there.1, inside.0, inside.1),
+        )
     own_length c known (unary op p e) q shape numbers =
-        unary_length (gives_one_bit op) (length_of names.scope e) (own_length c known e q shape numbers)
+        unary_length (gives_one_bit op) (length_of names.scope e)
+        (own_length c known e q shape numbers)
     own_length c known (binary op p a b) q shape numbers =
         let shapes = and_parts (is_shaped_expression a) (is_shaped_expression b) shape in
         result_length (class_of op) (length_of names.scope a) (length_of names.scope b)
         (own_length c known a q.0 shapes.0 numbers.0) (own_length c known b q.1 shapes.1 numbers.1)
     own_length c known (choice p d a b) q shape numbers =
-        let outer = and_parts (is_shaped_expression d && is_shaped_expression a) (is_shaped_expression b) shape in
+        let outer = and_parts (is_shaped_expression d && is_shaped_expression a)
+        (is_shaped_expression b) shape in
         let inner = and_parts (is_shaped_expression d) (is_shaped_expression a) outer.0 in
         result_length Context (length_of names.scope a) (length_of names.scope b)
         (own_length c known a q.1 inner.1 numbers.1) (own_length c known b q.2 outer.1 numbers.2)
     own_length c known (join p es) q shape numbers =
-        let shapes = and_parts (has_part es) (are_shaped_parts es) shape in
-        (some_length c known es q.0 shapes.0 shapes.1 numbers, leb-true (joined_length names.scope es) 64 q.1)
+        let shapes = and_parts (has_part es) (are_shaped_parts es) shape in (
+          some_length c known es q.0 shapes.0 shapes.1 numbers,
+          leb-true
+              (joined_length names.scope es) 64 q.1,
+        )
     own_length c known (replication p k es) q shape numbers =
         let outer = and_parts (is_shaped_expression k && has_part es) (are_shaped_parts es) shape in
         let inner = and_parts (is_shaped_expression k) (has_part es) outer.0 in
@@ -117,7 +133,8 @@ module _ (names : Names) (lengths : HaveLengths names.scope) where
           leb-true (natural (whole_number names.scope k) * joined_length names.scope es) 64 q.3,
         )
 
-    pub some_length : (c : Bool) → KnownIn names c → (es : ExpressionTrees) → SoundParts names c es → IsTrue (has_part es) → IsTrue (are_shaped_parts es)
+    pub some_length : (c : Bool) → KnownIn names c → (es : ExpressionTrees) → SoundParts names c es
+        → IsTrue (has_part es) → IsTrue (are_shaped_parts es)
         → PartsHaveLengths es → 1 ≤ joined_length names.scope es
     some_length c known no_expressions q some shape numbers = absurd (cc some)
     some_length c known (more_expressions e es) q some shape numbers =

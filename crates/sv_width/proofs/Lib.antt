@@ -8,6 +8,7 @@ pub mod Constants
 pub mod Walked
 pub mod Measures
 pub mod Ends
+pub mod OperandEnds
 pub mod Named
 pub mod MRows
 pub mod Breaches

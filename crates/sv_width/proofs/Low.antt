@@ -1,19 +1,21 @@
 -- A value stays below 2 to its length.
-use Rattle.std.proofs.Common.{◌≡◌, ℕ, zero, suc, ◌+◌, ◌-◌, ◌*◌, ◌/◌, ◌%◌, ◌^◌, ◌<◌, ◌≤◌, max, Bool, true, false, List, refl, sym, ap, subst, ◌∙◌, arith}
-use Rattle.std.specs.Prelude.{not, ◌&&◌, ◌||◌, ◌==◌, nat_lt, if◌then◌else◌, count_ones, int_lt, int_le, IsTrue, ℤ, pos, negsuc}
+use Rattle.std.proofs.Common.{◌≡◌, ℕ, ◌-◌, ◌*◌, ◌/◌, ◌%◌, ◌^◌, ◌<◌, ◌≤◌, Bool}
+use Rattle.std.proofs.Common.{true, false, arith}
+use Rattle.std.specs.Prelude.{count_ones}
 use Rattle.std.proofs.lemmas.Nat.{pow_pos, mod_below, and_le_l, or_lt, xor_lt}
 use Rattle.std.proofs.Math.Pow.{pow_mono}
 use Rattle.std.proofs.Math.Nat.{div-le_self}
 use Rattle.sv_num.specs.declared.operators.BinOp.{BinOp}
-use Rattle.sv_num.specs.declared.operators.BinOp.TheVariants.{Mul, Div, Rem, Add, Sub, Shl, Shr, SignShl, SignShr, Lt, Le, Gt, Ge, Eq, Ne, And, Xor, Xnor, Or, LogicAnd, LogicOr}
+use Rattle.sv_num.specs.declared.operators.BinOp.TheVariants.{Mul, Div, Rem, Add, Sub, Shl, Shr}
+use Rattle.sv_num.specs.declared.operators.BinOp.TheVariants.{SignShl, SignShr, Lt, Le, Gt, Ge, Eq}
+use Rattle.sv_num.specs.declared.operators.BinOp.TheVariants.{Ne, And, Xor, Xnor, Or, LogicAnd}
+use Rattle.sv_num.specs.declared.operators.BinOp.TheVariants.{LogicOr}
 use Rattle.sv_num.specs.declared.operators.UnOp.{UnOp}
 use Rattle.sv_num.specs.declared.operators.UnOp.TheVariants as unop
-use Rattle.sv_num.specs.Vectors.{as_number, reduced, truth, is_true}
+use Rattle.sv_num.specs.Vectors.{truth}
 use Rattle.sv_num.specs.UnaryValues.{gives_one_bit, unary_value}
 use Rattle.sv_num.specs.BinaryValues.{class_of, binary_value}
 use Rattle.sv_walk.specs.TypedExpressions.{left_length, right_length, left_sign}
-use Rattle.sv_num.proofs.BitsLemmas.{joined_low}
-use Rattle.sv_width.specs.Agreement.{IsLength}
 use Rattle.sv_width.proofs.WellFormed.{reduced_low}
 
 pub one_low : (n x : ℕ) → 1 ≤ n → x < 2 → x < 2 ^ n
@@ -36,7 +38,8 @@ pub odd_low : (x : ℕ) → x % 2 < 2
 odd_low x = mod_below x 2 (omega arith)
 
 -- what a unary operator gives for a value of m bits fits n bits, where it gives one bit or m is n
-pub bit_low : (op : UnOp) → gives_one_bit op ≡ true → (n m : ℕ) (s : Bool) (x : ℕ) → 1 ≤ n → unary_value op m s x < 2 ^ n
+pub bit_low : (op : UnOp) → gives_one_bit op ≡ true → (n m : ℕ) (s : Bool) (x : ℕ) → 1 ≤ n →
+    unary_value op m s x < 2 ^ n
 bit_low unop.Plus h n m s x some = absurd (cc h)
 bit_low unop.Minus h n m s x some = absurd (cc h)
 bit_low unop.Invert h n m s x some = absurd (cc h)
@@ -48,7 +51,8 @@ bit_low unop.Nor h n m s x some = flag_low n _ some
 bit_low unop.Xor h n m s x some = one_low n _ some (odd_low (count_ones x))
 bit_low unop.Xnor h n m s x some = one_low n _ some (omega (arith, odd_low (count_ones x)))
 
-pub unary_low : (op : UnOp) → gives_one_bit op ≡ false → (n : ℕ) (s : Bool) (x : ℕ) → x < 2 ^ n → unary_value op n s x < 2 ^ n
+pub unary_low : (op : UnOp) → gives_one_bit op ≡ false → (n : ℕ) (s : Bool) (x : ℕ) → x < 2 ^ n →
+    unary_value op n s x < 2 ^ n
 unary_low unop.Plus h n s x low = low
 unary_low unop.Minus h n s x low = reduced_low n _
 unary_low unop.Invert h n s x low = inverted_low n x
@@ -63,14 +67,16 @@ unary_low unop.Xnor h n s x low = absurd (cc h)
 -- what a binary operator gives fits the pushed length
 pub binary_low : (op : BinOp) (n : ℕ) (s : Bool) (la lb : ℕ) (sa sb : Bool) (x y : ℕ) → 1 ≤ n
     → x < 2 ^ left_length (class_of op) n la lb → y < 2 ^ right_length (class_of op) n la lb
-    → binary_value op (left_length (class_of op) n la lb) (left_sign (class_of op) s sa sb) x y < 2 ^ n
+    → binary_value op (left_length (class_of op) n la lb) (left_sign (class_of op) s sa sb) x
+    y < 2 ^ n
 binary_low Mul n s la lb sa sb x y some p q = reduced_low n _
 binary_low Div n s la lb sa sb x y some p q = reduced_low n _
 binary_low Rem n s la lb sa sb x y some p q = reduced_low n _
 binary_low Add n s la lb sa sb x y some p q = reduced_low n _
 binary_low Sub n s la lb sa sb x y some p q = reduced_low n _
 binary_low Shl n s la lb sa sb x y some p q = mod_below (x * 2 ^ y) (2 ^ n) (pow_pos n)
-binary_low Shr n s la lb sa sb x y some p q = let less : x / 2 ^ y ≤ x = div-le_self x (2 ^ y) in omega (arith, less)
+binary_low Shr n s la lb sa sb x y some p q =
+    let less : x / 2 ^ y ≤ x = div-le_self x (2 ^ y) in omega (arith, less)
 binary_low SignShl n s la lb sa sb x y some p q = mod_below (x * 2 ^ y) (2 ^ n) (pow_pos n)
 binary_low SignShr n s la lb sa sb x y some p q = reduced_low n _
 binary_low Lt n s la lb sa sb x y some p q = flag_low n _ some

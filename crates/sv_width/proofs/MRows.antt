@@ -1,18 +1,23 @@
 -- A vector of measured expressions, which stands in one as a row, has the plain forms of its items.
-use Rattle.std.proofs.Common.{◌≡◌, ◌+◌, ◌≤◌, ℕ, length, List, [], ◌∷◌, ◌++◌, refl, sym, ap, ◌∙◌}
+use Rattle.std.proofs.Common.{◌≡◌, List, [], ◌∷◌, ◌++◌, refl, ap, ◌∙◌}
 use Rattle.std.specs.declared.alloc.Global.{Global}
 use Rattle.std.specs.declared.vec.Vec.{Vec}
-use Rattle.sv_width.specs.declared.measured.Measured.{Measured, Row_of-Measured, end_of-Measured, more_of-Measured, items-the_row-Measured, items_hidden-the_row-Measured-0}
+use Rattle.sv_width.specs.declared.measured.Measured.{Measured, Row_of-Measured, end_of-Measured}
+use Rattle.sv_width.specs.declared.measured.Measured.{more_of-Measured, items-the_row-Measured}
+use Rattle.sv_width.specs.declared.measured.Measured.{items_hidden-the_row-Measured-0}
 use Rattle.sv_width.specs.declared.measured.Measured.TheBlock.{hidden-the_row-Measured-0}
 use Rattle.sv_width.specs.Measured.{MeasuredTree, MeasuredTrees, no_parts, more_parts}
 use Rattle.sv_width.specs.Views.{measured_tree, measured_trees, row_parts, parts_of}
 
-row_parts-items : (n : _) (row : Row_of-Measured n) → row_parts row ≡ parts_of (measured_trees (items-the_row-Measured n row))
+row_parts-items : (n : _) (row : Row_of-Measured n) →
+    row_parts row ≡ parts_of (measured_trees (items-the_row-Measured n row))
 row_parts-items _ end_of-Measured = refl
-row_parts-items _ (more_of-Measured e row) = ap (more_parts (measured_tree e)) (row_parts-items _ row)
+row_parts-items _ (more_of-Measured e row) =
+    ap (more_parts (measured_tree e)) (row_parts-items _ row)
 
 -- the parts of a join or replication are those of its vector, in order
-pub row_parts-hidden : (v : Vec Measured Global) → row_parts (hidden-the_row-Measured-0 v) ≡ parts_of (measured_trees v.items)
+pub row_parts-hidden : (v : Vec Measured Global) →
+    row_parts (hidden-the_row-Measured-0 v) ≡ parts_of (measured_trees v.items)
 row_parts-hidden v =
     row_parts-items _ (hidden-the_row-Measured-0 v)
     ∙ ap (λ es. parts_of (measured_trees es)) (items_hidden-the_row-Measured-0 v)
@@ -22,7 +27,8 @@ abbrev pub before : List MeasuredTree → MeasuredTrees → MeasuredTrees
 before [] rest = rest
 before (t ∷ ts) rest = more_parts t (before ts rest)
 
-pub before_push : (ts : List MeasuredTree) (t : MeasuredTree) (rest : MeasuredTrees) → before (ts ++ t ∷ []) rest ≡ before ts (more_parts t rest)
+pub before_push : (ts : List MeasuredTree) (t : MeasuredTree) (rest : MeasuredTrees) →
+    before (ts ++ t ∷ []) rest ≡ before ts (more_parts t rest)
 before_push [] t rest = refl
 before_push (u ∷ ts) t rest = ap (more_parts u) (before_push ts t rest)
 
@@ -30,6 +36,7 @@ pub before_end : (ts : List MeasuredTree) → before ts no_parts ≡ parts_of ts
 before_end [] = refl
 before_end (t ∷ ts) = ap (more_parts t) (before_end ts)
 
-pub trees_push : (xs : List Measured) (x : Measured) → measured_trees (xs ++ x ∷ []) ≡ measured_trees xs ++ measured_tree x ∷ []
+pub trees_push : (xs : List Measured) (x : Measured) →
+    measured_trees (xs ++ x ∷ []) ≡ measured_trees xs ++ measured_tree x ∷ []
 trees_push [] x = refl
 trees_push (y ∷ xs) x = ap (λ ts. measured_tree y ∷ ts) (trees_push xs x)

@@ -2,13 +2,16 @@
 use Rattle.std.proofs.Common.{◌≡◌, ℕ, Bool, true, false, List, refl}
 use Rattle.std.specs.Prelude.{not, ◌||◌, nat_le, IsTrue, Result, Ok, Err}
 use Rattle.sv_ast.specs.Scopes.{width_of}
-use Rattle.sv_ast.specs.Tree.{ExpressionTree, ExpressionTrees, literal, named, bit_of, part_of, unary, binary, choice, join, replication, no_expressions, more_expressions}
+use Rattle.sv_ast.specs.Tree.{ExpressionTree, ExpressionTrees, literal, named, bit_of, part_of}
+use Rattle.sv_ast.specs.Tree.{unary, binary, choice, join, replication, no_expressions}
+use Rattle.sv_ast.specs.Tree.{more_expressions}
 use Rattle.sv_ast.specs.Values.{length_of, joined_length, whole_number}
 use Rattle.sv_walk.specs.Walks.{Step, Steps, done, ask, then_walk, ◌>>=◌}
 use Rattle.sv_walk.specs.Names.{Names, is_parameter, in_reach, means_signal, place_of}
-use Rattle.sv_walk.specs.Rules.{unknown_name, too_wide, bad_select, not_constant, division, bad_count}
-use Rattle.sv_walk.specs.TypedExpressions.{is_division, names_signal, some_names_signal}
-use Rattle.sv_walk.specs.ExpressionSteps.{asked, asked_parts, own_divisors, sized_parts, is_below, is_count, is_part}
+use Rattle.sv_walk.specs.Rules.{unknown_name, too_wide, bad_select, not_constant}
+use Rattle.sv_walk.specs.TypedExpressions.{is_division, names_signal}
+use Rattle.sv_walk.specs.ExpressionSteps.{asked, asked_parts, own_divisors, sized_parts, is_below}
+use Rattle.sv_walk.specs.ExpressionSteps.{is_count, is_part}
 use Rattle.sv_walk.proofs.WalkLemmas.{asked_true}
 
 -- each step is passed
@@ -16,35 +19,43 @@ abbrev pub Passes : Steps → Type 0
 Passes w = w.end ≡ Ok tt
 
 -- a whole that is passed is passed in both parts
-pub both_pass : (w : Steps) (more : Unit {0} → Steps) → Passes (w >>= more) → Passes w × Passes (more tt)
+pub both_pass : (w : Steps) (more : Unit {0} → Steps) → Passes (w >>= more) →
+    Passes w × Passes (more tt)
 both_pass w more = by_end w.end refl
   where
-    by_end : (r : Result (Unit {0}) Step) → w.end ≡ r → (then_walk w.passed r more).end ≡ Ok tt → Passes w × Passes (more tt)
+    by_end : (r : Result (Unit {0}) Step) → w.end ≡ r → (then_walk w.passed r more).end ≡ Ok tt →
+        Passes w × Passes (more tt)
     by_end (Ok x) e h = (e, h)
     by_end (Err s) e h = absurd (cc h)
 
 -- a step that is asked only sometimes
-pub passes_when : (b : Bool) (w : Steps) → Passes (elim b [ true ↦ w | false ↦ done tt ]) → b ≡ true → Passes w
+pub passes_when : (b : Bool) (w : Steps) → Passes (elim b [ true ↦ w | false ↦ done tt ]) →
+    b ≡ true → Passes w
 passes_when true w h e = h
 passes_when false w h e = absurd (cc e)
 
 unfoldable mutual
   pub Sound : Names → Bool → ExpressionTree → Type 0
   Sound names c (literal l p) = Unit {0}
-  Sound names c (named n p) = IsTrue (in_reach names n) × IsTrue (not c || is_parameter (names.scope n))
+  Sound names c (named n p) =
+      IsTrue (in_reach names n) × IsTrue (not c || is_parameter (names.scope n))
   Sound names c (bit_of n p i) = IsTrue (means_signal names n) × IsTrue (not c)
       × (names_signal names.scope i ≡ true → Sound names false i)
-      × (names_signal names.scope i ≡ false → Sound names true i × Passes (own_divisors names.scope i)
+      × (names_signal names.scope i ≡ false → Sound names true i
+      × Passes (own_divisors names.scope i)
       × IsTrue (is_below (width_of (names.scope n)) (whole_number names.scope i)))
   Sound names c (part_of n p h l) = IsTrue (means_signal names n) × IsTrue (not c)
       × Sound names true h × Passes (own_divisors names.scope h)
       × Sound names true l × Passes (own_divisors names.scope l)
-      × IsTrue (is_part (width_of (names.scope n)) (whole_number names.scope h) (whole_number names.scope l))
+      × IsTrue (is_part (width_of (names.scope n)) (whole_number names.scope h)
+      (whole_number names.scope l))
   Sound names c (unary op p e) = Sound names c e
   Sound names c (binary op p a b) = Sound names c a × Sound names c b
-      × (is_division op ≡ true → IsTrue (not (names_signal names.scope a || names_signal names.scope b)))
+      × (is_division op ≡ true →
+      IsTrue (not (names_signal names.scope a || names_signal names.scope b)))
   Sound names c (choice p d a b) = Sound names c d × Sound names c a × Sound names c b
-  Sound names c (join p es) = SoundParts names c es × IsTrue (nat_le (joined_length names.scope es) 64)
+  Sound names c (join p es) =
+      SoundParts names c es × IsTrue (nat_le (joined_length names.scope es) 64)
       × Passes (sized_parts es)
   Sound names c (replication p k es) = Sound names true k × Passes (own_divisors names.scope k)
       × SoundParts names c es × IsTrue (nat_le (length_of names.scope (replication p k es)) 64)
@@ -55,27 +66,34 @@ unfoldable mutual
   SoundParts names c (more_expressions e es) = Sound names c e × SoundParts names c es
 
 -- the index of a bit
-index_sound : (names : Names) (n : List ℕ) (i : ExpressionTree) (b : Bool) → names_signal names.scope i ≡ b
+index_sound : (names : Names) (n : List ℕ) (i : ExpressionTree) (b : Bool)
+    → names_signal names.scope i ≡ b
     → (Passes (asked names false i) → Sound names false i)
     → (Passes (asked names true i) → Sound names true i)
     → Passes (elim b [
       | true ↦ asked names false i
       | false ↦ asked names true i >>= λ _. own_divisors names.scope i >>= λ _.
-          ask (is_below (width_of (names.scope n)) (whole_number names.scope i)) (bad_select (place_of i))
+          ask (is_below (width_of (names.scope n)) (whole_number names.scope i))
+          (bad_select (place_of i))
     ])
     → (names_signal names.scope i ≡ true → Sound names false i)
     × (names_signal names.scope i ≡ false → Sound names true i × Passes (own_divisors names.scope i)
     × IsTrue (is_below (width_of (names.scope n)) (whole_number names.scope i)))
-index_sound names n i true is open_index closed_index h = (λ _. open_index h, λ other. absurd (cc (is, other)))
+index_sound names n i true is open_index closed_index h =
+    (λ _. open_index h, λ other. absurd (cc (is, other)))
 index_sound names n i false is open_index closed_index h =
     let first = both_pass (asked names true i) _ h in
-    let second = both_pass (own_divisors names.scope i) _ first.1 in
-    (λ other. absurd (cc (is, other)), λ _. (closed_index first.0, second.0, asked_true _ _ second.1))
+    let second = both_pass (own_divisors names.scope i) _ first.1 in (
+      λ other. absurd (cc (is, other)),
+      λ _.
+          (closed_index first.0, second.0, asked_true _ _ second.1),
+    )
 
 mutual
   unfolding asked asked_parts Sound SoundParts
 
-  pub passed_sound : (names : Names) (c : Bool) (e : ExpressionTree) → Passes (asked names c e) → Sound names c e
+  pub passed_sound : (names : Names) (c : Bool) (e : ExpressionTree) → Passes (asked names c e) →
+      Sound names c e
   passed_sound names c (literal l p) h = tt
   passed_sound names c (named n p) h =
       let first = both_pass (ask (in_reach names n) (unknown_name p n)) _ h in
@@ -83,7 +101,8 @@ mutual
   passed_sound names c (bit_of n p i) h =
       let first = both_pass (ask (means_signal names n) (unknown_name p n)) _ h in
       let second = both_pass (ask (not c) (not_constant p)) _ first.1 in
-      let inner = index_sound names n i (names_signal names.scope i) refl (passed_sound names false i) (passed_sound names true i) second.1 in
+      let inner = index_sound names n i (names_signal names.scope i) refl
+      (passed_sound names false i) (passed_sound names true i) second.1 in
       (asked_true _ _ first.0, asked_true _ _ second.0, inner.0, inner.1)
   passed_sound names c (part_of n p h l) q =
       let first = both_pass (ask (means_signal names n) (unknown_name p n)) _ q in
@@ -110,17 +129,23 @@ mutual
       )
   passed_sound names c (choice p d a b) h =
       let first = both_pass (asked names c d) _ h in
-      let second = both_pass (asked names c a) _ first.1 in
-      (passed_sound names c d first.0, passed_sound names c a second.0, passed_sound names c b second.1)
+      let second = both_pass (asked names c a) _ first.1 in (
+        passed_sound names c d first.0,
+        passed_sound names c a second.0,
+        passed_sound names c b
+            second.1,
+      )
   passed_sound names c (join p es) h =
       let first = both_pass (asked_parts names c es) _ h in
-      let second = both_pass (ask (nat_le (joined_length names.scope es) 64) (too_wide p)) _ first.1 in
+      let second = both_pass (ask (nat_le (joined_length names.scope es) 64) (too_wide p)) _
+      first.1 in
       (passed_parts names c es first.0, asked_true _ _ second.0, second.1)
   passed_sound names c (replication p k es) h =
       let first = both_pass (asked names true k) _ h in
       let second = both_pass (own_divisors names.scope k) _ first.1 in
       let third = both_pass (asked_parts names c es) _ second.1 in
-      let fourth = both_pass (ask (nat_le (length_of names.scope (replication p k es)) 64) (too_wide p)) _ third.1 in
+      let fourth = both_pass
+      (ask (nat_le (length_of names.scope (replication p k es)) 64) (too_wide p)) _ third.1 in
       let fifth = both_pass (sized_parts es) _ fourth.1 in (
         passed_sound names true k first.0,
         second.0,
@@ -130,7 +155,8 @@ mutual
         asked_true _ _ fifth.1,
       )
 
-  pub passed_parts : (names : Names) (c : Bool) (es : ExpressionTrees) → Passes (asked_parts names c es) → SoundParts names c es
+  pub passed_parts : (names : Names) (c : Bool) (es : ExpressionTrees) →
+      Passes (asked_parts names c es) → SoundParts names c es
   passed_parts names c no_expressions h = tt
   passed_parts names c (more_expressions e es) h =
       let first = both_pass (asked names c e) _ h in

@@ -1,24 +1,33 @@
 -- Numbers that values stand for, and values at smaller lengths.
-use Rattle.std.proofs.Common.{◌≡◌, ℕ, ◌+◌, ◌-◌, ◌*◌, ◌%◌, ◌^◌, ◌<◌, ◌≤◌, Bool, true, false, refl, sym, ap, ◌∙◌, arith}
-use Rattle.std.specs.Prelude.{◌&&◌, nat_lt, nat_le, if◌then◌else◌, Option, Some, None, ℤ, pos, negsuc, ◌+ℤ◌, ◌-ℤ◌}
+use Rattle.std.proofs.Common.{◌≡◌, ℕ, ◌+◌, ◌-◌, ◌*◌, ◌%◌, ◌^◌, ◌≤◌, Bool, true, false, refl}
+use Rattle.std.proofs.Common.{sym, ap, ◌∙◌, arith}
+use Rattle.std.specs.Prelude.{◌&&◌, nat_lt, nat_le, Some, None, ℤ, pos}
+use Rattle.std.specs.Prelude.{negsuc, ◌-ℤ◌}
 use Rattle.std.proofs.lemmas.Int.{ints}
-use Rattle.std.proofs.lemmas.Nat.{pow-add, pow_pos}
+use Rattle.std.proofs.lemmas.Nat.{pow-add}
 use Rattle.sv_num.specs.declared.vectors.Bits.{Bits}
-use Rattle.sv_num.specs.Vectors.{width_of, is_signed, value_of, is_negative, as_number, number_of, reduced}
+use Rattle.sv_num.specs.Vectors.{width_of, is_signed, value_of, is_negative, as_number, number_of}
+use Rattle.sv_num.specs.Vectors.{reduced}
 use Rattle.sv_num.proofs.NumberLemmas.{reduced_is, below_zero, number_at}
 use Rattle.sv_num.proofs.BitsLemmas.{number_when}
 use Rattle.sv_ast.specs.Values.{natural}
-use Rattle.sv_walk.specs.ExpressionSteps.{is_below, is_part, is_count}
+use Rattle.sv_walk.specs.ExpressionSteps.{is_below, is_part}
 use Rattle.sv_width.specs.Outcomes.{whole_part}
 
-pub negative_number : (bits : Bits) → is_negative (width_of bits) (is_signed bits) (value_of bits) ≡ true → None ≡ whole_part (number_of bits)
+pub negative_number : (bits : Bits) →
+    is_negative (width_of bits) (is_signed bits) (value_of bits) ≡ true →
+    None ≡ whole_part (number_of bits)
 negative_number bits h =
-    sym (ap whole_part (number_when bits true h ∙ below_zero (width_of bits) (value_of bits) bits.in_range.2))
+    sym (ap whole_part (number_when bits true h
+    ∙ below_zero (width_of bits) (value_of bits) bits.in_range.2))
 
-pub natural_number : (bits : Bits) → is_negative (width_of bits) (is_signed bits) (value_of bits) ≡ false → Some (value_of bits) ≡ whole_part (number_of bits)
+pub natural_number : (bits : Bits) →
+    is_negative (width_of bits) (is_signed bits) (value_of bits) ≡ false →
+    Some (value_of bits) ≡ whole_part (number_of bits)
 natural_number bits h = sym (ap whole_part (number_when bits false h))
 
-pub below_some : (limit : ℕ) (z : ℤ) (n : ℕ) → Some n ≡ whole_part z → nat_lt n limit ≡ is_below limit z
+pub below_some : (limit : ℕ) (z : ℤ) (n : ℕ) → Some n ≡ whole_part z →
+    nat_lt n limit ≡ is_below limit z
 below_some limit (pos m) n h = ap (λ x. nat_lt x limit) (some_same n m h)
   where
     some_same : (n m : ℕ) → Some n ≡ Some m → n ≡ m
@@ -37,7 +46,8 @@ pub natural_none : (z : ℤ) → None ≡ whole_part z → 0 ≡ natural z
 natural_none (pos m) h = absurd (cc h)
 natural_none (negsuc m) h = refl
 
-pub part_some : (w : ℕ) (y z : ℤ) (h l : ℕ) → Some h ≡ whole_part y → Some l ≡ whole_part z → (nat_lt h w && nat_le l h) ≡ is_part w y z
+pub part_some : (w : ℕ) (y z : ℤ) (h l : ℕ) → Some h ≡ whole_part y → Some l ≡ whole_part z →
+    (nat_lt h w && nat_le l h) ≡ is_part w y z
 part_some w (pos a) (pos b) h l p q =
     let A : h ≡ a = cc p in
     let B : l ≡ b = cc q in

@@ -1,6 +1,6 @@
--- What a call answers for a walk: what it found, or the rule that is broken first, or that memory ran
--- out.
-use Rattle.std.specs.Prelude.{◌≡◌, Result, Ok, Err}
+-- What a call answers for a walk: what it found, or the rule that is broken first, or that memory
+-- ran out.
+use Rattle.std.specs.Prelude.{◌≡◌, Result, Err}
 use Rattle.sv_num.specs.declared.faults.Refusal.{Refusal}
 use Rattle.sv_num.specs.declared.faults.Fault.{Fault}
 use Rattle.sv_num.specs.declared.faults.Fault.TheVariants.{Rule, OutOfMemory}

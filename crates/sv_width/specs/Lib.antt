@@ -6,3 +6,4 @@ pub mod Measured
 pub mod Pushed
 pub mod Views
 pub mod Outcomes
+pub mod Operands

@@ -1,5 +1,7 @@
--- A source expression after the first walk: each operand with its own length and sign (IEEE 1364-2005,
--- clauses 5.4 and 5.5), numbers for names of signals, values for parameters, bounds and counts.
+-- Private: how the code goes. A source expression after the first walk: each operand with its own
+-- length and sign (IEEE 1364-2005, clauses 5.4 and 5.5), numbers for names of signals, values for
+-- parameters, bounds and counts; the meaning stands in `asked` of
+-- sv_walk/specs/ExpressionSteps.antt.
 use Rattle.std.specs.Prelude.{ℕ, Bool, Option, Some, None}
 use Rattle.sv_num.specs.declared.faults.Place.{Place}
 use Rattle.sv_num.specs.declared.operators.UnOp.{UnOp}
@@ -61,19 +63,27 @@ measured_name own None k p = read own k p
 unfoldable mutual
   pub measured_of : Names → ExpressionTree → MeasuredTree
   measured_of names (source.literal l p) = value (own_of names (source.literal l p)) l.width l.value
-  measured_of names (source.named n p) = measured_name (own_of names (source.named n p)) (names.scope n) (names.number n) p
-  measured_of names (source.bit_of n p i) = read_bit (own_of names (source.bit_of n p i)) (names.number n) p (measured_of names i)
-  measured_of names (source.part_of n p h l) = read_part (own_of names (source.part_of n p h l)) (names.number n) p
+  measured_of names (source.named n p) =
+      measured_name (own_of names (source.named n p)) (names.scope n) (names.number n) p
+  measured_of names (source.bit_of n p i) =
+      read_bit (own_of names (source.bit_of n p i)) (names.number n) p (measured_of names i)
+  measured_of names (source.part_of n p h l) =
+      read_part (own_of names (source.part_of n p h l)) (names.number n) p
       (natural (whole_number names.scope h)) (natural (whole_number names.scope l))
-  measured_of names (source.unary op p e) = unary (own_of names (source.unary op p e)) op (measured_of names e)
+  measured_of names (source.unary op p e) =
+      unary (own_of names (source.unary op p e)) op (measured_of names e)
   measured_of names (source.binary op p a b) =
-      binary (own_of names (source.binary op p a b)) op (place_of b) (measured_of names a) (measured_of names b)
+      binary (own_of names (source.binary op p a b)) op (place_of b) (measured_of names a)
+      (measured_of names b)
   measured_of names (source.choice p c a b) = choice (own_of names (source.choice p c a b)) p
       (measured_of names c) (measured_of names a) (measured_of names b)
-  measured_of names (source.join p es) = join (own_of names (source.join p es)) (measured_parts names es)
-  measured_of names (source.replication p k es) = replication (own_of names (source.replication p k es))
+  measured_of names (source.join p es) =
+      join (own_of names (source.join p es)) (measured_parts names es)
+  measured_of names (source.replication p k es) =
+      replication (own_of names (source.replication p k es))
       (natural (whole_number names.scope k)) (measured_parts names es)
 
   pub measured_parts : Names → ExpressionTrees → MeasuredTrees
   measured_parts names source.no_expressions = no_parts
-  measured_parts names (source.more_expressions e es) = more_parts (measured_of names e) (measured_parts names es)
+  measured_parts names (source.more_expressions e es) =
+      more_parts (measured_of names e) (measured_parts names es)

@@ -1,5 +1,7 @@
--- What the steps of the code find.
-use Rattle.std.specs.Prelude.{◌≡◌, ℕ, Bool, true, false, not, ◌||◌, ◌==◌, List, Option, Some, None, if◌then◌else◌, ℤ, pos, negsuc, max, nat_le, ◌&&◌, ◌*◌, Result, Ok, Err}
+-- Private: how the code goes. What its steps find; the meaning stands in `asked` and `divisors` of
+-- sv_walk/specs/ExpressionSteps.antt.
+use Rattle.std.specs.Prelude.{◌≡◌, ℕ, Bool, true, false, not, ◌||◌, ◌==◌, List, Option, Some, None}
+use Rattle.std.specs.Prelude.{if◌then◌else◌, ℤ, pos, negsuc, max, nat_le, ◌&&◌, ◌*◌, Ok}
 use Rattle.sv_num.specs.declared.faults.Place.{Place}
 use Rattle.sv_num.specs.declared.operators.UnOp.{UnOp}
 use Rattle.sv_num.specs.declared.operators.BinOp.{BinOp}
@@ -17,10 +19,12 @@ use Rattle.sv_walk.specs.Walks.{Steps, done, ask, ◌>>=◌}
 use Rattle.sv_walk.specs.Rules.{bad_select, too_wide, zero_divisor, division, bad_count}
 use Rattle.sv_walk.specs.Names.{Names, place_of}
 use Rattle.sv_walk.specs.TypedExpressions.{is_division, names_signal}
-use Rattle.sv_walk.specs.ExpressionSteps.{asked, asked_parts, own_divisors, sized_parts, is_below, is_count}
+use Rattle.sv_walk.specs.ExpressionSteps.{asked, asked_parts, own_divisors, sized_parts, is_below}
+use Rattle.sv_walk.specs.ExpressionSteps.{is_count}
 use Rattle.sv_width.specs.declared.measured.Measured.{Measured}
 use Rattle.sv_width.specs.Scopes.{number_of}
-use Rattle.sv_width.specs.Measured.{OwnForm, MeasuredTree, MeasuredTrees, no_parts, more_parts, own_form, measured_of, measured_parts}
+use Rattle.sv_width.specs.Measured.{OwnForm, MeasuredTree, MeasuredTrees, no_parts, more_parts}
+use Rattle.sv_width.specs.Measured.{own_form, measured_of, measured_parts}
 use Rattle.sv_width.specs.Pushed.{joined_width, folded_of, divisors_of, node_of}
 use Rattle.sv_width.specs.Views.{measured_tree, measured_trees, parts_of}
 
@@ -29,7 +33,9 @@ abbrev pub IsMeasure : Names → (constant : Bool) → ExpressionTree → Measur
 IsMeasure names c e m = ((asked names c e).end ≡ Ok tt) × (measured_tree m ≡ measured_of names e)
 
 abbrev pub AreMeasures : Names → (constant : Bool) → ExpressionTrees → List Measured → Type 0
-AreMeasures names c es ms = ((asked_parts names c es).end ≡ Ok tt) × (parts_of (measured_trees ms) ≡ measured_parts names es)
+AreMeasures names c es ms =
+    ((asked_parts names c es).end ≡ Ok tt)
+    × (parts_of (measured_trees ms) ≡ measured_parts names es)
 
 -- a value that is worked out at a length and sign
 abbrev pub IsFolded : MeasuredTree → (n : ℕ) → (s : Bool) → Bits → Type 0
@@ -46,7 +52,8 @@ IsNode t n s f = ((divisors_of t n s).end ≡ Ok tt) × (node_tree f ≡ node_of
 
 -- a constant that breaks no rule, with its value
 abbrev pub IsValue : Names → ExpressionTree → Bits → Type 0
-IsValue names e bits = ((asked names true e).end ≡ Ok tt) × ((own_divisors names.scope e).end ≡ Ok tt)
+IsValue names e bits =
+    ((asked names true e).end ≡ Ok tt) × ((own_divisors names.scope e).end ≡ Ok tt)
     × (number_of bits ≡ constant_of names.scope e)
 
 -- what a constant is asked
@@ -92,7 +99,8 @@ abbrev pub choice_own : MeasuredTree → MeasuredTree → MeasuredTree → OwnFo
 choice_own c a b = record {
   width = max (own_form a).width (own_form b).width;
   signed = (own_form a).signed && (own_form b).signed;
-  names_signal = (own_form c).names_signal || (own_form a).names_signal || (own_form b).names_signal;
+  names_signal =
+      (own_form c).names_signal || (own_form a).names_signal || (own_form b).names_signal;
 }
 
 abbrev pub join_own : (width : ℕ) → MeasuredTrees → OwnForm
@@ -117,7 +125,8 @@ join_steps place parts es = do
   _ ← ask (nat_le (joined_width es) 64) (too_wide place)
   sized_parts parts
 
-abbrev pub replication_steps : Place → (at : Place) → (count : ℤ) → ExpressionTrees → MeasuredTrees → Steps
+abbrev pub replication_steps : Place → (at : Place) → (count : ℤ) → ExpressionTrees →
+    MeasuredTrees → Steps
 replication_steps place at count parts es = do
   _ ← ask (nat_le (natural count * joined_width es) 64) (too_wide place)
   _ ← sized_parts parts

@@ -1,7 +1,9 @@
--- The second walk, over an expression whose own lengths and signs are known: rule 405, values of
--- constants, and typed forms (IEEE 1364-2005, clauses 5.4 and 5.5).
-use Rattle.std.specs.Prelude.{ℕ, zero, suc, ◌+◌, ◌*◌, ◌%◌, ◌^◌, Bool, true, false, not, ◌==◌, if◌then◌else◌}
-use Rattle.sv_num.specs.declared.operators.UnOp.{UnOp}
+-- Private: how the code goes. The second walk, over an expression whose own lengths and signs are
+-- known: rule 405, values of constants, and typed forms (IEEE 1364-2005, clauses 5.4 and 5.5); the
+-- meaning stands in `divisors` of sv_walk/specs/ExpressionSteps.antt, `typed_of` of
+-- TypedExpressions.antt and `value` of sv_ast/specs/Values.antt.
+use Rattle.std.specs.Prelude.{ℕ, zero, suc, ◌+◌, ◌*◌, ◌%◌, ◌^◌, Bool, true, false, not, ◌==◌}
+use Rattle.std.specs.Prelude.{if◌then◌else◌}
 use Rattle.sv_num.specs.declared.operators.BinOp.{BinOp}
 use Rattle.sv_num.specs.Vectors.{as_number, reduced, is_true}
 use Rattle.sv_num.specs.UnaryValues.{gives_one_bit, unary_value}
@@ -10,8 +12,11 @@ use Rattle.sv_flat.specs.Design as flat
 use Rattle.sv_flat.specs.Design.{TypedTree, NodeTree, TypedTrees, typed}
 use Rattle.sv_walk.specs.Walks.{Steps, done, ask, ◌>>=◌}
 use Rattle.sv_walk.specs.Rules.{zero_divisor}
-use Rattle.sv_walk.specs.TypedExpressions.{is_division, left_length, right_length, left_sign, right_sign}
-use Rattle.sv_width.specs.Measured.{OwnForm, MeasuredTree, MeasuredTrees, value, read, read_bit, read_part, unary, binary, choice, join, replication, no_parts, more_parts, own_form}
+use Rattle.sv_walk.specs.TypedExpressions.{is_division, left_length, right_length, left_sign}
+use Rattle.sv_walk.specs.TypedExpressions.{right_sign}
+use Rattle.sv_width.specs.Measured.{MeasuredTree, MeasuredTrees, value, read, read_bit}
+use Rattle.sv_width.specs.Measured.{read_part, unary, binary, choice, join, replication, no_parts}
+use Rattle.sv_width.specs.Measured.{more_parts, own_form}
 
 -- the type of a binary operator's left operand
 abbrev pub left_at : BinOp → (n : ℕ) → MeasuredTree → MeasuredTree → ℕ
@@ -47,11 +52,14 @@ unfoldable mutual
   folded_of (read_bit own k p i) n s = 0
   folded_of (read_part own k p h l) n s = 0
   folded_of (unary own op e) n s = if gives_one_bit op
-      then unary_value op (own_form e).width (own_form e).signed (folded_of e (own_form e).width (own_form e).signed)
+      then unary_value op (own_form e).width (own_form e).signed
+      (folded_of e (own_form e).width (own_form e).signed)
       else unary_value op n s (folded_of e n s)
   folded_of (binary own op p a b) n s = binary_value op (left_at op n a b) (left_as op s a b)
-      (folded_of a (left_at op n a b) (left_as op s a b)) (folded_of b (right_at op n a b) (right_as op s a b))
-  folded_of (choice own p c a b) n s = if is_true (folded_of c (own_form c).width (own_form c).signed)
+      (folded_of a (left_at op n a b) (left_as op s a b))
+      (folded_of b (right_at op n a b) (right_as op s a b))
+  folded_of (choice own p c a b) n s =
+      if is_true (folded_of c (own_form c).width (own_form c).signed)
       then folded_of a n s
       else folded_of b n s
   folded_of (join own es) n s = joined_from es n 0
@@ -61,7 +69,8 @@ unfoldable mutual
   pub joined_from : MeasuredTrees → (n value : ℕ) → ℕ
   joined_from no_parts n v = v
   joined_from (more_parts e es) n v =
-      joined_from es n (behind n v (own_form e).width (folded_of e (own_form e).width (own_form e).signed))
+      joined_from es n (behind n v (own_form e).width
+      (folded_of e (own_form e).width (own_form e).signed))
 
 unfoldable mutual
   -- no divisor is 0
@@ -100,21 +109,26 @@ unfoldable mutual
   node_of (value own w v) n s = flat.constant (reduced n (as_number w s v))
   node_of (read own k p) n s = flat.read k p
   node_of (read_bit own k p i) n s = flat.read_bit k p
-      (typed (own_form i).width (own_form i).signed (node_of i (own_form i).width (own_form i).signed))
+      (typed (own_form i).width (own_form i).signed
+      (node_of i (own_form i).width (own_form i).signed))
   node_of (read_part own k p h l) n s = flat.read_part k p h l
   node_of (unary own op e) n s = elim (gives_one_bit op) [
     | true ↦ flat.unary op
-        (typed (own_form e).width (own_form e).signed (node_of e (own_form e).width (own_form e).signed))
+        (typed (own_form e).width (own_form e).signed
+        (node_of e (own_form e).width (own_form e).signed))
     | false ↦ flat.unary op (typed n s (node_of e n s))
   ]
   node_of (binary own op p a b) n s = elim (is_division op) [
     | true ↦ flat.constant (folded_of (binary own op p a b) n s)
     | false ↦ flat.binary op
-        (typed (left_at op n a b) (left_as op s a b) (node_of a (left_at op n a b) (left_as op s a b)))
-        (typed (right_at op n a b) (right_as op s a b) (node_of b (right_at op n a b) (right_as op s a b)))
+        (typed (left_at op n a b) (left_as op s a b)
+        (node_of a (left_at op n a b) (left_as op s a b)))
+        (typed (right_at op n a b) (right_as op s a b)
+        (node_of b (right_at op n a b) (right_as op s a b)))
   ]
   node_of (choice own p c a b) n s = flat.choice p
-      (typed (own_form c).width (own_form c).signed (node_of c (own_form c).width (own_form c).signed))
+      (typed (own_form c).width (own_form c).signed
+      (node_of c (own_form c).width (own_form c).signed))
       (typed n s (node_of a n s)) (typed n s (node_of b n s))
   node_of (join own es) n s = flat.join (nodes_in es)
   node_of (replication own k es) n s = flat.replication k (nodes_in es)
@@ -122,4 +136,5 @@ unfoldable mutual
   pub nodes_in : MeasuredTrees → TypedTrees
   nodes_in no_parts = flat.no_parts
   nodes_in (more_parts e es) = flat.more_parts
-      (typed (own_form e).width (own_form e).signed (node_of e (own_form e).width (own_form e).signed)) (nodes_in es)
+      (typed (own_form e).width (own_form e).signed
+      (node_of e (own_form e).width (own_form e).signed)) (nodes_in es)

@@ -1,5 +1,6 @@
 -- What a scope knows of names, as the walk has it.
-use Rattle.std.specs.Prelude.{◌≡◌, ℕ, Bool, false, List, [], ◌∷◌, ◌++◌, Option, Some, None, option_map, is_some, IsTrue}
+use Rattle.std.specs.Prelude.{◌≡◌, ℕ, Bool, false, List, [], ◌∷◌, ◌++◌, Option, Some, None}
+use Rattle.std.specs.Prelude.{option_map, is_some, IsTrue}
 use Rattle.std.specs.List.{list_any}
 use Rattle.std.specs.Str.{bytes_eq}
 use Rattle.sv_num.specs.declared.faults.Fault.{Fault}
@@ -17,8 +18,8 @@ use Rattle.sv_width.specs.declared.meanings.KnownSignal.{KnownSignal}
 use Rattle.sv_width.specs.declared.meanings.Meaning.{Meaning}
 use Rattle.sv_width.specs.declared.meanings.Meaning.TheVariants as meaning
 
--- what is known of names: what they mean, in the order of their declarations, and the names that later
--- declarations make signals
+-- what is known of names: what they mean, in the order of their declarations, and the names that
+-- later declarations make signals
 pub record Known : Type 0 where
   pub meanings : List (List ℕ × Meaning)
   pub announced : List (List ℕ)
@@ -72,7 +73,8 @@ with_meaning known n m = record {
 }
 
 -- one more signal, behind the other declarations
-abbrev pub IsWithSignal : (old new : Known) → List ℕ → SigId → (width : ℕ) → (signed : Bool) → Type 0
+abbrev pub IsWithSignal : (old new : Known) → List ℕ → SigId → (width : ℕ) →
+    (signed : Bool) → Type 0
 IsWithSignal old new n id width signed =
     (s : KnownSignal) × (s.signal ≡ id) × (s.width ≡ width) × (s.signed ≡ signed)
     × (new ≡ with_meaning old n (meaning.Signal s))

@@ -1,4 +1,5 @@
--- Which names an expression may name, in the settings of the code.
+-- Private: how the code goes. Which names an expression may name, in the settings of the code; the
+-- meaning stands in `asked` of sv_walk/specs/ExpressionSteps.antt.
 use Rattle.std.specs.Prelude.{ℕ, Bool, true, false, not, List, if◌then◌else◌}
 use Rattle.sv_num.specs.declared.faults.Place.{Place}
 use Rattle.sv_walk.specs.Walks.{Step, Steps, ask, ◌>>=◌}

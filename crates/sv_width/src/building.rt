@@ -1,5 +1,6 @@
 // One step of the first walk: an expression from its measured operands.
-ghost use Rattle.std.specs.Prelude.{◌≡◌, ◌≤◌, ◌*◌, ◌↔◌, ◌<◌, false, true, Ok, IfOk, OnOk, IfErr, IsSome, IfSome, IsTrue};
+ghost use Rattle.std.specs.Prelude.{◌≡◌, ◌≤◌, ◌*◌, ◌↔◌, ◌<◌, false, true, Ok, IfOk, OnOk, IfErr};
+ghost use Rattle.std.specs.Prelude.{IsSome, IfSome, IsTrue};
 ghost use Rattle.sv_num.specs.Vectors.{width_of, is_signed, value_of, number_of};
 ghost use Rattle.sv_ast.specs.Views.{expression_trees, parts_of as tree_parts};
 ghost use Rattle.sv_ast.specs.Values.{natural};
@@ -10,7 +11,9 @@ ghost use Rattle.sv_walk.specs.ExpressionSteps.{is_below, is_part, sized_parts};
 ghost use Rattle.sv_width.specs.Answers.{IsBreach};
 ghost use Rattle.sv_width.specs.Measured as measured;
 ghost use Rattle.sv_width.specs.Measured.{own_form};
-ghost use Rattle.sv_width.specs.Outcomes.{some_named, unary_own, binary_own, choice_own, join_own, division_steps, join_steps, replication_steps, whole_part};
+ghost use Rattle.sv_width.specs.Outcomes.{some_named, unary_own, binary_own, choice_own, join_own};
+ghost use Rattle.sv_width.specs.Outcomes.{division_steps, join_steps, replication_steps};
+ghost use Rattle.sv_width.specs.Outcomes.{whole_part};
 ghost use Rattle.sv_width.specs.Pushed.{joined_width};
 ghost use Rattle.sv_width.specs.Scopes.{Known};
 ghost use Rattle.sv_width.specs.Settings.{names_in, is_constant};
@@ -36,8 +39,8 @@ pub(crate) fn inside(setting: Setting) -> Setting
     }
 }
 
-/// The number that a value stands for; None where it is negative.
-pub(crate) fn natural(bits: Bits) -> Option<u64>
+/// The whole number that a value stands for by its own sign; None where it is negative.
+pub fn natural(bits: Bits) -> Option<u64>
     ensures { result ≡ whole_part (number_of bits) }
 {
     if bits.signed() && bits.value() >> (bits.width() - 1) == 1 {
@@ -65,7 +68,8 @@ pub(crate) fn bit(
     index: Measured,
 ) -> Result<Measured, OutOfMemory>
     ensures found { IfOk result (λ m. measured_tree m ≡ measured.read_bit
-        (record { width = 1; signed = false; names_signal = true }) known.signal.0 place (measured_tree index)) }
+        (record { width = 1; signed = false; names_signal = true }) known.signal.0 place
+        (measured_tree index)) }
 {
     let own = Own {
         of_type: one_bit(),
@@ -84,9 +88,15 @@ pub(crate) fn part(
 ) -> Result<Measured, Fault>
     ensures asked { OnOk result (IsTrue (is_part known.width (number_of high) (number_of low))) }
     ensures found { IfOk result (λ m. measured_tree m ≡ measured.read_part
-        (record { width = span_of (natural (number_of high)) (natural (number_of low)); signed = false; names_signal = true })
+        (record {
+          width = span_of (natural (number_of high)) (natural (number_of low));
+          signed = false;
+          names_signal = true;
+        })
         known.signal.0 place (natural (number_of high)) (natural (number_of low))) }
-    ensures broken { IfErr result (IsBreach (ask (is_part known.width (number_of high) (number_of low)) (bad_select place)).end) }
+    ensures broken { IfErr result
+        (IsBreach (ask (is_part known.width (number_of high) (number_of low))
+        (bad_select place)).end) }
 {
     match bounds(known.width, high, low) {
         Some((high, low)) => Ok(inside_part(known, place, high, low)),
@@ -99,7 +109,8 @@ fn inside_part(known: KnownSignal, place: Place, high: u8, low: u8) -> Measured
     requires inside { high < known.width }
     requires order { low ≤ high }
     ensures { measured_tree result ≡ measured.read_part
-        (record { width = span_of high low; signed = false; names_signal = true }) known.signal.0 place high low }
+        (record { width = span_of high low; signed = false; names_signal = true }) known.signal.0
+        place high low }
 {
     let of_type = BitType {
         width: high - low + 1,
@@ -130,7 +141,9 @@ fn bounds(width: u8, high: Bits, low: Bits) -> Option<(u8, u8)>
 
 /// A unary operator with its operand.
 pub(crate) fn unary(alloc: Global, op: UnOp, operand: Measured) -> Result<Measured, OutOfMemory>
-    ensures found { IfOk result (λ m. measured_tree m ≡ measured.unary (unary_own op (measured_tree operand)) op (measured_tree operand)) }
+    ensures found { IfOk result (λ m.
+        measured_tree m ≡ measured.unary (unary_own op (measured_tree operand)) op
+        (measured_tree operand)) }
 {
     let operand_own = operand.own();
     let of_type = if gives_one_bit(op) {
@@ -145,7 +158,8 @@ pub(crate) fn unary(alloc: Global, op: UnOp, operand: Measured) -> Result<Measur
     Ok(Measured::Unary(own, op, Box::new(alloc, operand)?))
 }
 
-/// A binary operator with its operands, the right one at the second place. Rule 406 refuses a division of what is not constant.
+/// A binary operator with its operands, the right one at the second place. Rule 406 refuses a
+/// division of what is not constant.
 pub(crate) fn binary(
     alloc: Global,
     op: BinOp,
@@ -154,10 +168,13 @@ pub(crate) fn binary(
     left: Measured,
     right: Measured,
 ) -> Result<Measured, Fault>
-    ensures asked { OnOk result ((division_steps op place (measured_tree left) (measured_tree right)).end ≡ Ok tt) }
-    ensures found { IfOk result (λ m. measured_tree m ≡ measured.binary (binary_own op (measured_tree left) (measured_tree right))
+    ensures asked { OnOk result
+        ((division_steps op place (measured_tree left) (measured_tree right)).end ≡ Ok tt) }
+    ensures found { IfOk result (λ m.
+        measured_tree m ≡ measured.binary (binary_own op (measured_tree left) (measured_tree right))
         op after (measured_tree left) (measured_tree right)) }
-    ensures broken { IfErr result (IsBreach (division_steps op place (measured_tree left) (measured_tree right)).end) }
+    ensures broken { IfErr result
+        (IsBreach (division_steps op place (measured_tree left) (measured_tree right)).end) }
 {
     let left_own = left.own();
     let right_own = right.own();
@@ -203,8 +220,8 @@ pub(crate) fn choice(
     ))
 }
 
-/// A join of some parts, both as they stand in the text and measured. Rule 402 refuses a length above 64, rule 407 a part that is a
-/// number without a written length.
+/// A join of some parts, both as they stand in the text and measured. Rule 402 refuses a length
+/// above 64, rule 407 a part that is a number without a written length.
 pub(crate) fn join(
     alloc: Global,
     place: Place,
@@ -212,12 +229,16 @@ pub(crate) fn join(
     operands: Vec<Measured>,
 ) -> Result<Measured, Fault>
     requires { 1 ≤ joined_width (parts_of (measured_trees operands.items)) }
-    ensures asked { OnOk result ((join_steps place (tree_parts (expression_trees parts.now)) (parts_of (measured_trees operands.items))).end ≡ Ok tt) }
+    ensures asked { OnOk result
+        ((join_steps place (tree_parts (expression_trees parts.now))
+        (parts_of (measured_trees operands.items))).end ≡ Ok tt) }
     ensures found { IfOk result (λ m. measured_tree m ≡ measured.join
-        (join_own (joined_width (parts_of (measured_trees operands.items))) (parts_of (measured_trees operands.items)))
+        (join_own (joined_width (parts_of (measured_trees operands.items)))
+        (parts_of (measured_trees operands.items)))
         (parts_of (measured_trees operands.items))) }
     ensures broken { IfErr result (IsBreach
-        (join_steps place (tree_parts (expression_trees parts.now)) (parts_of (measured_trees operands.items))).end) }
+        (join_steps place (tree_parts (expression_trees parts.now))
+        (parts_of (measured_trees operands.items))).end) }
 {
     let width = joined_width(&operands);
     if width > 64 {
@@ -234,8 +255,8 @@ pub(crate) fn join(
     Ok(Measured::Join(own, operands))
 }
 
-/// A replication of some parts, with the place of its count. Rules 402 and 407 refuse as in a join, then rule 408 a count that is not
-/// 1 to 64.
+/// A replication of some parts, with the place of its count. Rules 402 and 407 refuse as in a join,
+/// then rule 408 a count that is not 1 to 64.
 pub(crate) fn replication(
     alloc: Global,
     place: Place,
@@ -245,13 +266,16 @@ pub(crate) fn replication(
     operands: Vec<Measured>,
 ) -> Result<Measured, Fault>
     requires { 1 ≤ joined_width (parts_of (measured_trees operands.items)) }
-    ensures asked { OnOk result ((replication_steps place at (number_of count) (tree_parts (expression_trees parts.now))
+    ensures asked { OnOk result
+        ((replication_steps place at (number_of count) (tree_parts (expression_trees parts.now))
         (parts_of (measured_trees operands.items))).end ≡ Ok tt) }
     ensures found { IfOk result (λ m. measured_tree m ≡ measured.replication
-        (join_own (natural (number_of count) * joined_width (parts_of (measured_trees operands.items))) (parts_of (measured_trees operands.items)))
+        (join_own (natural (number_of count) * joined_width
+        (parts_of (measured_trees operands.items))) (parts_of (measured_trees operands.items)))
         (natural (number_of count)) (parts_of (measured_trees operands.items))) }
     ensures broken { IfErr result (IsBreach
-        (replication_steps place at (number_of count) (tree_parts (expression_trees parts.now)) (parts_of (measured_trees operands.items))).end) }
+        (replication_steps place at (number_of count) (tree_parts (expression_trees parts.now))
+        (parts_of (measured_trees operands.items))).end) }
 {
     let width = joined_width(&operands);
     let times = natural(count).unwrap_or(0);
@@ -275,8 +299,10 @@ pub(crate) fn replication(
 // Rule 407 refuses a number without a written length that stands directly in a join or replication.
 #[tactic(auto, unfolding(sv_walk::specs::ExpressionSteps::sized_parts))]
 fn sized_parts(alloc: Global, parts: &[Expr]) -> Result<(), Fault>
-    ensures asked { OnOk result ((sized_parts (tree_parts (expression_trees parts.now))).end ≡ Ok tt) }
-    ensures broken { IfErr result (IsBreach (sized_parts (tree_parts (expression_trees parts.now))).end) }
+    ensures asked { OnOk result ((sized_parts (tree_parts (expression_trees parts.now))).end ≡
+        Ok tt) }
+    ensures broken { IfErr result
+        (IsBreach (sized_parts (tree_parts (expression_trees parts.now))).end) }
 {
     for part in parts {
         if let Expr::Number(number, place) = part

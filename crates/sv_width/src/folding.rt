@@ -5,7 +5,8 @@ ghost use Rattle.sv_width.specs.Answers.{IsBreach};
 ghost use Rattle.sv_num.specs.BinaryValues.{class_of, binary_value, HasDivisor};
 ghost use Rattle.sv_walk.specs.TypedExpressions.{left_length, left_sign, right_length, right_sign};
 ghost use Rattle.sv_width.specs.Outcomes.{IsFolded, zero_steps};
-ghost use Rattle.sv_width.specs.Pushed.{behind, behind_times, joined_width, joined_from, divisors_of, divisors_in};
+ghost use Rattle.sv_width.specs.Pushed.{behind, behind_times, joined_width, joined_from};
+ghost use Rattle.sv_width.specs.Pushed.{divisors_of, divisors_in};
 ghost use Rattle.sv_width.specs.Views.{measured_tree, measured_trees, parts_of};
 
 use crate::lookups::refusal;
@@ -18,7 +19,8 @@ use sv_num::{BinOp, Bits, Fault, Place, apply_binary, apply_unary, extend};
 pub(crate) fn at_type(bits: Bits, to: BitType) -> Bits
     ensures width { width_of result ≡ to.width }
     ensures signed { is_signed result ≡ to.signed }
-    ensures value { value_of result ≡ reduced to.width (as_number (width_of bits) to.signed (value_of bits)) }
+    ensures value { value_of result ≡
+        reduced to.width (as_number (width_of bits) to.signed (value_of bits)) }
 {
     if to.width < bits.width() {
         Bits::of_type(to.width, to.signed, low_bits(bits.value(), to.width))
@@ -36,12 +38,14 @@ fn low_bits(number: u64, width: u8) -> u64
     number & (u64::MAX >> (64 - width))
 }
 
-/// The value of a measured expression at a type, where each signal is 0. Rule 405 refuses the first divisor that is 0.
+/// The value of a measured expression at a type, where each signal is 0. Rule 405 refuses the first
+/// divisor that is 0.
 #[tactic(auto, unfolding(crate::specs::Pushed::folded_of, crate::specs::Pushed::joined_from, crate::specs::Pushed::divisors_of, crate::specs::Pushed::divisors_in))]
 #[cycle(folding)]
 pub(crate) fn folded(alloc: Global, expr: &Measured, to: BitType) -> Result<Bits, Fault>
     ensures found { IfOk result (IsFolded (measured_tree expr.now) to.width to.signed) }
-    ensures broken { IfErr result (IsBreach (divisors_of (measured_tree expr.now) to.width to.signed).end) }
+    ensures broken { IfErr result
+        (IsBreach (divisors_of (measured_tree expr.now) to.width to.signed).end) }
 {
     match expr {
         Measured::Number(_, bits) => Ok(at_type(*bits, to)),
@@ -111,14 +115,20 @@ fn binary(
     right: Bits,
     types: Types,
 ) -> Result<Bits, Fault>
-    requires left { width_of left ≡ left_length (class_of op) types.to.width types.a.width types.b.width }
-    requires left_sign { is_signed left ≡ left_sign (class_of op) types.to.signed types.a.signed types.b.signed }
-    requires right { width_of right ≡ right_length (class_of op) types.to.width types.a.width types.b.width }
-    requires right_sign { is_signed right ≡ right_sign (class_of op) types.to.signed types.a.signed types.b.signed }
+    requires left { width_of left ≡
+        left_length (class_of op) types.to.width types.a.width types.b.width }
+    requires left_sign { is_signed left ≡
+        left_sign (class_of op) types.to.signed types.a.signed types.b.signed }
+    requires right { width_of right ≡
+        right_length (class_of op) types.to.width types.a.width types.b.width }
+    requires right_sign { is_signed right ≡
+        right_sign (class_of op) types.to.signed types.a.signed types.b.signed }
     ensures asked { OnOk result ((zero_steps op place (value_of right)).end ≡ Ok tt) }
     ensures width { IfOk result (λ bits. width_of bits ≡ types.to.width) }
     ensures signed { IfOk result (λ bits. is_signed bits ≡ types.to.signed) }
-    ensures value { IfOk result (λ bits. value_of bits ≡ binary_value op (width_of left) (is_signed left) (value_of left) (value_of right)) }
+    ensures value { IfOk result (λ bits.
+        value_of bits ≡ binary_value op (width_of left) (is_signed left) (value_of left)
+        (value_of right)) }
     ensures broken { IfErr result (IsBreach (zero_steps op place (value_of right)).end) }
 {
     if is_division(op) && right.value() == 0 {
@@ -131,13 +141,18 @@ fn binary(
 // The value of a binary operator where no divisor is 0.
 fn applied(op: BinOp, left: Bits, right: Bits, types: Types) -> Bits
     requires divisor { HasDivisor op right }
-    requires left { width_of left ≡ left_length (class_of op) types.to.width types.a.width types.b.width }
-    requires left_sign { is_signed left ≡ left_sign (class_of op) types.to.signed types.a.signed types.b.signed }
-    requires right { width_of right ≡ right_length (class_of op) types.to.width types.a.width types.b.width }
-    requires right_sign { is_signed right ≡ right_sign (class_of op) types.to.signed types.a.signed types.b.signed }
+    requires left { width_of left ≡
+        left_length (class_of op) types.to.width types.a.width types.b.width }
+    requires left_sign { is_signed left ≡
+        left_sign (class_of op) types.to.signed types.a.signed types.b.signed }
+    requires right { width_of right ≡
+        right_length (class_of op) types.to.width types.a.width types.b.width }
+    requires right_sign { is_signed right ≡
+        right_sign (class_of op) types.to.signed types.a.signed types.b.signed }
     ensures width { width_of result ≡ types.to.width }
     ensures signed { is_signed result ≡ types.to.signed }
-    ensures value { value_of result ≡ binary_value op (width_of left) (is_signed left) (value_of left) (value_of right) }
+    ensures value { value_of result ≡
+        binary_value op (width_of left) (is_signed left) (value_of left) (value_of right) }
 {
     let value = apply_binary(op, left, right).value();
     Bits::of_type(types.to.width, types.to.signed, value)
@@ -150,9 +165,11 @@ fn joined(alloc: Global, parts: &[Measured], width: u8) -> Result<u64, Fault>
     requires some { 1 ≤ width }
     requires few { width ≤ 64 }
     ensures asked { OnOk result ((divisors_in (parts_of (measured_trees parts.now))).end ≡ Ok tt) }
-    ensures value { IfOk result (λ value. value ≡ joined_from (parts_of (measured_trees parts.now)) width 0) }
+    ensures value { IfOk result (λ value.
+        value ≡ joined_from (parts_of (measured_trees parts.now)) width 0) }
     ensures low { IfOk result (λ value. value < 2 ^ width) }
-    ensures broken { IfErr result (IsBreach (divisors_in (parts_of (measured_trees parts.now))).end) }
+    ensures broken { IfErr result
+        (IsBreach (divisors_in (parts_of (measured_trees parts.now))).end) }
 {
     let mut value: u64 = 0;
     for part in parts {

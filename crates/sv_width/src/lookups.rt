@@ -35,14 +35,16 @@ pub(crate) enum Setting {
 
 /// The refusal by a rule at a place, without names.
 pub(crate) fn refusal(alloc: Global, number: u16, place: Place) -> Fault
-    ensures { (end : Result (Unit {0}) Step) → end ≡ Err (step number place []) → IsBreach end result }
+    ensures { (end : Result (Unit {0}) Step) → end ≡ Err (step number place []) →
+        IsBreach end result }
 {
     Fault::broken(number, place, Vec::new(alloc))
 }
 
 // Rule 401: the name stands for nothing that may stand there.
 fn unknown(alloc: Global, name: &Name, place: Place) -> Fault
-    ensures { (end : Result (Unit {0}) Step) → end ≡ Err (unknown_name place name.now) → IsBreach end result }
+    ensures { (end : Result (Unit {0}) Step) → end ≡ Err (unknown_name place name.now) →
+        IsBreach end result }
 {
     match one_name(alloc, name) {
         Ok(names) => Fault::broken(401, place, names),
@@ -65,8 +67,11 @@ pub(crate) fn named(
     scope: &Scope,
     setting: Setting,
 ) -> Result<Measured, Fault>
-    ensures found { IfOk result (IsMeasure (names_in setting scope.now) (is_constant setting) (tree.named name.now place)) }
-    ensures broken { IfErr result (IsBreach (asked (names_in setting scope.now) (is_constant setting) (tree.named name.now place)).end) }
+    ensures found { IfOk result
+        (IsMeasure (names_in setting scope.now) (is_constant setting) (tree.named name.now place)) }
+    ensures broken { IfErr result
+        (IsBreach (asked (names_in setting scope.now) (is_constant setting)
+        (tree.named name.now place)).end) }
 {
     match scope.find(name) {
         Some(Meaning::Param(bits)) => Ok(value(bits)),
@@ -93,7 +98,8 @@ fn is_constant(setting: Setting) -> bool
 
 // What refuses a name that stands for nothing yet.
 fn absent(alloc: Global, name: &Name, place: Place, scope: &Scope, setting: Setting) -> Fault
-    ensures { (end : Result (Unit {0}) Step) → end ≡ Err (absent_step (names_in setting scope.now) place name.now) → IsBreach end result }
+    ensures { (end : Result (Unit {0}) Step) →
+        end ≡ Err (absent_step (names_in setting scope.now) place name.now) → IsBreach end result }
 {
     if setting == Setting::Declaring && scope.is_announced(name) {
         refusal(alloc, 404, place)
@@ -111,8 +117,11 @@ pub(crate) fn selected(
     setting: Setting,
 ) -> Result<KnownSignal, Fault>
     ensures open { IfOk result (λ known. setting ≡ setting_of.Open) }
-    ensures found { IfOk result (λ known. meaning_of scope.now name.now ≡ Some (meaning.Signal known)) }
-    ensures broken { IfErr result (IsBreach (selected_steps (names_in setting scope.now) (is_constant setting) place name.now).end) }
+    ensures found { IfOk result (λ known.
+        meaning_of scope.now name.now ≡ Some (meaning.Signal known)) }
+    ensures broken { IfErr result
+        (IsBreach (selected_steps (names_in setting scope.now) (is_constant setting) place
+        name.now).end) }
 {
     match scope.find(name) {
         Some(Meaning::Param(_)) => Err(unknown(alloc, name, place)),
@@ -162,7 +171,8 @@ pub(crate) fn names_signal(expr: &Expr, scope: &Scope) -> bool
 #[tactic(auto, unfolding(sv_walk::specs::TypedExpressions::names_signal, sv_walk::specs::TypedExpressions::some_names_signal))]
 #[cycle(naming)]
 fn some_name_signal(exprs: &[Expr], scope: &Scope) -> bool
-    ensures { result ≡ some_names_signal (bindings_of scope.now) (parts_of (expression_trees exprs.now)) }
+    ensures { result ≡ some_names_signal (bindings_of scope.now)
+        (parts_of (expression_trees exprs.now)) }
 {
     for expr in exprs {
         if names_signal(expr, scope) {
@@ -172,8 +182,8 @@ fn some_name_signal(exprs: &[Expr], scope: &Scope) -> bool
     false
 }
 
-/// The place of an expression.
-pub(crate) fn place_of(expr: &Expr) -> Place
+/// The place of an expression: of its operator, its `?`, its first brace, or else its first token.
+pub fn place_of(expr: &Expr) -> Place
     ensures { result ≡ place_of (expression_tree expr.now) }
 {
     match expr {

@@ -17,8 +17,8 @@ pub(crate) struct Own {
     pub(crate) names_signal: bool,
 }
 
-/// An expression that breaks no rule but perhaps 405, each operand with its own length and sign. Signals are numbers; parameters,
-/// bounds and counts are values.
+/// An expression that breaks no rule but perhaps 405, each operand with its own length and sign.
+/// Signals are numbers; parameters, bounds and counts are values.
 #[derive(Debug, Drop)]
 pub(crate) enum Measured {
     Number(Own, Bits),
@@ -62,7 +62,12 @@ impl Measured {
 
 /// A number of the text, or a parameter's value.
 pub(crate) fn value(bits: Bits) -> Measured
-    ensures { measured_tree result ≡ measured.value (record { width = width_of bits; signed = is_signed bits; names_signal = false })
+    ensures { measured_tree result ≡
+        measured.value (record {
+          width = width_of bits;
+          signed = is_signed bits;
+          names_signal = false;
+        })
         (width_of bits) (value_of bits) }
 {
     let own = Own {
@@ -74,7 +79,8 @@ pub(crate) fn value(bits: Bits) -> Measured
 
 /// A whole signal.
 pub(crate) fn whole_signal(known: KnownSignal, place: Place) -> Measured
-    ensures { measured_tree result ≡ measured.read (record { width = known.width; signed = known.signed; names_signal = true })
+    ensures { measured_tree result ≡
+        measured.read (record { width = known.width; signed = known.signed; names_signal = true })
         known.signal.0 place }
 {
     let of_type = BitType {

@@ -1,11 +1,14 @@
-// The first walk over an expression: rules 401 to 404 and 406 to 408, and every own length and sign.
+// The first walk over an expression: rules 401 to 404 and 406 to 408, and every own length and
+// sign.
 ghost use Rattle.std.specs.Prelude.{◌≡◌, Ok, IfOk, OnOk, IfErr, IsTrue};
-ghost use Rattle.sv_ast.specs.Shape.{is_shaped_expression, are_shaped_parts};
+ghost use Rattle.sv_ast.specs.Shape.{is_shaped_expression, are_shaped_parts, has_part};
+ghost use Rattle.sv_ast.specs.Tree as tree;
 ghost use Rattle.sv_ast.specs.Views.{expression_tree, expression_trees, parts_of};
 ghost use Rattle.sv_walk.specs.ExpressionSteps.{asked, asked_parts};
 ghost use Rattle.sv_width.specs.Answers.{IsBreach};
 ghost use Rattle.sv_width.specs.Measured.{measured_of};
-ghost use Rattle.sv_width.specs.Outcomes.{IsMeasure, AreMeasures, IsValue, constant_steps, index_steps, constant_index_steps};
+ghost use Rattle.sv_width.specs.Outcomes.{IsMeasure, AreMeasures, IsValue, constant_steps};
+ghost use Rattle.sv_width.specs.Outcomes.{index_steps, constant_index_steps};
 ghost use Rattle.sv_width.specs.Scopes.{names_of};
 ghost use Rattle.sv_width.specs.Settings.{names_in, is_constant};
 ghost use Rattle.sv_width.specs.Views.{measured_tree};
@@ -17,9 +20,12 @@ use crate::measured::{Measured, value};
 use crate::scope::Scope;
 use std::alloc::Global;
 use sv_ast::Expr;
-use sv_num::{Bits, Fault};
+use sv_num::{BinOp, Bits, Fault, Name, Place, UnOp};
 
-/// The expression with each own length and sign, where it breaks none of these rules; else its first broken one.
+/// The expression with each own length and sign, where it breaks none of these rules; else its
+/// first broken one.
+// As many calls stand inside each other as the expression has levels, so each kind of operator has
+// a function of its own, to keep the frame of this one small.
 #[cycle(measuring)]
 pub(crate) fn measured(
     alloc: Global,
@@ -28,53 +34,206 @@ pub(crate) fn measured(
     setting: Setting,
 ) -> Result<Measured, Fault>
     requires { IsTrue (is_shaped_expression (expression_tree expr.now)) }
-    ensures found { IfOk result (IsMeasure (names_in setting scope.now) (is_constant setting) (expression_tree expr.now)) }
-    ensures broken { IfErr result (IsBreach (asked (names_in setting scope.now) (is_constant setting) (expression_tree expr.now)).end) }
+    ensures found { IfOk result
+        (IsMeasure (names_in setting scope.now) (is_constant setting) (expression_tree expr.now)) }
+    ensures broken { IfErr result
+        (IsBreach (asked (names_in setting scope.now) (is_constant setting)
+        (expression_tree expr.now)).end) }
 {
     match expr {
         Expr::Number(number, _) => Ok(value(number.bits)),
         Expr::Name(name, place) => named(alloc, name, *place, scope, setting),
-        Expr::Bit(name, place, index) => {
-            let known = selected(alloc, name, *place, scope, setting)?;
-            let index = measured_index(alloc, index, known.width, scope)?;
-            Ok(bit(alloc, known, *place, index)?)
-        }
+        Expr::Bit(name, place, index) => measured_bit(alloc, name, *place, index, scope, setting),
         Expr::Part(name, place, high, low) => {
-            let known = selected(alloc, name, *place, scope, setting)?;
-            let high = measured_constant(alloc, high, scope, setting)?;
-            let low = measured_constant(alloc, low, scope, setting)?;
-            part(alloc, known, *place, high, low)
+            measured_part(alloc, name, *place, high, low, scope, setting)
         }
-        Expr::Unary(op, _, operand) => {
-            let operand = measured(alloc, operand, scope, setting)?;
-            Ok(unary(alloc, *op, operand)?)
+        Expr::Unary(op, place, operand) => {
+            measured_unary(alloc, *op, *place, operand, scope, setting)
         }
         Expr::Binary(op, place, left, right) => {
-            let after = place_of(right);
-            let left = measured(alloc, left, scope, setting)?;
-            let right = measured(alloc, right, scope, setting)?;
-            binary(alloc, *op, *place, after, left, right)
+            measured_binary(alloc, *op, *place, left, right, scope, setting)
         }
         Expr::Choice(place, cond, yes, no) => {
-            let cond = measured(alloc, cond, scope, setting)?;
-            let yes = measured(alloc, yes, scope, setting)?;
-            let no = measured(alloc, no, scope, setting)?;
-            Ok(choice(alloc, *place, cond, yes, no)?)
+            measured_choice(alloc, *place, cond, yes, no, scope, setting)
         }
-        Expr::Join(place, parts) => {
-            let operands = measured_parts(alloc, parts, scope, setting)?;
-            join(alloc, *place, parts, operands)
-        }
+        Expr::Join(place, parts) => measured_join(alloc, *place, parts, scope, setting),
         Expr::Repeat(place, count, parts) => {
-            let at = place_of(count);
-            let count = measured_constant(alloc, count, scope, setting)?;
-            let operands = measured_parts(alloc, parts, scope, setting)?;
-            replication(alloc, *place, at, count, parts, operands)
+            measured_replication(alloc, *place, count, parts, scope, setting)
         }
     }
 }
 
-/// A constant at its own length and sign: a bound, an index or a count of an expression, or a whole constant.
+#[cycle(measuring)]
+#[inline(never)]
+fn measured_bit(
+    alloc: Global,
+    name: &Name,
+    place: Place,
+    index: &Expr,
+    scope: &Scope,
+    setting: Setting,
+) -> Result<Measured, Fault>
+    requires { IsTrue (is_shaped_expression (expression_tree index.now)) }
+    ensures found { IfOk result (IsMeasure (names_in setting scope.now) (is_constant setting)
+        (tree.bit_of name.now place (expression_tree index.now))) }
+    ensures broken { IfErr result
+        (IsBreach (asked (names_in setting scope.now) (is_constant setting)
+        (tree.bit_of name.now place (expression_tree index.now))).end) }
+{
+    let known = selected(alloc, name, place, scope, setting)?;
+    let index = measured_index(alloc, index, known.width, scope)?;
+    Ok(bit(alloc, known, place, index)?)
+}
+
+#[cycle(measuring)]
+#[inline(never)]
+fn measured_part(
+    alloc: Global,
+    name: &Name,
+    place: Place,
+    high: &Expr,
+    low: &Expr,
+    scope: &Scope,
+    setting: Setting,
+) -> Result<Measured, Fault>
+    requires high { IsTrue (is_shaped_expression (expression_tree high.now)) }
+    requires low { IsTrue (is_shaped_expression (expression_tree low.now)) }
+    ensures found { IfOk result (IsMeasure (names_in setting scope.now) (is_constant setting)
+        (tree.part_of name.now place (expression_tree high.now) (expression_tree low.now))) }
+    ensures broken { IfErr result
+        (IsBreach (asked (names_in setting scope.now) (is_constant setting)
+        (tree.part_of name.now place (expression_tree high.now) (expression_tree low.now))).end) }
+{
+    let known = selected(alloc, name, place, scope, setting)?;
+    let high = measured_constant(alloc, high, scope, setting)?;
+    let low = measured_constant(alloc, low, scope, setting)?;
+    part(alloc, known, place, high, low)
+}
+
+#[cycle(measuring)]
+#[inline(never)]
+fn measured_unary(
+    alloc: Global,
+    op: UnOp,
+    place: Place,
+    operand: &Expr,
+    scope: &Scope,
+    setting: Setting,
+) -> Result<Measured, Fault>
+    requires { IsTrue (is_shaped_expression (expression_tree operand.now)) }
+    ensures found { IfOk result (IsMeasure (names_in setting scope.now) (is_constant setting)
+        (tree.unary op place (expression_tree operand.now))) }
+    ensures broken { IfErr result
+        (IsBreach (asked (names_in setting scope.now) (is_constant setting)
+        (tree.unary op place (expression_tree operand.now))).end) }
+{
+    let operand = measured(alloc, operand, scope, setting)?;
+    Ok(unary(alloc, op, operand)?)
+}
+
+#[cycle(measuring)]
+#[inline(never)]
+fn measured_binary(
+    alloc: Global,
+    op: BinOp,
+    place: Place,
+    left: &Expr,
+    right: &Expr,
+    scope: &Scope,
+    setting: Setting,
+) -> Result<Measured, Fault>
+    requires left { IsTrue (is_shaped_expression (expression_tree left.now)) }
+    requires right { IsTrue (is_shaped_expression (expression_tree right.now)) }
+    ensures found { IfOk result (IsMeasure (names_in setting scope.now) (is_constant setting)
+        (tree.binary op place (expression_tree left.now) (expression_tree right.now))) }
+    ensures broken { IfErr result
+        (IsBreach (asked (names_in setting scope.now) (is_constant setting)
+        (tree.binary op place (expression_tree left.now) (expression_tree right.now))).end) }
+{
+    let after = place_of(right);
+    let left = measured(alloc, left, scope, setting)?;
+    let right = measured(alloc, right, scope, setting)?;
+    binary(alloc, op, place, after, left, right)
+}
+
+#[cycle(measuring)]
+#[inline(never)]
+fn measured_choice(
+    alloc: Global,
+    place: Place,
+    cond: &Expr,
+    yes: &Expr,
+    no: &Expr,
+    scope: &Scope,
+    setting: Setting,
+) -> Result<Measured, Fault>
+    requires cond { IsTrue (is_shaped_expression (expression_tree cond.now)) }
+    requires yes { IsTrue (is_shaped_expression (expression_tree yes.now)) }
+    requires no { IsTrue (is_shaped_expression (expression_tree no.now)) }
+    ensures found { IfOk result (IsMeasure (names_in setting scope.now) (is_constant setting)
+        (tree.choice place (expression_tree cond.now) (expression_tree yes.now)
+        (expression_tree no.now))) }
+    ensures broken { IfErr result
+        (IsBreach (asked (names_in setting scope.now) (is_constant setting)
+        (tree.choice place (expression_tree cond.now) (expression_tree yes.now)
+        (expression_tree no.now))).end) }
+{
+    let cond = measured(alloc, cond, scope, setting)?;
+    let yes = measured(alloc, yes, scope, setting)?;
+    let no = measured(alloc, no, scope, setting)?;
+    Ok(choice(alloc, place, cond, yes, no)?)
+}
+
+#[cycle(measuring)]
+#[inline(never)]
+fn measured_join(
+    alloc: Global,
+    place: Place,
+    parts: &[Expr],
+    scope: &Scope,
+    setting: Setting,
+) -> Result<Measured, Fault>
+    requires some { IsTrue (has_part (parts_of (expression_trees parts.now))) }
+    requires shaped { IsTrue (are_shaped_parts (parts_of (expression_trees parts.now))) }
+    ensures found { IfOk result (IsMeasure (names_in setting scope.now) (is_constant setting)
+        (tree.join place (parts_of (expression_trees parts.now)))) }
+    ensures broken { IfErr result
+        (IsBreach (asked (names_in setting scope.now) (is_constant setting)
+        (tree.join place (parts_of (expression_trees parts.now)))).end) }
+{
+    let operands = measured_parts(alloc, parts, scope, setting)?;
+    join(alloc, place, parts, operands)
+}
+
+#[cycle(measuring)]
+#[inline(never)]
+fn measured_replication(
+    alloc: Global,
+    place: Place,
+    count: &Expr,
+    parts: &[Expr],
+    scope: &Scope,
+    setting: Setting,
+) -> Result<Measured, Fault>
+    requires count { IsTrue (is_shaped_expression (expression_tree count.now)) }
+    requires some { IsTrue (has_part (parts_of (expression_trees parts.now))) }
+    requires shaped { IsTrue (are_shaped_parts (parts_of (expression_trees parts.now))) }
+    ensures found { IfOk result (IsMeasure (names_in setting scope.now) (is_constant setting)
+        (tree.replication place (expression_tree count.now)
+        (parts_of (expression_trees parts.now)))) }
+    ensures broken { IfErr result
+        (IsBreach (asked (names_in setting scope.now) (is_constant setting)
+        (tree.replication place (expression_tree count.now)
+        (parts_of (expression_trees parts.now)))).end) }
+{
+    let at = place_of(count);
+    let count = measured_constant(alloc, count, scope, setting)?;
+    let operands = measured_parts(alloc, parts, scope, setting)?;
+    replication(alloc, place, at, count, parts, operands)
+}
+
+/// A constant at its own length and sign: a bound, an index or a count of an expression, or a whole
+/// constant.
 #[cycle(measuring)]
 pub(crate) fn measured_constant(
     alloc: Global,
@@ -84,7 +243,8 @@ pub(crate) fn measured_constant(
 ) -> Result<Bits, Fault>
     requires { IsTrue (is_shaped_expression (expression_tree expr.now)) }
     ensures found { IfOk result (IsValue (names_in setting scope.now) (expression_tree expr.now)) }
-    ensures broken { IfErr result (IsBreach (constant_steps (names_in setting scope.now) (expression_tree expr.now)).end) }
+    ensures broken { IfErr result
+        (IsBreach (constant_steps (names_in setting scope.now) (expression_tree expr.now)).end) }
 {
     let operand = measured(alloc, expr, scope, inside(setting))?;
     folded(alloc, &operand, operand.own_type())
@@ -94,9 +254,12 @@ pub(crate) fn measured_constant(
 #[cycle(measuring)]
 fn measured_index(alloc: Global, index: &Expr, width: u8, scope: &Scope) -> Result<Measured, Fault>
     requires { IsTrue (is_shaped_expression (expression_tree index.now)) }
-    ensures asked { OnOk result ((index_steps (names_of scope.now) width (expression_tree index.now)).end ≡ Ok tt) }
-    ensures found { IfOk result (λ m. measured_tree m ≡ measured_of (names_of scope.now) (expression_tree index.now)) }
-    ensures broken { IfErr result (IsBreach (index_steps (names_of scope.now) width (expression_tree index.now)).end) }
+    ensures asked { OnOk result
+        ((index_steps (names_of scope.now) width (expression_tree index.now)).end ≡ Ok tt) }
+    ensures found { IfOk result (λ m.
+        measured_tree m ≡ measured_of (names_of scope.now) (expression_tree index.now)) }
+    ensures broken { IfErr result
+        (IsBreach (index_steps (names_of scope.now) width (expression_tree index.now)).end) }
 {
     if names_signal(index, scope) {
         measured(alloc, index, scope, Setting::Open)
@@ -109,9 +272,14 @@ fn measured_index(alloc: Global, index: &Expr, width: u8, scope: &Scope) -> Resu
 #[cycle(measuring)]
 fn constant_index(alloc: Global, index: &Expr, width: u8, scope: &Scope) -> Result<Measured, Fault>
     requires { IsTrue (is_shaped_expression (expression_tree index.now)) }
-    ensures asked { OnOk result ((constant_index_steps (names_of scope.now) width (expression_tree index.now)).end ≡ Ok tt) }
-    ensures found { IfOk result (λ m. measured_tree m ≡ measured_of (names_of scope.now) (expression_tree index.now)) }
-    ensures broken { IfErr result (IsBreach (constant_index_steps (names_of scope.now) width (expression_tree index.now)).end) }
+    ensures asked { OnOk result
+        ((constant_index_steps (names_of scope.now) width (expression_tree index.now)).end ≡
+        Ok tt) }
+    ensures found { IfOk result (λ m.
+        measured_tree m ≡ measured_of (names_of scope.now) (expression_tree index.now)) }
+    ensures broken { IfErr result
+        (IsBreach (constant_index_steps (names_of scope.now) width
+        (expression_tree index.now)).end) }
 {
     let operand = measured(alloc, index, scope, Setting::Constant)?;
     let bits = folded(alloc, &operand, operand.own_type())?;
@@ -130,8 +298,12 @@ fn measured_parts(
     setting: Setting,
 ) -> Result<Vec<Measured>, Fault>
     requires { IsTrue (are_shaped_parts (parts_of (expression_trees exprs.now))) }
-    ensures found { IfOk result (λ ms. AreMeasures (names_in setting scope.now) (is_constant setting) (parts_of (expression_trees exprs.now)) ms.items) }
-    ensures broken { IfErr result (IsBreach (asked_parts (names_in setting scope.now) (is_constant setting) (parts_of (expression_trees exprs.now))).end) }
+    ensures found { IfOk result (λ ms.
+        AreMeasures (names_in setting scope.now) (is_constant setting)
+        (parts_of (expression_trees exprs.now)) ms.items) }
+    ensures broken { IfErr result
+        (IsBreach (asked_parts (names_in setting scope.now) (is_constant setting)
+        (parts_of (expression_trees exprs.now))).end) }
 {
     let mut operands = Vec::with_capacity(alloc, exprs.len())?;
     for expr in exprs {

@@ -13,8 +13,8 @@ use std::marker::Model;
 use sv_flat::SigId;
 use sv_num::{Bits, Fault, Name, OutOfMemory, Place};
 
-/// What the names of one instance stand for, in the order of their declarations, with the names that are announced: those that
-/// later declarations make signals.
+/// What the names of one instance stand for, in the order of their declarations, with the names
+/// that are announced: those that later declarations make signals.
 #[derive(Drop)]
 pub struct Scope {
     alloc: Global,
@@ -42,8 +42,8 @@ impl Scope {
         }
     }
 
-    /// Adds a parameter with its value. Rule 312 refuses a name that stands for something already, at the place; the scope is then,
-    /// and where memory runs out, as before.
+    /// Adds a parameter with its value. Rule 312 refuses a name that stands for something already,
+    /// at the place; the scope is then, and where memory runs out, as before.
     pub fn add_param(&mut self, name: Name, value: Bits, place: Place) -> Result<(), Fault>
         ensures added { OnOk result (self.new ≡ with_meaning self.old name (meaning.Param value)) }
         ensures new { OnOk result (meaning_of self.old name ≡ None) }
@@ -53,8 +53,9 @@ impl Scope {
         self.add(name, Meaning::Param(value), place)
     }
 
-    /// Adds a signal of 1 to 64 bits with its number and its sign. Rule 312 refuses a name that stands for something already, at
-    /// the place; the scope is then, and where memory runs out, as before.
+    /// Adds a signal of 1 to 64 bits with its number and its sign. Rule 312 refuses a name that
+    /// stands for something already, at the place; the scope is then, and where memory runs out, as
+    /// before.
     pub fn add_signal(
         &mut self,
         name: Name,
@@ -81,7 +82,8 @@ impl Scope {
     /// Announces that a later declaration makes the name a signal.
     pub fn announce(&mut self, name: Name) -> Result<(), OutOfMemory>
         ensures meanings { self.new.meanings ≡ self.old.meanings }
-        ensures announced { OnOk result (self.new.announced ≡ insert_key bytes_eq self.old.announced name) }
+        ensures announced { OnOk result (self.new.announced ≡
+            insert_key bytes_eq self.old.announced name) }
         ensures unchanged { OnErr result (self.new ≡ self.old) }
     {
         self.announced.insert(name)?;

@@ -3,7 +3,8 @@ ghost use Rattle.std.specs.Prelude.{◌≡◌, ◌≤◌, ◌&&◌, false, max};
 ghost use Rattle.sv_num.specs.Vectors.{width_of, is_signed, value_of};
 ghost use Rattle.sv_num.specs.BinaryValues.{class_of};
 ghost use Rattle.sv_num.specs.UnaryValues.{gives_one_bit};
-ghost use Rattle.sv_walk.specs.TypedExpressions.{is_division, left_length, left_sign, right_length, right_sign};
+ghost use Rattle.sv_walk.specs.TypedExpressions.{is_division, left_length, left_sign, right_length};
+ghost use Rattle.sv_walk.specs.TypedExpressions.{right_sign};
 ghost use Rattle.sv_ast.specs.Values.{binary_length, binary_sign};
 
 use sv_num::{BinOp, Bits, OpClass, UnOp};
@@ -92,7 +93,8 @@ pub(crate) fn result_type(op: BinOp, a: BitType, b: BitType) -> BitType
     }
 }
 
-/// The type at which a binary operator's left operand stands, from the pushed type and both own ones.
+/// The type at which a binary operator's left operand stands, from the pushed type and both own
+/// ones.
 pub(crate) fn left_type(op: BinOp, pushed: BitType, a: BitType, b: BitType) -> BitType
     ensures width { result.width ≡ left_length (class_of op) pushed.width a.width b.width }
     ensures signed { result.signed ≡ left_sign (class_of op) pushed.signed a.signed b.signed }

@@ -1,4 +1,5 @@
-// The second walk over an expression: rule 405, and the typed form, at the lengths and signs that are pushed down.
+// The second walk over an expression: rule 405, and the typed form, at the lengths and signs that
+// are pushed down.
 ghost use Rattle.std.specs.Prelude.{◌≡◌, ℕ, ◌≤◌, max, List, Ok, IfOk, OnOk, IfErr, IsTrue};
 ghost use Rattle.sv_system.specs.System.{Environment};
 ghost use Rattle.sv_ast.specs.Shape.{is_shaped_expression};
@@ -27,20 +28,28 @@ use sv_ast::Expr;
 use sv_flat::{FExpr, FNode};
 use sv_num::{Bits, Fault};
 
-/// The typed form of an expression for targets of so many bits in all (IEEE 1364-2005, clause 5.4.1), 0 for a place that gives no
-/// length.
+/// The typed form of an expression for targets of so many bits in all (IEEE 1364-2005, clause
+/// 5.4.1), 0 for a place that gives no length.
 pub fn typed(alloc: Global, expr: &Expr, scope: &Scope, target_width: u8) -> Result<FExpr, Fault>
     requires few { target_width ≤ 64 }
     requires shaped { IsTrue (is_shaped_expression (expression_tree expr.now)) }
-    ensures found { IfOk result (λ f. (expression_walk (names_of scope.now) (expression_tree expr.now) target_width).end ≡ Ok (typed_tree f)) }
-    ensures formed { IfOk result (λ f. (signals : List SignalForm) → HaveSignals (names_of scope.now) signals
+    ensures found { IfOk result (λ f.
+        (expression_walk (names_of scope.now) (expression_tree expr.now) target_width).end ≡
+        Ok (typed_tree f)) }
+    ensures formed { IfOk result (λ f.
+        (signals : List SignalForm) → HaveSignals (names_of scope.now) signals
         → IsTrue (well_formed signals (typed_tree f))) }
-    ensures means { IfOk result (λ f. (signals : List SignalForm) (by_name : List ℕ → ℕ) (by_number : Environment ℕ)
-        → HaveSignals (names_of scope.now) signals → HaveValues (names_of scope.now) by_name by_number
-        → value signals by_number (typed_tree f) ≡ source_value (bindings_of scope.now) by_name (expression_tree expr.now)
+    ensures means { IfOk result (λ f.
+        (signals : List SignalForm) (by_name : List ℕ → ℕ) (by_number : Environment ℕ)
+        → HaveSignals (names_of scope.now) signals
+        → HaveValues (names_of scope.now) by_name by_number
+        → value signals by_number (typed_tree f) ≡
+        source_value (bindings_of scope.now) by_name (expression_tree expr.now)
         (max (length_of (bindings_of scope.now) (expression_tree expr.now)) target_width)
         (sign_of (bindings_of scope.now) (expression_tree expr.now))) }
-    ensures broken { IfErr result (IsBreach (expression_walk (names_of scope.now) (expression_tree expr.now) target_width).end) }
+    ensures broken { IfErr result
+        (IsBreach (expression_walk (names_of scope.now) (expression_tree expr.now)
+        target_width).end) }
 {
     let operand = measured(alloc, expr, scope, Setting::Open)?;
     let own = operand.own_type();
@@ -51,21 +60,37 @@ pub fn typed(alloc: Global, expr: &Expr, scope: &Scope, target_width: u8) -> Res
     pushed(alloc, &operand, to)
 }
 
-/// The value of a constant at its own length and sign.
+/// The value of a constant at its own length and sign, in a declaration: names of later ones are
+/// known as signals.
 pub fn constant(alloc: Global, expr: &Expr, scope: &Scope) -> Result<Bits, Fault>
     requires { IsTrue (is_shaped_expression (expression_tree expr.now)) }
-    ensures found { IfOk result (λ bits. (constant_walk (names_ahead scope.now) (expression_tree expr.now)).end ≡ Ok (number_of bits)) }
-    ensures broken { IfErr result (IsBreach (constant_walk (names_ahead scope.now) (expression_tree expr.now)).end) }
+    ensures found { IfOk result (λ bits.
+        (constant_walk (names_ahead scope.now) (expression_tree expr.now)).end ≡
+        Ok (number_of bits)) }
+    ensures broken { IfErr result
+        (IsBreach (constant_walk (names_ahead scope.now) (expression_tree expr.now)).end) }
 {
     measured_constant(alloc, expr, scope, Setting::Declaring)
 }
 
-// The typed form at a type. Rule 405 refuses the first divisor that is 0.
+/// The value of a constant at its own length and sign, where all declarations are made.
+pub fn constant_in_reach(alloc: Global, expr: &Expr, scope: &Scope) -> Result<Bits, Fault>
+    requires { IsTrue (is_shaped_expression (expression_tree expr.now)) }
+    ensures found { IfOk result (λ bits.
+        (constant_walk (names_of scope.now) (expression_tree expr.now)).end ≡ Ok (number_of bits)) }
+    ensures broken { IfErr result
+        (IsBreach (constant_walk (names_of scope.now) (expression_tree expr.now)).end) }
+{
+    measured_constant(alloc, expr, scope, Setting::Constant)
+}
+
+/// The typed form at a type. Rule 405 refuses the first divisor that is 0.
 #[tactic(auto, unfolding(crate::specs::Pushed::node_of, crate::specs::Pushed::nodes_in, crate::specs::Pushed::divisors_of, crate::specs::Pushed::divisors_in))]
 #[cycle(typing)]
-fn pushed(alloc: Global, expr: &Measured, to: BitType) -> Result<FExpr, Fault>
+pub(crate) fn pushed(alloc: Global, expr: &Measured, to: BitType) -> Result<FExpr, Fault>
     ensures found { IfOk result (IsPushed (measured_tree expr.now) to.width to.signed) }
-    ensures broken { IfErr result (IsBreach (divisors_of (measured_tree expr.now) to.width to.signed).end) }
+    ensures broken { IfErr result
+        (IsBreach (divisors_of (measured_tree expr.now) to.width to.signed).end) }
 {
     Ok(FExpr {
         width: to.width,
@@ -78,7 +103,8 @@ fn pushed(alloc: Global, expr: &Measured, to: BitType) -> Result<FExpr, Fault>
 #[cycle(typing)]
 fn node(alloc: Global, expr: &Measured, to: BitType) -> Result<FNode, Fault>
     ensures found { IfOk result (IsNode (measured_tree expr.now) to.width to.signed) }
-    ensures broken { IfErr result (IsBreach (divisors_of (measured_tree expr.now) to.width to.signed).end) }
+    ensures broken { IfErr result
+        (IsBreach (divisors_of (measured_tree expr.now) to.width to.signed).end) }
 {
     match expr {
         Measured::Number(_, bits) => Ok(FNode::Number(at_type(*bits, to).value())),
@@ -128,8 +154,10 @@ fn node(alloc: Global, expr: &Measured, to: BitType) -> Result<FNode, Fault>
 #[tactic(auto, unfolding(crate::specs::Pushed::node_of, crate::specs::Pushed::nodes_in, crate::specs::Pushed::divisors_of, crate::specs::Pushed::divisors_in))]
 #[cycle(typing)]
 fn boxed(alloc: Global, expr: &Measured, to: BitType) -> Result<Box<FExpr>, Fault>
-    ensures found { IfOk result (λ b. IsPushed (measured_tree expr.now) to.width to.signed b.value) }
-    ensures broken { IfErr result (IsBreach (divisors_of (measured_tree expr.now) to.width to.signed).end) }
+    ensures found { IfOk result (λ b.
+        IsPushed (measured_tree expr.now) to.width to.signed b.value) }
+    ensures broken { IfErr result
+        (IsBreach (divisors_of (measured_tree expr.now) to.width to.signed).end) }
 {
     Ok(Box::new(alloc, pushed(alloc, expr, to)?)?)
 }
@@ -138,8 +166,10 @@ fn boxed(alloc: Global, expr: &Measured, to: BitType) -> Result<Box<FExpr>, Faul
 #[cycle(typing)]
 fn pushed_parts(alloc: Global, parts: &[Measured]) -> Result<Vec<FExpr>, Fault>
     ensures asked { OnOk result ((divisors_in (parts_of (measured_trees parts.now))).end ≡ Ok tt) }
-    ensures found { IfOk result (λ fs. typed_parts (typed_trees fs.items) ≡ nodes_in (parts_of (measured_trees parts.now))) }
-    ensures broken { IfErr result (IsBreach (divisors_in (parts_of (measured_trees parts.now))).end) }
+    ensures found { IfOk result (λ fs.
+        typed_parts (typed_trees fs.items) ≡ nodes_in (parts_of (measured_trees parts.now))) }
+    ensures broken { IfErr result
+        (IsBreach (divisors_in (parts_of (measured_trees parts.now))).end) }
 {
     let mut typed = Vec::with_capacity(alloc, parts.len())?;
     for part in parts {

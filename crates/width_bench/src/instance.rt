@@ -97,7 +97,8 @@ impl Instance {
         Ok(())
     }
 
-    /// The rule that an expression breaks where no length is asked for, and the column where it does.
+    /// The rule that an expression breaks where no length is asked for, and the column where it
+    /// does.
     pub(crate) fn broken_rule(&self, expr: &Expr) -> Option<(u16, u32)>
         requires { IsTrue (is_shaped_expression (expression_tree expr.now)) }
     {
@@ -123,7 +124,8 @@ impl Instance {
         Ok(cut(value_of(expr, &self.signals, &self.values), target))
     }
 
-    /// The values of a typed expression, each after a step of the signals, all joined by exclusive or.
+    /// The values of a typed expression, each after a step of the signals, all joined by exclusive
+    /// or.
     pub(crate) fn evaluate(&mut self, expr: &FExpr, times: u32) -> Result<u64> {
         let signals = self.signals.as_slice();
         let is_formed = well_formed(expr, signals);
@@ -176,7 +178,8 @@ fn do_values_fit(signals: &[Signal], values: &[u64]) -> bool
 fn does_value_fit(signals: &[Signal], values: &[u64], place: usize) -> bool
     requires signal { place < length signals.now }
     requires value { place < length values.now }
-    ensures { IsTrue result → slice_index values.now place < 2 ^ signal_width (signal_forms signals.now) place }
+    ensures { IsTrue result →
+        slice_index values.now place < 2 ^ signal_width (signal_forms signals.now) place }
 {
     Bits::new(signals[place].width, false, values[place]).is_some()
 }

@@ -22,6 +22,7 @@ use std::{env, io};
 
 fn main(rt: HostRuntime) -> Result<()> {
     let mut words = env::args(&rt)?;
+    // the first word is the program's own name
     let _program = words.next();
     let lines = input_lines(&rt, rt.alloc())?;
     let Some(task) = words.next() else {

@@ -8,8 +8,8 @@ use std::alloc::Global;
 use std::io;
 use std::time::{CpuClock, Duration};
 
-/// Evaluates each expression of the lines so many times over changing values of the signals. It prints the exclusive or of all
-/// values and the microseconds.
+/// Evaluates each expression of the lines so many times over changing values of the signals. It
+/// prints the exclusive or of all values and the microseconds.
 pub(crate) fn evaluate(
     rt: &(impl Print + CpuClock),
     alloc: Global,
@@ -41,7 +41,8 @@ pub(crate) fn type_again(
     Ok(())
 }
 
-// The expression of a line with its target, and None where it declares a signal, which is then added.
+// The expression of a line with its target, and None where it declares a signal, which is then
+// added.
 fn declared<'a>(instance: &mut Instance, text: &'a str) -> Result<Option<(u8, &'a str)>> {
     match read_line(text)? {
         Line::Signal(name, kind) => {

@@ -8,7 +8,8 @@ use std::alloc::Global;
 use std::io;
 use sv_num::Bits;
 
-/// Tells how many values and rules of the lines agree and how many differ, and first each line whose one differs.
+/// Tells how many values and rules of the lines agree and how many differ, and first each line
+/// whose one differs.
 pub(crate) fn compare(rt: &impl Print, alloc: Global, lines: &[String]) -> Result<()> {
     let mut instance = Instance::new(alloc);
     let mut agree: u64 = 0;

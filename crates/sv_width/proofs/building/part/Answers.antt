@@ -1,4 +1,4 @@
-use Rattle.std.proofs.Common.{◌≡◌, Bool, true, false, ap}
+use Rattle.std.proofs.Common.{◌≡◌, Bool, false, ap}
 use Rattle.sv_num.specs.Vectors.{number_of}
 use Rattle.sv_walk.specs.Walks.{ask}
 use Rattle.sv_walk.specs.Rules.{bad_select}
@@ -9,5 +9,7 @@ use Rattle.sv_width.proofs.building.part.Goals as goal
 pub returns-in-None-clause-broken : goal.returns-in-None-clause-broken
 returns-in-None-clause-broken c =
     let inside = is_part c.args.known.width (number_of c.args.high) (number_of c.args.low) in
-    let none : inside ≡ false = either inside (λ h. absurd (cc (c.in-None.ensures.inside.1 h))) (λ h. h) in
-    c.refusal.ensures (ask inside (bad_select c.args.place)).end (ap (λ (b : Bool). (ask b (bad_select c.args.place)).end) none)
+    let none : inside ≡ false =
+    either inside (λ h. absurd (cc (c.in-None.ensures.inside.1 h))) (λ h. h) in
+    c.refusal.ensures (ask inside (bad_select c.args.place)).end
+    (ap (λ (b : Bool). (ask b (bad_select c.args.place)).end) none)

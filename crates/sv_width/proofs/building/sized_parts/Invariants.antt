@@ -6,4 +6,5 @@ use Rattle.sv_width.proofs.building.sized_parts.Given as goal
 -- the parts that are left are asked what all parts are
 abbrev pub invariant-loop-part : goal.invariant-loop-part
 invariant-loop-part l =
-    (sized_parts (parts_of (expression_trees (drop l.part-index l.parts)))).end ≡ (sized_parts (parts_of (expression_trees l.parts))).end
+    (sized_parts (parts_of (expression_trees (drop l.part-index l.parts)))).end ≡
+    (sized_parts (parts_of (expression_trees l.parts))).end

@@ -1,72 +1,108 @@
-use Rattle.std.proofs.Common.{◌≡◌, ℕ, ◌^◌, ◌<◌, min, true, sym, ap, subst, ◌∙◌}
+use Rattle.std.proofs.Common.{◌≡◌, min, sym, ap, subst, ◌∙◌}
 use Rattle.std.proofs.lemmas.Result.{err_from_is_err_and}
-use Rattle.sv_num.specs.UnaryValues.{gives_one_bit}
 use Rattle.sv_width.specs.declared.measured.Measured.{Measured}
 use Rattle.sv_width.specs.declared.measured.Measured.TheBlock.{hidden-the_row-Measured-0}
 use Rattle.sv_width.specs.Answers.{IsBreach}
 use Rattle.sv_width.specs.Measured.{MeasuredTrees}
 use Rattle.sv_width.specs.Outcomes.{IsFolded}
-use Rattle.sv_width.specs.Pushed.{joined_width, behind_times, folded_of, joined_from, divisors_of, divisors_in}
+use Rattle.sv_width.specs.Pushed.{joined_width, behind_times, folded_of, joined_from, divisors_of}
+use Rattle.sv_width.specs.Pushed.{divisors_in}
 use Rattle.sv_width.specs.Views.{measured_tree, measured_trees, row_parts, parts_of}
 use Rattle.sv_width.proofs.Folds.{capped_times}
 use Rattle.sv_width.proofs.Low.{bit_low}
 use Rattle.sv_width.proofs.MRows.{row_parts-hidden}
 use Rattle.sv_width.proofs.folding.+folding.Goals as goal
 
-pub folded-of_type-requires-then-gives_one_bit-clause-low : goal.folded-of_type-requires-then-gives_one_bit-clause-low
+pub folded-of_type-requires-then-gives_one_bit-clause-low :
+    goal.folded-of_type-requires-then-gives_one_bit-clause-low
 folded-of_type-requires-then-gives_one_bit-clause-low t c =
     let bits = c.in_ok-bits-in-Unary.bits in
     rw (c.value.ensures.value, c.apply_unary.ensures.value)
-    (bit_low c.in-Unary.op (sym c.gives_one_bit.ensures ∙ c.if-gives_one_bit.true) c.args.to.width bits.width bits.signed bits.value c.args.to.in_range.0)
+    (bit_low c.in-Unary.op (sym c.gives_one_bit.ensures ∙ c.if-gives_one_bit.true) c.args.to.width
+    bits.width bits.signed bits.value c.args.to.in_range.0)
 
-pub folded-returns-in_err-value-in-Join-clause-broken : goal.folded-returns-in_err-value-in-Join-clause-broken
+pub folded-returns-in_err-value-in-Join-clause-broken :
+    goal.folded-returns-in_err-value-in-Join-clause-broken
 unfolding divisors_of divisors_in
 folded-returns-in_err-value-in-Join-clause-broken t c =
-    let p = err_from_is_err_and c.from_residual-in_err-value-in-Join.result c.from_residual-in_err-value-in-Join.ensures.1 in
-    let parts : parts_of (measured_trees c.deref-in-Join.result.now) ≡ row_parts (hidden-the_row-Measured-0 c.in-Join.parts) =
-    ap (λ es. parts_of (measured_trees es)) c.deref-in-Join.ensures.value ∙ sym (row_parts-hidden c.in-Join.parts) in
+    let p = err_from_is_err_and c.from_residual-in_err-value-in-Join.result
+    c.from_residual-in_err-value-in-Join.ensures.1 in
+    let parts : parts_of (measured_trees c.deref-in-Join.result.now) ≡
+    row_parts (hidden-the_row-Measured-0 c.in-Join.parts) =
+    ap (λ es. parts_of (measured_trees es)) c.deref-in-Join.ensures.value
+    ∙ sym (row_parts-hidden c.in-Join.parts) in
     rw (p.1, p.2)
-    (subst (λ (e : Measured). IsBreach (divisors_of (measured_tree e) c.args.to.width c.args.to.signed).end c.in_err-value-in-Join.field-0.0) (sym c.in-Join.is)
-    (subst (λ (es : MeasuredTrees). IsBreach (divisors_in es).end c.in_err-value-in-Join.field-0.0) parts c.in_err-value-in-Join.ensures.broken))
+    (subst (λ (e : Measured).
+    IsBreach (divisors_of (measured_tree e) c.args.to.width c.args.to.signed).end
+    c.in_err-value-in-Join.field-0.0) (sym c.in-Join.is)
+    (subst (λ (es : MeasuredTrees). IsBreach (divisors_in es).end c.in_err-value-in-Join.field-0.0)
+    parts c.in_err-value-in-Join.ensures.broken))
 
-pub folded-returns-in_err-value-in-Repeat-clause-broken : goal.folded-returns-in_err-value-in-Repeat-clause-broken
+pub folded-returns-in_err-value-in-Repeat-clause-broken :
+    goal.folded-returns-in_err-value-in-Repeat-clause-broken
 unfolding divisors_of divisors_in
 folded-returns-in_err-value-in-Repeat-clause-broken t c =
-    let p = err_from_is_err_and c.from_residual-in_err-value-in-Repeat.result c.from_residual-in_err-value-in-Repeat.ensures.1 in
-    let parts : parts_of (measured_trees c.deref-in-Repeat.result.now) ≡ row_parts (hidden-the_row-Measured-0 c.in-Repeat.parts) =
-    ap (λ es. parts_of (measured_trees es)) c.deref-in-Repeat.ensures.value ∙ sym (row_parts-hidden c.in-Repeat.parts) in
+    let p = err_from_is_err_and c.from_residual-in_err-value-in-Repeat.result
+    c.from_residual-in_err-value-in-Repeat.ensures.1 in
+    let parts : parts_of (measured_trees c.deref-in-Repeat.result.now) ≡
+    row_parts (hidden-the_row-Measured-0 c.in-Repeat.parts) =
+    ap (λ es. parts_of (measured_trees es)) c.deref-in-Repeat.ensures.value
+    ∙ sym (row_parts-hidden c.in-Repeat.parts) in
     rw (p.1, p.2)
-    (subst (λ (e : Measured). IsBreach (divisors_of (measured_tree e) c.args.to.width c.args.to.signed).end c.in_err-value-in-Repeat.field-0.0) (sym c.in-Repeat.is)
-    (subst (λ (es : MeasuredTrees). IsBreach (divisors_in es).end c.in_err-value-in-Repeat.field-0.0) parts c.in_err-value-in-Repeat.ensures.broken))
+    (subst (λ (e : Measured).
+    IsBreach (divisors_of (measured_tree e) c.args.to.width c.args.to.signed).end
+    c.in_err-value-in-Repeat.field-0.0) (sym c.in-Repeat.is)
+    (subst (λ (es : MeasuredTrees).
+    IsBreach (divisors_in es).end c.in_err-value-in-Repeat.field-0.0) parts
+    c.in_err-value-in-Repeat.ensures.broken))
 
-pub folded-returns-in_ok-value-in-Join-clause-found : goal.folded-returns-in_ok-value-in-Join-clause-found
+pub folded-returns-in_ok-value-in-Join-clause-found :
+    goal.folded-returns-in_ok-value-in-Join-clause-found
 unfolding folded_of joined_from divisors_of divisors_in
 folded-returns-in_ok-value-in-Join-clause-found t c =
-    let parts : parts_of (measured_trees c.deref-in-Join.result.now) ≡ row_parts (hidden-the_row-Measured-0 c.in-Join.parts) =
-    ap (λ es. parts_of (measured_trees es)) c.deref-in-Join.ensures.value ∙ sym (row_parts-hidden c.in-Join.parts) in
-    subst (λ (e : Measured). IsFolded (measured_tree e) c.args.to.width c.args.to.signed c.of_type-in-Join.result) (sym c.in-Join.is) (
+    let parts : parts_of (measured_trees c.deref-in-Join.result.now) ≡
+    row_parts (hidden-the_row-Measured-0 c.in-Join.parts) =
+    ap (λ es. parts_of (measured_trees es)) c.deref-in-Join.ensures.value
+    ∙ sym (row_parts-hidden c.in-Join.parts) in
+    subst (λ (e : Measured).
+    IsFolded (measured_tree e) c.args.to.width c.args.to.signed c.of_type-in-Join.result)
+    (sym c.in-Join.is) (
       sym (ap (λ es. (divisors_in es).end) parts) ∙ c.in_ok-value-in-Join.ensures.asked,
       c.of_type-in-Join.ensures.width,
       c.of_type-in-Join.ensures.signed,
-      c.of_type-in-Join.ensures.value ∙ c.in_ok-value-in-Join.ensures.value ∙ ap (λ es. joined_from es c.args.to.width 0) parts,
+      c.of_type-in-Join.ensures.value ∙ c.in_ok-value-in-Join.ensures.value
+          ∙ ap (λ es. joined_from es c.args.to.width 0) parts,
     )
 
-pub folded-returns-in_ok-value-in-Repeat-clause-found : goal.folded-returns-in_ok-value-in-Repeat-clause-found
+pub folded-returns-in_ok-value-in-Repeat-clause-found :
+    goal.folded-returns-in_ok-value-in-Repeat-clause-found
 unfolding folded_of joined_from divisors_of divisors_in
 folded-returns-in_ok-value-in-Repeat-clause-found t c =
     let n = c.args.to.width in
-    let parts : parts_of (measured_trees c.deref-in-Repeat.result.now) ≡ row_parts (hidden-the_row-Measured-0 c.in-Repeat.parts) =
-    ap (λ es. parts_of (measured_trees es)) c.deref-in-Repeat.ensures.value ∙ sym (row_parts-hidden c.in-Repeat.parts) in
-    let width : c.joined_width-width.result ≡ min (joined_width (parts_of (measured_trees c.deref-in-Repeat.result.now))) 65 =
+    let parts : parts_of (measured_trees c.deref-in-Repeat.result.now) ≡
+    row_parts (hidden-the_row-Measured-0 c.in-Repeat.parts) =
+    ap (λ es. parts_of (measured_trees es)) c.deref-in-Repeat.ensures.value
+    ∙ sym (row_parts-hidden c.in-Repeat.parts) in
+    let width : c.joined_width-width.result ≡
+    min (joined_width (parts_of (measured_trees c.deref-in-Repeat.result.now))) 65 =
     c.joined_width-width.ensures
-    ∙ ap (λ es. min (joined_width (parts_of (measured_trees es))) 65) (c.deref-in-Repeat-2.ensures.value ∙ sym c.deref-in-Repeat.ensures.value) in
-    subst (λ (e : Measured). IsFolded (measured_tree e) c.args.to.width c.args.to.signed c.of_type-in-Repeat.result) (sym c.in-Repeat.is) (
+    ∙ ap (λ es. min (joined_width (parts_of (measured_trees es))) 65)
+    (c.deref-in-Repeat-2.ensures.value ∙ sym c.deref-in-Repeat.ensures.value) in
+    subst (λ (e : Measured).
+    IsFolded (measured_tree e) c.args.to.width c.args.to.signed c.of_type-in-Repeat.result)
+    (sym c.in-Repeat.is) (
       sym (ap (λ es. (divisors_in es).end) parts) ∙ c.in_ok-value-in-Repeat.ensures.asked,
       c.of_type-in-Repeat.ensures.width,
       c.of_type-in-Repeat.ensures.signed,
       c.of_type-in-Repeat.ensures.value ∙ c.repeated.ensures.value
-          ∙ ap (λ w. behind_times c.args.to.width c.in-Repeat.count w c.in_ok-value-in-Repeat.value) width
-          ∙ capped_times c.args.to.width c.in-Repeat.count (joined_width (parts_of (measured_trees c.deref-in-Repeat.result.now))) c.in_ok-value-in-Repeat.value c.args.to.in_range.1
-          ∙ ap (λ v. behind_times c.args.to.width c.in-Repeat.count (joined_width (parts_of (measured_trees c.deref-in-Repeat.result.now))) v) c.in_ok-value-in-Repeat.ensures.value
-          ∙ ap (λ es. behind_times c.args.to.width c.in-Repeat.count (joined_width es) (joined_from es c.args.to.width 0)) parts,
+          ∙ ap (λ w. behind_times c.args.to.width c.in-Repeat.count w c.in_ok-value-in-Repeat.value)
+          width
+          ∙ capped_times c.args.to.width c.in-Repeat.count
+          (joined_width (parts_of (measured_trees c.deref-in-Repeat.result.now)))
+          c.in_ok-value-in-Repeat.value c.args.to.in_range.1
+          ∙ ap (λ v. behind_times c.args.to.width c.in-Repeat.count
+          (joined_width (parts_of (measured_trees c.deref-in-Repeat.result.now))) v)
+          c.in_ok-value-in-Repeat.ensures.value
+          ∙ ap (λ es. behind_times c.args.to.width c.in-Repeat.count (joined_width es)
+          (joined_from es c.args.to.width 0)) parts,
     )

@@ -1,6 +1,4 @@
-use Rattle.std.proofs.Common.{◌^◌, ◌<◌, sym, subst, ap, ◌∙◌, arith}
-use Rattle.sv_num.specs.BinaryValues.{class_of, binary_value}
-use Rattle.sv_walk.specs.TypedExpressions.{left_length, left_sign, right_length}
+use Rattle.std.proofs.Common.{◌^◌, ◌<◌, subst}
 use Rattle.sv_width.proofs.Folds.{one_type}
 use Rattle.sv_width.proofs.Low.{binary_low}
 use Rattle.sv_width.proofs.folding.applied.Goals as goal
@@ -17,8 +15,14 @@ of_type-requires-clause-low c =
     let la = c.args.types.a.width in
     let lb = c.args.types.b.width in
     let op = c.args.op in
-    rw (c.value-value.ensures.value, c.apply_binary.ensures.value, c.requires.left, c.requires.left_sign)
-    (binary_low op n c.args.types.to.signed la lb c.args.types.a.signed c.args.types.b.signed c.args.left.value c.args.right.value
+    rw (
+      c.value-value.ensures.value,
+      c.apply_binary.ensures.value,
+      c.requires.left,
+      c.requires.left_sign,
+    )
+    (binary_low op n c.args.types.to.signed la lb c.args.types.a.signed c.args.types.b.signed
+    c.args.left.value c.args.right.value
     c.args.types.to.in_range.0
     (subst (λ w. c.args.left.value < 2 ^ w) c.requires.left c.args.left.in_range.2)
     (subst (λ w. c.args.right.value < 2 ^ w) c.requires.right c.args.right.in_range.2))

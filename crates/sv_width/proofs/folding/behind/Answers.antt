@@ -11,5 +11,6 @@ returns-clause-value c =
           ∙ word_sum c.args.width (c.args.value * 2 ^ c.args.next_width) c.args.next c.requires.few
       | else-next_width-lt64 w ↦
           c.low_bits.ensures ∙ ap (λ y. (y + c.args.next) % 2 ^ 64 % 2 ^ c.args.width) w.high-is
-          ∙ far_behind c.args.width c.args.next_width c.args.value c.args.next c.requires.few (omega arith)
+          ∙ far_behind c.args.width c.args.next_width c.args.value c.args.next c.requires.few
+          (omega arith)
     ]

@@ -5,6 +5,7 @@ use Rattle.sv_width.proofs.folding.joined_width.Given as goal
 
 abbrev pub invariant-loop-part : goal.invariant-loop-part
 invariant-loop-part l = record {
-  sum : min (l.width + joined_width (parts_of (measured_trees (drop l.part-index l.parts)))) 65 ≡ min (joined_width (parts_of (measured_trees l.parts))) 65;
+  sum : min (l.width + joined_width (parts_of (measured_trees (drop l.part-index l.parts)))) 65 ≡
+      min (joined_width (parts_of (measured_trees l.parts))) 65;
   few : l.width ≤ 65;
 }

@@ -4,4 +4,5 @@ use Rattle.sv_width.proofs.laws.typed_means_its_source.Goals as goal
 
 pub returns : goal.returns
 returns c names signals by_name by_number constant e declared has_signals has_values passes n s =
-    same_value names declared signals has_signals by_name by_number has_values constant e (passed_sound names constant e passes) n s
+    same_value names declared signals has_signals by_name by_number has_values constant e
+    (passed_sound names constant e passes) n s

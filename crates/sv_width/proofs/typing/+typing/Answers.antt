@@ -1,12 +1,10 @@
-use Rattle.std.proofs.Common.{◌≡◌, ◌+◌, List, drop, refl, sym, ap, subst, ◌∙◌}
-use Rattle.std.specs.Prelude.{Result, Ok}
+use Rattle.std.proofs.Common.{◌≡◌, ◌+◌, drop, refl, sym, ap, subst, ◌∙◌}
 use Rattle.std.proofs.lemmas.Result.{err_from_is_err_and}
 use Rattle.sv_flat.specs.Design as flat
 use Rattle.sv_flat.specs.Design.{TypedTree, TypedTrees, typed}
 use Rattle.sv_flat.specs.Views.{typed_tree, typed_trees, row_parts as flat_parts}
 use Rattle.sv_flat.specs.declared.expressions.FNode.TheBlock.{hidden-the_row-FExpr-0}
 use Rattle.sv_flat.proofs.Rows.{row_parts-hidden as flat_row-hidden}
-use Rattle.sv_walk.specs.Walks.{Step}
 use Rattle.sv_width.specs.declared.measured.Measured.{Measured}
 use Rattle.sv_width.specs.declared.measured.Measured.TheBlock.{hidden-the_row-Measured-0}
 use Rattle.sv_width.specs.Answers.{IsBreach}
@@ -15,61 +13,131 @@ use Rattle.sv_width.specs.Pushed.{divisors_of, divisors_in, node_of, nodes_in}
 use Rattle.sv_width.specs.Views.{measured_tree, measured_trees, row_parts, parts_of}
 use Rattle.sv_width.proofs.MRows.{row_parts-hidden}
 use Rattle.sv_width.proofs.Measures.{passes_on}
-use Rattle.sv_width.proofs.FlatRows.{typed_before, typed_push, typed_end, forms_push, measured_split, measured_done}
+use Rattle.sv_width.proofs.FlatRows.{typed_before, typed_push, typed_end, forms_push}
+use Rattle.sv_width.proofs.FlatRows.{measured_split, measured_done}
 use Rattle.sv_width.proofs.typing.+typing.Goals as goal
 
-pub node-returns-in_err-pushed_parts-in-Join-clause-broken : goal.node-returns-in_err-pushed_parts-in-Join-clause-broken
+pub node-returns-in_err-pushed_parts-in-Join-clause-broken :
+    goal.node-returns-in_err-pushed_parts-in-Join-clause-broken
 unfolding divisors_of divisors_in
 node-returns-in_err-pushed_parts-in-Join-clause-broken t c =
-    let p = err_from_is_err_and c.from_residual-in_err-pushed_parts-in-Join.result c.from_residual-in_err-pushed_parts-in-Join.ensures.1 in
-    let parts : parts_of (measured_trees c.deref-in-Join.result.now) ≡ row_parts (hidden-the_row-Measured-0 c.in-Join.parts) =
-    ap (λ es. parts_of (measured_trees es)) c.deref-in-Join.ensures.value ∙ sym (row_parts-hidden c.in-Join.parts) in
+    let p = err_from_is_err_and c.from_residual-in_err-pushed_parts-in-Join.result
+    c.from_residual-in_err-pushed_parts-in-Join.ensures.1 in
+    let parts : parts_of (measured_trees c.deref-in-Join.result.now) ≡
+    row_parts (hidden-the_row-Measured-0 c.in-Join.parts) =
+    ap (λ es. parts_of (measured_trees es)) c.deref-in-Join.ensures.value
+    ∙ sym (row_parts-hidden c.in-Join.parts) in
     rw (p.1, p.2)
-    (subst (λ (e : Measured). IsBreach (divisors_of (measured_tree e) c.args.to.width c.args.to.signed).end c.in_err-pushed_parts-in-Join.field-0.0) (sym c.in-Join.is)
-    (subst (λ (es : MeasuredTrees). IsBreach (divisors_in es).end c.in_err-pushed_parts-in-Join.field-0.0) parts c.in_err-pushed_parts-in-Join.ensures.broken))
+    (subst (λ (e : Measured).
+    IsBreach (divisors_of (measured_tree e) c.args.to.width c.args.to.signed).end
+    c.in_err-pushed_parts-in-Join.field-0.0) (sym c.in-Join.is)
+    (subst (λ (es : MeasuredTrees).
+    IsBreach (divisors_in es).end c.in_err-pushed_parts-in-Join.field-0.0) parts
+    c.in_err-pushed_parts-in-Join.ensures.broken))
 
-pub node-returns-in_err-pushed_parts-in-Repeat-clause-broken : goal.node-returns-in_err-pushed_parts-in-Repeat-clause-broken
+pub node-returns-in_err-pushed_parts-in-Repeat-clause-broken :
+    goal.node-returns-in_err-pushed_parts-in-Repeat-clause-broken
 unfolding divisors_of divisors_in
 node-returns-in_err-pushed_parts-in-Repeat-clause-broken t c =
-    let p = err_from_is_err_and c.from_residual-in_err-pushed_parts-in-Repeat.result c.from_residual-in_err-pushed_parts-in-Repeat.ensures.1 in
-    let parts : parts_of (measured_trees c.deref-in-Repeat.result.now) ≡ row_parts (hidden-the_row-Measured-0 c.in-Repeat.parts) =
-    ap (λ es. parts_of (measured_trees es)) c.deref-in-Repeat.ensures.value ∙ sym (row_parts-hidden c.in-Repeat.parts) in
+    let p = err_from_is_err_and c.from_residual-in_err-pushed_parts-in-Repeat.result
+    c.from_residual-in_err-pushed_parts-in-Repeat.ensures.1 in
+    let parts : parts_of (measured_trees c.deref-in-Repeat.result.now) ≡
+    row_parts (hidden-the_row-Measured-0 c.in-Repeat.parts) =
+    ap (λ es. parts_of (measured_trees es)) c.deref-in-Repeat.ensures.value
+    ∙ sym (row_parts-hidden c.in-Repeat.parts) in
     rw (p.1, p.2)
-    (subst (λ (e : Measured). IsBreach (divisors_of (measured_tree e) c.args.to.width c.args.to.signed).end c.in_err-pushed_parts-in-Repeat.field-0.0) (sym c.in-Repeat.is)
-    (subst (λ (es : MeasuredTrees). IsBreach (divisors_in es).end c.in_err-pushed_parts-in-Repeat.field-0.0) parts c.in_err-pushed_parts-in-Repeat.ensures.broken))
+    (subst (λ (e : Measured).
+    IsBreach (divisors_of (measured_tree e) c.args.to.width c.args.to.signed).end
+    c.in_err-pushed_parts-in-Repeat.field-0.0) (sym c.in-Repeat.is)
+    (subst (λ (es : MeasuredTrees).
+    IsBreach (divisors_in es).end c.in_err-pushed_parts-in-Repeat.field-0.0) parts
+    c.in_err-pushed_parts-in-Repeat.ensures.broken))
 
-pub node-returns-in_ok-pushed_parts-in-Join-clause-found : goal.node-returns-in_ok-pushed_parts-in-Join-clause-found
+pub node-returns-in_ok-pushed_parts-in-Join-clause-found :
+    goal.node-returns-in_ok-pushed_parts-in-Join-clause-found
 unfolding node_of nodes_in divisors_of divisors_in
 node-returns-in_ok-pushed_parts-in-Join-clause-found t c =
-    let parts : parts_of (measured_trees c.deref-in-Join.result.now) ≡ row_parts (hidden-the_row-Measured-0 c.in-Join.parts) =
-    ap (λ es. parts_of (measured_trees es)) c.deref-in-Join.ensures.value ∙ sym (row_parts-hidden c.in-Join.parts) in (
-      ap (λ (e : Measured). (divisors_of (measured_tree e) c.args.to.width c.args.to.signed).end) c.in-Join.is
-          ∙ sym (ap (λ es. (divisors_in es).end) parts) ∙ c.in_ok-pushed_parts-in-Join.ensures.asked,
-      ap flat.join (flat_row-hidden c.in_ok-pushed_parts-in-Join.field-0 ∙ c.in_ok-pushed_parts-in-Join.ensures.found ∙ ap nodes_in parts)
-          ∙ ap (λ (e : Measured). node_of (measured_tree e) c.args.to.width c.args.to.signed) (sym c.in-Join.is),
+    let parts : parts_of (measured_trees c.deref-in-Join.result.now) ≡
+    row_parts (hidden-the_row-Measured-0 c.in-Join.parts) =
+    ap (λ es. parts_of (measured_trees es)) c.deref-in-Join.ensures.value
+    ∙ sym (row_parts-hidden c.in-Join.parts) in (
+      ap (λ (e : Measured). (divisors_of (measured_tree e) c.args.to.width c.args.to.signed).end)
+          c.in-Join.is
+          ∙ sym (ap (λ es. (divisors_in es).end) parts)
+          ∙ c.in_ok-pushed_parts-in-Join.ensures.asked,
+      ap flat.join (flat_row-hidden c.in_ok-pushed_parts-in-Join.field-0
+          ∙ c.in_ok-pushed_parts-in-Join.ensures.found ∙ ap nodes_in parts)
+          ∙ ap (λ (e : Measured). node_of (measured_tree e) c.args.to.width c.args.to.signed)
+          (sym c.in-Join.is),
     )
 
-pub node-returns-in_ok-pushed_parts-in-Repeat-clause-found : goal.node-returns-in_ok-pushed_parts-in-Repeat-clause-found
+pub node-returns-in_ok-pushed_parts-in-Repeat-clause-found :
+    goal.node-returns-in_ok-pushed_parts-in-Repeat-clause-found
 unfolding node_of nodes_in divisors_of divisors_in
 node-returns-in_ok-pushed_parts-in-Repeat-clause-found t c =
-    let parts : parts_of (measured_trees c.deref-in-Repeat.result.now) ≡ row_parts (hidden-the_row-Measured-0 c.in-Repeat.parts) =
-    ap (λ es. parts_of (measured_trees es)) c.deref-in-Repeat.ensures.value ∙ sym (row_parts-hidden c.in-Repeat.parts) in (
-      ap (λ (e : Measured). (divisors_of (measured_tree e) c.args.to.width c.args.to.signed).end) c.in-Repeat.is
-          ∙ sym (ap (λ es. (divisors_in es).end) parts) ∙ c.in_ok-pushed_parts-in-Repeat.ensures.asked,
-      ap (λ k. flat.replication k (flat_parts (hidden-the_row-FExpr-0 c.in_ok-pushed_parts-in-Repeat.field-0))) c.from.ensures ∙ ap (flat.replication c.in-Repeat.count) (flat_row-hidden c.in_ok-pushed_parts-in-Repeat.field-0 ∙ c.in_ok-pushed_parts-in-Repeat.ensures.found ∙ ap nodes_in parts)
-          ∙ ap (λ (e : Measured). node_of (measured_tree e) c.args.to.width c.args.to.signed) (sym c.in-Repeat.is),
+    let parts : parts_of (measured_trees c.deref-in-Repeat.result.now) ≡
+    row_parts (hidden-the_row-Measured-0 c.in-Repeat.parts) =
+    ap (λ es. parts_of (measured_trees es)) c.deref-in-Repeat.ensures.value
+    ∙ sym (row_parts-hidden c.in-Repeat.parts) in (
+      ap (λ (e : Measured). (divisors_of (measured_tree e) c.args.to.width c.args.to.signed).end)
+          c.in-Repeat.is
+          ∙ sym (ap (λ es. (divisors_in es).end) parts)
+          ∙ c.in_ok-pushed_parts-in-Repeat.ensures.asked,
+      ap (λ k. flat.replication k
+          (flat_parts (hidden-the_row-FExpr-0 c.in_ok-pushed_parts-in-Repeat.field-0)))
+          c.from.ensures ∙ ap (flat.replication c.in-Repeat.count)
+          (flat_row-hidden c.in_ok-pushed_parts-in-Repeat.field-0
+          ∙ c.in_ok-pushed_parts-in-Repeat.ensures.found ∙ ap nodes_in parts)
+          ∙ ap (λ (e : Measured). node_of (measured_tree e) c.args.to.width c.args.to.signed)
+          (sym c.in-Repeat.is),
     )
 
 pub pushed_parts-loop-part-preserved : goal.pushed_parts-loop-part-preserved
 unfolding node_of nodes_in divisors_of divisors_in
 pushed_parts-loop-part-preserved t c = record {
-  asks = sym (passes_on (divisors_of (measured_tree c.part-item.result) (own_form (measured_tree c.part-item.result)).width (own_form (measured_tree c.part-item.result)).signed) _ (divisors_in (parts_of (measured_trees (drop (c.loop-part.part-index + 1) c.args.parts.now)))).end (sym (ap (λ w. (divisors_of (measured_tree c.part-item.result) w c.own_type.result.signed).end) c.own_type.ensures.width ∙ ap (λ x. (divisors_of (measured_tree c.part-item.result) (own_form (measured_tree c.part-item.result)).width x).end) c.own_type.ensures.signed) ∙ c.in_ok-pushed.ensures.found.0) refl)
-      ∙ sym (ap (λ (es : MeasuredTrees). (divisors_in es).end) (measured_split c.args.parts.now c.loop-part.part-index c.part-item.result c.loop-part-test.true c.part-item.is)) ∙ c.loop-part.invariant.asks;
-  gives = ap (λ fs. typed_before (typed_trees fs) (nodes_in (parts_of (measured_trees (drop (c.loop-part.part-index + 1) c.args.parts.now))))) c.in_ok-push.ensures.items
-      ∙ ap (λ ts. typed_before ts (nodes_in (parts_of (measured_trees (drop (c.loop-part.part-index + 1) c.args.parts.now))))) (forms_push c.loop-part.typed.items c.in_ok-pushed.field-0)
-      ∙ typed_push (typed_trees c.loop-part.typed.items) (typed_tree c.in_ok-pushed.field-0) (nodes_in (parts_of (measured_trees (drop (c.loop-part.part-index + 1) c.args.parts.now))))
-      ∙ ap (λ (x : TypedTree). typed_before (typed_trees c.loop-part.typed.items) (flat.more_parts x (nodes_in (parts_of (measured_trees (drop (c.loop-part.part-index + 1) c.args.parts.now)))))) (c.in_ok-pushed.ensures.found.1 ∙ ap (λ w. typed w c.own_type.result.signed (node_of (measured_tree c.part-item.result) w c.own_type.result.signed)) c.own_type.ensures.width ∙ ap (λ x. typed (own_form (measured_tree c.part-item.result)).width x (node_of (measured_tree c.part-item.result) (own_form (measured_tree c.part-item.result)).width x)) c.own_type.ensures.signed)
-      ∙ sym (ap (λ (es : MeasuredTrees). typed_before (typed_trees c.loop-part.typed.items) (nodes_in es)) (measured_split c.args.parts.now c.loop-part.part-index c.part-item.result c.loop-part-test.true c.part-item.is))
+  asks =
+      sym (passes_on (divisors_of (measured_tree c.part-item.result)
+      (own_form (measured_tree c.part-item.result)).width
+      (own_form (measured_tree c.part-item.result)).signed) _
+      (divisors_in (parts_of
+      (measured_trees (drop (c.loop-part.part-index + 1) c.args.parts.now)))).end
+      (sym
+      (ap (λ w. (divisors_of (measured_tree c.part-item.result) w c.own_type.result.signed).end)
+      c.own_type.ensures.width
+      ∙ ap (λ x.
+      (divisors_of (measured_tree c.part-item.result)
+      (own_form (measured_tree c.part-item.result)).width x).end) c.own_type.ensures.signed)
+      ∙ c.in_ok-pushed.ensures.found.0) refl)
+      ∙ sym (ap (λ (es : MeasuredTrees).
+      (divisors_in es).end)
+      (measured_split c.args.parts.now c.loop-part.part-index c.part-item.result
+      c.loop-part-test.true c.part-item.is)) ∙ c.loop-part.invariant.asks;
+  gives =
+      ap (λ fs. typed_before (typed_trees fs)
+      (nodes_in (parts_of (measured_trees (drop (c.loop-part.part-index + 1) c.args.parts.now)))))
+      c.in_ok-push.ensures.items
+      ∙ ap (λ ts. typed_before ts
+      (nodes_in (parts_of (measured_trees
+      (drop (c.loop-part.part-index + 1) c.args.parts.now)))))
+      (forms_push c.loop-part.typed.items c.in_ok-pushed.field-0)
+      ∙ typed_push (typed_trees c.loop-part.typed.items) (typed_tree c.in_ok-pushed.field-0)
+      (nodes_in (parts_of (measured_trees
+      (drop (c.loop-part.part-index + 1) c.args.parts.now))))
+      ∙ ap (λ (x : TypedTree).
+      typed_before (typed_trees c.loop-part.typed.items)
+      (flat.more_parts x (nodes_in
+      (parts_of (measured_trees (drop (c.loop-part.part-index + 1) c.args.parts.now))))))
+      (c.in_ok-pushed.ensures.found.1
+      ∙ ap (λ w. typed w c.own_type.result.signed
+      (node_of (measured_tree c.part-item.result) w c.own_type.result.signed))
+      c.own_type.ensures.width
+      ∙ ap (λ x. typed (own_form (measured_tree c.part-item.result)).width x
+      (node_of (measured_tree c.part-item.result)
+      (own_form (measured_tree c.part-item.result)).width x)) c.own_type.ensures.signed)
+      ∙ sym (ap (λ (es : MeasuredTrees).
+      typed_before (typed_trees c.loop-part.typed.items) (nodes_in es))
+      (measured_split c.args.parts.now c.loop-part.part-index c.part-item.result
+      c.loop-part-test.true c.part-item.is))
       ∙ c.loop-part.invariant.gives;
 }
 
@@ -77,6 +145,7 @@ pub pushed_parts-returns-clause-found : goal.pushed_parts-returns-clause-found
 unfolding node_of nodes_in
 pushed_parts-returns-clause-found t c =
     sym (typed_end (typed_trees c.loop-part.typed.items))
-    ∙ sym (ap (λ (es : MeasuredTrees). typed_before (typed_trees c.loop-part.typed.items) (nodes_in es))
+    ∙ sym (ap (λ (es : MeasuredTrees).
+    typed_before (typed_trees c.loop-part.typed.items) (nodes_in es))
     (measured_done c.args.parts.now c.loop-part.part-index c.loop-part-test.false))
     ∙ c.loop-part.invariant.gives

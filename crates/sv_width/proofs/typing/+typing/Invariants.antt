@@ -7,6 +7,9 @@ use Rattle.sv_width.proofs.typing.+typing.Given as goal
 
 abbrev pub invariant-pushed_parts-loop-part : goal.invariant-pushed_parts-loop-part
 invariant-pushed_parts-loop-part l = record {
-  asks : (divisors_in (parts_of (measured_trees (drop l.part-index l.parts)))).end ≡ (divisors_in (parts_of (measured_trees l.parts))).end;
-  gives : typed_before (typed_trees l.typed.items) (nodes_in (parts_of (measured_trees (drop l.part-index l.parts)))) ≡ nodes_in (parts_of (measured_trees l.parts));
+  asks : (divisors_in (parts_of (measured_trees (drop l.part-index l.parts)))).end ≡
+      (divisors_in (parts_of (measured_trees l.parts))).end;
+  gives : typed_before (typed_trees l.typed.items)
+      (nodes_in (parts_of (measured_trees (drop l.part-index l.parts)))) ≡
+      nodes_in (parts_of (measured_trees l.parts));
 }

@@ -1,7 +1,3 @@
-use Rattle.std.proofs.Common.{◌≡◌}
-use Rattle.std.specs.Prelude.{Result, Ok, Err}
-use Rattle.sv_num.specs.declared.vectors.Bits.{Bits}
-use Rattle.sv_num.specs.declared.faults.Fault.{Fault}
 use Rattle.sv_ast.specs.Views.{expression_tree}
 use Rattle.sv_width.specs.Scopes.{names_ahead}
 use Rattle.sv_width.proofs.Breaches.{ok_weaker, err_weaker}
@@ -10,8 +6,12 @@ use Rattle.sv_width.proofs.typing.constant.Goals as goal
 
 pub returns-clause-found : goal.returns-clause-found
 returns-clause-found c =
-    ok_weaker c.measured_constant.result _ _ (λ bits h. constant_found (names_ahead c.args.scope.now) (expression_tree c.args.expr.now) bits h) c.measured_constant.ensures.found
+    ok_weaker c.measured_constant.result _ _ (λ bits h.
+    constant_found (names_ahead c.args.scope.now) (expression_tree c.args.expr.now) bits h)
+    c.measured_constant.ensures.found
 
 pub returns-clause-broken : goal.returns-clause-broken
 returns-clause-broken c =
-    err_weaker c.measured_constant.result _ _ (λ f h. constant_broken (names_ahead c.args.scope.now) (expression_tree c.args.expr.now) f h) c.measured_constant.ensures.broken
+    err_weaker c.measured_constant.result _ _ (λ f h.
+    constant_broken (names_ahead c.args.scope.now) (expression_tree c.args.expr.now) f h)
+    c.measured_constant.ensures.broken

@@ -5,5 +5,6 @@ use Rattle.sv_width.proofs.scope.Scope.find.Goals as goal
 
 pub returns : goal.returns
 returns c =
-    c.copied.ensures ∙ c.get.ensures.value ∙ lookup_is_entry c.args.name.now c.self.inside.meanings.entries
+    c.copied.ensures ∙ c.get.ensures.value
+    ∙ lookup_is_entry c.args.name.now c.self.inside.meanings.entries
     ∙ ap (λ (k : Known). meaning_of k c.args.name.now) c.self.view_is

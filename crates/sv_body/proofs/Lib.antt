@@ -1,0 +1,8 @@
+pub mod TargetFacts
+pub mod CaseFacts
+pub mod SoundFacts
+pub mod ChainFacts
+pub mod CompleteFacts
+pub mod ItemFacts
+pub mod WalkFacts
+pub mod CaseWalks

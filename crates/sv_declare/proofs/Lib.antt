@@ -1,0 +1,10 @@
+pub mod Faults
+pub mod Lists
+pub mod Entries
+pub mod NameLemmas
+pub mod StepLemmas
+pub mod Courses
+pub mod SiteLemmas
+pub mod LabelEnds
+pub mod OverrideEnds
+pub mod SameSites

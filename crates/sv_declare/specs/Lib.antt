@@ -1,0 +1,5 @@
+pub mod Sites
+pub mod Ranges
+pub mod Steps
+pub mod Overridden
+pub mod Selectors

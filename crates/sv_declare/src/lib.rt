@@ -1,0 +1,21 @@
+//! Declarations, labels and overrides of one instance (IEEE 1364-2005, clauses 4.2, 4.10 and 12.2;
+//! SecVerilog, ASPLOS 2015).
+//!
+//! Each call takes a part of a module and answers as that part of the walk ends: with what it
+//! found, or with the first rule that is broken (`sv_walk`, `specs/Declarations.antt`,
+//! `specs/LabelSteps.antt` and `specs/Overrides.antt`).
+#![tactic(auto)]
+
+mod declarations;
+mod labelling;
+mod overriding;
+mod parameters;
+mod ranges;
+mod refusals;
+mod signals;
+mod sites;
+
+pub use declarations::{body, header};
+pub use labelling::labels;
+pub use overriding::overrides;
+pub use sites::{Declared, Header, Site, Tables};

@@ -1,5 +1,7 @@
 -- The walk of a declared lattice, step by step.
-use Rattle.std.proofs.Common.{◌≡◌, ℕ, zero, suc, ◌<◌, ◌≤◌, Bool, true, false, ◌&&◌, List, [], ◌∷◌, ◌++◌, length, map, position, Option, Some, None, refl, sym, ap, ◌∙◌, arith}
+use Rattle.std.proofs.Common.{◌≡◌, ℕ, zero, suc, ◌<◌, ◌≤◌, Bool, true, false, ◌&&◌, List, [], ◌∷◌}
+use Rattle.std.proofs.Common.{◌++◌, length, map, position, Option, Some, None, refl, sym, ap, ◌∙◌}
+use Rattle.std.proofs.Common.{arith}
 use Rattle.std.specs.Prelude.{Result, Ok, Err, nat_le, unwrap_or}
 use Rattle.std.specs.List.{All}
 use Rattle.std.specs.Str.{bytes_eq}
@@ -12,7 +14,9 @@ use Rattle.sv_ast.specs.Tree.{PlacedName, PairTree, LatticeTree}
 use Rattle.sv_ast.specs.Views.{placed_name, pair_tree}
 use Rattle.sv_walk.specs.Walks.{Step, Walk, ask, ◌>>=◌}
 use Rattle.sv_walk.specs.Rules.{lattice_size}
-use Rattle.sv_walk.specs.Lattices.{Order, point_questions, pair_questions, point_names, numbered_pair, table_of, declared_order, checked_order, lattice_walk}
+use Rattle.sv_walk.specs.Lattices.{Order, point_questions, pair_questions, point_names}
+use Rattle.sv_walk.specs.Lattices.{numbered_pair, table_of, declared_order, checked_order}
+use Rattle.sv_walk.specs.Lattices.{lattice_walk}
 use Rattle.sv_walk.proofs.WalkLemmas.{end_after, end_broken}
 use Rattle.sv_width.specs.Answers.{IsBreach}
 use Rattle.sv_elab.specs.Earliest.{earlier, earliest, names_of, name_steps}
@@ -20,7 +24,8 @@ use Rattle.sv_elab.proofs.EarliestLemmas.{end_at, ordered_end, earliest_append}
 use Rattle.sv_elab.proofs.NameLemmas.{KnowSame}
 
 -- what breaks one walk breaks another
-pub breach_on : {X Y : Type 0} (f : Fault) (d : Result X Step) (e : Result Y Step) → ((s : Step) → d ≡ Err s → e ≡ Err s)
+pub breach_on : {X Y : Type 0} (f : Fault) (d : Result X Step) (e : Result Y Step)
+    → ((s : Step) → d ≡ Err s → e ≡ Err s)
     → IsBreach d f → IsBreach e f
 breach_on (Rule r) d e on h = on _ h
 breach_on OutOfMemory d e on h = tt
@@ -47,61 +52,81 @@ module _ (t : LatticeTree) where
   pub size_end : count_test t ≡ false → (lattice_walk (Some t)).end ≡ Err (lattice_size t.place)
   size_end h =
       ap (λ (w : Walk Order). w.end) walk_is
-      ∙ end_broken (ask (count_test t) (lattice_size t.place)) rest (lattice_size t.place) (asked_err (count_test t) _ h)
+      ∙ end_broken (ask (count_test t) (lattice_size t.place)) rest (lattice_size t.place)
+      (asked_err (count_test t) _ h)
 
   counted : count_test t ≡ true → (lattice_walk (Some t)).end ≡ (rest tt).end
   counted h =
       ap (λ (w : Walk Order). w.end) walk_is
       ∙ end_after (ask (count_test t) (lattice_size t.place)) rest tt (asked_ok (count_test t) _ h)
 
-  pub names_end : count_test t ≡ true → (s : Step) → (name_steps t).end ≡ Err s → (lattice_walk (Some t)).end ≡ Err s
+  pub names_end : count_test t ≡ true → (s : Step) → (name_steps t).end ≡ Err s →
+      (lattice_walk (Some t)).end ≡ Err s
   unfolding rest
-  names_end h s e = counted h ∙ end_broken (name_steps t) (λ _. checked_order t.place (declared_order t)) s e
+  names_end h s e =
+      counted h ∙ end_broken (name_steps t) (λ _. checked_order t.place (declared_order t)) s e
 
   pub order_end : count_test t ≡ true → (name_steps t).end ≡ Ok tt
       → (lattice_walk (Some t)).end ≡ (checked_order t.place (declared_order t)).end
   unfolding rest
-  order_end h e = counted h ∙ end_after (name_steps t) (λ _. checked_order t.place (declared_order t)) tt e
+  order_end h e =
+      counted h ∙ end_after (name_steps t) (λ _. checked_order t.place (declared_order t)) tt e
 
 -- ---- names
 
-pub point_names_are : (ps : List (List ℕ × Place)) → map (λ (p : PlacedName). p.name) (map placed_name ps) ≡ names_of ps
+pub point_names_are : (ps : List (List ℕ × Place)) →
+    map (λ (p : PlacedName). p.name) (map placed_name ps) ≡ names_of ps
 point_names_are [] = refl
 point_names_are (p ∷ ps) = ap (λ ns. p.0 ∷ ns) (point_names_are ps)
 
-pairs_along : (xs ys : List (List ℕ)) → KnowSame xs ys → (ps : List PairTree) → pair_questions xs ps ≡ pair_questions ys ps
+pairs_along : (xs ys : List (List ℕ)) → KnowSame xs ys → (ps : List PairTree) →
+    pair_questions xs ps ≡ pair_questions ys ps
 pairs_along xs ys same [] = refl
-pairs_along xs ys same (p ∷ ps) = rw (same p.lower.name, same p.upper.name, pairs_along xs ys same ps) refl
+pairs_along xs ys same (p ∷ ps) =
+    rw (same p.lower.name, same p.upper.name, pairs_along xs ys same ps) refl
 
 -- where the questions about names end
-pub asked_names : (place : Place) (points : List (List ℕ × Place)) (pairs : List (List ℕ × Place × List ℕ × Place))
+pub asked_names : (place : Place) (points : List (List ℕ × Place))
+    (pairs : List (List ℕ × Place × List ℕ × Place))
     (keys : List (List ℕ)) (w v : Option Step)
     → w ≡ earliest (point_questions [] (map placed_name points)) → KnowSame keys (names_of points)
     → v ≡ earlier w (earliest (pair_questions keys (map pair_tree pairs)))
-    → (name_steps (record { place = place; points = map placed_name points; pairs = map pair_tree pairs })).end ≡ end_at v
+    → (name_steps (record {
+      place = place;
+      points = map placed_name points;
+      pairs = map pair_tree pairs;
+    })).end ≡ end_at v
 asked_names place points pairs keys w v w_is known v_is =
     let own = point_questions [] (map placed_name points) in
     let names = map (λ (p : PlacedName). p.name) (map placed_name points) in
     ordered_end (own ++ pair_questions names (map pair_tree pairs))
     ∙ ap end_at (earliest_append own (pair_questions names (map pair_tree pairs))
-    ∙ ap (λ (o : Option Step). earlier o (earliest (pair_questions names (map pair_tree pairs)))) (sym w_is)
-    ∙ ap (λ ns. earlier w (earliest (pair_questions ns (map pair_tree pairs)))) (point_names_are points)
-    ∙ ap (λ qs. earlier w (earliest qs)) (sym (pairs_along keys (names_of points) known (map pair_tree pairs)))
+    ∙ ap (λ (o : Option Step). earlier o (earliest (pair_questions names (map pair_tree pairs))))
+    (sym w_is)
+    ∙ ap (λ ns. earlier w (earliest (pair_questions ns (map pair_tree pairs))))
+    (point_names_are points)
+    ∙ ap (λ qs. earlier w (earliest qs))
+    (sym (pairs_along keys (names_of points) known (map pair_tree pairs)))
     ∙ sym v_is)
 
 -- ---- numbers
 
-position_below : (p : List ℕ → Bool) (keys : List (List ℕ)) → 1 ≤ length keys → unwrap_or (position p keys) 0 < length keys
+position_below : (p : List ℕ → Bool) (keys : List (List ℕ)) → 1 ≤ length keys →
+    unwrap_or (position p keys) 0 < length keys
 position_below p keys some = by (position p keys) refl
   where
     by : (o : Option ℕ) → position p keys ≡ o → unwrap_or o 0 < length keys
     by None e = omega arith
     by (Some i) e = (position-Some p keys i [] e).0
 
-pub known_pairs : (keys : List (List ℕ)) → 1 ≤ length keys → (ps : List PairTree) → All (IsKnown (length keys)) (map (numbered_pair keys) ps)
+pub known_pairs : (keys : List (List ℕ)) → 1 ≤ length keys → (ps : List PairTree) →
+    All (IsKnown (length keys)) (map (numbered_pair keys) ps)
 known_pairs keys some [] k d h = absurd (omega arith)
-known_pairs keys some (p ∷ ps) zero d h =
-    (position_below (bytes_eq p.lower.name) keys some, position_below (bytes_eq p.upper.name) keys some)
+known_pairs keys some (p ∷ ps) zero d h = (
+  position_below (bytes_eq p.lower.name) keys some,
+  position_below (bytes_eq p.upper.name)
+      keys some,
+)
 known_pairs keys some (p ∷ ps) (suc k) d h = known_pairs keys some ps k d (omega arith)
 
 pub order_is : (t : LatticeTree) (keys : List (List ℕ)) (ps : List (ℕ × ℕ)) → keys ≡ point_names t
@@ -109,5 +134,10 @@ pub order_is : (t : LatticeTree) (keys : List (List ℕ)) (ps : List (ℕ × ℕ
     → (checked_order t.place (record { points = keys; table = table_of (length keys) ps })).end
     ≡ (checked_order t.place (declared_order t)).end
 order_is t keys ps k p =
-    ap (λ qs. (checked_order t.place (record { points = keys; table = table_of (length keys) qs })).end) p
-    ∙ ap (λ ns. (checked_order t.place (record { points = ns; table = table_of (length ns) (map (numbered_pair ns) t.pairs) })).end) k
+    ap (λ qs.
+    (checked_order t.place (record { points = keys; table = table_of (length keys) qs })).end) p
+    ∙ ap (λ ns.
+    (checked_order t.place (record {
+      points = ns;
+      table = table_of (length ns) (map (numbered_pair ns) t.pairs);
+    })).end) k

@@ -1,5 +1,6 @@
 -- Where the walk of a lattice ends, by what its declared pairs say.
-use Rattle.std.proofs.Common.{◌≡◌, ℕ, zero, suc, ◌+◌, ◌^◌, ◌<◌, ◌≤◌, ◌↔◌, true, List, [], length, fold, get_or, refl, sym, ap, ◌∙◌, subst, arith}
+use Rattle.std.proofs.Common.{◌≡◌, ℕ, zero, suc, ◌+◌, ◌^◌, ◌<◌, ◌≤◌, ◌↔◌, true, List, [], length}
+use Rattle.std.proofs.Common.{fold, get_or, refl, sym, ap, ◌∙◌, subst, arith}
 use Rattle.std.specs.Prelude.{Ok, Err, slice_index_or, bit_or}
 use Rattle.std.specs.Cmp.{both_ways}
 use Rattle.std.specs.List.{All, range_with_len}
@@ -8,21 +9,27 @@ use Rattle.std.proofs.lemmas.List.{same_lists, get_or_default}
 use Rattle.std.proofs.lemmas.List.FromFn.{get_or-map-range_with_len}
 use Rattle.std.proofs.lemmas.Nat.{or_lt, pow_below}
 use Rattle.sv_num.specs.declared.faults.Place.{Place}
-use Rattle.sv_lattice.specs.Flows.{Flows, EachPair, IsKnown, IsPointCount, IsFaultOf, IsFirstUnknown, IsApart, HasJoin, HasMeet, IsLattice, IsFirstWithout}
+use Rattle.sv_lattice.specs.Flows.{Flows, EachPair, IsKnown, IsPointCount, IsFaultOf}
+use Rattle.sv_lattice.specs.Flows.{IsFirstUnknown, IsApart, HasJoin, HasMeet, IsLattice}
+use Rattle.sv_lattice.specs.Flows.{IsFirstWithout}
 use Rattle.sv_lattice.specs.Tables.{flow_test, FlowsTo, IsWithin, IsTableOf}
-use Rattle.sv_lattice.specs.declared.points.LatticeFault.TheVariants.{Size, Unknown, Circle, NoJoin, NoMeet}
+use Rattle.sv_lattice.specs.declared.points.LatticeFault.TheVariants.{Size, Unknown, Circle, NoJoin}
+use Rattle.sv_lattice.specs.declared.points.LatticeFault.TheVariants.{NoMeet}
 use Rattle.sv_lattice.proofs.BoundLemmas.{turned_round, apart_along, join_along, meet_along}
 use Rattle.sv_lattice.proofs.OrderLemmas.{same_meets}
 use Rattle.sv_walk.specs.Walks.{Step, Steps, Walk, done, ◌>>=◌}
 use Rattle.sv_walk.specs.Rules.{circle, no_join, no_meet}
-use Rattle.sv_walk.specs.Lattices.{Order, are_apart, have_join, flowing_to, turned, table_of, pair_steps, order_steps, checked_order}
+use Rattle.sv_walk.specs.Lattices.{Order, are_apart, have_join, flowing_to, turned, table_of}
+use Rattle.sv_walk.specs.Lattices.{pair_steps, order_steps, checked_order}
 use Rattle.sv_walk.proofs.LatticeLemmas.{table_is_exact}
 use Rattle.sv_walk.proofs.WalkLemmas.{end_after, end_broken}
 use Rattle.sv_elab.proofs.PairSteps.{pairs_done, pairs_broken}
-use Rattle.sv_elab.proofs.LatticeTests.{same_sets, gather, apart_test, join_test, turned_length, turned_test}
+use Rattle.sv_elab.proofs.LatticeTests.{same_sets, gather, apart_test, join_test, turned_length}
+use Rattle.sv_elab.proofs.LatticeTests.{turned_test}
 
 -- two tables of the same pairs are the same
-pub one_table : (n : ℕ) (pairs : List (ℕ × ℕ)) (t u : List ℕ) → IsTableOf n pairs t → IsTableOf n pairs u → t ≡ u
+pub one_table : (n : ℕ) (pairs : List (ℕ × ℕ)) (t u : List ℕ) → IsTableOf n pairs t →
+    IsTableOf n pairs u → t ≡ u
 one_table n pairs t u of_t of_u = same_lists t u (of_t.size ∙ sym of_u.size) rows
   where
     row : (k : ℕ) → k < n → get_or t k 0 ≡ get_or u k 0
@@ -49,8 +56,10 @@ turned_within : (table : List ℕ) → IsWithin (length (turned table)) (turned 
 turned_within table k p =
     let lt : k < length table = subst (λ n. k < n) (turned_length table) p in
     subst (λ n. get_or (turned table) k 0 < 2 ^ n) (sym (turned_length table))
-    (subst (λ row. row < 2 ^ length table) (sym (get_or-map-range_with_len (flowing_to table) 0 (length table) k k 0 lt (omega arith)))
-    (gathered_low table k (length table) 0 (length table) 0 (omega arith) (omega (arith, pow_below 0 (length table) (omega arith)))))
+    (subst (λ row. row < 2 ^ length table)
+    (sym (get_or-map-range_with_len (flowing_to table) 0 (length table) k k 0 lt (omega arith)))
+    (gathered_low table k (length table) 0 (length table) 0 (omega arith)
+    (omega (arith, pow_below 0 (length table) (omega arith)))))
 
 -- the name of a point
 abbrev pub named : List (List ℕ) → ℕ → List ℕ
@@ -61,30 +70,38 @@ iff_then (f, g) (h, k) = (λ x. h (f x), λ x. g (k x))
 
 -- ---- the tests, by the pairs
 
-module _ (table : List ℕ) (pairs : List (ℕ × ℕ)) (of_pairs : IsTableOf (length table) pairs table) where
-  apart_pairs : EachPair (length table) (λ a b. (are_apart table a b ≡ true) ↔ IsApart (Flows pairs) a b)
+module _ (table : List ℕ) (pairs : List (ℕ × ℕ))
+    (of_pairs : IsTableOf (length table) pairs table) where
+  apart_pairs : EachPair (length table) (λ a b.
+      (are_apart table a b ≡ true) ↔ IsApart (Flows pairs) a b)
   apart_pairs a b p q = iff_then (apart_test table a b) (
     apart_along (length table) (FlowsTo table) (Flows pairs) of_pairs.exact a b p q,
     apart_along (length table) (Flows pairs) (FlowsTo table) (turned_round of_pairs.exact) a b p q,
   )
 
-  join_pairs : EachPair (length table) (λ a b. (have_join table a b ≡ true) ↔ HasJoin (length table) (Flows pairs) a b)
+  join_pairs : EachPair (length table) (λ a b.
+      (have_join table a b ≡ true) ↔ HasJoin (length table) (Flows pairs) a b)
   join_pairs a b p q = iff_then (join_test table of_pairs.within a b p q) (
     join_along (length table) (FlowsTo table) (Flows pairs) of_pairs.exact a b p q,
     join_along (length table) (Flows pairs) (FlowsTo table) (turned_round of_pairs.exact) a b p q,
   )
 
-  turned_pairs : EachPair (length table) (λ a b. (have_join (turned table) a b ≡ true) ↔ HasJoin (length table) (FlowsTo (turned table)) a b)
+  turned_pairs : EachPair (length table) (λ a b.
+      (have_join (turned table) a b ≡ true) ↔ HasJoin (length table) (FlowsTo (turned table)) a b)
   turned_pairs =
-      subst (λ n. EachPair n (λ a b. (have_join (turned table) a b ≡ true) ↔ HasJoin n (FlowsTo (turned table)) a b)) (turned_length table)
+      subst (λ n. EachPair n (λ a b.
+      (have_join (turned table) a b ≡ true) ↔
+      HasJoin n (FlowsTo (turned table)) a b)) (turned_length table)
       (λ a b p q. join_test (turned table) (turned_within table) a b p q)
 
-  meet_pairs : EachPair (length table) (λ a b. (have_join (turned table) a b ≡ true) ↔ HasMeet (length table) (Flows pairs) a b)
+  meet_pairs : EachPair (length table) (λ a b.
+      (have_join (turned table) a b ≡ true) ↔ HasMeet (length table) (Flows pairs) a b)
   meet_pairs a b p q =
       iff_then (turned_pairs a b p q)
       (iff_then (same_meets (length table) table (turned table) (turned_test table) a b p q) (
         meet_along (length table) (FlowsTo table) (Flows pairs) of_pairs.exact a b p q,
-        meet_along (length table) (Flows pairs) (FlowsTo table) (turned_round of_pairs.exact) a b p q,
+        meet_along (length table) (Flows pairs) (FlowsTo table) (turned_round of_pairs.exact)
+            a b p q,
       ))
 
 -- ---- the end of the walk
@@ -94,16 +111,24 @@ module _ (p : Place) (points : List (List ℕ)) (pairs : List (ℕ × ℕ)) (tab
   abbrev pub order : Order
   order = record { points = points; table = table }
 
-  apart_same : EachPair (length points) (λ a b. (are_apart table a b ≡ true) ↔ IsApart (Flows pairs) a b)
-  apart_same = subst (λ n. EachPair n (λ a b. (are_apart table a b ≡ true) ↔ IsApart (Flows pairs) a b)) size
+  apart_same : EachPair (length points) (λ a b.
+      (are_apart table a b ≡ true) ↔ IsApart (Flows pairs) a b)
+  apart_same =
+      subst (λ n. EachPair n (λ a b. (are_apart table a b ≡ true) ↔ IsApart (Flows pairs) a b)) size
       (apart_pairs table pairs of_pairs)
 
-  join_same : EachPair (length points) (λ a b. (have_join table a b ≡ true) ↔ HasJoin (length points) (Flows pairs) a b)
-  join_same = subst (λ n. EachPair n (λ a b. (have_join table a b ≡ true) ↔ HasJoin n (Flows pairs) a b)) size
+  join_same : EachPair (length points) (λ a b.
+      (have_join table a b ≡ true) ↔ HasJoin (length points) (Flows pairs) a b)
+  join_same =
+      subst (λ n. EachPair n (λ a b. (have_join table a b ≡ true) ↔ HasJoin n (Flows pairs) a b))
+      size
       (join_pairs table pairs of_pairs)
 
-  meet_same : EachPair (length points) (λ a b. (have_join (turned table) a b ≡ true) ↔ HasMeet (length points) (Flows pairs) a b)
-  meet_same = subst (λ n. EachPair n (λ a b. (have_join (turned table) a b ≡ true) ↔ HasMeet n (Flows pairs) a b)) size
+  meet_same : EachPair (length points) (λ a b.
+      (have_join (turned table) a b ≡ true) ↔ HasMeet (length points) (Flows pairs) a b)
+  meet_same =
+      subst (λ n. EachPair n (λ a b.
+      (have_join (turned table) a b ≡ true) ↔ HasMeet n (Flows pairs) a b)) size
       (meet_pairs table pairs of_pairs)
 
   aparts : Steps
@@ -125,17 +150,25 @@ module _ (p : Place) (points : List (List ℕ)) (pairs : List (ℕ × ℕ)) (tab
 
   joins_done : EachPair (length points) (HasJoin (length points) (Flows pairs)) → joins.end ≡ Ok tt
   unfolding joins
-  joins_done = pairs_done (have_join table) (no_join p) points (HasJoin (length points) (Flows pairs)) join_same
+  joins_done =
+      pairs_done (have_join table) (no_join p) points (HasJoin (length points) (Flows pairs))
+      join_same
 
   meets_done : EachPair (length points) (HasMeet (length points) (Flows pairs)) → meets.end ≡ Ok tt
   unfolding meets
-  meets_done = pairs_done (have_join (turned table)) (no_meet p) points (HasMeet (length points) (Flows pairs)) meet_same
+  meets_done =
+      pairs_done (have_join (turned table)) (no_meet p) points
+      (HasMeet (length points) (Flows pairs)) meet_same
 
   -- the three, one after another
-  stop : (s : Step) → (aparts >>= λ _. joins >>= λ _. meets).end ≡ Err s → (checked_order p order).end ≡ Err s
-  stop s h = ap (λ (w : Walk Order). w.end) three ∙ end_broken (aparts >>= λ _. joins >>= λ _. meets) (λ _. done order) s h
+  stop : (s : Step) → (aparts >>= λ _. joins >>= λ _. meets).end ≡ Err s →
+      (checked_order p order).end ≡ Err s
+  stop s h =
+      ap (λ (w : Walk Order). w.end) three ∙ end_broken (aparts >>= λ _. joins >>= λ _. meets) (λ _.
+      done order) s h
 
-  pub lattice_done : IsLattice (length points) (Flows pairs) → (checked_order p order).end ≡ Ok order
+  pub lattice_done : IsLattice (length points) (Flows pairs) →
+      (checked_order p order).end ≡ Ok order
   lattice_done lattice =
       ap (λ (w : Walk Order). w.end) three
       ∙ end_after (aparts >>= λ _. joins >>= λ _. meets) (λ _. done order) tt
@@ -147,7 +180,8 @@ module _ (p : Place) (points : List (List ℕ)) (pairs : List (ℕ × ℕ)) (tab
   unfolding aparts
   circle_broken a b first =
       stop _ (end_broken aparts (λ _. joins >>= λ _. meets) _
-      (pairs_broken (are_apart table) (circle p) points (IsApart (Flows pairs)) apart_same a b first))
+      (pairs_broken (are_apart table) (circle p) points (IsApart (Flows pairs)) apart_same a
+      b first))
 
   pub join_broken : (a b : ℕ) → EachPair (length points) (IsApart (Flows pairs))
       → IsFirstWithout (length points) (HasJoin (length points) (Flows pairs)) a b
@@ -156,7 +190,8 @@ module _ (p : Place) (points : List (List ℕ)) (pairs : List (ℕ × ℕ)) (tab
   join_broken a b apart first =
       stop _ (end_after aparts (λ _. joins >>= λ _. meets) tt (apart_done apart)
       ∙ end_broken joins (λ _. meets) _
-      (pairs_broken (have_join table) (no_join p) points (HasJoin (length points) (Flows pairs)) join_same a b first))
+      (pairs_broken (have_join table) (no_join p) points (HasJoin (length points) (Flows pairs))
+      join_same a b first))
 
   pub meet_broken : (a b : ℕ) → EachPair (length points) (IsApart (Flows pairs))
       → EachPair (length points) (HasJoin (length points) (Flows pairs))
@@ -166,27 +201,32 @@ module _ (p : Place) (points : List (List ℕ)) (pairs : List (ℕ × ℕ)) (tab
   meet_broken a b apart joined first =
       stop _ (end_after aparts (λ _. joins >>= λ _. meets) tt (apart_done apart)
       ∙ end_after joins (λ _. meets) tt (joins_done joined)
-      ∙ pairs_broken (have_join (turned table)) (no_meet p) points (HasMeet (length points) (Flows pairs)) meet_same a b first)
+      ∙ pairs_broken (have_join (turned table)) (no_meet p) points
+      (HasMeet (length points) (Flows pairs)) meet_same a b first)
 
 -- ---- likewise for the table of the walk, by what building the lattice says
 
-module _ (p : Place) (points : List (List ℕ)) (pairs : List (ℕ × ℕ)) (known : All (IsKnown (length points)) pairs) where
+module _ (p : Place) (points : List (List ℕ)) (pairs : List (ℕ × ℕ))
+    (known : All (IsKnown (length points)) pairs) where
   abbrev pub walked : Walk Order
   walked = checked_order p (record { points = points; table = table_of (length points) pairs })
 
   exact : IsTableOf (length points) pairs (table_of (length points) pairs)
   exact = table_is_exact (length points) pairs known
 
-  own_exact : IsTableOf (length (table_of (length points) pairs)) pairs (table_of (length points) pairs)
+  own_exact : IsTableOf (length (table_of (length points) pairs)) pairs
+      (table_of (length points) pairs)
   own_exact = subst (λ m. IsTableOf m pairs (table_of (length points) pairs)) (sym exact.size) exact
 
-  pub found_end : (n : ℕ) (table : List ℕ) → n ≡ length points → IsLattice n (Flows pairs) → IsTableOf n pairs table
+  pub found_end : (n : ℕ) (table : List ℕ) → n ≡ length points → IsLattice n (Flows pairs)
+      → IsTableOf n pairs table
       → walked.end ≡ Ok (record { points = points; table = table })
   found_end n table same lattice of_pairs =
       lattice_done p points pairs (table_of (length points) pairs) exact.size own_exact
       (subst (λ m. IsLattice m (Flows pairs)) same lattice)
       ∙ ap (λ t. Ok (record { points = points; table = t }))
-      (one_table (length points) pairs (table_of (length points) pairs) table exact (subst (λ m. IsTableOf m pairs table) same of_pairs))
+      (one_table (length points) pairs (table_of (length points) pairs) table exact
+      (subst (λ m. IsTableOf m pairs table) same of_pairs))
 
   pub circle_end : (n a b : ℕ) → n ≡ length points → IsFaultOf n pairs (Circle a b)
       → walked.end ≡ Err (circle p (named points a) (named points b))
@@ -209,10 +249,13 @@ module _ (p : Place) (points : List (List ℕ)) (pairs : List (ℕ × ℕ)) (kno
       (subst (λ m. EachPair m (HasJoin m (Flows pairs))) same fault.2)
       (subst (λ m. IsFirstWithout m (HasMeet m (Flows pairs)) a b) same fault.3)
 
-  pub never_size : (n : ℕ) → n ≡ length points → IsPointCount (length points) → IsFaultOf n pairs Size → ⊥
+  pub never_size : (n : ℕ) → n ≡ length points → IsPointCount (length points) →
+      IsFaultOf n pairs Size → ⊥
   never_size n same count fault = fault (subst IsPointCount (sym same) count)
 
   pub never_unknown : (n i : ℕ) → n ≡ length points → IsFaultOf n pairs (Unknown i) → ⊥
   never_unknown n i same fault =
       let first : IsFirstUnknown n pairs i = fault.1 in
-      first.unknown (0, 0) (subst (λ m. IsKnown m (slice_index_or pairs i (0, 0))) (sym same) (known i (0, 0) first.is_pair))
+      first.unknown (0, 0)
+      (subst (λ m. IsKnown m (slice_index_or pairs i (0, 0))) (sym same)
+      (known i (0, 0) first.is_pair))

@@ -7,3 +7,14 @@ pub mod DeclaredLattices
 pub mod ModuleLemmas
 pub mod MapLemmas
 pub mod MapEnds
+pub mod PlaceLemmas
+pub mod LinkEnds
+pub mod InstanceEnds
+pub mod CountLemmas
+pub mod InstanceCode
+pub mod NestLemmas
+pub mod OpenedEnds
+pub mod TextEnds
+pub mod TextLemmas
+pub mod LeastLemmas
+pub mod BuiltLemmas

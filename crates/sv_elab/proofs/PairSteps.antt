@@ -1,5 +1,6 @@
 -- Where a walk over pairs of points ends.
-use Rattle.std.proofs.Common.{◌≡◌, ℕ, zero, suc, ◌+◌, ◌<◌, ◌≤◌, ◌⊎◌, inl, inr, ◌↔◌, Bool, true, false, List, [], ◌∷◌, ◌++◌, length, map, refl, sym, ◌∙◌, subst, arith}
+use Rattle.std.proofs.Common.{◌≡◌, ℕ, zero, suc, ◌+◌, ◌<◌, ◌≤◌, ◌⊎◌, inl, inr, ◌↔◌, Bool, true}
+use Rattle.std.proofs.Common.{false, List, [], ◌∷◌, ◌++◌, length, map, refl, sym, ◌∙◌, subst, arith}
 use Rattle.std.specs.Prelude.{Result, Ok, Err, flat_map, slice_index_or}
 use Rattle.std.specs.List.{range_with_len}
 use Rattle.std.proofs.lemmas.Bool.{cases_eq, false_from_ne_true}
@@ -24,23 +25,27 @@ module _ {X : Type 0} (f : X → Steps) where
   unfolding each
   each_none = refl
 
-  append_after : (xs ys : List X) → (each f xs).end ≡ Ok tt → (each f (xs ++ ys)).end ≡ (each f ys).end
+  append_after : (xs ys : List X) → (each f xs).end ≡ Ok tt →
+      (each f (xs ++ ys)).end ≡ (each f ys).end
   unfolding each
   append_after [] ys h = refl
   append_after (x ∷ xs) ys h = by (f x).end refl h (λ k. append_after xs ys k)
     where
-      by : (r : Result (Unit {0}) Step) → (f x).end ≡ r → (then_walk (f x).passed r (λ _. each f xs)).end ≡ Ok tt
+      by : (r : Result (Unit {0}) Step) → (f x).end ≡ r
+          → (then_walk (f x).passed r (λ _. each f xs)).end ≡ Ok tt
           → ((each f xs).end ≡ Ok tt → (each f (xs ++ ys)).end ≡ (each f ys).end)
           → (each f (x ∷ (xs ++ ys))).end ≡ (each f ys).end
       by (Ok u) e k rest = each_after x (xs ++ ys) e ∙ rest k
       by (Err s) e k rest = absurd (cc k)
 
-  append_broken : (xs ys : List X) (s : Step) → (each f xs).end ≡ Err s → (each f (xs ++ ys)).end ≡ Err s
+  append_broken : (xs ys : List X) (s : Step) → (each f xs).end ≡ Err s →
+      (each f (xs ++ ys)).end ≡ Err s
   unfolding each
   append_broken [] ys s h = absurd (cc h)
   append_broken (x ∷ xs) ys s h = by (f x).end refl h (λ k. append_broken xs ys s k)
     where
-      by : (r : Result (Unit {0}) Step) → (f x).end ≡ r → (then_walk (f x).passed r (λ _. each f xs)).end ≡ Err s
+      by : (r : Result (Unit {0}) Step) → (f x).end ≡ r
+          → (then_walk (f x).passed r (λ _. each f xs)).end ≡ Err s
           → ((each f xs).end ≡ Err s → (each f (xs ++ ys)).end ≡ Err s)
           → (each f (x ∷ (xs ++ ys))).end ≡ Err s
       by (Ok u) e k rest = each_after x (xs ++ ys) e ∙ rest k
@@ -56,16 +61,23 @@ module _ {X : Type 0} (f : X → Steps) where
         each_after (g c) (map g (range_with_len (c + 1) m)) (h c (omega arith) (omega arith))
         ∙ row_done (c + 1) m (λ b p q. h b (omega arith) (omega arith))
 
-    pub row_broken : (c m b : ℕ) (s : Step) → c ≤ b → b < c + m → ((j : ℕ) → c ≤ j → j < b → (f (g j)).end ≡ Ok tt)
+    pub row_broken : (c m b : ℕ) (s : Step) → c ≤ b → b < c + m
+        → ((j : ℕ) → c ≤ j → j < b → (f (g j)).end ≡ Ok tt)
         → (f (g b)).end ≡ Err s → (each f (map g (range_with_len c m))).end ≡ Err s
     row_broken c zero b s p q before h = absurd (omega arith)
-    row_broken c (suc m) b s p q before h = by (cases_eq c b) (λ lt. row_broken (c + 1) m b s lt (omega arith) (λ j u v. before j (omega arith) v) h)
+    row_broken c (suc m) b s p q before h =
+        by (cases_eq c b) (λ lt.
+        row_broken (c + 1) m b s lt (omega arith) (λ j u v. before j (omega arith) v) h)
       where
-        by : (c ≡ b) ⊎ (c ≡ b → ⊥) → (c + 1 ≤ b → (each f (map g (range_with_len (c + 1) m))).end ≡ Err s)
+        by : (c ≡ b) ⊎ (c ≡ b → ⊥)
+            → (c + 1 ≤ b → (each f (map g (range_with_len (c + 1) m))).end ≡ Err s)
             → (each f (map g (range_with_len c (suc m)))).end ≡ Err s
-        by (inl e) rest = each_broken (g c) (map g (range_with_len (c + 1) m)) s (subst (λ k. (f (g k)).end ≡ Err s) (sym e) h)
+        by (inl e) rest =
+            each_broken (g c) (map g (range_with_len (c + 1) m)) s
+            (subst (λ k. (f (g k)).end ≡ Err s) (sym e) h)
         by (inr ne) rest =
-            each_after (g c) (map g (range_with_len (c + 1) m)) (before c (omega arith) (omega arith)) ∙ rest (omega arith)
+            each_after (g c) (map g (range_with_len (c + 1) m))
+            (before c (omega arith) (omega arith)) ∙ rest (omega arith)
 
   -- ---- rows of rows
 
@@ -77,17 +89,23 @@ module _ {X : Type 0} (f : X → Steps) where
         append_after (g c) (flat_map g (range_with_len (c + 1) m)) (h c (omega arith) (omega arith))
         ∙ rows_done (c + 1) m (λ a p q. h a (omega arith) (omega arith))
 
-    pub rows_broken : (c m a : ℕ) (s : Step) → c ≤ a → a < c + m → ((j : ℕ) → c ≤ j → j < a → (each f (g j)).end ≡ Ok tt)
+    pub rows_broken : (c m a : ℕ) (s : Step) → c ≤ a → a < c + m
+        → ((j : ℕ) → c ≤ j → j < a → (each f (g j)).end ≡ Ok tt)
         → (each f (g a)).end ≡ Err s → (each f (flat_map g (range_with_len c m))).end ≡ Err s
     rows_broken c zero a s p q before h = absurd (omega arith)
-    rows_broken c (suc m) a s p q before h = by (cases_eq c a) (λ lt. rows_broken (c + 1) m a s lt (omega arith) (λ j u v. before j (omega arith) v) h)
+    rows_broken c (suc m) a s p q before h =
+        by (cases_eq c a) (λ lt.
+        rows_broken (c + 1) m a s lt (omega arith) (λ j u v. before j (omega arith) v) h)
       where
-        by : (c ≡ a) ⊎ (c ≡ a → ⊥) → (c + 1 ≤ a → (each f (flat_map g (range_with_len (c + 1) m))).end ≡ Err s)
+        by : (c ≡ a) ⊎ (c ≡ a → ⊥)
+            → (c + 1 ≤ a → (each f (flat_map g (range_with_len (c + 1) m))).end ≡ Err s)
             → (each f (flat_map g (range_with_len c (suc m)))).end ≡ Err s
         by (inl e) rest =
-            append_broken (g c) (flat_map g (range_with_len (c + 1) m)) s (subst (λ k. (each f (g k)).end ≡ Err s) (sym e) h)
+            append_broken (g c) (flat_map g (range_with_len (c + 1) m)) s
+            (subst (λ k. (each f (g k)).end ≡ Err s) (sym e) h)
         by (inr ne) rest =
-            append_after (g c) (flat_map g (range_with_len (c + 1) m)) (before c (omega arith) (omega arith)) ∙ rest (omega arith)
+            append_after (g c) (flat_map g (range_with_len (c + 1) m))
+            (before c (omega arith) (omega arith)) ∙ rest (omega arith)
 
 -- ---- pairs of points
 
@@ -100,25 +118,34 @@ asked_err b s h = rw h refl
 module _ (test : ℕ → ℕ → Bool) (broken : (a b : List ℕ) → Step) (points : List (List ℕ))
     (Q : ℕ → ℕ → Type 0) (same : EachPair (length points) (λ a b. (test a b ≡ true) ↔ Q a b)) where
   step_of : ℕ × ℕ → Steps
-  step_of pair = ask (test pair.0 pair.1) (broken (slice_index_or points pair.0 []) (slice_index_or points pair.1 []))
+  step_of pair =
+      ask (test pair.0 pair.1)
+      (broken (slice_index_or points pair.0 []) (slice_index_or points pair.1 []))
 
   pub pairs_done : EachPair (length points) Q → (pair_steps test broken points).end ≡ Ok tt
   unfolding pair_steps step_of
   pairs_done holds =
       rows_done step_of (λ a. map (λ b. (a, b)) (numbers_below (length points))) 0 (length points)
       (λ a p q. row_done step_of (λ b. (a, b)) 0 (length points)
-      (λ b u v. asked_ok (test a b) _ ((same a b (omega arith) (omega arith)).1 (holds a b (omega arith) (omega arith)))))
+      (λ b u v. asked_ok (test a b) _
+      ((same a b (omega arith) (omega arith)).1 (holds a b (omega arith) (omega arith)))))
 
   pub pairs_broken : (a b : ℕ) → IsFirstWithout (length points) Q a b
-      → (pair_steps test broken points).end ≡ Err (broken (slice_index_or points a []) (slice_index_or points b []))
+      → (pair_steps test broken points).end ≡
+      Err (broken (slice_index_or points a []) (slice_index_or points b []))
   unfolding pair_steps step_of
   pairs_broken a b first =
-      rows_broken step_of (λ a. map (λ b. (a, b)) (numbers_below (length points))) 0 (length points) a _ (omega arith) (omega (arith, first.first_is_point))
+      rows_broken step_of (λ a. map (λ b. (a, b)) (numbers_below (length points))) 0 (length points)
+      a _ (omega arith) (omega (arith, first.first_is_point))
       (λ c p q. row_done step_of (λ b. (c, b)) 0 (length points)
       (λ d u v. let c_in : c < length points = omega (arith, first.first_is_point) in
-      asked_ok (test c d) _ ((same c d c_in (omega arith)).1 (first.before c d c_in (omega arith) (inl q)))))
-      (row_broken step_of (λ b. (a, b)) 0 (length points) b _ (omega arith) (omega (arith, first.second_is_point))
+      asked_ok (test c d) _
+      ((same c d c_in (omega arith)).1 (first.before c d c_in (omega arith) (inl q)))))
+      (row_broken step_of (λ b.
+      (a, b)) 0 (length points) b _ (omega arith) (omega (arith, first.second_is_point))
       (λ d u v. let d_in : d < length points = omega (arith, first.second_is_point) in
-      asked_ok (test a d) _ ((same a d first.first_is_point d_in).1 (first.before a d first.first_is_point d_in (inr (refl, v)))))
+      asked_ok (test a d) _
+      ((same a d first.first_is_point d_in).1
+      (first.before a d first.first_is_point d_in (inr (refl, v)))))
       (asked_err (test a b) _ (false_from_ne_true (test a b)
       (λ h. first.fails ((same a b first.first_is_point first.second_is_point).0 h)))))

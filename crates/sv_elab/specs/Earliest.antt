@@ -1,11 +1,14 @@
--- How the code finds the broken question that stands first in the text, without sorting the questions. What it is to find is said by
--- `in_textual_order` of the walk (`sv_walk`, `specs/Lattices.antt`).
-use Rattle.std.specs.Prelude.{ℕ, map, List, [], ◌∷◌, ◌++◌, Option, Some, None, option_map, if◌then◌else◌}
+-- How the code finds the broken question that stands first in the text, without sorting the
+-- questions. What it is to find is said by `in_textual_order` of the walk (`sv_walk`,
+-- `specs/Lattices.antt`).
+use Rattle.std.specs.Prelude.{ℕ, map, List, [], ◌∷◌, ◌++◌, Option, Some, None, option_map}
+use Rattle.std.specs.Prelude.{if◌then◌else◌}
 use Rattle.sv_num.specs.declared.faults.Place.{Place}
 use Rattle.sv_ast.specs.Tree.{LatticeTree}
 use Rattle.sv_walk.specs.Walks.{Step, Steps, each}
 use Rattle.sv_walk.specs.Rules.{lattice_name}
-use Rattle.sv_walk.specs.Lattices.{Question, stands_before, point_questions, pair_questions, point_names, in_textual_order, answered}
+use Rattle.sv_walk.specs.Lattices.{Question, stands_before, point_questions, pair_questions}
+use Rattle.sv_walk.specs.Lattices.{point_names, in_textual_order, answered}
 use Rattle.sv_elab.specs.declared.wrong_names.WrongName.{WrongName}
 
 -- the step that is broken, if the question's answer is no
@@ -33,4 +36,6 @@ names_of points = map (λ (n : List ℕ × Place). n.0) points
 
 -- what the names of a lattice are asked
 abbrev pub name_steps : LatticeTree → Steps
-name_steps t = each answered (in_textual_order (point_questions [] t.points ++ pair_questions (point_names t) t.pairs))
+name_steps t =
+    each answered (in_textual_order
+    (point_questions [] t.points ++ pair_questions (point_names t) t.pairs))

@@ -1,3 +1,5 @@
 pub mod Earliest
 pub mod Modules
 pub mod MapParts
+pub mod Nests
+pub mod Instances

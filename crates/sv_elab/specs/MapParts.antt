@@ -1,5 +1,7 @@
 -- The parts of a label map's walk, and the table that its rows fill.
-use Rattle.std.specs.Prelude.{◌≡◌, ℕ, ◌+◌, ◌^◌, ◌<◌, ◌≤◌, Bool, true, ◌&&◌, ◌||◌, nat_le, List, [], map, Option, Some, None, option_map, unwrap_or, is_some, length, slice_index_or, pos, Ok}
+use Rattle.std.specs.Prelude.{◌≡◌, ℕ, ◌+◌, ◌^◌, ◌<◌, ◌≤◌, Bool, true, ◌&&◌, ◌||◌, nat_le, List, []}
+use Rattle.std.specs.Prelude.{map, Option, Some, None, option_map, unwrap_or, is_some, length}
+use Rattle.std.specs.Prelude.{slice_index_or, pos, Ok}
 use Rattle.std.specs.List.{list_all}
 use Rattle.sv_num.specs.declared.vectors.Bits.{Bits}
 use Rattle.sv_num.specs.Vectors.{number_of}
@@ -10,7 +12,9 @@ use Rattle.sv_ast.specs.Instances.{span_width}
 use Rattle.sv_walk.specs.Walks.{Walk, ask, done, ◌>>=◌}
 use Rattle.sv_walk.specs.Rules.{map_row, map_hole}
 use Rattle.sv_walk.specs.Lattices.{point_number}
-use Rattle.sv_walk.specs.LabelMaps.{no_names, is_map_range, is_second_range, is_key, is_second_key, key_value, point_at, rows_walk, default_walk, all_rows, has_all_rows}
+use Rattle.sv_walk.specs.LabelMaps.{no_names, is_map_range, is_second_range, is_key, is_second_key}
+use Rattle.sv_walk.specs.LabelMaps.{key_value, point_at, rows_walk, default_walk, all_rows}
+use Rattle.sv_walk.specs.LabelMaps.{has_all_rows}
 use Rattle.sv_elab.specs.declared.maps.Ranges.{Ranges}
 
 -- the widths of the ranges
@@ -33,7 +37,9 @@ has_ranges t = is_map_range t.span && is_second_range t.second && nat_le (bits_o
 
 -- the width is that of the range
 abbrev pub IsRange : SpanTree → ℕ → Type 0
-IsRange span width = (is_map_range span ≡ true) × (width ≡ span_width no_names (Some span)) × (1 ≤ width) × (width ≤ 8)
+IsRange span width =
+    (is_map_range span ≡ true) × (width ≡ span_width no_names (Some span)) × (1 ≤ width)
+    × (width ≤ 8)
 
 -- the widths are those of the map's ranges
 abbrev pub HasWidths : MapTree → Ranges → Type 0
@@ -49,7 +55,8 @@ IsPart width bits value = (number_of bits ≡ pos value) × (value < 2 ^ width)
 
 -- the value is that of the row's key
 abbrev pub IsValue : (first : ℕ) → (second : Option ℕ) → RowTree → ℕ → Type 0
-IsValue first second row value = (is_row_key first second row ≡ true) × (value ≡ key_value second row)
+IsValue first second row value =
+    (is_row_key first second row ≡ true) × (value ≡ key_value second row)
     × (value < 2 ^ bits_in first second)
 
 -- the point of a value in the table
@@ -59,23 +66,29 @@ table_point n = option_map (λ (k : ℕ). record { 0 = k }) n
 -- the table has, for each value of so many bits, the point that the rows give it
 pub record IsTable (bits : ℕ) (rows : List (ℕ × ℕ)) (table : List (Option Point)) : Type 0 where
   pub size : length table ≡ 2 ^ bits
-  pub points : (value : ℕ) (d : Option Point) → value < 2 ^ bits → slice_index_or table value d ≡ table_point (point_at rows value)
+  pub points : (value : ℕ) (d : Option Point) → value < 2 ^ bits →
+      slice_index_or table value d ≡ table_point (point_at rows value)
 
 -- the key does not fit, its value has a point, or the row's point is none
-abbrev pub IsWrongRow : (points : List (List ℕ)) → (first : ℕ) → (second : Option ℕ) → List (Option Point) → RowTree → Type 0
+abbrev pub IsWrongRow : (points : List (List ℕ)) → (first : ℕ) → (second : Option ℕ) →
+    List (Option Point) → RowTree → Type 0
 IsWrongRow points first second table row =
-    is_row_key first second row ≡ true → slice_index_or table (key_value second row) None ≡ None → point_number points row.to ≡ None
+    is_row_key first second row ≡ true → slice_index_or table (key_value second row) None ≡ None →
+    point_number points row.to ≡ None
 
 -- the row has this value and point, and the value has no point yet
-pub record IsRow (points : List (List ℕ)) (first : ℕ) (second : Option ℕ) (table : List (Option Point)) (row : RowTree) (value : ℕ) (point : Point) : Type 0 where
+pub record IsRow (points : List (List ℕ)) (first : ℕ) (second : Option ℕ)
+    (table : List (Option Point)) (row : RowTree) (value : ℕ) (point : Point) : Type 0 where
   pub key : IsValue first second row value
   pub free : slice_index_or table value None ≡ None
   pub named : point_number points row.to ≡ Some point.0
 
 -- the table has the points of the map's rows
-abbrev pub AreFilled : (points : List (List ℕ)) → MapTree → (first : ℕ) → (second : Option ℕ) → List (Option Point) → Type 0
+abbrev pub AreFilled : (points : List (List ℕ)) → MapTree → (first : ℕ) → (second : Option ℕ) →
+    List (Option Point) → Type 0
 AreFilled points t first second table =
-    (rows : List (ℕ × ℕ)) × ((rows_walk points t first second [] t.rows).end ≡ Ok rows) × IsTable (bits_in first second) rows table
+    (rows : List (ℕ × ℕ)) × ((rows_walk points t first second [] t.rows).end ≡ Ok rows)
+    × IsTable (bits_in first second) rows table
 
 -- whether each value has a point, in the table or by default
 abbrev pub is_whole : List (Option Point) → (other : Option Point) → Bool
@@ -92,4 +105,8 @@ own_walk points t = do
   rows ← rows_walk points t (first_width t) (second_width t) [] t.rows
   other ← default_walk points t t.other
   _ ← ask (is_some other || has_all_rows (bits_of t) rows) (map_hole t.place t.name)
-  done (record { first = first_width t; second = second_width t; rows = all_rows (bits_of t) rows other })
+  done (record {
+    first = first_width t;
+    second = second_width t;
+    rows = all_rows (bits_of t) rows other;
+  })

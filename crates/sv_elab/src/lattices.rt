@@ -1,12 +1,15 @@
 // The lattice of a text.
-ghost use Rattle.std.specs.Prelude.{◌≡◌, ℕ, nat_le, ◌&&◌, ◌≤◌, ◌<◌, ◌^◌, ◌∷◌, [], List, Result, Option, Some, Ok, Err, map, option_map, unwrap_or, length, slice_index_or, IfSome, IfOk, IfErr};
+ghost use Rattle.std.specs.Prelude.{◌≡◌, ℕ, nat_le, ◌&&◌, ◌≤◌, ◌<◌, ◌^◌, ◌∷◌, [], List, Result};
+ghost use Rattle.std.specs.Prelude.{Option, Some, Ok, Err, map, option_map, unwrap_or, length};
+ghost use Rattle.std.specs.Prelude.{slice_index_or, IfSome, IfOk, IfErr};
 ghost use Rattle.std.specs.List.{All};
 ghost use Rattle.sv_lattice.specs.Flows.{IsKnown, IsPointCount};
 ghost use Rattle.sv_lattice.specs.Tables.{IsLatticeTable};
 ghost use Rattle.sv_ast.specs.Views.{lattice_tree, pair_tree, text_tree};
 ghost use Rattle.sv_walk.specs.Walks.{Step};
 ghost use Rattle.sv_walk.specs.Rules.{step};
-ghost use Rattle.sv_walk.specs.Lattices.{Order, two_points, table_of, point_number, numbered_pair, checked_order, lattice_walk};
+ghost use Rattle.sv_walk.specs.Lattices.{Order, two_points, table_of, point_number, numbered_pair};
+ghost use Rattle.sv_walk.specs.Lattices.{checked_order, lattice_walk, least_point};
 ghost use Rattle.sv_width.specs.Answers.{IsBreach};
 
 use crate::wrong_names::distinct_names;
@@ -20,7 +23,8 @@ use sv_num::{Fault, Name, OutOfMemory, Place};
 /// The most points that a lattice has.
 const MOST_POINTS: usize = 32;
 
-/// The points of a lattice by name, with the lattice. A contract sees the names by number, and the lattice as its table.
+/// The points of a lattice by name, with the lattice. A contract sees the names by number, and the
+/// lattice as its table.
 #[derive(Drop)]
 pub struct Points {
     names: IndexSet<Name>,
@@ -40,6 +44,30 @@ impl Model for Points {
 }
 
 impl Points {
+    /// The names of the points, each with the number of its point.
+    pub fn names(&self) -> &IndexSet<Name>
+        ensures names { result.now.keys ≡ self.now.points }
+        ensures few { length result.now.keys ≤ 32 }
+    {
+        &self.names
+    }
+
+    /// The point that flows to every point.
+    pub fn least(&self) -> Point
+        ensures { result.0 ≡ least_point self.now.table }
+    {
+        self.lattice.least()
+    }
+
+    /// Copies of the names of the points by number, and the lattice.
+    pub(crate) fn into_parts(self, alloc: Global) -> Result<(Vec<Name>, Lattice), OutOfMemory>
+        ensures names { IfOk result (λ parts. parts.0.items ≡ self.points) }
+        ensures table { IfOk result (λ parts. parts.1 ≡ self.table) }
+    {
+        let names = all_copies(alloc, self.names.as_slice())?;
+        Ok((names, self.lattice))
+    }
+
     /// The point of a name.
     pub fn find(&self, name: &Name) -> Option<Point>
         ensures { option_map (λ p. p.0) result ≡ point_number self.now.points name.now }
@@ -49,6 +77,17 @@ impl Points {
             None => None,
         }
     }
+}
+
+// Copies of names, in order.
+fn all_copies(alloc: Global, names: &[Name]) -> Result<Vec<Name>, OutOfMemory>
+    ensures { IfOk result (λ copies. copies.items ≡ names.now) }
+{
+    let mut copies = Vec::with_capacity(alloc, names.len())?;
+    for name in names {
+        copies.push(name.copy(alloc)?)?;
+    }
+    Ok(copies)
 }
 
 // The number of a point, 0 where the name is none.
@@ -69,7 +108,8 @@ fn numbered(
     pairs: &[(Name, Place, Name, Place)],
 ) -> Result<Vec<(u32, u32)>, OutOfMemory>
     requires { length names.now.keys ≤ 32 }
-    ensures { IfOk result (λ found. found.items ≡ map (numbered_pair names.now.keys) (map pair_tree pairs.now)) }
+    ensures { IfOk result (λ found.
+        found.items ≡ map (numbered_pair names.now.keys) (map pair_tree pairs.now)) }
 {
     let mut found = Vec::new(alloc);
     for (lower, _, upper, _) in pairs {
@@ -92,7 +132,8 @@ fn two_points(alloc: Global, rule: u16, place: Place, names: &[Name], a: u32, b:
     requires a { a < length names.now }
     requires b { b < length names.now }
     ensures { (end : Result Order Step)
-        → end ≡ Err (step rule place (slice_index_or names.now a [] ∷ slice_index_or names.now b [] ∷ []))
+        → end ≡ Err (step rule place
+        (slice_index_or names.now a [] ∷ slice_index_or names.now b [] ∷ []))
         → IsBreach end result }
 {
     match copies(alloc, &names[a as usize], &names[b as usize]) {
@@ -111,8 +152,16 @@ fn ordered(
     requires count { IsPointCount (length names.keys) }
     requires known { All (IsKnown (length names.keys)) pairs.now }
     requires few { length pairs.now < 2 ^ 32 }
-    ensures found { IfOk result (λ p. (checked_order place (record { points = names.keys; table = table_of (length names.keys) pairs.now })).end ≡ Ok p) }
-    ensures broken { IfErr result (IsBreach (checked_order place (record { points = names.keys; table = table_of (length names.keys) pairs.now })).end) }
+    ensures found { IfOk result (λ p.
+        (checked_order place (record {
+          points = names.keys;
+          table = table_of (length names.keys) pairs.now;
+        })).end ≡ Ok p) }
+    ensures broken { IfErr result
+        (IsBreach (checked_order place (record {
+          points = names.keys;
+          table = table_of (length names.keys) pairs.now;
+        })).end) }
 {
     match Lattice::build(alloc, names.len() as u32, pairs) {
         Ok(lattice) => Ok(Points { names, lattice }),
@@ -188,7 +237,8 @@ fn default(alloc: Global) -> Result<Points, AllocError>
     }
 }
 
-/// The points of a text and their lattice: those that it declares, or else `L` and `H`, where `L` flows to `H`.
+/// The points of a text and their lattice: those that it declares, or else `L` and `H`, where `L`
+/// flows to `H`.
 pub fn lattice(alloc: Global, text: &Text) -> Result<Points, Fault>
     requires { IfSome text.now.lattice (λ l. length l.pairs.items < 2 ^ 32) }
     ensures found { IfOk result (λ p. (lattice_walk (text_tree text.now).lattice).end ≡ Ok p) }

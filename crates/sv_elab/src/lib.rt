@@ -1,12 +1,27 @@
-//! Elaboration: from a source tree to the flat design that it stands for, or to the first rule that the walk of the tree breaks.
+//! Elaboration: from a source tree to the flat design that it stands for, or to the first rule that
+//! the walk of the tree breaks (IEEE 1364-2005, clause 12; SecVerilog, ASPLOS 2015).
 //!
-//! What is built is the walk's beginning: the lattice, the label maps, the names of modules, and the top module. Each call takes a part
-//! of the tree and answers as that part of the walk ends (`sv_walk`, `specs/Texts.antt` and the files below it).
+//! The lattice, the label maps, the names of modules, the top module and the instances in it are
+//! built, each as that part of the walk ends (`sv_walk`, `specs/Texts.antt` and the files below
+//! it): with what it finds, or with the rule, place and names of the step that is broken first. The
+//! call that joins them for a whole text is still to come. Expressions, statements and declarations
+//! are the work of `sv_width`, `sv_body` and `sv_declare`.
+//!
+//! Of its own definitions callers read `specs/Modules.antt` alone. The others say what the steps of
+//! the code have in hand: `specs/Earliest.antt` of names of points, `specs/MapParts.antt` of label
+//! maps, `specs/Nests.antt` and `specs/Instances.antt` of instances.
 #![tactic(auto)]
 
+mod built;
+mod instances;
 mod lattices;
+mod links;
+mod lookups;
 mod maps;
 mod modules;
+mod nests;
+mod processes;
+mod shared;
 mod wrong_names;
 
 pub use lattices::{Points, lattice};

@@ -1,5 +1,7 @@
 // The label maps of a text.
-ghost use Rattle.std.specs.Prelude.{◌≡◌, ℕ, ◌^◌, ◌+◌, ◌<◌, ◌≤◌, ◌∷◌, [], false, true, List, Result, Option, Some, None, Ok, Err, map, option_map, unwrap_or, length, slice_index_or, IfOk, IfErr, MatchOption, IsTrue, OnOk};
+ghost use Rattle.std.specs.Prelude.{◌≡◌, ℕ, ◌^◌, ◌+◌, ◌<◌, ◌≤◌, ◌∷◌, [], false, true, List, Result};
+ghost use Rattle.std.specs.Prelude.{Option, Some, None, Ok, Err, map, option_map, unwrap_or};
+ghost use Rattle.std.specs.Prelude.{length, slice_index_or, IfOk, IfErr, MatchOption, IsTrue, OnOk};
 ghost use Rattle.std.specs.List.{list_all};
 ghost use Rattle.sv_num.specs.Vectors.{number_of};
 ghost use Rattle.sv_token.specs.Lexemes.{literal_of};
@@ -9,10 +11,14 @@ ghost use Rattle.sv_ast.specs.Values.{whole_number, natural};
 ghost use Rattle.sv_ast.specs.Views.{expression_tree, span_tree, row_tree, map_tree, text_tree};
 ghost use Rattle.sv_walk.specs.Lattices.{point_number};
 ghost use Rattle.sv_walk.specs.ExpressionSteps.{is_below};
-ghost use Rattle.sv_walk.specs.LabelMaps.{no_names, is_map_range, rows_walk, default_walk, map_walk, maps_walk, key_value};
+ghost use Rattle.sv_walk.specs.LabelMaps.{no_names, is_map_range, rows_walk, default_walk};
+ghost use Rattle.sv_walk.specs.LabelMaps.{map_walk, maps_walk, key_value};
 ghost use Rattle.sv_width.specs.Answers.{IsBreach};
 ghost use Rattle.sv_width.specs.Outcomes.{whole_part};
-ghost use Rattle.sv_elab.specs.MapParts.{first_width, second_width, bits_of, bits_in, has_ranges, IsRange, HasWidths, is_row_key, IsPart, IsValue, IsWrongRow, IsRow, IsTable, AreFilled, is_whole, points_in, own_walk};
+ghost use Rattle.sv_elab.specs.MapParts.{first_width, second_width, bits_of, bits_in, has_ranges};
+ghost use Rattle.sv_elab.specs.MapParts.{IsRange, HasWidths, is_row_key, IsPart, IsValue};
+ghost use Rattle.sv_elab.specs.MapParts.{IsWrongRow, IsRow, IsTable, AreFilled, is_whole};
+ghost use Rattle.sv_elab.specs.MapParts.{points_in, own_walk};
 
 use crate::lattices::Points;
 use crate::wrong_names::refusal;
@@ -61,7 +67,8 @@ fn bound(expr: &Expr) -> Option<u64>
 // The width of a range `[m:0]` with m from 0 to 7.
 fn range_width(span: &Span) -> Option<u8>
     requires { IsTrue (is_plain_span (span_tree span.now)) }
-    ensures { MatchOption result (is_map_range (span_tree span.now) ≡ false) (IsRange (span_tree span.now)) }
+    ensures { MatchOption result (is_map_range (span_tree span.now) ≡ false)
+        (IsRange (span_tree span.now)) }
 {
     let high = bound(&span.high)?;
     let low = bound(&span.low)?;
@@ -75,7 +82,8 @@ fn range_width(span: &Span) -> Option<u8>
 // The widths of the ranges, which have at most 8 bits in all.
 fn widths(text: &MapText) -> Option<Ranges>
     requires { IsTrue (is_shaped_map (map_tree text.now)) }
-    ensures { MatchOption result (has_ranges (map_tree text.now) ≡ false) (HasWidths (map_tree text.now)) }
+    ensures { MatchOption result (has_ranges (map_tree text.now) ≡ false)
+        (HasWidths (map_tree text.now)) }
 {
     let first = range_width(&text.span)?;
     match &text.second {
@@ -99,7 +107,8 @@ fn widths(text: &MapText) -> Option<Ranges>
 // A part of a key as a value of so many bits.
 fn key_part(bits: Bits, width: u8) -> Option<u64>
     requires { width ≤ 8 }
-    ensures { MatchOption result (is_below (2 ^ width) (number_of bits) ≡ false) (λ value. IsPart width bits value) }
+    ensures { MatchOption result (is_below (2 ^ width) (number_of bits) ≡ false) (λ value.
+        IsPart width bits value) }
 {
     let value = whole(bits)?;
     if value < 1 << width {
@@ -127,7 +136,8 @@ fn row_value(ranges: Ranges, row: &Row) -> Option<u64>
     }
 }
 
-// The value of a row and its point, if the key fits, the value has no point yet, and the row's is one.
+// The value of a row and its point, if the key fits, the value has no point yet, and the row's is
+// one.
 fn row_entry(
     points: &Points,
     ranges: Ranges,
@@ -138,7 +148,8 @@ fn row_entry(
     requires size { length table.now ≡ 2 ^ bits_in ranges.first ranges.second }
     ensures { MatchOption result
         (IsWrongRow points.now.points ranges.first ranges.second table.now (row_tree row.now))
-        (λ found. IsRow points.now.points ranges.first ranges.second table.now (row_tree row.now) found.0 found.1) }
+        (λ found. IsRow points.now.points ranges.first ranges.second table.now (row_tree row.now)
+        found.0 found.1) }
 {
     let value = row_value(ranges, row)? as usize;
     if table[value].is_some() {
@@ -156,8 +167,11 @@ fn filled(
     text: &MapText,
 ) -> Result<Vec<Option<Point>>, Fault>
     requires bits { bits_in ranges.first ranges.second ≤ 8 }
-    ensures found { IfOk result (λ table. AreFilled points.now.points (map_tree text.now) ranges.first ranges.second table.items) }
-    ensures broken { IfErr result (IsBreach (rows_walk points.now.points (map_tree text.now) ranges.first ranges.second [] (map_tree text.now).rows).end) }
+    ensures found { IfOk result (λ table.
+        AreFilled points.now.points (map_tree text.now) ranges.first ranges.second table.items) }
+    ensures broken { IfErr result
+        (IsBreach (rows_walk points.now.points (map_tree text.now) ranges.first ranges.second []
+        (map_tree text.now).rows).end) }
 {
     let mut table = vec![in alloc; None; 1 << (ranges.first + ranges.second.unwrap_or(0))]?;
     for row in &text.rows {
@@ -171,8 +185,12 @@ fn filled(
 
 // The point of the other keys. Rule 307 refuses a name that is no point.
 fn other_point(alloc: Global, points: &Points, text: &MapText) -> Result<Option<Point>, Fault>
-    ensures found { IfOk result (λ p. (default_walk points.now.points (map_tree text.now) (map_tree text.now).other).end ≡ Ok (option_map (λ q. q.0) p)) }
-    ensures broken { IfErr result (IsBreach (default_walk points.now.points (map_tree text.now) (map_tree text.now).other).end) }
+    ensures found { IfOk result (λ p.
+        (default_walk points.now.points (map_tree text.now) (map_tree text.now).other).end ≡
+        Ok (option_map (λ q. q.0) p)) }
+    ensures broken { IfErr result
+        (IsBreach (default_walk points.now.points (map_tree text.now)
+        (map_tree text.now).other).end) }
 {
     match &text.other {
         None => Ok(None),
@@ -216,7 +234,8 @@ fn new_map(ranges: Ranges, rows: Vec<Point>) -> LabelMap
 // A label map whose name is new.
 fn label_map(alloc: Global, points: &Points, text: &MapText) -> Result<LabelMap, Fault>
     requires { IsTrue (is_shaped_map (map_tree text.now)) }
-    ensures found { IfOk result (λ map. (own_walk points.now.points (map_tree text.now)).end ≡ Ok map) }
+    ensures found { IfOk result (λ map.
+        (own_walk points.now.points (map_tree text.now)).end ≡ Ok map) }
     ensures broken { IfErr result (IsBreach (own_walk points.now.points (map_tree text.now)).end) }
 {
     match widths(text) {
@@ -228,7 +247,8 @@ fn label_map(alloc: Global, points: &Points, text: &MapText) -> Result<LabelMap,
 // The label map with these ranges.
 fn map_of(alloc: Global, points: &Points, ranges: Ranges, text: &MapText) -> Result<LabelMap, Fault>
     requires { HasWidths (map_tree text.now) ranges }
-    ensures found { IfOk result (λ map. (own_walk points.now.points (map_tree text.now)).end ≡ Ok map) }
+    ensures found { IfOk result (λ map.
+        (own_walk points.now.points (map_tree text.now)).end ≡ Ok map) }
     ensures broken { IfErr result (IsBreach (own_walk points.now.points (map_tree text.now)).end) }
 {
     let table = filled(alloc, points, ranges, text)?;
@@ -246,8 +266,10 @@ pub fn label_maps(
     texts: &[MapText],
 ) -> Result<IndexMap<Name, LabelMap>, Fault>
     requires { IsTrue (list_all is_shaped_map (map map_tree texts.now)) }
-    ensures found { IfOk result (λ maps. (maps_walk points.now.points [] (map map_tree texts.now)).end ≡ Ok maps.entries) }
-    ensures broken { IfErr result (IsBreach (maps_walk points.now.points [] (map map_tree texts.now)).end) }
+    ensures found { IfOk result (λ maps.
+        (maps_walk points.now.points [] (map map_tree texts.now)).end ≡ Ok maps.entries) }
+    ensures broken { IfErr result
+        (IsBreach (maps_walk points.now.points [] (map map_tree texts.now)).end) }
 {
     let mut maps = IndexMap::new(alloc);
     for text in texts {

@@ -1,5 +1,6 @@
 // The modules of a text by name, and its top module.
-ghost use Rattle.std.specs.Prelude.{◌≡◌, ℕ, [], not, ◌||◌, List, Ok, Some, map, flat_map, filter, option_map, OnOk, IfOk, IfErr};
+ghost use Rattle.std.specs.Prelude.{◌≡◌, ℕ, [], not, ◌||◌, List, Ok, Some, map, flat_map, filter};
+ghost use Rattle.std.specs.Prelude.{option_map, OnOk, IfOk, IfErr};
 ghost use Rattle.std.specs.List.{list_any};
 ghost use Rattle.std.specs.Str.{bytes_eq};
 ghost use Rattle.sv_ast.specs.Instances.{masters, only, top_module};
@@ -16,7 +17,8 @@ use std::alloc::Global;
 use sv_ast::{Item, Module};
 use sv_num::{Fault, Name, OutOfMemory, Place};
 
-/// The names of modules, each with the number of its module. Rule 312 refuses the first name that an earlier module has.
+/// The names of modules, each with the number of its module. Rule 312 refuses the first name that
+/// an earlier module has.
 pub fn module_names(alloc: Global, modules: &[Module]) -> Result<IndexSet<Name>, Fault>
     ensures asked { OnOk result ((module_names [] (map module_tree modules.now)).end ≡ Ok tt) }
     ensures names { IfOk result (λ names. names.keys ≡ names_of modules.now) }
@@ -38,7 +40,8 @@ fn add_masters(
     module: &Module,
 ) -> Result<(), OutOfMemory>
     ensures { OnOk result ((n : List ℕ) → list_any (bytes_eq n) found.new.keys
-        ≡ (list_any (bytes_eq n) found.old.keys || list_any (bytes_eq n) (masters (module_tree «module».now)))) }
+        ≡ (list_any (bytes_eq n) found.old.keys
+        || list_any (bytes_eq n) (masters (module_tree «module».now)))) }
 {
     for item in &module.items {
         if let Item::Instance(instance) = item {
@@ -62,7 +65,8 @@ fn all_masters(alloc: Global, modules: &[Module]) -> Result<IndexSet<Name>, OutO
 
 // The module that is none of the given ones, where exactly one is.
 fn only_other<'a>(modules: &'a [Module], masters: &IndexSet<Name>) -> Option<&'a Module>
-    ensures { plain result ≡ only (filter (is_apart_from masters.now.keys) (map module_tree modules.now)) }
+    ensures { plain result ≡
+        only (filter (is_apart_from masters.now.keys) (map module_tree modules.now)) }
 {
     let mut found = None;
     for module in modules {
@@ -76,8 +80,8 @@ fn only_other<'a>(modules: &'a [Module], masters: &IndexSet<Name>) -> Option<&'a
     found
 }
 
-// The module of a name.
-fn module_named<'a>(
+/// The module of a name.
+pub(crate) fn module_named<'a>(
     modules: &'a [Module],
     names: &IndexSet<Name>,
     name: &Name,
@@ -97,7 +101,8 @@ fn find_top<'a>(
     asked: Option<&Name>,
 ) -> Result<Option<&'a Module>, OutOfMemory>
     requires { names.now.keys ≡ names_of modules.now }
-    ensures { IfOk result (λ found. plain found ≡ top_module (map module_tree modules.now) (asked_name asked.entry)) }
+    ensures { IfOk result (λ found.
+        plain found ≡ top_module (map module_tree modules.now) (asked_name asked.entry)) }
 {
     match asked {
         Some(name) => Ok(module_named(modules, names, name)),
@@ -108,8 +113,8 @@ fn find_top<'a>(
     }
 }
 
-/// The top module: the one that is asked for, or else the only one that no module has an instance of. Rule 310 refuses a text that has
-/// none.
+/// The top module: the one that is asked for, or else the only one that no module has an instance
+/// of. Rule 310 refuses a text that has none.
 pub fn top_module<'a>(
     alloc: Global,
     modules: &'a [Module],
@@ -117,8 +122,12 @@ pub fn top_module<'a>(
     asked: Option<&Name>,
 ) -> Result<&'a Module, Fault>
     requires { names.now.keys ≡ names_of modules.now }
-    ensures found { IfOk result (λ m. (found (top_module (map module_tree modules.now) (asked_name asked.entry)) no_top).end ≡ Ok (module_tree m.now)) }
-    ensures broken { IfErr result (IsBreach (found (top_module (map module_tree modules.now) (asked_name asked.entry)) no_top).end) }
+    ensures found { IfOk result (λ m.
+        (found (top_module (map module_tree modules.now) (asked_name asked.entry)) no_top).end ≡
+        Ok (module_tree m.now)) }
+    ensures broken { IfErr result
+        (IsBreach (found (top_module (map module_tree modules.now) (asked_name asked.entry))
+        no_top).end) }
 {
     match find_top(alloc, modules, names, asked)? {
         Some(module) => Ok(module),

@@ -1,13 +1,16 @@
 // The first name of a lattice, in the order of the text, that breaks rule 302.
-ghost use Rattle.std.specs.Prelude.{◌≡◌, ℕ, ◌∷◌, [], not, List, Result, Ok, Err, None, map, OnOk, IfOk, IfErr};
+ghost use Rattle.std.specs.Prelude.{◌≡◌, ℕ, ◌∷◌, [], not, List, Result, Ok, Err, None, map, OnOk};
+ghost use Rattle.std.specs.Prelude.{IfOk, IfErr};
 ghost use Rattle.std.specs.Str.{bytes_eq};
 ghost use Rattle.indexmap.specs.IndexSet.{insert_key};
 ghost use Rattle.sv_ast.specs.Views.{placed_name, pair_tree, lattice_tree};
 ghost use Rattle.sv_walk.specs.Walks.{Step};
 ghost use Rattle.sv_walk.specs.Rules.{step, lattice_name};
-ghost use Rattle.sv_walk.specs.Lattices.{stands_before, is_point, point_questions, pair_questions, point_names};
+ghost use Rattle.sv_walk.specs.Lattices.{stands_before, is_point, point_questions, pair_questions};
+ghost use Rattle.sv_walk.specs.Lattices.{point_names};
 ghost use Rattle.sv_width.specs.Answers.{IsBreach};
-ghost use Rattle.sv_elab.specs.Earliest.{broken_step, earlier, earliest, name_step, names_of, name_steps};
+ghost use Rattle.sv_elab.specs.Earliest.{broken_step, earlier, earliest, name_step, names_of};
+ghost use Rattle.sv_elab.specs.Earliest.{name_steps};
 
 use indexmap::IndexSet;
 use std::alloc::Global;
@@ -35,7 +38,9 @@ fn earlier<'a>(
     name: &'a Name,
     place: Place,
 ) -> Option<WrongName<'a>>
-    ensures { name_step result ≡ earlier (name_step found.entry) (broken_step (record { holds = is_right; step = lattice_name place name.now })) }
+    ensures { name_step result ≡
+        earlier (name_step found.entry)
+        (broken_step (record { holds = is_right; step = lattice_name place name.now })) }
 {
     if is_right {
         return found;
@@ -53,7 +58,8 @@ pub(crate) fn add_name(
     name: &Name,
 ) -> Result<bool, OutOfMemory>
     ensures new { IfOk result (λ new. new ≡ not (is_point names.old.keys name.now)) }
-    ensures added { IfOk result (λ new. names.new.keys ≡ insert_key bytes_eq names.old.keys name.now) }
+    ensures added { IfOk result (λ new.
+        names.new.keys ≡ insert_key bytes_eq names.old.keys name.now) }
 {
     Ok(names.insert(name.copy(alloc)?)?)
 }
@@ -63,8 +69,10 @@ pub(crate) fn declared_names<'a>(
     alloc: Global,
     points: &'a [(Name, Place)],
 ) -> Result<(IndexSet<Name>, Option<WrongName<'a>>), OutOfMemory>
-    ensures wrong { IfOk result (λ r. name_step r.1 ≡ earliest (point_questions [] (map placed_name points.now))) }
-    ensures known { IfOk result (λ r. (n : List ℕ) → is_point r.0.keys n ≡ is_point (names_of points.now) n) }
+    ensures wrong { IfOk result (λ r.
+        name_step r.1 ≡ earliest (point_questions [] (map placed_name points.now))) }
+    ensures known { IfOk result (λ r.
+        (n : List ℕ) → is_point r.0.keys n ≡ is_point (names_of points.now) n) }
     ensures all { IfOk result (λ r. name_step r.1 ≡ None → r.0.keys ≡ names_of points.now) }
 {
     let mut names = IndexSet::new(alloc);
@@ -82,7 +90,9 @@ pub(crate) fn with_pairs<'a>(
     pairs: &'a [(Name, Place, Name, Place)],
     mut wrong: Option<WrongName<'a>>,
 ) -> Option<WrongName<'a>>
-    ensures { name_step result ≡ earlier (name_step wrong.entry) (earliest (pair_questions names.now.keys (map pair_tree pairs.now))) }
+    ensures { name_step result ≡
+        earlier (name_step wrong.entry)
+        (earliest (pair_questions names.now.keys (map pair_tree pairs.now))) }
 {
     for (lower, lower_place, upper, upper_place) in pairs {
         wrong = earlier(wrong, names.contains(lower), lower, *lower_place);
@@ -101,7 +111,8 @@ fn one_name(alloc: Global, name: &Name) -> Result<Vec<Name>, OutOfMemory>
 
 /// The refusal by a rule that names one name.
 pub(crate) fn refusal(alloc: Global, rule: u16, place: Place, name: &Name) -> Fault
-    ensures { (end : Result (Unit {0}) Step) → end ≡ Err (step rule place (name.now ∷ [])) → IsBreach end result }
+    ensures { (end : Result (Unit {0}) Step) → end ≡ Err (step rule place (name.now ∷ [])) →
+        IsBreach end result }
 {
     match one_name(alloc, name) {
         Ok(names) => Fault::broken(rule, place, names),
@@ -109,8 +120,8 @@ pub(crate) fn refusal(alloc: Global, rule: u16, place: Place, name: &Name) -> Fa
     }
 }
 
-/// The names of the points of a lattice. Rule 302 refuses the first name, in the order of the text, that is declared twice or is in a
-/// pair but no point.
+/// The names of the points of a lattice. Rule 302 refuses the first name, in the order of the text,
+/// that is declared twice or is in a pair but no point.
 pub(crate) fn distinct_names(alloc: Global, text: &LatticeText) -> Result<IndexSet<Name>, Fault>
     ensures asked { OnOk result ((name_steps (lattice_tree text.now)).end ≡ Ok tt) }
     ensures names { IfOk result (λ names. names.keys ≡ point_names (lattice_tree text.now)) }

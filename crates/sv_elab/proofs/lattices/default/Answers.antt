@@ -12,6 +12,8 @@ two_known (suc k) d h = absurd (omega arith)
 
 pub returns-in-Ok : goal.returns-in-Ok
 returns-in-Ok c =
-    ap (λ (ks : List (List ℕ)). record { points = ks; table = c.in-Ok.lattice }) c.in_ok-names.ensures
+    ap (λ (ks : List (List ℕ)).
+    record { points = ks; table = c.in-Ok.lattice }) c.in_ok-names.ensures
     ∙ ap (λ (t : List ℕ). record { points = _; table = t })
-    (one_table 2 ((0, 1) ∷ []) c.in-Ok.lattice (table_of 2 ((0, 1) ∷ [])) c.in-Ok.ensures.flows (table_is_exact 2 ((0, 1) ∷ []) two_known))
+    (one_table 2 ((0, 1) ∷ []) c.in-Ok.lattice (table_of 2 ((0, 1) ∷ [])) c.in-Ok.ensures.flows
+    (table_is_exact 2 ((0, 1) ∷ []) two_known))

@@ -7,4 +7,5 @@ use Rattle.sv_elab.proofs.lattices.lattice.Goals as goal
 pub returns-in_ok-default-in-None-clause-found : goal.returns-in_ok-default-in-None-clause-found
 unfolding lattice_walk
 returns-in_ok-default-in-None-clause-found c =
-    ap (λ l. (lattice_walk (option_map lattice_tree l)).end) c.in-None.is ∙ ap (λ (o : Order). Ok o) (sym c.in_ok-default-in-None.ensures)
+    ap (λ l. (lattice_walk (option_map lattice_tree l)).end) c.in-None.is
+    ∙ ap (λ (o : Order). Ok o) (sym c.in_ok-default-in-None.ensures)

@@ -8,5 +8,7 @@ use Rattle.sv_elab.proofs.maps.filled.Given as goal
 abbrev pub invariant-loop-row : goal.invariant-loop-row
 invariant-loop-row l =
     (rows : List (ℕ × ℕ)) × IsTable (bits_in l.ranges.first l.ranges.second) rows l.table.items
-    × ((rows_walk l.points.points (map_tree l.text) l.ranges.first l.ranges.second rows (map row_tree (drop l.row-index l.text.rows.items))).end
-    ≡ (rows_walk l.points.points (map_tree l.text) l.ranges.first l.ranges.second [] (map row_tree l.text.rows.items)).end)
+    × ((rows_walk l.points.points (map_tree l.text) l.ranges.first l.ranges.second rows
+    (map row_tree (drop l.row-index l.text.rows.items))).end
+    ≡ (rows_walk l.points.points (map_tree l.text) l.ranges.first l.ranges.second []
+    (map row_tree l.text.rows.items)).end)

@@ -8,5 +8,6 @@ use Rattle.sv_elab.proofs.maps.label_map.Goals as goal
 pub returns-in-None-clause-broken : goal.returns-in-None-clause-broken
 returns-in-None-clause-broken c =
     let t = map_tree c.args.text.now in
-    breach_by c.refusal.result (map_row t.place t.name) c.refusal.ensures (own_walk c.args.points.now.points t).end
+    breach_by c.refusal.result (map_row t.place t.name) c.refusal.ensures
+    (own_walk c.args.points.now.points t).end
     (ranges_broken c.args.points.now.points t c.in-None.ensures)

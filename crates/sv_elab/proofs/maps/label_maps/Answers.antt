@@ -24,10 +24,13 @@ returns-then-contains_key-clause-broken c =
     let i = c.loop-text.text-index in
     let text = c.text-item.result in
     let maps = c.loop-text.maps.entries in
-    breach_by c.refusal.result (map_name text.place text.name) c.refusal.ensures (maps_walk points [] (map map_tree texts)).end
+    breach_by c.refusal.result (map_name text.place text.name) c.refusal.ensures
+    (maps_walk points [] (map map_tree texts)).end
     (sym c.loop-text.invariant.walk
-    ∙ ap (λ rest. (maps_walk points maps (map map_tree rest)).end) (left_more texts i text c.loop-text-test.true c.text-item.is)
-    ∙ again_broken points maps (map_tree text) (map map_tree (drop (i + 1) texts)) (map_there maps text.name ∙ sym c.if-contains_key.ensures))
+    ∙ ap (λ rest. (maps_walk points maps (map map_tree rest)).end)
+    (left_more texts i text c.loop-text-test.true c.text-item.is)
+    ∙ again_broken points maps (map_tree text) (map map_tree (drop (i + 1) texts))
+    (map_there maps text.name ∙ sym c.if-contains_key.ensures))
 
 pub returns-in_err-map-clause-broken : goal.returns-in_err-map-clause-broken
 returns-in_err-map-clause-broken c =
@@ -38,10 +41,13 @@ returns-in_err-map-clause-broken c =
     let maps = c.loop-text.maps.entries in
     let p = err_from_is_err_and c.from_residual.result c.from_residual.ensures.1 in
     rw (p.1, p.2)
-    (breach_on c.in_err-map.field-0.0 (own_walk points (map_tree text)).end (maps_walk points [] (map map_tree texts)).end
+    (breach_on c.in_err-map.field-0.0 (own_walk points (map_tree text)).end
+    (maps_walk points [] (map map_tree texts)).end
     (λ s e. sym c.loop-text.invariant.walk
-    ∙ ap (λ rest. (maps_walk points maps (map map_tree rest)).end) (left_more texts i text c.loop-text-test.true c.text-item.is)
-    ∙ own_broken points maps (map_tree text) (map map_tree (drop (i + 1) texts)) (map_there maps text.name ∙ sym c.if-contains_key.ensures) s e)
+    ∙ ap (λ rest. (maps_walk points maps (map map_tree rest)).end)
+    (left_more texts i text c.loop-text-test.true c.text-item.is)
+    ∙ own_broken points maps (map_tree text) (map map_tree (drop (i + 1) texts))
+    (map_there maps text.name ∙ sym c.if-contains_key.ensures) s e)
     c.in_err-map.ensures.broken)
 
 pub loop-text-preserved : goal.loop-text-preserved
@@ -59,16 +65,21 @@ loop-text-preserved c =
     ∙ insert_entry-new bytes_eq c.loop-text.maps text.name c.in_ok-map.map none in
     record {
       walk = ap (λ ms. (maps_walk points ms (map map_tree (drop (i + 1) texts))).end) entries
-          ∙ sym (own_passed points maps (map_tree text) (map map_tree (drop (i + 1) texts)) absent c.in_ok-map.map c.in_ok-map.ensures.found)
+          ∙ sym (own_passed points maps (map_tree text) (map map_tree (drop (i + 1) texts)) absent
+          c.in_ok-map.map c.in_ok-map.ensures.found)
           ∙ ap (λ rest. (maps_walk points maps (map map_tree rest)).end) (sym split)
           ∙ c.loop-text.invariant.walk;
-      shaped = (and_parts (is_shaped_map (map_tree text)) (list_all is_shaped_map (map map_tree (drop (i + 1) texts)))
-          (ap (λ rest. list_all is_shaped_map (map map_tree rest)) (sym split) ∙ c.loop-text.invariant.shaped)).1;
+      shaped =
+          (and_parts (is_shaped_map (map_tree text))
+          (list_all is_shaped_map (map map_tree (drop (i + 1) texts)))
+          (ap (λ rest. list_all is_shaped_map (map map_tree rest)) (sym split)
+          ∙ c.loop-text.invariant.shaped)).1;
     }
 
 pub returns-clause-found : goal.returns-clause-found
 returns-clause-found c =
     sym c.loop-text.invariant.walk
-    ∙ ap (λ rest. (maps_walk c.args.points.now.points c.loop-text.maps.entries (map map_tree rest)).end)
+    ∙ ap (λ rest.
+    (maps_walk c.args.points.now.points c.loop-text.maps.entries (map map_tree rest)).end)
     (left_none c.args.texts.now c.loop-text.text-index c.loop-text-test.false)
     ∙ maps_none c.args.points.now.points c.loop-text.maps.entries

@@ -17,22 +17,30 @@ new_map-requires c =
     let t = map_tree c.args.text.now in
     let all = rw c.in-Some.is at c.in_ok-rows.ensures in
     new_is_map t c.args.ranges c.requires c.in-Some.rows.items
-    (map_length c.args.points.now.points t c.args.ranges c.requires c.in_ok-table.table.items c.in_ok-table.ensures.found c.in_ok-other.other c.in_ok-other.ensures.found
-    c.in-Some.rows.items (all.1 ∙ ap (λ (ts : List (Option Point)). points_in ts c.in_ok-other.other) c.deref.ensures.value))
+    (map_length c.args.points.now.points t c.args.ranges c.requires c.in_ok-table.table.items
+    c.in_ok-table.ensures.found c.in_ok-other.other c.in_ok-other.ensures.found
+    c.in-Some.rows.items (all.1 ∙ ap (λ (ts : List (Option Point)).
+    points_in ts c.in_ok-other.other) c.deref.ensures.value))
 
 pub returns-in-Some-clause-found : goal.returns-in-Some-clause-found
 returns-in-Some-clause-found c =
     let t = map_tree c.args.text.now in
     let all = rw c.in-Some.is at c.in_ok-rows.ensures in
-    map_made c.args.points.now.points t c.args.ranges c.requires c.in_ok-table.table.items c.in_ok-table.ensures.found c.in_ok-other.other c.in_ok-other.ensures.found
-    c.in-Some.rows.items (ap (λ (ts : List (Option Point)). is_whole ts c.in_ok-other.other) (sym c.deref.ensures.value) ∙ all.0)
-    (all.1 ∙ ap (λ (ts : List (Option Point)). points_in ts c.in_ok-other.other) c.deref.ensures.value)
+    map_made c.args.points.now.points t c.args.ranges c.requires c.in_ok-table.table.items
+    c.in_ok-table.ensures.found c.in_ok-other.other c.in_ok-other.ensures.found
+    c.in-Some.rows.items (ap (λ (ts : List (Option Point)).
+    is_whole ts c.in_ok-other.other) (sym c.deref.ensures.value) ∙ all.0)
+    (all.1 ∙ ap (λ (ts : List (Option Point)).
+    points_in ts c.in_ok-other.other) c.deref.ensures.value)
     ∙ ap (λ (m : MapRows). Ok m) (sym c.new_map.ensures)
 
 pub returns-clause-broken : goal.returns-clause-broken
 returns-clause-broken c =
     let t = map_tree c.args.text.now in
     let none = rw c.in-None.is at c.in_ok-rows.ensures in
-    breach_by c.refusal.result (map_hole t.place t.name) c.refusal.ensures (own_walk c.args.points.now.points t).end
-    (map_stop c.args.points.now.points t c.args.ranges c.requires c.in_ok-table.table.items c.in_ok-table.ensures.found c.in_ok-other.other c.in_ok-other.ensures.found
-    (ap (λ (ts : List (Option Point)). is_whole ts c.in_ok-other.other) (sym c.deref.ensures.value) ∙ none))
+    breach_by c.refusal.result (map_hole t.place t.name) c.refusal.ensures
+    (own_walk c.args.points.now.points t).end
+    (map_stop c.args.points.now.points t c.args.ranges c.requires c.in_ok-table.table.items
+    c.in_ok-table.ensures.found c.in_ok-other.other c.in_ok-other.ensures.found
+    (ap (λ (ts : List (Option Point)). is_whole ts c.in_ok-other.other) (sym c.deref.ensures.value)
+    ∙ none))

@@ -8,5 +8,7 @@ use Rattle.sv_elab.proofs.modules.all_masters.Given as goal
 -- the names so far, with those of the modules that are left, are all
 abbrev pub invariant-loop-module : goal.invariant-loop-module
 invariant-loop-module l = (n : List ℕ)
-    → (list_any (bytes_eq n) l.found.keys || list_any (bytes_eq n) (flat_map masters (map module_tree (drop l.module-index l.modules))))
+    → (list_any (bytes_eq n) l.found.keys
+    || list_any (bytes_eq n)
+    (flat_map masters (map module_tree (drop l.module-index l.modules))))
     ≡ list_any (bytes_eq n) (flat_map masters (map module_tree l.modules))

@@ -8,5 +8,7 @@ use Rattle.sv_elab.proofs.modules.find_top.Goals as goal
 pub returns-in_ok-masters-in-None : goal.returns-in_ok-masters-in-None
 returns-in_ok-masters-in-None c =
     let ms = map module_tree c.args.modules.now in
-    c.only_other.ensures ∙ ap only (same_others c.in_ok-masters-in-None.masters.keys ms ms c.in_ok-masters-in-None.ensures)
+    c.only_other.ensures
+    ∙ ap only (same_others c.in_ok-masters-in-None.masters.keys ms ms
+    c.in_ok-masters-in-None.ensures)
     ∙ ap (λ a. top_module ms (asked_name a)) (sym c.in-None.is)

@@ -14,8 +14,10 @@ returns-then-not-branch-clause-broken c =
     let keys = c.loop-module.names.keys in
     c.refusal.ensures (module_names [] (map module_tree ms)).end
     (sym c.loop-module.invariant.walk
-    ∙ ap (λ rest. (module_names keys (map module_tree rest)).end) (left_more ms i m c.loop-module-test.true c.module-item.is)
-    ∙ twice_end keys (module_tree m) (map module_tree (drop (i + 1) ms)) (sym c.in_ok-add_name.ensures.new ∙ c.if-not-branch.true))
+    ∙ ap (λ rest. (module_names keys (map module_tree rest)).end)
+    (left_more ms i m c.loop-module-test.true c.module-item.is)
+    ∙ twice_end keys (module_tree m) (map module_tree (drop (i + 1) ms))
+    (sym c.in_ok-add_name.ensures.new ∙ c.if-not-branch.true))
 
 pub loop-module-preserved : goal.loop-module-preserved
 loop-module-preserved c =

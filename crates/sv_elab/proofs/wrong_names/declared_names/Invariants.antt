@@ -4,4 +4,5 @@ use Rattle.sv_elab.proofs.NameLemmas.{NamesLeft}
 use Rattle.sv_elab.proofs.wrong_names.declared_names.Given as goal
 
 abbrev pub invariant-loop-name : goal.invariant-loop-name
-invariant-loop-name l = NamesLeft l.points (name_step l.wrong) l.names.keys (drop l.name-index l.points)
+invariant-loop-name l =
+    NamesLeft l.points (name_step l.wrong) l.names.keys (drop l.name-index l.points)

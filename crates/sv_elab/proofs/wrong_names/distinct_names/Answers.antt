@@ -11,21 +11,31 @@ use Rattle.sv_elab.proofs.wrong_names.distinct_names.Goals as goal
 pub returns-in-Some-clause-broken : goal.returns-in-Some-clause-broken
 returns-in-Some-clause-broken c =
     c.refusal.ensures (name_steps (lattice_tree c.args.text.now)).end
-    (asked_names c.args.text.now.place c.args.text.now.points.items c.args.text.now.pairs.items c.in_ok-names.names.keys
+    (asked_names c.args.text.now.place c.args.text.now.points.items c.args.text.now.pairs.items
+    c.in_ok-names.names.keys
     (name_step c.in_ok-names.wrong) (name_step (Some c.in-Some.wrong))
-    (c.in_ok-names.ensures.wrong ∙ ap (λ ps. earliest (point_questions [] (map placed_name ps))) c.deref.ensures.value)
-    (subst (λ ps. KnowSame c.in_ok-names.names.keys (names_of ps)) c.deref.ensures.value c.in_ok-names.ensures.known)
+    (c.in_ok-names.ensures.wrong
+    ∙ ap (λ ps. earliest (point_questions [] (map placed_name ps))) c.deref.ensures.value)
+    (subst (λ ps. KnowSame c.in_ok-names.names.keys (names_of ps)) c.deref.ensures.value
+    c.in_ok-names.ensures.known)
     (c.in-Some.ensures
-    ∙ ap (λ ps. earlier (name_step c.in_ok-names.wrong) (earliest (pair_questions c.in_ok-names.names.keys (map pair_tree ps)))) c.deref-2.ensures.value))
+    ∙ ap (λ ps. earlier (name_step c.in_ok-names.wrong)
+    (earliest (pair_questions c.in_ok-names.names.keys (map pair_tree ps))))
+    c.deref-2.ensures.value))
 
 pub returns-in-None-clause-asked : goal.returns-in-None-clause-asked
 returns-in-None-clause-asked c =
-    asked_names c.args.text.now.place c.args.text.now.points.items c.args.text.now.pairs.items c.in_ok-names.names.keys
+    asked_names c.args.text.now.place c.args.text.now.points.items c.args.text.now.pairs.items
+    c.in_ok-names.names.keys
     (name_step c.in_ok-names.wrong) None
-    (c.in_ok-names.ensures.wrong ∙ ap (λ ps. earliest (point_questions [] (map placed_name ps))) c.deref.ensures.value)
-    (subst (λ ps. KnowSame c.in_ok-names.names.keys (names_of ps)) c.deref.ensures.value c.in_ok-names.ensures.known)
+    (c.in_ok-names.ensures.wrong
+    ∙ ap (λ ps. earliest (point_questions [] (map placed_name ps))) c.deref.ensures.value)
+    (subst (λ ps. KnowSame c.in_ok-names.names.keys (names_of ps)) c.deref.ensures.value
+    c.in_ok-names.ensures.known)
     (c.in-None.ensures
-    ∙ ap (λ ps. earlier (name_step c.in_ok-names.wrong) (earliest (pair_questions c.in_ok-names.names.keys (map pair_tree ps)))) c.deref-2.ensures.value)
+    ∙ ap (λ ps. earlier (name_step c.in_ok-names.wrong)
+    (earliest (pair_questions c.in_ok-names.names.keys (map pair_tree ps))))
+    c.deref-2.ensures.value)
 
 pub returns-in-None-clause-names : goal.returns-in-None-clause-names
 returns-in-None-clause-names c =

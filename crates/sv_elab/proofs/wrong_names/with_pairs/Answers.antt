@@ -12,7 +12,13 @@ loop-lower-preserved c =
     let keys = c.args.names.now.keys in
     let i = c.loop-lower.lower-index in
     let w = name_step c.loop-lower.wrong in
-    rw (c.earlier-wrong-in-loop-lower.ensures, c.earlier-wrong.ensures, c.contains-in-loop-lower.ensures, c.contains.ensures)
+    rw (
+      c.earlier-wrong-in-loop-lower.ensures,
+      c.earlier-wrong.ensures,
+      c.contains-in-loop-lower.ensures,
+      c.contains.ensures,
+    )
     (pair_more w keys x (drop (i + 1) pairs)
-    ∙ ap (λ xs. earlier w (earliest (pair_questions keys (map pair_tree xs)))) (sym (left_more pairs i x c.loop-lower-test.true c.loop-lower-item.is))
+    ∙ ap (λ xs. earlier w (earliest (pair_questions keys (map pair_tree xs))))
+    (sym (left_more pairs i x c.loop-lower-test.true c.loop-lower-item.is))
     ∙ c.loop-lower.invariant)

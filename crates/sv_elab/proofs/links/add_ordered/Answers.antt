@@ -1,0 +1,147 @@
+use Rattle.std.proofs.Common.{◌≡◌, ◌+◌, ◌<◌, ◌≤◌, length, get_or, subst, true, List, ℕ, [], ◌∷◌}
+use Rattle.std.proofs.Common.{◌++◌, drop, map, Option, Some, None, sym, ap, ◌∙◌}
+use Rattle.std.specs.Prelude.{Result, Ok, Err}
+use Rattle.std.specs.List.{list_all}
+use Rattle.std.proofs.lemmas.Bool.{and_parts}
+use Rattle.std.proofs.lemmas.Result.{err_from_is_err_and}
+use Rattle.sv_num.specs.declared.faults.Place.{Place}
+use Rattle.sv_ast.specs.declared.declarations.Decl.{Decl}
+use Rattle.sv_ast.specs.Shape.{is_shaped_expression}
+use Rattle.sv_ast.specs.Views.{declaration_tree, expression_tree}
+use Rattle.sv_flat.specs.Design.{ProcessForm}
+use Rattle.sv_flat.specs.Views.{process_form}
+use Rattle.sv_walk.specs.Walks.{Step}
+use Rattle.sv_walk.specs.Rules.{links_over}
+use Rattle.sv_walk.specs.Links.{ordered_links_walk}
+use Rattle.sv_width.specs.Scopes.{names_of}
+use Rattle.sv_width.proofs.Breaches.{breach_of}
+use Rattle.sv_elab.specs.Instances.{ports_form}
+use Rattle.sv_elab.proofs.BuiltLemmas.{pushed}
+use Rattle.sv_elab.proofs.DeclaredLattices.{breach_on}
+use Rattle.sv_elab.proofs.LinkEnds.{ordered_none, ordered_over, ordered_linked, ordered_broken}
+use Rattle.sv_elab.proofs.NameLemmas.{left_more, left_none}
+use Rattle.sv_elab.proofs.links.add_ordered.Goals as goal
+
+pub returns-in-None-clause-broken : goal.returns-in-None-clause-broken
+returns-in-None-clause-broken c =
+    let names = names_of c.args.outer.now in
+    let ports = ports_form c.args.ports.now in
+    let items = c.args.ports.now.master.now.ports.items in
+    let exprs = c.args.exprs.now in
+    let i = c.loop-index.index in
+    let e = c.index-exprs-index.result in
+    let ps = map process_form c.loop-index.processes.items in
+    let past : length items ≤ i =
+    subst (λ (xs : List Decl).
+    length xs ≤ i) c.deref.ensures.value c.in-None.ensures.lookup.3 in
+    breach_of c.broken.result 313 c.place_of.result c.new.result.items [] c.broken.ensures
+    c.new.ensures.items
+    (ordered_links_walk names ports (map declaration_tree items)
+    (map process_form c.args.processes.now.items) (map expression_tree exprs)).end
+    (sym c.loop-index.invariant.walk
+    ∙ ap (λ free.
+    (ordered_links_walk names ports (map declaration_tree free) ps
+    (map expression_tree (drop i exprs))).end) (left_none items i past)
+    ∙ ap (λ rest. (ordered_links_walk names ports [] ps (map expression_tree rest)).end)
+    (left_more exprs i e c.loop-index-test.true c.index-exprs-index.is)
+    ∙ ordered_over names ports ps (expression_tree e) (map expression_tree (drop (i + 1) exprs))
+    ∙ ap (λ (p : Place). let r : Result (List ProcessForm) Step = Err (links_over p) in
+    r) (sym c.place_of.ensures))
+
+pub link-requires-clause-shaped : goal.link-requires-clause-shaped
+link-requires-clause-shaped c =
+    let exprs = c.args.exprs.now in
+    let i = c.loop-index.index in
+    let e = c.index-exprs-index.result in
+    (and_parts (is_shaped_expression (expression_tree e))
+    (list_all is_shaped_expression (map expression_tree (drop (i + 1) exprs)))
+    (ap (λ rest. list_all is_shaped_expression (map expression_tree rest))
+    (sym (left_more exprs i e c.loop-index-test.true c.index-exprs-index.is))
+    ∙ c.loop-index.invariant.shaped)).0
+
+pub returns-in_err-link-clause-broken : goal.returns-in_err-link-clause-broken
+returns-in_err-link-clause-broken c =
+    let names = names_of c.args.outer.now in
+    let ports = ports_form c.args.ports.now in
+    let items = c.args.ports.now.master.now.ports.items in
+    let exprs = c.args.exprs.now in
+    let i = c.loop-index.index in
+    let e = c.index-exprs-index.result in
+    let port = c.in-Some.port.now in
+    let ps = map process_form c.loop-index.processes.items in
+    let within : i < length items =
+    subst (λ (xs : List Decl).
+    i < length xs) c.deref.ensures.value c.in-Some.ensures.lookup.3.0 in
+    let is : port ≡ get_or items i port =
+    c.in-Some.ensures.lookup.1 ∙ ap (λ xs. get_or xs i port) c.deref.ensures.value in
+    let p = err_from_is_err_and c.from_residual.result c.from_residual.ensures.1 in
+    rw (p.1, p.2)
+    (breach_on c.in_err-link.field-0.0 _
+    (ordered_links_walk names ports (map declaration_tree items)
+    (map process_form c.args.processes.now.items) (map expression_tree exprs)).end
+    (λ s h. sym c.loop-index.invariant.walk
+    ∙ ap (λ free.
+    (ordered_links_walk names ports (map declaration_tree free) ps
+    (map expression_tree (drop i exprs))).end) (left_more items i port within is)
+    ∙ ap (λ rest. (ordered_links_walk names ports (map declaration_tree (port ∷ drop (i + 1) items))
+    ps (map expression_tree rest)).end)
+    (left_more exprs i e c.loop-index-test.true c.index-exprs-index.is)
+    ∙ ordered_broken names ports ps (declaration_tree port)
+    (map declaration_tree (drop (i + 1) items)) (expression_tree e)
+    (map expression_tree (drop (i + 1) exprs)) s h)
+    c.in_err-link.ensures.broken)
+
+pub loop-index-preserved : goal.loop-index-preserved
+loop-index-preserved c =
+    let names = names_of c.args.outer.now in
+    let ports = ports_form c.args.ports.now in
+    let items = c.args.ports.now.master.now.ports.items in
+    let exprs = c.args.exprs.now in
+    let i = c.loop-index.index in
+    let e = c.index-exprs-index.result in
+    let port = c.in-Some.port.now in
+    let ps = map process_form c.loop-index.processes.items in
+    let f = c.in_ok-link.field-0 in
+    let within : i < length items =
+    subst (λ (xs : List Decl).
+    i < length xs) c.deref.ensures.value c.in-Some.ensures.lookup.3.0 in
+    let is : port ≡ get_or items i port =
+    c.in-Some.ensures.lookup.1 ∙ ap (λ xs. get_or xs i port) c.deref.ensures.value in
+    let split = left_more exprs i e c.loop-index-test.true c.index-exprs-index.is in
+    record {
+      walk =
+          ap (λ (fs : List ProcessForm).
+          (ordered_links_walk names ports (map declaration_tree (drop (i + 1) items)) fs
+          (map expression_tree (drop (i + 1) exprs))).end)
+          (sym (pushed c.loop-index.processes.items c.push.new.self.items f
+          c.in_ok-push.ensures.items))
+          ∙ sym (ordered_linked names ports ps (declaration_tree port)
+          (map declaration_tree (drop (i + 1) items)) (expression_tree e)
+          (map expression_tree (drop (i + 1) exprs)) (process_form f)
+          c.in_ok-link.ensures.found)
+          ∙ ap (λ rest.
+          (ordered_links_walk names ports (map declaration_tree (port ∷ drop (i + 1) items)) ps
+          (map expression_tree rest)).end) (sym split)
+          ∙ ap (λ free.
+          (ordered_links_walk names ports (map declaration_tree free) ps
+          (map expression_tree (drop i exprs))).end) (sym (left_more items i port within is))
+          ∙ c.loop-index.invariant.walk;
+      shaped =
+          (and_parts (is_shaped_expression (expression_tree e))
+          (list_all is_shaped_expression (map expression_tree (drop (i + 1) exprs)))
+          (ap (λ rest. list_all is_shaped_expression (map expression_tree rest)) (sym split)
+          ∙ c.loop-index.invariant.shaped)).1;
+    }
+
+pub returns-clause-found : goal.returns-clause-found
+returns-clause-found c =
+    let names = names_of c.args.outer.now in
+    let ports = ports_form c.args.ports.now in
+    let items = c.args.ports.now.master.now.ports.items in
+    let i = c.loop-index.index in
+    let ps = map process_form c.loop-index.processes.items in
+    sym c.loop-index.invariant.walk
+    ∙ ap (λ rest. (ordered_links_walk names ports (map declaration_tree (drop i items)) ps
+    (map expression_tree rest)).end)
+    (left_none c.args.exprs.now i c.loop-index-test.false)
+    ∙ ordered_none names ports ps (map declaration_tree (drop i items))

@@ -1,0 +1,51 @@
+use Rattle.std.proofs.Common.{◌≡◌, ℕ, sym, ap, ◌∙◌}
+use Rattle.std.specs.Prelude.{Result, Ok, Err}
+use Rattle.std.proofs.lemmas.Result.{err_from_is_err_and}
+use Rattle.sv_num.specs.declared.faults.Place.{Place}
+use Rattle.sv_ast.specs.Views.{declaration_tree, expression_tree}
+use Rattle.sv_flat.specs.Design.{ProcessForm, port_in}
+use Rattle.sv_flat.specs.Views.{typed_tree}
+use Rattle.sv_walk.specs.Walks.{Step}
+use Rattle.sv_walk.specs.ExpressionSteps.{expression_walk}
+use Rattle.sv_walk.specs.Names.{place_of}
+use Rattle.sv_walk.specs.Links.{whole_assignment, port_number, port_width, input_link}
+use Rattle.sv_width.specs.Scopes.{names_of}
+use Rattle.sv_elab.specs.Instances.{ports_form}
+use Rattle.sv_elab.proofs.DeclaredLattices.{breach_on}
+use Rattle.sv_elab.proofs.LinkEnds.{input_found, input_broken}
+use Rattle.sv_elab.proofs.links.link_in.Goals as goal
+
+pub returns-in_err-value-clause-broken : goal.returns-in_err-value-clause-broken
+returns-in_err-value-clause-broken c =
+    let names = names_of c.args.outer.now in
+    let ports = ports_form c.args.ports.now in
+    let d = declaration_tree c.args.port.now in
+    let e = expression_tree c.args.expr.now in
+    let p = err_from_is_err_and c.from_residual.result c.from_residual.ensures.1 in
+    rw (p.1, p.2)
+    (breach_on c.in_err-value.field-0.0 _ (input_link names ports d e).end
+    (λ s h. input_broken names ports d e s
+    (ap (λ w. (expression_walk names e w).end) (sym c.width_of-width.ensures.width) ∙ h))
+    c.in_err-value.ensures.broken)
+
+pub returns-clause-found : goal.returns-clause-found
+returns-clause-found c =
+    let names = names_of c.args.outer.now in
+    let ports = ports_form c.args.ports.now in
+    let d = declaration_tree c.args.port.now in
+    let e = expression_tree c.args.expr.now in
+    let v = typed_tree c.in_ok-value.value in
+    let width = c.width_of-width.ensures.width in
+    input_found names ports d e v (ap (λ w. (expression_walk names e w).end) (sym width)
+    ∙ c.in_ok-value.ensures.found)
+    ∙ ap (λ w. let r : Result ProcessForm Step = Ok
+    (whole_assignment (place_of e) port_in (port_number ports d.name) w v) in r) (sym width)
+    ∙ ap (λ n. let r : Result ProcessForm Step = Ok
+    (whole_assignment (place_of e) port_in n c.width_of-width.result v) in
+    r) (sym c.in_ok-signal.ensures)
+    ∙ ap (λ (p : Place).
+    let r : Result ProcessForm Step = Ok
+    (whole_assignment p port_in c.in_ok-signal.signal.0 c.width_of-width.result v) in
+    r) (sym c.place_of-place.ensures)
+    ∙ ap (λ (f : ProcessForm). let r : Result ProcessForm Step = Ok f in
+    r) (sym c.in_ok-whole_assignment.ensures)

@@ -1,0 +1,14 @@
+-- What stands at a place of a mapped list.
+use Rattle.std.proofs.Common.{◌≡◌, ℕ, zero, suc, List, [], ◌∷◌, map, Option, Some}
+use Rattle.std.proofs.Common.{refl, sym, ◌∙◌}
+use Rattle.std.specs.List.{slice_get}
+
+pub from_get_map : {X Y : Type 0} (f : X → Y) (xs : List X) (k : ℕ) (y : Y)
+    → slice_get (map f xs) k ≡ Some y
+    → (x : X) × (slice_get xs k ≡ Some x) × (f x ≡ y)
+from_get_map f [] k y at = absurd (cc at)
+from_get_map f (x ∷ xs) zero y at = (x, refl, cc at)
+from_get_map f (x ∷ xs) (suc k) y at = from_get_map f xs k y at
+
+pub same_some : {X : Type 0} (o : Option X) (x y : X) → o ≡ Some x → o ≡ Some y → x ≡ y
+same_some o x y a b = let e : Some x ≡ Some y = sym a ∙ b in cc e

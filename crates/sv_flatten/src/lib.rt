@@ -1,0 +1,21 @@
+//! What a flat design has to do with the source text that it comes from: each body, link and value
+//! does to the signals of a design what its source does to those of an instance, and the cycle
+//! systems of both are the same under other names of signals. The design is sound.
+//!
+//! This crate has definitions and laws on them, no program.
+#![tactic(auto)]
+
+mod bodies;
+mod laws;
+mod soundness;
+
+pub use bodies::{
+    flat_statements_assign_the_same_signals, flat_statements_do_what_their_sources_do,
+    input_links_assign_their_ports, output_links_assign_their_signals, values_fit_their_lengths,
+    wires_get_their_values, written_numbers_fit,
+};
+pub use laws::{
+    flat_designs_do_what_their_texts_mean, noninterference_passes_to_texts,
+    one_trace_passes_to_texts, unnamed_clocks_change_nothing,
+};
+pub use soundness::{texts_stand_for_sound_designs, written_numbers_have_lengths};

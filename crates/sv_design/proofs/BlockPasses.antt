@@ -1,5 +1,8 @@
 -- What a block assigns, and what is asked of it.
-use Rattle.std.proofs.Common.{◌≡◌, ℕ, zero, suc, ◌+◌, ◌*◌, ◌^◌, ◌<◌, Bool, true, false, cond, not, ◌&&◌, ◌||◌, ◌==◌, nat_le, ltb-true, le-leb, leb-true, List, [], ◌∷◌, ◌++◌, length, map, Option, None, Some, ◌⊎◌, inl, inr, ⊎_elim, refl, sym, ap, subst, ◌∙◌, append_assoc, arith, rules}
+use Rattle.std.proofs.Common.{◌≡◌, ℕ, zero, suc, ◌+◌, ◌*◌, ◌^◌, ◌<◌, Bool, true, false, cond, not}
+use Rattle.std.proofs.Common.{◌&&◌, ◌||◌, ◌==◌, nat_le, ltb-true, le-leb, leb-true, List, [], ◌∷◌}
+use Rattle.std.proofs.Common.{◌++◌, length, map, Option, None, Some, ◌⊎◌, inl, inr, ⊎_elim, refl}
+use Rattle.std.proofs.Common.{sym, ap, subst, ◌∙◌, append_assoc, arith, rules}
 use Rattle.std.specs.Prelude.{Contains, IsTrue, IsFalse, filter, flat_map, unwrap_or, ◌↔◌}
 use Rattle.std.specs.List.{list_any, list_all, range_with_len}
 use Rattle.std.specs.Int.{bit_at}
@@ -9,19 +12,23 @@ use Rattle.std.proofs.Math.Nat.{pow-suc}
 use Rattle.std.proofs.lemmas.List.{append-nil}
 use Rattle.std.proofs.lemmas.Bool.{false≢true, or_left, or_right, eqb-true, eq-eqb}
 use Rattle.std.proofs.lemmas.Nat.Bits.{bit_at-lt, bit_at-zero, same_from_bits_below}
-use Rattle.sv_system.proofs.Lists.{Contains-head, Contains-nil, Contains-cases, Contains-filter, Contains-map, Contains-from_map}
+use Rattle.sv_system.proofs.Lists.{Contains-head, Contains-nil, Contains-cases, Contains-filter}
+use Rattle.sv_system.proofs.Lists.{Contains-map, Contains-from_map}
 use Rattle.sv_num.specs.declared.faults.Place.{Place}
 use Rattle.sv_flat.specs.Assigned.{assigns, can_assign, always_assigns, has_bit}
 use Rattle.sv_flat.specs.Blocks.{is_latched, is_unassigned, is_out_of_phase, phase_breach}
 use Rattle.sv_flat.specs.Breaches.{Breach, breach}
-use Rattle.sv_flat.specs.Design.{SignalForm, TypedTree, PieceForm, FlatStatement, nothing, after, assign, branch, ProcessForm, FlatDesign}
+use Rattle.sv_flat.specs.Design.{SignalForm, PieceForm, FlatStatement, nothing, after, assign}
+use Rattle.sv_flat.specs.Design.{branch, ProcessForm, FlatDesign}
 use Rattle.sv_flat.specs.Processes.{signals_that}
-use Rattle.sv_flat.specs.Readings.{BitSet, ReadForm, reads, Reading, readings, readings_of, no_bits, either, is_followed}
+use Rattle.sv_flat.specs.Readings.{readings, no_bits, is_followed}
 use Rattle.sv_flat.specs.Soundness.{well_formed, piece_fits, statement_sound}
 use Rattle.sv_flat.specs.Values.{signal_width}
+use Rattle.sv_flat.proofs.BlockFacts.{followed_is_assigned}
 use Rattle.sv_flat.proofs.AdmittedFacts.{none_in, and_true, assigned_is_signal}
 use Rattle.sv_flat.proofs.Depths.{first_of, second_of, from_all}
-use Rattle.sv_flat.proofs.LeastSets.{either_way, or_cases, range_has, some_from, from_some, in_those, those_pass, Contains-from_filter}
+use Rattle.sv_flat.proofs.LeastSets.{either_way, or_cases, range_has, some_from, from_some}
+use Rattle.sv_flat.proofs.LeastSets.{in_those, those_pass, Contains-from_filter}
 use Rattle.sv_flat.proofs.Members.{Contains-left, Contains-right, Contains-either}
 use Rattle.sv_design.specs.declared.bits.Bits.{Bits}
 use Rattle.sv_design.specs.declared.found.Found.{Found}
@@ -29,7 +36,8 @@ use Rattle.sv_design.specs.declared.scopes.Scope.{Nothing, the_lemmas}
 use Rattle.sv_design.specs.Scopes.{in_scope}
 use Rattle.sv_design.specs.BitSets.{is_set, mask_in, in_bits, has_some, LacksBit}
 use Rattle.sv_design.specs.First.{breach_of, FindsFirst, first_found}
-use Rattle.sv_design.specs.Phases.{wrong_reads, is_wrong_read, SameBits, latches_of, phase_faults_of}
+use Rattle.sv_design.specs.Phases.{wrong_reads, is_wrong_read, SameBits, latches_of}
+use Rattle.sv_design.specs.Phases.{phase_faults_of}
 use Rattle.sv_design.proofs.BitFacts.{same_answer}
 use Rattle.sv_design.proofs.EntryFacts.{key_test, nothing_in}
 use Rattle.sv_design.proofs.Firsts.{finds_both}
@@ -38,7 +46,8 @@ use Rattle.sv_design.proofs.Sound.{piece_has_bits}
 
 -- ---- what follows a read
 
-pub can_is_assigned : (body : FlatStatement) (s b : ℕ) → IsTrue (can_assign body s b) → IsTrue (assigns body s)
+pub can_is_assigned : (body : FlatStatement) (s b : ℕ) → IsTrue (can_assign body s b) →
+    IsTrue (assigns body s)
 can_is_assigned nothing s b h = absurd (false≢true h)
 can_is_assigned (after first second) s b h = ⊎_elim
     (λ l. or_left (assigns first s) (assigns second s) (can_is_assigned first s b l))
@@ -48,73 +57,12 @@ can_is_assigned (assign pieces place blocking right) s b h =
     let found = from_some (has_bit s b) pieces h in
     let p = found.0 in
     some_from (λ (q : PieceForm). q.signal == s) pieces p found.1
-    (first_of (p.signal == s) (nat_le p.low b) (first_of ((p.signal == s) && nat_le p.low b) (nat_le b p.high) found.2))
+    (first_of (p.signal == s) (nat_le p.low b)
+    (first_of ((p.signal == s) && nat_le p.low b) (nat_le b p.high) found.2))
 can_is_assigned (branch place condition first second) s b h = ⊎_elim
     (λ l. or_left (assigns first s) (assigns second s) (can_is_assigned first s b l))
     (λ r. or_right (assigns first s) (assigns second s) (can_is_assigned second s b r))
     (or_cases (can_assign first s b) (can_assign second s b) h)
-
-module _ (signals : List SignalForm) where
-  follows_here : (whole : FlatStatement) (t : TypedTree) (before later : BitSet) (r : Reading)
-      → Contains (readings_of signals t (assigns whole) before (either (can_assign whole) later)) r
-      → (s b : ℕ) → IsTrue (r.follows s b) → IsTrue (assigns whole s) ⊎ IsTrue (later s b)
-  follows_here whole t before later r at s b h =
-      let from = Contains-from_map
-      (λ (z : ReadForm). record {
-        name = z;
-        serves = assigns whole;
-        assigned = before;
-        follows = either
-            (can_assign whole) later;
-      }) (reads signals t) r at in
-      ⊎_elim
-      (λ l. inl (can_is_assigned whole s b l))
-      (λ m. inr m)
-      (or_cases (can_assign whole s b) (later s b) (subst (λ (y : Reading). IsTrue (y.follows s b)) (sym from.2) h))
-
-  -- an assignment that follows a read stands in the statement or after it
-  follows_assigned : (body : FlatStatement) (before later : BitSet) (r : Reading) → Contains (readings signals body before later) r
-      → (s b : ℕ) → IsTrue (r.follows s b) → IsTrue (assigns body s) ⊎ IsTrue (later s b)
-  follows_assigned nothing before later r at s b h = absurd (Contains-nil r at)
-  follows_assigned (after first second) before later r at s b h =
-      let late = either (can_assign second) later in
-      let mid = either (always_assigns first) before in
-      ⊎_elim
-      (λ l. ⊎_elim
-      (λ here. inl (or_left (assigns first s) (assigns second s) here))
-      (λ past. ⊎_elim
-      (λ next. inl (or_right (assigns first s) (assigns second s) (can_is_assigned second s b next)))
-      (λ far. inr far)
-      (or_cases (can_assign second s b) (later s b) past))
-      (follows_assigned first before late r l s b h))
-      (λ m. ⊎_elim
-      (λ here. inl (or_right (assigns first s) (assigns second s) here))
-      (λ past. inr past)
-      (follows_assigned second mid later r m s b h))
-      (Contains-either (readings signals first before late) (readings signals second mid later) r at)
-  follows_assigned (assign pieces place blocking right) before later r at s b h =
-      follows_here (assign pieces place blocking right) right before later r at s b h
-  follows_assigned (branch place condition first second) before later r at s b h =
-      let whole = branch place condition first second in
-      let here = readings_of signals condition (assigns whole) before (either (can_assign whole) later) in
-      ⊎_elim
-      (λ l. ⊎_elim
-      (λ k. follows_here whole condition before later r k s b h)
-      (λ k. ⊎_elim (λ x. inl (or_left (assigns first s) (assigns second s) x)) (λ y. inr y) (follows_assigned first before later r k s b h))
-      (Contains-either here (readings signals first before later) r l))
-      (λ m. ⊎_elim (λ x. inl (or_right (assigns first s) (assigns second s) x)) (λ y. inr y)
-      (follows_assigned second before later r m s b h))
-      (Contains-either (here ++ readings signals first before later) (readings signals second before later) r at)
-
-  pub followed_is_assigned : (body : FlatStatement) (r : Reading) → Contains (readings signals body no_bits no_bits) r
-      → IsTrue (is_followed signals r) → IsTrue (assigns body r.name.signal)
-  followed_is_assigned body r at h =
-      let found = from_some (λ b. nat_le r.name.low b && nat_le b r.name.high && r.follows r.name.signal b)
-      (range_with_len 0 (signal_width signals r.name.signal)) h in
-      let b = found.0 in
-      ⊎_elim (λ x. x) (λ y. absurd (false≢true y))
-      (follows_assigned body no_bits no_bits r at r.name.signal b
-      (second_of (nat_le r.name.low b && nat_le b r.name.high) (r.follows r.name.signal b) found.2))
 
 -- ---- signals that a block assigns
 
@@ -123,7 +71,9 @@ same_bit x y p q h = grind (arith, p, q, h)
 
 below_power : (n : ℕ) → n < 2 ^ n
 below_power zero = omega arith
-below_power (suc n) = let e : 2 ^ (suc n) ≡ 2 ^ n * 2 = pow-suc 2 n in let before = below_power n in omega (arith, e, before)
+below_power (suc n) =
+    let e : 2 ^ (suc n) ≡ 2 ^ n * 2 = pow-suc 2 n in let before = below_power n in
+    omega (arith, e, before)
 
 -- a number that is not 0 has a bit
 pub some_bit : (n : ℕ) → IsTrue (not (n == 0)) → (k : ℕ) × IsTrue (is_set n k)
@@ -134,7 +84,9 @@ some_bit n h = ⊎_elim
     let zero_is : n ≡ 0 = same_from_bits_below n n 0 less (omega arith)
     (λ i below. same_bit (bit_at n i) (bit_at 0 i) (bit_at-lt n i) (bit_at-zero i)
     (⊎_elim
-    (λ t. absurd (false≢true (sym none ∙ some_from (is_set n) (range_with_len 0 n) i (range_has n i below) t)))
+    (λ t.
+    absurd (false≢true (sym none
+    ∙ some_from (is_set n) (range_with_len 0 n) i (range_has n i below) t)))
     (λ f. f)
     (either_way (is_set n i)))) in
     absurd (false≢true (sym (ap not (eq-eqb n 0 zero_is)) ∙ h)))
@@ -148,68 +100,86 @@ bit_makes_some n k h = ⊎_elim
 
 module _ (signals : List SignalForm) where
   -- a sound statement can assign a bit of each signal that it assigns
-  assigned_bit : (body : FlatStatement) → IsTrue (statement_sound signals body) → (s : ℕ) → IsTrue (assigns body s) → (b : ℕ) × IsTrue (can_assign body s b)
+  assigned_bit : (body : FlatStatement) → IsTrue (statement_sound signals body) → (s : ℕ) →
+      IsTrue (assigns body s) → (b : ℕ) × IsTrue (can_assign body s b)
   assigned_bit nothing sound s h = absurd (false≢true h)
   assigned_bit (after first second) sound s h = ⊎_elim
-      (λ l. let found = assigned_bit first (first_of (statement_sound signals first) (statement_sound signals second) sound) s l in
+      (λ l. let found = assigned_bit first
+      (first_of (statement_sound signals first) (statement_sound signals second) sound) s l in
       (found.0, or_left (can_assign first s found.0) (can_assign second s found.0) found.1))
-      (λ r. let found = assigned_bit second (second_of (statement_sound signals first) (statement_sound signals second) sound) s r in
+      (λ r. let found = assigned_bit second
+      (second_of (statement_sound signals first) (statement_sound signals second) sound) s r in
       (found.0, or_right (can_assign first s found.0) (can_assign second s found.0) found.1))
       (or_cases (assigns first s) (assigns second s) h)
   assigned_bit (assign pieces place blocking right) sound s h =
       let found = from_some (λ (p : PieceForm). p.signal == s) pieces h in
       let p = found.0 in
       let fits = from_all (piece_fits signals right) pieces p
-      (second_of (well_formed signals right) (list_all (piece_fits signals right) pieces) sound) found.1 in (
+      (second_of (well_formed signals right) (list_all (piece_fits signals right) pieces) sound)
+      found.1 in (
         p.low,
         some_from (has_bit s p.low) pieces p found.1
             (and_true ((p.signal == s) && nat_le p.low p.low) (nat_le p.low p.high)
-            (and_true (p.signal == s) (nat_le p.low p.low) found.2 (le-leb p.low p.low (omega arith)))
+            (and_true (p.signal == s) (nat_le p.low p.low) found.2
+            (le-leb p.low p.low (omega arith)))
             (piece_has_bits signals right p fits)),
       )
   assigned_bit (branch place condition first second) sound s h =
-      let front = first_of (well_formed signals condition && statement_sound signals first) (statement_sound signals second) sound in
+      let front = first_of (well_formed signals condition && statement_sound signals first)
+      (statement_sound signals second) sound in
       ⊎_elim
-      (λ l. let found = assigned_bit first (second_of (well_formed signals condition) (statement_sound signals first) front) s l in
+      (λ l. let found = assigned_bit first
+      (second_of (well_formed signals condition) (statement_sound signals first) front) s l in
       (found.0, or_left (can_assign first s found.0) (can_assign second s found.0) found.1))
       (λ r. let found = assigned_bit second
-      (second_of (well_formed signals condition && statement_sound signals first) (statement_sound signals second) sound) s r in
+      (second_of (well_formed signals condition && statement_sound signals first)
+      (statement_sound signals second) sound) s r in
       (found.0, or_right (can_assign first s found.0) (can_assign second s found.0) found.1))
       (or_cases (assigns first s) (assigns second s) h)
 
   -- the set of the bits that a statement can assign has bits of the signals that it assigns
-  pub targets_are : (body : FlatStatement) (set : Bits) → IsTrue (statement_sound signals body) → SameBits (in_bits set) (can_assign body)
+  pub targets_are : (body : FlatStatement) (set : Bits) → IsTrue (statement_sound signals body)
+      → SameBits (in_bits set) (can_assign body)
       → (s : ℕ) → has_some set s ≡ assigns body s
   targets_are body set sound same s = same_answer (has_some set s) (assigns body s)
-      (λ h. let found = some_bit (mask_in set s) h in can_is_assigned body s found.0 (sym (same s found.0) ∙ found.1))
-      (λ h. let found = assigned_bit body sound s h in bit_makes_some (mask_in set s) found.0 (same s found.0 ∙ found.1))
+      (λ h. let found = some_bit (mask_in set s) h in
+      can_is_assigned body s found.0 (sym (same s found.0) ∙ found.1))
+      (λ h. let found = assigned_bit body sound s h in
+      bit_makes_some (mask_in set s) found.0 (same s found.0 ∙ found.1))
 
 -- ---- the same breaches
 
-pub same_first : (number : ℕ) (xs ys : List Breach) (found : Option Found) → ((x : Breach) → Contains xs x → Contains ys x)
-    → ((x : Breach) → Contains ys x → Contains xs x) → FindsFirst number xs found → FindsFirst number ys found
+pub same_first : (number : ℕ) (xs ys : List Breach) (found : Option Found)
+    → ((x : Breach) → Contains xs x → Contains ys x)
+    → ((x : Breach) → Contains ys x → Contains xs x) → FindsFirst number xs found
+    → FindsFirst number ys found
 same_first number xs [] None to from none = refl
-same_first number xs (y ∷ ys) None to from none = absurd (none_in xs none y (from y (Contains-head y ys)))
+same_first number xs (y ∷ ys) None to from none =
+    absurd (none_in xs none y (from y (Contains-head y ys)))
 same_first number xs ys (Some found) to from first = record {
   among = to (breach_of number found) first.among;
   before = λ other at. first.before other (from other at);
 }
 
-passed : {X Y : Type 0} (f : X → Y) (test : X → Bool) (xs : List X) (y : Y) → Contains (map f (filter test xs)) y
+passed : {X Y : Type 0} (f : X → Y) (test : X → Bool) (xs : List X) (y : Y)
+    → Contains (map f (filter test xs)) y
     → (x : X) × (f x ≡ y) × IsTrue (test x) × Contains xs x
 passed f test xs y at =
     let from = Contains-from_map f (filter test xs) y at in
     let kept = Contains-from_filter test xs from.0 from.1 in
     (from.0, from.2, kept.0, kept.1)
 
-passes : {X Y : Type 0} (f : X → Y) (test : X → Bool) (xs : List X) (x : X) → Contains xs x → IsTrue (test x) → Contains (map f (filter test xs)) (f x)
+passes : {X Y : Type 0} (f : X → Y) (test : X → Bool) (xs : List X) (x : X) → Contains xs x →
+    IsTrue (test x) → Contains (map f (filter test xs)) (f x)
 passes f test xs x at h = Contains-map f (filter test xs) x (Contains-filter test xs x at h)
 
 -- ---- rule 606 of one block
 
 pub phases_found : (design : FlatDesign) (body : FlatStatement) (early late : Option Found)
-    → FindsFirst 606 (wrong_reads true design.signals body (readings design.signals body no_bits no_bits)) early
-    → FindsFirst 606 (wrong_reads false design.signals body (readings design.signals body no_bits no_bits)) late
+    → FindsFirst 606 (wrong_reads true design.signals body
+    (readings design.signals body no_bits no_bits)) early
+    → FindsFirst 606 (wrong_reads false design.signals body
+    (readings design.signals body no_bits no_bits)) late
     → FindsFirst 606 (phase_faults_of design body) (first_found early late)
 phases_found design body early late finds_early finds_late =
     let signals = design.signals in
@@ -224,7 +194,8 @@ phases_found design body early late finds_early finds_late =
     subst (Contains (phase_faults_of design body)) r.1 (passes phase_breach all rs r.0 r.3
     (and_true (assigns body r.0.name.signal) (is_unassigned signals r.0 || is_followed signals r.0)
     (first_of (assigns body r.0.name.signal) (is_unassigned signals r.0) r.2)
-    (or_left (is_unassigned signals r.0) (is_followed signals r.0) (second_of (assigns body r.0.name.signal) (is_unassigned signals r.0) r.2)))))
+    (or_left (is_unassigned signals r.0) (is_followed signals r.0)
+    (second_of (assigns body r.0.name.signal) (is_unassigned signals r.0) r.2)))))
     (λ m.
     let r = passed phase_breach (is_wrong_read false signals body) rs x m in
     subst (Contains (phase_faults_of design body)) r.1 (passes phase_breach all rs r.0 r.3
@@ -235,11 +206,14 @@ phases_found design body early late finds_early finds_late =
     (λ x at.
     let r = passed phase_breach all rs x at in
     let s = r.0.name.signal in
-    let assigned = first_of (assigns body s) (is_unassigned signals r.0 || is_followed signals r.0) r.2 in
+    let assigned = first_of (assigns body s) (is_unassigned signals r.0
+    || is_followed signals r.0) r.2 in
     subst (Contains (xs ++ ys)) r.1 (⊎_elim
-    (λ l. Contains-left xs ys (phase_breach r.0) (passes phase_breach (is_wrong_read true signals body) rs r.0 r.3
+    (λ l. Contains-left xs ys (phase_breach r.0)
+    (passes phase_breach (is_wrong_read true signals body) rs r.0 r.3
     (and_true (assigns body s) (is_unassigned signals r.0) assigned l)))
-    (λ m. Contains-right xs ys (phase_breach r.0) (passes phase_breach (is_wrong_read false signals body) rs r.0 r.3 m))
+    (λ m. Contains-right xs ys (phase_breach r.0)
+    (passes phase_breach (is_wrong_read false signals body) rs r.0 r.3 m))
     (or_cases (is_unassigned signals r.0) (is_followed signals r.0)
     (second_of (assigns body s) (is_unassigned signals r.0 || is_followed signals r.0) r.2))))
     (finds_both xs ys 606 early late finds_early finds_late)
@@ -247,21 +221,26 @@ phases_found design body early late finds_early finds_late =
 -- ---- rule 605 of one signal
 
 -- some bit below a width is not in a set
-pub latch_is : (width mask around : ℕ) (test : ℕ → Bool) (answer : Bool) → ((b : ℕ) → is_set mask b ≡ (nat_le 0 b && nat_le b width))
+pub latch_is : (width mask around : ℕ) (test : ℕ → Bool) (answer : Bool)
+    → ((b : ℕ) → is_set mask b ≡ (nat_le 0 b && nat_le b width))
     → ((b : ℕ) → is_set around b ≡ test b) → IsTrue answer ↔ LacksBit mask around
     → answer ≡ list_any (λ b. not (test b)) (range_with_len 0 (width + 1))
-latch_is width mask around test answer is_mask is_around is = same_answer answer (list_any (λ b. not (test b)) (range_with_len 0 (width + 1)))
+latch_is width mask around test answer is_mask is_around is =
+    same_answer answer (list_any (λ b. not (test b)) (range_with_len 0 (width + 1)))
     (λ h.
     let found = is.0 h in
-    let below = leb-true found.0 width (second_of (nat_le 0 found.0) (nat_le found.0 width) (sym (is_mask found.0) ∙ found.1)) in
-    some_from (λ b. not (test b)) (range_with_len 0 (width + 1)) found.0 (range_has (width + 1) found.0 (omega arith))
+    let below = leb-true found.0 width
+    (second_of (nat_le 0 found.0) (nat_le found.0 width) (sym (is_mask found.0) ∙ found.1)) in
+    some_from (λ b. not (test b)) (range_with_len 0 (width + 1)) found.0
+    (range_has (width + 1) found.0 (omega arith))
     (ap not (sym (is_around found.0) ∙ found.2)))
     (λ h.
     let found = from_some (λ b. not (test b)) (range_with_len 0 (width + 1)) h in
     let below = in_range (width + 1) found.0 found.1 in
     is.1 (
       found.0,
-      is_mask found.0 ∙ and_true (nat_le 0 found.0) (nat_le found.0 width) (le-leb 0 found.0 (omega arith)) (le-leb found.0 width (omega arith)),
+      is_mask found.0 ∙ and_true (nat_le 0 found.0) (nat_le found.0 width)
+          (le-leb 0 found.0 (omega arith)) (le-leb found.0 width (omega arith)),
       is_around found.0 ∙ not_true (test found.0) found.2,
     ))
   where
@@ -271,52 +250,74 @@ latch_is width mask around test answer is_mask is_around is = same_answer answer
 
 -- ---- rule 605 of one block
 
-pub key_found : (es : List (ℕ × ℕ)) (s : ℕ) → IsTrue (not (unwrap_or (lookup (λ k. is_eq (nat_cmp s k)) es) 0 == 0)) → IsTrue (list_any (λ k. k == s) (keys_of es))
+pub key_found : (es : List (ℕ × ℕ)) (s : ℕ) →
+    IsTrue (not (unwrap_or (lookup (λ k. is_eq (nat_cmp s k)) es) 0 == 0)) →
+    IsTrue (list_any (λ k. k == s) (keys_of es))
 key_found [] s h = absurd (false≢true h)
 key_found (e ∷ es) s h = ⊎_elim
     (λ same. or_left (e.0 == s) (list_any (λ k. k == s) (keys_of es)) same)
     (λ other. or_right (e.0 == s) (list_any (λ k. k == s) (keys_of es)) (key_found es s
-    (sym (ap (λ t. not (unwrap_or (cond t (Some e.1) (lookup (λ k. is_eq (nat_cmp s k)) es)) 0 == 0)) (key_test s e.0 ∙ other)) ∙ h)))
+    (sym (ap (λ t. not (unwrap_or (cond t (Some e.1) (lookup (λ k. is_eq (nat_cmp s k)) es)) 0
+    == 0)) (key_test s e.0 ∙ other)) ∙ h)))
     (either_way (e.0 == s))
 
 -- some signals were looked at, and the keys of some are left
-pub record LatchesSoFar (design : FlatDesign) (place : Place) (body : FlatStatement) (left : List ℕ) (found : Option Found) : Type 0 where
+pub record LatchesSoFar (design : FlatDesign) (place : Place) (body : FlatStatement) (left : List ℕ)
+    (found : Option Found) : Type 0 where
   pub done : List Breach
   pub finds : FindsFirst 605 done found
   pub sure : (x : Breach) → Contains done x → Contains (latches_of design place body) x
-  pub whole : (s : ℕ) → IsTrue (is_latched design.signals body s) → Contains done (breach 605 place s) ⊎ IsTrue (list_any (λ k. k == s) left)
+  pub whole : (s : ℕ) → IsTrue (is_latched design.signals body s) →
+      Contains done (breach 605 place s) ⊎ IsTrue (list_any (λ k. k == s) left)
 
-module _ (design : FlatDesign) (place : Place) (body : FlatStatement) (sound : IsTrue (statement_sound design.signals body)) where
-  is_latch : (s : ℕ) → IsTrue (is_latched design.signals body s) → Contains (latches_of design place body) (breach 605 place s)
+module _ (design : FlatDesign) (place : Place) (body : FlatStatement)
+    (sound : IsTrue (statement_sound design.signals body)) where
+  is_latch : (s : ℕ) → IsTrue (is_latched design.signals body s) →
+      Contains (latches_of design place body) (breach 605 place s)
   is_latch s h =
       let signals = design.signals in
       let inside = ltb-true s (length signals) (assigned_is_signal signals body sound s
-      (first_of (assigns body s) (list_any (λ b. not (always_assigns body s b)) (range_with_len 0 (signal_width signals s))) h)) in
-      Contains-map (breach 605 place) (signals_that design (is_latched signals body)) s (in_those (length signals) (is_latched signals body) s inside h)
+      (first_of (assigns body s)
+      (list_any (λ b. not (always_assigns body s b))
+      (range_with_len 0 (signal_width signals s))) h)) in
+      Contains-map (breach 605 place) (signals_that design (is_latched signals body)) s
+      (in_those (length signals) (is_latched signals body) s inside h)
 
-  pub latches_begin : (left : List ℕ) → ((s : ℕ) → IsTrue (assigns body s) → IsTrue (list_any (λ k. k == s) left)) → LatchesSoFar design place body left None
+  pub latches_begin : (left : List ℕ) →
+      ((s : ℕ) → IsTrue (assigns body s) → IsTrue (list_any (λ k. k == s) left)) →
+      LatchesSoFar design place body left None
   latches_begin left keys = record {
     done = [];
     finds = refl;
     sure = λ x at. absurd (Contains-nil x at);
-    whole = λ s h. inr (keys s (first_of (assigns body s) (list_any (λ b. not (always_assigns body s b)) (range_with_len 0 (signal_width design.signals s))) h));
+    whole =
+        λ s h.
+        inr (keys s (first_of (assigns body s)
+        (list_any (λ b. not (always_assigns body s b))
+        (range_with_len 0 (signal_width design.signals s))) h));
   }
 
   one_of : (b : Bool) (y x : Breach) → Contains (cond b (y ∷ []) []) x → IsTrue b × (y ≡ x)
-  one_of true y x at = ⊎_elim (λ e. (refl, e)) (λ l. absurd (Contains-nil x l)) (Contains-cases y [] x at)
+  one_of true y x at =
+      ⊎_elim (λ e. (refl, e)) (λ l. absurd (Contains-nil x l)) (Contains-cases y [] x at)
   one_of false y x at = absurd (Contains-nil x at)
 
   is_one : (b : Bool) (y : Breach) → IsTrue b → Contains (cond b (y ∷ []) []) y
   is_one true y h = Contains-head y []
   is_one false y h = absurd (false≢true h)
 
-  pub latches_more : (k : ℕ) (left rest : List ℕ) (found other next : Option Found) (latched : Bool) → left ≡ k ∷ rest
-      → latched ≡ is_latched design.signals body k → FindsFirst 605 (cond latched (breach 605 place k ∷ []) []) other → next ≡ first_found found other
+  pub latches_more : (k : ℕ) (left rest : List ℕ) (found other next : Option Found) (latched : Bool)
+      → left ≡ k ∷ rest
+      → latched ≡ is_latched design.signals body k
+      → FindsFirst 605 (cond latched (breach 605 place k ∷ []) []) other
+      → next ≡ first_found found other
       → LatchesSoFar design place body left found → LatchesSoFar design place body rest next
   latches_more k left rest found other next latched splits is finds is_next so_far =
       let one = cond latched (breach 605 place k ∷ []) [] in record {
         done = so_far.done ++ one;
-        finds = subst (FindsFirst 605 (so_far.done ++ one)) (sym is_next) (finds_both so_far.done one 605 found other so_far.finds finds);
+        finds =
+            subst (FindsFirst 605 (so_far.done ++ one)) (sym is_next)
+            (finds_both so_far.done one 605 found other so_far.finds finds);
         sure = λ x at. ⊎_elim
             (λ l. so_far.sure x l)
             (λ r. let here = one_of latched (breach 605 place k) x r in
@@ -327,13 +328,18 @@ module _ (design : FlatDesign) (place : Place) (body : FlatStatement) (sound : I
             (λ any. ⊎_elim
             (λ same. inl (Contains-right so_far.done one (breach 605 place s)
             (subst (λ z. Contains one (breach 605 place z)) (eqb-true k s same)
-            (is_one latched (breach 605 place k) (is ∙ subst (λ z. IsTrue (is_latched design.signals body z)) (sym (eqb-true k s same)) h)))))
+            (is_one latched (breach 605 place k)
+            (is ∙ subst (λ z. IsTrue (is_latched design.signals body z))
+            (sym (eqb-true k s same)) h)))))
             (λ later. inr later)
-            (or_cases (k == s) (list_any (λ z. z == s) rest) (subst (λ ks. IsTrue (list_any (λ z. z == s) ks)) splits any)))
+            (or_cases (k == s) (list_any (λ z. z == s) rest)
+            (subst (λ ks. IsTrue (list_any (λ z. z == s) ks)) splits any)))
             (so_far.whole s h);
       }
 
-  pub latches_end : (left : List ℕ) (found : Option Found) → left ≡ [] → LatchesSoFar design place body left found → FindsFirst 605 (latches_of design place body) found
+  pub latches_end : (left : List ℕ) (found : Option Found) → left ≡ [] →
+      LatchesSoFar design place body left found →
+      FindsFirst 605 (latches_of design place body) found
   latches_end left found none so_far =
       let n = length design.signals in
       let test = is_latched design.signals body in
@@ -352,11 +358,13 @@ pub in_scope-nothing : in_scope Nothing ≡ (λ s b. false)
 in_scope-nothing = search (rules, the_lemmas)
 
 module _ (test : ProcessForm → Bool) (f : ProcessForm → List Breach) where
-  one_kept : (b : Bool) (p : ProcessForm) (ps : List ProcessForm) → flat_map f (cond b (p ∷ ps) ps) ≡ flat_map f (cond b (p ∷ []) []) ++ flat_map f ps
+  one_kept : (b : Bool) (p : ProcessForm) (ps : List ProcessForm) →
+      flat_map f (cond b (p ∷ ps) ps) ≡ flat_map f (cond b (p ∷ []) []) ++ flat_map f ps
   one_kept true p ps = ap (λ xs. xs ++ flat_map f ps) (sym (append-nil (f p)))
   one_kept false p ps = refl
 
-  pub block_more : (all done : List Breach) (left : List ProcessForm) (p : ProcessForm) (ps : List ProcessForm) → left ≡ p ∷ ps
+  pub block_more : (all done : List Breach) (left : List ProcessForm) (p : ProcessForm)
+      (ps : List ProcessForm) → left ≡ p ∷ ps
       → all ≡ done ++ flat_map f (filter test left)
       → all ≡ (done ++ flat_map f (filter test (p ∷ []))) ++ flat_map f (filter test ps)
   block_more all done left p ps is e =

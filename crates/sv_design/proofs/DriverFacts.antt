@@ -1,5 +1,7 @@
 -- The drivers of a list of processes.
-use Rattle.std.proofs.Common.{◌≡◌, ℕ, ◌+◌, ◌<◌, Bool, true, false, cond, not, List, [], ◌∷◌, ◌++◌, length, map, Option, None, get_or, Some, refl, sym, ap, ap₂, subst, ◌∙◌, arith, append_assoc, zero-add}
+use Rattle.std.proofs.Common.{◌≡◌, ℕ, ◌+◌, ◌<◌, Bool, true, false, cond, not, List, [], ◌∷◌, ◌++◌}
+use Rattle.std.proofs.Common.{length, map, Option, None, get_or, Some, refl, sym, ap, ap₂, subst}
+use Rattle.std.proofs.Common.{◌∙◌, arith, append_assoc, zero-add}
 use Rattle.std.specs.Prelude.{filter, slice_get, option_map, is_none}
 use Rattle.std.specs.List.{filter_map, cons_option, range_with_len}
 use Rattle.std.proofs.lemmas.List.{map-append, map-id, get_or-map}
@@ -21,7 +23,8 @@ use Rattle.sv_flat.specs.Clocks.{is_clock_link, processes_of}
 use Rattle.sv_flat.specs.Processes.{drivers, is_top_input}
 use Rattle.sv_design.specs.declared.drivers.Driver.{Driver}
 use Rattle.sv_design.specs.declared.drivers.Drivers.{Drivers}
-use Rattle.sv_design.specs.DriverTables.{driver_at, entries, and_one, first_at, second_at, AreBelow, AreDrivers, AreDriversOf, Notes, kept_of}
+use Rattle.sv_design.specs.DriverTables.{driver_at, entries, and_one, first_at, second_at, AreBelow}
+use Rattle.sv_design.specs.DriverTables.{AreDrivers, AreDriversOf, Notes, kept_of}
 use Rattle.sv_design.proofs.NoteFacts.{same_drivers}
 
 push_on : (b a : Bool) (d e : Driver) (xs : List Driver)
@@ -37,28 +40,36 @@ entries_push k m [] p s is =
 entries_push k m (q ∷ ps) p s is =
     let rest : m ≡ k + 1 + length ps = omega arith in
     ap (λ xs. cond (assigns q.body s) (driver_at k q ∷ xs) xs) (entries_push (k + 1) m ps p s rest)
-    ∙ push_on (assigns q.body s) (assigns p.body s) (driver_at k q) (driver_at m p) (entries (k + 1) ps s)
+    ∙ push_on (assigns q.body s) (assigns p.body s) (driver_at k q) (driver_at m p)
+    (entries (k + 1) ps s)
 
-below_cons : (b : Bool) (m : ℕ) (d : Driver) (xs : List Driver) → d.process < m → AreBelow m xs → AreBelow m (cond b (d ∷ xs) xs)
+below_cons : (b : Bool) (m : ℕ) (d : Driver) (xs : List Driver) → d.process < m → AreBelow m xs →
+    AreBelow m (cond b (d ∷ xs) xs)
 below_cons true m d xs h below = (h, below)
 below_cons false m d xs h below = below
 
-entries_below : (k m : ℕ) (ps : List ProcessForm) (s : ℕ) → m ≡ k + length ps → AreBelow m (entries k ps s)
+entries_below : (k m : ℕ) (ps : List ProcessForm) (s : ℕ) → m ≡ k + length ps →
+    AreBelow m (entries k ps s)
 entries_below k m [] s is = tt
 entries_below k m (q ∷ ps) s is =
     below_cons (assigns q.body s) m (driver_at k q) (entries (k + 1) ps s) (omega arith)
     (entries_below (k + 1) m ps s (omega arith))
 
 -- one process more
-pub drivers_more : (n : ℕ) (old new : Drivers) (ps : List ProcessForm) (p : ProcessForm) (d : Driver) → d ≡ driver_at (length ps) p
-    → AreDrivers n old (entries 0 ps) → Notes n d old new (assigns p.body) → AreDrivers n new (entries 0 (ps ++ p ∷ []))
+pub drivers_more : (n : ℕ) (old new : Drivers) (ps : List ProcessForm) (p : ProcessForm)
+    (d : Driver) → d ≡ driver_at (length ps) p
+    → AreDrivers n old (entries 0 ps) → Notes n d old new (assigns p.body)
+    → AreDrivers n new (entries 0 (ps ++ p ∷ []))
 drivers_more n old new ps p d is are notes =
-    same_drivers n new (λ s. and_one d (assigns p.body s) (entries 0 ps s)) (entries 0 (ps ++ p ∷ []))
+    same_drivers n new (λ s.
+    and_one d (assigns p.body s) (entries 0 ps s)) (entries 0 (ps ++ p ∷ []))
     (λ s. ap (λ e. and_one e (assigns p.body s) (entries 0 ps s)) is
     ∙ sym (entries_push 0 (length ps) ps p s (sym (zero-add (length ps)))))
     (notes (entries 0 ps) (λ s. false)
-    (λ s. subst (λ e. AreBelow e.process (entries 0 ps s)) (sym is) (entries_below 0 (length ps) ps s (sym (zero-add (length ps)))))
-    (same_drivers n old (entries 0 ps) (λ s. and_one d false (entries 0 ps s)) (λ s. sym (append-nil (entries 0 ps s))) are))
+    (λ s. subst (λ e. AreBelow e.process (entries 0 ps s)) (sym is)
+    (entries_below 0 (length ps) ps s (sym (zero-add (length ps)))))
+    (same_drivers n old (entries 0 ps) (λ s. and_one d false (entries 0 ps s)) (λ s.
+    sym (append-nil (entries 0 ps s))) are))
 
 module _ (design : FlatDesign) where
   one_kept : (b : Bool) (p : ProcessForm) → b ≡ false → cond (not b) (p ∷ []) [] ≡ p ∷ []
@@ -69,13 +80,16 @@ module _ (design : FlatDesign) where
   none_kept true p e = refl
   none_kept false p e = ap (λ t. cond (not t) (p ∷ []) []) e
 
-  pub is_kept : (ps : List ProcessForm) (p : ProcessForm) → is_clock_link design p ≡ false → ps ++ kept_of design (p ∷ []) ≡ ps ++ p ∷ []
+  pub is_kept : (ps : List ProcessForm) (p : ProcessForm) → is_clock_link design p ≡ false →
+      ps ++ kept_of design (p ∷ []) ≡ ps ++ p ∷ []
   is_kept ps p e = ap (λ qs. ps ++ qs) (one_kept (is_clock_link design p) p e)
 
-  pub is_left_out : (ps : List ProcessForm) (p : ProcessForm) → is_clock_link design p ≡ true → ps ++ kept_of design (p ∷ []) ≡ ps
+  pub is_left_out : (ps : List ProcessForm) (p : ProcessForm) → is_clock_link design p ≡ true →
+      ps ++ kept_of design (p ∷ []) ≡ ps
   is_left_out ps p e = ap (λ qs. ps ++ qs) (none_kept (is_clock_link design p) p e) ∙ append-nil ps
 
-  pub kept_more : (all ps rest : List ProcessForm) (p : ProcessForm) → all ≡ ps ++ kept_of design (p ∷ rest)
+  pub kept_more : (all ps rest : List ProcessForm) (p : ProcessForm)
+      → all ≡ ps ++ kept_of design (p ∷ rest)
       → all ≡ (ps ++ kept_of design (p ∷ [])) ++ kept_of design rest
   kept_more all ps rest p e =
       e ∙ ap (λ qs. ps ++ qs) (filter-append (λ q. not (is_clock_link design q)) (p ∷ []) rest)
@@ -84,38 +98,59 @@ module _ (design : FlatDesign) where
 -- ---- the rules
 
 module _ {Y : Type 0} (f : Place → Y) where
-  one_place : (b : Bool) (d : Driver) (p : ProcessForm) (xs : List Driver) (ys : List ProcessForm) → d.place ≡ p.place
+  one_place : (b : Bool) (d : Driver) (p : ProcessForm) (xs : List Driver) (ys : List ProcessForm)
+      → d.place ≡ p.place
       → map (λ (e : Driver). f e.place) xs ≡ map (λ (q : ProcessForm). f q.place) ys
-      → map (λ (e : Driver). f e.place) (cond b (d ∷ xs) xs) ≡ map (λ (q : ProcessForm). f q.place) (cond b (p ∷ ys) ys)
+      → map (λ (e : Driver). f e.place) (cond b (d ∷ xs) xs) ≡ map (λ (q : ProcessForm).
+      f q.place) (cond b (p ∷ ys) ys)
   one_place true d p xs ys same rest = ap₂ (λ y zs. f y ∷ zs) same rest
   one_place false d p xs ys same rest = rest
 
   same_places : (k : ℕ) (ps : List ProcessForm) (s : ℕ)
-      → map (λ (e : Driver). f e.place) (entries k ps s) ≡ map (λ (q : ProcessForm). f q.place) (drivers ps s)
+      → map (λ (e : Driver). f e.place) (entries k ps s) ≡ map (λ (q : ProcessForm).
+      f q.place) (drivers ps s)
   same_places k [] s = refl
   same_places k (p ∷ ps) s =
-      one_place (assigns p.body s) (driver_at k p) p (entries (k + 1) ps s) (drivers ps s) refl (same_places (k + 1) ps s)
+      one_place (assigns p.body s) (driver_at k p) p (entries (k + 1) ps s) (drivers ps s) refl
+      (same_places (k + 1) ps s)
 
   pub same_driver : (ps : List ProcessForm) (s j : ℕ)
-      → option_map (λ (e : Driver). f e.place) (slice_get (entries 0 ps s) j) ≡ option_map (λ (q : ProcessForm). f q.place) (slice_get (drivers ps s) j)
+      → option_map (λ (e : Driver). f e.place) (slice_get (entries 0 ps s) j) ≡
+      option_map (λ (q : ProcessForm). f q.place) (slice_get (drivers ps s) j)
   same_driver ps s j =
       sym (slice_get-map (λ (e : Driver). f e.place) (entries 0 ps s) j)
       ∙ ap (λ ys. slice_get ys j) (same_places 0 ps s)
       ∙ slice_get-map (λ (q : ProcessForm). f q.place) (drivers ps s) j
 
-module _ (design : FlatDesign) (tables : Drivers) (are : AreDriversOf design tables) (s : ℕ) (inside : s < length design.signals) where
-  picked : (top : Bool) → option_map (λ (e : Driver). breach 603 e.place s) (cond top (first_at tables s) (second_at tables s))
-      ≡ option_map (λ (p : ProcessForm). breach 603 p.place s) (slice_get (drivers (processes_of design) s) (cond top 0 1))
-  picked true = ap (option_map (λ (e : Driver). breach 603 e.place s)) (are.first_is s inside) ∙ same_driver (λ p. breach 603 p s) (processes_of design) s 0
-  picked false = ap (option_map (λ (e : Driver). breach 603 e.place s)) (are.second_is s inside) ∙ same_driver (λ p. breach 603 p s) (processes_of design) s 1
+module _ (design : FlatDesign) (tables : Drivers) (are : AreDriversOf design tables) (s : ℕ)
+    (inside : s < length design.signals) where
+  picked : (top : Bool) →
+      option_map (λ (e : Driver).
+      breach 603 e.place s) (cond top (first_at tables s) (second_at tables s))
+      ≡ option_map (λ (p : ProcessForm).
+      breach 603 p.place s) (slice_get (drivers (processes_of design) s) (cond top 0 1))
+  picked true =
+      ap (option_map (λ (e : Driver). breach 603 e.place s)) (are.first_is s inside)
+      ∙ same_driver (λ p. breach 603 p s) (processes_of design) s 0
+  picked false =
+      ap (option_map (λ (e : Driver). breach 603 e.place s)) (are.second_is s inside)
+      ∙ same_driver (λ p. breach 603 p s) (processes_of design) s 1
 
   pub fault_is : (top : Bool) → top ≡ is_top_input design s
-      → option_map (λ (e : Driver). breach 603 e.place s) (cond top (first_at tables s) (second_at tables s)) ≡ driver_fault design s
-  fault_is top is = picked top ∙ ap (λ t. option_map (λ (p : ProcessForm). breach 603 p.place s) (slice_get (drivers (processes_of design) s) (cond t 0 1))) is
+      → option_map (λ (e : Driver).
+      breach 603 e.place s) (cond top (first_at tables s) (second_at tables s)) ≡
+      driver_fault design s
+  fault_is top is =
+      picked top ∙ ap (λ t.
+      option_map (λ (p : ProcessForm).
+      breach 603 p.place s) (slice_get (drivers (processes_of design) s) (cond t 0 1))) is
 
-  pub none_is : is_none (first_at tables s) ≡ is_none (slice_get (drivers (processes_of design) s) 0)
+  pub none_is : is_none (first_at tables s) ≡
+      is_none (slice_get (drivers (processes_of design) s) 0)
   none_is =
-      ap is_none (are.first_is s inside) ∙ sym (none_mapped (λ (e : Driver). e.place) (slice_get (entries 0 (processes_of design) s) 0))
+      ap is_none (are.first_is s inside)
+      ∙ sym (none_mapped (λ (e : Driver).
+      e.place) (slice_get (entries 0 (processes_of design) s) 0))
       ∙ ap is_none (same_driver (λ p. p) (processes_of design) s 0)
       ∙ none_mapped (λ (p : ProcessForm). p.place) (slice_get (drivers (processes_of design) s) 0)
     where
@@ -126,17 +161,23 @@ module _ (design : FlatDesign) (tables : Drivers) (are : AreDriversOf design tab
 -- ---- signals one after the other
 
 pub range_more : (n : ℕ) → range_with_len 0 (n + 1) ≡ range_with_len 0 n ++ n ∷ []
-range_more n = sym (map-id (range_with_len 0 (n + 1))) ∙ map-range_with_len_more (λ x. x) 0 n n (zero-add n) ∙ ap (λ xs. xs ++ n ∷ []) (map-id (range_with_len 0 n))
+range_more n =
+    sym (map-id (range_with_len 0 (n + 1))) ∙ map-range_with_len_more (λ x. x) 0 n n (zero-add n)
+    ∙ ap (λ xs. xs ++ n ∷ []) (map-id (range_with_len 0 n))
 
-pub made_more : {Y : Type 0} (f : ℕ → Option Y) (n : ℕ) → filter_map f (range_with_len 0 (n + 1)) ≡ filter_map f (range_with_len 0 n) ++ cons_option (f n) []
+pub made_more : {Y : Type 0} (f : ℕ → Option Y) (n : ℕ) →
+    filter_map f (range_with_len 0 (n + 1)) ≡ filter_map f (range_with_len 0 n)
+    ++ cons_option (f n) []
 made_more f n = ap (filter_map f) (range_more n) ∙ filter_map-append f (range_with_len 0 n) (n ∷ [])
 
-map_cond : {X Y : Type 0} (f : X → Y) (b : Bool) (x : X) → map f (cond b (x ∷ []) []) ≡ cond b (f x ∷ []) []
+map_cond : {X Y : Type 0} (f : X → Y) (b : Bool) (x : X) →
+    map f (cond b (x ∷ []) []) ≡ cond b (f x ∷ []) []
 map_cond f true x = refl
 map_cond f false x = refl
 
 pub passed_more : {Y : Type 0} (f : ℕ → Y) (test : ℕ → Bool) (n : ℕ)
-    → map f (filter test (range_with_len 0 (n + 1))) ≡ map f (filter test (range_with_len 0 n)) ++ cond (test n) (f n ∷ []) []
+    → map f (filter test (range_with_len 0 (n + 1))) ≡
+    map f (filter test (range_with_len 0 n)) ++ cond (test n) (f n ∷ []) []
 passed_more f test n =
     ap (λ xs. map f (filter test xs)) (range_more n)
     ∙ ap (map f) (filter-append test (range_with_len 0 n) (n ∷ []))
@@ -144,15 +185,21 @@ passed_more f test n =
     ∙ ap (λ ys. map f (filter test (range_with_len 0 n)) ++ ys) (map_cond f (test n) n)
 
 -- the signal at a place of a design's vector
-pub signal_at : (flat : Flat) (items : List Signal) (i : ℕ) (signal : Signal) → items ≡ flat.signals.items → i < length items
+pub signal_at : (flat : Flat) (items : List Signal) (i : ℕ) (signal : Signal)
+    → items ≡ flat.signals.items → i < length items
     → signal ≡ get_or items i signal → signal_of (design_of flat).signals i ≡ signal_form signal
 signal_at flat items i signal same inside is =
     ap (λ xs. signal_of (map signal_form xs) i) (sym same)
     ∙ get_or-map signal_form items i signal _ inside
     ∙ ap signal_form (sym is)
 
-pub inside_design : (flat : Flat) (items : List Signal) (i : ℕ) → items ≡ flat.signals.items → i < length items → i < length (design_of flat).signals
-inside_design flat items i same inside = rw length-map (subst (λ (xs : List Signal). i < length xs) same inside)
+pub inside_design : (flat : Flat) (items : List Signal) (i : ℕ) → items ≡ flat.signals.items →
+    i < length items → i < length (design_of flat).signals
+inside_design flat items i same inside =
+    rw length-map (subst (λ (xs : List Signal). i < length xs) same inside)
 
-pub filter_more : (test : ℕ → Bool) (n : ℕ) → filter test (range_with_len 0 (n + 1)) ≡ filter test (range_with_len 0 n) ++ cond (test n) (n ∷ []) []
-filter_more test n = ap (filter test) (range_more n) ∙ filter-append test (range_with_len 0 n) (n ∷ [])
+pub filter_more : (test : ℕ → Bool) (n : ℕ) →
+    filter test (range_with_len 0 (n + 1)) ≡ filter test (range_with_len 0 n)
+    ++ cond (test n) (n ∷ []) []
+filter_more test n =
+    ap (filter test) (range_more n) ∙ filter-append test (range_with_len 0 n) (n ∷ [])

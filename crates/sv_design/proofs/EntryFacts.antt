@@ -1,5 +1,7 @@
 -- Sets of bits, by the entries of their maps.
-use Rattle.std.proofs.Common.{◌≡◌, ℕ, ◌<◌, ◌^◌, Bool, true, false, not, cond, ◌&&◌, ◌||◌, ◌==◌, List, [], ◌∷◌, Some, ⊎_elim, refl, sym, ap, ap₂, subst, ◌∙◌, Less, Equal, Greater, nat_lt, ltb-true, arith}
+use Rattle.std.proofs.Common.{◌≡◌, ℕ, ◌<◌, ◌^◌, Bool, true, false, not, cond, ◌&&◌, ◌||◌, ◌==◌}
+use Rattle.std.proofs.Common.{List, [], ◌∷◌, Some, ⊎_elim, refl, sym, ap, ap₂, subst, ◌∙◌, Less}
+use Rattle.std.proofs.Common.{Equal, Greater, nat_lt, ltb-true, arith}
 use Rattle.std.specs.Prelude.{IsTrue, IsFalse, bit_and, unwrap_or}
 use Rattle.std.specs.List.{list_any, range_with_len, AllByRecursion}
 use Rattle.std.specs.List.Sorted.{IsStrictlySortedBy}
@@ -29,11 +31,13 @@ and_first true false h = absurd (h refl refl)
 and_first false b h = refl
 
 module _ (a b : ℕ) (few : a < 2 ^ 64) where
-  none_lacking : ((k : ℕ) → k < 64 → IsTrue (is_set a k) → IsFalse (is_set b k) → ⊥) → bit_and a b ≡ a
+  none_lacking : ((k : ℕ) → k < 64 → IsTrue (is_set a k) → IsFalse (is_set b k) → ⊥) →
+      bit_and a b ≡ a
   none_lacking none =
       let less = and_le_l a b in
       same_from_bits_below 64 (bit_and a b) a (omega arith) few
-      (λ i below. same_bit (bit_at (bit_and a b) i) (bit_at a i) (bit_at-lt (bit_and a b) i) (bit_at-lt a i)
+      (λ i below. same_bit (bit_at (bit_and a b) i) (bit_at a i) (bit_at-lt (bit_and a b) i)
+      (bit_at-lt a i)
       (and_test a b i ∙ and_first (is_set a i) (is_set b i) (none i below)))
 
   abbrev lacking : ℕ → Bool
@@ -43,10 +47,15 @@ module _ (a b : ℕ) (few : a < 2 ^ 64) where
   bit_lacking h = ⊎_elim
       (λ some.
       let found = from_some lacking (range_with_len 0 64) some in
-      let k = found.0 in
-      (k, first_of (is_set a k) (not (is_set b k)) found.2, negated_true (is_set b k) (second_of (is_set a k) (not (is_set b k)) found.2)))
+      let k = found.0 in (
+        k,
+        first_of (is_set a k) (not (is_set b k)) found.2,
+        negated_true (is_set b k)
+            (second_of (is_set a k) (not (is_set b k)) found.2),
+      ))
       (λ none. absurd (false≢true (sym (ap not (eq-eqb (bit_and a b) a (none_lacking
-      (λ k below has lacks. false≢true (sym none ∙ some_from lacking (range_with_len 0 64) k (range_has 64 k below)
+      (λ k below has lacks.
+      false≢true (sym none ∙ some_from lacking (range_with_len 0 64) k (range_has 64 k below)
       (and_true (is_set a k) (not (is_set b k)) has (ap not lacks))))))) ∙ h)))
       (either_way (list_any lacking (range_with_len 0 64)))
 
@@ -71,13 +80,16 @@ no_and : (a b : Bool) → IsFalse a → (a && b) ≡ false
 no_and true b h = absurd (false≢true (sym h))
 no_and false b h = refl
 
-by_order : (less same : Bool) → is_eq (cond less Less (cond same Equal Greater)) ≡ (not less && same)
+by_order : (less same : Bool) →
+    is_eq (cond less Less (cond same Equal Greater)) ≡ (not less && same)
 by_order true same = refl
 by_order false true = refl
 by_order false false = refl
 
 not_less : (a b : ℕ) → a ≡ b → nat_lt a b ≡ false
-not_less a b e = ⊎_elim (λ l. absurd (let m = ltb-true a b l in omega (arith, m, e))) (λ f. f) (either_way (nat_lt a b))
+not_less a b e =
+    ⊎_elim (λ l. absurd (let m = ltb-true a b l in omega (arith, m, e))) (λ f.
+    f) (either_way (nat_lt a b))
 
 -- a map finds a key where it is the one that is asked for
 pub key_test : (s k : ℕ) → is_eq (nat_cmp s k) ≡ (k == s)
@@ -86,21 +98,28 @@ key_test s k = by_order (nat_lt s k) (s == k) ∙ same_answer (not (nat_lt s k) 
     (λ h. let e = sym (eqb-true k s h) in
     and_true (not (nat_lt s k)) (s == k) (ap not (not_less s k e)) (eq-eqb s k e))
 
-none_after : (es : List (ℕ × ℕ)) (k s b : ℕ) → AllByRecursion (λ y. nat_cmp k y ≡ Less) (keys_of es) → IsTrue (k == s) → in_entries es s b ≡ false
+none_after : (es : List (ℕ × ℕ)) (k s b : ℕ) →
+    AllByRecursion (λ y. nat_cmp k y ≡ Less) (keys_of es) → IsTrue (k == s) →
+    in_entries es s b ≡ false
 none_after [] k s b later same = refl
 none_after (e ∷ es) k s b later same =
     let other : (e.0 == s) ≡ false = ⊎_elim
-    (λ t. absurd (false≢true (sym (ap is_eq later.0) ∙ key_test k e.0 ∙ eq-eqb e.0 k (eqb-true e.0 s t ∙ sym (eqb-true k s same)))))
+    (λ t.
+    absurd (false≢true (sym (ap is_eq later.0) ∙ key_test k e.0
+    ∙ eq-eqb e.0 k (eqb-true e.0 s t ∙ sym (eqb-true k s same)))))
     (λ f. f)
     (either_way (e.0 == s)) in
-    ap (λ t. t || in_entries es s b) (no_and (e.0 == s) (is_set e.1 b) other) ∙ none_after es k s b later.1 same
+    ap (λ t. t || in_entries es s b) (no_and (e.0 == s) (is_set e.1 b) other)
+    ∙ none_after es k s b later.1 same
 
-here_first : (e : ℕ × ℕ) (es : List (ℕ × ℕ)) (s b : ℕ) → IsTrue (e.0 == s) → in_entries es s b ≡ false
+here_first : (e : ℕ × ℕ) (es : List (ℕ × ℕ)) (s b : ℕ) → IsTrue (e.0 == s)
+    → in_entries es s b ≡ false
     → in_entries (e ∷ es) s b ≡ is_set (unwrap_or (lookup (λ k. is_eq (nat_cmp s k)) (e ∷ es)) 0) b
 here_first e es s b same none =
     ap₂ (λ t u. (t && is_set e.1 b) || u) same none
     ∙ or_no (is_set e.1 b) false refl
-    ∙ sym (ap (λ t. is_set (unwrap_or (cond t (Some e.1) (lookup (λ k. is_eq (nat_cmp s k)) es)) 0) b) (key_test s e.0 ∙ same))
+    ∙ sym (ap (λ t. is_set (unwrap_or (cond t (Some e.1) (lookup (λ k. is_eq (nat_cmp s k)) es)) 0)
+    b) (key_test s e.0 ∙ same))
 
 pub entries_are : (es : List (ℕ × ℕ)) (s b : ℕ) → IsStrictlySortedBy nat_cmp (keys_of es)
     → in_entries es s b ≡ is_set (unwrap_or (lookup (λ k. is_eq (nat_cmp s k)) es) 0) b
@@ -111,14 +130,16 @@ entries_are (e ∷ es) s b sorted = ⊎_elim
     (λ other.
     ap (λ t. t || in_entries es s b) (no_and (e.0 == s) (is_set e.1 b) other)
     ∙ entries_are es s b sorted.1
-    ∙ sym (ap (λ t. is_set (unwrap_or (cond t (Some e.1) (lookup (λ k. is_eq (nat_cmp s k)) es)) 0) b) (key_test s e.0 ∙ other)))
+    ∙ sym (ap (λ t. is_set (unwrap_or (cond t (Some e.1) (lookup (λ k. is_eq (nat_cmp s k)) es)) 0)
+    b) (key_test s e.0 ∙ other)))
     (either_way (e.0 == s))
 
 pub nothing_in : (mask b : ℕ) → mask ≡ 0 → is_set mask b ≡ false
 nothing_in mask b none = ap (λ n. is_set n b) none ∙ ap (λ n. n == 1) (bit_at-zero b)
 
 -- one entry more
-pub entry_added : (e : ℕ × ℕ) (es : List (ℕ × ℕ)) (s b : ℕ) (old new all : Bool) → new ≡ (old || ((e.0 == s) && is_set e.1 b))
+pub entry_added : (e : ℕ × ℕ) (es : List (ℕ × ℕ)) (s b : ℕ) (old new all : Bool)
+    → new ≡ (old || ((e.0 == s) && is_set e.1 b))
     → (old || in_entries (e ∷ es) s b) ≡ all → (new || in_entries es s b) ≡ all
 entry_added e es s b old new all gains before =
     ap (λ t. t || in_entries es s b) gains
@@ -127,9 +148,11 @@ entry_added e es s b old new all gains before =
 
 -- one entry more in both sets
 both_more : (old same bit rest other here : Bool) → (IsTrue same → here ≡ other)
-    → ((old || (same && (bit && here))) || (rest && other)) ≡ (old || (((same && bit) || rest) && other))
+    → ((old || (same && (bit && here))) || (rest && other)) ≡
+    (old || (((same && bit) || rest) && other))
 both_more true same bit rest other here is = refl
-both_more false true true rest other here is = subst (λ z. (z || (rest && other)) ≡ other) (sym (is refl)) (with_rest other rest)
+both_more false true true rest other here is =
+    subst (λ z. (z || (rest && other)) ≡ other) (sym (is refl)) (with_rest other rest)
   where
     with_rest : (o r : Bool) → (o || (r && o)) ≡ o
     with_rest true r = refl
@@ -141,7 +164,8 @@ both_more false false bit rest other here is = refl
 pub common_added : (e : ℕ × ℕ) (es : List (ℕ × ℕ)) (s b m : ℕ) (old new other all : Bool)
     → new ≡ (old || ((e.0 == s) && is_set (bit_and e.1 m) b))
     → (IsTrue (e.0 == s) → is_set m b ≡ other)
-    → (old || (in_entries (e ∷ es) s b && other)) ≡ all → (new || (in_entries es s b && other)) ≡ all
+    → (old || (in_entries (e ∷ es) s b && other)) ≡ all
+    → (new || (in_entries es s b && other)) ≡ all
 common_added e es s b m old new other all gains is before =
     ap (λ t. t || (in_entries es s b && other)) gains
     ∙ ap (λ t. (old || ((e.0 == s) && t)) || (in_entries es s b && other)) (and_test e.1 m b)

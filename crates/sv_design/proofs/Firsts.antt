@@ -1,5 +1,7 @@
 -- The first of what was found in two lists is the first of both.
-use Rattle.std.proofs.Common.{◌≡◌, ◌⊎◌, inl, inr, ℕ, ◌<◌, Bool, true, false, cond, ◌&&◌, ◌||◌, ◌==◌, nat_lt, ltb-true, lt-ltb, List, [], ◌∷◌, ◌++◌, ⊎_elim, refl, sym, subst, ◌∙◌, arith, Some, None, Option}
+use Rattle.std.proofs.Common.{◌≡◌, ◌⊎◌, inl, inr, ℕ, ◌<◌, Bool, true, false, cond, ◌&&◌, ◌||◌, ◌==◌}
+use Rattle.std.proofs.Common.{nat_lt, ltb-true, lt-ltb, List, [], ◌∷◌, ◌++◌, ⊎_elim, refl, sym}
+use Rattle.std.proofs.Common.{subst, ◌∙◌, arith, Some, None, Option}
 use Rattle.std.specs.Prelude.{IsTrue, IsFalse}
 use Rattle.std.proofs.lemmas.Bool.{false≢true, eqb-true, eq-eqb}
 use Rattle.sv_system.proofs.Lists.{Contains-head, Contains-nil, Contains-cases}
@@ -29,7 +31,8 @@ less : (a b : ℕ) (next : Bool) → a < b → IsTrue (then_by a b next)
 less a b next h = or_left (nat_lt a b) ((a == b) && next) (lt-ltb a b h)
 
 same : (a b : ℕ) (next : Bool) → a ≡ b → IsTrue next → IsTrue (then_by a b next)
-same a b next e h = or_right (nat_lt a b) ((a == b) && next) (and_both (a == b) next (eq-eqb a b e) h)
+same a b next e h =
+    or_right (nat_lt a b) ((a == b) && next) (and_both (a == b) next (eq-eqb a b e) h)
 
 split : (a b : ℕ) (next : Bool) → IsTrue (then_by a b next) → (a < b) ⊎ ((a ≡ b) × IsTrue next)
 split a b next h = ⊎_elim
@@ -86,14 +89,16 @@ between o b a h = let l = ltb-true o a h in ⊎_elim
     (λ k. inr (lt-ltb b a (⊎_elim (λ e. omega arith) (λ m. omega arith) k)))
     (compare o b)
 
-pub before_chain : (o b a : Breach) → IsTrue (comes_before o b) → IsTrue (comes_before b a) → IsTrue (comes_before o a)
+pub before_chain : (o b a : Breach) → IsTrue (comes_before o b) → IsTrue (comes_before b a) →
+    IsTrue (comes_before o a)
 before_chain o b a h k =
     chain o.number b.number a.number _ _ _
     (chain o.place.line b.place.line a.place.line _ _ _
     (chain o.place.column b.place.column a.place.column _ _ _
     (below (first_signal o) (first_signal b) (first_signal a)))) h k
 
-pub before_apart : (o b a : Breach) → IsTrue (comes_before o a) → IsTrue (comes_before o b) ⊎ IsTrue (comes_before b a)
+pub before_apart : (o b a : Breach) → IsTrue (comes_before o a) →
+    IsTrue (comes_before o b) ⊎ IsTrue (comes_before b a)
 before_apart o b a h =
     apart o.number b.number a.number _ _ _
     (apart o.place.line b.place.line a.place.line _ _ _
@@ -108,18 +113,21 @@ unequal n false = ⊎_elim
     (either_way (then_by n n false))
 
 -- breaches of one rule go by place and signal
-pub one_rule : (number : ℕ) (a b : Found) → comes_before (breach_of number a) (breach_of number b) ≡ found_before a b
+pub one_rule : (number : ℕ) (a b : Found) →
+    comes_before (breach_of number a) (breach_of number b) ≡ found_before a b
 one_rule number a b = unequal number (found_before a b)
 
 -- ---- first of two lists
 
-not_before : (o b a : Breach) → IsFalse (comes_before o a) → IsTrue (comes_before b a) → IsFalse (comes_before o b)
+not_before : (o b a : Breach) → IsFalse (comes_before o a) → IsTrue (comes_before b a) →
+    IsFalse (comes_before o b)
 not_before o b a h k = ⊎_elim
     (λ before. absurd (false≢true (sym h ∙ before_chain o b a before k)))
     (λ fails. fails)
     (either_way (comes_before o b))
 
-not_earlier : (o b a : Breach) → IsFalse (comes_before o b) → IsFalse (comes_before b a) → IsFalse (comes_before o a)
+not_earlier : (o b a : Breach) → IsFalse (comes_before o b) → IsFalse (comes_before b a) →
+    IsFalse (comes_before o a)
 not_earlier o b a h k = ⊎_elim
     (λ before. ⊎_elim
     (λ l. absurd (false≢true (sym h ∙ l)))
@@ -129,7 +137,8 @@ not_earlier o b a h k = ⊎_elim
     (either_way (comes_before o a))
 
 module _ (xs ys : List Breach) where
-  second_first : (a b : Breach) → IsFirst xs a → IsFirst ys b → IsTrue (comes_before b a) → IsFirst (xs ++ ys) b
+  second_first : (a b : Breach) → IsFirst xs a → IsFirst ys b → IsTrue (comes_before b a) →
+      IsFirst (xs ++ ys) b
   second_first a b p q before = record {
     among = Contains-right xs ys b q.among;
     before = λ o at. ⊎_elim
@@ -138,7 +147,8 @@ module _ (xs ys : List Breach) where
         (Contains-either xs ys o at);
   }
 
-  first_first : (a b : Breach) → IsFirst xs a → IsFirst ys b → IsFalse (comes_before b a) → IsFirst (xs ++ ys) a
+  first_first : (a b : Breach) → IsFirst xs a → IsFirst ys b → IsFalse (comes_before b a) →
+      IsFirst (xs ++ ys) a
   first_first a b p q before = record {
     among = Contains-left xs ys a p.among;
     before = λ o at. ⊎_elim
@@ -157,11 +167,15 @@ module _ (xs ys : List Breach) where
   }
 
   chosen : (number : ℕ) (f o : Found) (b : Bool) → found_before o f ≡ b
-      → IsFirst xs (breach_of number f) → IsFirst ys (breach_of number o) → FindsFirst number (xs ++ ys) (Some (cond b o f))
-  chosen number f o true is p q = second_first (breach_of number f) (breach_of number o) p q (one_rule number o f ∙ is)
-  chosen number f o false is p q = first_first (breach_of number f) (breach_of number o) p q (one_rule number o f ∙ is)
+      → IsFirst xs (breach_of number f) → IsFirst ys (breach_of number o)
+      → FindsFirst number (xs ++ ys) (Some (cond b o f))
+  chosen number f o true is p q =
+      second_first (breach_of number f) (breach_of number o) p q (one_rule number o f ∙ is)
+  chosen number f o false is p q =
+      first_first (breach_of number f) (breach_of number o) p q (one_rule number o f ∙ is)
 
-  pub finds_both : (number : ℕ) (found other : Option Found) → FindsFirst number xs found → FindsFirst number ys other
+  pub finds_both : (number : ℕ) (found other : Option Found) → FindsFirst number xs found
+      → FindsFirst number ys other
       → FindsFirst number (xs ++ ys) (first_found found other)
   finds_both number None other p q = subst (λ zs. FindsFirst number (zs ++ ys) other) (sym p) q
   finds_both number (Some f) None p q = second_none (breach_of number f) p q
@@ -169,16 +183,20 @@ module _ (xs ys : List Breach) where
 
 itself : (found : Found) → IsFalse (found_before found found)
 itself found =
-    unequal found.place.line (then_by found.place.column found.place.column (nat_lt found.signal.0 found.signal.0))
+    unequal found.place.line
+    (then_by found.place.column found.place.column (nat_lt found.signal.0 found.signal.0))
     ∙ unequal found.place.column (nat_lt found.signal.0 found.signal.0)
-    ∙ ⊎_elim (λ l. absurd (let k = ltb-true found.signal.0 found.signal.0 l in omega arith)) (λ f. f) (either_way (nat_lt found.signal.0 found.signal.0))
+    ∙ ⊎_elim (λ l. absurd (let k = ltb-true found.signal.0 found.signal.0 l in omega arith)) (λ f.
+    f) (either_way (nat_lt found.signal.0 found.signal.0))
 
 -- a list of one
-pub finds_one : (number : ℕ) (found : Found) → FindsFirst number (breach_of number found ∷ []) (Some found)
+pub finds_one : (number : ℕ) (found : Found) →
+    FindsFirst number (breach_of number found ∷ []) (Some found)
 finds_one number found = record {
   among = Contains-head (breach_of number found) [];
   before = λ o at. ⊎_elim
-      (λ e. subst (λ b. IsFalse (comes_before b (breach_of number found))) e (one_rule number found found ∙ itself found))
+      (λ e. subst (λ b. IsFalse (comes_before b (breach_of number found))) e
+      (one_rule number found found ∙ itself found))
       (λ l. absurd (Contains-nil o l))
       (Contains-cases (breach_of number found) [] o at);
 }

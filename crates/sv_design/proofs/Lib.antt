@@ -14,3 +14,11 @@ pub mod PhaseFacts
 pub mod Passes
 pub mod BlockPasses
 pub mod DriverNumbers
+pub mod MarkFacts
+pub mod GraphFacts
+pub mod SearchFacts
+pub mod LinkFacts
+pub mod TableFacts
+pub mod ReadFacts
+pub mod FeedFacts
+pub mod UseFacts

@@ -1,11 +1,14 @@
 -- Reads that are out of phase, statement by statement.
-use Rattle.std.proofs.Common.{◌≡◌, ℕ, zero, suc, ◌+◌, ◌<◌, Bool, true, false, ◌||◌, List, [], ◌∷◌, ◌++◌, length, get_or, drop, Option, None, refl, sym, ap, ap₂, subst, ◌∙◌, append_assoc, arith, leb-true, Bor}
+use Rattle.std.proofs.Common.{◌≡◌, ℕ, zero, suc, ◌+◌, ◌<◌, Bool, true, false, ◌||◌, List, [], ◌∷◌}
+use Rattle.std.proofs.Common.{◌++◌, length, get_or, drop, Option, None, refl, sym, ap, ap₂, subst}
+use Rattle.std.proofs.Common.{◌∙◌, append_assoc, arith, leb-true, Bor}
 use Rattle.std.specs.Prelude.{IsTrue}
 use Rattle.std.specs.List.{list_any, list_all}
 use Rattle.std.proofs.lemmas.List.{append-nil}
 use Rattle.sv_flat.specs.Assigned.{assigns, can_assign, always_assigns, has_bit}
 use Rattle.sv_flat.specs.Breaches.{Breach}
-use Rattle.sv_flat.specs.Design.{SignalForm, TypedTree, PieceForm, FlatStatement, nothing, after, FlatDesign}
+use Rattle.sv_flat.specs.Design.{SignalForm, TypedTree, PieceForm, FlatStatement, nothing, after}
+use Rattle.sv_flat.specs.Design.{FlatDesign}
 use Rattle.sv_flat.specs.Readings.{BitSet, either, Reading, readings}
 use Rattle.sv_flat.specs.Soundness.{sound, piece_fits, statement_sound}
 use Rattle.sv_flat.specs.Views.{flat_statement, flat_statements, chain_of}
@@ -24,31 +27,45 @@ use Rattle.sv_design.proofs.EntryFacts.{nothing_in}
 use Rattle.sv_design.proofs.Firsts.{finds_both}
 use Rattle.sv_design.proofs.PhaseFacts.{wrong_reads-append, both_reads}
 use Rattle.sv_design.proofs.PieceFacts.{in_scope-inside}
-use Rattle.sv_design.proofs.Sound.{next_statement, sound_first, sound_rest, piece_has_bits, piece_is_short}
+use Rattle.sv_design.proofs.Sound.{next_statement, sound_first, sound_rest, piece_has_bits}
+use Rattle.sv_design.proofs.Sound.{piece_is_short}
 
 -- ---- soundness
 
-pub sound_from : (signals : List SignalForm) (stmts : List FStmt) (i : ℕ) → IsTrue (statement_sound signals (chain_of (flat_statements stmts)))
+pub sound_from : (signals : List SignalForm) (stmts : List FStmt) (i : ℕ)
+    → IsTrue (statement_sound signals (chain_of (flat_statements stmts)))
     → IsTrue (statement_sound signals (chain_of (flat_statements (drop i stmts))))
 sound_from signals stmts zero h = h
 sound_from signals [] (suc i) h = h
-sound_from signals (s ∷ stmts) (suc i) h = sound_from signals stmts i (sound_rest signals (flat_statement s) (chain_of (flat_statements stmts)) h)
+sound_from signals (s ∷ stmts) (suc i) h =
+    sound_from signals stmts i
+    (sound_rest signals (flat_statement s) (chain_of (flat_statements stmts)) h)
 
-pub sound_at : (signals : List SignalForm) (stmts : List FStmt) (i : ℕ) (stmt : FStmt) → i < length stmts → stmt ≡ get_or stmts i stmt
-    → IsTrue (statement_sound signals (chain_of (flat_statements stmts))) → IsTrue (statement_sound signals (flat_statement stmt))
+pub sound_at : (signals : List SignalForm) (stmts : List FStmt) (i : ℕ) (stmt : FStmt)
+    → i < length stmts → stmt ≡ get_or stmts i stmt
+    → IsTrue (statement_sound signals (chain_of (flat_statements stmts)))
+    → IsTrue (statement_sound signals (flat_statement stmt))
 sound_at signals stmts i stmt inside is h =
     sound_first signals (flat_statement stmt) (chain_of (flat_statements (drop (i + 1) stmts)))
-    (subst (λ b. IsTrue (statement_sound signals b)) (next_statement stmts i stmt inside is) (sound_from signals stmts i h))
+    (subst (λ b. IsTrue (statement_sound signals b)) (next_statement stmts i stmt inside is)
+    (sound_from signals stmts i h))
 
 -- the pieces of a sound assignment have bits, all of them in a word
-pub ordered_of : (design : FlatDesign) (e : TypedTree) (pieces : List PieceForm) → IsTrue (sound design)
+pub ordered_of : (design : FlatDesign) (e : TypedTree) (pieces : List PieceForm)
+    → IsTrue (sound design)
     → IsTrue (list_all (piece_fits design.signals e) pieces) → AreOrdered pieces
 ordered_of design e [] is_sound h k d below = absurd (omega arith)
 ordered_of design e (p ∷ pieces) is_sound h zero d below =
-    let fits = first_of (piece_fits design.signals e p) (list_all (piece_fits design.signals e) pieces) h in
-    (leb-true p.low p.high (piece_has_bits design.signals e p fits), piece_is_short design is_sound e p fits)
+    let fits = first_of (piece_fits design.signals e p)
+    (list_all (piece_fits design.signals e) pieces) h in (
+      leb-true p.low p.high (piece_has_bits design.signals e p fits),
+      piece_is_short design is_sound
+          e p fits,
+    )
 ordered_of design e (p ∷ pieces) is_sound h (suc k) d below =
-    ordered_of design e pieces is_sound (second_of (piece_fits design.signals e p) (list_all (piece_fits design.signals e) pieces) h) k d (omega arith)
+    ordered_of design e pieces is_sound
+    (second_of (piece_fits design.signals e p) (list_all (piece_fits design.signals e) pieces)
+    h) k d (omega arith)
 
 -- ---- bits
 
@@ -76,24 +93,30 @@ or_three true b c = refl
 or_three false b c = refl
 
 -- the bits of a block inside of others
-pub bits_inside : (here : Bor Bits) (around : Bor Scope) (first second : BitSet) → SameBits (in_bits here.now) first → SameBits second (in_scope around.now)
+pub bits_inside : (here : Bor Bits) (around : Bor Scope) (first second : BitSet)
+    → SameBits (in_bits here.now) first → SameBits second (in_scope around.now)
     → SameBits (either first second) (in_scope (Inside here around))
 bits_inside here around first second same_first same_second s b =
-    ap₂ ◌||◌ (sym (same_first s b)) (same_second s b) ∙ sym (ap (λ (z : BitSet). z s b) (in_scope-inside here around))
+    ap₂ ◌||◌ (sym (same_first s b)) (same_second s b)
+    ∙ sym (ap (λ (z : BitSet). z s b) (in_scope-inside here around))
 
 -- ---- parts of statements
 
 module _ (signals : List SignalForm) where
   -- the reads of what has its own bits around it too
-  pub reads_inside : (h : Bor Bits) (r : Bor Scope) (around whole : BitSet) (reads : BitSet → BitSet → List Reading) (found : Option Found)
+  pub reads_inside : (h : Bor Bits) (r : Bor Scope) (around whole : BitSet) (reads : BitSet → BitSet
+      → List Reading) (found : Option Found)
       → SameBits (in_bits h.now) whole → SameBits (in_scope r.now) around
       → FindsReads signals Followed (in_scope (Inside h r)) reads found
       → FindsReads signals Followed around (λ a f. reads a (either whole f)) found
   reads_inside h r around whole reads found same_bits same_scope finds body a f asks bits =
-      finds body a (either whole f) asks (bits_inside h r whole f same_bits (λ s b. bits s b ∙ sym (same_scope s b)))
+      finds body a (either whole f) asks (bits_inside h r whole f same_bits (λ s b.
+      bits s b ∙ sym (same_scope s b)))
 
-  module _ (asked : Asked) (around : BitSet) (first second third : BitSet → BitSet → List Reading) (x y z m n : Option Found) where
-    pub three_reads : FindsReads signals asked around first x → FindsReads signals asked around second y → FindsReads signals asked around third z
+  module _ (asked : Asked) (around : BitSet) (first second third : BitSet → BitSet →
+      List Reading) (x y z m n : Option Found) where
+    pub three_reads : FindsReads signals asked around first x
+        → FindsReads signals asked around second y → FindsReads signals asked around third z
         → m ≡ first_found x y → n ≡ first_found m z
         → FindsReads signals asked around (λ a f. (first a f ++ second a f) ++ third a f) n
     three_reads in_first in_second in_third inner outer body a f asks bits =
@@ -101,24 +124,32 @@ module _ (signals : List SignalForm) where
         let xs = wrong_reads e signals body (first a f) in
         let ys = wrong_reads e signals body (second a f) in
         let zs = wrong_reads e signals body (third a f) in
-        let front = subst (FindsFirst 606 (xs ++ ys)) (sym inner) (finds_both xs ys 606 x y (in_first body a f asks bits) (in_second body a f asks bits)) in
-        subst (FindsFirst 606 (wrong_reads e signals body ((first a f ++ second a f) ++ third a f))) (sym outer)
+        let front = subst (FindsFirst 606 (xs ++ ys)) (sym inner)
+        (finds_both xs ys 606 x y (in_first body a f asks bits)
+        (in_second body a f asks bits)) in
+        subst (FindsFirst 606 (wrong_reads e signals body ((first a f ++ second a f) ++ third a f)))
+        (sym outer)
         (subst (λ ws. FindsFirst 606 ws (first_found m z))
-        (sym (wrong_reads-append e signals body (first a f ++ second a f) (third a f) ∙ ap (λ ws. ws ++ zs) (wrong_reads-append e signals body (first a f) (second a f))))
+        (sym (wrong_reads-append e signals body (first a f ++ second a f) (third a f)
+        ∙ ap (λ ws. ws ++ zs) (wrong_reads-append e signals body (first a f) (second a f))))
         (finds_both (xs ++ ys) zs 606 m z front (in_third body a f asks bits)))
 
 -- ---- forward
 
 -- the statements so far, with the bits that they always assign, and those that are left
-pub record ForwardSoFar (signals : List SignalForm) (assigned : Bits) (around : BitSet) (all left : FlatStatement) (here : Bits) (found : Option Found) : Type 0 where
-  pub reads_are : (body : FlatStatement) (a f : BitSet) → ((s : ℕ) → has_some assigned s ≡ assigns body s) → SameBits a around
+pub record ForwardSoFar (signals : List SignalForm) (assigned : Bits) (around : BitSet)
+    (all left : FlatStatement) (here : Bits) (found : Option Found) : Type 0 where
+  pub reads_are : (body : FlatStatement) (a f : BitSet)
+      → ((s : ℕ) → has_some assigned s ≡ assigns body s) → SameBits a around
       → (done : List Breach) × (before : BitSet) × FindsFirst 606 done found
-      × (wrong_reads true signals body (readings signals all a f) ≡ done ++ wrong_reads true signals body (readings signals left before f))
+      × (wrong_reads true signals body (readings signals all a f) ≡
+      done ++ wrong_reads true signals body (readings signals left before f))
       × SameBits before (either (in_bits here) around)
   pub bits_are : SameBits (either (in_bits here) (always_assigns left)) (always_assigns all)
 
 module _ (signals : List SignalForm) (assigned : Bor Bits) (around : BitSet) where
-  pub forward_begin : (all : FlatStatement) (none : Bits) → ((s : ℕ) → mask_in none s ≡ 0) → ForwardSoFar signals assigned.now around all all none None
+  pub forward_begin : (all : FlatStatement) (none : Bits) → ((s : ℕ) → mask_in none s ≡ 0) →
+      ForwardSoFar signals assigned.now around all all none None
   forward_begin all none empty = record {
     reads_are = λ body a f asks same. (
       [],
@@ -127,81 +158,114 @@ module _ (signals : List SignalForm) (assigned : Bor Bits) (around : BitSet) whe
       refl,
       λ s b. same s b ∙ sym (ap (λ t. t || around s b) (nothing_in (mask_in none s) b (empty s))),
     );
-    bits_are = λ s b. ap (λ t. t || always_assigns all s b) (nothing_in (mask_in none s) b (empty s));
+    bits_are =
+        λ s b. ap (λ t. t || always_assigns all s b) (nothing_in (mask_in none s) b (empty s));
   }
 
-  pub forward_more : (h : Bor Bits) (r : Bor Scope) (all left first rest : FlatStatement) (bits more : Bits) (found other next : Option Found) → left ≡ after first rest
+  pub forward_more : (h : Bor Bits) (r : Bor Scope) (all left first rest : FlatStatement)
+      (bits more : Bits) (found other next : Option Found) → left ≡ after first rest
       → SameBits (in_scope r.now) around
-      → FindsReads signals (Unassigned assigned) (in_scope (Inside h r)) (readings signals first) other → SameBits (in_bits bits) (always_assigns first)
-      → ((s b : ℕ) → in_bits more s b ≡ (in_bits h.now s b || in_bits bits s b)) → next ≡ first_found found other
-      → ForwardSoFar signals assigned.now around all left h.now found → ForwardSoFar signals assigned.now around all rest more next
-  forward_more h r all left first rest bits more found other next splits scope finds always gains is so_far = record {
-    reads_are = λ body a f asks same.
-        let done = so_far.reads_are body a f asks same in
-        let before = done.1 in
-        let this = wrong_reads true signals body (readings signals first before (either (can_assign rest) f)) in
-        let later = wrong_reads true signals body (readings signals rest (either (always_assigns first) before) f) in (
-          done.0 ++ this,
-          either (always_assigns first) before,
-          subst (FindsFirst 606 (done.0 ++ this)) (sym is)
-              (finds_both done.0 this 606 found other done.2
-              (finds body before (either (can_assign rest) f) asks
-              (λ s b. done.4 s b ∙ bits_inside h r (in_bits h.now) around (λ s b. refl) (λ s b. sym (scope s b)) s b))),
-          done.3
-              ∙ ap (λ z. done.0 ++ wrong_reads true signals body (readings signals z before f)) splits
-              ∙ ap (λ z. done.0 ++ z) (wrong_reads-append true signals body (readings signals first before (either (can_assign rest) f)) (readings signals rest (either (always_assigns first) before) f))
-              ∙ sym (append_assoc done.0 this later),
-          λ s b.
-              ap (λ t. always_assigns first s b || t) (done.4 s b)
-              ∙ or_between (always_assigns first s b) (in_bits h.now s b) (around s b)
-              ∙ ap (λ t. t || around s b) (ap (λ t. in_bits h.now s b || t) (sym (always s b)) ∙ sym (gains s b)),
-        );
-    bits_are = λ s b.
-        ap (λ t. t || always_assigns rest s b) (gains s b ∙ ap (λ t. in_bits h.now s b || t) (always s b))
-        ∙ or_three (in_bits h.now s b) (always_assigns first s b) (always_assigns rest s b)
-        ∙ ap (λ z. in_bits h.now s b || always_assigns z s b) (sym splits)
-        ∙ so_far.bits_are s b;
-  }
+      → FindsReads signals (Unassigned assigned) (in_scope (Inside h r)) (readings signals first)
+      other → SameBits (in_bits bits) (always_assigns first)
+      → ((s b : ℕ) → in_bits more s b ≡ (in_bits h.now s b || in_bits bits s b))
+      → next ≡ first_found found other
+      → ForwardSoFar signals assigned.now around all left h.now found
+      → ForwardSoFar signals assigned.now around all rest more next
+  forward_more h r all left first rest bits more found other next splits scope finds always gains is
+      so_far = record {
+        reads_are = λ body a f asks same.
+            let done = so_far.reads_are body a f asks same in
+            let before = done.1 in
+            let this = wrong_reads true signals body
+            (readings signals first before (either (can_assign rest) f)) in
+            let later = wrong_reads true signals body
+            (readings signals rest (either (always_assigns first) before) f) in (
+              done.0 ++ this,
+              either (always_assigns first) before,
+              subst (FindsFirst 606 (done.0 ++ this)) (sym is)
+                  (finds_both done.0 this 606 found other done.2
+                  (finds body before (either (can_assign rest) f) asks
+                  (λ s b. done.4 s b ∙ bits_inside h r (in_bits h.now) around (λ s b. refl) (λ s b.
+                  sym (scope s b)) s b))),
+              done.3
+                  ∙ ap (λ z. done.0 ++ wrong_reads true signals body (readings signals z before f))
+                  splits
+                  ∙ ap (λ z. done.0 ++ z)
+                  (wrong_reads-append true signals body
+                  (readings signals first before (either (can_assign rest) f))
+                  (readings signals rest (either (always_assigns first) before) f))
+                  ∙ sym (append_assoc done.0 this later),
+              λ s b.
+                  ap (λ t. always_assigns first s b || t) (done.4 s b)
+                  ∙ or_between (always_assigns first s b) (in_bits h.now s b) (around s b)
+                  ∙ ap (λ t. t || around s b) (ap (λ t. in_bits h.now s b || t) (sym (always s b))
+                  ∙ sym (gains s b)),
+            );
+        bits_are = λ s b.
+            ap (λ t. t || always_assigns rest s b) (gains s b
+            ∙ ap (λ t. in_bits h.now s b || t) (always s b))
+            ∙ or_three (in_bits h.now s b) (always_assigns first s b) (always_assigns rest s b)
+            ∙ ap (λ z. in_bits h.now s b || always_assigns z s b) (sym splits)
+            ∙ so_far.bits_are s b;
+      }
 
   or_nothing : (a : Bool) → (a || false) ≡ a
   or_nothing true = refl
   or_nothing false = refl
 
-  pub forward_end : (all left : FlatStatement) (here : Bits) (found : Option Found) → left ≡ nothing → ForwardSoFar signals assigned.now around all left here found
-      → FindsReads signals (Unassigned assigned) around (readings signals all) found × SameBits (in_bits here) (always_assigns all)
+  pub forward_end : (all left : FlatStatement) (here : Bits) (found : Option Found) → left ≡ nothing
+      → ForwardSoFar signals assigned.now around all left here found
+      → FindsReads signals (Unassigned assigned) around (readings signals all) found
+      × SameBits (in_bits here) (always_assigns all)
   forward_end all left here found none so_far = (
     λ body a f asks same.
         let done = so_far.reads_are body a f asks same in
         subst (λ ws. FindsFirst 606 ws found)
-        (sym (done.3 ∙ ap (λ z. done.0 ++ wrong_reads true signals body (readings signals z done.1 f)) none ∙ append-nil done.0)) done.2,
-    λ s b. sym (or_nothing (in_bits here s b)) ∙ ap (λ z. in_bits here s b || always_assigns z s b) (sym none) ∙ so_far.bits_are s b,
+        (sym (done.3 ∙ ap (λ z.
+        done.0 ++ wrong_reads true signals body (readings signals z done.1 f)) none
+        ∙ append-nil done.0)) done.2,
+    λ s b. sym (or_nothing (in_bits here s b))
+        ∙ ap (λ z. in_bits here s b || always_assigns z s b) (sym none) ∙ so_far.bits_are s b,
   )
 
 -- ---- backward
 
 module _ (signals : List SignalForm) (around : BitSet) where
-  pub backward_more : (h : Bor Bits) (r : Bor Scope) (left first rest : FlatStatement) (bits more : Bits) (found other next : Option Found) → left ≡ after first rest
+  pub backward_more : (h : Bor Bits) (r : Bor Scope) (left first rest : FlatStatement)
+      (bits more : Bits) (found other next : Option Found) → left ≡ after first rest
       → SameBits (in_scope r.now) around
-      → FindsReads signals Followed (in_scope (Inside h r)) (readings signals first) other → SameBits (in_bits bits) (can_assign first)
-      → ((s b : ℕ) → in_bits more s b ≡ (in_bits h.now s b || in_bits bits s b)) → next ≡ first_found other found
-      → FindsReads signals Followed around (readings signals rest) found × SameBits (in_bits h.now) (can_assign rest)
-      → FindsReads signals Followed around (readings signals left) next × SameBits (in_bits more) (can_assign left)
-  backward_more h r left first rest bits more found other next splits scope finds can gains is so_far = (
-    subst (λ z. FindsReads signals Followed around (readings signals z) next) (sym splits)
-        (subst (FindsReads signals Followed around (readings signals (after first rest))) (sym is)
-        (both_reads signals Followed around (in_scope (Inside h r)) around (readings signals first) (readings signals rest) other found
-        (λ a f. a) (λ a f. either (can_assign rest) f) (λ a f. either (always_assigns first) a) (λ a f. f)
-        (λ a f same. bits_inside h r (can_assign rest) f so_far.1 (λ s b. same s b ∙ sym (scope s b)))
-        (λ a f same. same)
-        finds so_far.0)),
-    λ s b.
-        gains s b ∙ ap₂ ◌||◌ (so_far.1 s b) (can s b)
-        ∙ or_turned (can_assign rest s b) (can_assign first s b)
-        ∙ ap (λ z. can_assign z s b) (sym splits),
-  )
+      → FindsReads signals Followed (in_scope (Inside h r)) (readings signals first) other
+      → SameBits (in_bits bits) (can_assign first)
+      → ((s b : ℕ) → in_bits more s b ≡ (in_bits h.now s b || in_bits bits s b))
+      → next ≡ first_found other found
+      → FindsReads signals Followed around (readings signals rest) found
+      × SameBits (in_bits h.now) (can_assign rest)
+      → FindsReads signals Followed around (readings signals left) next
+      × SameBits (in_bits more) (can_assign left)
+  backward_more h r left first rest bits more found other next splits scope finds can gains is
+      so_far = (
+        subst (λ z. FindsReads signals Followed around (readings signals z) next) (sym splits)
+            (subst (FindsReads signals Followed around (readings signals (after first rest)))
+            (sym is)
+            (both_reads signals Followed around (in_scope (Inside h r)) around
+            (readings signals first)
+            (readings signals rest) other found
+            (λ a f. a) (λ a f. either (can_assign rest) f) (λ a f.
+            either (always_assigns first) a) (λ a f. f)
+            (λ a f same. bits_inside h r (can_assign rest) f so_far.1 (λ s b.
+            same s b ∙ sym (scope s b)))
+            (λ a f same. same)
+            finds so_far.0)),
+        λ s b.
+            gains s b ∙ ap₂ ◌||◌ (so_far.1 s b) (can s b)
+            ∙ or_turned (can_assign rest s b) (can_assign first s b)
+            ∙ ap (λ z. can_assign z s b) (sym splits),
+      )
 
-  pub backward_begin : (left : FlatStatement) (none : Bits) → left ≡ nothing → ((s : ℕ) → mask_in none s ≡ 0)
-      → FindsReads signals Followed around (readings signals left) None × SameBits (in_bits none) (can_assign left)
+  pub backward_begin : (left : FlatStatement) (none : Bits) → left ≡ nothing
+      → ((s : ℕ) → mask_in none s ≡ 0)
+      → FindsReads signals Followed around (readings signals left) None
+      × SameBits (in_bits none) (can_assign left)
   backward_begin left none is empty = (
     λ body a f asks same. ap (λ z. wrong_reads false signals body (readings signals z a f)) is,
     λ s b. nothing_in (mask_in none s) b (empty s) ∙ ap (λ z. can_assign z s b) (sym is),

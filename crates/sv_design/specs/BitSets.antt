@@ -1,5 +1,6 @@
 -- Sets of bits of signals, as numbers by signal.
-use Rattle.std.specs.Prelude.{◌≡◌, ◌<◌, ◌≤◌, ℕ, Bool, ◌==◌, ◌&&◌, not, nat_le, List, map, unwrap_or, All, IsTrue, IsFalse}
+use Rattle.std.specs.Prelude.{◌≡◌, ◌<◌, ◌≤◌, ℕ, Bool, ◌==◌, ◌&&◌, not, nat_le, List, map, unwrap_or}
+use Rattle.std.specs.Prelude.{All, IsTrue, IsFalse}
 use Rattle.std.specs.List.{list_any, list_all}
 use Rattle.sv_flat.specs.Assigned.{has_bit}
 use Rattle.std.specs.Int.{bit_at}
@@ -53,4 +54,9 @@ AreOrdered pieces = All (λ (p : PieceForm). (p.low ≤ p.high) × (p.high < 64)
 
 -- the set has the bits of these pieces, and no others
 abbrev pub HoldsPieces : Bits → List PieceForm → Type 0
-HoldsPieces set pieces = ((s b : ℕ) → in_bits set s b ≡ list_any (has_bit s b) pieces) × IsTrue (none_empty pieces)
+HoldsPieces set pieces =
+    ((s b : ℕ) → in_bits set s b ≡ list_any (has_bit s b) pieces) × IsTrue (none_empty pieces)
+
+-- each signal with a bit in the set is one of n
+abbrev pub HasTargetsBelow : ℕ → Bits → Type 0
+HasTargetsBelow n set = (s : ℕ) → IsTrue (has_some set s) → s < n

@@ -1,5 +1,7 @@
 -- The first two processes that assign each signal.
-use Rattle.std.specs.Prelude.{◌≡◌, ℕ, ◌+◌, ◌<◌, Bool, List, [], ◌∷◌, ◌++◌, length, map, slice_get, slice_index_or, Option, Some, None, ◌==◌, ◌||◌, All, IsTrue, not, filter, if◌then◌else◌}
+use Rattle.std.specs.Prelude.{◌≡◌, ℕ, ◌+◌, ◌<◌, Bool, List, [], ◌∷◌, ◌++◌, length, map, slice_get}
+use Rattle.std.specs.Prelude.{slice_index_or, Option, Some, None, ◌==◌, ◌||◌, All, IsTrue, not}
+use Rattle.std.specs.Prelude.{filter, if◌then◌else◌}
 use Rattle.sv_flat.specs.Design.{SignalForm, PieceForm, FlatStatement, ProcessForm, FlatDesign}
 use Rattle.sv_flat.specs.Soundness.{statement_sound}
 use Rattle.std.specs.List.{list_any}
@@ -16,7 +18,8 @@ driver_at k p = record { process = k; place = p.place }
 -- those of the processes that assign a signal, where the first has the number k
 abbrev pub entries : (k : ℕ) → List ProcessForm → (signal : ℕ) → List Driver
 entries k [] s = []
-entries k (p ∷ ps) s = if assigns p.body s then driver_at k p ∷ entries (k + 1) ps s else entries (k + 1) ps s
+entries k (p ∷ ps) s =
+    if assigns p.body s then driver_at k p ∷ entries (k + 1) ps s else entries (k + 1) ps s
 
 -- some drivers of a signal, and one more where it is assigned
 abbrev pub and_one : Driver → Bool → List Driver → List Driver
@@ -47,12 +50,14 @@ AreClocks design clocks = clocks ≡ map (is_clock design) (signal_numbers desig
 
 -- the tables are those of a design's processes
 abbrev pub AreDriversOf : FlatDesign → Drivers → Type 0
-AreDriversOf design drivers = AreDrivers (length design.signals) drivers (entries 0 (processes_of design))
+AreDriversOf design drivers =
+    AreDrivers (length design.signals) drivers (entries 0 (processes_of design))
 
 -- the first two drivers of a signal once it has this one too
 abbrev pub noted : Option Driver → Option Driver → Driver → Option Driver × Option Driver
 noted None second driver = (Some driver, second)
-noted (Some first) None driver = (Some first, if first.process == driver.process then None else Some driver)
+noted (Some first) None driver =
+    (Some first, if first.process == driver.process then None else Some driver)
 noted (Some first) (Some second) driver = (Some first, Some second)
 
 -- each piece is one of n signals
@@ -65,10 +70,11 @@ assigned_in pieces s = list_any (λ (p : PieceForm). p.signal == s) pieces
 
 -- a statement is sound over n signals
 abbrev pub IsSoundOver : ℕ → FlatStatement → Type 0
-IsSoundOver n body = (signals : List SignalForm) × (length signals ≡ n) × IsTrue (statement_sound signals body)
+IsSoundOver n body =
+    (signals : List SignalForm) × (length signals ≡ n) × IsTrue (statement_sound signals body)
 
--- Where the tables have some drivers of each signal, all of lower numbers, and one more of the signals in a set, they then have
--- that one of the signals in a greater set.
+-- Where the tables have some drivers of each signal, all of lower numbers, and one more of the
+-- signals in a set, they then have that one of the signals in a greater set.
 abbrev pub Notes : ℕ → Driver → (old new : Drivers) → (more : ℕ → Bool) → Type 0
 Notes n driver old new more =
     (of : ℕ → List Driver) (a : ℕ → Bool) → ((s : ℕ) → AreBelow driver.process (of s))

@@ -1,5 +1,6 @@
 -- The first of some breaches of one rule.
-use Rattle.std.specs.Prelude.{◌≡◌, ℕ, Bool, nat_lt, List, [], Option, Some, None, Contains, IsFalse, if◌then◌else◌}
+use Rattle.std.specs.Prelude.{◌≡◌, ℕ, Bool, nat_lt, List, [], Option, Some, None, Contains, IsFalse}
+use Rattle.std.specs.Prelude.{if◌then◌else◌}
 use Rattle.sv_flat.specs.Breaches.{Breach, breach, then_by, comes_before}
 use Rattle.sv_design.specs.declared.found.Found.{Found}
 

@@ -9,3 +9,9 @@ pub mod First
 pub mod BitSets
 pub mod WrongAssigns
 pub mod DriverTables
+pub mod Graphs
+pub mod Marks
+pub mod Searches
+pub mod Links
+pub mod Feeds
+pub mod Selectors

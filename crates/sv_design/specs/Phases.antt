@@ -13,15 +13,18 @@ use Rattle.sv_design.specs.BitSets.{has_some}
 use Rattle.sv_design.specs.First.{FindsFirst}
 use Rattle.sv_design.specs.declared.found.Found.{Found}
 
--- The two ways in which a read can be out of phase: of a signal that the block assigns, where it is not assigned yet; and
--- where it can be assigned again.
+-- The two ways in which a read can be out of phase: of a signal that the block assigns, where it is
+-- not assigned yet; and where it can be assigned again.
 abbrev pub is_wrong_read : (early : Bool) → List SignalForm → FlatStatement → Reading → Bool
-is_wrong_read true signals body reading = assigns body reading.name.signal && is_unassigned signals reading
+is_wrong_read true signals body reading =
+    assigns body reading.name.signal && is_unassigned signals reading
 is_wrong_read false signals body reading = is_followed signals reading
 
 -- the breaches among some reads
-abbrev pub wrong_reads : (early : Bool) → List SignalForm → FlatStatement → List Reading → List Breach
-wrong_reads early signals body readings = map phase_breach (filter (is_wrong_read early signals body) readings)
+abbrev pub wrong_reads : (early : Bool) → List SignalForm → FlatStatement → List Reading →
+    List Breach
+wrong_reads early signals body readings =
+    map phase_breach (filter (is_wrong_read early signals body) readings)
 
 -- the bits that count for it
 abbrev pub bits_around : (early : Bool) → (assigned follows : BitSet) → BitSet
@@ -42,7 +45,8 @@ IsAskedOf body (Unassigned assigned) = (s : ℕ) → has_some assigned.now s ≡
 IsAskedOf body Followed = Unit {0}
 
 -- What was found is the first breach among reads, where some bits count around them.
-abbrev pub FindsReads : List SignalForm → Asked → (around : BitSet) → (reads : BitSet → BitSet → List Reading) → Option Found → Type 0
+abbrev pub FindsReads : List SignalForm → Asked → (around : BitSet) →
+    (reads : BitSet → BitSet → List Reading) → Option Found → Type 0
 FindsReads signals asked around reads found =
     (body : FlatStatement) (assigned follows : BitSet) → IsAskedOf body asked
     → SameBits (bits_around (is_early asked) assigned follows) around
@@ -50,16 +54,22 @@ FindsReads signals asked around reads found =
 
 -- rule 605 of one block
 abbrev pub latches_of : FlatDesign → Place → FlatStatement → List Breach
-latches_of design place body = map (breach 605 place) (signals_that design (is_latched design.signals body))
+latches_of design place body =
+    map (breach 605 place) (signals_that design (is_latched design.signals body))
 
 -- rule 606 of one block
 abbrev pub phase_faults_of : FlatDesign → FlatStatement → List Breach
 phase_faults_of design body =
-    map phase_breach (filter (is_out_of_phase design.signals body) (readings design.signals body no_bits no_bits))
+    map phase_breach (filter (is_out_of_phase design.signals body)
+    (readings design.signals body no_bits no_bits))
 
 -- those of the blocks among some processes
 abbrev pub latches_in : FlatDesign → List ProcessForm → List Breach
-latches_in design ps = flat_map (λ (p : ProcessForm). latches_of design p.place p.body) (filter (λ (p : ProcessForm). is_block p.kind) ps)
+latches_in design ps =
+    flat_map (λ (p : ProcessForm).
+    latches_of design p.place p.body) (filter (λ (p : ProcessForm). is_block p.kind) ps)
 
 abbrev pub phase_faults_in : FlatDesign → List ProcessForm → List Breach
-phase_faults_in design ps = flat_map (λ (p : ProcessForm). phase_faults_of design p.body) (filter (λ (p : ProcessForm). is_block p.kind) ps)
+phase_faults_in design ps =
+    flat_map (λ (p : ProcessForm).
+    phase_faults_of design p.body) (filter (λ (p : ProcessForm). is_block p.kind) ps)

@@ -5,7 +5,8 @@ use Rattle.sv_flat.specs.Views.{process_form}
 use Rattle.sv_flat.specs.Processes.{signal_numbers}
 use Rattle.sv_flat.specs.Clocks.{is_clock, processes_of}
 use Rattle.sv_flat.specs.FlatSystem.{combinational_processes, clocked_processes}
-use Rattle.sv_flat.specs.SignalLists.{seen as seen_of, inputs as inputs_of, registers as registers_of, top_clock, driver_of}
+use Rattle.sv_flat.specs.SignalLists.{seen as seen_of, inputs as inputs_of}
+use Rattle.sv_flat.specs.SignalLists.{registers as registers_of, top_clock, driver_of}
 use Rattle.sv_flat.specs.Reads.{reads_for, order as order_of}
 use Rattle.sv_design.specs.declared.tables.Tables.{Tables}
 use Rattle.sv_design.specs.Numbers.{numbers, number_if_any}
@@ -22,4 +23,5 @@ pub record AreTables (design : FlatDesign) (tables : Tables) : Type 0 where
   pub combs_are : tables.combs ≡ length (combinational_processes design)
   pub clocked_are : tables.clocked ≡ length (clocked_processes design)
   pub drivers_are : tables.drivers.items ≡ map (driver_of design) (signal_numbers design)
-  pub reads_are : map (λ reads. numbers reads.items) tables.reads.items ≡ map (reads_for design) (signal_numbers design)
+  pub reads_are : map (λ reads. numbers reads.items) tables.reads.items ≡
+      map (reads_for design) (signal_numbers design)

@@ -2,9 +2,11 @@
 ghost use Rattle.std.specs.Prelude.{◌≡◌, ◌<◌, ◌≤◌, List, [], IfOk, IsTrue};
 ghost use Rattle.std.specs.List.{list_all, list_any};
 ghost use Rattle.sv_flat.specs.Design.{TypedTree, PieceForm};
-ghost use Rattle.sv_flat.specs.Views.{design_of, piece_form, process_kind, flat_statement, flat_statements, chain_of};
+ghost use Rattle.sv_flat.specs.Views.{design_of, piece_form, process_kind, flat_statement};
+ghost use Rattle.sv_flat.specs.Views.{flat_statements, chain_of};
 ghost use Rattle.sv_flat.specs.Soundness.{sound, piece_fits, statement_sound};
-ghost use Rattle.sv_flat.specs.Assignments.{is_wrong_sign, is_wrong_kind, is_wrong_target, overlap, targets_after, wrong_assigns};
+ghost use Rattle.sv_flat.specs.Assignments.{is_wrong_sign, is_wrong_kind, is_wrong_target, overlap};
+ghost use Rattle.sv_flat.specs.Assignments.{targets_after, wrong_assigns};
 ghost use Rattle.sv_flat.specs.Processes.{is_reg_kind};
 ghost use Rattle.sv_design.specs.BitSets.{HoldsPieces, piece_forms};
 ghost use Rattle.sv_design.specs.First.{FindsFirst};
@@ -50,7 +52,8 @@ fn wrong_kind(kind: ProcKind, target: SigKind) -> bool
 fn is_again(before: &Bits, piece: &Piece) -> bool
     requires ordered { piece.now.low ≤ piece.now.high }
     requires few { piece.now.high < 64 }
-    ensures { (passed : List PieceForm) → HoldsPieces before.now passed → result ≡ list_any (overlap (piece_form piece.now)) passed }
+    ensures { (passed : List PieceForm) → HoldsPieces before.now passed →
+        result ≡ list_any (overlap (piece_form piece.now)) passed }
 {
     share(before.of(piece.signal), mask(piece.high, piece.low))
 }
@@ -58,9 +61,11 @@ fn is_again(before: &Bits, piece: &Piece) -> bool
 // Whether an assignment may not have the piece as a target.
 fn is_wrong(flat: &Flat, kind: ProcKind, piece: &Piece, blocking: bool, before: &Bits) -> bool
     requires sound { IsTrue (sound (design_of flat.now)) }
-    requires fits { (e : TypedTree) × IsTrue (piece_fits (design_of flat.now).signals e (piece_form piece.now)) }
+    requires fits { (e : TypedTree)
+        × IsTrue (piece_fits (design_of flat.now).signals e (piece_form piece.now)) }
     ensures { (passed : List PieceForm) → HoldsPieces before.now passed
-        → result ≡ is_wrong_target (design_of flat.now) (process_kind kind) (record { piece = piece_form piece.now; before = passed; blocking = blocking }) }
+        → result ≡ is_wrong_target (design_of flat.now) (process_kind kind)
+        (record { piece = piece_form piece.now; before = passed; blocking = blocking }) }
 {
     let target = flat.signals[piece.signal.0 as usize].kind;
     let sign = wrong_sign(kind, blocking);
@@ -78,8 +83,11 @@ fn wrong_piece(
     blocking: bool,
 ) -> Result<Option<Found>, AllocError>
     requires sound { IsTrue (sound (design_of flat.now)) }
-    requires fit { (e : TypedTree) × IsTrue (list_all (piece_fits (design_of flat.now).signals e) (piece_forms pieces.now)) }
-    ensures { IfOk result (FindsFirst 601 (wrong_of (design_of flat.now) (process_kind kind) (targets_after [] (piece_forms pieces.now) blocking))) }
+    requires fit { (e : TypedTree)
+        × IsTrue (list_all (piece_fits (design_of flat.now).signals e) (piece_forms pieces.now)) }
+    ensures { IfOk result
+        (FindsFirst 601 (wrong_of (design_of flat.now) (process_kind kind)
+        (targets_after [] (piece_forms pieces.now) blocking))) }
 {
     let mut found = None;
     let mut before = Bits::new(alloc);
@@ -100,8 +108,11 @@ fn wrong_target(
     stmt: &FStmt,
 ) -> Result<Option<Found>, AllocError>
     requires sound { IsTrue (sound (design_of flat.now)) }
-    requires stmt { IsTrue (statement_sound (design_of flat.now).signals (flat_statement stmt.now)) }
-    ensures { IfOk result (FindsFirst 601 (wrong_in (design_of flat.now) (process_kind kind) (flat_statement stmt.now))) }
+    requires stmt { IsTrue
+        (statement_sound (design_of flat.now).signals (flat_statement stmt.now)) }
+    ensures { IfOk result
+        (FindsFirst 601 (wrong_in (design_of flat.now) (process_kind kind)
+        (flat_statement stmt.now))) }
 {
     match stmt {
         FStmt::Assign {
@@ -127,8 +138,11 @@ fn wrong_in_all(
     stmts: &[FStmt],
 ) -> Result<Option<Found>, AllocError>
     requires sound { IsTrue (sound (design_of flat.now)) }
-    requires stmts { IsTrue (statement_sound (design_of flat.now).signals (chain_of (flat_statements stmts.now))) }
-    ensures { IfOk result (FindsFirst 601 (wrong_in (design_of flat.now) (process_kind kind) (chain_of (flat_statements stmts.now)))) }
+    requires stmts { IsTrue
+        (statement_sound (design_of flat.now).signals (chain_of (flat_statements stmts.now))) }
+    ensures { IfOk result
+        (FindsFirst 601 (wrong_in (design_of flat.now) (process_kind kind)
+        (chain_of (flat_statements stmts.now)))) }
 {
     let mut found = None;
     for stmt in stmts {

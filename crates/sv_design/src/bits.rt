@@ -1,8 +1,10 @@
 // Sets of bits of signals, by what is in them.
-ghost use Rattle.std.specs.Prelude.{◌≡◌, ℕ, ◌<◌, ◌≤◌, ◌==◌, ◌&&◌, ◌||◌, nat_le, ◌↔◌, IsTrue, IfOk, OnOk};
+ghost use Rattle.std.specs.Prelude.{◌≡◌, ℕ, ◌<◌, ◌≤◌, ◌==◌, ◌&&◌, ◌||◌, nat_le, ◌↔◌, IsTrue, IfOk};
+ghost use Rattle.std.specs.Prelude.{OnOk};
 ghost use Rattle.std.specs.List.{list_any};
 ghost use Rattle.sv_flat.specs.Assigned.{has_bit};
-ghost use Rattle.sv_design.specs.BitSets.{mask_in, is_set, in_bits, SharesBit, LacksBit, has_some, piece_forms, AreOrdered};
+ghost use Rattle.sv_design.specs.BitSets.{mask_in, is_set, in_bits, SharesBit, LacksBit, has_some};
+ghost use Rattle.sv_design.specs.BitSets.{piece_forms, AreOrdered};
 
 use std::alloc::{AllocError, Global};
 use std::collections::BTreeMap;
@@ -61,7 +63,8 @@ impl Bits {
 
     /// Puts bits of a signal into the set.
     pub fn add(&mut self, signal: SigId, mask: u64) -> Result<(), AllocError>
-        ensures { OnOk result ((s b : ℕ) → in_bits self.new s b ≡ (in_bits self.old s b || ((signal.0 == s) && is_set mask b))) }
+        ensures { OnOk result ((s b : ℕ) →
+            in_bits self.new s b ≡ (in_bits self.old s b || ((signal.0 == s) && is_set mask b))) }
     {
         let bits = self.of(signal) | mask;
         self.masks.insert(signal.0, bits)?;
@@ -78,7 +81,9 @@ impl Bits {
     /// Puts the bits of pieces into the set.
     pub fn add_pieces(&mut self, pieces: &[Piece]) -> Result<(), AllocError>
         requires { AreOrdered (piece_forms pieces.now) }
-        ensures { OnOk result ((s b : ℕ) → in_bits self.new s b ≡ (in_bits self.old s b || list_any (has_bit s b) (piece_forms pieces.now))) }
+        ensures { OnOk result ((s b : ℕ) →
+            in_bits self.new s b ≡
+            (in_bits self.old s b || list_any (has_bit s b) (piece_forms pieces.now))) }
     {
         for piece in pieces {
             self.add(piece.signal, mask(piece.high, piece.low))?;
@@ -88,7 +93,8 @@ impl Bits {
 
     /// Puts the bits of another set into this one.
     pub fn add_all(&mut self, other: &Bits) -> Result<(), AllocError>
-        ensures { OnOk result ((s b : ℕ) → in_bits self.new s b ≡ (in_bits self.old s b || in_bits other.now s b)) }
+        ensures { OnOk result ((s b : ℕ) →
+            in_bits self.new s b ≡ (in_bits self.old s b || in_bits other.now s b)) }
     {
         for (signal, mask) in &other.masks {
             self.add(SigId(*signal), *mask)?;
@@ -98,7 +104,8 @@ impl Bits {
 
     /// The bits that are in both sets.
     pub fn common(&self, other: &Bits, alloc: Global) -> Result<Bits, AllocError>
-        ensures { IfOk result (λ both. (s b : ℕ) → in_bits both s b ≡ (in_bits self.now s b && in_bits other.now s b)) }
+        ensures { IfOk result (λ both.
+            (s b : ℕ) → in_bits both s b ≡ (in_bits self.now s b && in_bits other.now s b)) }
     {
         let mut both = Bits::new(alloc);
         for (signal, mask) in &self.masks {

@@ -1,21 +1,25 @@
 // Rules 605 and 606: an `always @*` keeps nothing from one run to the next.
-ghost use Rattle.std.specs.Prelude.{◌≡◌, ◌≤◌, ◌<◌, ℕ, Bool, true, false, ◌&&◌, ◌||◌, nat_le, nat_lt, [], ◌∷◌, length, IfOk, IsTrue};
+ghost use Rattle.std.specs.Prelude.{◌≡◌, ◌≤◌, ◌<◌, ℕ, Bool, true, false, ◌&&◌, ◌||◌, nat_le};
+ghost use Rattle.std.specs.Prelude.{nat_lt, [], ◌∷◌, length, IfOk, IsTrue};
 ghost use Rattle.sv_flat.specs.Assigned.{assigns, always_assigns, can_assign};
 ghost use Rattle.sv_flat.specs.Blocks.{is_latched, latches, phase_faults};
 ghost use Rattle.sv_flat.specs.Design.{FlatStatement};
 ghost use Rattle.sv_flat.specs.Readings.{Reading, readings, readings_of};
 ghost use Rattle.sv_flat.specs.Soundness.{sound, statement_sound, well_formed};
-ghost use Rattle.sv_flat.specs.Views.{design_of, typed_tree, process_form, flat_statement, flat_statements, chain_of};
+ghost use Rattle.sv_flat.specs.Views.{design_of, typed_tree, process_form, flat_statement};
+ghost use Rattle.sv_flat.specs.Views.{flat_statements, chain_of};
 ghost use Rattle.sv_design.specs.BitSets.{is_set, in_bits, has_some};
 ghost use Rattle.sv_design.specs.First.{FindsFirst};
 ghost use Rattle.sv_design.specs.declared.blocks.Asked.TheVariants.{Unassigned, Followed};
-ghost use Rattle.sv_design.specs.Phases.{is_wrong_read, bits_around, SameBits, is_early, IsAskedOf, FindsReads, latches_of, latches_in, phase_faults_of, phase_faults_in};
+ghost use Rattle.sv_design.specs.Phases.{is_wrong_read, bits_around, SameBits, is_early, IsAskedOf};
+ghost use Rattle.sv_design.specs.Phases.{FindsReads, latches_of, latches_in, phase_faults_of};
+ghost use Rattle.sv_design.specs.Phases.{phase_faults_in};
 ghost use Rattle.sv_design.specs.ReadForms.{read_form, read_forms, AreZeros};
 ghost use Rattle.sv_design.specs.Scopes.{in_scope};
 
 use crate::bits::{Bits, lacks, mask, share};
 use crate::found::{Found, first_of, found_if};
-use crate::names::{Read, names_in};
+use crate::names::{Read, names_in, zeros_of};
 use crate::scopes::Scope;
 use std::alloc::{AllocError, Global};
 use sv_flat::{FExpr, FStmt, Flat, ProcKind, Process, SigId};
@@ -33,7 +37,8 @@ pub enum Asked<'a> {
 // The bits of a signal of some width that are read, as a number.
 fn bits_read(width: u8, read: &Read) -> u64
     requires { width ≤ 64 }
-    ensures { (b : ℕ) → is_set result b ≡ (nat_le read.now.low b && nat_le b read.now.high && nat_lt b width) }
+    ensures { (b : ℕ) → is_set result b ≡
+        (nat_le read.now.low b && nat_le b read.now.high && nat_lt b width) }
 {
     let width = u64::from(width);
     if read.low > read.high || read.low >= width {
@@ -49,8 +54,10 @@ fn bits_read(width: u8, read: &Read) -> u64
 fn is_wrong(flat: &Flat, asked: Asked, read: &Read, around: &Scope) -> bool
     requires sound { IsTrue (sound (design_of flat.now)) }
     requires known { read.now.signal.0 < length flat.now.signals.items }
-    ensures { (body : FlatStatement) (reading : Reading) → IsAskedOf body asked.entry → reading.name ≡ read_form read.now
-        → SameBits (bits_around (is_early asked.entry) reading.assigned reading.follows) (in_scope around.now)
+    ensures { (body : FlatStatement) (reading : Reading) → IsAskedOf body asked.entry
+        → reading.name ≡ read_form read.now
+        → SameBits (bits_around (is_early asked.entry) reading.assigned reading.follows)
+        (in_scope around.now)
         → result ≡ is_wrong_read (is_early asked.entry) (design_of flat.now).signals body reading }
 {
     let bits = bits_read(flat.signals[read.signal.0 as usize].width, read);
@@ -74,7 +81,8 @@ fn wrong_in(
     requires zeros { AreZeros (length flat.now.signals.items) zeros.now }
     requires formed { IsTrue (well_formed (design_of flat.now).signals (typed_tree expr.now)) }
     ensures { IfOk result (λ found. (serves : ℕ → Bool)
-        → FindsReads (design_of flat.now).signals asked.entry (in_scope around.now) (readings_of (design_of flat.now).signals (typed_tree expr.now) serves) found) }
+        → FindsReads (design_of flat.now).signals asked.entry (in_scope around.now)
+        (readings_of (design_of flat.now).signals (typed_tree expr.now) serves) found) }
 {
     let names = names_in(alloc, flat.signals.as_slice(), zeros, expr)?;
     let mut found = None;
@@ -85,8 +93,8 @@ fn wrong_in(
     Ok(found)
 }
 
-// The first read of a statement of a bit that is not assigned yet, of a signal with a bit in `assigned`, and the bits that every
-// path through the statement assigns.
+// The first read of a statement of a bit that is not assigned yet, of a signal with a bit in
+// `assigned`, and the bits that every path through the statement assigns.
 #[cycle(forward)]
 fn forward(
     alloc: Global,
@@ -98,9 +106,11 @@ fn forward(
 ) -> Result<(Option<Found>, Bits), AllocError>
     requires sound { IsTrue (sound (design_of flat.now)) }
     requires zeros { AreZeros (length flat.now.signals.items) zeros.now }
-    requires stmt { IsTrue (statement_sound (design_of flat.now).signals (flat_statement stmt.now)) }
+    requires stmt { IsTrue
+        (statement_sound (design_of flat.now).signals (flat_statement stmt.now)) }
     ensures { IfOk result (λ both.
-        FindsReads (design_of flat.now).signals (Unassigned assigned.entry) (in_scope around.now) (readings (design_of flat.now).signals (flat_statement stmt.now)) both.0
+        FindsReads (design_of flat.now).signals (Unassigned assigned.entry) (in_scope around.now)
+        (readings (design_of flat.now).signals (flat_statement stmt.now)) both.0
         × SameBits (in_bits both.1) (always_assigns (flat_statement stmt.now))) }
 {
     let asked = Asked::Unassigned(assigned);
@@ -134,9 +144,11 @@ fn forward_all(
 ) -> Result<(Option<Found>, Bits), AllocError>
     requires sound { IsTrue (sound (design_of flat.now)) }
     requires zeros { AreZeros (length flat.now.signals.items) zeros.now }
-    requires stmts { IsTrue (statement_sound (design_of flat.now).signals (chain_of (flat_statements stmts.now))) }
+    requires stmts { IsTrue
+        (statement_sound (design_of flat.now).signals (chain_of (flat_statements stmts.now))) }
     ensures { IfOk result (λ both.
-        FindsReads (design_of flat.now).signals (Unassigned assigned.entry) (in_scope around.now) (readings (design_of flat.now).signals (chain_of (flat_statements stmts.now))) both.0
+        FindsReads (design_of flat.now).signals (Unassigned assigned.entry) (in_scope around.now)
+        (readings (design_of flat.now).signals (chain_of (flat_statements stmts.now))) both.0
         × SameBits (in_bits both.1) (always_assigns (chain_of (flat_statements stmts.now)))) }
 {
     let mut found = None;
@@ -150,7 +162,8 @@ fn forward_all(
     Ok((found, here))
 }
 
-// The first read of a statement of a bit that can be assigned again, and the bits that the statement can assign.
+// The first read of a statement of a bit that can be assigned again, and the bits that the
+// statement can assign.
 #[cycle(backward)]
 fn backward(
     alloc: Global,
@@ -161,9 +174,11 @@ fn backward(
 ) -> Result<(Option<Found>, Bits), AllocError>
     requires sound { IsTrue (sound (design_of flat.now)) }
     requires zeros { AreZeros (length flat.now.signals.items) zeros.now }
-    requires stmt { IsTrue (statement_sound (design_of flat.now).signals (flat_statement stmt.now)) }
+    requires stmt { IsTrue
+        (statement_sound (design_of flat.now).signals (flat_statement stmt.now)) }
     ensures { IfOk result (λ both.
-        FindsReads (design_of flat.now).signals Followed (in_scope around.now) (readings (design_of flat.now).signals (flat_statement stmt.now)) both.0
+        FindsReads (design_of flat.now).signals Followed (in_scope around.now)
+        (readings (design_of flat.now).signals (flat_statement stmt.now)) both.0
         × SameBits (in_bits both.1) (can_assign (flat_statement stmt.now))) }
 {
     match stmt {
@@ -197,9 +212,11 @@ fn backward_all(
 ) -> Result<(Option<Found>, Bits), AllocError>
     requires sound { IsTrue (sound (design_of flat.now)) }
     requires zeros { AreZeros (length flat.now.signals.items) zeros.now }
-    requires stmts { IsTrue (statement_sound (design_of flat.now).signals (chain_of (flat_statements stmts.now))) }
+    requires stmts { IsTrue
+        (statement_sound (design_of flat.now).signals (chain_of (flat_statements stmts.now))) }
     ensures { IfOk result (λ both.
-        FindsReads (design_of flat.now).signals Followed (in_scope around.now) (readings (design_of flat.now).signals (chain_of (flat_statements stmts.now))) both.0
+        FindsReads (design_of flat.now).signals Followed (in_scope around.now)
+        (readings (design_of flat.now).signals (chain_of (flat_statements stmts.now))) both.0
         × SameBits (in_bits both.1) (can_assign (chain_of (flat_statements stmts.now)))) }
 {
     let mut found = None;
@@ -218,7 +235,8 @@ fn backward_all(
 fn is_latched(flat: &Flat, signal: SigId, assigned: &Bits, always: &Bits) -> bool
     requires sound { IsTrue (sound (design_of flat.now)) }
     ensures { (body : FlatStatement) → ((s : ℕ) → has_some assigned.now s ≡ assigns body s)
-        → SameBits (in_bits always.now) (always_assigns body) → result ≡ is_latched (design_of flat.now).signals body signal.0 }
+        → SameBits (in_bits always.now) (always_assigns body)
+        → result ≡ is_latched (design_of flat.now).signals body signal.0 }
 {
     match flat.signals.get(signal.0 as usize) {
         Some(declared) => {
@@ -233,7 +251,8 @@ fn is_latched(flat: &Flat, signal: SigId, assigned: &Bits, always: &Bits) -> boo
 fn first_latch(flat: &Flat, place: Place, assigned: &Bits, always: &Bits) -> Option<Found>
     requires sound { IsTrue (sound (design_of flat.now)) }
     ensures { (body : FlatStatement) → IsTrue (statement_sound (design_of flat.now).signals body)
-        → ((s : ℕ) → has_some assigned.now s ≡ assigns body s) → SameBits (in_bits always.now) (always_assigns body)
+        → ((s : ℕ) → has_some assigned.now s ≡ assigns body s)
+        → SameBits (in_bits always.now) (always_assigns body)
         → FindsFirst 605 (latches_of (design_of flat.now) place body) result }
 {
     let mut found = None;
@@ -261,9 +280,13 @@ fn block_faults(
 ) -> Result<BlockFaults, AllocError>
     requires sound { IsTrue (sound (design_of flat.now)) }
     requires zeros { AreZeros (length flat.now.signals.items) zeros.now }
-    requires body { IsTrue (statement_sound (design_of flat.now).signals (flat_statement process.now.body)) }
-    ensures { IfOk result (λ faults. FindsFirst 605 (latches_of (design_of flat.now) process.now.place (flat_statement process.now.body)) faults.latch
-        × FindsFirst 606 (phase_faults_of (design_of flat.now) (flat_statement process.now.body)) faults.phase) }
+    requires body { IsTrue
+        (statement_sound (design_of flat.now).signals (flat_statement process.now.body)) }
+    ensures { IfOk result (λ faults.
+        FindsFirst 605 (latches_of (design_of flat.now) process.now.place
+        (flat_statement process.now.body)) faults.latch
+        × FindsFirst 606 (phase_faults_of (design_of flat.now) (flat_statement process.now.body))
+        faults.phase) }
 {
     let nothing = Scope::Nothing;
     let (late, assigned) = backward(alloc, flat, zeros, &process.body, &nothing)?;
@@ -283,9 +306,13 @@ fn process_faults(
 ) -> Result<BlockFaults, AllocError>
     requires sound { IsTrue (sound (design_of flat.now)) }
     requires zeros { AreZeros (length flat.now.signals.items) zeros.now }
-    requires body { IsTrue (statement_sound (design_of flat.now).signals (flat_statement process.now.body)) }
-    ensures { IfOk result (λ faults. FindsFirst 605 (latches_in (design_of flat.now) (process_form process.now ∷ [])) faults.latch
-        × FindsFirst 606 (phase_faults_in (design_of flat.now) (process_form process.now ∷ [])) faults.phase) }
+    requires body { IsTrue
+        (statement_sound (design_of flat.now).signals (flat_statement process.now.body)) }
+    ensures { IfOk result (λ faults.
+        FindsFirst 605 (latches_in (design_of flat.now) (process_form process.now ∷ []))
+        faults.latch
+        × FindsFirst 606 (phase_faults_in (design_of flat.now) (process_form process.now ∷ []))
+        faults.phase) }
 {
     if process.kind == ProcKind::Comb {
         block_faults(alloc, flat, zeros, process)
@@ -297,17 +324,12 @@ fn process_faults(
     }
 }
 
-// A value 0 for each signal.
-fn zeros_of(alloc: Global, flat: &Flat) -> Result<Vec<u64>, AllocError>
-    ensures { IfOk result (λ zeros. AreZeros (length flat.now.signals.items) zeros.items) }
-{
-    vec![in alloc; 0; flat.signals.len()]
-}
-
 /// The first block that breaks rule 605, and the first read that breaks rule 606.
 pub fn first_block_faults(alloc: Global, flat: &Flat) -> Result<BlockFaults, AllocError>
     requires { IsTrue (sound (design_of flat.now)) }
-    ensures { IfOk result (λ faults. FindsFirst 605 (latches (design_of flat.now)) faults.latch × FindsFirst 606 (phase_faults (design_of flat.now)) faults.phase) }
+    ensures { IfOk result (λ faults.
+        FindsFirst 605 (latches (design_of flat.now)) faults.latch
+        × FindsFirst 606 (phase_faults (design_of flat.now)) faults.phase) }
 {
     let zeros = zeros_of(alloc, flat)?;
     let mut latch = None;

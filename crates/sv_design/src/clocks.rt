@@ -1,15 +1,22 @@
 // Clocks, and rule 602.
-ghost use Rattle.std.specs.Prelude.{◌≡◌, ◌<◌, length, slice_index_or, false, IsTrue};
+ghost use Rattle.std.specs.Prelude.{◌≡◌, ◌<◌, length, slice_index_or, false, IsTrue, IfOk};
 ghost use Rattle.std.specs.List.{list_any};
-ghost use Rattle.sv_flat.specs.Clocks.{is_clock_link, is_port_in};
+ghost use Rattle.sv_flat.specs.Clocks.{has_edge, is_edge, is_clock_link, is_port_in};
 ghost use Rattle.sv_flat.specs.Design.{PieceForm};
-ghost use Rattle.sv_flat.specs.Processes.{is_top_kind};
-ghost use Rattle.sv_flat.specs.Soundness.{process_sound};
+ghost use Rattle.sv_flat.specs.Processes.{is_top_kind, signals_that};
+ghost use Rattle.sv_flat.specs.Soundness.{sound, process_sound};
 ghost use Rattle.sv_flat.specs.Views.{design_of, process_form, process_kind};
 ghost use Rattle.sv_design.specs.BitSets.{piece_forms};
 ghost use Rattle.sv_design.specs.DriverTables.{AreClocks, AreTargets};
+ghost use Rattle.sv_design.specs.Marks.{Marks, HasClockBelow};
+ghost use Rattle.sv_design.specs.Numbers.{numbers};
 
-use sv_flat::{FStmt, Flat, Piece, ProcKind, Process, SigKind};
+use crate::links::clock_graph;
+use crate::lists::listed;
+use crate::marks::{mark, unmarked};
+use crate::searches::search_from;
+use std::alloc::{AllocError, Global};
+use sv_flat::{FStmt, Flat, Piece, ProcKind, Process, SigId, SigKind};
 
 /// Whether a signal of the kind is an input of the top module.
 pub fn is_top(kind: SigKind) -> bool
@@ -21,7 +28,8 @@ pub fn is_top(kind: SigKind) -> bool
 // Whether some piece is one of a signal that the table has.
 fn is_any(pieces: &[Piece], table: &[bool]) -> bool
     requires { AreTargets (length table.now) (piece_forms pieces.now) }
-    ensures { result ≡ list_any (λ (p : PieceForm). slice_index_or table.now p.signal false) (piece_forms pieces.now) }
+    ensures { result ≡ list_any (λ (p : PieceForm).
+        slice_index_or table.now p.signal false) (piece_forms pieces.now) }
 {
     for piece in pieces {
         if table[piece.signal.0 as usize] {
@@ -52,4 +60,38 @@ pub fn is_clock_link(flat: &Flat, process: &Process, clocks: &[bool]) -> bool
         FStmt::Block(_) => false,
         FStmt::If { .. } => false,
     }
+}
+
+// Marks the clock of a process, where there is one.
+fn mark_edge(table: &mut [bool], process: &Process)
+    requires { HasClockBelow (length table.old) (process_kind process.now.kind) }
+    ensures { Marks table.old table.new (λ s. has_edge s (process_kind process.now.kind)) }
+{
+    if let ProcKind::Clocked(clock) = process.kind {
+        mark(table, clock);
+    }
+}
+
+// The signals after `posedge`.
+fn edges_of(alloc: Global, flat: &Flat) -> Result<Vec<SigId>, AllocError>
+    requires { IsTrue (sound (design_of flat.now)) }
+    ensures { IfOk result (λ edges.
+        numbers edges.items ≡ signals_that (design_of flat.now) (is_edge (design_of flat.now))) }
+{
+    let mut table = unmarked(alloc, flat)?;
+    for process in &flat.processes {
+        mark_edge(&mut table, process);
+    }
+    listed(alloc, &table)
+}
+
+/// For each signal, whether it is a clock. It fails where memory runs out.
+pub fn clock_table(alloc: Global, flat: &Flat) -> Result<Vec<bool>, AllocError>
+    requires { IsTrue (sound (design_of flat.now)) }
+    ensures { IfOk result (λ clocks. AreClocks (design_of flat.now) clocks.items) }
+{
+    let graph = clock_graph(alloc, flat)?;
+    let edges = edges_of(alloc, flat)?;
+    let clocks = search_from(alloc, &graph, 0, &edges)?;
+    clocks.table(alloc)
 }

@@ -90,7 +90,8 @@ impl Design {
         self.tables.clock
     }
 
-    /// Whether the signal is a clock. A clock has no value, and stands in none of the lists of signals.
+    /// Whether the signal is a clock. A clock has no value, and stands in none of the lists of
+    /// signals.
     pub fn is_clock(&self, s: SigId) -> bool
         requires { s.0 < length self.now.signals.items }
         ensures clock { result ≡ is_clock (design_of self.now) s.0 }
@@ -124,8 +125,9 @@ impl Design {
         self.tables.registers.as_slice()
     }
 
-    /// The combinational signals, those of lower depth first, and of one depth in signal order. Inputs and registers have
-    /// depth 0, a combinational signal one more than the greatest depth of what is read for it, and 1 where nothing is.
+    /// The combinational signals, those of lower depth first, and of one depth in signal order.
+    /// Inputs and registers have depth 0, a combinational signal one more than the greatest depth
+    /// of what is read for it, and 1 where nothing is.
     pub fn order(&self) -> &[SigId]
         ensures order { numbers result.now ≡ order (design_of self.now) }
         ensures design { IsDesign (design_of self.now) }
@@ -149,7 +151,8 @@ impl Design {
         self.tables.clocked
     }
 
-    /// The place in `processes` of the process that assigns the signal, or None for an input of the top module and for a clock.
+    /// The place in `processes` of the process that assigns the signal, or None for an input of the
+    /// top module and for a clock.
     pub fn driver(&self, s: SigId) -> Option<usize>
         requires { s.0 < length self.now.signals.items }
         ensures driver { result ≡ driver_of (design_of self.now) s.0 }
@@ -159,8 +162,9 @@ impl Design {
         drivers[s.0 as usize]
     }
 
-    /// The signals read for the signal, in order: those named in the right sides of its assignments and in the conditions of the
-    /// branches with an arm that assigns it, and for a register itself too. None are read for an input or a clock.
+    /// The signals read for the signal, in order: those named in the right sides of its assignments
+    /// and in the conditions of the branches with an arm that assigns it, and for a register itself
+    /// too. None are read for an input or a clock.
     pub fn reads_for(&self, s: SigId) -> &[SigId]
         requires { s.0 < length self.now.signals.items }
         ensures reads { numbers result.now ≡ reads_for (design_of self.now) s.0 }
@@ -172,7 +176,8 @@ impl Design {
 
     /// The first point with the name, or None where no point has it.
     pub fn point_named(&self, name: &str) -> Option<Point>
-        ensures point { option_map (λ p. p.0) result ≡ position (λ point. bytes_eq point name.now) self.now.points.items }
+        ensures point { option_map (λ p. p.0) result ≡ position (λ point.
+            bytes_eq point name.now) self.now.points.items }
         ensures design { IsDesign (design_of self.now) }
     {
         let size = self.flat.lattice.size();

@@ -1,10 +1,13 @@
 // Drivers, and the rules 603 and 604.
-ghost use Rattle.std.specs.Prelude.{map, not, ◌&&◌, is_none, if◌then◌else◌, [], ◌∷◌, ◌++◌, List, option_map, ◌≤◌, ◌+◌, ◌-◌, ◌^◌, ◌≡◌, ◌<◌, ◌==◌, length, IfOk, IsTrue};
+ghost use Rattle.std.specs.Prelude.{map, not, ◌&&◌, is_none, if◌then◌else◌, [], ◌∷◌, ◌++◌, List};
+ghost use Rattle.std.specs.Prelude.{option_map, ◌≤◌, ◌+◌, ◌-◌, ◌^◌, ◌≡◌, ◌<◌, ◌==◌, length, IfOk};
+ghost use Rattle.std.specs.Prelude.{IsTrue};
 ghost use Rattle.std.specs.List.{list_any, list_all};
 ghost use Rattle.sv_flat.specs.Design.{ProcessForm, FlatDesign};
 ghost use Rattle.sv_flat.specs.Processes.{signal_numbers};
 ghost use Rattle.sv_flat.specs.SignalLists.{driver_of};
-ghost use Rattle.sv_flat.specs.Views.{design_of, process_form, flat_statement, flat_statements, chain_of};
+ghost use Rattle.sv_flat.specs.Views.{design_of, process_form, flat_statement, flat_statements};
+ghost use Rattle.sv_flat.specs.Views.{chain_of};
 ghost use Rattle.sv_flat.specs.Soundness.{sound, process_sound};
 ghost use Rattle.sv_flat.specs.Assigned.{assigns};
 ghost use Rattle.sv_flat.specs.Clocks.{is_clock_link};
@@ -13,7 +16,9 @@ ghost use Rattle.std.specs.List.{cons_option};
 ghost use Rattle.sv_flat.specs.Breaches.{breach};
 ghost use Rattle.sv_design.specs.BitSets.{piece_forms};
 ghost use Rattle.sv_design.specs.First.{FindsFirst};
-ghost use Rattle.sv_design.specs.DriverTables.{AreDrivers, AreBelow, AreClocks, AreDriversOf, entries, kept_of, AreTargets, IsSoundOver, assigned_in, Notes, noted};
+ghost use Rattle.sv_design.specs.DriverTables.{AreDrivers, AreBelow, AreClocks, AreDriversOf};
+ghost use Rattle.sv_design.specs.DriverTables.{entries, kept_of, AreTargets, IsSoundOver};
+ghost use Rattle.sv_design.specs.DriverTables.{assigned_in, Notes, noted};
 
 use crate::clocks::{is_clock_link, is_top};
 use crate::found::{Found, first_of, found_if};
@@ -21,7 +26,8 @@ use std::alloc::{AllocError, Global};
 use sv_flat::{FStmt, Flat, Piece, Process, SigId};
 use sv_num::Place;
 
-/// A process that assigns a signal: its number among the processes, links to clocks left out, and its place.
+/// A process that assigns a signal: its number among the processes, links to clocks left out, and
+/// its place.
 #[derive(Clone, Copy, Debug)]
 pub struct Driver {
     pub process: usize,
@@ -63,7 +69,8 @@ fn note(drivers: &mut Drivers, signal: SigId, driver: Driver)
     requires second { signal.0 < length drivers.old.second.items }
     ensures first { length drivers.new.first.items ≡ length drivers.old.first.items }
     ensures second { length drivers.new.second.items ≡ length drivers.old.second.items }
-    ensures notes { Notes (length drivers.old.first.items) driver drivers.old drivers.new (λ s. signal.0 == s) }
+    ensures notes { Notes (length drivers.old.first.items) driver drivers.old drivers.new (λ s.
+        signal.0 == s) }
 {
     let s = signal.0 as usize;
     let (first, second) = with_driver(drivers.first[s], drivers.second[s], driver);
@@ -77,7 +84,8 @@ fn note_pieces(drivers: &mut Drivers, pieces: &[Piece], driver: Driver)
     requires second { length drivers.old.second.items ≡ length drivers.old.first.items }
     ensures first { length drivers.new.first.items ≡ length drivers.old.first.items }
     ensures second { length drivers.new.second.items ≡ length drivers.old.first.items }
-    ensures notes { Notes (length drivers.old.first.items) driver drivers.old drivers.new (assigned_in (piece_forms pieces.now)) }
+    ensures notes { Notes (length drivers.old.first.items) driver drivers.old drivers.new
+        (assigned_in (piece_forms pieces.now)) }
 {
     for piece in pieces {
         note(drivers, piece.signal, driver);
@@ -91,7 +99,8 @@ fn note_targets(drivers: &mut Drivers, stmt: &FStmt, driver: Driver)
     requires second { length drivers.old.second.items ≡ length drivers.old.first.items }
     ensures first { length drivers.new.first.items ≡ length drivers.old.first.items }
     ensures second { length drivers.new.second.items ≡ length drivers.old.first.items }
-    ensures notes { Notes (length drivers.old.first.items) driver drivers.old drivers.new (assigns (flat_statement stmt.now)) }
+    ensures notes { Notes (length drivers.old.first.items) driver drivers.old drivers.new
+        (assigns (flat_statement stmt.now)) }
 {
     match stmt {
         FStmt::Assign { pieces, .. } => note_pieces(drivers, pieces, driver),
@@ -105,11 +114,13 @@ fn note_targets(drivers: &mut Drivers, stmt: &FStmt, driver: Driver)
 
 #[cycle(note_targets)]
 fn note_all(drivers: &mut Drivers, stmts: &[FStmt], driver: Driver)
-    requires stmts { IsSoundOver (length drivers.old.first.items) (chain_of (flat_statements stmts.now)) }
+    requires stmts { IsSoundOver (length drivers.old.first.items)
+        (chain_of (flat_statements stmts.now)) }
     requires second { length drivers.old.second.items ≡ length drivers.old.first.items }
     ensures first { length drivers.new.first.items ≡ length drivers.old.first.items }
     ensures second { length drivers.new.second.items ≡ length drivers.old.first.items }
-    ensures notes { Notes (length drivers.old.first.items) driver drivers.old drivers.new (assigns (chain_of (flat_statements stmts.now))) }
+    ensures notes { Notes (length drivers.old.first.items) driver drivers.old drivers.new
+        (assigns (chain_of (flat_statements stmts.now))) }
 {
     for stmt in stmts {
         note_targets(drivers, stmt, driver);
@@ -132,9 +143,11 @@ fn note_process(
     ensures first { length drivers.new.first.items ≡ length flat.now.signals.items }
     ensures second { length drivers.new.second.items ≡ length flat.now.signals.items }
     ensures counted { result ≤ kept + 1 }
-    ensures drivers { (ps : List ProcessForm) → length ps ≡ kept → AreDrivers (length flat.now.signals.items) drivers.old (entries 0 ps)
+    ensures drivers { (ps : List ProcessForm) → length ps ≡ kept
+        → AreDrivers (length flat.now.signals.items) drivers.old (entries 0 ps)
         → let more = ps ++ kept_of (design_of flat.now) (process_form process.now ∷ []) in
-        (length more ≡ result) × AreDrivers (length flat.now.signals.items) drivers.new (entries 0 more) }
+        (length more ≡ result)
+        × AreDrivers (length flat.now.signals.items) drivers.new (entries 0 more) }
 {
     if is_clock_link(flat, process, clocks) {
         return kept;
@@ -174,7 +187,8 @@ fn extra_of(is_top: bool, first: Option<Driver>, second: Option<Driver>) -> Opti
 
 // Where a signal has an extra driver.
 fn extra_at(extra: Option<Driver>, signal: SigId) -> Option<Found>
-    ensures { FindsFirst 603 (cons_option (option_map (λ d. breach 603 d.place signal.0) extra) []) result }
+    ensures { FindsFirst 603 (cons_option (option_map (λ d. breach 603 d.place signal.0) extra) [])
+        result }
 {
     match extra {
         Some(driver) => found_if(true, driver.place, signal),

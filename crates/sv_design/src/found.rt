@@ -43,7 +43,8 @@ pub fn first_of(found: Option<Found>, other: Option<Found>) -> Option<Found>
 
 /// A place and signal, where something is wrong there.
 pub fn found_if(wrong: bool, place: Place, signal: SigId) -> Option<Found>
-    ensures { (number : ℕ) → FindsFirst number (if wrong then breach number place signal.0 ∷ [] else []) result }
+    ensures { (number : ℕ) →
+        FindsFirst number (if wrong then breach number place signal.0 ∷ [] else []) result }
 {
     if wrong {
         Some(Found { place, signal })

@@ -2,17 +2,18 @@
 ghost use Rattle.std.specs.Prelude.{◌≡◌, ◌<◌, ◌≤◌, ◌^◌, ◌++◌, [], ◌∷◌, length, IsTrue, IfOk, OnOk};
 ghost use Rattle.sv_num.specs.Vectors.{as_number, is_negative};
 ghost use Rattle.sv_flat.specs.ByNumber.{signal_forms};
-ghost use Rattle.sv_flat.specs.Readings.{whole_read, bit_read, indexed_read, is_constant, are_constant, reads, parts_reads};
+ghost use Rattle.sv_flat.specs.Readings.{whole_read, bit_read, indexed_read, is_constant};
+ghost use Rattle.sv_flat.specs.Readings.{are_constant, reads, parts_reads};
 ghost use Rattle.sv_flat.specs.Soundness.{well_formed, parts_well_formed};
 ghost use Rattle.sv_flat.specs.Views.{typed_tree, typed_trees, parts_of};
 ghost use Rattle.sv_design.specs.ReadForms.{read_form, read_forms, AreZeros};
 
 use std::alloc::{AllocError, Global};
-use sv_flat::{FExpr, FNode, SigId, Signal, value_of};
+use sv_flat::{FExpr, FNode, Flat, SigId, Signal, value_of};
 use sv_num::Place;
 
-/// A name in an expression: its signal, its place, and from which bit down to which it is read; none are where the first is
-/// below the last.
+/// A name in an expression: its signal, its place, and from which bit down to which it is read;
+/// none are where the first is below the last.
 #[derive(Clone, Copy)]
 pub struct Read {
     pub signal: SigId,
@@ -105,7 +106,8 @@ fn indexed(signals: &[Signal], zeros: &[u64], signal: SigId, place: Place, index
     requires known { signal.0 < length signals.now }
     requires zeros { AreZeros (length signals.now) zeros.now }
     requires formed { IsTrue (well_formed (signal_forms signals.now) (typed_tree index.now)) }
-    ensures { read_form result ≡ indexed_read (signal_forms signals.now) signal.0 place (typed_tree index.now) }
+    ensures { read_form result ≡
+        indexed_read (signal_forms signals.now) signal.0 place (typed_tree index.now) }
 {
     if is_constant(index) {
         let number = value_of(index, signals, zeros);
@@ -115,7 +117,8 @@ fn indexed(signals: &[Signal], zeros: &[u64], signal: SigId, place: Place, index
     }
 }
 
-/// Adds the names in an expression, in textual order. A constant index has its value where each signal is 0.
+/// Adds the names in an expression, in textual order. A constant index has its value where each
+/// signal is 0.
 #[cycle(add_names)]
 pub fn add_names(
     signals: &[Signal],
@@ -125,7 +128,8 @@ pub fn add_names(
 ) -> Result<(), AllocError>
     requires zeros { AreZeros (length signals.now) zeros.now }
     requires formed { IsTrue (well_formed (signal_forms signals.now) (typed_tree expr.now)) }
-    ensures { OnOk result (read_forms names.new.items ≡ read_forms names.old.items ++ reads (signal_forms signals.now) (typed_tree expr.now)) }
+    ensures { OnOk result (read_forms names.new.items ≡
+        read_forms names.old.items ++ reads (signal_forms signals.now) (typed_tree expr.now)) }
 {
     match &expr.node {
         FNode::Number(_) => Ok(()),
@@ -181,8 +185,11 @@ fn add_all_names(
     names: &mut Vec<Read>,
 ) -> Result<(), AllocError>
     requires zeros { AreZeros (length signals.now) zeros.now }
-    requires formed { IsTrue (parts_well_formed (signal_forms signals.now) (parts_of (typed_trees exprs.now))) }
-    ensures { OnOk result (read_forms names.new.items ≡ read_forms names.old.items ++ parts_reads (signal_forms signals.now) (parts_of (typed_trees exprs.now))) }
+    requires formed { IsTrue
+        (parts_well_formed (signal_forms signals.now) (parts_of (typed_trees exprs.now))) }
+    ensures { OnOk result (read_forms names.new.items ≡
+        read_forms names.old.items ++ parts_reads (signal_forms signals.now)
+        (parts_of (typed_trees exprs.now))) }
 {
     for expr in exprs {
         add_names(signals, zeros, expr, names)?;
@@ -199,9 +206,17 @@ pub fn names_in(
 ) -> Result<Vec<Read>, AllocError>
     requires zeros { AreZeros (length signals.now) zeros.now }
     requires formed { IsTrue (well_formed (signal_forms signals.now) (typed_tree expr.now)) }
-    ensures { IfOk result (λ names. read_forms names.items ≡ reads (signal_forms signals.now) (typed_tree expr.now)) }
+    ensures { IfOk result (λ names.
+        read_forms names.items ≡ reads (signal_forms signals.now) (typed_tree expr.now)) }
 {
     let mut names = Vec::new(alloc);
     add_names(signals, zeros, expr, &mut names)?;
     Ok(names)
+}
+
+/// A value 0 for each signal. It fails where memory runs out.
+pub fn zeros_of(alloc: Global, flat: &Flat) -> Result<Vec<u64>, AllocError>
+    ensures { IfOk result (λ zeros. AreZeros (length flat.now.signals.items) zeros.items) }
+{
+    vec![in alloc; 0; flat.signals.len()]
 }

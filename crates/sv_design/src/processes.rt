@@ -19,7 +19,9 @@ fn push_kept(
 ) -> Result<(), AllocError>
     requires sound { IsTrue (process_sound (design_of flat.now) (process_form process.now)) }
     requires clocks { AreClocks (design_of flat.now) clocks.now }
-    ensures { OnOk result (map process_form kept.new.items ≡ map process_form kept.old.items ++ kept_of (design_of flat.now) (process_form process.now ∷ [])) }
+    ensures { OnOk result (map process_form kept.new.items ≡
+        map process_form kept.old.items ++ kept_of (design_of flat.now)
+        (process_form process.now ∷ [])) }
 {
     if is_clock_link(flat, process, clocks) {
         return Ok(());
@@ -37,7 +39,8 @@ pub fn kept_processes(
 ) -> Result<Vec<Process>, AllocError>
     requires sound { IsTrue (sound (design_of flat.now)) }
     requires clocks { AreClocks (design_of flat.now) clocks.now }
-    ensures { IfOk result (λ kept. map process_form kept.items ≡ processes_of (design_of flat.now)) }
+    ensures { IfOk result (λ kept.
+        map process_form kept.items ≡ processes_of (design_of flat.now)) }
 {
     let mut kept = Vec::with_capacity(alloc, flat.processes.len())?;
     for process in &flat.processes {

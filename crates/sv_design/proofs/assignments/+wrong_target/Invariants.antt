@@ -14,5 +14,6 @@ invariant-wrong_in_all-loop-stmt l =
     let kind = process_kind l.kind in
     let left = chain_of (flat_statements (drop l.stmt-index l.stmts)) in
     (done : List Breach) × FindsFirst 601 done l.found
-    × (wrong_in design kind (chain_of (flat_statements l.stmts)) ≡ done ++ wrong_in design kind left)
+    × (wrong_in design kind (chain_of (flat_statements l.stmts)) ≡
+    done ++ wrong_in design kind left)
     × IsTrue (statement_sound design.signals left)

@@ -13,4 +13,5 @@ abbrev pub invariant-loop-process : goal.invariant-loop-process
 invariant-loop-process l =
     let design = design_of l.flat in
     (done : List Breach) × FindsFirst 601 done l.found
-    × (wrong_assigns design ≡ done ++ flat_map (λ (p : ProcessForm). wrong_in design p.kind p.body) (map process_form (drop l.process-index l.process-items)))
+    × (wrong_assigns design ≡ done ++ flat_map (λ (p : ProcessForm).
+    wrong_in design p.kind p.body) (map process_form (drop l.process-index l.process-items)))

@@ -7,5 +7,6 @@ use Rattle.sv_design.proofs.assignments.is_again.Goals as goal
 
 pub returns : goal.returns
 returns c = λ passed holds.
-    again_is c.args.before.now (piece_form c.args.piece.now) passed c.mask.result c.mask.ensures c.requires.ordered holds c.share.result
+    again_is c.args.before.now (piece_form c.args.piece.now) passed c.mask.result c.mask.ensures
+    c.requires.ordered holds c.share.result
     (subst (λ m. IsTrue c.share.result ↔ SharesBit m c.mask.result) c.of.ensures c.share.ensures)

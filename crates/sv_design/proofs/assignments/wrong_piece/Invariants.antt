@@ -6,4 +6,5 @@ use Rattle.sv_design.proofs.assignments.wrong_piece.Given as goal
 
 abbrev pub invariant-loop-piece : goal.invariant-loop-piece
 invariant-loop-piece l =
-    PiecesSoFar (design_of l.flat) (process_kind l.kind) l.blocking (piece_forms l.pieces) (piece_forms (drop l.piece-index l.pieces)) l.found l.before
+    PiecesSoFar (design_of l.flat) (process_kind l.kind) l.blocking (piece_forms l.pieces)
+    (piece_forms (drop l.piece-index l.pieces)) l.found l.before

@@ -13,4 +13,5 @@ overflow_sub-result c =
 pub returns : goal.returns
 returns c = λ b.
     rw (one_shl c.args.low 64 (omega arith), one_shl c.args.high 64 (omega arith))
-    (ap (λ n. is_set n b) (run_is c.args.low c.args.high c.requires.ordered) ∙ run_has c.args.low c.args.high b)
+    (ap (λ n. is_set n b) (run_is c.args.low c.args.high c.requires.ordered)
+    ∙ run_has c.args.low c.args.high b)

@@ -1,4 +1,5 @@
-use Rattle.std.proofs.Common.{◌≡◌, ◌+◌, ◌-◌, ◌<◌, ◌||◌, length, get_or, drop, refl, sym, ap, ap₂, subst, ◌∙◌, arith, rules, Option}
+use Rattle.std.proofs.Common.{◌≡◌, ◌+◌, ◌-◌, ◌<◌, ◌||◌, length, get_or, drop, refl, sym, ap, ap₂}
+use Rattle.std.proofs.Common.{subst, ◌∙◌, arith, rules, Option}
 use Rattle.std.specs.Prelude.{IsTrue, IfOk}
 use Rattle.std.specs.List.{list_any}
 use Rattle.sv_flat.specs.Assigned.{assigns, can_assign, has_bit}
@@ -13,7 +14,8 @@ use Rattle.sv_design.specs.declared.found.Found.{Found}
 use Rattle.sv_design.specs.BitSets.{in_bits, piece_forms}
 use Rattle.sv_design.specs.Phases.{SameBits, FindsReads}
 use Rattle.sv_design.specs.Scopes.{in_scope}
-use Rattle.sv_design.proofs.Passes.{sound_at, or_turned, only_pieces, reads_inside, three_reads, backward_more}
+use Rattle.sv_design.proofs.Passes.{sound_at, or_turned, only_pieces, reads_inside, three_reads}
+use Rattle.sv_design.proofs.Passes.{backward_more}
 use Rattle.sv_design.proofs.Sound.{block_is, next_statement}
 use Rattle.sv_design.proofs.blocks.+backward.Goals as goal
 
@@ -26,7 +28,8 @@ backward-backward_all-requires t c =
         (
           c.requires.zeros,
           subst (λ b. IsTrue (statement_sound signals b))
-              (block_is c.args.stmt.now c.in-Block.stmts c.deref-in-Block.result.now c.in-Block.is c.deref-in-Block.ensures.value)
+              (block_is c.args.stmt.now c.in-Block.stmts c.deref-in-Block.result.now c.in-Block.is
+              c.deref-in-Block.ensures.value)
               c.requires.stmt,
         ),
       ),
@@ -36,8 +39,10 @@ pub backward-returns-in-Block : goal.backward-returns-in-Block
 backward-returns-in-Block t c =
     let signals = (design_of c.args.flat.now).signals in
     subst (λ b. IfOk c.backward_all.result (λ (both : Option Found × Bits).
-    FindsReads signals Followed (in_scope c.args.around.now) (readings signals b) both.0 × SameBits (in_bits both.1) (can_assign b)))
-    (sym (block_is c.args.stmt.now c.in-Block.stmts c.deref-in-Block.result.now c.in-Block.is c.deref-in-Block.ensures.value))
+    FindsReads signals Followed (in_scope c.args.around.now) (readings signals b) both.0
+    × SameBits (in_bits both.1) (can_assign b)))
+    (sym (block_is c.args.stmt.now c.in-Block.stmts c.deref-in-Block.result.now c.in-Block.is
+    c.deref-in-Block.ensures.value))
     c.backward_all.ensures
 
 pub backward-returns-in_ok-found-in-Assign : goal.backward-returns-in_ok-found-in-Assign
@@ -45,14 +50,19 @@ backward-returns-in_ok-found-in-Assign t c =
     let signals = (design_of c.args.flat.now).signals in
     let around = in_scope c.args.around.now in
     let pieces = piece_forms c.in-Assign.pieces.items in
-    let whole = assign pieces c.in-Assign.place c.in-Assign.blocking (typed_tree c.in-Assign.value) in
+    let whole = assign pieces c.in-Assign.place c.in-Assign.blocking
+    (typed_tree c.in-Assign.value) in
     let is : flat_statement c.args.stmt.now ≡ whole = ap flat_statement c.in-Assign.is in
     let bits = only_pieces c.new-bits.result c.add_pieces.new.self pieces c.new-bits.ensures
     (λ s b. c.in_ok-add_pieces-in-Assign.ensures s b
-    ∙ ap (λ ps. in_bits c.new-bits.result s b || list_any (has_bit s b) (piece_forms ps)) c.deref.ensures.value) in
-    subst (λ b. FindsReads signals Followed around (readings signals b) c.in_ok-found-in-Assign.found × SameBits (in_bits c.add_pieces.new.self) (can_assign b))
+    ∙ ap (λ ps. in_bits c.new-bits.result s b || list_any (has_bit s b) (piece_forms ps))
+    c.deref.ensures.value) in
+    subst (λ b. FindsReads signals Followed around (readings signals b)
+    c.in_ok-found-in-Assign.found × SameBits (in_bits c.add_pieces.new.self) (can_assign b))
     (sym is) (
-      reads_inside signals _ _ around (can_assign whole) (readings_of signals (typed_tree c.in-Assign.value) (assigns whole)) c.in_ok-found-in-Assign.found
+      reads_inside signals _ _ around (can_assign whole)
+          (readings_of signals (typed_tree c.in-Assign.value) (assigns whole))
+          c.in_ok-found-in-Assign.found
           bits (λ s b. refl) (c.in_ok-found-in-Assign.ensures (assigns whole)),
       bits,
     )
@@ -66,18 +76,24 @@ backward-returns-in_ok-found-in-If t c =
     let second = flat_statement c.deref-in-If-2.result.now in
     let whole = branch c.in-If.place cond first second in
     let is : flat_statement c.args.stmt.now ≡ whole = ap flat_statement c.in-If.is
-    ∙ ap₂ (λ p q. branch c.in-If.place cond (flat_statement p) (flat_statement q)) (sym c.deref-in-If.ensures) (sym c.deref-in-If-2.ensures) in
+    ∙ ap₂ (λ p q. branch c.in-If.place cond (flat_statement p) (flat_statement q))
+    (sym c.deref-in-If.ensures) (sym c.deref-in-If-2.ensures) in
     let bits : SameBits (in_bits c.add_all.new.self) (can_assign whole) = λ s b.
     c.in_ok-add_all-in-If.ensures s b
     ∙ ap₂ ◌||◌ (c.in_ok-in_no-in-If.ensures.1 s b) (c.in_ok-in_yes-in-If.ensures.1 s b)
     ∙ or_turned (can_assign second s b) (can_assign first s b) in
-    subst (λ b. FindsReads signals Followed around (readings signals b) c.first_of-in-If.result × SameBits (in_bits c.add_all.new.self) (can_assign b)) (sym is) (
+    subst (λ b. FindsReads signals Followed around (readings signals b) c.first_of-in-If.result
+    × SameBits (in_bits c.add_all.new.self) (can_assign b)) (sym is) (
       three_reads signals Followed around
-          (λ a f. readings_of signals cond (assigns whole) a (either (can_assign whole) f)) (readings signals first) (readings signals second)
-          c.in_ok-found-in-If.found c.in_ok-in_yes-in-If.in_yes c.in_ok-in_no-in-If.in_no c.first_of.result c.first_of-in-If.result
-          (reads_inside signals _ _ around (can_assign whole) (readings_of signals cond (assigns whole)) c.in_ok-found-in-If.found
+          (λ a f. readings_of signals cond (assigns whole) a (either (can_assign whole) f))
+          (readings signals first) (readings signals second)
+          c.in_ok-found-in-If.found c.in_ok-in_yes-in-If.in_yes c.in_ok-in_no-in-If.in_no
+          c.first_of.result c.first_of-in-If.result
+          (reads_inside signals _ _ around (can_assign whole)
+          (readings_of signals cond (assigns whole)) c.in_ok-found-in-If.found
           bits (λ s b. refl) (c.in_ok-found-in-If.ensures (assigns whole)))
-          c.in_ok-in_yes-in-If.ensures.0 c.in_ok-in_no-in-If.ensures.0 c.first_of.ensures c.first_of-in-If.ensures,
+          c.in_ok-in_yes-in-If.ensures.0 c.in_ok-in_no-in-If.ensures.0 c.first_of.ensures
+          c.first_of-in-If.ensures,
       bits,
     )
 
@@ -91,7 +107,8 @@ backward_all-backward-requires t c =
         c.requires.sound,
         (
           c.requires.zeros,
-          sound_at (design_of c.args.flat.now).signals stmts j c.index-stmts-stmts.result inside c.index-stmts-stmts.is c.requires.stmts,
+          sound_at (design_of c.args.flat.now).signals stmts j c.index-stmts-stmts.result inside
+              c.index-stmts-stmts.is c.requires.stmts,
         ),
       ),
     )
@@ -107,17 +124,24 @@ backward_all-loop-i-preserved t c =
     let inside : j < length stmts = omega (arith, c.loop-i-test.true) in
     let same : length stmts - 1 - i ≡ j = omega (arith, c.loop-i-test.true) in
     let next : length stmts - i ≡ j + 1 = omega (arith, c.loop-i-test.true) in
-    backward_more signals around _ _ (chain_of (flat_statements (drop j stmts))) (flat_statement stmt) (chain_of (flat_statements (drop (j + 1) stmts)))
+    backward_more signals around _ _ (chain_of (flat_statements (drop j stmts)))
+    (flat_statement stmt) (chain_of (flat_statements (drop (j + 1) stmts)))
     c.in_ok-other.bits c.add_all.new.self c.loop-i.found c.in_ok-other.other c.first_of-found.result
-    (next_statement stmts j stmt inside (subst (λ k. stmt ≡ get_or stmts k stmt) same c.index-stmts-stmts.is))
-    (λ s b. refl) c.in_ok-other.ensures.0 c.in_ok-other.ensures.1 c.in_ok-add_all.ensures c.first_of-found.ensures
-    (subst (λ k. FindsReads signals Followed around (readings signals (chain_of (flat_statements (drop k stmts)))) c.loop-i.found
-    × SameBits (in_bits c.loop-i.here) (can_assign (chain_of (flat_statements (drop k stmts))))) next c.loop-i.invariant)
+    (next_statement stmts j stmt inside
+    (subst (λ k. stmt ≡ get_or stmts k stmt) same c.index-stmts-stmts.is))
+    (λ s b. refl) c.in_ok-other.ensures.0 c.in_ok-other.ensures.1 c.in_ok-add_all.ensures
+    c.first_of-found.ensures
+    (subst (λ k. FindsReads signals Followed around
+    (readings signals (chain_of (flat_statements (drop k stmts)))) c.loop-i.found
+    × SameBits (in_bits c.loop-i.here) (can_assign (chain_of (flat_statements (drop k stmts)))))
+    next c.loop-i.invariant)
 
 pub backward_all-returns : goal.backward_all-returns
 backward_all-returns t c =
     let stmts = c.args.stmts.now in
     let signals = (design_of c.args.flat.now).signals in
     let none : length stmts - c.loop-i.i ≡ 0 = omega (arith, c.loop-i-test.false) in
-    subst (λ k. FindsReads signals Followed (in_scope c.args.around.now) (readings signals (chain_of (flat_statements (drop k stmts)))) c.loop-i.found
-    × SameBits (in_bits c.loop-i.here) (can_assign (chain_of (flat_statements (drop k stmts))))) none c.loop-i.invariant
+    subst (λ k. FindsReads signals Followed (in_scope c.args.around.now)
+    (readings signals (chain_of (flat_statements (drop k stmts)))) c.loop-i.found
+    × SameBits (in_bits c.loop-i.here) (can_assign (chain_of (flat_statements (drop k stmts)))))
+    none c.loop-i.invariant

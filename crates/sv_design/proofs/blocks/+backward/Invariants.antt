@@ -13,4 +13,5 @@ abbrev pub invariant-backward_all-loop-i : goal.invariant-backward_all-loop-i
 invariant-backward_all-loop-i l =
     let signals = (design_of l.flat).signals in
     let last = chain_of (flat_statements (drop (length l.stmts - l.i) l.stmts)) in
-    FindsReads signals Followed (in_scope l.around) (readings signals last) l.found × SameBits (in_bits l.here) (can_assign last)
+    FindsReads signals Followed (in_scope l.around) (readings signals last) l.found
+    × SameBits (in_bits l.here) (can_assign last)

@@ -1,4 +1,5 @@
-use Rattle.std.proofs.Common.{◌≡◌, ◌+◌, ◌&&◌, ◌||◌, drop, refl, sym, ap, ap₂, subst, ◌∙◌, rules, Option}
+use Rattle.std.proofs.Common.{◌≡◌, ◌+◌, ◌&&◌, ◌||◌, drop, refl, sym, ap, ap₂, subst, ◌∙◌, rules}
+use Rattle.std.proofs.Common.{Option}
 use Rattle.std.specs.List.{list_any}
 use Rattle.std.specs.Prelude.{IsTrue, IfOk}
 use Rattle.std.proofs.lemmas.List.{at_drop_all}
@@ -14,7 +15,8 @@ use Rattle.sv_design.specs.declared.found.Found.{Found}
 use Rattle.sv_design.specs.BitSets.{in_bits, piece_forms}
 use Rattle.sv_design.specs.Phases.{SameBits, FindsReads}
 use Rattle.sv_design.specs.Scopes.{in_scope}
-use Rattle.sv_design.proofs.Passes.{sound_at, only_pieces, three_reads, forward_begin, forward_more, forward_end}
+use Rattle.sv_design.proofs.Passes.{sound_at, only_pieces, three_reads, forward_begin, forward_more}
+use Rattle.sv_design.proofs.Passes.{forward_end}
 use Rattle.sv_design.proofs.Sound.{block_is, next_statement}
 use Rattle.sv_design.proofs.blocks.+forward.Goals as goal
 
@@ -27,7 +29,8 @@ forward-forward_all-requires t c =
         (
           c.requires.zeros,
           subst (λ b. IsTrue (statement_sound signals b))
-              (block_is c.args.stmt.now c.in-Block.stmts c.deref-in-Block.result.now c.in-Block.is c.deref-in-Block.ensures.value)
+              (block_is c.args.stmt.now c.in-Block.stmts c.deref-in-Block.result.now c.in-Block.is
+              c.deref-in-Block.ensures.value)
               c.requires.stmt,
         ),
       ),
@@ -37,13 +40,16 @@ pub forward-returns-in-Block : goal.forward-returns-in-Block
 forward-returns-in-Block t c =
     let signals = (design_of c.args.flat.now).signals in
     subst (λ b. IfOk c.forward_all.result (λ (both : Option Found × Bits).
-    FindsReads signals (Unassigned c.args.assigned) (in_scope c.args.around.now) (readings signals b) both.0 × SameBits (in_bits both.1) (always_assigns b)))
-    (sym (block_is c.args.stmt.now c.in-Block.stmts c.deref-in-Block.result.now c.in-Block.is c.deref-in-Block.ensures.value))
+    FindsReads signals (Unassigned c.args.assigned) (in_scope c.args.around.now)
+    (readings signals b) both.0 × SameBits (in_bits both.1) (always_assigns b)))
+    (sym (block_is c.args.stmt.now c.in-Block.stmts c.deref-in-Block.result.now c.in-Block.is
+    c.deref-in-Block.ensures.value))
     c.forward_all.ensures
 
 pub forward_all-loop-stmt-init : goal.forward_all-loop-stmt-init
 forward_all-loop-stmt-init t c =
-    forward_begin (design_of c.args.flat.now).signals c.args.assigned (in_scope c.args.around.now) (chain_of (flat_statements c.args.stmts.now))
+    forward_begin (design_of c.args.flat.now).signals c.args.assigned (in_scope c.args.around.now)
+    (chain_of (flat_statements c.args.stmts.now))
     c.new-here.result c.new-here.ensures
 
 pub forward_all-forward-requires : goal.forward_all-forward-requires
@@ -53,7 +59,8 @@ forward_all-forward-requires t c = (
     c.requires.sound,
     (
       c.requires.zeros,
-      sound_at (design_of c.args.flat.now).signals c.args.stmts.now c.loop-stmt.stmt-index c.stmt-item.result c.loop-stmt-test.true c.stmt-item.is c.requires.stmts,
+      sound_at (design_of c.args.flat.now).signals c.args.stmts.now c.loop-stmt.stmt-index
+          c.stmt-item.result c.loop-stmt-test.true c.stmt-item.is c.requires.stmts,
     ),
   ),
 )
@@ -62,17 +69,22 @@ pub forward_all-loop-stmt-preserved : goal.forward_all-loop-stmt-preserved
 forward_all-loop-stmt-preserved t c =
     let stmts = c.args.stmts.now in
     let i = c.loop-stmt.stmt-index in
-    forward_more (design_of c.args.flat.now).signals c.args.assigned (in_scope c.args.around.now) _ _ (chain_of (flat_statements stmts))
-    (chain_of (flat_statements (drop i stmts))) (flat_statement c.stmt-item.result) (chain_of (flat_statements (drop (i + 1) stmts)))
-    c.in_ok-other.bits c.add_all.new.self c.loop-stmt.found c.in_ok-other.other c.first_of-found.result
+    forward_more (design_of c.args.flat.now).signals c.args.assigned (in_scope c.args.around.now) _
+    _ (chain_of (flat_statements stmts))
+    (chain_of (flat_statements (drop i stmts))) (flat_statement c.stmt-item.result)
+    (chain_of (flat_statements (drop (i + 1) stmts)))
+    c.in_ok-other.bits c.add_all.new.self c.loop-stmt.found c.in_ok-other.other
+    c.first_of-found.result
     (next_statement stmts i c.stmt-item.result c.loop-stmt-test.true c.stmt-item.is)
-    (λ s b. refl) c.in_ok-other.ensures.0 c.in_ok-other.ensures.1 c.in_ok-add_all.ensures c.first_of-found.ensures c.loop-stmt.invariant
+    (λ s b. refl) c.in_ok-other.ensures.0 c.in_ok-other.ensures.1 c.in_ok-add_all.ensures
+    c.first_of-found.ensures c.loop-stmt.invariant
 
 pub forward_all-returns : goal.forward_all-returns
 forward_all-returns t c =
     let stmts = c.args.stmts.now in
     let i = c.loop-stmt.stmt-index in
-    forward_end (design_of c.args.flat.now).signals c.args.assigned (in_scope c.args.around.now) (chain_of (flat_statements stmts))
+    forward_end (design_of c.args.flat.now).signals c.args.assigned (in_scope c.args.around.now)
+    (chain_of (flat_statements stmts))
     (chain_of (flat_statements (drop i stmts))) c.loop-stmt.here c.loop-stmt.found
     (at_drop_all (λ ss. chain_of (flat_statements ss)) stmts i c.loop-stmt-test.false)
     c.loop-stmt.invariant
@@ -81,14 +93,19 @@ pub forward-returns-in_ok-add_pieces-in-Assign : goal.forward-returns-in_ok-add_
 forward-returns-in_ok-add_pieces-in-Assign t c =
     let signals = (design_of c.args.flat.now).signals in
     let pieces = piece_forms c.in-Assign.pieces.items in
-    let whole = assign pieces c.in-Assign.place c.in-Assign.blocking (typed_tree c.in-Assign.value) in
+    let whole = assign pieces c.in-Assign.place c.in-Assign.blocking
+    (typed_tree c.in-Assign.value) in
     let is : flat_statement c.args.stmt.now ≡ whole = ap flat_statement c.in-Assign.is in
-    subst (λ b. FindsReads signals (Unassigned c.args.assigned) (in_scope c.args.around.now) (readings signals b) c.in_ok-found-in-Assign.found
+    subst (λ b. FindsReads signals (Unassigned c.args.assigned) (in_scope c.args.around.now)
+    (readings signals b) c.in_ok-found-in-Assign.found
     × SameBits (in_bits c.add_pieces.new.self) (always_assigns b)) (sym is) (
-      λ body a f asks same. c.in_ok-found-in-Assign.ensures (assigns whole) body a (either (can_assign whole) f) asks same,
+      λ body a f asks same.
+          c.in_ok-found-in-Assign.ensures (assigns whole) body a (either (can_assign whole) f)
+          asks same,
       only_pieces c.new-bits.result c.add_pieces.new.self pieces c.new-bits.ensures
           (λ s b. c.in_ok-add_pieces-in-Assign.ensures s b
-          ∙ ap (λ ps. in_bits c.new-bits.result s b || list_any (has_bit s b) (piece_forms ps)) c.deref.ensures.value),
+          ∙ ap (λ ps. in_bits c.new-bits.result s b || list_any (has_bit s b) (piece_forms ps))
+          c.deref.ensures.value),
     )
 
 pub forward-returns-in_ok-both-in-If : goal.forward-returns-in_ok-both-in-If
@@ -99,13 +116,21 @@ forward-returns-in_ok-both-in-If t c =
     let second = flat_statement c.deref-in-If-2.result.now in
     let whole = branch c.in-If.place cond first second in
     let is : flat_statement c.args.stmt.now ≡ whole = ap flat_statement c.in-If.is
-    ∙ ap₂ (λ p q. branch c.in-If.place cond (flat_statement p) (flat_statement q)) (sym c.deref-in-If.ensures) (sym c.deref-in-If-2.ensures) in
-    subst (λ b. FindsReads signals (Unassigned c.args.assigned) (in_scope c.args.around.now) (readings signals b) c.first_of-in-If.result
+    ∙ ap₂ (λ p q. branch c.in-If.place cond (flat_statement p) (flat_statement q))
+    (sym c.deref-in-If.ensures) (sym c.deref-in-If-2.ensures) in
+    subst (λ b. FindsReads signals (Unassigned c.args.assigned) (in_scope c.args.around.now)
+    (readings signals b) c.first_of-in-If.result
     × SameBits (in_bits c.in_ok-both-in-If.both) (always_assigns b)) (sym is) (
       three_reads signals (Unassigned c.args.assigned) (in_scope c.args.around.now)
-          (λ a f. readings_of signals cond (assigns whole) a (either (can_assign whole) f)) (readings signals first) (readings signals second)
-          c.in_ok-found-in-If.found c.in_ok-in_yes-in-If.in_yes c.in_ok-in_no-in-If.in_no c.first_of.result c.first_of-in-If.result
-          (λ body a f asks same. c.in_ok-found-in-If.ensures (assigns whole) body a (either (can_assign whole) f) asks same)
-          c.in_ok-in_yes-in-If.ensures.0 c.in_ok-in_no-in-If.ensures.0 c.first_of.ensures c.first_of-in-If.ensures,
-      λ s b. c.in_ok-both-in-If.ensures s b ∙ ap₂ ◌&&◌ (c.in_ok-in_yes-in-If.ensures.1 s b) (c.in_ok-in_no-in-If.ensures.1 s b),
+          (λ a f. readings_of signals cond (assigns whole) a (either (can_assign whole) f))
+          (readings signals first) (readings signals second)
+          c.in_ok-found-in-If.found c.in_ok-in_yes-in-If.in_yes c.in_ok-in_no-in-If.in_no
+          c.first_of.result c.first_of-in-If.result
+          (λ body a f asks same.
+          c.in_ok-found-in-If.ensures (assigns whole) body a (either (can_assign whole) f)
+          asks same)
+          c.in_ok-in_yes-in-If.ensures.0 c.in_ok-in_no-in-If.ensures.0 c.first_of.ensures
+          c.first_of-in-If.ensures,
+      λ s b. c.in_ok-both-in-If.ensures s b
+          ∙ ap₂ ◌&&◌ (c.in_ok-in_yes-in-If.ensures.1 s b) (c.in_ok-in_no-in-If.ensures.1 s b),
     )

@@ -6,5 +6,6 @@ use Rattle.sv_design.proofs.blocks.+forward.Given as goal
 
 abbrev pub invariant-forward_all-loop-stmt : goal.invariant-forward_all-loop-stmt
 invariant-forward_all-loop-stmt l =
-    ForwardSoFar (design_of l.flat).signals l.assigned (in_scope l.around) (chain_of (flat_statements l.stmts))
+    ForwardSoFar (design_of l.flat).signals l.assigned (in_scope l.around)
+    (chain_of (flat_statements l.stmts))
     (chain_of (flat_statements (drop l.stmt-index l.stmts))) l.here l.found

@@ -11,5 +11,7 @@ abbrev pub invariant-loop-process : goal.invariant-loop-process
 invariant-loop-process l =
     let design = design_of l.flat in
     let left = map process_form (drop l.process-index l.process-items) in
-    ((done : List Breach) × FindsFirst 605 done l.latch × (latches design ≡ done ++ latches_in design left))
-    × ((done : List Breach) × FindsFirst 606 done l.phase × (phase_faults design ≡ done ++ phase_faults_in design left))
+    ((done : List Breach) × FindsFirst 605 done l.latch
+    × (latches design ≡ done ++ latches_in design left))
+    × ((done : List Breach) × FindsFirst 606 done l.phase
+    × (phase_faults design ≡ done ++ phase_faults_in design left))

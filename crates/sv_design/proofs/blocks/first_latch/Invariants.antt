@@ -10,6 +10,8 @@ use Rattle.sv_design.proofs.BlockPasses.{LatchesSoFar}
 use Rattle.sv_design.proofs.blocks.first_latch.Given as goal
 
 abbrev pub invariant-loop-signal : goal.invariant-loop-signal
-invariant-loop-signal l = (body : FlatStatement) → IsTrue (statement_sound (design_of l.flat).signals body)
-    → ((s : ℕ) → has_some l.assigned s ≡ assigns body s) → SameBits (in_bits l.always) (always_assigns body)
+invariant-loop-signal l =
+    (body : FlatStatement) → IsTrue (statement_sound (design_of l.flat).signals body)
+    → ((s : ℕ) → has_some l.assigned s ≡ assigns body s)
+    → SameBits (in_bits l.always) (always_assigns body)
     → LatchesSoFar (design_of l.flat) l.place body l.signal-iterator l.found

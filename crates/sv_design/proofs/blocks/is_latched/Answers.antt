@@ -19,7 +19,9 @@ overflow_sub-declared c =
     let same = c.deref.ensures.value in
     let inside = c.in-Some.ensures.lookup.3.0 in
     let at = signal_at flat items s declared same inside c.in-Some.ensures.lookup.1 in
-    subst (λ (z : SignalForm). 1 ≤ z.width) at (some_width (design_of flat) c.requires.sound s (inside_design flat items s same inside))
+    subst (λ (z : SignalForm).
+    1 ≤ z.width) at (some_width (design_of flat) c.requires.sound s
+    (inside_design flat items s same inside))
 
 pub mask-bits-requires-clause-few : goal.mask-bits-requires-clause-few
 mask-bits-requires-clause-few c =
@@ -30,7 +32,9 @@ mask-bits-requires-clause-few c =
     let same = c.deref.ensures.value in
     let inside = c.in-Some.ensures.lookup.3.0 in
     let at = signal_at flat items s declared same inside c.in-Some.ensures.lookup.1 in
-    let few = subst (λ (z : SignalForm). z.width ≤ 64) at (few_bits (design_of flat) c.requires.sound s (inside_design flat items s same inside)) in
+    let few = subst (λ (z : SignalForm).
+    z.width ≤ 64) at (few_bits (design_of flat) c.requires.sound s
+    (inside_design flat items s same inside)) in
     omega (arith, few)
 
 pub returns-in-Some : goal.returns-in-Some
@@ -42,10 +46,15 @@ returns-in-Some c = λ body targets always.
     let same = c.deref.ensures.value in
     let inside = c.in-Some.ensures.lookup.3.0 in
     let at = signal_at flat items s declared same inside c.in-Some.ensures.lookup.1 in
-    let some = subst (λ (z : SignalForm). 1 ≤ z.width) at (some_width (design_of flat) c.requires.sound s (inside_design flat items s same inside)) in
-    let is : signal_width (design_of flat).signals s ≡ declared.width = ap (λ (z : SignalForm). z.width) at in
-    let size : declared.width - 1 + 1 ≡ signal_width (design_of flat).signals s = omega (arith, some, is) in
+    let some = subst (λ (z : SignalForm).
+    1 ≤ z.width) at (some_width (design_of flat) c.requires.sound s
+    (inside_design flat items s same inside)) in
+    let is : signal_width (design_of flat).signals s ≡ declared.width =
+    ap (λ (z : SignalForm). z.width) at in
+    let size : declared.width - 1 + 1 ≡ signal_width (design_of flat).signals s =
+    omega (arith, some, is) in
     ap₂ ◌&&◌ (c.has.ensures ∙ targets s)
-    (latch_is (declared.width - 1) c.mask-bits.result c.of.result (always_assigns body s) c.lacks.result c.mask-bits.ensures
+    (latch_is (declared.width - 1) c.mask-bits.result c.of.result (always_assigns body s)
+    c.lacks.result c.mask-bits.ensures
     (λ b. ap (λ n. is_set n b) c.of.ensures ∙ always s b) c.lacks.ensures
     ∙ ap (λ k. list_any (λ b. not (always_assigns body s b)) (range_with_len 0 k)) size)

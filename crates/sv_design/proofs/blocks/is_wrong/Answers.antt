@@ -1,4 +1,5 @@
-use Rattle.std.proofs.Common.{◌≡◌, ◌≤◌, ℕ, ◌&&◌, nat_le, nat_lt, get_or, refl, sym, ap, subst, ◌∙◌, rules}
+use Rattle.std.proofs.Common.{◌≡◌, ◌≤◌, ℕ, ◌&&◌, nat_le, nat_lt, get_or, refl, sym, ap, subst, ◌∙◌}
+use Rattle.std.proofs.Common.{rules}
 use Rattle.sv_flat.specs.Design.{SignalForm}
 use Rattle.sv_flat.specs.Values.{signal_width}
 use Rattle.sv_flat.specs.Views.{design_of}
@@ -18,7 +19,8 @@ bits_read-bits-requires c =
     let at_place : c.index.result.now ≡ get_or items s c.index.result.now = search rules in
     let at = signal_at flat items s c.index.result.now refl c.requires.known at_place in
     subst (λ (z : SignalForm). z.width ≤ 64) at
-    (few_bits (design_of flat) c.requires.sound s (inside_design flat items s refl c.requires.known))
+    (few_bits (design_of flat) c.requires.sound s
+    (inside_design flat items s refl c.requires.known))
 
 pub returns-in-Unassigned : goal.returns-in-Unassigned
 returns-in-Unassigned c = λ body reading asks name same.
@@ -28,11 +30,16 @@ returns-in-Unassigned c = λ body reading asks name same.
     let r = read_form c.args.read.now in
     let at_place : c.index.result.now ≡ get_or items r.signal c.index.result.now = search rules in
     let at = signal_at flat items r.signal c.index.result.now refl c.requires.known at_place in
-    let is_bits : (b : ℕ) → is_set c.bits_read-bits.result b ≡ (nat_le r.low b && nat_le b r.high && nat_lt b (signal_width signals r.signal)) =
-    λ b. c.bits_read-bits.ensures b ∙ ap (λ (z : SignalForm). nat_le r.low b && nat_le b r.high && nat_lt b z.width) (sym at) in
-    unassigned_is signals c.args.asked body reading r (in_scope c.args.around.now) asks name same c.of-around.result c.of-around.ensures
+    let is_bits : (b : ℕ) →
+    is_set c.bits_read-bits.result b ≡
+    (nat_le r.low b && nat_le b r.high && nat_lt b (signal_width signals r.signal)) =
+    λ b. c.bits_read-bits.ensures b ∙ ap (λ (z : SignalForm).
+    nat_le r.low b && nat_le b r.high && nat_lt b z.width) (sym at) in
+    unassigned_is signals c.args.asked body reading r (in_scope c.args.around.now) asks name same
+    c.of-around.result c.of-around.ensures
     c.in-Unassigned.assigned c.in-Unassigned.is c.has.result c.lacks.result c.has.ensures
-    (λ test is. read_lacks signals r c.bits_read-bits.result is_bits c.of-around.result test is c.lacks.result c.lacks.ensures)
+    (λ test is. read_lacks signals r c.bits_read-bits.result is_bits c.of-around.result test is
+    c.lacks.result c.lacks.ensures)
 
 pub returns-in-Followed : goal.returns-in-Followed
 returns-in-Followed c = λ body reading asks name same.
@@ -42,8 +49,13 @@ returns-in-Followed c = λ body reading asks name same.
     let r = read_form c.args.read.now in
     let at_place : c.index.result.now ≡ get_or items r.signal c.index.result.now = search rules in
     let at = signal_at flat items r.signal c.index.result.now refl c.requires.known at_place in
-    let is_bits : (b : ℕ) → is_set c.bits_read-bits.result b ≡ (nat_le r.low b && nat_le b r.high && nat_lt b (signal_width signals r.signal)) =
-    λ b. c.bits_read-bits.ensures b ∙ ap (λ (z : SignalForm). nat_le r.low b && nat_le b r.high && nat_lt b z.width) (sym at) in
-    followed_is signals c.args.asked body reading r (in_scope c.args.around.now) asks name same c.of-around.result c.of-around.ensures
+    let is_bits : (b : ℕ) →
+    is_set c.bits_read-bits.result b ≡
+    (nat_le r.low b && nat_le b r.high && nat_lt b (signal_width signals r.signal)) =
+    λ b. c.bits_read-bits.ensures b ∙ ap (λ (z : SignalForm).
+    nat_le r.low b && nat_le b r.high && nat_lt b z.width) (sym at) in
+    followed_is signals c.args.asked body reading r (in_scope c.args.around.now) asks name same
+    c.of-around.result c.of-around.ensures
     c.in-Followed.is c.share.result
-    (λ test is. read_shares signals r c.bits_read-bits.result is_bits c.of-around.result test is c.share.result c.share.ensures)
+    (λ test is. read_shares signals r c.bits_read-bits.result is_bits c.of-around.result test is
+    c.share.result c.share.ensures)

@@ -13,24 +13,34 @@ pub is_wrong-wrong-requires-clause-known : goal.is_wrong-wrong-requires-clause-k
 is_wrong-wrong-requires-clause-known c =
     let items = c.args.flat.now.signals.items in
     let tree = typed_tree c.args.expr.now in
-    let same : read_forms c.deref-read-items.result.now ≡ reads (design_of c.args.flat.now).signals tree =
-    ap read_forms c.deref-read-items.ensures.value ∙ c.in_ok-names.ensures ∙ ap (λ ss. reads (signal_forms ss) tree) c.as_slice.ensures.value in
+    let same : read_forms c.deref-read-items.result.now ≡
+    reads (design_of c.args.flat.now).signals tree =
+    ap read_forms c.deref-read-items.ensures.value ∙ c.in_ok-names.ensures
+    ∙ ap (λ ss. reads (signal_forms ss) tree) c.as_slice.ensures.value in
     let size : length (map signal_form items) ≡ length items = rw length-map refl in
-    subst (λ n. (get_or c.deref-read-items.result.now c.loop-read.read-index no_read).signal.0 < n) size
-    (name_is_signal (design_of c.args.flat.now).signals tree c.deref-read-items.result.now c.loop-read.read-index no_read c.requires.formed same c.loop-read-test.true)
+    subst (λ n. (get_or c.deref-read-items.result.now c.loop-read.read-index no_read).signal.0
+    < n) size
+    (name_is_signal (design_of c.args.flat.now).signals tree c.deref-read-items.result.now
+    c.loop-read.read-index no_read c.requires.formed same c.loop-read-test.true)
 
 pub loop-read-preserved : goal.loop-read-preserved
 loop-read-preserved c = λ serves.
     let signals = (design_of c.args.flat.now).signals in
-    name_more signals c.args.asked (in_scope c.args.around.now) serves (readings_of signals (typed_tree c.args.expr.now) serves)
-    c.deref-read-items.result.now c.loop-read.read-index no_read c.loop-read-test.true c.loop-read.found c.found_if.result c.first_of-found.result
-    c.is_wrong-wrong.result c.is_wrong-wrong.ensures c.found_if.ensures c.first_of-found.ensures (c.loop-read.invariant serves)
+    name_more signals c.args.asked (in_scope c.args.around.now) serves
+    (readings_of signals (typed_tree c.args.expr.now) serves)
+    c.deref-read-items.result.now c.loop-read.read-index no_read c.loop-read-test.true
+    c.loop-read.found c.found_if.result c.first_of-found.result
+    c.is_wrong-wrong.result c.is_wrong-wrong.ensures c.found_if.ensures c.first_of-found.ensures
+    (c.loop-read.invariant serves)
 
 pub returns : goal.returns
 returns c = λ serves.
     let signals = (design_of c.args.flat.now).signals in
     let items = c.deref-read-items.result.now in
-    reads_end signals c.args.asked (in_scope c.args.around.now) (readings_of signals (typed_tree c.args.expr.now) serves)
+    reads_end signals c.args.asked (in_scope c.args.around.now)
+    (readings_of signals (typed_tree c.args.expr.now) serves)
     _ c.loop-read.found
-    (λ a f. at_drop_all (λ rs. map (reading_of serves a f) (read_forms rs)) items c.loop-read.read-index c.loop-read-test.false)
+    (λ a f. at_drop_all (λ rs.
+    map (reading_of serves a f) (read_forms rs)) items c.loop-read.read-index
+    c.loop-read-test.false)
     (c.loop-read.invariant serves)

@@ -14,28 +14,37 @@ pub is_any-requires : goal.is_any-requires
 is_any-requires c =
     let design = design_of c.args.flat.now in
     let p = process_form c.args.process.now in
-    let is : p.body ≡ assign (piece_forms c.in-Assign.pieces.items) c.in-Assign.place c.in-Assign.blocking (typed_tree c.in-Assign.value) =
+    let is : p.body ≡ assign (piece_forms c.in-Assign.pieces.items) c.in-Assign.place
+    c.in-Assign.blocking (typed_tree c.in-Assign.value) =
     ap flat_statement c.in-Assign.is in
     let size : length c.args.clocks.now ≡ length design.signals =
-    ap length c.requires.clocks ∙ length-map-range_with_len (is_clock design) 0 (length design.signals) in
+    ap length c.requires.clocks
+    ∙ length-map-range_with_len (is_clock design) 0 (length design.signals) in
     subst (λ ps. AreTargets (length c.args.clocks.now) (piece_forms ps)) (sym c.deref.ensures.value)
     (subst (λ n. AreTargets n (piece_forms c.in-Assign.pieces.items)) (sym size)
-    (link_targets design p c.requires.sound (piece_forms c.in-Assign.pieces.items) (typed_tree c.in-Assign.value) is))
+    (link_targets design p c.requires.sound (piece_forms c.in-Assign.pieces.items)
+    (typed_tree c.in-Assign.value) is))
 
 pub returns-in-Assign : goal.returns-in-Assign
 returns-in-Assign c =
     let design = design_of c.args.flat.now in
     let p = process_form c.args.process.now in
-    let is : p.body ≡ assign (piece_forms c.in-Assign.pieces.items) c.in-Assign.place c.in-Assign.blocking (typed_tree c.in-Assign.value) =
+    let is : p.body ≡ assign (piece_forms c.in-Assign.pieces.items) c.in-Assign.place
+    c.in-Assign.blocking (typed_tree c.in-Assign.value) =
     ap flat_statement c.in-Assign.is in
     let port : c.links_input.result ≡ true = search rules in
     c.is_any.ensures
-    ∙ ap (λ ps. list_any (λ (q : PieceForm). get_or c.args.clocks.now q.signal false) (piece_forms ps)) c.deref.ensures.value
-    ∙ is_link design p c.requires.sound c.args.clocks.now c.requires.clocks c.links_input.result c.links_input.ensures port
+    ∙ ap (λ ps. list_any (λ (q : PieceForm).
+    get_or c.args.clocks.now q.signal false) (piece_forms ps)) c.deref.ensures.value
+    ∙ is_link design p c.requires.sound c.args.clocks.now c.requires.clocks c.links_input.result
+    c.links_input.ensures port
     (piece_forms c.in-Assign.pieces.items) (typed_tree c.in-Assign.value) is
 
 pub returns-in-Block : goal.returns-in-Block
 returns-in-Block c =
     let port : c.links_input.result ≡ true = search rules in
-    not_block (design_of c.args.flat.now) (process_form c.args.process.now) c.requires.sound c.links_input.result c.links_input.ensures port
-    c.in-Block.field-0.items (block_is c.args.process.now.body c.in-Block.field-0 c.in-Block.field-0.items c.in-Block.is refl)
+    not_block (design_of c.args.flat.now) (process_form c.args.process.now) c.requires.sound
+    c.links_input.result c.links_input.ensures port
+    c.in-Block.field-0.items
+    (block_is c.args.process.now.body c.in-Block.field-0 c.in-Block.field-0.items
+    c.in-Block.is refl)

@@ -10,4 +10,5 @@ invariant-note_all-loop-stmt l =
     let n = length l.initial.drivers.first.items in
     let left = chain_of (flat_statements (drop l.stmt-index l.stmts)) in
     (length l.drivers.first.items ≡ n) × (length l.drivers.second.items ≡ n) × IsSoundOver n left
-    × NotesSoFar n l.driver l.initial.drivers l.drivers (assigns (chain_of (flat_statements l.stmts))) (assigns left)
+    × NotesSoFar n l.driver l.initial.drivers l.drivers
+    (assigns (chain_of (flat_statements l.stmts))) (assigns left)

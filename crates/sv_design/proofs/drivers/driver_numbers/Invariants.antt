@@ -5,4 +5,6 @@ use Rattle.sv_design.specs.declared.drivers.Driver.{Driver}
 use Rattle.sv_design.proofs.drivers.driver_numbers.Given as goal
 
 abbrev pub invariant-loop-i : goal.invariant-loop-i
-invariant-loop-i l = l.numbers.items ≡ map (λ s. option_map (λ (d : Driver). d.process) (get_or l.first s None)) (range_with_len 0 l.i)
+invariant-loop-i l =
+    l.numbers.items ≡ map (λ s. option_map (λ (d : Driver). d.process) (get_or l.first s None))
+    (range_with_len 0 l.i)

@@ -9,5 +9,6 @@ abbrev pub invariant-loop-process : goal.invariant-loop-process
 invariant-loop-process l =
     let design = design_of l.flat in
     (ps : List ProcessForm) × (l.kept ≤ l.process-index) × (length ps ≡ l.kept)
-    × (processes_of design ≡ ps ++ kept_of design (map process_form (drop l.process-index l.process-items)))
+    × (processes_of design ≡
+    ps ++ kept_of design (map process_form (drop l.process-index l.process-items)))
     × AreDrivers (length l.flat.signals.items) l.drivers (entries 0 ps)

@@ -8,5 +8,7 @@ use Rattle.sv_design.proofs.drivers.extra_at.Goals as goal
 
 pub returns-in-Some : goal.returns-in-Some
 returns-in-Some c =
-    subst (λ e. FindsFirst 603 (cons_option (option_map (λ (d : Driver). breach 603 d.place c.args.signal.0) e) []) c.found_if.result)
+    subst (λ e. FindsFirst 603
+    (cons_option (option_map (λ (d : Driver). breach 603 d.place c.args.signal.0) e) [])
+    c.found_if.result)
     (sym c.in-Some.is) (c.found_if.ensures 603)

@@ -11,4 +11,6 @@ use Rattle.sv_design.proofs.drivers.first_undriven.Given as goal
 abbrev pub invariant-loop-i : goal.invariant-loop-i
 invariant-loop-i l =
     let design = design_of l.flat in
-    FindsFirst 604 (map (λ s. breach 604 (declared_at design s) s) (filter (is_undriven design) (range_with_len 0 l.i))) l.found
+    FindsFirst 604 (map (λ s.
+    breach 604 (declared_at design s) s)
+    (filter (is_undriven design) (range_with_len 0 l.i))) l.found

@@ -9,4 +9,5 @@ invariant-loop-piece l =
     let n = length l.initial.drivers.first.items in
     let left = piece_forms (drop l.piece-index l.pieces) in
     (length l.drivers.first.items ≡ n) × (length l.drivers.second.items ≡ n) × AreTargets n left
-    × NotesSoFar n l.driver l.initial.drivers l.drivers (assigned_in (piece_forms l.pieces)) (assigned_in left)
+    × NotesSoFar n l.driver l.initial.drivers l.drivers (assigned_in (piece_forms l.pieces))
+    (assigned_in left)

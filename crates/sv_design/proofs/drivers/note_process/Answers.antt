@@ -13,7 +13,9 @@ returns-clause-drivers c = λ ps size are.
     let kept = is_kept design ps p (sym c.if-is_clock_link.ensures) in (
       ap length kept ∙ length-append ps (p ∷ []) ∙ ap (λ k. k + 1) size,
       subst (λ qs. AreDrivers n c.note_targets.new.drivers (entries 0 qs)) (sym kept)
-          (drivers_more n c.args.drivers.now c.note_targets.new.drivers ps p (driver_at c.args.kept p) (ap (λ k. driver_at k p) (sym size)) are
-          (subst (λ m. Notes m (driver_at c.args.kept p) c.args.drivers.now c.note_targets.new.drivers (assigns p.body)) c.requires.first
+          (drivers_more n c.args.drivers.now c.note_targets.new.drivers ps p
+          (driver_at c.args.kept p) (ap (λ k. driver_at k p) (sym size)) are
+          (subst (λ m. Notes m (driver_at c.args.kept p) c.args.drivers.now
+          c.note_targets.new.drivers (assigns p.body)) c.requires.first
           c.note_targets.ensures.notes)),
     )

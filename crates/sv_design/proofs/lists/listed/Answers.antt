@@ -5,5 +5,6 @@ use Rattle.sv_design.proofs.lists.listed.Goals as goal
 pub loop-s-preserved : goal.loop-s-preserved
 loop-s-preserved c =
     c.in_ok-push_if.ensures
-    ∙ ap (λ ss. ss ++ cond (get_or c.args.table.now c.loop-s.s false) (c.loop-s.s ∷ []) []) c.loop-s.invariant
+    ∙ ap (λ ss. ss ++ cond (get_or c.args.table.now c.loop-s.s false) (c.loop-s.s ∷ []) [])
+    c.loop-s.invariant
     ∙ sym (filter_more (λ s. get_or c.args.table.now s false) c.loop-s.s)

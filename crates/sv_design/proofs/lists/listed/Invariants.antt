@@ -5,4 +5,5 @@ use Rattle.sv_design.specs.Numbers.{numbers}
 use Rattle.sv_design.proofs.lists.listed.Given as goal
 
 abbrev pub invariant-loop-s : goal.invariant-loop-s
-invariant-loop-s l = numbers l.signals.items ≡ filter (λ s. get_or l.table s false) (range_with_len 0 l.s)
+invariant-loop-s l =
+    numbers l.signals.items ≡ filter (λ s. get_or l.table s false) (range_with_len 0 l.s)

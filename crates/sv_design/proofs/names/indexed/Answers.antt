@@ -13,8 +13,10 @@ returns-then-is_constant c =
     let index = c.args.index.now in
     let s = c.args.signal.0 in
     let none : by_number c.args.zeros.now ≡ (λ t. 0) = fun_ext c.requires.zeros.1 in
-    let constant : is_constant (typed_tree index) ≡ true = sym c.is_constant.ensures ∙ c.if-is_constant.true in
+    let constant : is_constant (typed_tree index) ≡ true =
+    sym c.is_constant.ensures ∙ c.if-is_constant.true in
     c.one_bit.ensures
     ∙ ap (λ v. bit_read s c.args.place (as_number index.width index.signed v))
     (c.value_of-number.ensures.value ∙ ap (λ e. value signals e (typed_tree index)) none)
-    ∙ ap (λ b. cond b (bit_read s c.args.place (number_of signals (λ t. 0) (typed_tree index))) (whole_read signals s c.args.place)) (sym constant)
+    ∙ ap (λ b. cond b (bit_read s c.args.place (number_of signals (λ t. 0) (typed_tree index)))
+    (whole_read signals s c.args.place)) (sym constant)

@@ -5,5 +5,6 @@ use Rattle.sv_design.proofs.bits.Bits.add.Goals as goal
 
 pub returns : goal.returns
 returns c = λ s b.
-    gained c.args.self.now.masks c.insert.new.self c.args.signal.0 _ c.args.mask c.in_ok-insert.ensures.updates
+    gained c.args.self.now.masks c.insert.new.self c.args.signal.0 _ c.args.mask
+    c.in_ok-insert.ensures.updates
     (ap (λ n. bit_or n c.args.mask) c.of.ensures) s b

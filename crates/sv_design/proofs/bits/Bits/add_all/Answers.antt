@@ -10,4 +10,5 @@ loop-signal-init c = λ s b.
     let map = c.args.other.now.masks in
     let same : c.into_iter-signal-iterator.result ≡ map.entries = search rules in
     let ordered : IsOrdered nat_cmp map = search rules in
-    ap (λ t. in_bits c.args.self.now s b || t) (ap (λ es. in_entries es s b) same ∙ entries_are map.entries s b ordered)
+    ap (λ t. in_bits c.args.self.now s b || t) (ap (λ es. in_entries es s b) same
+    ∙ entries_are map.entries s b ordered)

@@ -5,4 +5,5 @@ use Rattle.sv_design.proofs.bits.Bits.add_all.Given as goal
 -- the bits so far, and those of the entries that are left
 abbrev pub invariant-loop-signal : goal.invariant-loop-signal
 invariant-loop-signal l = (s b : ℕ)
-    → (in_bits l.self s b || in_entries l.signal-iterator s b) ≡ (in_bits l.initial.self s b || in_bits l.other s b)
+    → (in_bits l.self s b || in_entries l.signal-iterator s b) ≡
+    (in_bits l.initial.self s b || in_bits l.other s b)

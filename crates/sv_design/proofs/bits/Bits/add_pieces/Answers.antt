@@ -9,11 +9,13 @@ use Rattle.sv_design.proofs.bits.Bits.add_pieces.Goals as goal
 
 pub mask-requires-clause-ordered : goal.mask-requires-clause-ordered
 mask-requires-clause-ordered c =
-    (ordered_first c.args.pieces.now c.loop-piece.piece-index no_piece c.loop-piece-test.true c.loop-piece.invariant.0).0
+    (ordered_first c.args.pieces.now c.loop-piece.piece-index no_piece c.loop-piece-test.true
+    c.loop-piece.invariant.0).0
 
 pub mask-requires-clause-few : goal.mask-requires-clause-few
 mask-requires-clause-few c =
-    (ordered_first c.args.pieces.now c.loop-piece.piece-index no_piece c.loop-piece-test.true c.loop-piece.invariant.0).1
+    (ordered_first c.args.pieces.now c.loop-piece.piece-index no_piece c.loop-piece-test.true
+    c.loop-piece.invariant.0).1
 
 pub loop-piece-preserved : goal.loop-piece-preserved
 loop-piece-preserved c =
@@ -21,9 +23,11 @@ loop-piece-preserved c =
     let i = c.loop-piece.piece-index in
     let here = piece_form (get_or pieces i no_piece) in (
       ordered_rest pieces i no_piece c.loop-piece-test.true c.loop-piece.invariant.0,
-      λ s b. piece_added here (piece_forms (drop (i + 1) pieces)) s b _ (in_bits c.loop-piece.self s b) (in_bits c.add.new.self s b)
+      λ s b. piece_added here (piece_forms (drop (i + 1) pieces)) s b _
+          (in_bits c.loop-piece.self s b) (in_bits c.add.new.self s b)
           (in_bits c.args.self.now s b || list_any (has_bit s b) (piece_forms pieces))
           (c.in_ok-add.ensures s b) (c.mask.ensures b)
-          (ap (λ ps. in_bits c.loop-piece.self s b || list_any (has_bit s b) ps) (sym (piece_at pieces i no_piece c.loop-piece-test.true))
+          (ap (λ ps. in_bits c.loop-piece.self s b || list_any (has_bit s b) ps)
+          (sym (piece_at pieces i no_piece c.loop-piece-test.true))
           ∙ c.loop-piece.invariant.1 s b),
     )

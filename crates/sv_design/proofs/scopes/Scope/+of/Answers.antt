@@ -9,4 +9,5 @@ pub returns-in-Inside : goal.returns-in-Inside
 returns-in-Inside t c = λ b.
     or_test c.of.result c.of-in-Inside.result b
     ∙ ap₂ ◌||◌ (ap (λ n. is_set n b) c.of.ensures) (c.of-in-Inside.ensures b)
-    ∙ sym (ap (λ z. z c.args.signal.0 b) (ap in_scope c.in-Inside.is ∙ in_scope-inside c.in-Inside.bits c.in-Inside.around))
+    ∙ sym (ap (λ z. z c.args.signal.0 b) (ap in_scope c.in-Inside.is
+    ∙ in_scope-inside c.in-Inside.bits c.in-Inside.around))

@@ -1,0 +1,17 @@
+use Rattle.std.proofs.Common.{length, sym, ◌∙◌}
+use Rattle.std.proofs.Math.ListN.{length-map}
+use Rattle.sv_flat.specs.Views.{design_of, signal_form}
+use Rattle.sv_design.proofs.FeedFacts.{rows_are, edge_is}
+use Rattle.sv_design.proofs.reads.reads_of.Goals as goal
+
+pub returns : goal.returns
+returns c =
+    let design = design_of c.args.flat.now in
+    let count = length-map c.args.flat.now.signals.items signal_form in
+    let graph = c.add_registers.new.graph in
+    rows_are design graph c.in_ok-reads.reads
+    (c.in_ok-add_registers.ensures.size ∙ c.in_ok-readers.ensures.size ∙ sym count)
+    c.in_ok-reads.ensures.size c.in_ok-reads.ensures.turned
+    (edge_is design c.requires.phases c.in_ok-readers.readers graph c.args.registers.now
+    (length c.args.flat.now.signals.items) (sym count)
+    c.requires.registers c.in_ok-readers.ensures.edges c.in_ok-add_registers.ensures.gains)

@@ -1,0 +1,15 @@
+use Rattle.std.proofs.Common.{◌≡◌, ◌&&◌, length, map, drop}
+use Rattle.std.specs.List.{list_any}
+use Rattle.sv_flat.specs.Assigned.{assigns}
+use Rattle.sv_flat.specs.Processes.{is_clocked, is_register}
+use Rattle.sv_flat.specs.Design.{ProcessForm}
+use Rattle.sv_flat.specs.Views.{design_of, process_form}
+use Rattle.sv_design.proofs.MarkFacts.{MarksSoFar}
+use Rattle.sv_design.proofs.registers.register_table.Given as goal
+
+abbrev pub invariant-loop-process : goal.invariant-loop-process
+invariant-loop-process l = (length l.table.items ≡ length l.initial.table.items)
+    × MarksSoFar l.initial.table.items l.table.items (is_register (design_of l.flat))
+    (λ s. list_any (λ (p : ProcessForm).
+    is_clocked p.kind && assigns p.body s)
+    (map process_form (drop l.process-index l.process-items)))

@@ -1,0 +1,55 @@
+use Rattle.std.proofs.Common.{◌≡◌, ◌&&◌, not, false, length, get_or, sym, ap, ap₂, ◌∙◌, arith}
+use Rattle.std.proofs.Math.ListN.{length-map}
+use Rattle.std.proofs.lemmas.List.FromFn.{length-map-range_with_len}
+use Rattle.std.specs.List.{range_with_len}
+use Rattle.std.specs.Prelude.{filter}
+use Rattle.sv_flat.specs.Clocks.{is_clock}
+use Rattle.sv_flat.specs.Design.{SignalForm}
+use Rattle.sv_flat.specs.Processes.{is_top_kind, is_top_input}
+use Rattle.sv_flat.specs.Views.{design_of, signal_form}
+use Rattle.sv_design.proofs.ClockLinks.{at_table}
+use Rattle.sv_design.proofs.DriverFacts.{signal_at, inside_design}
+use Rattle.sv_design.proofs.TableFacts.{table_more, listed_are}
+use Rattle.sv_design.proofs.signal_lists.inputs_of.Goals as goal
+
+pub bounds-clocks-s : goal.bounds-clocks-s
+bounds-clocks-s c =
+    let design = design_of c.args.flat.now in
+    let size : length c.args.clocks.now ≡ length design.signals =
+    ap length c.requires.clocks
+    ∙ length-map-range_with_len (is_clock design) 0 (length design.signals) in
+    let inside = inside_design c.args.flat.now c.deref-signal-items.result.now c.loop-s.s
+    c.deref-signal-items.ensures.value c.loop-s-test.true in
+    omega arith
+
+pub loop-s-preserved : goal.loop-s-preserved
+loop-s-preserved c =
+    let flat = c.args.flat.now in
+    let design = design_of flat in
+    let i = c.loop-s.s in
+    let items = c.deref-signal-items.result.now in
+    let same = c.deref-signal-items.ensures.value in
+    let at = signal_at flat items i c.signal-item.result same c.loop-s-test.true c.signal-item.is in
+    let inside = inside_design flat items i same c.loop-s-test.true in
+    let top = c.is_top.ensures ∙ ap (λ (s : SignalForm). is_top_kind s.kind) (sym at) in
+    let clock = at_table design c.args.clocks.now c.requires.clocks i inside in
+    table_more i c.loop-s.table.items c.push.new.self.items (λ s.
+    is_top_input design s && not (is_clock design s)) c.is_input.result c.loop-s.invariant
+    (c.is_input.ensures ∙ ap₂ (λ t k. t && not k) top clock) c.in_ok-push.ensures.items
+
+pub returns : goal.returns
+returns c =
+    let design = design_of c.args.flat.now in
+    let size : length c.args.clocks.now ≡ length design.signals =
+    ap length c.requires.clocks
+    ∙ length-map-range_with_len (is_clock design) 0 (length design.signals) in
+    let count = length-map c.args.flat.now.signals.items signal_form in
+    let most = c.loop-s.auto.s-end in
+    let same : length design.signals ≡ c.loop-s.s =
+    omega (arith, c.loop-s-test.false, ap length c.deref-signal-items.ensures.value) in
+    c.in_ok-signals.ensures
+    ∙ ap (λ ts. filter (λ s. get_or ts s false) (range_with_len 0 (length ts)))
+    c.deref.ensures.value
+    ∙ listed_are c.loop-s.s c.loop-s.table.items (λ s.
+    is_top_input design s
+    && not (is_clock design s)) (length design.signals) c.loop-s.invariant same

@@ -1,0 +1,30 @@
+-- Links of ports by whole names.
+use Rattle.std.specs.Prelude.{◌<◌, ℕ, Bool, false, ◌==◌, ◌&&◌, List, Option, Some, None, option_map}
+use Rattle.std.specs.List.{filter_map}
+use Rattle.sv_flat.specs.Clocks.{link_in, link_out}
+use Rattle.sv_flat.specs.Design.{ProcessForm}
+use Rattle.sv_design.specs.declared.links.Link.{Link}
+
+-- the signal that is assigned and the signal that is read
+abbrev pub link_form : Link → ℕ × ℕ
+link_form link = (link.target.0, link.source.0)
+
+abbrev pub link_of : Option Link → Option (ℕ × ℕ)
+link_of link = option_map link_form link
+
+-- a pair that may be there is this one
+abbrev pub is_pair : Option (ℕ × ℕ) → ℕ → ℕ → Bool
+is_pair None a b = false
+is_pair (Some pair) a b = (pair.0 == a) && (pair.1 == b)
+
+-- its numbers are below n
+abbrev pub IsBelow : ℕ → Option (ℕ × ℕ) → Type 0
+IsBelow n None = Unit {0}
+IsBelow n (Some pair) = (pair.0 < n) × (pair.1 < n)
+
+-- the links among some processes
+abbrev pub links_in_of : List ProcessForm → List (ℕ × ℕ)
+links_in_of ps = filter_map link_in ps
+
+abbrev pub links_out_of : List ProcessForm → List (ℕ × ℕ)
+links_out_of ps = filter_map link_out ps

@@ -1,0 +1,30 @@
+-- Tables that say of each signal whether it is marked.
+use Rattle.std.specs.Prelude.{◌≡◌, ◌<◌, ℕ, Bool, false, ◌||◌, List, length, slice_index_or}
+use Rattle.sv_flat.specs.Design.{SignalForm, FlatStatement, nothing, after, assign, branch}
+use Rattle.sv_flat.specs.Design.{ProcessKind, clocked}
+use Rattle.sv_flat.specs.Readings.{names_signal}
+
+-- the table has the signal
+abbrev pub is_marked : List Bool → ℕ → Bool
+is_marked table s = slice_index_or table s false
+
+-- the second table has the signals of the first, and those that pass a test
+abbrev pub Marks : (old new : List Bool) → (more : ℕ → Bool) → Type 0
+Marks old new more = (s : ℕ) → s < length old → is_marked new s ≡ (is_marked old s || more s)
+
+-- the statement reads the signal
+abbrev pub reads_in : List SignalForm → FlatStatement → ℕ → Bool
+reads_in signals nothing s = false
+reads_in signals (after first second) s = reads_in signals first s || reads_in signals second s
+reads_in signals (assign pieces place blocking right) s = names_signal signals right s
+reads_in signals (branch place condition first second) s =
+    names_signal signals condition s || reads_in signals first s || reads_in signals second s
+
+-- the table says of each of n signals whether it passes the test
+abbrev pub IsTable : (n : ℕ) → List Bool → (test : ℕ → Bool) → Type 0
+IsTable n table test = (length table ≡ n) × ((s : ℕ) → s < n → is_marked table s ≡ test s)
+
+-- the clock of a clocked process is one of n signals
+abbrev pub HasClockBelow : (n : ℕ) → ProcessKind → Type 0
+HasClockBelow n (clocked clock) = clock < n
+HasClockBelow n _ = Unit {0}

@@ -1,5 +1,8 @@
--- A block at rest, run from where what it assigns is 0, reads on its way what its signals have in the end.
-use Rattle.std.proofs.Common.{◌≡◌, ℕ, ◌/◌, ◌^◌, ◌<◌, ◌≤◌, Bool, true, false, cond, ◌&&◌, ◌==◌, nat_le, leb-false, List, [], ◌∷◌, ◌++◌, fold, ◌⊎◌, inl, inr, ⊎_elim, refl, sym, ap, subst, ◌∙◌}
+-- A block at rest, run from where what it assigns is 0, reads on its way what its signals have in
+-- the end.
+use Rattle.std.proofs.Common.{◌≡◌, ℕ, ◌/◌, ◌^◌, ◌<◌, ◌≤◌, Bool, true, false, cond, ◌&&◌, ◌==◌}
+use Rattle.std.proofs.Common.{nat_le, leb-false, List, [], ◌∷◌, ◌++◌, fold, ◌⊎◌, inl, inr, ⊎_elim}
+use Rattle.std.proofs.Common.{refl, sym, ap, subst, ◌∙◌}
 use Rattle.std.specs.Prelude.{Contains, IsTrue, IsFalse}
 use Rattle.std.specs.Int.{bit_at}
 use Rattle.std.specs.List.{list_any, list_all}
@@ -7,7 +10,8 @@ use Rattle.std.proofs.lemmas.Bool.{false≢true, or_left, or_right, eqb-true}
 use Rattle.sv_num.specs.Vectors.{is_true}
 use Rattle.sv_system.specs.System.{Environment}
 use Rattle.sv_system.proofs.Lists.{Contains-map}
-use Rattle.sv_flat.specs.Design.{SignalForm, TypedTree, PieceForm, FlatStatement, nothing, after, assign, branch}
+use Rattle.sv_flat.specs.Design.{SignalForm, TypedTree, PieceForm, FlatStatement, nothing, after}
+use Rattle.sv_flat.specs.Design.{assign, branch}
 use Rattle.sv_flat.specs.Values.{signal_width, value}
 use Rattle.sv_flat.specs.Runs.{with_piece, put_piece, run}
 use Rattle.sv_flat.specs.Soundness.{is_signal, piece_fits, well_formed, statement_sound}
@@ -18,7 +22,8 @@ use Rattle.sv_flat.proofs.LeastSets.{either_way}
 use Rattle.sv_flat.proofs.Depths.{first_of, second_of}
 use Rattle.sv_flat.proofs.ReplacedBits.{replaced_below, replaced_under, replaced_over}
 use Rattle.sv_flat.proofs.SameValues.{same_value}
-use Rattle.sv_flat.proofs.SameRuns.{or_none_left, or_none_right, put_other, put_there, piece_lies_inside, run_leaves, all_blocking}
+use Rattle.sv_flat.proofs.SameRuns.{or_none_left, or_none_right, put_other, put_there}
+use Rattle.sv_flat.proofs.SameRuns.{piece_lies_inside, run_leaves, all_blocking}
 use Rattle.sv_obl.proofs.PathLists.{cond_true, cond_false, neither}
 use Rattle.sv_obl.proofs.PutFacts.{State}
 
@@ -26,8 +31,10 @@ module _ (signals : List SignalForm) where
   -- what the run reads on its way has its value of the settled environment
   abbrev pub Settles : Environment ℕ → FlatStatement → State → Type 0
   Settles z nothing now = Unit {0}
-  Settles z (after first second) now = Settles z first now × Settles z second (run signals first now)
-  Settles z (assign pieces place blocking right) now = value signals now.0 right ≡ value signals z right
+  Settles z (after first second) now =
+      Settles z first now × Settles z second (run signals first now)
+  Settles z (assign pieces place blocking right) now =
+      value signals now.0 right ≡ value signals z right
   Settles z (branch place condition first second) now =
       (value signals now.0 condition ≡ value signals z condition)
       × (IsTrue (is_true (value signals now.0 condition)) → Settles z first now)
@@ -37,8 +44,10 @@ module _ (signals : List SignalForm) where
   Bit now t b = bit_at (now.0 t) b
 
   -- a piece without a bit leaves it
-  piece_keeps_bit : (right : TypedTree) (v : ℕ) (now : State) (p : PieceForm) (t b : ℕ) → IsTrue (piece_fits signals right p)
-      → IsFalse (has_bit t b p) → b < signal_width signals t → Bit (put_piece signals true v now p) t b ≡ Bit now t b
+  piece_keeps_bit : (right : TypedTree) (v : ℕ) (now : State) (p : PieceForm) (t b : ℕ)
+      → IsTrue (piece_fits signals right p)
+      → IsFalse (has_bit t b p) → b < signal_width signals t
+      → Bit (put_piece signals true v now p) t b ≡ Bit now t b
   piece_keeps_bit right v now p t b fits none below =
       let old = now.0 p.signal in
       let new = with_piece signals p v old in
@@ -51,9 +60,11 @@ module _ (signals : List SignalForm) where
       let outside = ⊎_elim
       (λ low_or. ⊎_elim
       (λ elsewhere. absurd (false≢true (sym elsewhere ∙ there)))
-      (λ under. replaced_under w p.high p.low old (v / 2 ^ p.from) b inside.0 inside.1 (leb-false p.low b under))
+      (λ under. replaced_under w p.high p.low old (v / 2 ^ p.from) b inside.0 inside.1
+      (leb-false p.low b under))
       (neither (p.signal == t) (nat_le p.low b) low_or))
-      (λ over. replaced_over w p.high p.low old (v / 2 ^ p.from) b inside.0 inside.1 (leb-false b p.high over) within)
+      (λ over. replaced_over w p.high p.low old (v / 2 ^ p.from) b inside.0 inside.1
+      (leb-false b p.high over) within)
       (neither ((p.signal == t) && nat_le p.low b) (nat_le b p.high) none) in
       subst (λ k. Bit (put_piece signals true v now p) k b ≡ Bit now k b) is
       (ap (λ n. bit_at n b) (put_there p.signal new now.0) ∙ outside))
@@ -61,60 +72,78 @@ module _ (signals : List SignalForm) where
       (either_way (p.signal == t))
 
   pieces_keep_bit : (right : TypedTree) (v : ℕ) (pieces : List PieceForm) (now : State) (t b : ℕ)
-      → IsTrue (list_all (piece_fits signals right) pieces) → IsFalse (list_any (has_bit t b) pieces) → b < signal_width signals t
+      → IsTrue (list_all (piece_fits signals right) pieces)
+      → IsFalse (list_any (has_bit t b) pieces) → b < signal_width signals t
       → Bit (fold (put_piece signals true v) now pieces) t b ≡ Bit now t b
   pieces_keep_bit right v [] now t b fits none below = refl
   pieces_keep_bit right v (p ∷ pieces) now t b fits none below =
       pieces_keep_bit right v pieces (put_piece signals true v now p) t b
       (second_of (piece_fits signals right p) (list_all (piece_fits signals right) pieces) fits)
       (or_none_right (has_bit t b p) (list_any (has_bit t b) pieces) none) below
-      ∙ piece_keeps_bit right v now p t b (first_of (piece_fits signals right p) (list_all (piece_fits signals right) pieces) fits)
+      ∙ piece_keeps_bit right v now p t b
+      (first_of (piece_fits signals right p) (list_all (piece_fits signals right) pieces) fits)
       (or_none_left (has_bit t b p) (list_any (has_bit t b) pieces) none) below
 
-  either_bit : (c : Bool) (x y : State) (t b n : ℕ) → Bit x t b ≡ n → Bit y t b ≡ n → Bit (cond c x y) t b ≡ n
+  either_bit : (c : Bool) (x y : State) (t b n : ℕ) → Bit x t b ≡ n → Bit y t b ≡ n →
+      Bit (cond c x y) t b ≡ n
   either_bit true x y t b n first second = first
   either_bit false x y t b n first second = second
 
   -- a statement that cannot assign a bit leaves it
-  keeps_bit : (body : FlatStatement) (now : State) (t b : ℕ) → IsTrue (statement_sound signals body) → IsTrue (all_blocking body)
-      → IsFalse (can_assign body t b) → b < signal_width signals t → Bit (run signals body now) t b ≡ Bit now t b
+  keeps_bit : (body : FlatStatement) (now : State) (t b : ℕ) → IsTrue (statement_sound signals body)
+      → IsTrue (all_blocking body)
+      → IsFalse (can_assign body t b) → b < signal_width signals t
+      → Bit (run signals body now) t b ≡ Bit now t b
   keeps_bit nothing now t b sound blocking none below = refl
   keeps_bit (after first second) now t b sound blocking none below =
-      keeps_bit second (run signals first now) t b (second_of (statement_sound signals first) (statement_sound signals second) sound)
+      keeps_bit second (run signals first now) t b
+      (second_of (statement_sound signals first) (statement_sound signals second) sound)
       (second_of (all_blocking first) (all_blocking second) blocking)
       (or_none_right (can_assign first t b) (can_assign second t b) none) below
-      ∙ keeps_bit first now t b (first_of (statement_sound signals first) (statement_sound signals second) sound)
+      ∙ keeps_bit first now t b
+      (first_of (statement_sound signals first) (statement_sound signals second) sound)
       (first_of (all_blocking first) (all_blocking second) blocking)
       (or_none_left (can_assign first t b) (can_assign second t b) none) below
   keeps_bit (assign [] place blocked right) now t b sound blocking none below = refl
-  keeps_bit (assign (p ∷ pieces) place false right) now t b sound blocking none below = absurd (false≢true blocking)
+  keeps_bit (assign (p ∷ pieces) place false right) now t b sound blocking none below =
+      absurd (false≢true blocking)
   keeps_bit (assign (p ∷ pieces) place true right) now t b sound blocking none below =
       pieces_keep_bit right (value signals now.0 right) (p ∷ pieces) now t b
-      (second_of (well_formed signals right) (list_all (piece_fits signals right) (p ∷ pieces)) sound) none below
+      (second_of (well_formed signals right) (list_all (piece_fits signals right) (p ∷ pieces))
+      sound) none below
   keeps_bit (branch place condition first second) now t b sound blocking none below =
-      let front = first_of (well_formed signals condition && statement_sound signals first) (statement_sound signals second) sound in
-      either_bit (is_true (value signals now.0 condition)) (run signals first now) (run signals second now) t b (Bit now t b)
-      (keeps_bit first now t b (second_of (well_formed signals condition) (statement_sound signals first) front)
+      let front = first_of (well_formed signals condition && statement_sound signals first)
+      (statement_sound signals second) sound in
+      either_bit (is_true (value signals now.0 condition)) (run signals first now)
+      (run signals second now) t b (Bit now t b)
+      (keeps_bit first now t b
+      (second_of (well_formed signals condition) (statement_sound signals first) front)
       (first_of (all_blocking first) (all_blocking second) blocking)
       (or_none_left (can_assign first t b) (can_assign second t b) none) below)
       (keeps_bit second now t b
-      (second_of (well_formed signals condition && statement_sound signals first) (statement_sound signals second) sound)
+      (second_of (well_formed signals condition && statement_sound signals first)
+      (statement_sound signals second) sound)
       (second_of (all_blocking first) (all_blocking second) blocking)
       (or_none_right (can_assign first t b) (can_assign second t b) none) below)
 
   -- ---- widths
 
-  piece_fits_at : (right : TypedTree) (v : ℕ) (now : State) (p : PieceForm) (t : ℕ) → IsTrue (piece_fits signals right p)
-      → now.0 t < 2 ^ signal_width signals t → (put_piece signals true v now p).0 t < 2 ^ signal_width signals t
+  piece_fits_at : (right : TypedTree) (v : ℕ) (now : State) (p : PieceForm) (t : ℕ)
+      → IsTrue (piece_fits signals right p)
+      → now.0 t < 2 ^ signal_width signals t
+      → (put_piece signals true v now p).0 t < 2 ^ signal_width signals t
   piece_fits_at right v now p t fits low =
       let old = now.0 p.signal in
       let inside = piece_lies_inside signals right p fits in
       let new = with_piece signals p v old in
       ⊎_elim
-      (λ there. subst (λ k. (put_piece signals true v now p).0 k < 2 ^ signal_width signals k) (eqb-true p.signal t there)
+      (λ there. subst (λ k. (put_piece signals true v now p).0 k < 2 ^ signal_width signals k)
+      (eqb-true p.signal t there)
       (subst (λ n. n < 2 ^ signal_width signals p.signal) (sym (put_there p.signal new now.0))
-      (replaced_below (signal_width signals p.signal) p.high p.low old (v / 2 ^ p.from) inside.0 inside.1)))
-      (λ other. subst (λ n. n < 2 ^ signal_width signals t) (sym (put_other p.signal t new now.0 other)) low)
+      (replaced_below (signal_width signals p.signal) p.high p.low old (v / 2 ^ p.from) inside.0
+      inside.1)))
+      (λ other. subst (λ n.
+      n < 2 ^ signal_width signals t) (sym (put_other p.signal t new now.0 other)) low)
       (either_way (p.signal == t))
 
   pieces_fit_at : (right : TypedTree) (v : ℕ) (pieces : List PieceForm) (now : State) (t : ℕ)
@@ -124,37 +153,51 @@ module _ (signals : List SignalForm) where
   pieces_fit_at right v (p ∷ pieces) now t fits low =
       pieces_fit_at right v pieces (put_piece signals true v now p) t
       (second_of (piece_fits signals right p) (list_all (piece_fits signals right) pieces) fits)
-      (piece_fits_at right v now p t (first_of (piece_fits signals right p) (list_all (piece_fits signals right) pieces) fits) low)
+      (piece_fits_at right v now p t
+      (first_of (piece_fits signals right p) (list_all (piece_fits signals right) pieces)
+      fits) low)
 
   either_low : (c : Bool) (x y : State) (t n : ℕ) → x.0 t < n → y.0 t < n → (cond c x y).0 t < n
   either_low true x y t n first second = first
   either_low false x y t n first second = second
 
   -- a run of blocking assignments keeps a value at its signal's width
-  fits_at : (body : FlatStatement) (now : State) (t : ℕ) → IsTrue (statement_sound signals body) → IsTrue (all_blocking body)
-      → now.0 t < 2 ^ signal_width signals t → (run signals body now).0 t < 2 ^ signal_width signals t
+  fits_at : (body : FlatStatement) (now : State) (t : ℕ) → IsTrue (statement_sound signals body)
+      → IsTrue (all_blocking body)
+      → now.0 t < 2 ^ signal_width signals t
+      → (run signals body now).0 t < 2 ^ signal_width signals t
   fits_at nothing now t sound blocking low = low
   fits_at (after first second) now t sound blocking low =
-      fits_at second (run signals first now) t (second_of (statement_sound signals first) (statement_sound signals second) sound)
+      fits_at second (run signals first now) t
+      (second_of (statement_sound signals first) (statement_sound signals second) sound)
       (second_of (all_blocking first) (all_blocking second) blocking)
-      (fits_at first now t (first_of (statement_sound signals first) (statement_sound signals second) sound)
+      (fits_at first now t
+      (first_of (statement_sound signals first) (statement_sound signals second) sound)
       (first_of (all_blocking first) (all_blocking second) blocking) low)
   fits_at (assign [] place blocked right) now t sound blocking low = low
-  fits_at (assign (p ∷ pieces) place false right) now t sound blocking low = absurd (false≢true blocking)
+  fits_at (assign (p ∷ pieces) place false right) now t sound blocking low =
+      absurd (false≢true blocking)
   fits_at (assign (p ∷ pieces) place true right) now t sound blocking low =
       pieces_fit_at right (value signals now.0 right) (p ∷ pieces) now t
-      (second_of (well_formed signals right) (list_all (piece_fits signals right) (p ∷ pieces)) sound) low
+      (second_of (well_formed signals right) (list_all (piece_fits signals right) (p ∷ pieces))
+      sound) low
   fits_at (branch place condition first second) now t sound blocking low =
-      let front = first_of (well_formed signals condition && statement_sound signals first) (statement_sound signals second) sound in
-      either_low (is_true (value signals now.0 condition)) (run signals first now) (run signals second now) t (2 ^ signal_width signals t)
-      (fits_at first now t (second_of (well_formed signals condition) (statement_sound signals first) front)
+      let front = first_of (well_formed signals condition && statement_sound signals first)
+      (statement_sound signals second) sound in
+      either_low (is_true (value signals now.0 condition)) (run signals first now)
+      (run signals second now) t (2 ^ signal_width signals t)
+      (fits_at first now t
+      (second_of (well_formed signals condition) (statement_sound signals first) front)
       (first_of (all_blocking first) (all_blocking second) blocking) low)
       (fits_at second now t
-      (second_of (well_formed signals condition && statement_sound signals first) (statement_sound signals second) sound)
+      (second_of (well_formed signals condition && statement_sound signals first)
+      (statement_sound signals second) sound)
       (second_of (all_blocking first) (all_blocking second) blocking) low)
 
-  module _ (positive : (s : ℕ) → IsTrue (is_signal signals s) → 0 < signal_width signals s) (own : ℕ → Bool)
-      (e : Environment ℕ) (e_fits : (t : ℕ) → IsTrue (own t) → e t < 2 ^ signal_width signals t) where
+  module _ (positive : (s : ℕ) → IsTrue (is_signal signals s) →
+      0 < signal_width signals s) (own : ℕ → Bool)
+      (e : Environment ℕ) (e_fits : (t : ℕ) → IsTrue (own t) →
+      e t < 2 ^ signal_width signals t) where
     -- the block's own signals have values of their widths
     abbrev pub OwnFit : Environment ℕ → Type 0
     OwnFit f = (t : ℕ) → IsTrue (own t) → f t < 2 ^ signal_width signals t
@@ -162,14 +205,17 @@ module _ (signals : List SignalForm) where
     -- what is read is not assigned by the block, or no assignment to a bit that is read follows
     abbrev pub IsQuiet : Reading → Type 0
     IsQuiet r = IsFalse (own r.name.signal)
-        ⊎ ((b : ℕ) → r.name.low ≤ b → b ≤ r.name.high → b < signal_width signals r.name.signal → IsFalse (r.follows r.name.signal b))
+        ⊎ ((b : ℕ) → r.name.low ≤ b → b ≤ r.name.high → b < signal_width signals r.name.signal →
+        IsFalse (r.follows r.name.signal b))
 
     abbrev pub AllQuiet : List Reading → Type 0
     AllQuiet rs = (r : Reading) → Contains rs r → IsQuiet r
 
     -- the block's own bits that no later statement assigns have their values of the end
     abbrev pub Ends : BitSet → Environment ℕ → Type 0
-    Ends later f = (t b : ℕ) → IsTrue (own t) → b < signal_width signals t → IsFalse (later t b) → bit_at (f t) b ≡ bit_at (e t) b
+    Ends later f =
+        (t b : ℕ) → IsTrue (own t) → b < signal_width signals t → IsFalse (later t b) →
+        bit_at (f t) b ≡ bit_at (e t) b
 
     abbrev pub Outside : Environment ℕ → Type 0
     Outside f = (t : ℕ) → IsFalse (own t) → f t ≡ e t
@@ -178,10 +224,13 @@ module _ (signals : List SignalForm) where
     Owned body = (t : ℕ) → IsTrue (assigns body t) → IsTrue (own t)
 
     -- what a statement reads first has its value of the end
-    read_settles : (whole : FlatStatement) (t : TypedTree) (before later : BitSet) (now : State) → IsTrue (well_formed signals t)
+    read_settles : (whole : FlatStatement) (t : TypedTree) (before later : BitSet) (now : State)
+        → IsTrue (well_formed signals t)
         → IsTrue (statement_sound signals whole) → IsTrue (all_blocking whole)
-        → AllQuiet (readings_of signals t (assigns whole) before (either (can_assign whole) later)) → OwnFit now.0
-        → Outside now.0 → Ends later (run signals whole now).0 → value signals now.0 t ≡ value signals e t
+        → AllQuiet (readings_of signals t (assigns whole) before (either (can_assign whole) later))
+        → OwnFit now.0
+        → Outside now.0 → Ends later (run signals whole now).0
+        → value signals now.0 t ≡ value signals e t
     read_settles whole t before later now well sound blocking quiet fits outside ends =
         same_value signals positive t well now.0 e (λ r at. ⊎_elim
         (λ foreign. inl (outside r.signal foreign))
@@ -191,10 +240,17 @@ module _ (signals : List SignalForm) where
         let none = free b from to below in (
           fits r.signal owned,
           e_fits r.signal owned,
-          sym (keeps_bit whole now r.signal b sound blocking (or_none_left (can_assign whole r.signal b) (later r.signal b) none) below)
-              ∙ ends r.signal b owned below (or_none_right (can_assign whole r.signal b) (later r.signal b) none),
+          sym (keeps_bit whole now r.signal b sound blocking
+              (or_none_left (can_assign whole r.signal b) (later r.signal b) none) below)
+              ∙ ends r.signal b owned below
+              (or_none_right (can_assign whole r.signal b) (later r.signal b) none),
         )))
-        (quiet (record { name = r; serves = assigns whole; assigned = before; follows = either (can_assign whole) later })
+        (quiet (record {
+          name = r;
+          serves = assigns whole;
+          assigned = before;
+          follows = either (can_assign whole) later;
+        })
         (Contains-map (λ (x : ReadForm). record {
           name = x;
           serves = assigns whole;
@@ -208,61 +264,91 @@ module _ (signals : List SignalForm) where
         own_or true = inr refl
         own_or false = inl refl
 
-    stays_outside : (body : FlatStatement) (now : State) → Owned body → Outside now.0 → Outside (run signals body now).0
+    stays_outside : (body : FlatStatement) (now : State) → Owned body → Outside now.0 →
+        Outside (run signals body now).0
     stays_outside body now owned outside t foreign =
-        run_leaves signals body t (none_of (assigns body t) (λ h. false≢true (sym foreign ∙ owned t h))) now ∙ outside t foreign
+        run_leaves signals body t (none_of (assigns body t) (λ h.
+        false≢true (sym foreign ∙ owned t h))) now ∙ outside t foreign
       where
         none_of : (b : Bool) → (IsTrue b → ⊥) → IsFalse b
         none_of true no_case = absurd (no_case refl)
         none_of false no_case = refl
 
-    -- along a run of blocking assignments that ends in the values of e, what is read has its value of e
-    pub block_settles : (body : FlatStatement) (before later : BitSet) (now : State) → IsTrue (statement_sound signals body)
-        → IsTrue (all_blocking body) → Owned body → AllQuiet (readings signals body before later) → OwnFit now.0
+    -- along a run of blocking assignments that ends in the values of e, what is read has its value
+    -- of e
+    pub block_settles : (body : FlatStatement) (before later : BitSet) (now : State)
+        → IsTrue (statement_sound signals body)
+        → IsTrue (all_blocking body) → Owned body → AllQuiet (readings signals body before later)
+        → OwnFit now.0
         → Outside now.0 → Ends later (run signals body now).0 → Settles e body now
     block_settles nothing before later now sound blocking owned quiet fits outside ends = tt
-    block_settles (after first second) before later now sound blocking owned quiet fits outside ends =
+    block_settles (after first second) before later now sound blocking owned quiet fits
+        outside ends =
         let late = either (can_assign second) later in
         let mid = either (always_assigns first) before in
-        let sound1 = first_of (statement_sound signals first) (statement_sound signals second) sound in
-        let sound2 = second_of (statement_sound signals first) (statement_sound signals second) sound in
+        let sound1 = first_of (statement_sound signals first) (statement_sound signals second)
+        sound in
+        let sound2 = second_of (statement_sound signals first) (statement_sound signals second)
+        sound in
         let blocking1 = first_of (all_blocking first) (all_blocking second) blocking in
         let blocking2 = second_of (all_blocking first) (all_blocking second) blocking in
-        let owned1 = λ (t : ℕ) (h : IsTrue (assigns first t)). owned t (or_left (assigns first t) (assigns second t) h) in
-        let owned2 = λ (t : ℕ) (h : IsTrue (assigns second t)). owned t (or_right (assigns first t) (assigns second t) h) in (
+        let owned1 = λ (t : ℕ) (h : IsTrue (assigns first t)).
+        owned t (or_left (assigns first t) (assigns second t) h) in
+        let owned2 = λ (t : ℕ) (h : IsTrue (assigns second t)).
+        owned t (or_right (assigns first t) (assigns second t) h) in (
           block_settles first before late now sound1 blocking1 owned1
-              (λ r at. quiet r (Contains-left (readings signals first before late) (readings signals second mid later) r at)) fits outside
+              (λ r at.
+              quiet r (Contains-left (readings signals first before late)
+              (readings signals second mid later) r at)) fits outside
               (λ t b own_t below none.
               sym (keeps_bit second (run signals first now) t b sound2 blocking2
               (or_none_left (can_assign second t b) (later t b) none) below)
               ∙ ends t b own_t below (or_none_right (can_assign second t b) (later t b) none)),
           block_settles second mid later (run signals first now) sound2 blocking2 owned2
-              (λ r at. quiet r (Contains-right (readings signals first before late) (readings signals second mid later) r at))
-              (λ t own_t. fits_at first now t sound1 blocking1 (fits t own_t)) (stays_outside first now owned1 outside) ends,
+              (λ r at.
+              quiet r (Contains-right (readings signals first before late)
+              (readings signals second mid later) r at))
+              (λ t own_t. fits_at first now t sound1 blocking1 (fits t own_t))
+              (stays_outside first now owned1 outside) ends,
         )
-    block_settles (assign pieces place blocked right) before later now sound blocking owned quiet fits outside ends =
+    block_settles (assign pieces place blocked right) before later now sound blocking owned quiet
+        fits outside ends =
         read_settles (assign pieces place blocked right) right before later now
-        (first_of (well_formed signals right) (list_all (piece_fits signals right) pieces) sound) sound blocking quiet fits outside ends
-    block_settles (branch place condition first second) before later now sound blocking owned quiet fits outside ends =
+        (first_of (well_formed signals right) (list_all (piece_fits signals right) pieces) sound)
+        sound blocking quiet fits outside ends
+    block_settles (branch place condition first second) before later now sound blocking owned quiet
+        fits outside ends =
         let whole = branch place condition first second in
-        let here = readings_of signals condition (assigns whole) before (either (can_assign whole) later) in
+        let here = readings_of signals condition (assigns whole) before
+        (either (can_assign whole) later) in
         let in_first = readings signals first before later in
         let in_second = readings signals second before later in
-        let front = first_of (well_formed signals condition && statement_sound signals first) (statement_sound signals second) sound in
+        let front = first_of (well_formed signals condition && statement_sound signals first)
+        (statement_sound signals second) sound in
         let c = is_true (value signals now.0 condition) in (
           read_settles whole condition before later now
-              (first_of (well_formed signals condition) (statement_sound signals first) front) sound blocking
-              (λ r at. quiet r (Contains-left (here ++ in_first) in_second r (Contains-left here in_first r at))) fits outside ends,
+              (first_of (well_formed signals condition) (statement_sound signals first) front) sound
+              blocking
+              (λ r at.
+              quiet r (Contains-left (here ++ in_first) in_second r
+              (Contains-left here in_first r at))) fits outside ends,
           (λ holds. block_settles first before later now
               (second_of (well_formed signals condition) (statement_sound signals first) front)
               (first_of (all_blocking first) (all_blocking second) blocking)
               (λ t h. owned t (or_left (assigns first t) (assigns second t) h))
-              (λ r at. quiet r (Contains-left (here ++ in_first) in_second r (Contains-right here in_first r at))) fits outside
-              (subst (λ (x : State). Ends later x.0) (cond_true c (run signals first now) (run signals second now) holds) ends)),
+              (λ r at.
+              quiet r (Contains-left (here ++ in_first) in_second r
+              (Contains-right here in_first r at))) fits outside
+              (subst (λ (x : State).
+              Ends later x.0) (cond_true c (run signals first now) (run signals second now)
+              holds) ends)),
           (λ fails. block_settles second before later now
-              (second_of (well_formed signals condition && statement_sound signals first) (statement_sound signals second) sound)
+              (second_of (well_formed signals condition && statement_sound signals first)
+              (statement_sound signals second) sound)
               (second_of (all_blocking first) (all_blocking second) blocking)
               (λ t h. owned t (or_right (assigns first t) (assigns second t) h))
               (λ r at. quiet r (Contains-right (here ++ in_first) in_second r at)) fits outside
-              (subst (λ (x : State). Ends later x.0) (cond_false c (run signals first now) (run signals second now) fails) ends)),
+              (subst (λ (x : State).
+              Ends later x.0) (cond_false c (run signals first now) (run signals second now)
+              fails) ends)),
         )

@@ -27,10 +27,13 @@ few_are_in_order = refl
 --   always @(posedge clk) begin if (c) q[0] <= a; if (c) q[1] <= a; .. end
 abbrev bits_of : (count : ℕ) → FlatDesign
 bits_of count = design
-    (signal (codes "clk") 1 TopInput low ∷ signal (codes "c") 1 TopInput low ∷ signal (codes "a") 1 TopInput low
+    (signal (codes "clk") 1 TopInput low ∷ signal (codes "c") 1 TopInput low ∷
+    signal (codes "a") 1 TopInput low
     ∷ signal (codes "q") 13 OutputReg low ∷ [])
     (process (clocked 0) (at 2 3)
-    (sequence (map (λ k. branch (at 2 31) (named 1 (at 2 35)) (assign (part 3 (at 2 38) k k 0 ∷ []) (at 2 38) false (named 2 (at 2 46))) nothing)
+    (sequence (map (λ k.
+    branch (at 2 31) (named 1 (at 2 35))
+    (assign (part 3 (at 2 38) k k 0 ∷ []) (at 2 38) false (named 2 (at 2 46))) nothing)
     (range_with_len 0 count))) ∷ [])
 
 -- each bit doubles the paths

@@ -10,7 +10,9 @@ use Rattle.sv_lattice.specs.declared.labels.Label.TheVariants.{Point as Declared
 use Rattle.sv_lattice.specs.Maps.{MapRows}
 use Rattle.sv_flat.specs.declared.signals.SigKind.{SigKind}
 use Rattle.sv_flat.specs.declared.signals.SigKind.TheVariants.{TopInput, Output, Reg, OutputReg}
-use Rattle.sv_flat.specs.Design.{SignalForm, TypedTree, typed, read, read_part, constant, choice, binary, FlatStatement, nothing, assign, branch, continuous, combinational, clocked, ProcessForm, FlatDesign}
+use Rattle.sv_flat.specs.Design.{SignalForm, TypedTree, typed, read, read_part, constant, choice}
+use Rattle.sv_flat.specs.Design.{binary, FlatStatement, nothing, assign, branch, continuous}
+use Rattle.sv_flat.specs.Design.{combinational, clocked, ProcessForm, FlatDesign}
 use Rattle.sv_flat.proofs.Forms.{at, part, named, sequence, process}
 use Rattle.sv_obl.specs.ListLines.{list_text}
 
@@ -40,7 +42,14 @@ maps =
 
 abbrev pub signal : List ℕ → ℕ → SigKind → Label → SignalForm
 signal name width kind label =
-    record { name = name; width = width; signed = false; kind = kind; label = label; place = at 1 1 }
+    record {
+      name = name;
+      width = width;
+      signed = false;
+      kind = kind;
+      label = label;
+      place = at 1 1;
+    }
 
 abbrev pub design : List SignalForm → List ProcessForm → FlatDesign
 design signals processes = record {
@@ -65,10 +74,12 @@ puts s width place right = assign (part s place width 0 0 ∷ []) place true rig
 --   assign y = turn ? b : a;
 abbrev pub turns : FlatDesign
 turns = design
-    (signal (codes "turn") 1 TopInput low ∷ signal (codes "a") 1 TopInput low ∷ signal (codes "b") 1 TopInput high
+    (signal (codes "turn") 1 TopInput low ∷ signal (codes "a") 1 TopInput low ∷
+    signal (codes "b") 1 TopInput high
     ∷ signal (codes "y") 1 Output (by 0) ∷ [])
     (process continuous (at 3 10) (assign (part 3 (at 3 10) 0 0 0 ∷ []) (at 3 10) true
-    (typed 1 false (choice (at 3 19) (named 0 (at 3 14)) (named 2 (at 3 21)) (named 1 (at 3 25))))) ∷ [])
+    (typed 1 false (choice (at 3 19) (named 0 (at 3 14)) (named 2 (at 3 21))
+    (named 1 (at 3 25))))) ∷ [])
 
 pub a_choice_is_two_paths : list_text turns ≡
     codes "1 y now +3:19 =3:10 reads turn b\n"
@@ -78,15 +89,17 @@ a_choice_is_two_paths = refl
 
 -- ---- a register that is held
 
--- module m(input clk, input nxt, input [7:0] {H} k, output reg owner, output reg [7:0] {Dom(owner)} r);
---   always @(posedge clk) begin owner <= nxt; if (nxt) r <= k; end
+-- module m(input clk, input nxt, input [7:0] {H} k, output reg owner, output reg [7:0] {Dom(owner)}
+-- r); always @(posedge clk) begin owner <= nxt; if (nxt) r <= k; end
 abbrev held_register : FlatDesign
 held_register = design
-    (signal (codes "clk") 1 TopInput low ∷ signal (codes "nxt") 1 TopInput low ∷ signal (codes "k") 8 TopInput high
+    (signal (codes "clk") 1 TopInput low ∷ signal (codes "nxt") 1 TopInput low ∷
+    signal (codes "k") 8 TopInput high
     ∷ signal (codes "owner") 1 OutputReg low ∷ signal (codes "r") 8 OutputReg (by 3) ∷ [])
     (process (clocked 0) (at 3 3) (sequence (
     assign (part 3 (at 4 5) 0 0 0 ∷ []) (at 4 5) false (named 1 (at 4 14))
-    ∷ branch (at 5 5) (named 1 (at 5 9)) (assign (part 4 (at 5 14) 7 0 0 ∷ []) (at 5 14) false (whole 2 8)) nothing
+    ∷ branch (at 5 5) (named 1 (at 5 9))
+    (assign (part 4 (at 5 14) 7 0 0 ∷ []) (at 5 14) false (whole 2 8)) nothing
     ∷ [])) ∷ [])
 
 pub a_hold_reads_its_register : list_text held_register ≡
@@ -102,10 +115,12 @@ a_hold_reads_its_register = refl
 --   always @* begin y = a; if (h) y = a; end
 abbrev both_arms : FlatDesign
 both_arms = design
-    (signal (codes "h") 1 TopInput high ∷ signal (codes "a") 1 TopInput low ∷ signal (codes "y") 1 OutputReg low ∷ [])
+    (signal (codes "h") 1 TopInput high ∷ signal (codes "a") 1 TopInput low ∷
+    signal (codes "y") 1 OutputReg low ∷ [])
     (process combinational (at 2 3) (sequence (
     assign (part 2 (at 3 5) 0 0 0 ∷ []) (at 3 5) true (named 1 (at 3 9))
-    ∷ branch (at 4 5) (named 0 (at 4 9)) (assign (part 2 (at 4 12) 0 0 0 ∷ []) (at 4 12) true (named 1 (at 4 16))) nothing
+    ∷ branch (at 4 5) (named 0 (at 4 9))
+    (assign (part 2 (at 4 12) 0 0 0 ∷ []) (at 4 12) true (named 1 (at 4 16))) nothing
     ∷ [])) ∷ [])
 
 pub both_paths_read_the_condition : list_text both_arms ≡
@@ -114,19 +129,24 @@ pub both_paths_read_the_condition : list_text both_arms ≡
 unfolding digits
 both_paths_read_the_condition = refl
 
--- ---- an `if` that assigns the target nowhere is passed over, and so is what stands before a whole assignment
+-- ---- an `if` that assigns the target nowhere is passed over, and so is what stands before a whole
+-- assignment
 
 -- module m(input c, input e, input a, input b, output reg z, output reg t);
 --   always @* begin t = 0; z = a; if (c) t = b; if (e) z = 1; end
 abbrev several_targets : FlatDesign
 several_targets = design
-    (signal (codes "c") 1 TopInput low ∷ signal (codes "e") 1 TopInput low ∷ signal (codes "a") 1 TopInput low
-    ∷ signal (codes "b") 1 TopInput low ∷ signal (codes "z") 1 OutputReg low ∷ signal (codes "t") 1 OutputReg low ∷ [])
+    (signal (codes "c") 1 TopInput low ∷ signal (codes "e") 1 TopInput low ∷
+    signal (codes "a") 1 TopInput low
+    ∷ signal (codes "b") 1 TopInput low ∷ signal (codes "z") 1 OutputReg low ∷
+    signal (codes "t") 1 OutputReg low ∷ [])
     (process combinational (at 3 3) (sequence (
     assign (part 5 (at 3 19) 0 0 0 ∷ []) (at 3 19) true (typed 1 false (constant 0))
     ∷ assign (part 4 (at 3 26) 0 0 0 ∷ []) (at 3 26) true (named 2 (at 3 30))
-    ∷ branch (at 3 33) (named 0 (at 3 37)) (assign (part 5 (at 3 40) 0 0 0 ∷ []) (at 3 40) true (named 3 (at 3 44))) nothing
-    ∷ branch (at 3 47) (named 1 (at 3 51)) (assign (part 4 (at 3 54) 0 0 0 ∷ []) (at 3 54) true (typed 1 false (constant 1))) nothing
+    ∷ branch (at 3 33) (named 0 (at 3 37))
+    (assign (part 5 (at 3 40) 0 0 0 ∷ []) (at 3 40) true (named 3 (at 3 44))) nothing
+    ∷ branch (at 3 47) (named 1 (at 3 51))
+    (assign (part 4 (at 3 54) 0 0 0 ∷ []) (at 3 54) true (typed 1 false (constant 1))) nothing
     ∷ [])) ∷ [])
 
 pub others_are_passed_over : list_text several_targets ≡
@@ -143,13 +163,15 @@ others_are_passed_over = refl
 --   always @* begin z = c ? a : b; if (e) z = c ? 1 : 0; end
 abbrev split_choices : FlatDesign
 split_choices = design
-    (signal (codes "c") 1 TopInput low ∷ signal (codes "e") 1 TopInput low ∷ signal (codes "a") 1 TopInput low
+    (signal (codes "c") 1 TopInput low ∷ signal (codes "e") 1 TopInput low ∷
+    signal (codes "a") 1 TopInput low
     ∷ signal (codes "b") 1 TopInput low ∷ signal (codes "z") 1 OutputReg low ∷ [])
     (process combinational (at 3 3) (sequence (
     assign (part 4 (at 3 19) 0 0 0 ∷ []) (at 3 19) true
     (typed 1 false (choice (at 3 25) (named 0 (at 3 23)) (named 2 (at 3 27)) (named 3 (at 3 31))))
     ∷ branch (at 3 34) (named 1 (at 3 38)) (assign (part 4 (at 3 41) 0 0 0 ∷ []) (at 3 41) true
-    (typed 1 false (choice (at 3 47) (named 0 (at 3 45)) (typed 1 false (constant 1)) (typed 1 false (constant 0))))) nothing
+    (typed 1 false (choice (at 3 47) (named 0 (at 3 45)) (typed 1 false (constant 1))
+    (typed 1 false (constant 0))))) nothing
     ∷ [])) ∷ [])
 
 pub choices_are_split : list_text split_choices ≡
@@ -167,13 +189,16 @@ choices_are_split = refl
 --   always @* begin p[1:0] = a[1:0]; p[3:2] = b[3:2]; end
 abbrev pub replaced : FlatDesign
 replaced = design
-    (signal (codes "a") 4 TopInput low ∷ signal (codes "b") 4 TopInput low ∷ signal (codes "s") 4 OutputReg low
+    (signal (codes "a") 4 TopInput low ∷ signal (codes "b") 4 TopInput low ∷
+    signal (codes "s") 4 OutputReg low
     ∷ signal (codes "c") 1 OutputReg low ∷ signal (codes "p") 4 OutputReg low ∷ [])
-    (process combinational (at 2 3) (assign (part 3 (at 2 14) 0 0 4 ∷ part 2 (at 2 17) 3 0 0 ∷ []) (at 2 14) true
+    (process combinational (at 2 3)
+    (assign (part 3 (at 2 14) 0 0 4 ∷ part 2 (at 2 17) 3 0 0 ∷ []) (at 2 14) true
     (typed 5 false (binary binop.Add (whole 0 5) (whole 1 5))))
     ∷ process combinational (at 3 3) (sequence (
     assign (part 4 (at 3 19) 1 0 0 ∷ []) (at 3 19) true (typed 2 false (read_part 0 (at 3 28) 1 0))
-    ∷ assign (part 4 (at 3 36) 3 2 0 ∷ []) (at 3 36) true (typed 2 false (read_part 1 (at 3 45) 3 2))
+    ∷ assign (part 4 (at 3 36) 3 2 0 ∷ []) (at 3 36) true
+    (typed 2 false (read_part 1 (at 3 45) 3 2))
     ∷ [])) ∷ [])
 
 pub replaced_bits_are_read : list_text replaced ≡
@@ -188,11 +213,13 @@ replaced_bits_are_read = refl
 -- a bit of the register is kept, so it is read where it is not put whole
 abbrev kept_bit : FlatDesign
 kept_bit = design
-    (signal (codes "clk") 1 TopInput low ∷ signal (codes "c") 1 TopInput low ∷ signal (codes "a") 1 TopInput low
+    (signal (codes "clk") 1 TopInput low ∷ signal (codes "c") 1 TopInput low ∷
+    signal (codes "a") 1 TopInput low
     ∷ signal (codes "q") 2 OutputReg low ∷ [])
     (process (clocked 0) (at 2 3) (sequence (
     assign (part 3 (at 2 31) 0 0 0 ∷ []) (at 2 31) false (named 2 (at 2 39))
-    ∷ branch (at 2 42) (named 1 (at 2 46)) (assign (part 3 (at 2 49) 1 1 0 ∷ []) (at 2 49) false (named 2 (at 2 57))) nothing
+    ∷ branch (at 2 42) (named 1 (at 2 46))
+    (assign (part 3 (at 2 49) 1 1 0 ∷ []) (at 2 49) false (named 2 (at 2 57))) nothing
     ∷ [])) ∷ [])
 
 pub kept_bits_are_read : list_text kept_bit ≡
@@ -209,7 +236,8 @@ kept_bits_are_read = refl
 --     t = a; y = t; end
 abbrev earlier_value : FlatDesign
 earlier_value = design
-    (signal (codes "a") 1 TopInput low ∷ signal (codes "h") 1 TopInput high ∷ signal (codes "y") 1 OutputReg low
+    (signal (codes "a") 1 TopInput low ∷ signal (codes "h") 1 TopInput high ∷
+    signal (codes "y") 1 OutputReg low
     ∷ signal (codes "z") 1 OutputReg high ∷ signal (codes "t") 1 Reg low ∷ [])
     (process combinational (at 3 3) (sequence (
     assign (part 4 (at 4 5) 0 0 0 ∷ []) (at 4 5) true (named 1 (at 4 9))
@@ -230,7 +258,8 @@ earlier_values_are_put_in = refl
 --   always @* begin t = c ? a : b; y = t; t = 0; end
 abbrev earlier_choice : FlatDesign
 earlier_choice = design
-    (signal (codes "c") 1 TopInput low ∷ signal (codes "a") 1 TopInput low ∷ signal (codes "b") 1 TopInput low
+    (signal (codes "c") 1 TopInput low ∷ signal (codes "a") 1 TopInput low ∷
+    signal (codes "b") 1 TopInput low
     ∷ signal (codes "y") 1 OutputReg low ∷ signal (codes "t") 1 OutputReg low ∷ [])
     (process combinational (at 2 3) (sequence (
     assign (part 4 (at 2 19) 0 0 0 ∷ []) (at 2 19) true
@@ -252,9 +281,11 @@ earlier_choices_are_split = refl
 -- module m(input p, input {Dom(p)} q, input {Two(p, q)} d, output {H} y); assign y = d;
 abbrev two_selectors : Label → FlatDesign
 two_selectors label = design
-    (signal (codes "p") 1 TopInput low ∷ signal (codes "q") 1 TopInput label ∷ signal (codes "d") 1 TopInput (by_both 0 1)
+    (signal (codes "p") 1 TopInput low ∷ signal (codes "q") 1 TopInput label ∷
+    signal (codes "d") 1 TopInput (by_both 0 1)
     ∷ signal (codes "y") 1 Output high ∷ [])
-    (process continuous (at 4 10) (assign (part 3 (at 4 10) 0 0 0 ∷ []) (at 4 10) true (named 2 (at 4 14))) ∷ [])
+    (process continuous (at 4 10)
+    (assign (part 3 (at 4 10) 0 0 0 ∷ []) (at 4 10) true (named 2 (at 4 14))) ∷ [])
 
 pub a_selector_has_an_obligation : list_text (two_selectors (by 0)) ≡
     codes "1 y now =4:10 reads d\n"

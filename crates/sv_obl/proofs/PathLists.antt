@@ -1,5 +1,6 @@
 -- Small facts on lists and tests.
-use Rattle.std.proofs.Common.{◌≡◌, Bool, true, false, cond, ◌&&◌, List, [], ◌∷◌, ◌++◌, ◌⊎◌, inl, inr, ⊎_elim, refl, sym, subst, ◌∙◌}
+use Rattle.std.proofs.Common.{◌≡◌, Bool, true, false, cond, ◌&&◌, List, [], ◌∷◌, ◌++◌, ◌⊎◌, inl}
+use Rattle.std.proofs.Common.{inr, ⊎_elim, refl, sym, subst, ◌∙◌}
 use Rattle.std.specs.Prelude.{Contains, All, IsTrue, IsFalse, filter, flat_map}
 use Rattle.std.specs.Bool.{beq}
 use Rattle.std.specs.List.{list_any, list_all}
@@ -58,30 +59,36 @@ module _ {X : Type 0} where
   from_cond true xs ys x at = inl (refl, at)
   from_cond false xs ys x at = inr (refl, at)
 
-  pub in_first : (c : Bool) (xs ys : List X) (x : X) → IsTrue c → Contains xs x → Contains (cond c xs ys) x
+  pub in_first : (c : Bool) (xs ys : List X) (x : X) → IsTrue c → Contains xs x →
+      Contains (cond c xs ys) x
   in_first true xs ys x h at = at
   in_first false xs ys x h at = absurd (false≢true h)
 
-  pub in_second : (c : Bool) (xs ys : List X) (x : X) → IsFalse c → Contains ys x → Contains (cond c xs ys) x
+  pub in_second : (c : Bool) (xs ys : List X) (x : X) → IsFalse c → Contains ys x →
+      Contains (cond c xs ys) x
   in_second true xs ys x h at = absurd (false≢true (sym h))
   in_second false xs ys x h at = at
 
   module _ (test : X → Bool) where
     pub all_left : (xs ys : List X) → IsTrue (list_all test (xs ++ ys)) → IsTrue (list_all test xs)
     all_left [] ys h = refl
-    all_left (x ∷ xs) ys h = both_true (test x) (list_all test xs) (first_of (test x) (list_all test (xs ++ ys)) h)
+    all_left (x ∷ xs) ys h =
+        both_true (test x) (list_all test xs) (first_of (test x) (list_all test (xs ++ ys)) h)
         (all_left xs ys (second_of (test x) (list_all test (xs ++ ys)) h))
 
     pub all_right : (xs ys : List X) → IsTrue (list_all test (xs ++ ys)) → IsTrue (list_all test ys)
     all_right [] ys h = h
     all_right (x ∷ xs) ys h = all_right xs ys (second_of (test x) (list_all test (xs ++ ys)) h)
 
-    pub all_joined : (xs ys : List X) → IsTrue (list_all test xs) → IsTrue (list_all test ys) → IsTrue (list_all test (xs ++ ys))
+    pub all_joined : (xs ys : List X) → IsTrue (list_all test xs) → IsTrue (list_all test ys) →
+        IsTrue (list_all test (xs ++ ys))
     all_joined [] ys h k = k
-    all_joined (x ∷ xs) ys h k = both_true (test x) (list_all test (xs ++ ys)) (first_of (test x) (list_all test xs) h)
+    all_joined (x ∷ xs) ys h k =
+        both_true (test x) (list_all test (xs ++ ys)) (first_of (test x) (list_all test xs) h)
         (all_joined xs ys (second_of (test x) (list_all test xs) h) k)
 
-    pub all_from : (xs : List X) → ((x : X) → Contains xs x → IsTrue (test x)) → IsTrue (list_all test xs)
+    pub all_from : (xs : List X) → ((x : X) → Contains xs x → IsTrue (test x)) →
+        IsTrue (list_all test xs)
     all_from [] each = refl
     all_from (x ∷ xs) each = both_true (test x) (list_all test xs) (each x (Contains-head x xs))
         (all_from xs (λ y at. each y (Contains-later x xs y at)))
@@ -89,20 +96,24 @@ module _ {X : Type 0} where
     pub none_kept : (xs : List X) → IsFalse (list_any test xs) → filter test xs ≡ []
     none_kept [] h = refl
     none_kept (x ∷ xs) h =
-        cond_false (test x) (x ∷ filter test xs) (filter test xs) (or_none_left (test x) (list_any test xs) h)
+        cond_false (test x) (x ∷ filter test xs) (filter test xs)
+        (or_none_left (test x) (list_any test xs) h)
         ∙ none_kept xs (or_none_right (test x) (list_any test xs) h)
 
 module _ {X Y : Type 0} (f : X → List Y) where
-  pub in_flat_map : (xs : List X) (x : X) (y : Y) → Contains xs x → Contains (f x) y → Contains (flat_map f xs) y
+  pub in_flat_map : (xs : List X) (x : X) (y : Y) → Contains xs x → Contains (f x) y →
+      Contains (flat_map f xs) y
   in_flat_map [] x y at inside = absurd (Contains-nil x at)
   in_flat_map (z ∷ xs) x y at inside = ⊎_elim
       (λ is. Contains-left (f z) (flat_map f xs) y (subst (λ w. Contains (f w) y) (sym is) inside))
       (λ later. Contains-right (f z) (flat_map f xs) y (in_flat_map xs x y later inside))
       (Contains-cases z xs x at)
 
-  pub from_flat_map : (xs : List X) (y : Y) → Contains (flat_map f xs) y → (x : X) × Contains xs x × Contains (f x) y
+  pub from_flat_map : (xs : List X) (y : Y) → Contains (flat_map f xs) y →
+      (x : X) × Contains xs x × Contains (f x) y
   from_flat_map [] y at = absurd (Contains-nil y at)
   from_flat_map (x ∷ xs) y at = ⊎_elim
       (λ here. (x, Contains-head x xs, here))
-      (λ later. let found = from_flat_map xs y later in (found.0, Contains-later x xs found.0 found.1, found.2))
+      (λ later. let found = from_flat_map xs y later in
+      (found.0, Contains-later x xs found.0 found.1, found.2))
       (Contains-either (f x) (flat_map f xs) y at)

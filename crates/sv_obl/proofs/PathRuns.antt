@@ -1,6 +1,9 @@
--- What a path tells of a run. A path that holds before a statement comes from one that holds after it, and its result has the same value;
--- where a path holds after a statement, exactly one of those that it becomes holds before it.
-use Rattle.std.proofs.Common.{◌≡◌, ℕ, ◌+◌, ◌-◌, Bool, true, false, cond, ◌&&◌, ◌==◌, not, nat_lt, List, [], ◌∷◌, ◌++◌, length, map, fold, ⊎_elim, refl, sym, ap, ap₂, subst, ◌∙◌}
+-- What a path tells of a run. A path that holds before a statement comes from one that holds after
+-- it, and its result has the same value; where a path holds after a statement, exactly one of those
+-- that it becomes holds before it.
+use Rattle.std.proofs.Common.{◌≡◌, ℕ, ◌+◌, ◌-◌, Bool, true, false, cond, ◌&&◌, ◌==◌, not, nat_lt}
+use Rattle.std.proofs.Common.{List, [], ◌∷◌, ◌++◌, length, map, fold, ⊎_elim, refl, sym, ap, ap₂}
+use Rattle.std.proofs.Common.{subst, ◌∙◌}
 use Rattle.std.specs.Prelude.{Contains, IsTrue}
 use Rattle.std.specs.Bool.{beq}
 use Rattle.std.specs.List.{list_any, list_all}
@@ -9,7 +12,8 @@ use Rattle.sv_num.specs.declared.faults.Place.{Place}
 use Rattle.sv_num.specs.Vectors.{is_true}
 use Rattle.sv_num.specs.Parts.{span_of}
 use Rattle.sv_system.specs.System.{Environment}
-use Rattle.sv_system.proofs.Lists.{Contains-head, Contains-later, Contains-nil, Contains-cases, Contains-map, Contains-from_map}
+use Rattle.sv_system.proofs.Lists.{Contains-head, Contains-later, Contains-nil, Contains-cases}
+use Rattle.sv_system.proofs.Lists.{Contains-map, Contains-from_map}
 use Rattle.sv_flat.specs.Design.{SignalForm, TypedTree, typed, choice, mend, slice, PieceForm}
 use Rattle.sv_flat.specs.Values.{signal_of, signal_width, value}
 use Rattle.sv_flat.specs.Soundness.{is_signal, is_whole, well_formed}
@@ -18,9 +22,12 @@ use Rattle.sv_flat.proofs.Members.{Contains-left, Contains-right, Contains-eithe
 use Rattle.sv_flat.proofs.LeastSets.{either_way, from_some}
 use Rattle.sv_flat.proofs.Depths.{first_of, second_of}
 use Rattle.sv_obl.specs.Exchange.{name, content}
-use Rattle.sv_obl.specs.Wanted.{with_copies, is_copy, original, mark, marked_tree, wanted_name, piece_value, with_piece_put, put_value, put, put_in}
-use Rattle.sv_obl.specs.Paths.{StepForm, Path, step_with, Way, way_under, ways, covers_name, name_itself, ways_taken}
-use Rattle.sv_obl.proofs.PathLists.{same_truth, truth_same, both_true, cond_true, cond_false, only, from_cond}
+use Rattle.sv_obl.specs.Wanted.{with_copies, is_copy, original, mark, marked_tree, wanted_name}
+use Rattle.sv_obl.specs.Wanted.{piece_value, with_piece_put, put_value, put, put_in}
+use Rattle.sv_obl.specs.Paths.{StepForm, Path, step_with, Way, way_under, ways, covers_name}
+use Rattle.sv_obl.specs.Paths.{name_itself, ways_taken}
+use Rattle.sv_obl.proofs.PathLists.{same_truth, truth_same, both_true, cond_true, cond_false, only}
+use Rattle.sv_obl.proofs.PathLists.{from_cond}
 use Rattle.sv_obl.proofs.TreeFacts.{held_below, well_held, exchanged_held, Below}
 
 abbrev pub step_of : Place → TypedTree → Bool → StepForm
@@ -39,7 +46,8 @@ module _ (A : List SignalForm) (E : Environment ℕ) where
   steps_hold steps = list_all step_holds steps
 
   -- the way whose conditions hold has the value of the right side
-  pub ways_value : (right : TypedTree) (way : Way) → Contains (ways right) way → IsTrue (steps_hold way.steps)
+  pub ways_value : (right : TypedTree) (way : Way) → Contains (ways right) way
+      → IsTrue (steps_hold way.steps)
       → value A E way.right ≡ value A E right
   ways_value (typed w s (choice p c a b)) way at h = ⊎_elim
       (λ l.
@@ -58,11 +66,14 @@ module _ (A : List SignalForm) (E : Environment ℕ) where
       ∙ ways_value b from.0 from.1 (second_of (beq v false) (steps_hold from.0.steps) inner)
       ∙ sym (cond_false v (value A E a) (value A E b)
       (same_truth v false (first_of (beq v false) (steps_hold from.0.steps) inner))))
-      (Contains-either (map (way_under (step_of p c true)) (ways a)) (map (way_under (step_of p c false)) (ways b)) way at)
-  ways_value right way at h = ap (λ (y : Way). value A E y.right) (sym (only (whole_way right) way at))
+      (Contains-either (map (way_under (step_of p c true)) (ways a))
+      (map (way_under (step_of p c false)) (ways b)) way at)
+  ways_value right way at h =
+      ap (λ (y : Way). value A E y.right) (sym (only (whole_way right) way at))
 
   -- some way has conditions that hold
-  pub some_way : (right : TypedTree) → (way : Way) × Contains (ways right) way × IsTrue (steps_hold way.steps)
+  pub some_way : (right : TypedTree) → (way : Way) × Contains (ways right) way
+      × IsTrue (steps_hold way.steps)
   some_way (typed w s (choice p c a b)) =
       let v = is_true (value A E c) in
       let yes_ways = map (way_under (step_of p c true)) (ways a) in
@@ -90,7 +101,8 @@ module _ (A : List SignalForm) (E : Environment ℕ) where
   two_truths false h k = false≢true h
 
   -- and no two have
-  pub one_way : (right : TypedTree) (v w : Way) → Contains (ways right) v → IsTrue (steps_hold v.steps) → Contains (ways right) w
+  pub one_way : (right : TypedTree) (v w : Way) → Contains (ways right) v
+      → IsTrue (steps_hold v.steps) → Contains (ways right) w
       → IsTrue (steps_hold w.steps) → v ≡ w
   one_way (typed width s (choice p c a b)) v w v_at v_holds w_at w_holds =
       let t = is_true (value A E c) in
@@ -107,13 +119,15 @@ module _ (A : List SignalForm) (E : Environment ℕ) where
       let y = Contains-from_map (way_under (step_of p c true)) (ways a) w w_left in
       let y_holds = inner (way_under (step_of p c true) y.0) w y.2 w_holds in
       sym x.2
-      ∙ ap (way_under (step_of p c true)) (one_way a x.0 y.0 x.1 (second_of (beq t true) (steps_hold x.0.steps) x_holds) y.1
+      ∙ ap (way_under (step_of p c true))
+      (one_way a x.0 y.0 x.1 (second_of (beq t true) (steps_hold x.0.steps) x_holds) y.1
       (second_of (beq t true) (steps_hold y.0.steps) y_holds))
       ∙ y.2)
       (λ w_right.
       let y = Contains-from_map (way_under (step_of p c false)) (ways b) w w_right in
       let y_holds = inner (way_under (step_of p c false) y.0) w y.2 w_holds in
-      absurd (two_truths t (first_of (beq t true) (steps_hold x.0.steps) x_holds) (first_of (beq t false) (steps_hold y.0.steps) y_holds)))
+      absurd (two_truths t (first_of (beq t true) (steps_hold x.0.steps) x_holds)
+      (first_of (beq t false) (steps_hold y.0.steps) y_holds)))
       (Contains-either yes_ways no_ways w w_at))
       (λ v_right.
       let x = Contains-from_map (way_under (step_of p c false)) (ways b) v v_right in
@@ -122,21 +136,26 @@ module _ (A : List SignalForm) (E : Environment ℕ) where
       (λ w_left.
       let y = Contains-from_map (way_under (step_of p c true)) (ways a) w w_left in
       let y_holds = inner (way_under (step_of p c true) y.0) w y.2 w_holds in
-      absurd (two_truths t (first_of (beq t true) (steps_hold y.0.steps) y_holds) (first_of (beq t false) (steps_hold x.0.steps) x_holds)))
+      absurd (two_truths t (first_of (beq t true) (steps_hold y.0.steps) y_holds)
+      (first_of (beq t false) (steps_hold x.0.steps) x_holds)))
       (λ w_right.
       let y = Contains-from_map (way_under (step_of p c false)) (ways b) w w_right in
       let y_holds = inner (way_under (step_of p c false) y.0) w y.2 w_holds in
       sym x.2
-      ∙ ap (way_under (step_of p c false)) (one_way b x.0 y.0 x.1 (second_of (beq t false) (steps_hold x.0.steps) x_holds) y.1
+      ∙ ap (way_under (step_of p c false))
+      (one_way b x.0 y.0 x.1 (second_of (beq t false) (steps_hold x.0.steps) x_holds) y.1
       (second_of (beq t false) (steps_hold y.0.steps) y_holds))
       ∙ y.2)
       (Contains-either yes_ways no_ways w w_at))
       (Contains-either yes_ways no_ways v v_at)
-  one_way right v w v_at v_holds w_at w_holds = sym (only (whole_way right) v v_at) ∙ only (whole_way right) w w_at
+  one_way right v w v_at v_holds w_at w_holds =
+      sym (only (whole_way right) v v_at) ∙ only (whole_way right) w w_at
 
 -- conditions whose values are the same hold alike
-pub steps_alike : (A B : List SignalForm) (E F : Environment ℕ) (f : TypedTree → TypedTree) (steps : List StepForm)
-    → ((step : StepForm) → Contains steps step → value A E (f step.condition) ≡ value B F step.condition)
+pub steps_alike : (A B : List SignalForm) (E F : Environment ℕ) (f : TypedTree
+    → TypedTree) (steps : List StepForm)
+    → ((step : StepForm) → Contains steps step
+    → value A E (f step.condition) ≡ value B F step.condition)
     → steps_hold A E (map (step_with f) steps) ≡ steps_hold B F steps
 steps_alike A B E F f [] same = refl
 steps_alike A B E F f (step ∷ steps) same =
@@ -144,7 +163,8 @@ steps_alike A B E F f (step ∷ steps) same =
     (steps_alike A B E F f steps (λ s at. same s (Contains-later step steps s at)))
 
 pub same_steps : (A B : List SignalForm) (E F : Environment ℕ) (steps : List StepForm)
-    → ((step : StepForm) → Contains steps step → value A E step.condition ≡ value B F step.condition)
+    → ((step : StepForm) → Contains steps step
+    → value A E step.condition ≡ value B F step.condition)
     → steps_hold A E steps ≡ steps_hold B F steps
 same_steps A B E F [] same = refl
 same_steps A B E F (step ∷ steps) same =
@@ -169,27 +189,35 @@ module _ (signals : List SignalForm) where
   abbrev pub Tidy : Path → Type 0
   Tidy p = HeldSteps p.steps × Held p.result
 
-  pub held_cons : (step : StepForm) (steps : List StepForm) → Held step.condition → HeldSteps steps → HeldSteps (step ∷ steps)
+  pub held_cons : (step : StepForm) (steps : List StepForm) → Held step.condition →
+      HeldSteps steps → HeldSteps (step ∷ steps)
   held_cons step steps here each other at = ⊎_elim
       (λ is. subst (λ (y : StepForm). Held y.condition) is here)
       (λ later. each other later)
       (Contains-cases step steps other at)
 
-  pub held_both : (first second : List StepForm) → HeldSteps first → HeldSteps second → HeldSteps (first ++ second)
-  held_both first second one two step at = ⊎_elim (one step) (two step) (Contains-either first second step at)
+  pub held_both : (first second : List StepForm) → HeldSteps first → HeldSteps second →
+      HeldSteps (first ++ second)
+  held_both first second one two step at =
+      ⊎_elim (one step) (two step) (Contains-either first second step at)
 
-  pub held_map : (f : TypedTree → TypedTree) (steps : List StepForm) → ((t : TypedTree) → Held t → Held (f t)) → HeldSteps steps
+  pub held_map : (f : TypedTree → TypedTree) (steps : List StepForm)
+      → ((t : TypedTree) → Held t → Held (f t)) → HeldSteps steps
       → HeldSteps (map (step_with f) steps)
   held_map f steps keeps each step at =
       let from = Contains-from_map (step_with f) steps step at in
-      subst (λ (y : StepForm). Held y.condition) from.2 (keeps (from.0).condition (each from.0 from.1))
+      subst (λ (y : StepForm).
+      Held y.condition) from.2 (keeps (from.0).condition (each from.0 from.1))
 
-  pub marked_held : (in_block : Bool) (follows : BitSet) (t : TypedTree) → IsTrue (well_formed signals t)
+  pub marked_held : (in_block : Bool) (follows : BitSet) (t : TypedTree)
+      → IsTrue (well_formed signals t)
       → Held (marked_tree signals in_block follows t)
   marked_held in_block follows t well =
-      exchanged_held signals (mark signals in_block follows) (length signals) t (well_held signals t well) (λ r at. tt)
+      exchanged_held signals (mark signals in_block follows) (length signals) t
+      (well_held signals t well) (λ r at. tt)
 
-  ways_held : (right : TypedTree) → Held right → (way : Way) → Contains (ways right) way → HeldSteps way.steps × Held way.right
+  ways_held : (right : TypedTree) → Held right → (way : Way) → Contains (ways right) way →
+      HeldSteps way.steps × Held way.right
   ways_held (typed w sign (choice p c a b)) h way at =
       let front = first_of (held_below n c && held_below n a) (held_below n b) h in
       let held_c = first_of (held_below n c) (held_below n a) front in
@@ -197,22 +225,30 @@ module _ (signals : List SignalForm) where
       (λ l.
       let from = Contains-from_map (way_under (step_of p c true)) (ways a) way l in
       let inner = ways_held a (second_of (held_below n c) (held_below n a) front) from.0 from.1 in
-      subst (λ (y : Way). HeldSteps y.steps × Held y.right) from.2 (held_cons (step_of p c true) from.0.steps held_c inner.0, inner.1))
+      subst (λ (y : Way). HeldSteps y.steps × Held y.right) from.2
+      (held_cons (step_of p c true) from.0.steps held_c inner.0, inner.1))
       (λ r.
       let from = Contains-from_map (way_under (step_of p c false)) (ways b) way r in
-      let inner = ways_held b (second_of (held_below n c && held_below n a) (held_below n b) h) from.0 from.1 in
-      subst (λ (y : Way). HeldSteps y.steps × Held y.right) from.2 (held_cons (step_of p c false) from.0.steps held_c inner.0, inner.1))
-      (Contains-either (map (way_under (step_of p c true)) (ways a)) (map (way_under (step_of p c false)) (ways b)) way at)
-  ways_held right h way at = subst (λ (y : Way). HeldSteps y.steps × Held y.right) (only (whole_way right) way at)
+      let inner = ways_held b (second_of (held_below n c && held_below n a) (held_below n b) h)
+      from.0 from.1 in
+      subst (λ (y : Way). HeldSteps y.steps × Held y.right) from.2
+      (held_cons (step_of p c false) from.0.steps held_c inner.0, inner.1))
+      (Contains-either (map (way_under (step_of p c true)) (ways a))
+      (map (way_under (step_of p c false)) (ways b)) way at)
+  ways_held right h way at =
+      subst (λ (y : Way). HeldSteps y.steps × Held y.right) (only (whole_way right) way at)
       ((λ step none. absurd (Contains-nil step none)), h)
 
-  pub taken_held : (pieces : List PieceForm) (right : TypedTree) (p : Path) → Held right → (way : Way)
+  pub taken_held : (pieces : List PieceForm) (right : TypedTree) (p : Path) → Held right
+      → (way : Way)
       → Contains (ways_taken signals pieces right p) way → HeldSteps way.steps × Held way.right
   taken_held pieces right p h way at = ⊎_elim
       (λ split. ways_held right h way split.1)
-      (λ whole. subst (λ (y : Way). HeldSteps y.steps × Held y.right) (only (whole_way right) way whole.1)
+      (λ whole. subst (λ (y : Way).
+      HeldSteps y.steps × Held y.right) (only (whole_way right) way whole.1)
       ((λ step none. absurd (Contains-nil step none)), h))
-      (from_cond (covers_name signals pieces (name_itself p.result)) (ways right) (whole_way right ∷ []) way at)
+      (from_cond (covers_name signals pieces (name_itself p.result)) (ways right)
+      (whole_way right ∷ []) way at)
 
   held_cond : (c : Bool) (x y : TypedTree) → Held x → Held y → Held (cond c x y)
   held_cond true x y held_x held_y = held_x
@@ -220,36 +256,49 @@ module _ (signals : List SignalForm) where
 
   piece_held : (right : TypedTree) (p : PieceForm) → Held right → Held (piece_value right p)
   piece_held right p h =
-      held_cond (p.from == 0) right (typed (span_of p.high p.low) false (slice right (p.from + p.high - p.low) p.from)) h h
+      held_cond (p.from == 0) right
+      (typed (span_of p.high p.low) false (slice right (p.from + p.high - p.low) p.from)) h h
 
-  put_held : (right : TypedTree) (s : ℕ) (pieces : List PieceForm) (old : TypedTree) → Held right → IsTrue (nat_lt s n) → Held old
+  put_held : (right : TypedTree) (s : ℕ) (pieces : List PieceForm) (old : TypedTree) → Held right
+      → IsTrue (nat_lt s n) → Held old
       → Held (fold (with_piece_put signals right s) old pieces)
   put_held right s [] old h inside held_old = held_old
   put_held right s (p ∷ pieces) old h inside held_old =
-      put_held right s pieces (with_piece_put signals right s old p) h inside (by_test (not (p.signal == s)) (is_whole signals p))
+      put_held right s pieces (with_piece_put signals right s old p) h inside
+      (by_test (not (p.signal == s)) (is_whole signals p))
     where
       by_test : (c d : Bool) → IsTrue (held_below n (cond c old (cond d (piece_value right p)
-          (typed (signal_width signals s) (signal_of signals s).signed (mend s old p.high p.low (piece_value right p))))))
+          (typed (signal_width signals s) (signal_of signals s).signed
+          (mend s old p.high p.low (piece_value right p))))))
       by_test true d = held_old
       by_test false true = piece_held right p h
-      by_test false false = both_true (nat_lt s n && held_below n old) (held_below n (piece_value right p))
+      by_test false false =
+          both_true (nat_lt s n && held_below n old) (held_below n (piece_value right p))
           (both_true (nat_lt s n) (held_below n old) inside held_old) (piece_held right p h)
 
-  pub put_in_held : (pieces : List PieceForm) (right way : TypedTree) → ((p : PieceForm) → Contains pieces p → IsTrue (is_signal signals p.signal))
+  pub put_in_held : (pieces : List PieceForm) (right way : TypedTree)
+      → ((p : PieceForm) → Contains pieces p → IsTrue (is_signal signals p.signal))
       → Held way → (t : TypedTree) → Held t → Held (put_in signals pieces way t)
   put_in_held pieces right way known h t held_t =
       exchanged_held both (put signals pieces way) n t held_t (λ r at. below r)
     where
       below : (r : ReadForm) → Below both (put signals pieces way) n (put signals pieces way r)
-      below r = by_test (is_copy signals r.signal && list_any (λ (p : PieceForm). p.signal == original signals r.signal) pieces) refl
+      below r =
+          by_test (is_copy signals r.signal && list_any (λ (p : PieceForm).
+          p.signal == original signals r.signal) pieces) refl
         where
-          by_test : (c : Bool) → (is_copy signals r.signal && list_any (λ (p : PieceForm). p.signal == original signals r.signal) pieces) ≡ c
+          by_test : (c : Bool)
+              → (is_copy signals r.signal && list_any (λ (p : PieceForm).
+              p.signal == original signals r.signal) pieces) ≡ c
               → Below both (put signals pieces way) n (cond c (content (original signals r.signal)
               (put_value signals pieces way (original signals r.signal) r.place)) (name r.signal))
           by_test true e =
               let s = original signals r.signal in
               let found = from_some (λ (p : PieceForm). p.signal == s) pieces
-              (second_of (is_copy signals r.signal) (list_any (λ (p : PieceForm). p.signal == s) pieces) e) in
-              let inside = subst (λ k. IsTrue (is_signal signals k)) (eqb-true (found.0).signal s found.2) (known found.0 found.1) in
+              (second_of (is_copy signals r.signal)
+              (list_any (λ (p : PieceForm). p.signal == s) pieces) e) in
+              let inside = subst (λ k.
+              IsTrue (is_signal signals k)) (eqb-true (found.0).signal s found.2)
+              (known found.0 found.1) in
               (inside, put_held way s pieces (wanted_name signals s r.place) h inside refl)
           by_test false e = tt

@@ -1,6 +1,7 @@
--- What a path of a target reads is among the signals read for the target; and where two environments agree on it, the path holds in both
--- or in none, and its result has one value.
-use Rattle.std.proofs.Common.{◌≡◌, ℕ, ◌<◌, Bool, true, ◌==◌, not, ltb-true, List, length, ◌⊎◌, ⊎_elim, refl, sym, ap, subst}
+-- What a path of a target reads is among the signals read for the target; and where two
+-- environments agree on it, the path holds in both or in none, and its result has one value.
+use Rattle.std.proofs.Common.{◌≡◌, ℕ, ◌<◌, Bool, true, ◌==◌, not, ltb-true, List, length, ◌⊎◌}
+use Rattle.std.proofs.Common.{⊎_elim, refl, sym, ap, subst}
 use Rattle.std.specs.Prelude.{Contains, IsTrue, IsFalse}
 use Rattle.std.specs.List.{list_any}
 use Rattle.std.proofs.lemmas.Bool.{or_left, or_right, eqb-true, eq-eqb}
@@ -16,13 +17,15 @@ use Rattle.sv_flat.specs.Clocks.{is_clock, processes_of}
 use Rattle.sv_flat.specs.Reads.{process_readings}
 use Rattle.sv_flat.specs.FlatSystem.{flat_system}
 use Rattle.sv_flat.specs.Admission.{IsAdmitted}
-use Rattle.sv_flat.proofs.LeastSets.{or_cases, some_from, from_some, in_those, those_below, those_pass}
+use Rattle.sv_flat.proofs.LeastSets.{or_cases, some_from, from_some, in_those, those_below}
+use Rattle.sv_flat.proofs.LeastSets.{those_pass}
 use Rattle.sv_flat.proofs.ReadSignals.{readings_signals}
 use Rattle.sv_flat.proofs.AdmittedFacts.{body_is_sound, assigned_is_signal, assigns_no_clock}
 use Rattle.sv_flat.proofs.BlockFacts.{is_settled}
 use Rattle.sv_flat.proofs.ClockFacts.{reads_no_clock}
 use Rattle.sv_obl.specs.Wanted.{marked, closed_tree}
-use Rattle.sv_obl.specs.Paths.{StepForm, Path, step_with, open_path, before, closed, paths, path_names}
+use Rattle.sv_obl.specs.Paths.{StepForm, Path, step_with, open_path, before, closed, paths}
+use Rattle.sv_obl.specs.Paths.{path_names}
 use Rattle.sv_obl.proofs.Closing.{closed_held, closed_names}
 use Rattle.sv_obl.proofs.PathNames.{Fine, PathFine, paths_fine, open_fine}
 use Rattle.sv_obl.proofs.PathRuns.{steps_hold, same_steps, Held, Tidy}
@@ -33,15 +36,19 @@ use Rattle.sv_obl.proofs.TreeFacts.{same_names}
 abbrev pub reads_of : FlatDesign → Path → List ℕ
 reads_of design q = signals_that design (path_names design.signals q)
 
-module _ (design : FlatDesign) (is_sound : IsTrue (sound design)) (admitted : IsAdmitted design) (p : ProcessForm) (s : ℕ)
+module _ (design : FlatDesign) (is_sound : IsTrue (sound design)) (admitted : IsAdmitted design)
+    (p : ProcessForm) (s : ℕ)
     (at : Contains (processes_of design) p) (assigned : IsTrue (assigns p.body s)) where
   -- a name in the process that serves the target
   abbrev pub Served : ℕ → Type 0
-  Served t = (r : Reading) × Contains (process_readings design p) r × IsTrue (r.serves s) × (r.name.signal ≡ t)
+  Served t =
+      (r : Reading) × Contains (process_readings design p) r × IsTrue (r.serves s)
+      × (r.name.signal ≡ t)
 
   pub inside : s < length design.signals
   inside = ltb-true s (length design.signals)
-      (assigned_is_signal design.signals p.body (body_is_sound design is_sound admitted p at) s assigned)
+      (assigned_is_signal design.signals p.body (body_is_sound design is_sound admitted p at) s
+      assigned)
 
   abbrev pub IsFine : Path → Type 0
   IsFine m = PathFine design.signals (is_block p.kind) s Served m
@@ -49,7 +56,9 @@ module _ (design : FlatDesign) (is_sound : IsTrue (sound design)) (admitted : Is
   -- where a path of the target comes from, before its wanted names were closed
   pub record Origin (q : Path) : Type 0 where
     pub unclosed : Path
-    pub among : Contains (before design.signals s (marked design.signals (is_block p.kind) p.body no_bits) (open_path design.signals s)) unclosed
+    pub among : Contains
+        (before design.signals s (marked design.signals (is_block p.kind) p.body no_bits)
+        (open_path design.signals s)) unclosed
     pub fine : IsFine unclosed
     pub tidy : Tidy design.signals unclosed
     pub is : closed design.signals (is_clocked p.kind) unclosed ≡ q
@@ -62,14 +71,20 @@ module _ (design : FlatDesign) (is_sound : IsTrue (sound design)) (admitted : Is
       let body = p.body in
       let sound_body = body_is_sound design is_sound admitted p at in
       let from = Contains-from_map (closed design.signals (is_clocked p.kind))
-      (before design.signals s (marked design.signals (is_block p.kind) body no_bits) (open_path design.signals s)) q q_at in
+      (before design.signals s (marked design.signals (is_block p.kind) body no_bits)
+      (open_path design.signals s)) q q_at in
       record {
         unclosed = from.0;
         among = from.1;
-        fine = paths_fine design.signals (is_block p.kind) s Served body no_bits no_bits (open_path design.signals s) from.0 sound_body
-            (λ r r_at served. ((r, r_at, served, refl), is_settled design is_sound admitted p at r r_at))
+        fine =
+            paths_fine design.signals (is_block p.kind) s Served body no_bits no_bits
+            (open_path design.signals s) from.0 sound_body
+            (λ r r_at served.
+            ((r, r_at, served, refl), is_settled design is_sound admitted p at r r_at))
             (open_fine design.signals (is_block p.kind) s Served) from.1;
-        tidy = stays_tidy design.signals (is_block p.kind) true s (λ t. 0) body no_bits (open_path design.signals s) from.0 sound_body open_tidy from.1;
+        tidy =
+            stays_tidy design.signals (is_block p.kind) true s (λ t.
+            0) body no_bits (open_path design.signals s) from.0 sound_body open_tidy from.1;
         is = from.2;
       }
 
@@ -82,30 +97,39 @@ module _ (design : FlatDesign) (is_sound : IsTrue (sound design)) (admitted : Is
   abbrev IsRead : ℕ → Type 0
   IsRead t = Served t ⊎ (IsTrue (is_clocked p.kind) × (s ≡ t))
 
-  names_of_closed : (t : TypedTree) → Fine design.signals (is_block p.kind) s Served t → (r : ReadForm)
+  names_of_closed : (t : TypedTree) → Fine design.signals (is_block p.kind) s Served t
+      → (r : ReadForm)
       → Contains (reads design.signals (closed_one t)) r → IsRead r.signal
-  names_of_closed t fine r r_at = closed_names design.signals (is_block p.kind) (is_clocked p.kind) s inside Served t fine r r_at
+  names_of_closed t fine r r_at =
+      closed_names design.signals (is_block p.kind) (is_clocked p.kind) s inside Served t
+      fine r r_at
 
   abbrev steps_name : Path → ℕ → Bool
-  steps_name q t = list_any (λ (step : StepForm). names_signal design.signals step.condition t) q.steps
+  steps_name q t =
+      list_any (λ (step : StepForm). names_signal design.signals step.condition t) q.steps
 
   abbrev closed_path : Path → Path
   closed_path m = closed design.signals (is_clocked p.kind) m
 
-  closed_cases : (m : Path) → IsFine m → (t : ℕ) → IsTrue (path_names design.signals (closed_path m) t) → IsRead t
+  closed_cases : (m : Path) → IsFine m → (t : ℕ) →
+      IsTrue (path_names design.signals (closed_path m) t) → IsRead t
   closed_cases m fine t named =
       let q = closed_path m in
       ⊎_elim
       (λ l.
-      let step = from_some (λ (x : StepForm). names_signal design.signals x.condition t) q.steps l in
+      let step = from_some (λ (x : StepForm).
+      names_signal design.signals x.condition t) q.steps l in
       let from = Contains-from_map (step_with closed_one) m.steps step.0 step.1 in
-      let read = from_some (λ (r : ReadForm). r.signal == t) (reads design.signals (step.0).condition) step.2 in
+      let read = from_some (λ (r : ReadForm).
+      r.signal == t) (reads design.signals (step.0).condition) step.2 in
       subst IsRead (eqb-true (read.0).signal t read.2)
       (names_of_closed (from.0).condition (fine.0 from.0 from.1) read.0
-      (subst (λ (x : StepForm). Contains (reads design.signals x.condition) read.0) (sym from.2) read.1)))
+      (subst (λ (x : StepForm). Contains (reads design.signals x.condition) read.0) (sym from.2)
+      read.1)))
       (λ r.
       let read = from_some (λ (z : ReadForm). z.signal == t) (reads design.signals q.result) r in
-      subst IsRead (eqb-true (read.0).signal t read.2) (names_of_closed m.result fine.1 read.0 read.1))
+      subst IsRead (eqb-true (read.0).signal t read.2)
+      (names_of_closed m.result fine.1 read.0 read.1))
       (or_cases (steps_name q t) (names_signal design.signals q.result t) named)
 
   -- what a path reads serves the target, or is the register that is kept
@@ -115,25 +139,33 @@ module _ (design : FlatDesign) (is_sound : IsTrue (sound design)) (admitted : Is
       (subst (λ (x : Path). IsTrue (path_names design.signals x t)) (sym o.is)
       (those_pass (length design.signals) (path_names design.signals q) t t_at))
 
-  pub in_system : (t : ℕ) → t < length design.signals → IsFalse (is_clock design t) → Contains (flat_system design).signals t
-  in_system t below no_clock = in_those (length design.signals) (λ z. not (is_clock design z)) t below (ap not no_clock)
+  pub in_system : (t : ℕ) → t < length design.signals → IsFalse (is_clock design t) →
+      Contains (flat_system design).signals t
+  in_system t below no_clock =
+      in_those (length design.signals) (λ z. not (is_clock design z)) t below (ap not no_clock)
 
   -- what a path reads is a signal and no clock
-  pub read_is_seen : (q : Path) → Origin q → (t : ℕ) → Contains (reads_of design q) t → Contains (flat_system design).signals t
+  pub read_is_seen : (q : Path) → Origin q → (t : ℕ) → Contains (reads_of design q) t →
+      Contains (flat_system design).signals t
   read_is_seen q o t t_at =
       in_system t (those_below (length design.signals) (path_names design.signals q) t t_at) (⊎_elim
       (λ served. reads_no_clock design is_sound admitted p t at
       (some_from (λ (r : Reading). r.name.signal == t) (process_readings design p) served.0 served.1
       (eq-eqb (served.0).name.signal t served.3)))
-      (λ kept. subst (λ z. IsFalse (is_clock design z)) kept.1 (assigns_no_clock design is_sound admitted p s at assigned))
+      (λ kept. subst (λ z.
+      IsFalse (is_clock design z)) kept.1
+      (assigns_no_clock design is_sound admitted p s at assigned))
       (read_cases q o t t_at))
 
   -- ---- agreement
 
   read_below : (t : ℕ) → IsRead t → t < length design.signals
   read_below t read = ⊎_elim
-      (λ served. subst (λ z. z < length design.signals) served.3 (ltb-true (served.0).name.signal (length design.signals)
-      (readings_signals design.signals p.body no_bits no_bits (body_is_sound design is_sound admitted p at) served.0 served.1)))
+      (λ served. subst (λ z.
+      z < length design.signals) served.3
+      (ltb-true (served.0).name.signal (length design.signals)
+      (readings_signals design.signals p.body no_bits no_bits
+      (body_is_sound design is_sound admitted p at) served.0 served.1)))
       (λ kept. subst (λ z. z < length design.signals) kept.1 inside)
       read
 
@@ -142,38 +174,53 @@ module _ (design : FlatDesign) (is_sound : IsTrue (sound design)) (admitted : Is
     abbrev q : Path
     q = closed_path m
 
-    tree_same : (t : TypedTree) → Held design.signals t → Fine design.signals (is_block p.kind) s Served t
-        → ((x : ℕ) → IsTrue (names_signal design.signals (closed_one t) x) → IsTrue (path_names design.signals q x))
+    tree_same : (t : TypedTree) → Held design.signals t
+        → Fine design.signals (is_block p.kind) s Served t
+        → ((x : ℕ) → IsTrue (names_signal design.signals (closed_one t) x)
+        → IsTrue (path_names design.signals q x))
         → value design.signals e (closed_one t) ≡ value design.signals f (closed_one t)
-    tree_same t held fine_t named = same_names design.signals (length design.signals) e f (closed_one t)
-        (closed_held design.signals (is_block p.kind) (is_clocked p.kind) s inside Served t held fine_t)
-        (λ r r_at. same r.signal (in_those (length design.signals) (path_names design.signals q) r.signal
+    tree_same t held fine_t named =
+        same_names design.signals (length design.signals) e f (closed_one t)
+        (closed_held design.signals (is_block p.kind) (is_clocked p.kind) s inside Served t
+        held fine_t)
+        (λ r r_at. same r.signal
+        (in_those (length design.signals) (path_names design.signals q) r.signal
         (read_below r.signal (names_of_closed t fine_t r r_at))
-        (named r.signal (some_from (λ (z : ReadForm). z.signal == r.signal) (reads design.signals (closed_one t)) r r_at
+        (named r.signal (some_from (λ (z : ReadForm).
+        z.signal == r.signal) (reads design.signals (closed_one t)) r r_at
         (eq-eqb r.signal r.signal refl)))))
 
     closed_steps_same : steps_hold design.signals e q.steps ≡ steps_hold design.signals f q.steps
     closed_steps_same = same_steps design.signals design.signals e f q.steps (λ step step_at.
         let from = Contains-from_map (step_with closed_one) m.steps step step_at in
-        subst (λ (x : StepForm). value design.signals e x.condition ≡ value design.signals f x.condition) from.2
+        subst (λ (x : StepForm).
+        value design.signals e x.condition ≡ value design.signals f x.condition) from.2
         (tree_same (from.0).condition (tidy.0 from.0 from.1) (fine.0 from.0 from.1) (λ x named.
         or_left (steps_name q x) (names_signal design.signals q.result x)
-        (some_from (λ (z : StepForm). names_signal design.signals z.condition x) q.steps step step_at
-        (subst (λ (z : StepForm). IsTrue (names_signal design.signals z.condition x)) from.2 named)))))
+        (some_from (λ (z : StepForm).
+        names_signal design.signals z.condition x) q.steps step step_at
+        (subst (λ (z : StepForm). IsTrue (names_signal design.signals z.condition x)) from.2
+        named)))))
 
     closed_result_same : value design.signals e q.result ≡ value design.signals f q.result
-    closed_result_same = tree_same m.result tidy.1 fine.1 (λ x named. or_right (steps_name q x) (names_signal design.signals q.result x) named)
+    closed_result_same =
+        tree_same m.result tidy.1 fine.1 (λ x named.
+        or_right (steps_name q x) (names_signal design.signals q.result x) named)
 
   -- the path holds in both or in none
-  pub steps_same : (q : Path) → Origin q → (e f : Environment ℕ) → ((t : ℕ) → Contains (reads_of design q) t → e t ≡ f t)
+  pub steps_same : (q : Path) → Origin q → (e f : Environment ℕ)
+      → ((t : ℕ) → Contains (reads_of design q) t → e t ≡ f t)
       → steps_hold design.signals e q.steps ≡ steps_hold design.signals f q.steps
-  steps_same q o e f same = subst (λ (x : Path). ((t : ℕ) → Contains (reads_of design x) t → e t ≡ f t)
+  steps_same q o e f same =
+      subst (λ (x : Path). ((t : ℕ) → Contains (reads_of design x) t → e t ≡ f t)
       → steps_hold design.signals e x.steps ≡ steps_hold design.signals f x.steps) o.is
       (λ agree. closed_steps_same o.unclosed o.fine o.tidy e f agree) same
 
   -- and its result has one value
-  pub result_same : (q : Path) → Origin q → (e f : Environment ℕ) → ((t : ℕ) → Contains (reads_of design q) t → e t ≡ f t)
+  pub result_same : (q : Path) → Origin q → (e f : Environment ℕ)
+      → ((t : ℕ) → Contains (reads_of design q) t → e t ≡ f t)
       → value design.signals e q.result ≡ value design.signals f q.result
-  result_same q o e f same = subst (λ (x : Path). ((t : ℕ) → Contains (reads_of design x) t → e t ≡ f t)
+  result_same q o e f same =
+      subst (λ (x : Path). ((t : ℕ) → Contains (reads_of design x) t → e t ≡ f t)
       → value design.signals e x.result ≡ value design.signals f x.result) o.is
       (λ agree. closed_result_same o.unclosed o.fine o.tidy e f agree) same

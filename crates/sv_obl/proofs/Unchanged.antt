@@ -1,13 +1,20 @@
--- An expression in which every name stands for itself is unchanged: where nothing is earlier, marking a statement leaves it.
-use Rattle.std.proofs.Common.{◌≡◌, ℕ, Bool, false, ◌&&◌, List, [], ◌∷◌, ◌++◌, refl, ap, ap₂, ◌∙◌}
+-- An expression in which every name stands for itself is unchanged: where nothing is earlier,
+-- marking a statement leaves it.
+use Rattle.std.proofs.Common.{◌≡◌, ℕ, Bool, ◌&&◌, List, [], ◌++◌, refl, ap, ap₂, ◌∙◌}
 use Rattle.std.specs.Prelude.{Contains, IsFalse}
 use Rattle.sv_system.proofs.Lists.{Contains-head, Contains-later, Contains-map}
-use Rattle.sv_flat.specs.Design.{SignalForm, TypedTree, typed, NodeTree, constant, read, read_bit, read_part, unary, binary, choice, join, replication, held, held_bit, held_part, mend, slice, TypedTrees, no_parts, more_parts, FlatStatement, nothing, after, assign, branch}
+use Rattle.sv_flat.specs.Design.{SignalForm, TypedTree, typed, NodeTree, constant, read, read_bit}
+use Rattle.sv_flat.specs.Design.{read_part, unary, binary, choice, join, replication, held}
+use Rattle.sv_flat.specs.Design.{held_bit, held_part, mend, slice, TypedTrees, no_parts, more_parts}
+use Rattle.sv_flat.specs.Design.{FlatStatement, nothing, after, assign, branch}
 use Rattle.sv_flat.specs.Values.{number_of}
 use Rattle.sv_flat.specs.Assigned.{assigns, always_assigns, can_assign}
-use Rattle.sv_flat.specs.Readings.{ReadForm, whole_read, indexed_read, is_constant, reads, node_reads, parts_reads, BitSet, either, Reading, readings_of, readings, some_bit_read, is_followed}
+use Rattle.sv_flat.specs.Readings.{ReadForm, whole_read, indexed_read, is_constant, reads}
+use Rattle.sv_flat.specs.Readings.{node_reads, parts_reads, BitSet, either, Reading, readings_of}
+use Rattle.sv_flat.specs.Readings.{readings, some_bit_read, is_followed}
 use Rattle.sv_flat.proofs.Members.{Contains-left, Contains-right}
-use Rattle.sv_obl.specs.Exchange.{Instead, name, for_whole, for_bit, for_part, exchanged, exchanged_node, exchanged_parts}
+use Rattle.sv_obl.specs.Exchange.{Instead, name, for_whole, for_bit, for_part, exchanged}
+use Rattle.sv_obl.specs.Exchange.{exchanged_node, exchanged_parts}
 use Rattle.sv_obl.specs.Wanted.{copy_of, mark, marked_tree, marked}
 use Rattle.sv_obl.proofs.PathLists.{cond_false}
 use Rattle.sv_obl.proofs.TreeFacts.{indexed_is}
@@ -26,7 +33,8 @@ module _ (A : List SignalForm) (instead : ReadForm → Instead) where
     pub exchanged_itself : (t : TypedTree) → AllThemselves (reads A t) → exchanged A instead t ≡ t
     exchanged_itself (typed w sign node) same = ap (typed w sign) (exchanged_node_itself node same)
 
-    exchanged_node_itself : (node : NodeTree) → AllThemselves (node_reads A node) → exchanged_node A instead node ≡ node
+    exchanged_node_itself : (node : NodeTree) → AllThemselves (node_reads A node) →
+        exchanged_node A instead node ≡ node
     exchanged_node_itself (constant k) same = refl
     exchanged_node_itself (read s p) same =
         let r = whole_read A s p in ap (λ i. for_whole i p) (same r (Contains-head r []))
@@ -47,20 +55,25 @@ module _ (A : List SignalForm) (instead : ReadForm → Instead) where
         ap₂ (λ x y. choice p x y (exchanged A instead b))
         (exchanged_itself c (themselves_left (reads A c) (reads A a) both))
         (exchanged_itself a (themselves_right (reads A c) (reads A a) both))
-        ∙ ap (choice p c a) (exchanged_itself b (themselves_right (reads A c ++ reads A a) (reads A b) same))
+        ∙ ap (choice p c a) (exchanged_itself b
+        (themselves_right (reads A c ++ reads A a) (reads A b) same))
     exchanged_node_itself (join es) same = ap join (exchanged_parts_itself es same)
-    exchanged_node_itself (replication count es) same = ap (replication count) (exchanged_parts_itself es same)
+    exchanged_node_itself (replication count es) same =
+        ap (replication count) (exchanged_parts_itself es same)
     exchanged_node_itself (held s e) same = ap (held s) (exchanged_itself e same)
     exchanged_node_itself (held_bit s p e i) same = ap₂ (held_bit s p)
         (exchanged_itself e (themselves_left (reads A e) (reads A i) same))
         (exchanged_itself i (themselves_right (reads A e) (reads A i) same))
-    exchanged_node_itself (held_part s p e high low) same = ap (λ x. held_part s p x high low) (exchanged_itself e same)
+    exchanged_node_itself (held_part s p e high low) same =
+        ap (λ x. held_part s p x high low) (exchanged_itself e same)
     exchanged_node_itself (mend s e high low piece) same = ap₂ (λ x y. mend s x high low y)
         (exchanged_itself e (themselves_left (reads A e) (reads A piece) same))
         (exchanged_itself piece (themselves_right (reads A e) (reads A piece) same))
-    exchanged_node_itself (slice e high low) same = ap (λ x. slice x high low) (exchanged_itself e same)
+    exchanged_node_itself (slice e high low) same =
+        ap (λ x. slice x high low) (exchanged_itself e same)
 
-    exchanged_parts_itself : (es : TypedTrees) → AllThemselves (parts_reads A es) → exchanged_parts A instead es ≡ es
+    exchanged_parts_itself : (es : TypedTrees) → AllThemselves (parts_reads A es) →
+        exchanged_parts A instead es ≡ es
     exchanged_parts_itself no_parts same = refl
     exchanged_parts_itself (more_parts e es) same = ap₂ more_parts
         (exchanged_itself e (themselves_left (reads A e) (parts_reads A es) same))
@@ -73,15 +86,25 @@ module _ (signals : List SignalForm) (in_block : Bool) where
   abbrev pub NoneEarlier : List Reading → Type 0
   NoneEarlier rs = (r : Reading) → Contains rs r → IsFalse (in_block && is_followed signals r)
 
-  tree_itself : (t : TypedTree) (serves : ℕ → Bool) (early follows : BitSet) → NoneEarlier (readings_of signals t serves early follows)
+  tree_itself : (t : TypedTree) (serves : ℕ → Bool) (early follows : BitSet)
+      → NoneEarlier (readings_of signals t serves early follows)
       → marked_tree signals in_block follows t ≡ t
-  tree_itself t serves early follows none = exchanged_itself signals (mark signals in_block follows) t (λ r at.
-      ap name (cond_false (in_block && some_bit_read signals r (follows r.signal)) (copy_of signals r.signal) r.signal
+  tree_itself t serves early follows none =
+      exchanged_itself signals (mark signals in_block follows) t (λ r at.
+      ap name (cond_false (in_block && some_bit_read signals r (follows r.signal))
+      (copy_of signals r.signal) r.signal
       (none (record { name = r; serves = serves; assigned = early; follows = follows })
-      (Contains-map (λ (x : ReadForm). record { name = x; serves = serves; assigned = early; follows = follows }) (reads signals t) r at))))
+      (Contains-map (λ (x : ReadForm).
+      record {
+        name = x;
+        serves = serves;
+        assigned = early;
+        follows = follows;
+      }) (reads signals t) r at))))
 
   -- where nothing is earlier, marking leaves a statement
-  pub marked_itself : (body : FlatStatement) (early later : BitSet) → NoneEarlier (readings signals body early later)
+  pub marked_itself : (body : FlatStatement) (early later : BitSet)
+      → NoneEarlier (readings signals body early later)
       → marked signals in_block body later ≡ body
   marked_itself nothing early later none = refl
   marked_itself (after first second) early later none =
@@ -89,12 +112,17 @@ module _ (signals : List SignalForm) (in_block : Bool) where
       let mid = either (always_assigns first) early in
       ap₂ after
       (marked_itself first early late
-      (λ r at. none r (Contains-left (readings signals first early late) (readings signals second mid later) r at)))
+      (λ r at.
+      none r (Contains-left (readings signals first early late)
+      (readings signals second mid later) r at)))
       (marked_itself second mid later
-      (λ r at. none r (Contains-right (readings signals first early late) (readings signals second mid later) r at)))
+      (λ r at.
+      none r (Contains-right (readings signals first early late)
+      (readings signals second mid later) r at)))
   marked_itself (assign pieces place blocking right) early later none =
       let whole = assign pieces place blocking right in
-      ap (assign pieces place blocking) (tree_itself right (assigns whole) early (either (can_assign whole) later) none)
+      ap (assign pieces place blocking)
+      (tree_itself right (assigns whole) early (either (can_assign whole) later) none)
   marked_itself (branch place condition first second) early later none =
       let whole = branch place condition first second in
       let follows = either (can_assign whole) later in
@@ -103,8 +131,12 @@ module _ (signals : List SignalForm) (in_block : Bool) where
       let in_second = readings signals second early later in
       ap₂ (λ x y. branch place x y (marked signals in_block second later))
       (tree_itself condition (assigns whole) early follows
-      (λ r at. none r (Contains-left (here ++ in_first) in_second r (Contains-left here in_first r at))))
+      (λ r at.
+      none r (Contains-left (here ++ in_first) in_second r (Contains-left here in_first r at))))
       (marked_itself first early later
-      (λ r at. none r (Contains-left (here ++ in_first) in_second r (Contains-right here in_first r at))))
+      (λ r at.
+      none r (Contains-left (here ++ in_first) in_second r
+      (Contains-right here in_first r at))))
       ∙ ap (branch place condition first)
-      (marked_itself second early later (λ r at. none r (Contains-right (here ++ in_first) in_second r at)))
+      (marked_itself second early later (λ r at.
+      none r (Contains-right (here ++ in_first) in_second r at)))

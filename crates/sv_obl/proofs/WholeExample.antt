@@ -1,5 +1,7 @@
--- One whole design that meets all premises of the law: a label by the value of a signal, and valid obligations.
-use Rattle.std.proofs.Common.{◌≡◌, ℕ, zero, suc, ◌%◌, ◌^◌, ◌<◌, Bool, true, false, List, [], ◌∷◌, map, ⊎_elim, refl, sym, ap, subst, ◌∙◌, arith, Some, None}
+-- One whole design that meets all premises of the law: a label by the value of a signal, and valid
+-- obligations.
+use Rattle.std.proofs.Common.{◌≡◌, ℕ, zero, suc, ◌%◌, ◌^◌, ◌<◌, Bool, true, false, List, [], ◌∷◌}
+use Rattle.std.proofs.Common.{map, ⊎_elim, refl, sym, ap, subst, ◌∙◌, arith, Some, None}
 use Rattle.std.specs.Prelude.{IsFalse}
 use Rattle.std.proofs.lemmas.Bool.{false≢true}
 use Rattle.std.proofs.lemmas.List.Elements.{All-nil, All-cons}
@@ -41,7 +43,8 @@ reflexive zero x = refl
 reflexive (suc zero) x = refl
 reflexive (suc (suc i)) x = absurd (omega arith)
 
-transitive : (a b c : ℕ) → a < 2 → b < 2 → c < 2 → FlowsTo table a b → FlowsTo table b c → FlowsTo table a c
+transitive : (a b c : ℕ) → a < 2 → b < 2 → c < 2 → FlowsTo table a b → FlowsTo table b c →
+    FlowsTo table a c
 transitive zero b zero x y z first second = refl
 transitive zero b (suc zero) x y z first second = refl
 transitive (suc zero) zero c x y z first second = absurd (false≢true first)
@@ -63,16 +66,72 @@ is_lattice = record {
   lattice = record {
     apart = two_points (IsApart (FlowsTo table))
         (λ h k. refl) (λ h k. absurd (false≢true k)) (λ h k. absurd (false≢true h)) (λ h k. refl);
-    joins = two_points (HasJoin 2 (FlowsTo table))
-        (0, record { is_point = omega arith; above_first = refl; above_second = refl; least = λ d below h k. h })
-        (1, record { is_point = omega arith; above_first = refl; above_second = refl; least = λ d below h k. k })
-        (1, record { is_point = omega arith; above_first = refl; above_second = refl; least = λ d below h k. h })
-        (1, record { is_point = omega arith; above_first = refl; above_second = refl; least = λ d below h k. h });
-    meets = two_points (HasMeet 2 (FlowsTo table))
-        (0, record { is_point = omega arith; below_first = refl; below_second = refl; greatest = λ d below h k. h })
-        (0, record { is_point = omega arith; below_first = refl; below_second = refl; greatest = λ d below h k. h })
-        (0, record { is_point = omega arith; below_first = refl; below_second = refl; greatest = λ d below h k. k })
-        (1, record { is_point = omega arith; below_first = refl; below_second = refl; greatest = λ d below h k. h });
+    joins = two_points (HasJoin 2 (FlowsTo table)) (
+      0,
+      record {
+        is_point = omega arith;
+        above_first = refl;
+        above_second = refl;
+        least = λ d below h k. h;
+      },
+    ) (
+      1,
+      record {
+        is_point = omega arith;
+        above_first = refl;
+        above_second = refl;
+        least = λ d below h k. k;
+      },
+    ) (
+      1,
+      record {
+        is_point = omega arith;
+        above_first = refl;
+        above_second = refl;
+        least = λ d below h k. h;
+      },
+    ) (
+      1,
+      record {
+        is_point = omega arith;
+        above_first = refl;
+        above_second = refl;
+        least = λ d below h k. h;
+      },
+    );
+    meets = two_points (HasMeet 2 (FlowsTo table)) (
+      0,
+      record {
+        is_point = omega arith;
+        below_first = refl;
+        below_second = refl;
+        greatest = λ d below h k. h;
+      },
+    ) (
+      0,
+      record {
+        is_point = omega arith;
+        below_first = refl;
+        below_second = refl;
+        greatest = λ d below h k. h;
+      },
+    ) (
+      0,
+      record {
+        is_point = omega arith;
+        below_first = refl;
+        below_second = refl;
+        greatest = λ d below h k. k;
+      },
+    ) (
+      1,
+      record {
+        is_point = omega arith;
+        below_first = refl;
+        below_second = refl;
+        greatest = λ d below h k. h;
+      },
+    );
   };
 }
 
@@ -98,7 +157,9 @@ turns_checked = record {
   is_sound = refl;
   admitted = record { unbroken = refl; ordered = (3 ∷ [], refl) };
   lattice = is_lattice;
-  maps = All-cons IsGood one_range (two_ranges ∷ []) one_is_map (All-cons IsGood two_ranges [] two_is_map (All-nil IsGood));
+  maps =
+      All-cons IsGood one_range (two_ranges ∷ []) one_is_map
+      (All-cons IsGood two_ranges [] two_is_map (All-nil IsGood));
 }
 
 -- ---- its obligations are valid
@@ -120,14 +181,24 @@ turn_step truth = record { place = at 3 19; condition = named 0 (at 3 14); truth
 
 abbrev obligation : Bool → ℕ → Obligation
 obligation truth read =
-    record { facts = []; path = turn_step truth ∷ []; right = Some (at 3 10); reads = 0 ∷ read ∷ []; goal = flow 3 Now }
+    record {
+      facts = [];
+      path = turn_step truth ∷ [];
+      right = Some (at 3 10);
+      reads = 0 ∷ read ∷ [];
+      goal = flow 3 Now;
+    }
 
 turn_fits : (o : Obligation) (v : Valuation) (f : Falsifies turns v o) → f.now 0 < 2
-turn_fits o v f = all_contained (λ s. f.now s < 2 ^ signal_width turns.signals s) (flat_system turns).signals f.settled.fits 0
+turn_fits o v f =
+    all_contained (λ s. f.now s < 2 ^ signal_width turns.signals s) (flat_system turns).signals
+    f.settled.fits 0
     (Contains-head 0 (1 ∷ 2 ∷ 3 ∷ []))
 
-turn_is : (truth : Bool) (read : ℕ) (v : Valuation) (f : Falsifies turns v (obligation truth read)) → is_true (f.now 0 % 2) ≡ truth
-turn_is truth read v f = all_contained (λ (step : StepForm). is_true_in turns.signals f.now step.condition ≡ step.truth)
+turn_is : (truth : Bool) (read : ℕ) (v : Valuation)
+    (f : Falsifies turns v (obligation truth read)) → is_true (f.now 0 % 2) ≡ truth
+turn_is truth read v f =
+    all_contained (λ (step : StepForm). is_true_in turns.signals f.now step.condition ≡ step.truth)
     (turn_step truth ∷ []) f.path (turn_step truth) (Contains-head (turn_step truth) [])
 
 -- the label of a point does not flow to the row of the turn
@@ -137,24 +208,34 @@ Stays point turn = IsFalse (flow_test table point (row_of (map_of maps 0) turn).
 -- where the turn is 1, turn and b flow to H
 first_valid : IsValid turns (obligation true 2)
 first_valid v f =
-    let one = ap (λ (e : Environment ℕ). e 0) f.in_frame ∙ one_bit (f.now 0) (turn_fits (obligation true 2) v f) (turn_is true 2 v f) in
+    let one = ap (λ (e : Environment ℕ). e 0) f.in_frame
+    ∙ one_bit (f.now 0) (turn_fits (obligation true 2) v f) (turn_is true 2 v f) in
     let stays = f.fails in
     ⊎_elim
-    (λ is. false≢true (sym (subst (Stays 0) one (subst (λ t. IsFalse ((flat_system turns).flows ((flat_system turns).label t f.now)
+    (λ is.
+    false≢true (sym (subst (Stays 0) one
+    (subst (λ t. IsFalse ((flat_system turns).flows ((flat_system turns).label t f.now)
     ((flat_system turns).label 3 f.there))) (sym is) stays.2))))
-    (λ later. false≢true (sym (subst (Stays 1) one (subst (λ t. IsFalse ((flat_system turns).flows ((flat_system turns).label t f.now)
+    (λ later. false≢true
+    (sym (subst (Stays 1) one
+    (subst (λ t. IsFalse ((flat_system turns).flows ((flat_system turns).label t f.now)
     ((flat_system turns).label 3 f.there))) (sym (only 2 stays.0 later)) stays.2))))
     (Contains-cases 0 (2 ∷ []) stays.0 stays.1)
 
 -- where it is 0, turn and a flow to L
 second_valid : IsValid turns (obligation false 1)
 second_valid v f =
-    let none = ap (λ (e : Environment ℕ). e 0) f.in_frame ∙ no_bit (f.now 0) (turn_fits (obligation false 1) v f) (turn_is false 1 v f) in
+    let none = ap (λ (e : Environment ℕ). e 0) f.in_frame
+    ∙ no_bit (f.now 0) (turn_fits (obligation false 1) v f) (turn_is false 1 v f) in
     let stays = f.fails in
     ⊎_elim
-    (λ is. false≢true (sym (subst (Stays 0) none (subst (λ t. IsFalse ((flat_system turns).flows ((flat_system turns).label t f.now)
+    (λ is.
+    false≢true (sym (subst (Stays 0) none
+    (subst (λ t. IsFalse ((flat_system turns).flows ((flat_system turns).label t f.now)
     ((flat_system turns).label 3 f.there))) (sym is) stays.2))))
-    (λ later. false≢true (sym (subst (Stays 0) none (subst (λ t. IsFalse ((flat_system turns).flows ((flat_system turns).label t f.now)
+    (λ later. false≢true
+    (sym (subst (Stays 0) none
+    (subst (λ t. IsFalse ((flat_system turns).flows ((flat_system turns).label t f.now)
     ((flat_system turns).label 3 f.there))) (sym (only 1 stays.0 later)) stays.2))))
     (Contains-cases 0 (1 ∷ []) stays.0 stays.1)
 

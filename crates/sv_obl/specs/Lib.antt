@@ -1,4 +1,5 @@
 pub mod Exchange
+pub mod Answers
 pub mod Limits
 pub mod ListLines
 pub mod Nodes
@@ -6,6 +7,8 @@ pub mod Noninterference
 pub mod Obligations
 pub mod PathValues
 pub mod Paths
+pub mod Routes
+pub mod Trails
 pub mod Validity
 pub mod Wanted
 pub mod Views

@@ -1,5 +1,6 @@
 -- How many obligations a design may have (this project's profile).
-use Rattle.std.specs.Prelude.{ℕ, ◌+◌, nat_lt, if◌then◌else◌, List, [], ◌∷◌, length, flat_map, Option, Some, None}
+use Rattle.std.specs.Prelude.{ℕ, ◌+◌, nat_lt, if◌then◌else◌, List, [], ◌∷◌, length, flat_map}
+use Rattle.std.specs.Prelude.{Option, Some, None}
 use Rattle.std.specs.List.{list_any}
 use Rattle.sv_flat.specs.Design.{ProcessForm, FlatDesign}
 use Rattle.sv_flat.specs.Processes.{signal_numbers, drivers}
@@ -18,13 +19,16 @@ pub data Excess : Type 0 where
 
 abbrev pub target_paths : FlatDesign → (target : ℕ) → List Path
 target_paths design s =
-    flat_map (λ (p : ProcessForm). paths design.signals s p.kind p.body) (drivers (processes_of design) s)
+    flat_map (λ (p : ProcessForm).
+    paths design.signals s p.kind p.body) (drivers (processes_of design) s)
 
 -- The first limit that is passed by the targets, where those before them have so many obligations:
--- for each target 702 is asked first, then 712, then the sum; the obligations of selectors come last.
+-- for each target 702 is asked first, then 712, then the sum; the obligations of selectors come
+-- last.
 abbrev pub first_excess : FlatDesign → (obligations : ℕ) → (targets : List ℕ) → Option Excess
 first_excess design total [] =
-    if nat_lt 65536 (total + length (flat_map (selector_obligations [] design) (signal_numbers design)))
+    if nat_lt 65536 (total + length
+    (flat_map (selector_obligations [] design) (signal_numbers design)))
     then Some many_obligations
     else None
 first_excess design total (s ∷ targets) =

@@ -1,5 +1,6 @@
 -- What `secv list` prints: a line for each obligation (this project's profile).
-use Rattle.std.specs.Prelude.{ℕ, ◌+◌, if◌then◌else◌, List, [], ◌∷◌, ◌++◌, map, flat_map, codes, decimal, Option, Some, None}
+use Rattle.std.specs.Prelude.{ℕ, ◌+◌, if◌then◌else◌, List, [], ◌∷◌, ◌++◌, map, flat_map, codes}
+use Rattle.std.specs.Prelude.{decimal, Option, Some, None}
 use Rattle.sv_num.specs.declared.faults.Place.{Place}
 use Rattle.sv_flat.specs.Design.{SignalForm, FlatDesign}
 use Rattle.sv_flat.specs.Values.{signal_of}
@@ -36,9 +37,11 @@ abbrev pub goal_words : List SignalForm → Obligation → GoalForm → List (Li
 goal_words signals o (flow target frame) =
     name_of signals target ∷ frame_word frame ∷ map step_word o.path
     ++ right_word o.right ∷ codes "reads" ∷ map (name_of signals) o.reads
-goal_words signals o (holds e frame) = codes "invariant" ∷ frame_word frame ∷ right_word o.right ∷ []
+goal_words signals o (holds e frame) =
+    codes "invariant" ∷ frame_word frame ∷ right_word o.right ∷ []
 goal_words signals o (selector s) =
-    name_of signals s ∷ codes "now" ∷ codes "selector" ∷ codes "reads" ∷ map (name_of signals) o.reads
+    name_of signals s ∷ codes "now" ∷ codes "selector" ∷ codes "reads" ∷
+    map (name_of signals) o.reads
 
 abbrev pub list_line : List SignalForm → (number : ℕ) → Obligation → List ℕ
 list_line signals number o = decimal number ++ blanked (goal_words signals o o.goal) ++ codes "\n"
@@ -46,7 +49,8 @@ list_line signals number o = decimal number ++ blanked (goal_words signals o o.g
 -- numbered from this one on
 abbrev pub lines_from : List SignalForm → (number : ℕ) → List Obligation → List ℕ
 lines_from signals number [] = []
-lines_from signals number (o ∷ os) = list_line signals number o ++ lines_from signals (number + 1) os
+lines_from signals number (o ∷ os) =
+    list_line signals number o ++ lines_from signals (number + 1) os
 
 -- the obligations of a design, numbered from 1; it declares no facts
 abbrev pub list_text : FlatDesign → List ℕ

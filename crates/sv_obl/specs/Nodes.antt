@@ -1,6 +1,8 @@
 -- The size of an expression.
 use Rattle.std.specs.Prelude.{ℕ, ◌+◌}
-use Rattle.sv_flat.specs.Design.{TypedTree, typed, NodeTree, constant, read, read_bit, read_part, unary, binary, choice, join, replication, held, held_bit, held_part, mend, slice, TypedTrees, no_parts, more_parts}
+use Rattle.sv_flat.specs.Design.{TypedTree, typed, NodeTree, constant, read, read_bit, read_part}
+use Rattle.sv_flat.specs.Design.{unary, binary, choice, join, replication, held, held_bit}
+use Rattle.sv_flat.specs.Design.{held_part, mend, slice, TypedTrees, no_parts, more_parts}
 
 abbrev mutual
   -- how many nodes an expression has, indices included

@@ -17,12 +17,14 @@ pub record IsChecked (design : FlatDesign) : Type 0 where
   pub lattice : IsLatticeTable design.lattice
   pub maps : All (λ (m : MapRows). IsMap m.first m.second m.rows) design.maps
 
--- any two traces that look alike to a level, and whose every environment meets the facts, have equal
--- views for it at every cycle
+-- any two traces that look alike to a level, and whose every environment meets the facts, have
+-- equal views for it at every cycle
 abbrev pub NoninterferentUnder : (facts : List TypedTree) → FlatDesign → Type 0
 NoninterferentUnder facts design =
-    (level : Point) (start1 start2 : Environment ℕ) (inputs1 inputs2 first second : List (Environment ℕ))
-    → IsTrace (flat_system design) start1 inputs1 first → IsTrace (flat_system design) start2 inputs2 second
+    (level : Point) (start1 start2 : Environment ℕ)
+    (inputs1 inputs2 first second : List (Environment ℕ))
+    → IsTrace (flat_system design) start1 inputs1 first
+    → IsTrace (flat_system design) start2 inputs2 second
     → All (MeetsFacts design facts) first → All (MeetsFacts design facts) second
     → LookAlike (flat_system design) level first second
     → map (view (flat_system design) level) first ≡ map (view (flat_system design) level) second

@@ -1,6 +1,7 @@
 -- The obligations of a design: what must hold of labels so that no level learns more than it may
 -- (SecVerilog, ASPLOS 2015).
-use Rattle.std.specs.Prelude.{ℕ, Bool, false, ◌||◌, not, if◌then◌else◌, List, [], ◌∷◌, ◌++◌, map, filter, flat_map, Option, Some, None}
+use Rattle.std.specs.Prelude.{ℕ, Bool, false, ◌||◌, not, if◌then◌else◌, List, [], ◌∷◌, ◌++◌, map}
+use Rattle.std.specs.Prelude.{filter, flat_map, Option, Some, None}
 use Rattle.std.specs.List.{list_all}
 use Rattle.sv_num.specs.declared.faults.Place.{Place}
 use Rattle.sv_lattice.specs.declared.points.Point.{Point}
@@ -50,7 +51,8 @@ place_of process path = if is_link process.kind then Some process.place else pat
 abbrev pub frame_of : ProcessKind → Frame
 frame_of kind = if is_clocked kind then Next else Now
 
-abbrev pub path_obligation : (facts : List TypedTree) → FlatDesign → ProcessForm → (target : ℕ) → Path → Obligation
+abbrev pub path_obligation : (facts : List TypedTree) → FlatDesign → ProcessForm → (target : ℕ) →
+    Path → Obligation
 path_obligation facts design process s path = record {
   facts = facts;
   path = path.steps;
@@ -60,9 +62,11 @@ path_obligation facts design process s path = record {
 }
 
 -- one for each path through the process that drives the target
-abbrev pub target_obligations : (facts : List TypedTree) → FlatDesign → (target : ℕ) → List Obligation
+abbrev pub target_obligations : (facts : List TypedTree) → FlatDesign → (target : ℕ) →
+    List Obligation
 target_obligations facts design s =
-    flat_map (λ (p : ProcessForm). map (path_obligation facts design p s) (paths design.signals s p.kind p.body))
+    flat_map (λ (p : ProcessForm).
+    map (path_obligation facts design p s) (paths design.signals s p.kind p.body))
     (drivers (processes_of design) s)
 
 -- ---- selectors
@@ -75,7 +79,8 @@ selectors_of (Table map first (Some second)) = first ∷ second ∷ []
 
 -- the label is a point that flows to every row of the map
 abbrev pub flows_to_rows : List ℕ → MapRows → Label → Bool
-flows_to_rows lattice rows (Declared point) = list_all (λ (row : Point). flow_test lattice point.0 row.0) rows.rows
+flows_to_rows lattice rows (Declared point) =
+    list_all (λ (row : Point). flow_test lattice point.0 row.0) rows.rows
 flows_to_rows lattice rows (Table map first second) = false
 
 -- the map of a label
@@ -86,13 +91,16 @@ rows_of design (Table map first second) = map_of design.maps map
 -- whatever the selector's value is, its label flows to the label that it selects
 abbrev pub always_flows : FlatDesign → (signal selector : ℕ) → Bool
 always_flows design s t =
-    flows_to_rows design.lattice (rows_of design (signal_of design.signals s).label) (signal_of design.signals t).label
+    flows_to_rows design.lattice (rows_of design (signal_of design.signals s).label)
+    (signal_of design.signals t).label
 
 abbrev pub selector_obligation : (facts : List TypedTree) → (signal selector : ℕ) → Obligation
-selector_obligation facts s t = record { facts = facts; path = []; right = None; reads = t ∷ []; goal = selector s }
+selector_obligation facts s t =
+    record { facts = facts; path = []; right = None; reads = t ∷ []; goal = selector s }
 
 -- one for each selector of the signal's label that does not always flow
-abbrev pub selector_obligations : (facts : List TypedTree) → FlatDesign → (signal : ℕ) → List Obligation
+abbrev pub selector_obligations : (facts : List TypedTree) → FlatDesign → (signal : ℕ) →
+    List Obligation
 selector_obligations facts design s =
     map (selector_obligation facts s)
     (filter (λ t. not (always_flows design s t)) (selectors_of (signal_of design.signals s).label))

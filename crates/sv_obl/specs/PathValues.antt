@@ -12,10 +12,13 @@ is_true_in signals environment e = is_true (value signals environment e)
 
 -- each condition has its truth in the environment
 abbrev pub Holds : List SignalForm → Environment ℕ → List StepForm → Type 0
-Holds signals environment steps = All (λ (step : StepForm). is_true_in signals environment step.condition ≡ step.truth) steps
+Holds signals environment steps =
+    All (λ (step : StepForm). is_true_in signals environment step.condition ≡ step.truth) steps
 
 -- of all paths of the target through a process, this one alone is taken in the environment
-pub record IsTaken (signals : List SignalForm) (environment : Environment ℕ) (target : ℕ) (kind : ProcessKind) (body : FlatStatement) (path : Path) : Type 0 where
+pub record IsTaken (signals : List SignalForm) (environment : Environment ℕ) (target : ℕ)
+    (kind : ProcessKind) (body : FlatStatement) (path : Path) : Type 0 where
   pub among : Contains (paths signals target kind body) path
   pub holds : Holds signals environment path.steps
-  pub alone : (other : Path) → Contains (paths signals target kind body) other → Holds signals environment other.steps → other ≡ path
+  pub alone : (other : Path) → Contains (paths signals target kind body) other →
+      Holds signals environment other.steps → other ≡ path

@@ -15,38 +15,48 @@ ghost use Rattle.sv_system.specs.System.{Environment, Fits, IsStill, Noninterfer
 
 /// In a settled environment exactly one path of a target is taken.
 pub fn exactly_one_path_is_taken()
-    ensures { (design : FlatDesign) → IsChecked design → (p : ProcessForm) → Contains (processes_of design) p
+    ensures { (design : FlatDesign) → IsChecked design → (p : ProcessForm)
+        → Contains (processes_of design) p
         → (target : ℕ) → IsTrue (assigns p.body target)
-        → (environment : Environment ℕ) → Fits (flat_system design) environment → IsStill (flat_system design) environment
+        → (environment : Environment ℕ) → Fits (flat_system design) environment
+        → IsStill (flat_system design) environment
         → (path : Path) × IsTaken design.signals environment target p.kind p.body path }
 {}
 
 /// There a combinational signal has the value of the result of the path that is taken.
 pub fn taken_path_gives_value()
-    ensures { (design : FlatDesign) → IsChecked design → (p : ProcessForm) → Contains (processes_of design) p
+    ensures { (design : FlatDesign) → IsChecked design → (p : ProcessForm)
+        → Contains (processes_of design) p
         → IsFalse (is_clocked p.kind) → (target : ℕ) → IsTrue (assigns p.body target)
-        → (environment : Environment ℕ) → Fits (flat_system design) environment → IsStill (flat_system design) environment
+        → (environment : Environment ℕ) → Fits (flat_system design) environment
+        → IsStill (flat_system design) environment
         → (path : Path) → IsTaken design.signals environment target p.kind p.body path
         → environment target ≡ value design.signals environment path.result }
 {}
 
 /// And a register's next value is that of the result of the path that is taken.
 pub fn taken_path_gives_next_value()
-    ensures { (design : FlatDesign) → IsChecked design → (p : ProcessForm) → Contains (processes_of design) p
+    ensures { (design : FlatDesign) → IsChecked design → (p : ProcessForm)
+        → Contains (processes_of design) p
         → IsTrue (is_clocked p.kind) → (target : ℕ) → IsTrue (assigns p.body target)
         → (environment : Environment ℕ) → Fits (flat_system design) environment
         → (path : Path) → IsTaken design.signals environment target p.kind p.body path
-        → (flat_system design).next environment target ≡ value design.signals environment path.result }
+        → (flat_system design).next environment target ≡
+        value design.signals environment path.result }
 {}
 
-/// Where all obligations of a design are valid with some facts in them, any two traces that look alike to a level, and whose every
-/// environment meets the facts, have equal views for it at every cycle.
+/// Where all obligations of a design are valid with some facts in them, any two traces that look
+/// alike to a level, and whose every environment meets the facts, have equal views for it at every
+/// cycle.
 pub fn valid_obligations_mean_noninterference()
-    ensures { (facts : List TypedTree) → (design : FlatDesign) → IsChecked design → AllValid facts design
+    ensures { (facts : List TypedTree) → (design : FlatDesign) → IsChecked design
+        → AllValid facts design
         → NoninterferentUnder facts design }
 {}
 
-/// Where all obligations of a design are valid, any two traces that look alike to a level have equal views for it at every cycle.
+/// Where all obligations of a design are valid, any two traces that look alike to a level have
+/// equal views for it at every cycle.
 pub fn valid_designs_are_noninterferent()
-    ensures { (design : FlatDesign) → IsChecked design → AllValid [] design → Noninterferent (flat_system design) }
+    ensures { (design : FlatDesign) → IsChecked design → AllValid [] design →
+        Noninterferent (flat_system design) }
 {}

@@ -1,7 +1,9 @@
 // The lines of `secv list`.
-ghost use Rattle.std.specs.Prelude.{◌≡◌, ℕ, ◌<◌, ◌∷◌, [], ◌++◌, map, length, All, codes, decimal, IfOk, OnOk};
+ghost use Rattle.std.specs.Prelude.{◌≡◌, ℕ, ◌<◌, ◌∷◌, [], ◌++◌, map, length, All, codes, decimal};
+ghost use Rattle.std.specs.Prelude.{IfOk, OnOk};
 ghost use Rattle.sv_flat.specs.ByNumber.{signal_forms};
-ghost use Rattle.sv_obl.specs.ListLines.{blanked, name_of, place_text, frame_word, step_word, right_word, goal_words, list_line as line_of};
+ghost use Rattle.sv_obl.specs.ListLines.{blanked, name_of, place_text, frame_word, step_word};
+ghost use Rattle.sv_obl.specs.ListLines.{right_word, goal_words, list_line as line_of};
 ghost use Rattle.sv_obl.specs.Obligations.{flow, selector};
 ghost use Rattle.sv_obl.specs.Views.{step_form, goal_form, number_of, obligation_of, IsAmong};
 
@@ -12,7 +14,8 @@ use std::alloc::{AllocError, Global};
 use sv_flat::{SigId, Signal};
 use sv_num::Place;
 
-/// The line of an obligation with its number, as `secv list` prints it. The obligation names signals of the list alone.
+/// The line of an obligation with its number, as `secv list` prints it. The obligation names
+/// signals of the list alone.
 pub fn list_line(
     alloc: Global,
     signals: &[Signal],
@@ -20,7 +23,8 @@ pub fn list_line(
     query: &Query,
 ) -> Result<Vec<u8>, AllocError>
     requires among { IsAmong (length signals.now) (obligation_of query.now) }
-    ensures { IfOk result (λ line. line.items ≡ line_of (signal_forms signals.now) number (obligation_of query.now)) }
+    ensures { IfOk result (λ line.
+        line.items ≡ line_of (signal_forms signals.now) number (obligation_of query.now)) }
 {
     let mut line = Vec::new(alloc);
     push_number(&mut line, number)?;
@@ -33,7 +37,8 @@ pub fn list_line(
 fn push_goal(line: &mut Vec<u8>, signals: &[Signal], query: &Query) -> Result<(), AllocError>
     requires among { IsAmong (length signals.now) (obligation_of query.now) }
     ensures { OnOk result (line.new.items ≡ line.old.items
-        ++ blanked (goal_words (signal_forms signals.now) (obligation_of query.now) (goal_form query.now.goal))) }
+        ++ blanked (goal_words (signal_forms signals.now) (obligation_of query.now)
+        (goal_form query.now.goal))) }
 {
     match &query.goal {
         Goal::Flow { target, frame } => push_flow(line, signals, *target, *frame, query),
@@ -53,7 +58,8 @@ fn push_flow(
     requires target { target.0 < length signals.now }
     requires reads { All (λ s. s < length signals.now) (map number_of query.now.reads.items) }
     ensures { OnOk result (line.new.items ≡ line.old.items
-        ++ blanked (goal_words (signal_forms signals.now) (obligation_of query.now) (flow target.0 frame))) }
+        ++ blanked (goal_words (signal_forms signals.now) (obligation_of query.now)
+        (flow target.0 frame))) }
 {
     push_name(line, signals, target)?;
     push_word(line, frame_bytes(frame))?;
@@ -81,7 +87,8 @@ fn push_selector(
     requires signal { signal.0 < length signals.now }
     requires reads { All (λ s. s < length signals.now) (map number_of query.now.reads.items) }
     ensures { OnOk result (line.new.items ≡ line.old.items
-        ++ blanked (goal_words (signal_forms signals.now) (obligation_of query.now) (selector signal.0))) }
+        ++ blanked (goal_words (signal_forms signals.now) (obligation_of query.now)
+        (selector signal.0))) }
 {
     push_name(line, signals, signal)?;
     push_word(line, b"now")?;
@@ -117,7 +124,9 @@ fn push_word(line: &mut Vec<u8>, word: &[u8]) -> Result<(), AllocError>
 
 fn push_name(line: &mut Vec<u8>, signals: &[Signal], signal: SigId) -> Result<(), AllocError>
     requires known { signal.0 < length signals.now }
-    ensures { OnOk result (line.new.items ≡ line.old.items ++ codes " " ++ name_of (signal_forms signals.now) signal.0) }
+    ensures { OnOk result
+        (line.new.items ≡ line.old.items ++ codes " "
+        ++ name_of (signal_forms signals.now) signal.0) }
 {
     push_word(line, signals[signal.0 as usize].name.bytes())
 }
@@ -132,7 +141,8 @@ fn push_place(line: &mut Vec<u8>, place: Place) -> Result<(), AllocError>
 }
 
 fn push_step(line: &mut Vec<u8>, step: &Step) -> Result<(), AllocError>
-    ensures { OnOk result (line.new.items ≡ line.old.items ++ codes " " ++ step_word (step_form step.now)) }
+    ensures { OnOk result
+        (line.new.items ≡ line.old.items ++ codes " " ++ step_word (step_form step.now)) }
 {
     let sign: &[u8] = if step.truth { b"+" } else { b"-" };
     push_word(line, sign)?;
@@ -141,7 +151,8 @@ fn push_step(line: &mut Vec<u8>, step: &Step) -> Result<(), AllocError>
 }
 
 fn push_steps(line: &mut Vec<u8>, steps: &[Step]) -> Result<(), AllocError>
-    ensures { OnOk result (line.new.items ≡ line.old.items ++ blanked (map step_word (map step_form steps.now))) }
+    ensures { OnOk result
+        (line.new.items ≡ line.old.items ++ blanked (map step_word (map step_form steps.now))) }
 {
     'steps: for step in steps {
         push_step(line, step)?;
@@ -167,7 +178,8 @@ fn push_right(line: &mut Vec<u8>, right: Option<Place>) -> Result<(), AllocError
 fn push_reads(line: &mut Vec<u8>, signals: &[Signal], reads: &[SigId]) -> Result<(), AllocError>
     requires known { All (λ s. s < length signals.now) (map number_of reads.now) }
     ensures { OnOk result (line.new.items ≡ line.old.items
-        ++ blanked (codes "reads" ∷ map (name_of (signal_forms signals.now)) (map number_of reads.now))) }
+        ++ blanked (codes "reads" ∷ map (name_of (signal_forms signals.now))
+        (map number_of reads.now))) }
 {
     push_word(line, b"reads")?;
     'reads: for read in reads {

@@ -22,7 +22,8 @@ pub enum Goal {
     Selector { signal: SigId },
 }
 
-/// An obligation: where the facts are not 0 and the conditions of the path have their truth, the goal is met.
+/// An obligation: where the facts are not 0 and the conditions of the path have their truth, the
+/// goal is met.
 #[derive(Debug, Drop)]
 pub struct Query {
     pub facts: Vec<FExpr>,

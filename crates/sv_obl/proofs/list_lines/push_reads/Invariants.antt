@@ -7,4 +7,5 @@ use Rattle.sv_obl.proofs.list_lines.push_reads.Given as goal
 
 abbrev pub invariant-reads : goal.invariant-reads
 invariant-reads l = l.line.items ≡ l.fn.line.items
-    ++ blanked (codes "reads" ∷ map (name_of (signal_forms l.signals)) (map number_of (take l.read-index l.reads)))
+    ++ blanked (codes "reads" ∷ map (name_of (signal_forms l.signals))
+    (map number_of (take l.read-index l.reads)))

@@ -1,11 +1,11 @@
 // The line of an obligation, once with ample memory.
 
-use crate::{Frame, Goal, Query, Step, list_line};
 use std::alloc::{AllocError, Global};
 use std::test::Fail;
 use sv_flat::{FExpr, FNode, SigId, SigKind, Signal};
 use sv_lattice::{Label, Point};
 use sv_num::{Name, Place};
+use sv_obl::{Frame, Goal, Query, Step, list_line};
 
 const AT: Place = Place { line: 5, column: 5 };
 

@@ -1,0 +1,159 @@
+-- The walk through all targets, one after the other.
+use Rattle.std.proofs.Common.{◌≡◌, ℕ, zero, suc, ◌+◌, ◌<◌, ◌≤◌, Bool, cond, nat_lt, List, []}
+use Rattle.std.proofs.Common.{◌∷◌, ◌++◌, length, map, flat_map, get_or, drop, Option, Some, None}
+use Rattle.std.proofs.Common.{refl, sym, ap, ap₂, subst, ◌∙◌, append_assoc, append-nil, add-one}
+use Rattle.std.proofs.Common.{length-append, arith, le-ltb, All}
+use Rattle.std.proofs.Math.Seq.{drop-cons}
+use Rattle.std.specs.Prelude.{Contains, IsTrue}
+use Rattle.std.specs.List.{list_any}
+use Rattle.std.proofs.lemmas.List.{map-append}
+use Rattle.std.proofs.lemmas.List.Elements.{Contains-get_or}
+use Rattle.sv_system.proofs.Lists.{Contains-map}
+use Rattle.sv_flat.specs.Design.{ProcessForm, FlatDesign}
+use Rattle.sv_flat.specs.Soundness.{sound, is_signal}
+use Rattle.sv_flat.specs.Admission.{IsAdmitted}
+use Rattle.sv_flat.specs.Clocks.{processes_of}
+use Rattle.sv_flat.specs.Processes.{drivers, is_clocked}
+use Rattle.sv_flat.specs.SignalLists.{driver_of}
+use Rattle.sv_obl.specs.declared.queries.Query.{Query}
+use Rattle.sv_obl.specs.declared.trails.Trail.{Trail}
+use Rattle.sv_obl.specs.Answers.{target_excess, excess_at}
+use Rattle.sv_obl.specs.Limits.{Excess, many_paths, large_path, many_obligations, target_paths}
+use Rattle.sv_obl.specs.Obligations.{Obligation, path_obligation, target_obligations}
+use Rattle.sv_obl.specs.Paths.{Path, paths}
+use Rattle.sv_obl.specs.Routes.{Route, open_route, routes_before, route_obligation}
+use Rattle.sv_obl.specs.Routes.{names_on}
+use Rattle.sv_obl.specs.Trails.{route_of, routes_of}
+use Rattle.sv_obl.specs.Views.{obligation_of}
+use Rattle.sv_obl.proofs.OneDriver.{no_driver, one_driver_at}
+use Rattle.sv_obl.proofs.RouteObligations.{target_is, target_large, target_count}
+use Rattle.sv_obl.proofs.RouteObligations.{target_below}
+
+-- the obligation of one more path
+pub next_query : (become : Route → Obligation) (trails : List Trail) (i : ℕ) (x : Trail)
+    → i < length trails → x ≡ get_or trails i x
+    → (queries new : List Query) (q : Query) (whole : List Obligation)
+    → new ≡ queries ++ q ∷ [] → obligation_of q ≡ become (route_of x)
+    → map obligation_of queries ++ map become (routes_of (drop i trails)) ≡ whole
+    → map obligation_of new ++ map become (routes_of (drop (i + 1) trails)) ≡ whole
+next_query become trails i x inside is queries new q whole gains same here =
+    ap (λ qs. map obligation_of qs ++ map become (routes_of (drop (i + 1) trails))) gains
+    ∙ ap (λ os. os ++ map become (routes_of (drop (i + 1) trails)))
+    (map-append obligation_of queries (q ∷ []))
+    ∙ append_assoc (map obligation_of queries) (obligation_of q ∷ [])
+    (map become (routes_of (drop (i + 1) trails)))
+    ∙ ap₂ (λ o k. map obligation_of queries ++ o ∷ map become (routes_of (drop k trails)))
+    same (add-one i)
+    ∙ ap (λ t. map obligation_of queries
+    ++ become (route_of t) ∷ map become (routes_of (drop (suc i) trails))) is
+    ∙ ap (λ ts. map obligation_of queries ++ map become (routes_of ts))
+    (sym (drop-cons trails i x inside))
+    ∙ here
+
+pub trail_among : (trails : List Trail) (i : ℕ) (x : Trail) → i < length trails
+    → x ≡ get_or trails i x → Contains (routes_of trails) (route_of x)
+trail_among trails i x inside is =
+    Contains-map route_of trails x
+    (subst (Contains trails) (sym is) (Contains-get_or trails i x inside))
+
+pub length_mapped : {X Y : Type 0} (f : X → Y) (xs : List X) → length (map f xs) ≡ length xs
+length_mapped f [] = refl
+length_mapped f (x ∷ xs) = ap suc (length_mapped f xs)
+
+mapped_at : {X Y : Type 0} (f : X → Y) (xs : List X) (k : ℕ) (x : X) →
+    get_or (map f xs) k (f x) ≡ f (get_or xs k x)
+mapped_at f [] k x = refl
+mapped_at f (y ∷ xs) zero x = refl
+mapped_at f (y ∷ xs) (suc k) x = mapped_at f xs k x
+
+-- the plain form of an element by its place
+pub form_at : {X Y : Type 0} (f : X → Y) (xs : List X) (ys : List Y) (k : ℕ) (x : X)
+    → x ≡ get_or xs k x → map f xs ≡ ys → get_or ys k (f x) ≡ f x
+form_at f xs ys k x is same =
+    ap (λ zs. get_or zs k (f x)) (sym same) ∙ mapped_at f xs k x ∙ ap f (sym is)
+
+-- ---- one target
+
+module _ (design : FlatDesign) (s : ℕ) where
+  path_count : (ps : List ProcessForm)
+      → length (flat_map (λ (p : ProcessForm).
+      map (path_obligation [] design p s) (paths design.signals s p.kind p.body)) ps)
+      ≡ length (flat_map (λ (p : ProcessForm). paths design.signals s p.kind p.body) ps)
+  path_count [] = refl
+  path_count (p ∷ ps) =
+      let found = paths design.signals s p.kind p.body in
+      length-append (map (path_obligation [] design p s) found) _
+      ∙ ap₂ (λ a b. a + b) (length_mapped found) (path_count ps)
+      ∙ sym (length-append found _)
+    where
+      length_mapped : (qs : List Path) →
+          length (map (path_obligation [] design p s) qs) ≡ length qs
+      length_mapped [] = refl
+      length_mapped (q ∷ qs) = ap suc (length_mapped qs)
+
+  -- a target has as many obligations as paths
+  pub obligation_count :
+      length (target_obligations [] design s) ≡ length (target_paths design s)
+  obligation_count = path_count (drivers (processes_of design) s)
+
+module _ (design : FlatDesign) (is_sound : IsTrue (sound design)) (admitted : IsAdmitted design)
+    (s : ℕ) (inside : s < length design.signals) (known : IsTrue (is_signal design.signals s)) where
+  pub none_listed : driver_of design s ≡ None → target_obligations [] design s ≡ []
+  none_listed none = ap (flat_map (λ (p : ProcessForm).
+      map (path_obligation [] design p s) (paths design.signals s p.kind p.body)))
+      (no_driver design is_sound admitted s known none)
+
+  -- the limits by the number of paths and whether one is large
+  abbrev excess_of : (total count : ℕ) → Bool → Option Excess
+  excess_of total count large =
+      cond (nat_lt 4096 count) (Some (many_paths s))
+      (cond large (Some (large_path s))
+      (cond (nat_lt 65536 (total + count)) (Some many_obligations) None))
+
+  pub none_passed : driver_of design s ≡ None → (total : ℕ) → total ≤ 65536 →
+      excess_at design total s ≡ None
+  none_passed none total few =
+      let no_paths : target_paths design s ≡ [] = ap (flat_map (λ (p : ProcessForm).
+      paths design.signals s p.kind p.body))
+      (no_driver design is_sound admitted s known none) in
+      ap (λ found. excess_of total (length found) (list_any (λ (path : Path).
+      nat_lt 65536 path.nodes) found)) no_paths
+      ∙ ap (λ b. cond b (Some many_obligations) None) (le-ltb 65536 (total + 0) (omega arith))
+
+  -- ---- a target that a process drives
+
+  module _ (k : ℕ) (p : ProcessForm) (driven : driver_of design s ≡ Some k)
+      (there : get_or (processes_of design) k p ≡ p) where
+    abbrev routes : List Route
+    routes = routes_before design.signals s p.body open_route
+
+    at : Contains (processes_of design) p
+    at = subst (Contains (processes_of design)) there
+        (one_driver_at design is_sound admitted s known k p driven).0
+
+    alone : drivers (processes_of design) s ≡ p ∷ []
+    alone = (one_driver_at design is_sound admitted s known k p driven).2
+        ∙ ap (λ x. x ∷ []) there
+
+    paths_are : target_paths design s ≡ paths design.signals s p.kind p.body
+    paths_are = ap (flat_map (λ (x : ProcessForm). paths design.signals s x.kind x.body)) alone
+        ∙ append-nil (paths design.signals s p.kind p.body)
+
+    pub excess_same : (total : ℕ) → target_excess s total routes ≡ excess_at design total s
+    excess_same total = sym (
+        ap (λ found. excess_of total (length found) (list_any (λ (path : Path).
+        nat_lt 65536 path.nodes) found)) paths_are
+        ∙ ap₂ (excess_of total) (target_count design p s inside is_sound admitted at)
+        (target_large design p s inside is_sound admitted at))
+
+    pub listed_same : map (route_obligation (length design.signals) p s) routes
+        ≡ target_obligations [] design s
+    listed_same = sym (
+        ap (flat_map (λ (x : ProcessForm).
+        map (path_obligation [] design x s) (paths design.signals s x.kind x.body))) alone
+        ∙ append-nil (map (path_obligation [] design p s) (paths design.signals s p.kind p.body))
+        ∙ target_is design p s inside is_sound admitted at)
+
+    pub names_within : (route : Route) → Contains routes route
+        → All (λ t. t < length design.signals) (names_on (is_clocked p.kind) s route)
+    names_within = target_below design p s inside is_sound admitted at

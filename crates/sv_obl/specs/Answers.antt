@@ -1,0 +1,82 @@
+-- How the walk through all targets answers.
+use Rattle.std.specs.Prelude.{◌≡◌, ℕ, ◌+◌, Bool, nat_lt, if◌then◌else◌, List, [], length, map}
+use Rattle.std.specs.Prelude.{filter, flat_map, not}
+use Rattle.std.specs.Prelude.{Option, Some, None, Result, Ok, Err}
+use Rattle.std.specs.List.{list_any}
+use Rattle.std.specs.Global.{Vec}
+use Rattle.sv_flat.specs.Processes.{signal_numbers}
+use Rattle.sv_obl.specs.declared.queries.Query.{Query}
+use Rattle.sv_lattice.specs.Labels.{map_of}
+use Rattle.sv_flat.specs.Values.{signal_of}
+use Rattle.sv_obl.specs.Obligations.{Obligation, target_obligations, obligations}
+use Rattle.sv_obl.specs.Obligations.{selector_obligation, flows_to_rows, rows_of, selectors_of}
+use Rattle.sv_lattice.specs.declared.labels.Label.{Label}
+use Rattle.sv_obl.specs.Views.{obligation_of}
+use Rattle.sv_obl.specs.declared.faults.OblFault.{OblFault}
+use Rattle.sv_obl.specs.declared.faults.OblFault.TheVariants.{Paths, Large, Many, OutOfMemory}
+use Rattle.sv_flat.specs.Design.{FlatDesign}
+use Rattle.sv_obl.specs.Paths.{Path}
+use Rattle.sv_obl.specs.Limits.{target_paths, first_excess, excess}
+use Rattle.sv_obl.specs.Limits.{Excess, many_paths, large_path, many_obligations}
+use Rattle.sv_obl.specs.Routes.{Route, nodes_put}
+
+-- over 65,536 nodes are put into the path
+abbrev pub is_large : Route → Bool
+is_large route = nat_lt 65536 (nodes_put route.puts)
+
+-- the limit that a target passes with its routes, after so many obligations
+abbrev pub target_excess : (target total : ℕ) → List Route → Option Excess
+target_excess s total routes =
+    if nat_lt 4096 (length routes) then Some (many_paths s)
+    else if list_any is_large routes then Some (large_path s)
+    else if nat_lt 65536 (total + length routes) then Some many_obligations
+    else None
+
+-- the fault tells of the limit that is passed
+abbrev pub Told : Option Excess → OblFault → Type 0
+Told passed (Paths s) = passed ≡ Some (many_paths s.0)
+Told passed (Large s) = passed ≡ Some (large_path s.0)
+Told passed Many = passed ≡ Some many_obligations
+Told passed OutOfMemory = Unit {0}
+
+-- an answer where no limit is passed, else a fault that tells of it; memory may run out always
+abbrev pub Answers : {T : Type 0} → Option Excess → Result T OblFault → Type 0
+Answers passed (Ok x) = passed ≡ None
+Answers passed (Err fault) = Told passed fault
+
+-- ---- designs
+
+-- one target's part of the walk, after so many obligations
+abbrev pub excess_at : FlatDesign → (total target : ℕ) → Option Excess
+excess_at design total s =
+    let found = target_paths design s in
+    if nat_lt 4096 (length found) then Some (many_paths s)
+    else if list_any (λ (path : Path). nat_lt 65536 path.nodes) found then Some (large_path s)
+    else if nat_lt 65536 (total + length found) then Some many_obligations
+    else None
+
+-- those of all targets, where selectors are left to ask
+abbrev pub ListsTargets : FlatDesign → Result (Vec Query) OblFault → Type 0
+ListsTargets design (Ok queries) =
+    (map obligation_of queries.items
+    ≡ flat_map (target_obligations [] design) (signal_numbers design))
+    × (first_excess design (length queries.items) [] ≡ excess design)
+ListsTargets design (Err fault) = Told (excess design) fault
+
+-- exactly the obligations of the design where it passes no limit, else the limit that it passes
+abbrev pub Lists : FlatDesign → Result (Vec Query) OblFault → Type 0
+Lists design (Ok queries) =
+    (map obligation_of queries.items ≡ obligations [] design) × (excess design ≡ None)
+Lists design (Err fault) = Told (excess design) fault
+
+-- the obligations of some selectors by a map, for the label of a signal
+abbrev pub asked_of : FlatDesign → (signal map_number : ℕ) → (selectors : List ℕ) → List Obligation
+asked_of design s k selectors =
+    map (selector_obligation [] s) (filter (λ t. not (flows_to_rows design.lattice
+    (map_of design.maps k) (signal_of design.signals t).label)) selectors)
+
+-- those of the selectors of a label
+abbrev pub asked_by : FlatDesign → (signal : ℕ) → Label → List Obligation
+asked_by design s label =
+    map (selector_obligation [] s) (filter (λ t. not (flows_to_rows design.lattice
+    (rows_of design label) (signal_of design.signals t).label)) (selectors_of label))

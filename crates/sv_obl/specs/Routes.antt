@@ -1,0 +1,140 @@
+-- The paths through a process in which no read is an earlier one: no condition and no right side
+-- wants a name, so a path wants its target or nothing.
+use Rattle.std.specs.Prelude.{ℕ, ◌*◌, sum, Bool, true, false, ◌==◌, ◌&&◌, ◌||◌, not}
+use Rattle.std.specs.Prelude.{if◌then◌else◌, List, [], ◌∷◌, ◌++◌, length, map, flat_map}
+use Rattle.std.specs.Prelude.{reverse, slice_get, Option, Some, None, is_none, option_map}
+use Rattle.std.specs.List.{list_any}
+use Rattle.sv_num.specs.declared.faults.Place.{Place}
+use Rattle.sv_flat.specs.Design.{SignalForm, TypedTree, typed, choice, PieceForm, ProcessForm}
+use Rattle.sv_flat.specs.Design.{FlatStatement, nothing, after, assign, branch}
+use Rattle.sv_flat.specs.Assigned.{assigns}
+use Rattle.sv_flat.specs.Processes.{is_clocked}
+use Rattle.sv_flat.specs.Sets.{holds, those}
+use Rattle.sv_flat.specs.Readings.{ReadForm, reads, names_signal}
+use Rattle.sv_obl.specs.Nodes.{nodes_in}
+use Rattle.sv_obl.specs.Obligations.{Obligation, flow, is_link, frame_of}
+use Rattle.sv_obl.specs.Paths.{StepForm, pieces_of, covers, later_place}
+
+-- a right side that was put for the target's name, and how often it counts among the nodes
+pub record Put : Type 0 where
+  pub count : ℕ
+  pub right : TypedTree
+
+-- A path as far back as statements were taken: its conditions, the last in the text first, what was
+-- put for the target's name, the place of the last assignment to it, and whether it is wanted
+-- still.
+pub record Route : Type 0 where
+  pub steps : List StepForm
+  pub puts : List Put
+  pub place : Option Place
+  pub wants : Bool
+
+abbrev pub open_route : Route
+open_route = record { steps = []; puts = []; place = None; wants = true }
+
+-- the route with a condition before it
+abbrev pub behind : StepForm → Route → Route
+behind step route = record {
+  steps = route.steps ++ step ∷ [];
+  puts = route.puts;
+  place = route.place;
+  wants = route.wants;
+}
+
+-- no assignment was taken yet, and this one covers the target whole
+abbrev pub is_all : List SignalForm → (target : ℕ) → List PieceForm → Route → Bool
+is_all signals s pieces route = is_none route.place && covers signals s pieces
+
+-- how often a right side counts
+abbrev pub times_put : List SignalForm → (target : ℕ) → List PieceForm → Route → ℕ
+times_put signals s pieces route =
+    if is_all signals s pieces route then 0 else length (pieces_of s pieces)
+
+-- the place of the first of the pieces that are bits of the target
+abbrev pub first_place : (target : ℕ) → List PieceForm → Option Place
+first_place s pieces =
+    option_map (λ (piece : PieceForm). piece.place) (slice_get (pieces_of s pieces) 0)
+
+-- the route with a right side put in
+abbrev pub with_put : List SignalForm → (target : ℕ) → List PieceForm → (right : TypedTree) →
+    Route → Route
+with_put signals s pieces right route = record {
+  steps = route.steps;
+  puts = route.puts
+      ++ record { count = times_put signals s pieces route; right = right } ∷ [];
+  place = later_place (first_place s pieces) route.place;
+  wants = not (covers signals s pieces);
+}
+
+-- those with each of its ways put in
+abbrev pub with_ways : List SignalForm → (target : ℕ) → List PieceForm → (right : TypedTree) →
+    Route → List Route
+with_ways signals s pieces (typed width signed (choice place c a b)) route =
+    map (behind (record { place = place; condition = c; truth = true }))
+    (with_ways signals s pieces a route)
+    ++ map (behind (record { place = place; condition = c; truth = false }))
+    (with_ways signals s pieces b route)
+with_ways signals s pieces right route = with_put signals s pieces right route ∷ []
+
+-- a right side is split where it is put alone
+abbrev pub with_right : List SignalForm → (target : ℕ) → List PieceForm → (right : TypedTree) →
+    Route → List Route
+with_right signals s pieces right route =
+    if is_all signals s pieces route
+    then with_ways signals s pieces right route
+    else with_put signals s pieces right route ∷ []
+
+-- the routes that a route becomes where a statement is taken before it
+abbrev pub routes_before : List SignalForm → (target : ℕ) → FlatStatement → Route → List Route
+routes_before signals s nothing route = route ∷ []
+routes_before signals s (after first second) route =
+    flat_map (routes_before signals s first) (routes_before signals s second route)
+routes_before signals s (assign pieces place blocking right) route =
+    if assigns (assign pieces place blocking right) s && route.wants
+    then with_right signals s pieces right route
+    else route ∷ []
+routes_before signals s (branch place condition first second) route =
+    if assigns (branch place condition first second) s && route.wants
+    then map (behind (record { place = place; condition = condition; truth = true }))
+    (routes_before signals s first route)
+    ++ map (behind (record { place = place; condition = condition; truth = false }))
+    (routes_before signals s second route)
+    else route ∷ []
+
+-- ---- what a route tells
+
+-- the signals of reads
+abbrev pub signals_of_reads : List ReadForm → List ℕ
+signals_of_reads rs = map (λ (r : ReadForm). r.signal) rs
+
+-- the names in an expression, in textual order
+abbrev pub names_in : List SignalForm → TypedTree → List ℕ
+names_in A t = signals_of_reads (reads A t)
+
+-- the nodes that were put in
+abbrev pub nodes_put : List Put → ℕ
+nodes_put puts = sum (map (λ (put : Put). put.count * nodes_in put.right) puts)
+
+-- at the beginning of a clocked block a target that is wanted still is read
+abbrev pub route_names : List SignalForm → (is_register : Bool) → (target : ℕ) → Route → ℕ → Bool
+route_names signals is_register s route t =
+    list_any (λ (step : StepForm). names_signal signals step.condition t) route.steps
+    || list_any (λ (put : Put). names_signal signals put.right t) route.puts
+    || (is_register && route.wants && (s == t))
+
+-- all names on a route, in the order of its lists
+abbrev pub names_on : (is_register : Bool) → (target : ℕ) → Route → List ℕ
+names_on is_register s route =
+    flat_map (λ (step : StepForm). names_in [] step.condition) route.steps
+    ++ flat_map (λ (put : Put). names_in [] put.right) route.puts
+    ++ (if is_register && route.wants then s ∷ [] else [])
+
+-- the obligation of a route through a process, where there are so many signals
+abbrev pub route_obligation : (count : ℕ) → ProcessForm → (target : ℕ) → Route → Obligation
+route_obligation count process s route = record {
+  facts = [];
+  path = reverse route.steps;
+  right = if is_link process.kind then Some process.place else route.place;
+  reads = those count (holds (names_on (is_clocked process.kind) s route));
+  goal = flow s (frame_of process.kind);
+}

@@ -1,0 +1,61 @@
+// Why there is no list of obligations.
+ghost use Rattle.std.specs.Prelude.{◌≡◌};
+ghost use Rattle.sv_obl.specs.declared.faults.WalkFault.TheVariants.{OutOfMemory};
+ghost use Rattle.sv_obl.specs.declared.faults.OblFault.TheVariants as fault;
+
+use std::alloc::{AllocError, AllocFailed};
+use sv_flat::SigId;
+
+/// Why a walk through a process ends early.
+#[derive(Clone, Copy, Debug, PartialEq, Eq)]
+pub enum WalkFault {
+    /// There are more paths than a target may have.
+    TooMany,
+    /// No memory is left.
+    OutOfMemory,
+}
+
+impl From<AllocError> for WalkFault {
+    ghost from_gives = { λ _ fault. fault ≡ OutOfMemory };
+
+    fn from(_error: AllocError) -> WalkFault {
+        WalkFault::OutOfMemory
+    }
+}
+
+impl<T: Drop> From<AllocFailed<T>> for WalkFault {
+    ghost from_gives = { λ _ fault. fault ≡ OutOfMemory };
+
+    fn from(_error: AllocFailed<T>) -> WalkFault {
+        WalkFault::OutOfMemory
+    }
+}
+
+/// Why there is no list of obligations.
+#[derive(Clone, Copy, Debug, PartialEq, Eq)]
+pub enum OblFault {
+    /// The target has over 4,096 paths.
+    Paths(SigId),
+    /// Over 65,536 nodes are put into one path of the target.
+    Large(SigId),
+    /// There are over 65,536 obligations.
+    Many,
+    /// No memory is left.
+    OutOfMemory,
+}
+
+impl From<AllocError> for OblFault {
+    ghost from_gives = { λ _ given. given ≡ fault.OutOfMemory };
+
+    fn from(_error: AllocError) -> OblFault {
+        OblFault::OutOfMemory
+    }
+}
+
+impl<T: Drop> From<AllocFailed<T>> for OblFault {
+    ghost from_gives = { λ _ given. given ≡ fault.OutOfMemory };
+
+    fn from(_error: AllocFailed<T>) -> OblFault {
+        OblFault::OutOfMemory
+    }
+}

@@ -1,0 +1,64 @@
+// The obligations of a design.
+ghost use Rattle.std.specs.Prelude.{◌≡◌, [], ◌++◌, map, flat_map, length, OnOk};
+ghost use Rattle.sv_flat.specs.Processes.{signal_numbers};
+ghost use Rattle.sv_flat.specs.Views.{design_of};
+ghost use Rattle.sv_obl.specs.Answers.{ListsTargets, Lists};
+ghost use Rattle.sv_obl.specs.Obligations.{selector_obligations};
+ghost use Rattle.sv_obl.specs.Views.{obligation_of};
+
+use crate::faults::OblFault;
+use crate::queries::Query;
+use crate::selectors::add_selectors;
+use crate::targets::add_target;
+use std::alloc::{AllocError, Global};
+use sv_design::Design;
+use sv_flat::SigId;
+
+// How many signals the design has.
+fn count_of(design: &Design) -> u32
+    ensures { result ≡ length design.now.signals.items }
+{
+    design.signals().len() as u32
+}
+
+// The obligations of all targets.
+fn list_targets(alloc: Global, design: &Design) -> Result<Vec<Query>, OblFault>
+    ensures { ListsTargets (design_of design.now) result }
+{
+    let mut queries = Vec::new(alloc);
+    for s in 0..count_of(design) {
+        add_target(alloc, design, SigId(s), &mut queries)?;
+    }
+    Ok(queries)
+}
+
+// Adds the obligations of all selectors.
+fn add_all_selectors(
+    alloc: Global,
+    design: &Design,
+    queries: &mut Vec<Query>,
+) -> Result<(), AllocError>
+    ensures { OnOk result (map obligation_of queries.new.items ≡ map obligation_of queries.old.items
+        ++ flat_map (selector_obligations [] (design_of design.now))
+        (signal_numbers (design_of design.now))) }
+{
+    for s in 0..count_of(design) {
+        add_selectors(alloc, design, SigId(s), queries)?;
+    }
+    Ok(())
+}
+
+/// The obligations of a design: those of each target in signal order, one for each of its paths,
+/// and then those of selectors. A target with over 4,096 paths is `Paths`, one with over 65,536
+/// nodes put into a path is `Large`, and over 65,536 obligations are `Many`, whichever comes first
+/// from target to target.
+pub fn obligations(alloc: Global, design: &Design) -> Result<Vec<Query>, OblFault>
+    ensures { Lists (design_of design.now) result }
+{
+    let mut queries = list_targets(alloc, design)?;
+    add_all_selectors(alloc, design, &mut queries)?;
+    if queries.len() > 65_536 {
+        return Err(OblFault::Many);
+    }
+    Ok(queries)
+}

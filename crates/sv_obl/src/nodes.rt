@@ -1,0 +1,109 @@
+// How many nodes are put into a path, as far as the limit.
+ghost use Rattle.std.specs.Prelude.{◌≡◌, ◌≤◌, ◌*◌, ◌+◌, min};
+ghost use Rattle.std.specs.List.{list_any};
+ghost use Rattle.sv_flat.specs.Views.{typed_tree, typed_trees, node_tree, parts_of};
+ghost use Rattle.sv_obl.specs.Nodes.{nodes_in, nodes_under, nodes_in_parts};
+ghost use Rattle.sv_obl.specs.Answers.{is_large};
+ghost use Rattle.sv_obl.specs.Routes.{nodes_put};
+ghost use Rattle.sv_obl.specs.Trails.{put_of, route_of, routes_of};
+
+use crate::trails::{Filling, Trail};
+use sv_flat::{FExpr, FNode};
+
+// The sum of two counts, up to one over the limit.
+fn sum(first: u32, second: u32) -> u32
+    requires first { first ≤ 65537 }
+    requires second { second ≤ 65537 }
+    ensures { result ≡ min (first + second) 65537 }
+{
+    (first + second).min(65_537)
+}
+
+// The nodes of an expression, up to one over the limit.
+#[cycle(nodes_in)]
+fn nodes_in(expr: &FExpr) -> u32
+    ensures { result ≡ min (nodes_in (typed_tree expr.now)) 65537 }
+{
+    sum(1, nodes_under(&expr.node))
+}
+
+#[cycle(nodes_in)]
+fn nodes_under(node: &FNode) -> u32
+    ensures { result ≡ min (nodes_under (node_tree node.now)) 65537 }
+{
+    match node {
+        FNode::Number(_) => 0,
+        FNode::Signal(_, _) => 0,
+        FNode::Bit(_, _, index) => nodes_in(index),
+        FNode::Part(_, _, _, _) => 0,
+        FNode::Unary(_, operand) => nodes_in(operand),
+        FNode::Binary(_, left, right) => sum(nodes_in(left), nodes_in(right)),
+        FNode::Choice(_, cond, yes, no) => { sum(sum(nodes_in(cond), nodes_in(yes)), nodes_in(no)) }
+        FNode::Join(parts) => nodes_in_parts(parts),
+        FNode::Repeat(_, parts) => nodes_in_parts(parts),
+        FNode::Held(_, value) => nodes_in(value),
+        FNode::HeldBit(_, _, value, index) => sum(nodes_in(value), nodes_in(index)),
+        FNode::HeldPart(_, _, value, _, _) => nodes_in(value),
+        FNode::Mend(_, old, _, _, piece) => sum(nodes_in(old), nodes_in(piece)),
+        FNode::Slice(value, _, _) => nodes_in(value),
+    }
+}
+
+#[cycle(nodes_in)]
+fn nodes_in_parts(parts: &[FExpr]) -> u32
+    ensures { result ≡ min (nodes_in_parts (parts_of (typed_trees parts.now))) 65537 }
+{
+    let mut total = 0;
+    for part in parts {
+        total = sum(total, nodes_in(part));
+    }
+    total
+}
+
+// So many times so many nodes, up to one over the limit.
+fn times(count: usize, nodes: u32) -> u32
+    requires few { nodes ≤ 65537 }
+    ensures { result ≡ min (count * nodes) 65537 }
+{
+    if nodes == 0 {
+        return 0;
+    }
+    if count > 65_537 {
+        return 65_537;
+    }
+    (count as u64 * u64::from(nodes)).min(65_537) as u32
+}
+
+// The nodes of a right side, as often as they count.
+fn nodes_of(filling: &Filling) -> u32
+    ensures { result ≡ min
+        ((put_of filling.now).count * nodes_in (put_of filling.now).right) 65537 }
+{
+    if filling.count == 0 {
+        return 0;
+    }
+    times(filling.count, nodes_in(filling.right))
+}
+
+// Whether over 65,536 nodes are put into the path.
+fn is_large(trail: &Trail) -> bool
+    ensures { result ≡ is_large (route_of trail.now) }
+{
+    let mut total = 0;
+    for filling in &trail.fillings {
+        total = sum(total, nodes_of(filling));
+    }
+    total > 65_536
+}
+
+/// Whether over 65,536 nodes are put into one of the paths.
+pub fn some_large(trails: &[Trail]) -> bool
+    ensures { result ≡ list_any is_large (routes_of trails.now) }
+{
+    for trail in trails {
+        if is_large(trail) {
+            return true;
+        }
+    }
+    false
+}

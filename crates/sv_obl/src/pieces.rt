@@ -1,0 +1,100 @@
+// What an assignment does to one signal.
+ghost use Rattle.std.specs.Prelude.{◌≡◌, ◌<◌, ◌==◌, length};
+ghost use Rattle.sv_flat.specs.Assigned.{assigns};
+ghost use Rattle.sv_flat.specs.ByNumber.{signal_forms};
+ghost use Rattle.sv_flat.specs.Soundness.{is_whole};
+ghost use Rattle.sv_flat.specs.Values.{signal_width};
+ghost use Rattle.sv_flat.specs.Views.{piece_form, flat_statement, flat_statements, chain_of};
+ghost use Rattle.std.specs.List.{list_any};
+ghost use Rattle.sv_flat.specs.Design.{PieceForm};
+ghost use Rattle.sv_obl.specs.Paths.{pieces_of, covers};
+ghost use Rattle.sv_obl.specs.Routes.{first_place};
+ghost use Rattle.sv_obl.specs.Trails.{piece_forms};
+
+use sv_flat::{FStmt, Piece, SigId, Signal};
+use sv_num::Place;
+
+// Whether the piece has all bits of its signal.
+fn is_whole(signals: &[Signal], piece: &Piece) -> bool
+    requires { piece.now.signal.0 < length signals.now }
+    ensures { result ≡ is_whole (signal_forms signals.now) (piece_form piece.now) }
+{
+    let width = signals[piece.signal.0 as usize].width;
+    piece.low == 0 && u32::from(piece.high) + 1 == u32::from(width)
+}
+
+/// Whether one of the pieces is the whole target.
+pub fn covers(signals: &[Signal], target: SigId, pieces: &[Piece]) -> bool
+    requires { target.0 < length signals.now }
+    ensures { result ≡ covers (signal_forms signals.now) target.0 (piece_forms pieces.now) }
+{
+    for piece in pieces {
+        if piece.signal == target && is_whole(signals, piece) {
+            return true;
+        }
+    }
+    false
+}
+
+/// How many of the pieces are bits of the target.
+pub fn count_of(target: SigId, pieces: &[Piece]) -> usize
+    ensures { result ≡ length (pieces_of target.0 (piece_forms pieces.now)) }
+{
+    let mut count = 0;
+    for piece in pieces {
+        if piece.signal == target {
+            count += 1;
+        }
+    }
+    count
+}
+
+/// The place of the first piece that is bits of the target, where there is one.
+pub fn first_place(target: SigId, pieces: &[Piece]) -> Option<Place>
+    ensures { result ≡ first_place target.0 (piece_forms pieces.now) }
+{
+    for piece in pieces {
+        if piece.signal == target {
+            return Some(piece.place);
+        }
+    }
+    None
+}
+
+// Whether some piece is bits of the target.
+fn is_some_of(target: SigId, pieces: &[Piece]) -> bool
+    ensures { result ≡ list_any (λ (piece : PieceForm).
+        piece.signal == target.0) (piece_forms pieces.now) }
+{
+    for piece in pieces {
+        if piece.signal == target {
+            return true;
+        }
+    }
+    false
+}
+
+/// Whether the statement has an assignment to the target.
+#[cycle(assigns)]
+pub fn assigns(stmt: &FStmt, target: SigId) -> bool
+    ensures { result ≡ assigns (flat_statement stmt.now) target.0 }
+{
+    match stmt {
+        FStmt::Assign { pieces, .. } => is_some_of(target, pieces),
+        FStmt::Block(stmts) => some_assigns(stmts, target),
+        FStmt::If { yes, no, .. } => assigns(yes, target) || assigns(no, target),
+    }
+}
+
+// Whether some statement has.
+#[cycle(assigns)]
+fn some_assigns(stmts: &[FStmt], target: SigId) -> bool
+    ensures { result ≡ assigns (chain_of (flat_statements stmts.now)) target.0 }
+{
+    for stmt in stmts {
+        if assigns(stmt, target) {
+            return true;
+        }
+    }
+    false
+}

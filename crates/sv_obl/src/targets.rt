@@ -1,0 +1,139 @@
+// The obligations of targets.
+ghost use Rattle.std.specs.Prelude.{◌≡◌, ℕ, ◌<◌, ◌≤◌, [], ◌++◌, map, length, All, Contains, IfOk};
+ghost use Rattle.std.specs.Prelude.{OnOk};
+ghost use Rattle.sv_flat.specs.ByNumber.{signal_forms};
+ghost use Rattle.sv_flat.specs.Processes.{is_clocked};
+ghost use Rattle.sv_flat.specs.Views.{process_form, process_kind, flat_statement, design_of};
+ghost use Rattle.sv_obl.specs.Answers.{Answers, target_excess, excess_at};
+ghost use Rattle.sv_obl.specs.Obligations.{target_obligations};
+ghost use Rattle.sv_obl.specs.Routes.{Route, open_route, routes_before, names_on, route_obligation};
+ghost use Rattle.sv_obl.specs.Trails.{routes_of, Finds};
+ghost use Rattle.sv_obl.specs.Views.{obligation_of};
+
+use crate::faults::{OblFault, WalkFault};
+use crate::nodes::some_large;
+use crate::path_queries::query_of;
+use crate::queries::Query;
+use crate::trails::Trail;
+use crate::walks::before;
+use std::alloc::{AllocError, Global};
+use sv_design::Design;
+use sv_flat::{Process, SigId, Signal};
+
+// The paths of the target through the process, where they are few enough.
+fn paths_of<'a>(
+    alloc: Global,
+    signals: &[Signal],
+    process: &'a Process,
+    target: SigId,
+) -> Result<Vec<Trail<'a>>, OblFault>
+    requires { target.0 < length signals.now }
+    ensures { Finds target.0 (routes_before (signal_forms signals.now) target.0
+        (flat_statement process.now.body) open_route) result }
+{
+    let open = Trail::open(alloc);
+    match before(&process.body, alloc, signals, target, &open) {
+        Ok(trails) => Ok(trails),
+        Err(WalkFault::TooMany) => Err(OblFault::Paths(target)),
+        Err(WalkFault::OutOfMemory) => Err(OblFault::OutOfMemory),
+    }
+}
+
+// The same, where the other limits are kept too after so many obligations.
+fn paths_within<'a>(
+    alloc: Global,
+    signals: &[Signal],
+    process: &'a Process,
+    target: SigId,
+    total: usize,
+) -> Result<Vec<Trail<'a>>, OblFault>
+    requires known { target.0 < length signals.now }
+    requires few { total ≤ 65536 }
+    ensures excess { Answers (target_excess target.0 total (routes_before
+        (signal_forms signals.now) target.0 (flat_statement process.now.body) open_route)) result }
+    ensures routes { IfOk result (λ trails. routes_of trails.items ≡ routes_before
+        (signal_forms signals.now) target.0 (flat_statement process.now.body) open_route) }
+{
+    let trails = paths_of(alloc, signals, process, target)?;
+    if some_large(&trails) {
+        return Err(OblFault::Large(target));
+    }
+    if total + trails.len() > 65_536 {
+        return Err(OblFault::Many);
+    }
+    Ok(trails)
+}
+
+// Adds the obligations of paths of the target.
+fn add_queries(
+    alloc: Global,
+    process: &Process,
+    target: SigId,
+    trails: &[Trail],
+    queries: &mut Vec<Query>,
+) -> Result<(), AllocError>
+    ensures { (n : ℕ) → ((route : Route) → Contains (routes_of trails.now) route → All (λ t. t < n)
+        (names_on (is_clocked (process_kind process.now.kind)) target.0 route))
+        → OnOk result (map obligation_of queries.new.items ≡ map obligation_of queries.old.items
+        ++ map (route_obligation n (process_form process.now) target.0) (routes_of trails.now)) }
+{
+    for trail in trails {
+        queries.push(query_of(alloc, process, target, trail)?)?;
+    }
+    Ok(())
+}
+
+// Adds the obligations of the target's paths through the process.
+fn add_paths(
+    alloc: Global,
+    signals: &[Signal],
+    process: &Process,
+    target: SigId,
+    queries: &mut Vec<Query>,
+) -> Result<(), OblFault>
+    requires known { target.0 < length signals.now }
+    requires few { length queries.old.items ≤ 65536 }
+    ensures excess { Answers (target_excess target.0 (length queries.old.items) (routes_before
+        (signal_forms signals.now) target.0 (flat_statement process.now.body) open_route)) result }
+    ensures listed { (n : ℕ) → ((route : Route) → Contains (routes_before
+        (signal_forms signals.now) target.0 (flat_statement process.now.body) open_route) route
+        → All (λ t. t < n)
+        (names_on (is_clocked (process_kind process.now.kind)) target.0 route))
+        → OnOk result (map obligation_of queries.new.items ≡ map obligation_of queries.old.items
+        ++ map (route_obligation n (process_form process.now) target.0) (routes_before
+        (signal_forms signals.now) target.0 (flat_statement process.now.body) open_route)) }
+{
+    let trails = paths_within(alloc, signals, process, target, queries.len())?;
+    add_queries(alloc, process, target, &trails, queries)?;
+    Ok(())
+}
+
+/// Adds the obligations of a target; an error where it passes a limit after those before it, or
+/// where memory runs out.
+pub fn add_target(
+    alloc: Global,
+    design: &Design,
+    target: SigId,
+    queries: &mut Vec<Query>,
+) -> Result<(), OblFault>
+    requires known { target.0 < length design.now.signals.items }
+    requires few { length queries.old.items ≤ 65536 }
+    ensures excess { Answers
+        (excess_at (design_of design.now) (length queries.old.items) target.0) result }
+    ensures listed { OnOk result (map obligation_of queries.new.items
+        ≡ map obligation_of queries.old.items
+        ++ target_obligations [] (design_of design.now) target.0) }
+{
+    match design.driver(target) {
+        Some(place) => {
+            add_paths(
+                alloc,
+                design.signals(),
+                &design.processes()[place],
+                target,
+                queries,
+            )
+        }
+        None => Ok(()),
+    }
+}

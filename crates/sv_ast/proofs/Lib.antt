@@ -24,6 +24,6 @@ mod RunExamples
 mod LabelExamples
 mod DesignExamples
 mod PartExamples
-mod Reaching
-mod PathNames
-mod RunFrames
+pub mod Reaching
+pub mod PathNames
+pub mod RunFrames

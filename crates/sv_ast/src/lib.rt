@@ -19,6 +19,3 @@ pub use laws::{meanings_break_no_rule, syntax_is_broken_once};
 pub use modules::{Instance, Item, LatticeText, Links, MapText, Module, Overrides, Text};
 pub use statements::{Arm, Select, Stmt, Target};
 pub use std::alloc::AllocError as OutOfMemory;
-
-#[cfg(test)]
-mod tests;

@@ -281,7 +281,7 @@ impl Stmt {
     /// Whether the grammar can give the tree (IEEE 1364-2005, annex A and clause 9): each
     /// assignment has a target, and each `case` an arm and at most one default.
     #[cycle(statement_shape)]
-    pub(crate) fn is_shaped(&self) -> bool
+    pub fn is_shaped(&self) -> bool
         ensures { result ≡ is_shaped_statement (statement_tree self.now) }
     {
         match self {

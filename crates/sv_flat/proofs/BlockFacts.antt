@@ -38,7 +38,7 @@ use Rattle.sv_flat.proofs.AdmittedFacts.{targets_are_combinational}
 
 -- ---- what follows a read
 
-can_is_assigned : (body : FlatStatement) (s b : ℕ) → IsTrue (can_assign body s b) →
+pub can_is_assigned : (body : FlatStatement) (s b : ℕ) → IsTrue (can_assign body s b) →
     IsTrue (assigns body s)
 can_is_assigned nothing s b h = absurd (false≢true h)
 can_is_assigned (after first second) s b h = ⊎_elim
@@ -57,7 +57,7 @@ can_is_assigned (branch place condition first second) s b h = ⊎_elim
     (or_cases (can_assign first s b) (can_assign second s b) h)
 
 module _ (signals : List SignalForm) where
-  follows_here : (whole : FlatStatement) (t : TypedTree) (before later : BitSet) (r : Reading)
+  pub follows_here : (whole : FlatStatement) (t : TypedTree) (before later : BitSet) (r : Reading)
       → Contains (readings_of signals t (assigns whole) before (either (can_assign whole) later)) r
       → (s b : ℕ) → IsTrue (r.follows s b) → IsTrue (assigns whole s) ⊎ IsTrue (later s b)
   follows_here whole t before later r at s b h =

@@ -26,6 +26,3 @@ pub use statements::{FStmt, Piece};
 pub use std::alloc::AllocError as OutOfMemory;
 pub use typing::well_formed;
 pub use values::value_of;
-
-#[cfg(test)]
-mod tests;

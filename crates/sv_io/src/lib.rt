@@ -30,6 +30,3 @@ pub use std::alloc::AllocError as OutOfMemory;
 pub use sure::{SureCabinet, SureSink, SureSource};
 pub use system::{FileCabinet, StdSink, StdSource};
 pub use traits::{Cabinet, Sink, Source, put_all};
-
-#[cfg(test)]
-mod tests;

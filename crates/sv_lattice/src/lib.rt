@@ -16,6 +16,3 @@ pub use labels::{Label, LabelMap, label_at};
 pub use lattices::Lattice;
 pub use points::{LatticeFault, Point};
 pub use std::alloc::AllocError as OutOfMemory;
-
-#[cfg(test)]
-mod tests;

@@ -25,6 +25,3 @@ pub use parts::{concat, extend, slice};
 pub use std::alloc::AllocError as OutOfMemory;
 pub use unary::apply_unary;
 pub use vectors::Bits;
-
-#[cfg(test)]
-mod tests;

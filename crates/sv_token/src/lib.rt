@@ -19,6 +19,3 @@ pub use keywords::WordKind;
 pub use lexer::lex;
 pub use signs::{Operator, SignKind};
 pub use tokens::{Lit, Token, TokenKind};
-
-#[cfg(test)]
-mod tests;

@@ -2,11 +2,11 @@
 
 ghost use Rattle.std.specs.Prelude.{◌<◌, ◌-◌, ◌^◌, length};
 
-use super::*;
 use std::alloc::Global;
 use std::process::Abort;
 use std::test::Fail;
 use sv_num::{Bits, Fault, Refusal};
+use sv_token::{Lit, Operator, SignKind, Token, TokenKind, WordKind, lex};
 
 fn number(width: u8, signed: bool, value: u64, sized: bool) -> Option<TokenKind> {
     let bits = Bits::new(width, signed, value)?;

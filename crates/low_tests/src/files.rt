@@ -1,8 +1,8 @@
-use crate::*;
 use std::alloc::Global;
 use std::io::{ErrorKind, Read, Write};
 use std::test::Fail;
 use std::{fs, io};
+use sv_io::*;
 
 #[test]
 fn a_sure_cabinet_hands_out_what_it_took(rt: HostRuntime) -> Result<(), Fail> {

@@ -1,12 +1,12 @@
 // Each copy, once with ample memory: the copy reads as the value does. Values by the rules of IEEE
 // 1364-2005, clause 5.
 
-use crate::{
+use std::alloc::{AllocError, Global};
+use std::test::Fail;
+use sv_flat::{
     FExpr, FNode, FStmt, Flat, ProcKind, Process, SigId, SigKind, Signal, sound, value_of,
     well_formed,
 };
-use std::alloc::{AllocError, Global};
-use std::test::Fail;
 use sv_lattice::{Label, Lattice, Point};
 use sv_num::{BinOp, Name, Place, UnOp};
 

@@ -2,8 +2,8 @@
 ghost use Rattle.std.specs.Prelude.{◌≡◌, ◌≢◌};
 ghost use Rattle.sv_num.specs.Vectors.{width_of, is_signed, value_of};
 
-use super::*;
 use std::process::Abort;
+use sv_num::*;
 
 mod binary_cases;
 mod unary_cases;

@@ -1,8 +1,8 @@
 // Each copy, once with ample memory: the copy reads as the tree does.
 
-use crate::{Expr, Item, Module, Stmt, Text};
 use std::alloc::{AllocError, Global};
 use std::test::Fail;
+use sv_ast::{Expr, Item, Module, Stmt, Text};
 use sv_num::{Name, Place, UnOp};
 
 fn at(line: u32) -> Place {

@@ -1,10 +1,10 @@
 // Lattices and maps whose answers were worked out by hand.
 ghost use Rattle.std.specs.Prelude.{◌<◌, ◌^◌, length};
 
-use crate::{Label, LabelMap, Lattice, LatticeFault, Point};
 use std::alloc::Global;
 use std::process::Abort;
 use std::test::Fail;
+use sv_lattice::{Label, LabelMap, Lattice, LatticeFault, Point};
 
 // Asserts that points and pairs are no lattice, for this fault.
 fn refuses(rt: &impl Abort, alloc: Global, points: u32, pairs: &[(u32, u32)], fault: LatticeFault)
@@ -96,9 +96,9 @@ fn reads_a_map(rt: HostRuntime) -> Result<(), Fail> {
         first: 1,
         second: None,
     };
-    assert_eq!(rt; crate::label_at(&[map], &label, &[9, 2, 0]), Point(1));
+    assert_eq!(rt; sv_lattice::label_at(&[map], &label, &[9, 2, 0]), Point(1));
     assert_eq!(rt;
-        crate::label_at(&[], &Label::Point(Point(7)), &[]),
+        sv_lattice::label_at(&[], &Label::Point(Point(7)), &[]),
         Point(7)
     );
     Ok(())
@@ -114,7 +114,7 @@ fn reads_a_map_of_pairs(rt: HostRuntime) -> Result<(), Fail> {
         first: 2,
         second: Some(0),
     };
-    assert_eq!(rt; crate::label_at(&[map], &label, &[2, 9, 1]), Point(6));
+    assert_eq!(rt; sv_lattice::label_at(&[map], &label, &[2, 9, 1]), Point(6));
     let two = [Point(0), Point(1)].to_vec(rt.alloc())?;
     assert!(rt; LabelMap::pair(1, 0, two).is_none());
     Ok(())

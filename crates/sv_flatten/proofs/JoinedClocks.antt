@@ -19,7 +19,7 @@ use Rattle.sv_ast.specs.Parts.{links_of}
 use Rattle.sv_ast.specs.ClockPaths.{is_input_kind, edges, clock_pairs, IsClock, clock_paths}
 use Rattle.sv_ast.specs.Processes.{Process, combinational, clocked, linking, processes_from}
 use Rattle.sv_ast.specs.Processes.{processes}
-use Rattle.sv_flatten.proofs.Reaching.{clocks_by_links}
+use Rattle.sv_ast.proofs.Reaching.{clocks_by_links}
 use Rattle.sv_flat.specs.Design.{ProcessKind, continuous, port_in, port_out}
 use Rattle.sv_flat.specs.Design.{combinational as combinational_kind, clocked as clocked_kind}
 use Rattle.sv_flat.specs.Design.{release, ProcessForm, FlatDesign}

@@ -25,7 +25,7 @@ use Rattle.sv_walk.specs.Lattices.{order_steps, table_of, turned, point_names, n
 use Rattle.sv_walk.specs.Lattices.{declared_order, two_points, checked_order, lattice_walk}
 use Rattle.sv_walk.proofs.WalkLemmas.{parts_done, asked_true}
 use Rattle.sv_walk.proofs.LatticeLemmas.{table_is_exact}
-use Rattle.sv_flatten.proofs.Reaching.{HasKnownPoints, flows_by_pairs}
+use Rattle.sv_ast.proofs.Reaching.{HasKnownPoints, flows_by_pairs}
 use Rattle.sv_flatten.proofs.PartsLists.{get_contains, contains_get, zip_left, zip_right, get_below}
 use Rattle.sv_flatten.proofs.PartsLists.{contains_left, contains_right}
 use Rattle.sv_flatten.proofs.PartsBindings.{same_name, name_itself}

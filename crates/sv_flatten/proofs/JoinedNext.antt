@@ -30,7 +30,7 @@ use Rattle.sv_flat.proofs.AdmittedFacts.{is_process, body_is_sound, assigned_is_
 use Rattle.sv_flat.proofs.AdmittedFacts.{assigns_no_clock, some_width}
 use Rattle.sv_flat.proofs.ClockFacts.{reads_no_clock}
 use Rattle.sv_flat.proofs.ReadSignals.{readings_signals}
-use Rattle.sv_flatten.specs.ClockFree.{text_clocks, ReadsNoClock}
+use Rattle.sv_flatten.specs.TextSystem.{text_clocks}
 use Rattle.sv_flatten.specs.SameStates.{by_number}
 use Rattle.sv_flatten.proofs.PartsLists.{zip_right, contains_get}
 use Rattle.sv_flatten.proofs.PartsGrown.{IsBody, IsFlat, number_of_name}
@@ -41,7 +41,7 @@ use Rattle.sv_flatten.proofs.JoinedNumbers.{to_is, At, at_number, flat_signals, 
 use Rattle.sv_flatten.proofs.JoinedNumbers.{is_flat_signal, clocked_of}
 use Rattle.sv_flatten.proofs.JoinedRegisters.{register_within}
 use Rattle.sv_flatten.proofs.JoinedRuns.{source_processes, source_system, path_to, unclocked_values}
-use Rattle.sv_flatten.proofs.JoinedRuns.{numbered_values, agree_off, path_no_clock, numbered_same}
+use Rattle.sv_flatten.proofs.JoinedRuns.{numbered_values, path_no_clock, numbered_same}
 use Rattle.sv_flatten.proofs.JoinedRuns.{numbering, have_values, values_fit, to_name}
 use Rattle.sv_flatten.proofs.JoinedOver.{same_place, link_unclocked}
 use Rattle.sv_flatten.proofs.JoinedAgree.{run_alike}
@@ -89,8 +89,7 @@ skip_link g l false qs = refl
 
 module _ (text : TextTree) (top : Option (List ℕ)) (design : FlatDesign)
     (side : SideBySide text top design)
-    (is_sound : IsTrue (sound design)) (admitted : IsAdmitted design)
-    (clock_free : ReadsNoClock text top) where
+    (is_sound : IsTrue (sound design)) (admitted : IsAdmitted design) where
   abbrev sources : List PartSignal
   sources = sources_of text top
 
@@ -223,7 +222,7 @@ module _ (text : TextTree) (top : Option (List ℕ)) (design : FlatDesign)
         ap (λ xs. map pathed (flat_map (λ (z : ProcessForm).
         flat_updates_of design.signals z.body numbers) xs))
         (skip_flat f (not (is_clock_link design f)) (filter (λ z. not (is_clock_link design z)) fs)
-        (link_unclocked text top design side is_sound admitted clock_free l f h.0))
+        (link_unclocked text top design side is_sound admitted l f h.0))
         ∙ all_updates_same qs fs h.1
         ∙ sym (skip_link free l (not (links_one_of (text_clocks text top) (linking l)))
         (filter (λ p. not (links_one_of (text_clocks text top) p)) qs))
@@ -263,17 +262,11 @@ module _ (text : TextTree) (top : Option (List ℕ)) (design : FlatDesign)
         let path = to_is text top design side (signal_path here.source) u.0 here.number in
         let number = subst (λ x. IsNumber text top design side x u.0) (sym path) here.number in
         ap (λ b. last_update ◌==◌ k (cond b u.1 old) us)
-        (same_place text top design side is_sound admitted clock_free (toward u.0) u.0
+        (same_place text top design side is_sound admitted (toward u.0) u.0
         number k a)
         ∙ last_same us (λ v at.
         below v (Contains-later u us v at)) k a
         (cond (same_path (toward u.0) (toward k)) u.1 old)
-
-    source_alike : flat_map (updates_of free) (source_processes text top design side) ≡
-        flat_map (updates_of g) (source_processes text top design side)
-    source_alike =
-        flat_map_same (updates_of free) (updates_of g) (source_processes text top design side)
-        (λ q at. sym ((clock_free q at).updates g free (agree_off text top design side g)))
 
     pub next_same : (k : ℕ) → IsTrue ((flat_system design).is_register k) →
         (flat_system design).next e k ≡ second.next g (toward k)
@@ -289,8 +282,3 @@ module _ (text : TextTree) (top : Option (List ℕ)) (design : FlatDesign)
         (numbers k)
         ∙ ap (last_update same_path (toward k) (numbers k))
         (all_updates_same (processes text top) design.processes side.bodies)
-        ∙ ap (last_update same_path (toward k) (numbers k)) source_alike
-        ∙ ap (λ v. last_update same_path (toward k) v
-        (flat_map (updates_of g) (source_processes text top design side)))
-        (sym (agree_off text top design side g (toward k)
-        (path_no_clock text top design side k inside)))

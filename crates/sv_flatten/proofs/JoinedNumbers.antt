@@ -25,7 +25,7 @@ use Rattle.sv_ast.specs.ClockPaths.{is_input_kind}
 use Rattle.sv_ast.specs.Processes.{Process, combinational, clocked, linking, clocked_body}
 use Rattle.sv_ast.specs.Processes.{processes_from, processes}
 use Rattle.sv_ast.specs.Meaning.{is_top_input, is_register, signals, at_path}
-use Rattle.sv_flatten.proofs.Reaching.{member_held, held_member}
+use Rattle.sv_ast.proofs.Reaching.{member_held, held_member}
 use Rattle.sv_flat.specs.Design.{SignalForm, ProcessForm, FlatDesign}
 use Rattle.sv_flat.specs.Assigned.{assigns}
 use Rattle.sv_flat.specs.Values.{signal_of, signal_width as flat_width}

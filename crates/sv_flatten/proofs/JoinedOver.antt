@@ -5,7 +5,7 @@ use Rattle.std.proofs.Common.{[], length, Option, Some, refl, sym, ap, subst}
 use Rattle.std.proofs.Common.{◌∙◌, ⊎_elim}
 use Rattle.std.specs.Prelude.{not, ◌==◌, Contains, IsTrue}
 use Rattle.std.specs.Prelude.{option_map}
-use Rattle.std.specs.List.{list_any}
+use Rattle.std.specs.List.{list_any, filter_map}
 use Rattle.std.proofs.lemmas.Bool.{false≢true, both_ways, and_parts, and_from, and_left}
 use Rattle.std.proofs.lemmas.Bool.{or_left, or_cases, eqb-true, eq-eqb, cond-false}
 use Rattle.std.proofs.lemmas.Bool.{ltb-true, false_from_ne_true, not-true}
@@ -40,7 +40,7 @@ use Rattle.sv_flat.proofs.AdmittedFacts.{is_process, no_clock_link, body_is_soun
 use Rattle.sv_flat.proofs.AdmittedFacts.{assigned_is_signal, assigns_no_clock}
 use Rattle.sv_flat.proofs.FlatScheduled.{in_processes, unclocked}
 use Rattle.sv_walk.specs.Links.{port_number, port_width}
-use Rattle.sv_flatten.specs.ClockFree.{text_clocks, ReadsNoClock}
+use Rattle.sv_flatten.specs.TextSystem.{text_clocks, unclocked as unclocked_run}
 use Rattle.sv_flatten.proofs.PartsLists.{zip_left, zip_right, get_contains, contains_get}
 use Rattle.sv_flatten.proofs.PartsNamed.{to_filter_map, from_filter_map}
 use Rattle.sv_flatten.proofs.PartsGrown.{IsLink, IsFlat}
@@ -53,15 +53,15 @@ use Rattle.sv_flatten.proofs.JoinedNumbers.{to_is, At, at_number, flat_signals}
 use Rattle.sv_flatten.proofs.JoinedNumbers.{same_signals, signal_below}
 use Rattle.sv_flatten.proofs.JoinedNumbers.{is_flat_signal, same_paths, path_itself}
 use Rattle.sv_flatten.proofs.JoinedRuns.{source_processes, source_system, path_to, unclocked_values}
-use Rattle.sv_flatten.proofs.JoinedRuns.{numbered_values, agree_off, path_no_clock, numbered_same}
+use Rattle.sv_flatten.proofs.JoinedRuns.{numbered_values, unclocked_within, path_no_clock}
+use Rattle.sv_flatten.proofs.JoinedRuns.{numbered_same}
 use Rattle.sv_flatten.proofs.JoinedRuns.{have_signals, numbering, have_values, number_width}
 use Rattle.sv_flatten.proofs.JoinedRuns.{flat_same, statement_runs}
 use Rattle.sv_flatten.proofs.LinksSame.{input_link_same, output_link_same}
 
 module _ (text : TextTree) (top : Option (List ℕ)) (design : FlatDesign)
     (side : SideBySide text top design)
-    (is_sound : IsTrue (sound design)) (admitted : IsAdmitted design)
-    (clock_free : ReadsNoClock text top) where
+    (is_sound : IsTrue (sound design)) (admitted : IsAdmitted design) where
   abbrev sources : List PartSignal
   sources = sources_of text top
 
@@ -73,6 +73,10 @@ module _ (text : TextTree) (top : Option (List ℕ)) (design : FlatDesign)
 
   abbrev Joins : Environment ℕ → Environment Path → Type 0
   Joins e g = Agree (flat_system design) second toward e g
+
+  -- a run of the source, where it sees no clock
+  abbrev pub seen_run : Run Path → Run Path
+  seen_run = unclocked_run (text_clocks text top)
 
   -- what a flat process assigns is a signal
   flat_assigned : (f : ProcessForm) → Contains (combinational_processes design) f → (k : ℕ)
@@ -99,9 +103,8 @@ module _ (text : TextTree) (top : Option (List ℕ)) (design : FlatDesign)
       (subst (λ y. IsNumber text top design side y k) (sym path) a.number)))
 
   -- a flat process and a process of the source that each give one signal a value
-  module _ (f : ProcessForm) (at : Contains (combinational_processes design) f) (q : Process)
-      (listed : Contains (source_processes text top design side) q)
-      (other : Environment Path → Environment Path) (change_is : change_of q ≡ Some other)
+  module _ (f : ProcessForm) (at : Contains (combinational_processes design) f)
+      (other : Environment Path → Environment Path)
       (x : Path) (n : ℕ) (number : IsNumber text top design side x n)
       (assigned_n : assigns f.body n ≡ true)
       (value : Environment Path → ℕ) (other_is : (g : Environment Path) (y : Path) →
@@ -110,30 +113,29 @@ module _ (text : TextTree) (top : Option (List ℕ)) (design : FlatDesign)
       run_alone design.signals f.body (numbered_values text top design side g)
       ≡ put ◌==◌ n (value (unclocked_values text top design side g))
       (numbered_values text top design side g)) where
-    put_runs : SameRun (flat_system design) second toward (run_of design f) other
+    put_runs : SameRun (flat_system design) second toward (run_of design f) (seen_run other)
     put_runs = record {
       same = λ e g agree k inside.
           let a = at_number text top design side k (signal_below text top design side k inside) in
           let free = unclocked_values text top design side g in
-          flat_same text top design side is_sound admitted clock_free f at e
+          flat_same text top design side is_sound admitted f at e
           (numbered_values text top design side g)
           (λ t t_in. numbered_same text top design side e g agree t t_in) k inside
           ∙ ap (λ r. r k) (flat_is g)
           ∙ ap (λ b. cond b (value free) (free (toward k))) (same_place x n number k a)
           ∙ sym (other_is free (toward k))
-          ∙ sym ((clock_free q listed).changes other change_is g free
-          (agree_off text top design side g) (toward k)
-          (path_no_clock text top design side k inside));
+          ∙ sym (cond-false (holds same_path (text_clocks text top) (toward k)) (g (toward k))
+          (other free (toward k)) (path_no_clock text top design side k inside));
       first_within = λ e k outside. run_leaves design.signals f.body k
           (false_from_ne_true (assigns f.body k) (λ h. outside (flat_assigned f at k h))) (e, []);
-      second_within = λ g y outside. other_is g y
-          ∙ cond-false (same_path x y) (value g) (g y)
-          (false_from_ne_true (same_path x y) (λ h.
+      second_within = λ g y outside. unclocked_within text top design side other (λ h.
+          other_is h y ∙ cond-false (same_path x y) (value h) (h y)
+          (false_from_ne_true (same_path x y) (λ hit.
           outside (subst (Contains second.signals) (to_is text top design side x n number
-          ∙ same_paths x y h)
+          ∙ same_paths x y hit)
           (subst (λ xs. Contains xs (toward n)) (sym (same_signals text top design side))
           (Contains-map toward (flat_signals text top design side) n
-          (flat_assigned f at n assigned_n))))));
+          (flat_assigned f at n assigned_n))))))) g;
     }
 
   abbrev Flat : Process → ProcessForm → Type 0
@@ -141,7 +143,7 @@ module _ (text : TextTree) (top : Option (List ℕ)) (design : FlatDesign)
 
   abbrev PairRuns : Process → ProcessForm → Type 0
   PairRuns q f = (other : Environment Path → Environment Path) × (change_of q ≡ Some other)
-      × SameRun (flat_system design) second toward (run_of design f) other
+      × SameRun (flat_system design) second toward (run_of design f) (seen_run other)
 
   module _ (l : PortLink) (f : ProcessForm)
       (link : IsLink side.tables sources (parts text top) l f) where
@@ -174,9 +176,8 @@ module _ (text : TextTree) (top : Option (List ℕ)) (design : FlatDesign)
 
     input_runs : IsInput side.tables sources (parts text top) l f link
         → is_input_kind l.port.kind ≡ true
-        → Contains (combinational_processes design) f
-        → Contains (source_processes text top design side) (linking l) → PairRuns (linking l) f
-    input_runs input kind at listed =
+        → Contains (combinational_processes design) f → PairRuns (linking l) f
+    input_runs input kind at =
         let change : change_of (linking l) ≡ Some (source_link_in l) =
         ap (λ b. cond b (Some (source_link_in l))
         (option_map (source_link_out l) (whole_signal l.outer.scope l.expression))) kind in
@@ -184,7 +185,7 @@ module _ (text : TextTree) (top : Option (List ℕ)) (design : FlatDesign)
         ap width_of link.stands ∙ ap (λ s. width_of (s l.port.name)) link.inner_named.scope in (
           source_link_in l,
           change,
-          put_runs f at (linking l) listed (source_link_in l) change (port_path l) port
+          put_runs f at (source_link_in l) (port_path l) port
               (port_numbered side.tables sources (parts text top) l f link)
               (input_assigns input)
               (λ g. value_for l.outer g (width_of (l.inner.scope l.port.name)) l.expression)
@@ -218,9 +219,8 @@ module _ (text : TextTree) (top : Option (List ℕ)) (design : FlatDesign)
 
     output_runs : (output : IsOutput side.tables sources (parts text top) l f link)
         → is_input_kind l.port.kind ≡ false
-        → Contains (combinational_processes design) f
-        → Contains (source_processes text top design side) (linking l) → PairRuns (linking l) f
-    output_runs output kind at listed =
+        → Contains (combinational_processes design) f → PairRuns (linking l) f
+    output_runs output kind at =
         let n = output.name in
         let whole : whole_signal l.outer.scope l.expression ≡ Some n =
         ap (λ s. whole_signal s l.expression) (sym link.outer_named.scope) ∙ output.whole in
@@ -231,7 +231,7 @@ module _ (text : TextTree) (top : Option (List ℕ)) (design : FlatDesign)
         let numbers = outer_numbered side.tables sources (parts text top) l f link n output.whole in (
           source_link_out l n,
           change,
-          put_runs f at (linking l) listed (source_link_out l n) change (within l.outer n)
+          put_runs f at (source_link_out l n) (within l.outer n)
               (link.outer.number n) numbers.1 (output_assigns output)
               (λ g. value_for l.inner g (width_of (l.outer.scope n))
               (named l.port.name l.port.place))
@@ -326,25 +326,22 @@ module _ (text : TextTree) (top : Option (List ℕ)) (design : FlatDesign)
         (λ output. ap (λ (z : ProcessForm). is_clocked z.kind) output.1.form)
         (link_is side.tables sources (parts text top) l f link)
 
-    link_runs : Contains (combinational_processes design) f →
-        Contains (source_processes text top design side) (linking l) → PairRuns (linking l) f
-    link_runs at listed = ⊎_elim
-        (λ input. input_runs input.1 input.0 at listed)
-        (λ output. output_runs output.1 output.0 at listed)
+    link_runs : Contains (combinational_processes design) f → PairRuns (linking l) f
+    link_runs at = ⊎_elim
+        (λ input. input_runs input.1 input.0 at)
+        (λ output. output_runs output.1 output.0 at)
         (link_is side.tables sources (parts text top) l f link)
 
   pair_runs : (q : Process) (f : ProcessForm) → Flat q f
-      → Contains (combinational_processes design) f
-      → Contains (source_processes text top design side) q → PairRuns q f
-  pair_runs (combinational p s) f flat at listed = (
+      → Contains (combinational_processes design) f → PairRuns q f
+  pair_runs (combinational p s) f flat at = (
     changed_by p s,
     refl,
-    statement_runs text top design side is_sound admitted clock_free p s f
-        flat.0 at listed,
+    statement_runs text top design side is_sound admitted p s f flat.0 at,
   )
-  pair_runs (clocked p s) f flat at listed =
+  pair_runs (clocked p s) f flat at =
       absurd (both_ways (is_clocked f.kind) (unclocked design is_sound admitted f at) flat.1)
-  pair_runs (linking l) f flat at listed = link_runs l f flat at listed
+  pair_runs (linking l) f flat at = link_runs l f flat at
 
   -- the process of a flat process is none of the links that are left out
   pub kept_source : (q : Process) (f : ProcessForm) → Flat q f → Contains (processes text top) q
@@ -391,10 +388,13 @@ module _ (text : TextTree) (top : Option (List ℕ)) (design : FlatDesign)
       place.1 in
       let listed = kept_source q.0 f.0 q.2 (get_contains (processes text top) place.0 q.0 q.1)
       inside in
-      let runs = pair_runs q.0 f.0 q.2 f.1 listed in (
-        runs.0,
-        to_filter_map change_of (source_processes text top design side) q.0 runs.0 listed runs.1,
-        subst (λ (r : Run ℕ). SameRun (flat_system design) second toward r runs.0) f.2 runs.2,
+      let runs = pair_runs q.0 f.0 q.2 f.1 in (
+        seen_run runs.0,
+        Contains-map seen_run (filter_map change_of (source_processes text top design side)) runs.0
+            (to_filter_map change_of (source_processes text top design side) q.0 runs.0 listed
+            runs.1),
+        subst (λ (r : Run ℕ). SameRun (flat_system design) second toward r (seen_run runs.0))
+            f.2 runs.2,
       )
 
   unclocked_flat : (q : Process) (f : ProcessForm) (other : Environment Path → Environment Path) →
@@ -407,7 +407,10 @@ module _ (text : TextTree) (top : Option (List ℕ)) (design : FlatDesign)
       → (run : Run ℕ) × Contains (flat_system design).processes run
       × SameRun (flat_system design) second toward run other
   back other at =
-      let q = from_filter_map change_of (source_processes text top design side) other at in
+      let change = Contains-from_map seen_run
+      (filter_map change_of (source_processes text top design side)) other at in
+      let q = from_filter_map change_of (source_processes text top design side) change.0
+      change.1 in
       let in_all = (Contains-from_filter (λ p.
       not (links_one_of (text_clocks text top) p)) (processes text top) q.0 q.1).1 in
       let place = contains_get (processes text top) q.0 in_all in
@@ -416,12 +419,12 @@ module _ (text : TextTree) (top : Option (List ℕ)) (design : FlatDesign)
       let combinational_f =
       Contains-filter (λ (z : ProcessForm).
       not (is_clocked z.kind)) (processes_of design) f.0 inside
-      (ap not (unclocked_flat q.0 f.0 other f.2 q.2)) in
-      let runs = pair_runs q.0 f.0 f.2 combinational_f q.1 in
-      let same : runs.0 ≡ other =
-      Rattle.sv_flatten.proofs.PartsMaps.same_some (change_of q.0) runs.0 other runs.1 q.2 in (
+      (ap not (unclocked_flat q.0 f.0 change.0 f.2 q.2)) in
+      let runs = pair_runs q.0 f.0 f.2 combinational_f in
+      let same : runs.0 ≡ change.0 =
+      Rattle.sv_flatten.proofs.PartsMaps.same_some (change_of q.0) runs.0 change.0 runs.1 q.2 in (
         run_of design f.0,
         Contains-map (run_of design) (combinational_processes design) f.0 combinational_f,
         subst (λ (r : Run Path). SameRun (flat_system design) second toward (run_of design f.0) r)
-            same runs.2,
+            (ap seen_run same ∙ change.2) runs.2,
       )

@@ -42,9 +42,9 @@ use Rattle.sv_walk.specs.Names.{Names}
 use Rattle.sv_width.specs.Agreement.{HaveValues, HaveSignals}
 use Rattle.sv_flatten.specs.Numbering.{IsNumbering}
 use Rattle.sv_flatten.specs.SameStates.{ValuesFit}
-use Rattle.sv_flatten.specs.ClockFree.{AgreeOff, text_clocks, ReadsNoClock}
-use Rattle.sv_flatten.proofs.PathNames.{name_in-itself, path_of-name_in}
-use Rattle.sv_flatten.proofs.RunFrames.{run_keeps}
+use Rattle.sv_flatten.specs.TextSystem.{text_clocks, without_clocks, unclocked, seeing_no_clock}
+use Rattle.sv_ast.proofs.PathNames.{name_in-itself, path_of-name_in}
+use Rattle.sv_ast.proofs.RunFrames.{run_keeps}
 use Rattle.sv_flatten.proofs.PartsLists.{get_contains, contains_get}
 use Rattle.sv_flatten.proofs.PartsMaps.{same_some}
 use Rattle.sv_flatten.proofs.PartsNamed.{IsNamed}
@@ -70,22 +70,35 @@ module _ (text : TextTree) (top : Option (List ℕ)) (design : FlatDesign)
   source_processes = filter (λ p. not (links_one_of (text_clocks text top) p)) (processes text top)
 
   abbrev pub source_system : System Path (List ℕ)
-  source_system = system_of text (source_signals text top design side) source_processes
+  source_system = seeing_no_clock (text_clocks text top)
+      (system_of text (source_signals text top design side) source_processes)
 
   abbrev pub path_to : ℕ → Path
   path_to = to text top design side
 
-  -- the environment in which clocks have the value 0
   abbrev pub unclocked_values : Environment Path → Environment Path
-  unclocked_values f x = cond (holds same_path (text_clocks text top) x) 0 (f x)
+  unclocked_values = without_clocks (text_clocks text top)
 
   -- the same by numbers
   abbrev pub numbered_values : Environment Path → Environment ℕ
   numbered_values f k = unclocked_values f (path_to k)
 
-  pub agree_off : (f : Environment Path) → AgreeOff (text_clocks text top) f (unclocked_values f)
+  pub agree_off : (f : Environment Path) (x : Path) →
+      holds same_path (text_clocks text top) x ≡ false → f x ≡ unclocked_values f x
   agree_off f x no_clock =
       sym (cond-false (holds same_path (text_clocks text top) x) 0 (f x) no_clock)
+
+  -- what a run leaves, it leaves where it sees no clock
+  pub unclocked_within : (run : Environment Path → Environment Path) {x : Path}
+      → ((g : Environment Path) → run g x ≡ g x) → (g : Environment Path)
+      → unclocked (text_clocks text top) run g x ≡ g x
+  unclocked_within run {x} leaves g = ⊎_elim
+      (λ clock. cond-true (holds same_path (text_clocks text top) x) (g x)
+      (run (unclocked_values g) x) clock)
+      (λ no_clock. cond-false (holds same_path (text_clocks text top) x) (g x)
+      (run (unclocked_values g) x) no_clock
+      ∙ leaves (unclocked_values g) ∙ sym (agree_off g x no_clock))
+      (cases_Bool (holds same_path (text_clocks text top) x))
 
   pub path_no_clock : (k : ℕ) → Contains (flat_signals text top design side) k →
       holds same_path (text_clocks text top) (path_to k) ≡ false
@@ -227,8 +240,7 @@ module _ (text : TextTree) (top : Option (List ℕ)) (design : FlatDesign)
               (subst (λ x. IsNumber text top design side x k) path a.number),
         )
 
-  module _ (is_sound : IsTrue (sound design)) (admitted : IsAdmitted design)
-      (clock_free : ReadsNoClock text top) where
+  module _ (is_sound : IsTrue (sound design)) (admitted : IsAdmitted design) where
     -- a flat run does the same from environments that agree on all signals but clocks
     pub flat_same : (f : ProcessForm) → Contains (combinational_processes design) f
         → (d e : Environment ℕ)
@@ -271,8 +283,7 @@ module _ (text : TextTree) (top : Option (List ℕ)) (design : FlatDesign)
 
     module _ (p : Part) (s : StatementTree) (f : ProcessForm)
         (body : IsBody side.tables sources (parts text top) p s f)
-        (at : Contains (combinational_processes design) f)
-        (listed : Contains source_processes (combinational p s)) where
+        (at : Contains (combinational_processes design) f) where
       abbrev names : Names
       names = body.names
 
@@ -348,16 +359,18 @@ module _ (text : TextTree) (top : Option (List ℕ)) (design : FlatDesign)
               (unclocked_values g (path_to k))) some)
 
       pub statement_runs :
-          SameRun (flat_system design) source_system path_to (run_of design f) source_run_of
+          SameRun (flat_system design) source_system path_to (run_of design f)
+          (unclocked (text_clocks text top) source_run_of)
       statement_runs = record {
         same = λ e g agree k inside.
             flat_same f at e (numbered_values g) (λ t t_in. numbered_same e g agree t t_in) k inside
             ∙ statement_at e g agree k inside
-            ∙ sym ((clock_free (combinational p s) listed).changes source_run_of refl g
-            (unclocked_values g) (agree_off g) (path_to k) (path_no_clock k inside));
+            ∙ sym (cond-false (holds same_path (text_clocks text top) (path_to k)) (g (path_to k))
+            (source_run_of (unclocked_values g) (path_to k)) (path_no_clock k inside));
         first_within = λ e k outside. run_leaves design.signals f.body k
             (false_from_ne_true (assigns f.body k) (λ h. outside (flat_assigned k h))) (e, []);
-        second_within = λ g x outside. by_path g x outside (name_in p.path x) refl;
+        second_within = λ g x outside. unclocked_within source_run_of
+            (λ h. by_path h x outside (name_in p.path x) refl) g;
       }
         where
           by_path : (g : Environment Path) (x : Path) → (Contains source_system.signals x → ⊥)

@@ -9,6 +9,7 @@ use Rattle.sv_lattice.specs.declared.points.Point.{Point}
 use Rattle.sv_ast.specs.Tree.{TextTree}
 use Rattle.sv_ast.specs.Parts.{Path, signal_path}
 use Rattle.sv_ast.specs.Meaning.{label_in, is_top_input, is_register, system}
+use Rattle.sv_flatten.specs.TextSystem.{text_system}
 use Rattle.sv_flat.specs.Design.{FlatDesign}
 use Rattle.sv_flat.specs.Admission.{IsAdmitted}
 use Rattle.sv_flat.specs.Soundness.{sound}
@@ -18,14 +19,12 @@ use Rattle.sv_walk.specs.LabelSteps.{Tables}
 use Rattle.sv_walk.specs.Texts.{flat_of}
 use Rattle.sv_flatten.specs.FlattenedTexts.{CanBeFlattened}
 use Rattle.sv_flatten.proofs.PartsShapes.{IsFlattened, flattened}
-use Rattle.sv_flatten.specs.ClockFree.{ReadsNoClock}
 use Rattle.sv_flatten.proofs.PartsTexts.{SideBySide, side_by_side}
 use Rattle.sv_flatten.proofs.JoinedLattice.{IsPointNumber, IsOrderFrom, order_of, level, flow_at}
 use Rattle.sv_flatten.proofs.JoinedNumbers.{flat_signals}
 use Rattle.sv_flatten.proofs.JoinedNumbers.{to, from, to_is, from_is, at_number, signal_below}
 use Rattle.sv_flatten.proofs.JoinedNumbers.{signal_no_clock, said_at, said_within, same_signals}
 use Rattle.sv_flatten.proofs.JoinedNumbers.{same_inputs, same_widths, same_registers, input_within}
-use Rattle.sv_flatten.proofs.JoinedClockFree.{names_no_clocks}
 use Rattle.sv_flatten.proofs.JoinedLeast.{least_number}
 use Rattle.sv_flatten.proofs.JoinedLabels.{same_label}
 use Rattle.sv_flatten.proofs.JoinedRuns.{source_system, path_to}
@@ -35,8 +34,7 @@ use Rattle.sv_flatten.proofs.JoinedNext.{next_same}
 use Rattle.sv_flatten.proofs.SoundDesigns.{design_sound}
 
 module _ (text : TextTree) (top : Option (List ℕ)) (design : FlatDesign)
-    (is_sound : IsTrue (sound design)) (admitted : IsAdmitted design)
-    (clock_free : ReadsNoClock text top) where
+    (is_sound : IsTrue (sound design)) (admitted : IsAdmitted design) where
   order_is : (side : SideBySide text top design) → IsOrderFrom (points text) (pairs text) side.order
   order_is side = order_of text side.order side.lattice
 
@@ -70,7 +68,7 @@ module _ (text : TextTree) (top : Option (List ℕ)) (design : FlatDesign)
       (sym (said_at text top design side (label_in text f) (least text) s a
       (signal_no_clock text top design side s at)))
 
-  joined_side : SideBySide text top design → Joined (flat_system design) (system text top)
+  joined_side : SideBySide text top design → Joined (flat_system design) (text_system text top)
   unfolding system
   joined_side side = record {
     to = to text top design side;
@@ -95,23 +93,23 @@ module _ (text : TextTree) (top : Option (List ℕ)) (design : FlatDesign)
     second_kinds =
         λ x kind. ⊎_elim (said_within text top design side is_top_input x)
         (said_within text top design side is_register x) kind;
-    over = over text top design side is_sound admitted clock_free;
-    back = back text top design side is_sound admitted clock_free;
+    over = over text top design side is_sound admitted;
+    back = back text top design side is_sound admitted;
     next =
         λ e f agree k register.
-        next_same text top design side is_sound admitted clock_free e f agree k register;
+        next_same text top design side is_sound admitted e f agree k register;
     seen_alike = seen side;
   }
 
   pub joined : IsFlattened text → flat_of text top ≡ Some design →
-      Joined (flat_system design) (system text top)
+      Joined (flat_system design) (text_system text top)
   joined fine h = joined_side (side_by_side text top fine design h)
 
 -- where a text can be flattened
 pub flattened_joined : (text : TextTree) (top : Option (List ℕ)) (design : FlatDesign)
-    → CanBeFlattened text top → flat_of text top ≡ Some design → IsAdmitted design
-    → Joined (flat_system design) (system text top)
+    → CanBeFlattened text → flat_of text top ≡ Some design → IsAdmitted design
+    → Joined (flat_system design) (text_system text top)
 flattened_joined text top design can flat admitted =
-    let fine = flattened text top can in
+    let fine = flattened text can in
     let is_sound = design_sound text top design can.shaped fine can.lengths flat in
-    joined text top design is_sound admitted (names_no_clocks text top can.clocks) fine flat
+    joined text top design is_sound admitted fine flat

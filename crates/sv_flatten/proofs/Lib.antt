@@ -30,9 +30,6 @@ pub mod AssignedNames
 pub mod WrittenNumbers
 pub mod JoinedBodies
 pub mod JoinedNumbers
-mod Reaching
-mod PathNames
-mod RunFrames
 pub mod JoinedRegisters
 pub mod JoinedRuns
 pub mod JoinedOver
@@ -44,8 +41,6 @@ pub mod JoinedMaps
 pub mod JoinedLabels
 pub mod LatticeTests
 pub mod JoinedLeast
-pub mod JoinedClockFree
-pub mod JoinedUses
 pub mod SoundStatements
 pub mod SoundLabels
 pub mod SoundProcesses

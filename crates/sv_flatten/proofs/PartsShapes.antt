@@ -44,6 +44,6 @@ all_flattened text shaped releases numbers m at =
       );
     }
 
-pub flattened : (text : TextTree) (asked : Option (List ℕ)) → CanBeFlattened text asked →
+pub flattened : (text : TextTree) → CanBeFlattened text →
     IsFlattened text
-flattened text asked can = all_flattened text can.shaped can.releases can.numbers
+flattened text can = all_flattened text can.shaped can.releases can.numbers

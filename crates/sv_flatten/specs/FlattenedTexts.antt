@@ -2,7 +2,6 @@
 use Rattle.std.specs.Prelude.{ℕ, IsTrue, List, Option, Contains}
 use Rattle.sv_ast.specs.Tree.{ItemTree, released, always_item, ModuleTree, TextTree}
 use Rattle.sv_ast.specs.Shape.{is_shaped}
-use Rattle.sv_flatten.specs.ClockFree.{NamesNoClocks}
 use Rattle.sv_flatten.specs.Numbers.{SelectorsFit}
 use Rattle.sv_flatten.specs.WrittenLengths.{TextHasLengths}
 
@@ -21,10 +20,9 @@ abbrev pub EachItem : (ItemTree → Type 0) → TextTree → Type 0
 EachItem P text = (m : ModuleTree) → Contains text.modules m
     → (item : ItemTree) → Contains m.items item → P item
 
--- A text under its top whose meaning is that of the flat design that the walk makes of it.
-pub record CanBeFlattened (text : TextTree) (asked : Option (List ℕ)) : Type 0 where
+-- A text whose meaning under each top is that of the flat design that the walk makes of it.
+pub record CanBeFlattened (text : TextTree) : Type 0 where
   pub shaped : IsTrue (is_shaped text)
   pub releases : EachItem ReleasesNothing text
   pub numbers : EachItem ItemNumbersFit text
   pub lengths : TextHasLengths text
-  pub clocks : NamesNoClocks text asked

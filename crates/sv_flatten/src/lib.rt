@@ -16,6 +16,6 @@ pub use bodies::{
 };
 pub use laws::{
     flat_designs_do_what_their_texts_mean, noninterference_passes_to_texts,
-    one_trace_passes_to_texts, unnamed_clocks_change_nothing,
+    one_trace_passes_to_texts,
 };
 pub use soundness::{texts_stand_for_sound_designs, written_numbers_have_lengths};

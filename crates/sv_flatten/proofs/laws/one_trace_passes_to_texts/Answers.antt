@@ -1,4 +1,4 @@
-use Rattle.sv_ast.specs.Meaning.{system}
+use Rattle.sv_flatten.specs.TextSystem.{text_system}
 use Rattle.sv_flat.specs.FlatSystem.{flat_system}
 use Rattle.sv_system.proofs.JoinedTraces.{joined_one_trace}
 use Rattle.sv_flatten.proofs.JoinedWhole.{flattened_joined}
@@ -6,5 +6,5 @@ use Rattle.sv_flatten.proofs.laws.one_trace_passes_to_texts.Goals as goal
 
 pub returns : goal.returns
 returns c text asked design can flat admitted =
-    joined_one_trace (flat_system design) (system text asked)
+    joined_one_trace (flat_system design) (text_system text asked)
     (flattened_joined text asked design can flat admitted)

@@ -1,5 +1,5 @@
 // What an assignment changes.
-ghost use Rattle.std.specs.Prelude.{◌≡◌, ◌≤◌, ◌<◌, false, [], ◌∷◌, min, List, Result, Ok, Err, map};
+ghost use Rattle.std.specs.Prelude.{◌≡◌, ◌≤◌, ◌<◌, false, [], min, List, Result, Ok, Err, map};
 ghost use Rattle.std.specs.Prelude.{IfOk, IfErr, MatchOption, IsTrue};
 ghost use Rattle.std.specs.List.{list_all};
 ghost use Rattle.sv_num.specs.Vectors.{number_of as whole_number_of};
@@ -40,17 +40,10 @@ fn unknown(alloc: Global, name: &Name, place: Place) -> Fault
     ensures { (end : Result (Unit {0}) Step) → end ≡ Err (unknown_name place name.now) →
         IsBreach end result }
 {
-    match one_name(alloc, name) {
+    match name.alone(alloc) {
         Ok(names) => Fault::broken(401, place, names),
         Err(error) => Fault::from(error),
     }
-}
-
-fn one_name(alloc: Global, name: &Name) -> Result<Vec<Name>, OutOfMemory>
-    ensures { IfOk result (λ names. names.items ≡ name.now ∷ []) }
-{
-    let copy = name.copy(alloc)?;
-    Ok(vec![in alloc; copy]?)
 }
 
 // The bit that an index takes from so many, if it is one of them.

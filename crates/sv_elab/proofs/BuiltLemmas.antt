@@ -1,7 +1,7 @@
 -- The processes of an instance, one more at a time.
 use Rattle.std.proofs.Common.{◌≡◌, ℕ, Bool, true, false, List, [], ◌∷◌, ◌++◌, map, Option, Some}
 use Rattle.std.proofs.Common.{None, refl, sym, ap, ◌∙◌}
-use Rattle.std.specs.Prelude.{Result, Ok, Err, IsTrue, ◌&&◌}
+use Rattle.std.specs.Prelude.{Ok, Err, ◌&&◌}
 use Rattle.std.specs.List.{list_all}
 use Rattle.std.proofs.lemmas.Bool.{and_parts}
 use Rattle.std.proofs.lemmas.List.{map-append}
@@ -15,8 +15,8 @@ use Rattle.sv_ast.specs.Tree.{StatementTree, DeclarationTree, PlacedName}
 use Rattle.sv_flat.specs.declared.designs.Process.{Process}
 use Rattle.sv_flat.specs.Views.{process_form}
 use Rattle.sv_flat.specs.Design.{SignalForm, ProcessForm, TypedTree, FlatStatement, ProcessKind}
-use Rattle.sv_flat.specs.Design.{continuous, combinational, clocked}
-use Rattle.sv_walk.specs.Walks.{Step, Walk}
+use Rattle.sv_flat.specs.Design.{continuous}
+use Rattle.sv_walk.specs.Walks.{Step}
 use Rattle.sv_walk.specs.Rules.{unknown_name}
 use Rattle.sv_walk.specs.Names.{Names}
 use Rattle.sv_walk.specs.ExpressionSteps.{expression_walk}

@@ -1,7 +1,7 @@
 -- Where the walk of an instance ends, from what the code has in hand.
 use Rattle.std.proofs.Common.{◌≡◌, ℕ, suc, ◌+◌, Bool, true, false, not, List, [], ◌∷◌, ◌++◌, length}
-use Rattle.std.proofs.Common.{map, Option, Some, None, append_assoc, refl, sym, ap, ◌∙◌}
-use Rattle.std.specs.Prelude.{Result, Ok, Err, ◌&&◌, nat_lt}
+use Rattle.std.proofs.Common.{Option, Some, None, append_assoc, refl, sym, ap, ◌∙◌}
+use Rattle.std.specs.Prelude.{Ok, Err, ◌&&◌, nat_lt}
 use Rattle.std.specs.List.{list_all, list_any}
 use Rattle.std.specs.Str.{bytes_eq}
 use Rattle.std.proofs.lemmas.List.Folds.{list_any-append}
@@ -18,7 +18,7 @@ use Rattle.sv_walk.specs.Names.{Names}
 use Rattle.sv_walk.specs.Declarations.{Site, nothing_declared}
 use Rattle.sv_walk.specs.LabelSteps.{Tables}
 use Rattle.sv_walk.specs.Overrides.{overrides_walk}
-use Rattle.sv_walk.specs.Links.{Ports, links_walk}
+use Rattle.sv_walk.specs.Links.{links_walk}
 use Rattle.sv_walk.specs.InstanceSteps.{Built, ports_of, instance_walk, instance_names, item_walk}
 use Rattle.sv_walk.specs.InstanceSteps.{items_from, site_walk}
 use Rattle.sv_declare.specs.Sites.{SameSite, header_items}

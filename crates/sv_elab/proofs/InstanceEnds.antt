@@ -1,6 +1,6 @@
 -- Where the walk of an instance ends.
-use Rattle.std.proofs.Common.{◌≡◌, ℕ, zero, suc, ◌+◌, Bool, true, false, not, List, [], ◌∷◌, ◌++◌}
-use Rattle.std.proofs.Common.{length, map, Option, Some, None, refl, sym, ap, ◌∙◌}
+use Rattle.std.proofs.Common.{◌≡◌, ℕ, suc, ◌+◌, Bool, true, false, not, List, [], ◌∷◌, ◌++◌}
+use Rattle.std.proofs.Common.{length, map, Option, Some, None, refl, ap, ◌∙◌}
 use Rattle.std.specs.Prelude.{Result, Ok, Err, nat_lt}
 use Rattle.std.specs.List.{list_any}
 use Rattle.std.specs.Str.{bytes_eq}
@@ -15,14 +15,13 @@ use Rattle.sv_walk.specs.Walks.{Step, Walk, ask, done, found, then_walk, ◌>>=�
 use Rattle.sv_walk.specs.Rules.{unknown_module, twice, recursive, too_many}
 use Rattle.sv_walk.specs.Names.{Names, names_of}
 use Rattle.sv_walk.specs.Declarations.{Site, Declared, nothing_declared, declarations_walk}
-use Rattle.sv_walk.specs.Declarations.{declared_until}
 use Rattle.sv_walk.specs.LabelSteps.{Tables, labels_walk}
 use Rattle.sv_walk.specs.Overrides.{overrides_walk}
 use Rattle.sv_walk.specs.Links.{Ports, links_walk}
 use Rattle.sv_walk.specs.InstanceSteps.{Built, ports_of, instance_walk, instance_names, item_walk}
 use Rattle.sv_walk.specs.InstanceSteps.{items_from, module_walk, site_walk}
 use Rattle.sv_walk.specs.Texts.{top_walk}
-use Rattle.sv_walk.proofs.WalkLemmas.{end_after, end_broken, joined_ends}
+use Rattle.sv_walk.proofs.WalkLemmas.{end_after, end_broken}
 use Rattle.sv_walk.proofs.DeclarationLemmas.{declared_in_two}
 use Rattle.sv_declare.specs.Sites.{header_items}
 use Rattle.sv_elab.specs.Instances.{master_walk, linked_walk, Opened, opened_walk}

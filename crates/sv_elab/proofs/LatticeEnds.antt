@@ -24,8 +24,8 @@ use Rattle.sv_walk.specs.Lattices.{pair_steps, order_steps, checked_order}
 use Rattle.sv_walk.proofs.LatticeLemmas.{table_is_exact}
 use Rattle.sv_walk.proofs.WalkLemmas.{end_after, end_broken}
 use Rattle.sv_elab.proofs.PairSteps.{pairs_done, pairs_broken}
-use Rattle.sv_elab.proofs.LatticeTests.{same_sets, gather, apart_test, join_test, turned_length}
-use Rattle.sv_elab.proofs.LatticeTests.{turned_test}
+use Rattle.sv_flatten.proofs.LatticeTests.{same_sets, gather, apart_test, join_test, turned_length}
+use Rattle.sv_flatten.proofs.LatticeTests.{turned_test}
 
 -- two tables of the same pairs are the same
 pub one_table : (n : ℕ) (pairs : List (ℕ × ℕ)) (t u : List ℕ) → IsTableOf n pairs t →

@@ -1,7 +1,6 @@
 pub mod EarliestLemmas
 pub mod NameLemmas
 pub mod PairSteps
-pub mod LatticeTests
 pub mod LatticeEnds
 pub mod DeclaredLattices
 pub mod ModuleLemmas
@@ -16,5 +15,7 @@ pub mod NestLemmas
 pub mod OpenedEnds
 pub mod TextEnds
 pub mod TextLemmas
+pub mod TextCode
+pub mod TextSound
 pub mod LeastLemmas
 pub mod BuiltLemmas

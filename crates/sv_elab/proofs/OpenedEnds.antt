@@ -1,7 +1,7 @@
 -- Where the walk of an instance's signals ends, as the code comes to it.
 use Rattle.std.proofs.Common.{◌≡◌, ℕ, Bool, true, false, cond, List, [], ◌∷◌, ◌++◌, length, map}
-use Rattle.std.proofs.Common.{find, Some, refl, sym, ap, ◌∙◌}
-use Rattle.std.specs.Prelude.{Result, Ok, Err, option_map, is_some, ◌||◌}
+use Rattle.std.proofs.Common.{find, Some, refl, ap, ◌∙◌}
+use Rattle.std.specs.Prelude.{Ok, Err, option_map, is_some, ◌||◌}
 use Rattle.std.specs.List.{list_any}
 use Rattle.std.specs.Str.{bytes_eq}
 use Rattle.sv_ast.specs.Scopes.{Binding, Scope}
@@ -21,7 +21,7 @@ use Rattle.sv_width.specs.declared.meanings.Meaning.{Meaning}
 use Rattle.sv_width.specs.Scopes.{Known, binding_of}
 use Rattle.sv_declare.specs.Sites.{bindings_in, header_items}
 use Rattle.sv_declare.proofs.NameLemmas.{bindings_same}
-use Rattle.sv_elab.specs.Instances.{Opened, opened_walk, linked_walk, ports_with}
+use Rattle.sv_elab.specs.Instances.{opened_walk, linked_walk, ports_with}
 
 module _ (tables : Tables) (site : Site) (built : Built) (base : ℕ)
     (sized : length built.signals ≡ base) where

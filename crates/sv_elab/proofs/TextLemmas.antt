@@ -1,17 +1,15 @@
 -- What a shaped text is made of, and how many maps it has.
 use Rattle.std.proofs.Common.{◌≡◌, ℕ, ◌+◌, Bool, true, false, cond, List, [], ◌∷◌, ◌++◌, length}
 use Rattle.std.proofs.Common.{find, filter, Option, Some, None, refl, sym, ap, ◌∙◌, arith}
-use Rattle.std.specs.Prelude.{Ok, Err, ◌&&◌}
-use Rattle.std.specs.List.{list_all, list_any, flat_map}
+use Rattle.std.specs.Prelude.{Ok, ◌&&◌}
+use Rattle.std.specs.List.{list_all}
 use Rattle.std.specs.Str.{bytes_eq}
 use Rattle.std.proofs.lemmas.Bool.{and_parts}
 use Rattle.std.proofs.lemmas.List.{length-append}
 use Rattle.sv_lattice.specs.Maps.{MapRows}
 use Rattle.sv_ast.specs.Tree.{MapTree, ModuleTree}
-use Rattle.sv_ast.specs.Instances.{only, masters, module_named, top_module}
+use Rattle.sv_ast.specs.Instances.{only, top_module}
 use Rattle.sv_ast.specs.Shape.{is_shaped_module}
-use Rattle.sv_walk.specs.Walks.{Walk}
-use Rattle.sv_walk.specs.Rules.{no_top}
 use Rattle.sv_walk.specs.LabelMaps.{map_walk, maps_walk}
 use Rattle.sv_walk.proofs.WalkLemmas.{parts_done}
 

@@ -1,5 +1,5 @@
 -- The parts of an instance's walk, as the code takes them.
-use Rattle.std.specs.Prelude.{◌≡◌, ℕ, ◌+◌, ◌≤◌, ◌<◌, ◌^◌, not, nat_lt, List, [], ◌∷◌, ◌++◌, length}
+use Rattle.std.specs.Prelude.{◌≡◌, ℕ, ◌≤◌, ◌<◌, ◌^◌, not, nat_lt, List, ◌++◌, length}
 use Rattle.std.specs.Prelude.{map, Option, Some, None, Result, Ok, IsTrue}
 use Rattle.std.specs.List.{list_any, list_all, position_from}
 use Rattle.std.specs.Str.{bytes_eq}
@@ -15,7 +15,7 @@ use Rattle.sv_ast.specs.Tree.{PlacedName}
 use Rattle.sv_ast.specs.Views.{declaration_tree, module_tree}
 use Rattle.sv_flat.specs.Design.{ProcessKind, combinational, clocked, ProcessForm}
 use Rattle.sv_flat.specs.Views.{signal_form, process_form}
-use Rattle.sv_walk.specs.Declarations.{Site, Declared, nothing_declared, declarations_walk}
+use Rattle.sv_walk.specs.Declarations.{Site, nothing_declared, declarations_walk}
 use Rattle.sv_walk.specs.InstanceSteps as walk
 use Rattle.sv_walk.specs.LabelSteps.{Tables, labels_walk}
 use Rattle.sv_walk.specs.Links as links

@@ -1,6 +1,5 @@
 -- The instances that one stands in, as the code holds them.
 use Rattle.std.specs.Prelude.{ℕ, List, [], ◌∷◌, ◌++◌}
-use Rattle.sv_ast.specs.Tree.{ModuleTree}
 use Rattle.sv_walk.specs.Declarations.{Site}
 
 -- the names of the instances down to one, and the names of the modules that it stands inside of,

@@ -1,10 +1,14 @@
 //! Elaboration: from a source tree to the flat design that it stands for, or to the first rule that
 //! the walk of the tree breaks (IEEE 1364-2005, clause 12; SecVerilog, ASPLOS 2015).
 //!
-//! The lattice, the label maps, the names of modules, the top module and the instances in it are
-//! built, each as that part of the walk ends (`sv_walk`, `specs/Texts.antt` and the files below
-//! it): with what it finds, or with the rule, place and names of the step that is broken first. The
-//! call that joins them for a whole text is still to come. Expressions, statements and declarations
+//! `elaborate` takes a text of the shape that the grammar gives, and answers as the walk of the
+//! whole text ends (`sv_walk`, `specs/Texts.antt` and the files below it): with the flat design
+//! that the walk finds, or with the rule, place and names of the step that is broken first. The
+//! design of a text that releases nothing is sound (`sv_flat`, `specs/Soundness.antt`;
+//! `sv_flatten`). It fails otherwise only where memory runs out.
+//!
+//! On the way the lattice, the label maps, the names of modules, the top module and the instances
+//! in it are built, each as that part of the walk ends. Expressions, statements and declarations
 //! are the work of `sv_width`, `sv_body` and `sv_declare`.
 //!
 //! Of its own definitions callers read `specs/Modules.antt` alone. The others say what the steps of
@@ -22,8 +26,10 @@ mod modules;
 mod nests;
 mod processes;
 mod shared;
+mod texts;
 mod wrong_names;
 
 pub use lattices::{Points, lattice};
 pub use maps::label_maps;
 pub use modules::{module_names, top_module};
+pub use texts::elaborate;

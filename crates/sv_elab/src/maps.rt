@@ -7,7 +7,7 @@ ghost use Rattle.sv_num.specs.Vectors.{number_of};
 ghost use Rattle.sv_token.specs.Lexemes.{literal_of};
 ghost use Rattle.sv_lattice.specs.Maps.{MapRows, IsMap};
 ghost use Rattle.sv_ast.specs.Shape.{is_number, is_plain_span, is_shaped_map};
-ghost use Rattle.sv_ast.specs.Values.{whole_number, natural};
+ghost use Rattle.sv_ast.specs.Values.{whole_number};
 ghost use Rattle.sv_ast.specs.Views.{expression_tree, span_tree, row_tree, map_tree, text_tree};
 ghost use Rattle.sv_walk.specs.Lattices.{point_number};
 ghost use Rattle.sv_walk.specs.ExpressionSteps.{is_below};
@@ -28,6 +28,7 @@ use sv_ast::{Expr, MapText, Span};
 use sv_lattice::{LabelMap, Point};
 use sv_num::{Bits, Fault, Name, OutOfMemory, Place};
 use sv_token::Lit;
+use sv_width::natural;
 
 /// The most bits that the ranges of a map have in all.
 const MOST_BITS: u8 = 8;
@@ -42,24 +43,13 @@ struct Ranges {
     second: Option<u8>,
 }
 
-// A value as a whole number by its own sign, if it is not negative.
-fn whole(bits: Bits) -> Option<u64>
-    ensures { result ≡ whole_part (number_of bits) }
-{
-    if bits.signed() && bits.value() >> (bits.width() - 1) == 1 {
-        None
-    } else {
-        Some(bits.value())
-    }
-}
-
 // The whole number that a plain bound is, if it is not negative.
 fn bound(expr: &Expr) -> Option<u64>
     requires { IsTrue (is_number (expression_tree expr.now)) }
     ensures { result ≡ whole_part (whole_number no_names (expression_tree expr.now)) }
 {
     match expr {
-        Expr::Number(number, _) => whole(number.bits),
+        Expr::Number(number, _) => natural(number.bits),
         _ => unreachable!(),
     }
 }
@@ -110,7 +100,7 @@ fn key_part(bits: Bits, width: u8) -> Option<u64>
     ensures { MatchOption result (is_below (2 ^ width) (number_of bits) ≡ false) (λ value.
         IsPart width bits value) }
 {
-    let value = whole(bits)?;
+    let value = natural(bits)?;
     if value < 1 << width {
         Some(value)
     } else {

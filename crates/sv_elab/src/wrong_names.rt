@@ -101,20 +101,12 @@ pub(crate) fn with_pairs<'a>(
     wrong
 }
 
-// A copy of a name, alone.
-fn one_name(alloc: Global, name: &Name) -> Result<Vec<Name>, OutOfMemory>
-    ensures { IfOk result (λ names. names.items ≡ name.now ∷ []) }
-{
-    let copy = name.copy(alloc)?;
-    Ok(vec![in alloc; copy]?)
-}
-
 /// The refusal by a rule that names one name.
 pub(crate) fn refusal(alloc: Global, rule: u16, place: Place, name: &Name) -> Fault
     ensures { (end : Result (Unit {0}) Step) → end ≡ Err (step rule place (name.now ∷ [])) →
         IsBreach end result }
 {
-    match one_name(alloc, name) {
+    match name.alone(alloc) {
         Ok(names) => Fault::broken(rule, place, names),
         Err(error) => Fault::from(error),
     }

@@ -20,7 +20,7 @@ use crate::measured::{Measured, value, whole_signal};
 use crate::scope::Scope;
 use std::alloc::Global;
 use sv_ast::Expr;
-use sv_num::{Fault, Name, OutOfMemory, Place};
+use sv_num::{Fault, Name, Place};
 
 /// Which names an expression may name.
 #[derive(Clone, Copy, Debug, PartialEq, Eq)]
@@ -46,17 +46,10 @@ fn unknown(alloc: Global, name: &Name, place: Place) -> Fault
     ensures { (end : Result (Unit {0}) Step) → end ≡ Err (unknown_name place name.now) →
         IsBreach end result }
 {
-    match one_name(alloc, name) {
+    match name.alone(alloc) {
         Ok(names) => Fault::broken(401, place, names),
         Err(error) => Fault::from(error),
     }
-}
-
-fn one_name(alloc: Global, name: &Name) -> Result<Vec<Name>, OutOfMemory>
-    ensures { IfOk result (λ names. names.items ≡ name.now ∷ []) }
-{
-    let copy = name.copy(alloc)?;
-    Ok(vec![in alloc; copy]?)
 }
 
 /// A whole name.

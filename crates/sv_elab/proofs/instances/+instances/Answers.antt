@@ -1,16 +1,14 @@
-use Rattle.std.proofs.Common.{◌≡◌, ℕ, suc, ◌+◌, ◌-◌, ◌≤◌, true, List, [], ◌∷◌, ◌++◌, length, map}
+use Rattle.std.proofs.Common.{◌≡◌, ℕ, suc, ◌+◌, ◌-◌, List, [], ◌∷◌, ◌++◌, length, map}
 use Rattle.std.proofs.Common.{drop, refl, sym, ap, ◌∙◌, arith}
 use Rattle.std.specs.List.{list_all}
-use Rattle.std.specs.Str.{bytes_eq}
 use Rattle.std.proofs.lemmas.Bool.{and_parts}
 use Rattle.std.proofs.lemmas.List.{length-map, append-nil}
 use Rattle.std.proofs.lemmas.Result.{err_from_is_err_and}
 use Rattle.sv_ast.specs.Shape.{is_shaped_item}
 use Rattle.sv_ast.specs.Views.{instance_tree, item_tree, module_tree}
-use Rattle.sv_ast.specs.declared.modules.Item.{Item}
 use Rattle.sv_flat.specs.Views.{signal_form, process_form}
 use Rattle.sv_walk.specs.Declarations.{Site}
-use Rattle.sv_walk.specs.InstanceSteps.{instance_names, item_walk, items_from, site_walk}
+use Rattle.sv_walk.specs.InstanceSteps.{item_walk, items_from, site_walk}
 use Rattle.sv_width.specs.Scopes.{Known, names_of}
 use Rattle.sv_declare.specs.Sites.{SameSite, tables_of, settings_of}
 use Rattle.sv_elab.specs.Instances.{Opened, built_form, declared_names, taken_in, opened}

@@ -1,17 +1,14 @@
-use Rattle.std.proofs.Common.{◌≡◌, ℕ, ◌+◌, ◌≤◌, List, ◌++◌, length, map, sym, ap, subst, ◌∙◌, arith}
-use Rattle.std.specs.Prelude.{Result, Ok, is_ok}
+use Rattle.std.proofs.Common.{◌≡◌, ◌+◌, ◌≤◌, ◌++◌, length, map, sym, ap, ◌∙◌, arith}
+use Rattle.std.specs.Prelude.{Ok, is_ok}
 use Rattle.std.proofs.lemmas.List.{length-map, map-append}
 use Rattle.std.proofs.lemmas.Result.{err_from_is_err_and}
 use Rattle.sv_ast.specs.Parts.{declarations}
 use Rattle.sv_ast.specs.Views.{module_tree}
-use Rattle.sv_flat.specs.Design.{SignalForm}
-use Rattle.sv_flat.specs.Views.{signal_form, process_form}
-use Rattle.sv_walk.specs.InstanceSteps.{Built}
+use Rattle.sv_flat.specs.Views.{signal_form}
 use Rattle.sv_walk.specs.LabelSteps.{labels_walk}
 use Rattle.sv_walk.specs.Names.{Names}
-use Rattle.sv_walk.specs.Walks.{Step}
 use Rattle.sv_declare.specs.Sites.{site_of, tables_of, declared_of}
-use Rattle.sv_elab.specs.Instances.{Opened, built_form, opened_walk}
+use Rattle.sv_elab.specs.Instances.{built_form, opened_walk}
 use Rattle.sv_elab.proofs.CountLemmas.{all_declared, labels_length, few_either}
 use Rattle.sv_elab.proofs.DeclaredLattices.{breach_on}
 use Rattle.sv_elab.proofs.OpenedEnds.{labels_broken, names_taken, opened_end}

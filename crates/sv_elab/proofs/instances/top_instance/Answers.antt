@@ -1,4 +1,4 @@
-use Rattle.std.proofs.Common.{◌≡◌, ℕ, List, [], ◌∷◌, map, refl, sym, ap, ◌∙◌}
+use Rattle.std.proofs.Common.{◌≡◌, [], ◌∷◌, map, refl, sym, ap, ◌∙◌}
 use Rattle.std.specs.List.{list_all}
 use Rattle.std.proofs.lemmas.Result.{err_from_is_err_and}
 use Rattle.sv_ast.specs.Instances.{entry}
@@ -7,7 +7,6 @@ use Rattle.sv_ast.specs.Views.{item_tree, module_tree}
 use Rattle.sv_flat.specs.Views.{signal_form, process_form}
 use Rattle.sv_walk.specs.Declarations.{Site, nothing_declared}
 use Rattle.sv_walk.specs.InstanceSteps.{Built, items_from, site_walk}
-use Rattle.sv_walk.specs.Walks.{Step}
 use Rattle.sv_declare.specs.Sites.{SameSite, tables_of, settings_of}
 use Rattle.sv_declare.proofs.SameSites.{same_walk}
 use Rattle.sv_elab.specs.Instances.{Opened, built_form, opened_walk, opened}

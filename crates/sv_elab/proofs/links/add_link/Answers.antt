@@ -1,5 +1,5 @@
-use Rattle.std.proofs.Common.{◌≡◌, List, [], ◌∷◌, ◌++◌, map, sym, ap, refl, ◌∙◌}
-use Rattle.std.specs.Prelude.{Ok, option_map}
+use Rattle.std.proofs.Common.{[], ◌∷◌, map, sym, ap}
+use Rattle.std.specs.Prelude.{option_map}
 use Rattle.std.proofs.lemmas.List.{append-nil}
 use Rattle.std.proofs.lemmas.Result.{err_from_is_err_and}
 use Rattle.sv_ast.specs.Views.{declaration_tree, expression_tree}

@@ -1,7 +1,7 @@
-use Rattle.std.proofs.Common.{◌≡◌, List, [], map, sym, ap, ◌∙◌}
+use Rattle.std.proofs.Common.{List, [], map, sym, ap, ◌∙◌}
 use Rattle.sv_ast.specs.declared.expressions.Expr.{Expr}
 use Rattle.sv_ast.specs.declared.modules.Links.{Links}
-use Rattle.sv_ast.specs.Views.{declaration_tree, expression_tree, module_tree, named_link}
+use Rattle.sv_ast.specs.Views.{expression_tree, module_tree, named_link}
 use Rattle.sv_ast.specs.Views.{link_trees}
 use Rattle.sv_flat.specs.Views.{process_form}
 use Rattle.sv_walk.specs.Links.{links_walk, named_links_walk, ordered_links_walk}

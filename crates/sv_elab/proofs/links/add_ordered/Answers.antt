@@ -1,6 +1,6 @@
-use Rattle.std.proofs.Common.{◌≡◌, ◌+◌, ◌<◌, ◌≤◌, length, get_or, subst, true, List, ℕ, [], ◌∷◌}
-use Rattle.std.proofs.Common.{◌++◌, drop, map, Option, Some, None, sym, ap, ◌∙◌}
-use Rattle.std.specs.Prelude.{Result, Ok, Err}
+use Rattle.std.proofs.Common.{◌≡◌, ◌+◌, ◌<◌, ◌≤◌, length, get_or, subst, List, [], ◌∷◌}
+use Rattle.std.proofs.Common.{drop, map, sym, ap, ◌∙◌}
+use Rattle.std.specs.Prelude.{Result, Err}
 use Rattle.std.specs.List.{list_all}
 use Rattle.std.proofs.lemmas.Bool.{and_parts}
 use Rattle.std.proofs.lemmas.Result.{err_from_is_err_and}

@@ -1,7 +1,6 @@
 use Rattle.std.proofs.Common.{ap, ◌∙◌}
 use Rattle.sv_ast.specs.ClockPaths.{is_input_kind}
 use Rattle.sv_ast.specs.Views.{declaration_tree, expression_tree}
-use Rattle.sv_walk.specs.Links.{link_walk}
 use Rattle.sv_width.specs.Scopes.{names_of}
 use Rattle.sv_width.proofs.Breaches.{ok_weaker, err_weaker}
 use Rattle.sv_elab.specs.Instances.{ports_form}

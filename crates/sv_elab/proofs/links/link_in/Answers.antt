@@ -1,5 +1,5 @@
-use Rattle.std.proofs.Common.{◌≡◌, ℕ, sym, ap, ◌∙◌}
-use Rattle.std.specs.Prelude.{Result, Ok, Err}
+use Rattle.std.proofs.Common.{sym, ap, ◌∙◌}
+use Rattle.std.specs.Prelude.{Result, Ok}
 use Rattle.std.proofs.lemmas.Result.{err_from_is_err_and}
 use Rattle.sv_num.specs.declared.faults.Place.{Place}
 use Rattle.sv_ast.specs.Views.{declaration_tree, expression_tree}
@@ -8,7 +8,7 @@ use Rattle.sv_flat.specs.Views.{typed_tree}
 use Rattle.sv_walk.specs.Walks.{Step}
 use Rattle.sv_walk.specs.ExpressionSteps.{expression_walk}
 use Rattle.sv_walk.specs.Names.{place_of}
-use Rattle.sv_walk.specs.Links.{whole_assignment, port_number, port_width, input_link}
+use Rattle.sv_walk.specs.Links.{whole_assignment, port_number, input_link}
 use Rattle.sv_width.specs.Scopes.{names_of}
 use Rattle.sv_elab.specs.Instances.{ports_form}
 use Rattle.sv_elab.proofs.DeclaredLattices.{breach_on}

@@ -8,5 +8,5 @@ use Rattle.sv_elab.proofs.maps.bound.Goals as goal
 
 pub returns : goal.returns
 returns c =
-    c.whole.ensures ∙ ap whole_part (sym (plain_number c.in-Number.number c.in-Number.field-1))
+    c.natural.ensures ∙ ap whole_part (sym (plain_number c.in-Number.number c.in-Number.field-1))
     ∙ ap (λ e. whole_part (whole_number no_names (expression_tree e))) (sym c.in-Number.is)

@@ -1,9 +1,7 @@
-use Rattle.std.proofs.Common.{List, ℕ, map, ap, ◌∙◌}
-use Rattle.std.specs.Prelude.{Ok, option_map}
-use Rattle.std.specs.Borrow.{Bor}
+use Rattle.std.proofs.Common.{map, ap, ◌∙◌}
+use Rattle.std.specs.Prelude.{Ok}
 use Rattle.std.proofs.lemmas.Result.{err_from_is_err_and}
-use Rattle.sv_num.specs.declared.faults.Place.{Place}
-use Rattle.sv_ast.specs.Views.{placed_name, statement_tree}
+use Rattle.sv_ast.specs.Views.{statement_tree}
 use Rattle.sv_flat.specs.Views.{signal_form, process_kind, flat_statement}
 use Rattle.sv_walk.specs.InstanceSteps.{Built, always_walk}
 use Rattle.sv_width.specs.Scopes.{names_of}

@@ -7,7 +7,6 @@ use Rattle.sv_ast.specs.Shape.{has_target, is_shaped_target}
 use Rattle.sv_ast.specs.Views.{expression_tree, target_tree}
 use Rattle.sv_flat.specs.Views.{signal_form, flat_statement}
 use Rattle.sv_walk.specs.InstanceSteps.{Built, assign_walk}
-use Rattle.sv_walk.specs.Targets.{assignment_walk}
 use Rattle.sv_width.specs.Scopes.{names_of}
 use Rattle.sv_elab.specs.Instances.{built_form}
 use Rattle.sv_elab.proofs.DeclaredLattices.{breach_on}
@@ -17,7 +16,8 @@ use Rattle.sv_elab.proofs.processes.add_assign.Goals as goal
 pub assignment-requires-clause-targets : goal.assignment-requires-clause-targets
 assignment-requires-clause-targets c =
     let ts = map target_tree c.args.targets.now in
-    (and_parts (has_target ts) (list_all is_shaped_target ts) (whole_targets ts c.requires.targets)).1
+    (and_parts (has_target ts) (list_all is_shaped_target ts)
+    (whole_targets ts c.requires.targets)).1
 
 pub returns-in_err-body-clause-broken : goal.returns-in_err-body-clause-broken
 returns-in_err-body-clause-broken c =

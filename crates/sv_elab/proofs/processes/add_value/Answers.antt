@@ -1,14 +1,13 @@
-use Rattle.std.proofs.Common.{◌≡◌, true, map, ap, sym, subst, ◌∙◌}
-use Rattle.std.specs.Prelude.{Ok, Err, Result, option_map}
+use Rattle.std.proofs.Common.{map, ap, sym, ◌∙◌}
+use Rattle.std.specs.Prelude.{Ok, option_map}
 use Rattle.std.proofs.lemmas.Result.{err_from_is_err_and}
 use Rattle.sv_ast.specs.Scopes.{width_of}
 use Rattle.sv_ast.specs.Views.{declaration_tree, expression_tree}
-use Rattle.sv_flat.specs.Design.{TypedTree, continuous}
+use Rattle.sv_flat.specs.Design.{continuous}
 use Rattle.sv_flat.specs.Views.{signal_form, typed_tree}
 use Rattle.sv_walk.specs.ExpressionSteps.{expression_walk}
 use Rattle.sv_walk.specs.InstanceSteps.{Built, with_process, value_walk}
 use Rattle.sv_walk.specs.Links.{whole_assignment}
-use Rattle.sv_walk.specs.Walks.{Step}
 use Rattle.sv_width.specs.Scopes.{names_of}
 use Rattle.sv_elab.specs.Instances.{built_form}
 use Rattle.sv_elab.proofs.DeclaredLattices.{breach_on}

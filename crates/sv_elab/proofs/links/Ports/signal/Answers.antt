@@ -1,4 +1,4 @@
-use Rattle.std.proofs.Common.{◌≡◌, ℕ, ◌+◌, sym, ap, ◌∙◌, map, position}
+use Rattle.std.proofs.Common.{◌+◌, sym, ap, ◌∙◌, map}
 use Rattle.std.specs.Prelude.{unwrap_or}
 use Rattle.std.specs.Str.{bytes_eq}
 use Rattle.std.proofs.lemmas.Iterator.Adapters.{position_from-zero}

@@ -1,0 +1,94 @@
+// The flat design of a text.
+ghost use Rattle.std.specs.Prelude.{◌≡◌, ◌<◌, ◌^◌, Ok, map, length, IfSome, IfOk, IfErr, IsTrue};
+ghost use Rattle.sv_ast.specs.Shape.{is_shaped};
+ghost use Rattle.sv_ast.specs.Views.{text_tree};
+ghost use Rattle.sv_flat.specs.Soundness.{sound};
+ghost use Rattle.sv_flat.specs.Views.{design_of};
+ghost use Rattle.sv_walk.specs.Texts.{walk_of};
+ghost use Rattle.sv_width.specs.Answers.{IsBreach};
+ghost use Rattle.sv_flatten.specs.FlattenedTexts.{ReleasesNothing, EachItem};
+ghost use Rattle.sv_elab.specs.Modules.{asked_name};
+
+use crate::instances::top_instance;
+use crate::lattices::lattice;
+use crate::maps::label_maps;
+use crate::modules::{module_names, top_module};
+use crate::shared::Shared;
+use indexmap::IndexMap;
+use std::alloc::Global;
+use sv_ast::Text;
+use sv_declare::Tables;
+use sv_flat::Flat;
+use sv_lattice::LabelMap;
+use sv_num::{Fault, Name, OutOfMemory};
+
+// The maps in their order.
+fn listed(alloc: Global, maps: IndexMap<Name, LabelMap>) -> Result<Vec<LabelMap>, OutOfMemory>
+    ensures { IfOk result (λ list. list.items ≡ map (λ e. e.1) maps.entries) }
+{
+    Ok(maps.into_values().collect(alloc)?)
+}
+
+// The module that is asked for, as a name.
+fn name_asked_for(alloc: Global, top: Option<&str>) -> Result<Option<Name>, OutOfMemory>
+    ensures { IfOk result (λ name. name ≡ asked_name top.entry) }
+{
+    match top {
+        Some(word) => Ok(Some(Name::new(alloc, word.as_bytes())?)),
+        None => Ok(None),
+    }
+}
+
+// As `elaborate`, with the name of the module that is asked for.
+fn elaborate_under(alloc: Global, text: &Text, top: Option<&Name>) -> Result<Flat, Fault>
+    requires shaped { IsTrue (is_shaped (text_tree text.now)) }
+    requires pairs { IfSome text.now.lattice (λ l. length l.pairs.items < 2 ^ 32) }
+    requires maps { length text.now.maps.items < 2 ^ 32 }
+    ensures found { IfOk result
+        (λ f. (walk_of (text_tree text.now) (asked_name top.entry)).end ≡ Ok (design_of f)) }
+    ensures broken { IfErr result
+        (IsBreach (walk_of (text_tree text.now) (asked_name top.entry)).end) }
+{
+    let points = lattice(alloc, text)?;
+    let maps = label_maps(alloc, &points, &text.maps)?;
+    let names = module_names(alloc, &text.modules)?;
+    let master = top_module(alloc, &text.modules, &names, top)?;
+    let shared = Shared {
+        tables: Tables {
+            modules: &text.modules,
+            points: points.names(),
+            least: points.least(),
+            maps: &maps,
+        },
+        names: &names,
+    };
+    let built = top_instance(alloc, &shared, master)?;
+    let (points, lattice) = points.into_parts(alloc)?;
+    Ok(Flat {
+        signals: built.signals,
+        processes: built.processes,
+        lattice,
+        points,
+        maps: listed(alloc, maps)?,
+        invariants: Vec::new(alloc),
+    })
+}
+
+/// The flat design that a text stands for, under the module that is asked for as its top or else
+/// the only one that no module has an instance of; or the first rule that the walk of the text
+/// breaks. Memories, invariants and released values are passed over: a text with one is refused
+/// before. The design of a text that releases nothing is sound.
+pub fn elaborate(alloc: Global, text: &Text, top: Option<&str>) -> Result<Flat, Fault>
+    requires shaped { IsTrue (is_shaped (text_tree text.now)) }
+    requires pairs { IfSome text.now.lattice (λ l. length l.pairs.items < 2 ^ 32) }
+    requires maps { length text.now.maps.items < 2 ^ 32 }
+    ensures found { IfOk result
+        (λ f. (walk_of (text_tree text.now) (asked_name top.entry)).end ≡ Ok (design_of f)) }
+    ensures sound { EachItem ReleasesNothing (text_tree text.now)
+        → IfOk result (λ f. IsTrue (sound (design_of f))) }
+    ensures broken { IfErr result
+        (IsBreach (walk_of (text_tree text.now) (asked_name top.entry)).end) }
+{
+    let name = name_asked_for(alloc, top)?;
+    elaborate_under(alloc, text, name.as_ref())
+}

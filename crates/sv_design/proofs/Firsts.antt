@@ -119,7 +119,7 @@ one_rule number a b = unequal number (found_before a b)
 
 -- ---- first of two lists
 
-not_before : (o b a : Breach) → IsFalse (comes_before o a) → IsTrue (comes_before b a) →
+pub not_before : (o b a : Breach) → IsFalse (comes_before o a) → IsTrue (comes_before b a) →
     IsFalse (comes_before o b)
 not_before o b a h k = ⊎_elim
     (λ before. absurd (false≢true (sym h ∙ before_chain o b a before k)))
@@ -181,7 +181,7 @@ module _ (xs ys : List Breach) where
   finds_both number (Some f) None p q = second_none (breach_of number f) p q
   finds_both number (Some f) (Some o) p q = chosen number f o (found_before o f) refl p q
 
-itself : (found : Found) → IsFalse (found_before found found)
+pub itself : (found : Found) → IsFalse (found_before found found)
 itself found =
     unequal found.place.line
     (then_by found.place.column found.place.column (nat_lt found.signal.0 found.signal.0))

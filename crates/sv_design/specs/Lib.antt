@@ -12,6 +12,13 @@ pub mod DriverTables
 pub mod Graphs
 pub mod Marks
 pub mod Searches
+pub mod Orders
+pub mod Circles
 pub mod Links
 pub mod Feeds
 pub mod Selectors
+pub mod Queues
+pub mod Depths
+pub mod Tops
+pub mod ClockTables
+pub mod Refusals

@@ -2,6 +2,7 @@
 use Rattle.std.specs.Prelude.{◌≡◌, ◌<◌, ◌⊎◌, ◌+◌, ℕ, Bool, ◌&&◌, ◌||◌, nat_lt, nat_le, List, []}
 use Rattle.std.specs.Prelude.{◌∷◌, ◌++◌, length, map, slice_set, slice_index_or, Option, Some, None}
 use Rattle.std.specs.Prelude.{is_some, is_none, count_by, IsTrue, Contains, if◌then◌else◌}
+use Rattle.std.specs.Prelude.{slice_index}
 use Rattle.sv_flat.specs.Sets.{holds, least_set}
 use Rattle.sv_design.specs.declared.graphs.Graph.{Graph}
 use Rattle.sv_design.specs.declared.searches.Search.{Search}
@@ -83,3 +84,21 @@ Visits old new least s from =
     × (new.places.items
     ≡ (if is_passed old least s then old.places.items
     else slice_set old.places.items s (Some (length (found_by old)))))
+
+-- every signal but the first was led to from an earlier place
+abbrev pub LeadsDown : Search → Type 0
+LeadsDown search =
+    (i : ℕ) → 0 < i → i < length (found_by search) → slice_index (led_by search) i < i
+
+-- the signals on the way back from a place to the first one: the one there, the one at the place
+-- that led to it, and so on, the first one left out
+abbrev pub IsWayBack : Search → (place : ℕ) → List ℕ → Type 0
+IsWayBack search place [] = place ≡ 0
+IsWayBack search place (s ∷ way) =
+    (0 < place) × (slice_index (found_by search) place ≡ s)
+    × IsWayBack search (slice_index (led_by search) place) way
+
+-- a list with the way back from a place behind it
+abbrev pub AddsWayBack : Search → (place : ℕ) → (old new : List ℕ) → Type 0
+AddsWayBack search place old new =
+    (way : List ℕ) × (new ≡ old ++ way) × IsWayBack search place way

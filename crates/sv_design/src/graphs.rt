@@ -53,8 +53,9 @@ impl Graph {
         Ok(())
     }
 
-    // Adds an edge from each of some signals, where it is not the last one of that signal.
-    fn add_sources(&mut self, sources: &[SigId], to: SigId) -> Result<(), AllocError>
+    /// Adds an edge from each of some signals, where it is not the last one of that signal. It
+    /// fails where memory runs out.
+    pub fn add_sources(&mut self, sources: &[SigId], to: SigId) -> Result<(), AllocError>
         requires { (k : ℕ) → Contains (numbers sources.now) k → k < size self.old }
         ensures size { size self.new ≡ size self.old }
         ensures adds { OnOk result (AddsSources self.old self.new (numbers sources.now) to.0) }

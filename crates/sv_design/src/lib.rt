@@ -1,41 +1,47 @@
 //! Admission: flat designs that break no rule, with what is worked out of them once.
 //!
-//! Takes a flat design of `sv_flat` that is sound. Gives, part by part, what admission asks: the
-//! first breach of each of the rules 601 and 603 to 606; which signals are clocks, registers and
-//! combinational; the processes without links to clocks; each signal's driver; and the signals
-//! read for each signal, with the lists of signals. Of rule 602 it has what is linked by a whole
-//! name and what is used as something else than a clock; the rest of it, the order by depth and
-//! rule 607 are not there yet.
+//! Takes a flat design of `sv_flat` that is sound. `Design::admit` gives the design where it breaks
+//! none of the rules 601 to 607, or else the first that it breaks. With a design come its clock,
+//! its registers, its combinational signals by depth, its processes without links to clocks, each
+//! signal's driver, and the signals read for each signal.
 //!
-//! Promises that each part is its definition in `sv_flat` (`Assignments`, `Clocks`, `Drivers`,
-//! `Blocks`, `Processes`, `Reads`, `SignalLists`), and that what is found first is the first by
-//! place, then by signal (`First`). A contract sees an admitted design as the flat design that was
-//! admitted: `Designs` says what holds of it, and `Tables` what its lists are.
+//! Promises that each part is its definition in `sv_flat` (`Admission`, `Assignments`, `Clocks`,
+//! `Drivers`, `Blocks`, `Loops`, `Processes`, `Reads`, `SignalLists`), and that what is found first
+//! is the first by number, then place, then signal (`First`, `Circles`, `Faults`). A contract sees
+//! an admitted design as the flat design that was admitted: `Designs` says what holds of it, and
+//! `Tables` what its lists are.
 //!
-//! Private to the crate, for the contracts of its parts: `BitSets`, `DriverTables`, `Feeds`,
-//! `Graphs`, `Links`, `Marks`, `Phases`, `ReadForms`, `Scopes`, `Searches`, `Selectors`,
-//! `WrongAssigns`.
+//! Private to the crate, for the contracts of its parts: `BitSets`, `ClockTables`, `Depths`,
+//! `DriverTables`, `Feeds`, `Graphs`, `Links`, `Marks`, `Orders`, `Phases`, `Queues`, `ReadForms`,
+//! `Scopes`, `Searches`, `Selectors`, `Tops`, `WrongAssigns`.
 #![tactic(auto)]
 
+mod admit;
 mod assignments;
 mod bits;
 mod blocks;
+mod clock_rule;
 mod clocks;
+mod depths;
 mod design;
 mod drivers;
 mod found;
 mod graphs;
 mod links;
 mod lists;
+mod loops;
 mod marks;
 mod names;
+mod orders;
 mod processes;
 mod reads;
+mod refusals;
 mod registers;
 mod scopes;
 mod searches;
 mod signal_lists;
 mod tables;
+mod tops;
 mod uses;
 
 pub use design::Design;

@@ -7,8 +7,8 @@ ghost use Rattle.sv_design.specs.Numbers.{numbers};
 use std::alloc::{AllocError, Global};
 use sv_flat::SigId;
 
-// Adds a signal where a table has it.
-fn push_if(has: bool, signal: SigId, signals: &mut Vec<SigId>) -> Result<(), AllocError>
+/// Adds a signal where a table has it. It fails where memory runs out.
+pub fn push_if(has: bool, signal: SigId, signals: &mut Vec<SigId>) -> Result<(), AllocError>
     ensures { OnOk result (numbers signals.new.items ≡ numbers signals.old.items ++ (if has
         then signal.0 ∷ [] else [])) }
 {

@@ -1,10 +1,11 @@
 // Registers and combinational signals.
-ghost use Rattle.std.specs.Prelude.{◌≡◌, ◌<◌, ◌&&◌, ◌||◌, not, length, filter, IsTrue, IfOk};
+ghost use Rattle.std.specs.Prelude.{◌≡◌, ◌<◌, ◌&&◌, ◌||◌, not, length, filter, map, IsTrue, IfOk};
 ghost use Rattle.sv_flat.specs.Assigned.{assigns};
+ghost use Rattle.sv_flat.specs.Design.{ProcessForm};
 ghost use Rattle.sv_flat.specs.Processes.{is_clocked, is_register};
 ghost use Rattle.sv_flat.specs.Reads.{is_combinational};
 ghost use Rattle.sv_flat.specs.Soundness.{sound};
-ghost use Rattle.sv_flat.specs.Views.{design_of, process_kind, flat_statement};
+ghost use Rattle.sv_flat.specs.Views.{design_of, process_kind, process_form, flat_statement};
 ghost use Rattle.sv_design.specs.DriverTables.{AreClocks, IsSoundOver};
 ghost use Rattle.sv_design.specs.Marks.{Marks, IsTable};
 
@@ -73,9 +74,13 @@ pub fn comb_table(
 }
 
 /// How many of some processes are clocked.
-pub fn clocked_count(processes: &[Process]) -> usize {
-    processes
-        .iter()
-        .filter(|process| is_clocked(process.kind))
-        .count()
+pub fn clocked_count(processes: &[Process]) -> usize
+    ensures { result ≡ length (filter (λ (p : ProcessForm).
+        is_clocked p.kind) (map process_form processes.now)) }
+{
+    let mut count = 0;
+    for process in processes {
+        count += usize::from(is_clocked(process.kind));
+    }
+    count
 }

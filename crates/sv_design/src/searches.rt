@@ -3,7 +3,7 @@ ghost use Rattle.std.specs.Prelude.{◌≡◌, ◌<◌, ◌+◌, ◌^◌, ◌≤
 ghost use Rattle.std.specs.Prelude.{map, slice_index, is_some, Contains, OnOk, IfOk};
 ghost use Rattle.sv_design.specs.Graphs.{size, has_edge, IsWhole};
 ghost use Rattle.sv_design.specs.Searches.{found_by, is_found, Visits, SearchesBy, Brings, LeadsOn};
-ghost use Rattle.sv_design.specs.Searches.{IsSearch};
+ghost use Rattle.sv_design.specs.Searches.{IsSearch, LeadsDown, AddsWayBack};
 ghost use Rattle.sv_design.specs.Numbers.{numbers};
 
 use crate::graphs::Graph;
@@ -85,6 +85,23 @@ impl Search {
             .iter()
             .map(|place| place.is_some())
             .collect(alloc)
+    }
+
+    /// Adds the signals from the one at a place back to the one where the search began, that one
+    /// left out. It fails where memory runs out.
+    pub fn add_way_back(&self, way: &mut Vec<SigId>, place: usize) -> Result<(), AllocError>
+        requires place { place < length (found_by self.now) }
+        requires falls { LeadsDown self.now }
+        ensures { OnOk result (AddsWayBack self.now place (numbers way.old.items)
+            (numbers way.new.items)) }
+    {
+        let mut at = place;
+        while at > 0 {
+            let step = self.steps[at];
+            way.push(step.signal)?;
+            at = step.from;
+        }
+        Ok(())
     }
 }
 

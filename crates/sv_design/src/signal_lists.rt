@@ -1,12 +1,12 @@
 // The lists of signals of a design.
 ghost use Rattle.std.specs.Prelude.{◌≡◌, ◌&&◌, not, length, IsTrue, IfOk};
 ghost use Rattle.sv_flat.specs.Processes.{is_register};
-ghost use Rattle.sv_flat.specs.SignalLists.{seen, inputs, registers};
+ghost use Rattle.sv_flat.specs.SignalLists.{seen, inputs, registers, top_clock};
 ghost use Rattle.sv_flat.specs.Soundness.{sound};
 ghost use Rattle.sv_flat.specs.Views.{design_of};
 ghost use Rattle.sv_design.specs.DriverTables.{AreClocks};
 ghost use Rattle.sv_design.specs.Marks.{IsTable};
-ghost use Rattle.sv_design.specs.Numbers.{numbers};
+ghost use Rattle.sv_design.specs.Numbers.{numbers, number_if_any};
 
 use crate::clocks::is_top;
 use crate::lists::listed;
@@ -57,4 +57,18 @@ pub fn registers_of(alloc: Global, flat: &Flat, table: &[bool]) -> Result<Vec<Si
 {
     let signals = listed(alloc, table)?;
     Ok(signals)
+}
+
+/// The first clock that is an input of the top module, or None where there is none.
+pub fn top_clock(flat: &Flat, clocks: &[bool]) -> Option<SigId>
+    requires sound { IsTrue (sound (design_of flat.now)) }
+    requires clocks { AreClocks (design_of flat.now) clocks.now }
+    ensures { number_if_any result ≡ top_clock (design_of flat.now) }
+{
+    for (s, signal) in flat.signals.iter().enumerate() {
+        if clocks[s] & is_top(signal.kind) {
+            return Some(SigId(s as u32));
+        }
+    }
+    None
 }

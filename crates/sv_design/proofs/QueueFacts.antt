@@ -1,0 +1,309 @@
+-- The tables that orders are found with, and the signals that go into an order.
+use Rattle.std.proofs.Common.{◌≡◌, ◌≢◌, ℕ, zero, suc, ◌+◌, ◌-◌, ◌<◌, ◌≤◌, Bool, true, false, cond}
+use Rattle.std.proofs.Common.{not, ◌&&◌, ◌||◌, ◌==◌, List, [], ◌∷◌, ◌++◌, length, take, drop}
+use Rattle.std.proofs.Common.{get_or, ⊎_elim, refl, sym, ap, ap₂, subst, ◌∙◌, arith, append_assoc}
+use Rattle.std.proofs.Common.{get_or-set_same, get_or-set_other}
+use Rattle.std.proofs.Common.{Vec, Global}
+use Rattle.std.specs.Prelude.{IsTrue, IsFalse, Contains, filter}
+use Rattle.std.specs.List.{range_with_len}
+use Rattle.std.proofs.lemmas.Bool.{false≢true, eqb-true, eq-eqb, or_left}
+use Rattle.std.proofs.lemmas.List.{length-set, length_push, get_or_push, get_or_append_left}
+use Rattle.std.proofs.lemmas.List.{length-append}
+use Rattle.std.proofs.lemmas.List.{get_or-map, take_more, take-append-le}
+use Rattle.std.proofs.lemmas.List.{take-append-drop}
+use Rattle.std.proofs.lemmas.List.Elements.{filter-append, Contains-get_or}
+use Rattle.std.proofs.Math.ListN.{length-map}
+use Rattle.sv_system.proofs.Ranks.{filter_lt}
+use Rattle.sv_flat.specs.Design.{FlatDesign}
+use Rattle.sv_flat.specs.Reads.{is_combinational, is_read_for, reads_for}
+use Rattle.sv_flat.specs.Sets.{holds}
+use Rattle.sv_flat.specs.declared.signals.SigId.{SigId}
+use Rattle.sv_flat.proofs.Depths.{first_of, second_of, is_below}
+use Rattle.sv_flat.proofs.LeastSets.{either_way, holds-from_Contains}
+use Rattle.sv_flat.proofs.LeastSets.{range_has, those_below}
+use Rattle.sv_design.specs.declared.orders.Queue.{Queue}
+use Rattle.sv_design.specs.declared.orders.Reads.{Reads}
+use Rattle.sv_design.specs.Graphs.{size, row, has_edge}
+use Rattle.sv_design.specs.Marks.{is_marked}
+use Rattle.sv_design.specs.Numbers.{numbers}
+use Rattle.sv_design.specs.Orders.{AreReads}
+use Rattle.sv_design.specs.Queues.{ordered, open_at, comb_count, Begins, SettlesOne, Settles}
+use Rattle.sv_design.proofs.Differing.{holds-append, filter_same, fresh}
+use Rattle.sv_design.proofs.GraphFacts.{row_is}
+use Rattle.sv_design.proofs.ReaderFacts.{row_from, rows_size, rows_below}
+use Rattle.sv_design.proofs.ReadOrders.{is_open, pending, Queued, queued_comb, queue_begins}
+use Rattle.sv_design.proofs.ReadOrders.{queue_more, some_open}
+use Rattle.sv_design.proofs.SearchFacts.{below_or_at}
+use Rattle.sv_design.proofs.TableFacts.{filter_within}
+
+-- ---- the tables
+
+module _ (design : FlatDesign) (reads : Reads) (are : AreReads design reads) where
+  abbrev n : ℕ
+  n = length design.signals
+
+  pub reads_size : size reads.reads ≡ n
+  reads_size = rows_size design reads.reads are.reads_are
+
+  pub row_for : (s : ℕ) → s < n → row reads.reads s ≡ reads_for design s
+  row_for = row_from design reads.reads are.reads_are
+
+  pub marked_is : (s : ℕ) → s < n → is_marked reads.combs.items s ≡ is_combinational design s
+  marked_is = are.combs_are.1
+
+  pub edges_inside : (a b : ℕ) → IsTrue (has_edge reads.reads a b) → b < n
+  edges_inside = rows_below design reads.reads are.reads_are
+
+  pub readers_inside : (a b : ℕ) → IsTrue (has_edge reads.readers a b) → b < n
+  readers_inside a b h =
+      is_below design b
+      (second_of (is_combinational design a) (is_combinational design b)
+      (first_of (is_combinational design a && is_combinational design b) (is_read_for design b a)
+      (sym (are.readers_are a b) ∙ h)))
+
+  -- at first all combinational reads are open
+  pub count_is : (s : ℕ) → s < n → comb_count reads s ≡ pending design [] s
+  count_is s below =
+      ap (λ r. length (filter (is_marked reads.combs.items) r)) (row_for s below)
+      ∙ ap length (filter_same (is_marked reads.combs.items) (is_open design [])
+      (reads_for design s) (λ r at.
+      marked_is r (those_below n (is_read_for design s) r at)
+      ∙ and_all (is_combinational design r)))
+    where
+      and_all : (b : Bool) → b ≡ (b && true)
+      and_all true = refl
+      and_all false = refl
+
+  pub first_queued : (queue : Queue) → Begins reads queue → Queued design [] (ordered queue)
+      (open_at queue)
+  first_queued queue begins =
+      queue_begins design (ordered queue) (open_at queue)
+      (begins.order_is
+      ∙ ap (λ k. filter (λ s.
+      is_marked reads.combs.items s && (comb_count reads s == 0)) (range_with_len 0 k)) reads_size
+      ∙ filter_within (λ s. is_marked reads.combs.items s && (comb_count reads s == 0)) (λ s.
+      is_combinational design s && (pending design [] s == 0)) 0 n (λ s below.
+      let inside : s < n = omega arith in
+      ap₂ (λ b k. b && (k == 0)) (marked_is s inside) (count_is s inside)))
+      (λ s comb.
+      let inside = is_below design s comb in
+      begins.open_is s (subst (λ k. s < k) (sym reads_size) inside) ∙ count_is s inside)
+
+-- ---- a signal more is looked at
+
+pub number_at : (signals : List SigId) (i : ℕ) (d : SigId) → i < length signals →
+    get_or (numbers signals) i 0 ≡ (get_or signals i d).0
+number_at signals i d inside = get_or-map (λ (s : SigId). s.0) signals i d 0 inside
+
+-- as many signals pass a test as there are at most
+pub counted_below : (test : ℕ → Bool) (signals : List SigId) (i : ℕ) →
+    length (filter test (numbers (take i signals))) ≤ i
+counted_below test [] zero = omega arith
+counted_below test [] (suc i) = omega arith
+counted_below test (x ∷ xs) zero = omega arith
+counted_below test (x ∷ xs) (suc i) =
+    kept (test x.0) x.0 (filter test (numbers (take i xs))) (counted_below test xs i)
+  where
+    kept : (b : Bool) (k : ℕ) (ks : List ℕ) → length ks ≤ i → length (cond b (k ∷ ks) ks) ≤ suc i
+    kept true k ks le = omega arith
+    kept false k ks le = omega arith
+
+pub differs : (s t : ℕ) → IsFalse (s == t) → t ≢ s
+differs s t h e = false≢true (sym h ∙ eq-eqb s t (sym e))
+
+pub held_last : (front : List ℕ) (x : ℕ) → holds (front ++ x ∷ []) x ≡ true
+held_last front x =
+    holds-append front (x ∷ []) x
+    ∙ ap (λ b. holds front x || (b || false)) (eq-eqb x x refl)
+    ∙ or_all (holds front x)
+  where
+    or_all : (b : Bool) → (b || (true || false)) ≡ true
+    or_all true = refl
+    or_all false = refl
+
+pub held_before : (front : List ℕ) (x s : ℕ) → IsFalse (x == s) →
+    holds (front ++ x ∷ []) s ≡ holds front s
+held_before front x s other =
+    holds-append front (x ∷ []) s
+    ∙ ap (λ b. holds front s || (b || false)) other
+    ∙ or_nothing (holds front s)
+  where
+    or_nothing : (b : Bool) → (b || (false || false)) ≡ b
+    or_nothing true = refl
+    or_nothing false = refl
+
+pub settle_none : (queue : Queue) → Settles queue queue []
+settle_none queue = record {
+  count = refl;
+  open_is = λ s. omega arith;
+  order_is = sym (append-nothing (ordered queue));
+}
+  where
+    append-nothing : (xs : List ℕ) → xs ++ [] ≡ xs
+    append-nothing [] = refl
+    append-nothing (x ∷ xs) = ap (λ ys. x ∷ ys) (append-nothing xs)
+
+pub still_open : (old now : Queue) (front : List ℕ) (x : ℕ) → Settles old now front →
+    IsFalse (holds front x) → open_at now x ≡ open_at old x
+still_open old now front x so_far out =
+    let is = so_far.open_is x ∙ ap (λ b. open_at old x - cond b 1 0) out in omega arith
+
+pub settle_more : (old now next : Queue) (front : List ℕ) (x : ℕ) → Settles old now front
+    → SettlesOne now next x → IsFalse (holds front x) → x < length now.counts.items
+    → Settles old next (front ++ x ∷ [])
+settle_more old now next front x so_far one out inside =
+    let v = open_at now x - 1 in
+    let same = still_open old now front x so_far out in record {
+      count = ap length one.open_is ∙ length-set now.counts.items x v ∙ so_far.count;
+      open_is = λ s. ⊎_elim
+          (λ here.
+          subst (λ z. open_at next z ≡ open_at old z - cond (holds (front ++ x ∷ []) z) 1 0)
+          (eqb-true x s here)
+          (ap (λ cs. get_or cs x 0) one.open_is
+          ∙ get_or-set_same now.counts.items x v 0 inside
+          ∙ ap (λ k. k - 1) same
+          ∙ sym (ap (λ b. open_at old x - cond b 1 0) (held_last front x))))
+          (λ other.
+          ap (λ cs. get_or cs s 0) one.open_is
+          ∙ get_or-set_other now.counts.items x s v 0 (differs x s other)
+          ∙ so_far.open_is s
+          ∙ sym (ap (λ b. open_at old s - cond b 1 0) (held_before front x s other)))
+          (either_way (x == s));
+      order_is =
+          one.order_is
+          ∙ ap₂ (λ xs k. xs ++ cond (k == 1) (x ∷ []) []) so_far.order_is same
+          ∙ append_assoc (ordered old) (filter (λ s. open_at old s == 1) front)
+          (cond (open_at old x == 1) (x ∷ []) [])
+          ∙ ap (λ ys. ordered old ++ ys)
+          (sym (filter-append (λ s. open_at old s == 1) front (x ∷ [])));
+    }
+
+-- ---- the signals that are not looked at yet
+
+abbrev pub unseen : (n : ℕ) → (done : List ℕ) → ℕ
+unseen n done = length (filter (λ s. not (holds done s)) (range_with_len 0 n))
+
+pub fewer_unseen : (n : ℕ) (done : List ℕ) (s : ℕ) → s < n → IsFalse (holds done s) →
+    unseen n (done ++ s ∷ []) < unseen n done
+fewer_unseen n done s below out =
+    filter_lt (λ k. not (holds (done ++ s ∷ []) k)) (λ k. not (holds done k))
+    (λ k h.
+    weaker (holds done k) (holds (s ∷ []) k) (ap not (sym (holds-append done (s ∷ []) k)) ∙ h))
+    (range_with_len 0 n) s (range_has n s below) (ap not (held_last done s)) (ap not out)
+  where
+    weaker : (a b : Bool) → IsTrue (not (a || b)) → IsTrue (not a)
+    weaker true b h = h
+    weaker false b h = refl
+
+-- ---- the next signal of the order
+
+module _ (design : FlatDesign) (reads : Reads) (are : AreReads design reads) (old : Queue)
+    (next : ℕ) (queued : Queued design (take next (ordered old)) (ordered old) (open_at old))
+    (inside : next < length (ordered old)) where
+  abbrev pub now_done : List ℕ
+  now_done = take next (ordered old)
+
+  abbrev pub signal : ℕ
+  signal = get_or (ordered old) next 0
+
+  pub signal_comb : IsTrue (is_combinational design signal)
+  signal_comb =
+      queued_comb design now_done (ordered old) (open_at old) queued signal
+      (Contains-get_or (ordered old) next 0 inside)
+
+  pub signal_new : IsFalse (holds now_done signal)
+  signal_new = fresh (ordered old) next inside queued.differ
+
+  abbrev readers : List ℕ
+  readers = row reads.readers signal
+
+  held_whole : (i : ℕ) (xs : List ℕ) (t : ℕ) → IsTrue (holds (take i xs) t) → IsTrue (holds xs t)
+  held_whole i xs t h =
+      ap (λ ys. holds ys t) (sym (take-append-drop i xs))
+      ∙ holds-append (take i xs) (drop i xs) t
+      ∙ or_left (holds (take i xs) t) (holds (drop i xs) t) h
+
+  seen_is : take (next + 1) (ordered old) ≡ now_done ++ signal ∷ []
+  seen_is = take_more (ordered old) next 0 inside
+
+  seen_ordered : (t : ℕ) → IsTrue (holds (now_done ++ signal ∷ []) t) →
+      IsTrue (holds (ordered old) t)
+  seen_ordered t h =
+      held_whole (next + 1) (ordered old) t (ap (λ ys. holds ys t) seen_is ∙ h)
+
+  -- each signal that it is read for has an open read
+  pub readers_open : (t : ℕ) → Contains readers t → 0 < open_at old t
+  readers_open t at =
+      some_open design now_done (ordered old) (open_at old) (λ s.
+      open_at old s - cond (holds readers s) 1 0) readers signal queued signal_comb signal_new
+      (are.readers_are signal) (are.once signal) (λ s. refl) seen_ordered t
+      (holds-from_Contains readers t at)
+
+  module _ (new : Queue) (settles : Settles old new readers) where
+    pub done_is : take (next + 1) (ordered new) ≡ now_done ++ signal ∷ []
+    done_is =
+        ap (take (next + 1)) settles.order_is
+        ∙ take-append-le (next + 1) (ordered old) (filter (λ s. open_at old s == 1) readers)
+        (omega arith)
+        ∙ seen_is
+
+    pub next_queued : Queued design (take (next + 1) (ordered new)) (ordered new) (open_at new)
+    next_queued = subst (λ done. Queued design done (ordered new) (open_at new)) (sym done_is)
+        (subst (λ order. Queued design (now_done ++ signal ∷ []) order (open_at new))
+        (sym settles.order_is)
+        (queue_more design now_done (ordered old) (open_at old) (open_at new) readers signal queued
+        signal_comb signal_new (are.readers_are signal) (are.once signal) settles.open_is
+        seen_ordered))
+
+    pub fewer_left : (n : ℕ) → length design.signals ≡ n →
+        unseen n (take (next + 1) (ordered new)) < unseen n now_done
+    fewer_left n size = subst (λ done. unseen n done < unseen n now_done) (sym done_is)
+        (fewer_unseen n now_done signal (subst (λ k. signal < k) size
+        (is_below design signal signal_comb)) signal_new)
+
+    pub still_inside : next + 1 ≤ length (ordered new)
+    still_inside =
+        let more = ap length settles.order_is
+        ∙ length-append (ordered old) (filter (λ s. open_at old s == 1) readers) in
+        omega arith
+
+-- the signal at a place of the order, and those that it is read for
+module _ (reads : Reads) (queue : Queue) (next : ℕ) (s : SigId)
+    (inside : next < length queue.order.items) (is : s ≡ get_or queue.order.items next s) where
+  pub in_order : next < length (ordered queue)
+  in_order = subst (λ n. next < n) (sym (length-map queue.order.items (λ (z : SigId). z.0))) inside
+
+  pub is_signal : get_or (ordered queue) next 0 ≡ s.0
+  is_signal = number_at queue.order.items next s inside ∙ ap (λ (z : SigId). z.0) (sym is)
+
+  pub signal_inside : (design : FlatDesign) → AreReads design reads
+      → Queued design (take next (ordered queue)) (ordered queue) (open_at queue)
+      → s.0 < size reads.readers
+  signal_inside design are queued =
+      subst (λ n. s.0 < n) (sym are.readers_size)
+      (subst (λ k. k < length design.signals) is_signal
+      (is_below design (get_or (ordered queue) next 0)
+      (signal_comb design reads are queue next queued in_order)))
+
+  pub readers_are : (v : Vec SigId Global) (slice : List SigId) → slice ≡ v.items
+      → v ≡ get_or reads.readers.rows.items s.0 v → s.0 < size reads.readers
+      → numbers slice ≡ row reads.readers (get_or (ordered queue) next 0)
+  readers_are v slice same is_row below =
+      ap numbers same
+      ∙ row_is reads.readers s.0 v below is_row
+      ∙ ap (row reads.readers) (sym is_signal)
+
+-- ---- counts
+
+-- one signal more
+pub counts_more : (counts new : List ℕ) (n count : ℕ) (of : ℕ → ℕ) → length counts ≡ n
+    → ((k : ℕ) → k < n → get_or counts k 0 ≡ of k) → count ≡ of n
+    → new ≡ counts ++ count ∷ []
+    → (length new ≡ n + 1) × ((k : ℕ) → k < n + 1 → get_or new k 0 ≡ of k)
+counts_more counts new n count of size has is gains = (
+  ap length gains ∙ length_push counts count ∙ ap (λ k. k + 1) size,
+  λ k below. ap (λ cs. get_or cs k 0) gains ∙ ⊎_elim
+      (λ l. get_or_append_left counts (count ∷ []) 0 k (subst (λ m. k < m) (sym size) l) ∙ has k l)
+      (λ e. get_or_push counts count 0 k (size ∙ e) ∙ is ∙ ap of e)
+      (below_or_at k n below),
+)

@@ -1,0 +1,39 @@
+-- Signals in an order, and how many of the reads of each are still open.
+use Rattle.std.specs.Prelude.{◌≡◌, ◌<◌, ◌-◌, ◌&&◌, ◌==◌, ℕ, List, [], ◌∷◌, ◌++◌, length, filter}
+use Rattle.std.specs.Prelude.{slice_index, slice_set, if◌then◌else◌}
+use Rattle.std.specs.List.{range_with_len}
+use Rattle.sv_flat.specs.Sets.{holds}
+use Rattle.sv_design.specs.declared.orders.Queue.{Queue}
+use Rattle.sv_design.specs.declared.orders.Reads.{Reads}
+use Rattle.sv_design.specs.Graphs.{size, row}
+use Rattle.sv_design.specs.Marks.{is_marked}
+use Rattle.sv_design.specs.Numbers.{numbers}
+
+abbrev pub ordered : Queue → List ℕ
+ordered queue = numbers queue.order.items
+
+abbrev pub open_at : Queue → ℕ → ℕ
+open_at queue s = slice_index queue.counts.items s
+
+-- how many combinational signals are read for one
+abbrev pub comb_count : Reads → ℕ → ℕ
+comb_count reads s = length (filter (is_marked reads.combs.items) (row reads.reads s))
+
+-- all reads are open, and combinational signals with none are in the order
+pub record Begins (reads : Reads) (queue : Queue) : Type 0 where
+  pub count : length queue.counts.items ≡ size reads.reads
+  pub open_is : (s : ℕ) → s < size reads.reads → open_at queue s ≡ comb_count reads s
+  pub order_is : ordered queue ≡ filter (λ s.
+      is_marked reads.combs.items s && (comb_count reads s == 0))
+      (range_with_len 0 (size reads.reads))
+
+-- one read less of one signal is open, and with its last one it goes into the order
+pub record SettlesOne (old new : Queue) (reader : ℕ) : Type 0 where
+  pub open_is : new.counts.items ≡ slice_set old.counts.items reader (open_at old reader - 1)
+  pub order_is : ordered new ≡ ordered old ++ (if open_at old reader == 1 then reader ∷ [] else [])
+
+-- the same for some signals
+pub record Settles (old new : Queue) (readers : List ℕ) : Type 0 where
+  pub count : length new.counts.items ≡ length old.counts.items
+  pub open_is : (s : ℕ) → open_at new s ≡ open_at old s - (if holds readers s then 1 else 0)
+  pub order_is : ordered new ≡ ordered old ++ filter (λ s. open_at old s == 1) readers

@@ -1,0 +1,120 @@
+// Rule 607: no combinational signals read each other in a circle.
+ghost use Rattle.std.specs.Prelude.{◌≡◌, ◌<◌, ◌+◌, ◌∷◌, List, ℕ, length, IsTrue, IfOk};
+ghost use Rattle.sv_flat.specs.Design.{FlatDesign};
+ghost use Rattle.sv_flat.specs.Processes.{declared_at};
+ghost use Rattle.sv_flat.specs.Soundness.{sound};
+ghost use Rattle.sv_flat.specs.Views.{design_of};
+ghost use Rattle.sv_design.specs.Circles.{FindsCircle, FindsCircleFrom, FindsCircleBelow, precedes};
+ghost use Rattle.sv_design.specs.Marks.{is_marked};
+ghost use Rattle.sv_design.specs.Numbers.{numbers};
+ghost use Rattle.sv_design.specs.Orders.{AreReads, HasDesign};
+ghost use Rattle.sv_design.specs.Searches.{found_by, LeadsDown, IsWayBack};
+
+use crate::found::{Found, is_before};
+use crate::orders::Reads;
+use crate::searches::{Search, search_from};
+use std::alloc::{AllocError, Global};
+use sv_flat::{Flat, SigId};
+
+/// A circle of reads: its least signal with the place of its declaration, and its signals from that
+/// one on.
+#[derive(Debug, Drop)]
+pub struct Circle {
+    pub first: Found,
+    pub signals: Vec<SigId>,
+}
+
+// A signal, and then those on the way back from a place of a search from it.
+fn circle_of(
+    alloc: Global,
+    readers: &Search,
+    first: SigId,
+    place: usize,
+) -> Result<Vec<SigId>, AllocError>
+    requires place { place < length (found_by readers.now) }
+    requires falls { LeadsDown readers.now }
+    ensures { IfOk result (λ circle. (way : List ℕ) × (numbers circle.items ≡ first.0 ∷ way)
+        × IsWayBack readers.now place way) }
+{
+    let mut circle = Vec::new(alloc);
+    circle.push(first)?;
+    readers.add_way_back(&mut circle, place)?;
+    Ok(circle)
+}
+
+// The signals of a circle from the signal on over greater ones, each reading the next and the last
+// the first.
+fn circle_from(alloc: Global, reads: &Reads, first: SigId) -> Result<Option<Vec<SigId>>, AllocError>
+    requires tables { HasDesign reads.now }
+    requires first { IsTrue (is_marked reads.now.combs.items first.0) }
+    ensures { IfOk result (λ circle. (design : FlatDesign) → AreReads design reads.now
+        → FindsCircleFrom design first.0 circle) }
+{
+    let readers = search_from(alloc, &reads.readers, first.0 as usize + 1, &[first])?;
+    let row = reads.reads.rows[first.0 as usize].as_slice();
+    for read in row {
+        if let Some(place) = readers.places[read.0 as usize] {
+            return Ok(Some(circle_of(alloc, &readers, first, place)?));
+        }
+    }
+    Ok(None)
+}
+
+// Whether something comes before the circle.
+fn precedes(here: Found, circle: &Option<Circle>) -> bool
+    ensures { result ≡ precedes here circle.now }
+{
+    match circle {
+        Some(circle) => is_before(here, circle.first),
+        None => true,
+    }
+}
+
+// A circle from the signal on, where one begins there and comes before the one that was found so
+// far; else that one.
+fn earlier_circle(
+    alloc: Global,
+    reads: &Reads,
+    here: Found,
+    circle: Option<Circle>,
+) -> Result<Option<Circle>, AllocError>
+    requires tables { HasDesign reads.now }
+    requires inside { here.signal.0 < length reads.now.combs.items }
+    ensures { IfOk result (λ next. (design : FlatDesign) → AreReads design reads.now
+        → here.place ≡ declared_at design here.signal.0
+        → FindsCircleBelow design here.signal.0 circle
+        → FindsCircleBelow design (here.signal.0 + 1) next) }
+{
+    let comb = reads.combs[here.signal.0 as usize];
+    if !comb {
+        return Ok(circle);
+    }
+    if !precedes(here, &circle) {
+        return Ok(circle);
+    }
+    match circle_from(alloc, reads, here.signal)? {
+        Some(signals) => Ok(Some(Circle {
+            first: here,
+            signals,
+        })),
+        None => Ok(circle),
+    }
+}
+
+/// The first circle of reads. It fails where memory runs out.
+pub fn first_circle(alloc: Global, flat: &Flat, reads: &Reads) -> Result<Option<Circle>, AllocError>
+    requires sound { IsTrue (sound (design_of flat.now)) }
+    requires reads { AreReads (design_of flat.now) reads.now }
+    ensures { IfOk result (FindsCircle (design_of flat.now)) }
+{
+    let mut circle = None;
+    for (s, signal) in flat.signals.iter().enumerate() {
+        let here = Found {
+            place: signal.place,
+            signal: SigId(s as u32),
+        };
+        let next = earlier_circle(alloc, reads, here, circle)?;
+        circle = next;
+    }
+    Ok(circle)
+}

@@ -1,10 +1,15 @@
-//! Tests of the layers from source expressions to flat designs and their obligations through their
-//! public calls. They stand in a crate of their own, since a crate with tests is proved twice.
+//! Tests of the layers from texts and source expressions to flat designs and their obligations
+//! through their public calls. They stand in a crate of their own, since a crate with tests is
+//! proved twice.
 #![tactic(auto)]
 
 #[cfg(test)]
-mod lines;
+mod hierarchies;
+#[cfg(test)]
+mod obligations;
 #[cfg(test)]
 mod overrides;
+#[cfg(test)]
+mod texts;
 #[cfg(test)]
 mod widths;

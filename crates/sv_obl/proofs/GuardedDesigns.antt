@@ -418,7 +418,7 @@ module _ (facts : List TypedTree) (design : FlatDesign) (checked : IsChecked des
         (λ always. always_is_right design is_sound admitted checked.maps s inside e
         (λ u u_at. all_contained (λ z.
         e z < 2 ^ signal_width design.signals z) (flat_system design).signals fits u
-        (selector_is_seen design is_sound admitted checked.maps s inside u u_at)) t at always)
+        (selector_is_seen design is_sound admitted s inside u u_at)) t at always)
         (λ sometimes. otherwise (flows_between t e s e) (λ stays.
         is_valid o
         (Contains-right (flat_map (target_obligations facts design) (signal_numbers design))
@@ -450,7 +450,7 @@ module _ (facts : List TypedTree) (design : FlatDesign) (checked : IsChecked des
       selectors = λ s. selectors_of (signal_of design.signals s).label;
       depth = depth design;
       uses_within = λ e s t seen at. use_is_seen e s t at;
-      selectors_within = λ s t seen at. selector_is_seen design is_sound admitted checked.maps s
+      selectors_within = λ s t seen at. selector_is_seen design is_sound admitted s
           (lt-ltb s (length design.signals) (those_below (length design.signals) (λ z.
           not (is_clock design z)) s seen)) t at;
       lower = λ e s t comb at other. use_is_lower e s t (as_combinational s comb) at;

@@ -1,5 +1,7 @@
 pub mod BlockSettles
 pub mod Closing
+pub mod CutFacts
+pub mod DesignQueryFacts
 pub mod GuardedDesigns
 pub mod LatticeFacts
 pub mod LimitExamples
@@ -14,6 +16,7 @@ pub mod PathTells
 pub mod PutAlone
 pub mod PutFacts
 pub mod ReadFacts
+pub mod ReadValues
 pub mod RouteNames
 pub mod RouteObligations
 pub mod RoutePaths

@@ -294,11 +294,11 @@ module _ (design : FlatDesign) (p : ProcessForm) (s : ℕ) (inside : s < length 
     body_same = marked_itself signals (is_block p.kind) p.body no_bits no_bits
         (λ r r_at. is_settled design is_sound admitted p at r r_at)
 
-    paths_are : paths signals s p.kind p.body
+    pub paths_are : paths signals s p.kind p.body
         ≡ map close_path (before signals s p.body (open_path signals s))
     paths_are = ap (λ body. map close_path (before signals s body (open_path signals s))) body_same
 
-    all_match : AllMatch signals s inside (before signals s p.body (open_path signals s))
+    pub all_match : AllMatch signals s inside (before signals s p.body (open_path signals s))
         target_routes
     all_match = before_match signals s inside p.body (body_is_sound design is_sound admitted p at)
         (open_path signals s) open_route (open_matches signals s inside)

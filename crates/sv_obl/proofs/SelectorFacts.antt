@@ -72,8 +72,8 @@ rows_point : (lattice : List ℕ) (rows : MapRows) (label : Label)
 rows_point lattice rows (Declared p) h = (p, refl, h)
 rows_point lattice rows (Table map first second) h = absurd (false≢true h)
 
-module _ (design : FlatDesign) (is_sound : IsTrue (sound design)) (admitted : IsAdmitted design)
-    (maps : All (λ (m : MapRows). IsMap m.first m.second m.rows) design.maps) where
+module _ (design : FlatDesign) (is_sound : IsTrue (sound design))
+    (admitted : IsAdmitted design) where
   -- ---- selectors are signals
 
   fitting : (t width : ℕ) → IsTrue (selector_fits design.signals t width)
@@ -151,17 +151,19 @@ module _ (design : FlatDesign) (is_sound : IsTrue (sound design)) (admitted : Is
       ++ undriven design ++ latches design)
       (phase_faults design) admitted.unbroken))))
 
+  proper : (t : ℕ) → IsTrue (is_clock design t) → IsTrue (is_proper_clock design t)
+  proper t clock = negated_false (is_proper_clock design t)
+      (none_pass (λ z. breach 602 (declared_at design z) z) (λ z.
+      not (is_proper_clock design z)) (clocks design) no_clock_faults t
+      (Contains-from_holds (clocks design) t clock))
+
   no_selector : (t : ℕ) → IsTrue (is_clock design t)
       → IsFalse (list_any (λ (signal : SignalForm). selects_by t signal.label) design.signals)
   no_selector t clock =
       let shape = is_one_bit_input design t && is_linked design t && agrees_with_earlier design t in
-      let proper = negated_false (is_proper_clock design t)
-      (none_pass (λ z. breach 602 (declared_at design z) z) (λ z.
-      not (is_proper_clock design z)) (clocks design) no_clock_faults t
-      (Contains-from_holds (clocks design) t clock)) in
       let alone = second_of shape (is_clock_alone design t)
       (first_of (shape && is_clock_alone design t)
-      (is_least_label design.lattice (signal_of design.signals t).label) proper) in
+      (is_least_label design.lattice (signal_of design.signals t).label) (proper t clock)) in
       let used = not (list_any (uses_as_signal design t) design.processes) in
       let selects = not (list_any (λ (signal : SignalForm).
       selects_by t signal.label) design.signals) in
@@ -187,6 +189,27 @@ module _ (design : FlatDesign) (is_sound : IsTrue (sound design)) (admitted : Is
       selects_by t signal.label) design.signals (signal_of design.signals s) listed
       (selector_selects label t at)))))
 
+  -- a clock has no selectors
+  least_has_none : (label : Label) → IsTrue (is_least_label design.lattice label) → (t : ℕ) →
+      Contains (selectors_of label) t → ⊥
+  least_has_none (Declared point) least t at = Contains-nil t at
+  least_has_none (Table map first second) least t at = false≢true least
+
+  -- and a signal whose label is selected is one of the system
+  pub selected_is_seen : (s : ℕ) → s < length design.signals → (t : ℕ)
+      → Contains (selectors_of (signal_of design.signals s).label) t
+      → Contains (flat_system design).signals s
+  selected_is_seen s inside t at =
+      let label = (signal_of design.signals s).label in
+      let front = is_one_bit_input design s && is_linked design s && agrees_with_earlier design s
+      && is_clock_alone design s in
+      in_those (length design.signals) (λ z. not (is_clock design z)) s inside
+      (ap not (none_found (is_clock design s) (λ clock.
+      least_has_none label
+      (second_of front (is_least_label design.lattice label) (proper s clock)) t at)))
+
+module _ (design : FlatDesign) (is_sound : IsTrue (sound design)) (admitted : IsAdmitted design)
+    (maps : All (λ (m : MapRows). IsMap m.first m.second m.rows) design.maps) where
   -- ---- rows
 
   row_count : (first : ℕ) (second : Option ℕ) (rows : List Point) → IsMap first second rows →
@@ -211,23 +234,29 @@ module _ (design : FlatDesign) (is_sound : IsTrue (sound design)) (admitted : Is
   label_is_row (Declared point) sound e fits t at = absurd (Contains-nil t at)
   label_is_row (Table map first None) sound e fits t at =
       let m = map_of design.maps map in
-      let none = no_second m.second (seconds map first None sound) in
-      in_rows map (known_map map first None sound) (e first)
+      let none = no_second design is_sound admitted m.second
+      (seconds design is_sound admitted map first None sound) in
+      in_rows map (known_map design is_sound admitted map first None sound) (e first)
       (subst (λ (o : Option ℕ). e first < 2 ^ (m.first + unwrap_or o 0)) (sym none)
-      (subst (λ n. e first < 2 ^ n) ((first_fits map first None sound).1 ∙ omega arith)
+      (subst (λ n. e first < 2 ^ n)
+      ((first_fits design is_sound admitted map first None sound).1 ∙ omega arith)
       (fits first (Contains-head first []))))
   label_is_row (Table map first (Some second)) sound e fits t at =
       let m = map_of design.maps map in
-      let found = second_is second m.second (seconds map first (Some second) sound) in
+      let found = second_is design is_sound admitted second m.second
+      (seconds design is_sound admitted map first (Some second) sound) in
       let width = found.0 in
       let low = fits second (Contains-later first (second ∷ []) second (Contains-head second [])) in
       let high = fits first (Contains-head first (second ∷ [])) in
-      in_rows map (known_map map first (Some second) sound) (pair_value m (e first) (e second))
+      in_rows map (known_map design is_sound admitted map first (Some second) sound)
+      (pair_value m (e first) (e second))
       (subst (λ (o : Option ℕ).
       e first * 2 ^ unwrap_or o 0 + e second < 2 ^ (m.first + unwrap_or o 0)) (sym found.1)
       (beside_below (e first) (e second) m.first width
-      (subst (λ n. e first < 2 ^ n) (first_fits map first (Some second) sound).1 high)
-      (subst (λ n. e second < 2 ^ n) (fitting second width found.2).1 low)))
+      (subst (λ n. e first < 2 ^ n)
+      (first_fits design is_sound admitted map first (Some second) sound).1 high)
+      (subst (λ n. e second < 2 ^ n)
+      (fitting design is_sound admitted second width found.2).1 low)))
 
   -- a selector whose label always flows does
   pub always_is_right : (s : ℕ) → IsTrue (is_signal design.signals s) → (e : Environment ℕ)

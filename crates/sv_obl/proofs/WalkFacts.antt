@@ -6,18 +6,20 @@ use Rattle.std.proofs.Common.{refl, IsErrAnd}
 use Rattle.std.specs.Global.{Vec}
 use Rattle.std.proofs.Common.{sym, ap, subst, ◌∙◌, arith, append_assoc, add-one, length-append}
 use Rattle.std.proofs.Math.Seq.{drop-cons}
+use Rattle.std.proofs.Common.{ap₂, append-nil, take}
 use Rattle.std.proofs.lemmas.List.{map-append}
+use Rattle.std.proofs.lemmas.List.Concat.{flat_map-append}
+use Rattle.std.proofs.lemmas.List.Folds.{length-flat_map-take}
 use Rattle.sv_flat.specs.Design.{SignalForm, TypedTree, typed, choice, PieceForm}
-use Rattle.sv_flat.specs.Design.{FlatStatement, nothing, after, assign, branch}
-use Rattle.sv_flat.specs.Assigned.{assigns}
-use Rattle.sv_flat.specs.Views.{flat_statement, flat_statements, chain_of}
-use Rattle.sv_flat.specs.declared.statements.FStmt.{FStmt}
+use Rattle.sv_flat.specs.Views.{typed_tree}
 use Rattle.sv_obl.specs.declared.faults.WalkFault.{WalkFault}
 use Rattle.sv_obl.specs.declared.faults.WalkFault.TheVariants.{TooMany, OutOfMemory}
 use Rattle.sv_obl.specs.declared.trails.Trail.{Trail}
 use Rattle.sv_obl.specs.Routes.{Route, behind, is_all, with_put, with_ways, with_right}
-use Rattle.sv_obl.specs.Routes.{routes_before}
-use Rattle.sv_obl.specs.Trails.{route_of, routes_of, Walks}
+use Rattle.sv_obl.specs.declared.cuts.Cut.{Cut}
+use Rattle.sv_obl.specs.declared.cuts.Cut as cut
+use Rattle.sv_obl.specs.Cuts.{cut_routes}
+use Rattle.sv_obl.specs.Trails.{piece_forms, route_of, routes_of, Walks, Adds}
 
 -- ---- lists
 
@@ -56,40 +58,26 @@ module _ (signals : List SignalForm) (s : ℕ) where
       (some_ways pieces a route)
   some_ways pieces right route = omega arith
 
-  pub some_before : (statement : FlatStatement) (route : Route) →
-      1 ≤ length (routes_before signals s statement route)
-  some_before nothing route = omega arith
-  some_before (after first second) route =
-      let one = some_before second route in
-      let more = flat_longer (routes_before signals s first) (some_before first)
-      (routes_before signals s second route) in
-      omega arith
-  some_before (assign pieces place blocking right) route =
-      some_cond (assigns (assign pieces place blocking right) s && route.wants)
-      (with_right signals s pieces right route) (route ∷ [])
-      (some_cond (is_all signals s pieces route) (with_ways signals s pieces right route)
-      (with_put signals s pieces right route ∷ []) (some_ways pieces right route) (omega arith))
+  pub some_cut : (c : Cut) (route : Route) → 1 ≤ length (cut_routes signals s c route)
+  some_cut cut.Nothing route = omega arith
+  some_cut (cut.Assign pieces value) route =
+      let right = typed_tree value.now in
+      let forms = piece_forms pieces.now in
+      some_cond route.wants (with_right signals s forms right route) (route ∷ [])
+      (some_cond (is_all signals s forms route) (with_ways signals s forms right route)
+      (with_put signals s forms right route ∷ []) (some_ways forms right route) (omega arith))
       (omega arith)
-  some_before (branch place condition first second) route =
-      some_cond (assigns (branch place condition first second) s && route.wants)
-      _ (route ∷ [])
-      (some_both (behind (record { place = place; condition = condition; truth = true }))
-      (behind (record { place = place; condition = condition; truth = false }))
-      (routes_before signals s first route) (routes_before signals s second route)
-      (some_before first route)) (omega arith)
-
-  -- the last statements of a chain give no more routes than all of them
-  pub chain_longer : (stmts : List FStmt) (k : ℕ) (route : Route)
-      → length (routes_before signals s (chain_of (flat_statements (drop k stmts))) route)
-      ≤ length (routes_before signals s (chain_of (flat_statements stmts)) route)
-  chain_longer stmts zero route = omega arith
-  chain_longer [] (suc k) route = omega arith
-  chain_longer (stmt ∷ stmts) (suc k) route =
-      let less = chain_longer stmts k route in
-      let more = flat_longer (routes_before signals s (flat_statement stmt))
-      (some_before (flat_statement stmt))
-      (routes_before signals s (chain_of (flat_statements stmts)) route) in
+  some_cut (cut.Chain' p first q second) route =
+      let one = some_cut second route in
+      let more = flat_longer (cut_routes signals s first) (some_cut first)
+      (cut_routes signals s second route) in
       omega arith
+  some_cut (cut.Branch' place c p first q second) route =
+      some_cond route.wants _ (route ∷ [])
+      (some_both (behind (record { place = place; condition = typed_tree c.now; truth = true }))
+      (behind (record { place = place; condition = typed_tree c.now; truth = false }))
+      (cut_routes signals s first route) (cut_routes signals s second route)
+      (some_cut first route)) (omega arith)
 
 -- ---- a walk that ends early
 
@@ -103,18 +91,58 @@ pub fails_alike : (routes : List Route) (e : WalkFault) (result : Result (Vec Tr
 fails_alike routes e (Ok trails) same h = elim same [ ]
 fails_alike routes e (Err y) same h = subst (λ x. Walks routes (Err x)) (sym same) h
 
--- ---- the trails before a statement, one by one
+pub adds_fails : (routes : List Route) (trails : Vec Trail) (e : WalkFault)
+    → Adds routes trails (Err e) → Walks routes (Err e)
+adds_fails routes trails TooMany h = h
+adds_fails routes trails OutOfMemory h = tt
 
-pub next_trail : (f : Route → List Route) (all : List Route) (trails : List Trail) (i : ℕ)
-    (x : Trail)
-    → i < length trails → x ≡ get_or trails i x
-    → all ++ flat_map f (routes_of (drop i trails))
-    ≡ (all ++ f (route_of x)) ++ flat_map f (routes_of (drop (i + 1) trails))
-next_trail f all trails i x inside is =
-    ap (λ ts. all ++ flat_map f (routes_of ts)) (drop-cons trails i x inside)
-    ∙ ap (λ t. all ++ (f (route_of t) ++ flat_map f (routes_of (drop (suc i) trails)))) (sym is)
-    ∙ ap (λ k. all ++ (f (route_of x) ++ flat_map f (routes_of (drop k trails)))) (sym (add-one i))
-    ∙ sym (append_assoc all (f (route_of x)) (flat_map f (routes_of (drop (i + 1) trails))))
+-- where the second of two cuts gives too many, both do
+pub chain_ends : (signals : List SignalForm) (s : ℕ) (first second whole : Cut) (route : Route)
+    (e : WalkFault)
+    → ((r : Route) → cut_routes signals s whole r
+    ≡ flat_map (cut_routes signals s first) (cut_routes signals s second r))
+    → Walks (cut_routes signals s second route) (Err e)
+    → Walks (cut_routes signals s whole route) (Err e)
+chain_ends signals s first second whole route e is =
+    ends_early (cut_routes signals s second route) (cut_routes signals s whole route)
+    (subst (λ (rs : List Route). length (cut_routes signals s second route) ≤ length rs)
+    (sym (is route))
+    (flat_longer (cut_routes signals s first) (some_cut signals s first)
+    (cut_routes signals s second route))) e
+
+-- ---- the trails before a cut, one by one
+
+module _ (f : Route → List Route) where
+  flat_routes : (trails : List Trail) →
+      flat_map f (routes_of trails) ≡ flat_map (λ (t : Trail). f (route_of t)) trails
+  flat_routes [] = refl
+  flat_routes (t ∷ trails) = ap (λ rs. f (route_of t) ++ rs) (flat_routes trails)
+
+  -- the trails so far and the next one give no more routes than all of them
+  pub next_longer : (trails seen : List Trail) (x : Trail) → seen ≡ take (length seen) trails
+      → length seen < length trails → x ≡ get_or trails (length seen) x
+      → length (flat_map f (routes_of seen)) + length (f (route_of x))
+      ≤ length (flat_map f (routes_of trails))
+  next_longer trails seen x so_far inside is =
+      let g = λ (t : Trail). f (route_of t) in
+      let more = length-flat_map-take g trails (length seen) x inside in
+      let front : length (flat_map g (take (length seen) trails))
+      ≡ length (flat_map f (routes_of seen)) =
+      ap length (ap (flat_map g) (sym so_far) ∙ sym (flat_routes seen)) in
+      let next : length (g (get_or trails (length seen) x)) ≡ length (f (route_of x)) =
+      ap (λ (t : Trail). length (f (route_of t))) (sym is) in
+      let whole : length (flat_map g trails) ≡ length (flat_map f (routes_of trails)) =
+      ap length (sym (flat_routes trails)) in
+      omega arith
+
+  pub seen_more : (seen : List Trail) (x : Trail) (all more new : List Route) → new ≡ all ++ more
+      → all ≡ flat_map f (routes_of seen) → more ≡ f (route_of x)
+      → new ≡ flat_map f (routes_of (seen ++ x ∷ []))
+  seen_more seen x all more new gains here next =
+      gains
+      ∙ ap₂ (λ a b. a ++ b) here (next ∙ sym (append-nil (f (route_of x))))
+      ∙ sym (flat_map-append f (routes_of seen) (route_of x ∷ []))
+      ∙ ap (flat_map f) (sym (map-append route_of seen (x ∷ [])))
 
 pub shorter_left : (xs ys : List Route) → length xs ≤ length (xs ++ ys)
 shorter_left xs ys = let both = length-append xs ys in omega arith

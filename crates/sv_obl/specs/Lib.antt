@@ -1,5 +1,7 @@
-pub mod Exchange
 pub mod Answers
+pub mod Cuts
+pub mod DesignQueries
+pub mod Exchange
 pub mod Limits
 pub mod ListLines
 pub mod Nodes

@@ -1,5 +1,6 @@
 -- The paths through a process in which no read is an earlier one: no condition and no right side
--- wants a name, so a path wants its target or nothing.
+-- wants a name, so a path wants its target or nothing. This says only how the code goes; which
+-- paths a target has stands in `Paths`.
 use Rattle.std.specs.Prelude.{ℕ, ◌*◌, sum, Bool, true, false, ◌==◌, ◌&&◌, ◌||◌, not}
 use Rattle.std.specs.Prelude.{if◌then◌else◌, List, [], ◌∷◌, ◌++◌, length, map, flat_map}
 use Rattle.std.specs.Prelude.{reverse, slice_get, Option, Some, None, is_none, option_map}

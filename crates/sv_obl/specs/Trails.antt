@@ -1,4 +1,5 @@
--- The plain forms of paths as they are walked.
+-- The plain forms of paths as they are walked. This says only how the code goes; which paths a
+-- target has stands in `Paths`.
 use Rattle.std.specs.Prelude.{ℕ, ◌≡◌, ◌<◌, ◌≤◌, List, length, map, Result, Ok, Err}
 use Rattle.std.specs.Global.{Vec}
 use Rattle.sv_flat.specs.Views.{typed_tree, piece_form}

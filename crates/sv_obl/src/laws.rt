@@ -5,7 +5,10 @@ ghost use Rattle.sv_flat.specs.Assigned.{assigns};
 ghost use Rattle.sv_flat.specs.Clocks.{processes_of};
 ghost use Rattle.sv_flat.specs.Design.{TypedTree, ProcessForm, FlatDesign};
 ghost use Rattle.sv_flat.specs.FlatSystem.{flat_system};
+ghost use Rattle.sv_flat.specs.Admission.{IsAdmitted};
 ghost use Rattle.sv_flat.specs.Processes.{is_clocked};
+ghost use Rattle.sv_flat.specs.Reads.{is_combinational, is_read_for};
+ghost use Rattle.sv_flat.specs.Soundness.{sound};
 ghost use Rattle.sv_flat.specs.Values.{value};
 ghost use Rattle.sv_obl.specs.Noninterference.{IsChecked, NoninterferentUnder};
 ghost use Rattle.sv_obl.specs.Paths.{Path};
@@ -32,6 +35,16 @@ pub fn taken_path_gives_value()
         → IsStill (flat_system design) environment
         → (path : Path) → IsTaken design.signals environment target p.kind p.body path
         → environment target ≡ value design.signals environment path.result }
+{}
+
+/// So a combinational signal's settled value is a function of the signals read for it: where two
+/// settled environments agree on these, they agree on the signal.
+pub fn settled_values_come_from_reads()
+    ensures { (design : FlatDesign) → IsTrue (sound design) → IsAdmitted design
+        → (e f : Environment ℕ) → (s : ℕ) → IsTrue (is_combinational design s)
+        → Fits (flat_system design) e → Fits (flat_system design) f
+        → IsStill (flat_system design) e → IsStill (flat_system design) f
+        → ((t : ℕ) → IsTrue (is_read_for design s t) → e t ≡ f t) → e s ≡ f s }
 {}
 
 /// And a register's next value is that of the result of the path that is taken.

@@ -8,11 +8,14 @@
 //! them. The laws say what valid obligations mean.
 //!
 //! `obligations` takes an admitted design and gives exactly the list of the definition in its
-//! order, or the first limit that the design passes. Inside, `specs/Routes.antt` tells paths as
-//! they are where no read is an earlier one, `specs/Trails.antt` ties them to what is walked, and
-//! `specs/Answers.antt` the walk through all targets to the limits; those three are private.
+//! order, or the first limit that the design passes; `specs/DesignQueries.antt` says what makes an
+//! obligation one of the design's, as each of them is. Inside, `specs/Routes.antt` tells paths as
+//! they are where no read is an earlier one, `specs/Cuts.antt` what of a statement is walked for a
+//! target, `specs/Trails.antt` ties routes to what is walked, and `specs/Answers.antt` the walk
+//! through all targets to the limits; those four are private.
 #![tactic(auto)]
 
+mod cuts;
 mod faults;
 mod frames;
 mod laws;
@@ -26,15 +29,18 @@ mod reads;
 mod selectors;
 mod targets;
 mod trails;
+mod valuations;
 mod walks;
 
 pub use faults::OblFault;
 pub use frames::Frame;
 pub use laws::{
-    exactly_one_path_is_taken, taken_path_gives_next_value, taken_path_gives_value,
-    valid_designs_are_noninterferent, valid_obligations_mean_noninterference,
+    exactly_one_path_is_taken, settled_values_come_from_reads, taken_path_gives_next_value,
+    taken_path_gives_value, valid_designs_are_noninterferent,
+    valid_obligations_mean_noninterference,
 };
 pub use list_lines::list_line;
 pub use listing::obligations;
 pub use queries::{Goal, Query, Step};
 pub use std::alloc::AllocError as OutOfMemory;
+pub use valuations::Valuation;

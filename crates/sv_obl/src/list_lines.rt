@@ -2,6 +2,8 @@
 ghost use Rattle.std.specs.Prelude.{◌≡◌, ℕ, ◌<◌, ◌∷◌, [], ◌++◌, map, length, All, codes, decimal};
 ghost use Rattle.std.specs.Prelude.{IfOk, OnOk};
 ghost use Rattle.sv_flat.specs.ByNumber.{signal_forms};
+ghost use Rattle.sv_flat.specs.Views.{design_of};
+ghost use Rattle.sv_obl.specs.DesignQueries.{IsQueryOf, IsPlaced};
 ghost use Rattle.sv_obl.specs.ListLines.{blanked, name_of, place_text, frame_word, step_word};
 ghost use Rattle.sv_obl.specs.ListLines.{right_word, goal_words, list_line as line_of};
 ghost use Rattle.sv_obl.specs.Obligations.{flow, selector};
@@ -11,24 +13,26 @@ use crate::frames::Frame;
 use crate::queries::{Goal, Query, Step};
 use itoa::Buffer;
 use std::alloc::{AllocError, Global};
+use sv_design::Design;
 use sv_flat::{SigId, Signal};
 use sv_num::Place;
 
-/// The line of an obligation with its number, as `secv list` prints it. The obligation names
-/// signals of the list alone.
+/// The line of an obligation of a design, with its number, as `secv list` prints it; an error where
+/// memory runs out.
 pub fn list_line(
     alloc: Global,
-    signals: &[Signal],
+    design: &Design,
     number: u32,
     query: &Query,
 ) -> Result<Vec<u8>, AllocError>
-    requires among { IsAmong (length signals.now) (obligation_of query.now) }
+    requires query { IsQueryOf (design_of design.now) (obligation_of query.now) }
+    requires placed { IsPlaced (obligation_of query.now) }
     ensures { IfOk result (λ line.
-        line.items ≡ line_of (signal_forms signals.now) number (obligation_of query.now)) }
+        line.items ≡ line_of (design_of design.now).signals number (obligation_of query.now)) }
 {
     let mut line = Vec::new(alloc);
     push_number(&mut line, number)?;
-    push_goal(&mut line, signals, query)?;
+    push_goal(&mut line, design.signals(), query)?;
     line.push(b'\n')?;
     Ok(line)
 }

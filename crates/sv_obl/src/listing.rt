@@ -1,8 +1,10 @@
 // The obligations of a design.
-ghost use Rattle.std.specs.Prelude.{◌≡◌, [], ◌++◌, map, flat_map, length, OnOk};
+ghost use Rattle.std.specs.Prelude.{◌≡◌, [], ◌++◌, map, flat_map, length, All, IfOk, OnOk};
 ghost use Rattle.sv_flat.specs.Processes.{signal_numbers};
 ghost use Rattle.sv_flat.specs.Views.{design_of};
+ghost use Rattle.sv_design.specs.Designs.{IsDesign};
 ghost use Rattle.sv_obl.specs.Answers.{ListsTargets, Lists};
+ghost use Rattle.sv_obl.specs.DesignQueries.{IsQueryOf, IsPlaced};
 ghost use Rattle.sv_obl.specs.Obligations.{selector_obligations};
 ghost use Rattle.sv_obl.specs.Views.{obligation_of};
 
@@ -16,7 +18,8 @@ use sv_flat::SigId;
 
 // How many signals the design has.
 fn count_of(design: &Design) -> u32
-    ensures { result ≡ length design.now.signals.items }
+    ensures count { result ≡ length design.now.signals.items }
+    ensures design { IsDesign (design_of design.now) }
 {
     design.signals().len() as u32
 }
@@ -38,7 +41,9 @@ fn add_all_selectors(
     design: &Design,
     queries: &mut Vec<Query>,
 ) -> Result<(), AllocError>
-    ensures { OnOk result (map obligation_of queries.new.items ≡ map obligation_of queries.old.items
+    ensures design { IsDesign (design_of design.now) }
+    ensures listed { OnOk result (map obligation_of queries.new.items
+        ≡ map obligation_of queries.old.items
         ++ flat_map (selector_obligations [] (design_of design.now))
         (signal_numbers (design_of design.now))) }
 {
@@ -51,9 +56,12 @@ fn add_all_selectors(
 /// The obligations of a design: those of each target in signal order, one for each of its paths,
 /// and then those of selectors. A target with over 4,096 paths is `Paths`, one with over 65,536
 /// nodes put into a path is `Large`, and over 65,536 obligations are `Many`, whichever comes first
-/// from target to target.
+/// from target to target. Each is an obligation of the design.
 pub fn obligations(alloc: Global, design: &Design) -> Result<Vec<Query>, OblFault>
-    ensures { Lists (design_of design.now) result }
+    ensures listed { Lists (design_of design.now) result }
+    ensures queries { IfOk result (λ queries.
+        All (IsQueryOf (design_of design.now)) (map obligation_of queries.items)) }
+    ensures placed { IfOk result (λ queries. All IsPlaced (map obligation_of queries.items)) }
 {
     let mut queries = list_targets(alloc, design)?;
     add_all_selectors(alloc, design, &mut queries)?;

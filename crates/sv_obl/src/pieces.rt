@@ -1,17 +1,16 @@
 // What an assignment does to one signal.
 ghost use Rattle.std.specs.Prelude.{◌≡◌, ◌<◌, ◌==◌, length};
-ghost use Rattle.sv_flat.specs.Assigned.{assigns};
 ghost use Rattle.sv_flat.specs.ByNumber.{signal_forms};
 ghost use Rattle.sv_flat.specs.Soundness.{is_whole};
 ghost use Rattle.sv_flat.specs.Values.{signal_width};
-ghost use Rattle.sv_flat.specs.Views.{piece_form, flat_statement, flat_statements, chain_of};
+ghost use Rattle.sv_flat.specs.Views.{piece_form};
 ghost use Rattle.std.specs.List.{list_any};
 ghost use Rattle.sv_flat.specs.Design.{PieceForm};
 ghost use Rattle.sv_obl.specs.Paths.{pieces_of, covers};
 ghost use Rattle.sv_obl.specs.Routes.{first_place};
 ghost use Rattle.sv_obl.specs.Trails.{piece_forms};
 
-use sv_flat::{FStmt, Piece, SigId, Signal};
+use sv_flat::{Piece, SigId, Signal};
 use sv_num::Place;
 
 // Whether the piece has all bits of its signal.
@@ -61,38 +60,13 @@ pub fn first_place(target: SigId, pieces: &[Piece]) -> Option<Place>
     None
 }
 
-// Whether some piece is bits of the target.
-fn is_some_of(target: SigId, pieces: &[Piece]) -> bool
+/// Whether some piece is bits of the target.
+pub fn is_some_of(target: SigId, pieces: &[Piece]) -> bool
     ensures { result ≡ list_any (λ (piece : PieceForm).
         piece.signal == target.0) (piece_forms pieces.now) }
 {
     for piece in pieces {
         if piece.signal == target {
-            return true;
-        }
-    }
-    false
-}
-
-/// Whether the statement has an assignment to the target.
-#[cycle(assigns)]
-pub fn assigns(stmt: &FStmt, target: SigId) -> bool
-    ensures { result ≡ assigns (flat_statement stmt.now) target.0 }
-{
-    match stmt {
-        FStmt::Assign { pieces, .. } => is_some_of(target, pieces),
-        FStmt::Block(stmts) => some_assigns(stmts, target),
-        FStmt::If { yes, no, .. } => assigns(yes, target) || assigns(no, target),
-    }
-}
-
-// Whether some statement has.
-#[cycle(assigns)]
-fn some_assigns(stmts: &[FStmt], target: SigId) -> bool
-    ensures { result ≡ assigns (chain_of (flat_statements stmts.now)) target.0 }
-{
-    for stmt in stmts {
-        if assigns(stmt, target) {
             return true;
         }
     }

@@ -10,6 +10,7 @@ ghost use Rattle.sv_obl.specs.Routes.{Route, open_route, routes_before, names_on
 ghost use Rattle.sv_obl.specs.Trails.{routes_of, Finds};
 ghost use Rattle.sv_obl.specs.Views.{obligation_of};
 
+use crate::cuts::cut_for;
 use crate::faults::{OblFault, WalkFault};
 use crate::nodes::some_large;
 use crate::path_queries::query_of;
@@ -31,8 +32,8 @@ fn paths_of<'a>(
     ensures { Finds target.0 (routes_before (signal_forms signals.now) target.0
         (flat_statement process.now.body) open_route) result }
 {
-    let open = Trail::open(alloc);
-    match before(&process.body, alloc, signals, target, &open) {
+    let cut = cut_for(&process.body, alloc, target)?;
+    match before(&cut, alloc, signals, target, Trail::open(alloc)) {
         Ok(trails) => Ok(trails),
         Err(WalkFault::TooMany) => Err(OblFault::Paths(target)),
         Err(WalkFault::OutOfMemory) => Err(OblFault::OutOfMemory),

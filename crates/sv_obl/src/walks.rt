@@ -1,19 +1,20 @@
 // The walk through a process from its last statement back.
-ghost use Rattle.std.specs.Prelude.{◌≡◌, ◌<◌, ◌&&◌, [], ◌∷◌, ◌++◌, true, false, length, map};
+ghost use Rattle.std.specs.Prelude.{◌≡◌, ◌<◌, [], ◌∷◌, ◌++◌, true, false, length, map};
 ghost use Rattle.std.specs.Prelude.{flat_map, IfOk};
-ghost use Rattle.sv_flat.specs.Assigned.{assigns};
 ghost use Rattle.sv_flat.specs.ByNumber.{signal_forms};
-ghost use Rattle.sv_flat.specs.Views.{typed_tree, flat_statement, flat_statements, chain_of};
+ghost use Rattle.sv_flat.specs.Views.{typed_tree};
+ghost use Rattle.sv_obl.specs.Cuts.{cut_routes};
 ghost use Rattle.sv_obl.specs.Paths.{later_place};
 ghost use Rattle.sv_obl.specs.Routes.{behind, is_all, times_put, first_place, with_put, with_ways};
-ghost use Rattle.sv_obl.specs.Routes.{with_right, routes_before};
+ghost use Rattle.sv_obl.specs.Routes.{with_right};
 ghost use Rattle.sv_obl.specs.Trails.{piece_forms, route_of, routes_of, Walks, Adds};
 
+use crate::cuts::Cut;
 use crate::faults::WalkFault;
-use crate::pieces::{assigns, count_of, covers, first_place};
+use crate::pieces::{count_of, covers, first_place};
 use crate::trails::{Filling, Trail, Turn, add_behind, alone};
 use std::alloc::{AllocError, Global};
-use sv_flat::{FExpr, FNode, FStmt, Piece, SigId, Signal};
+use sv_flat::{FExpr, FNode, Piece, SigId, Signal};
 use sv_num::Place;
 
 // The trails, where they are few enough.
@@ -118,13 +119,13 @@ fn put_whole<'a>(
     target: SigId,
     pieces: &[Piece],
     right: &'a FExpr,
-    trail: &Trail<'a>,
+    trail: Trail<'a>,
 ) -> Result<Vec<Trail<'a>>, WalkFault>
     requires { target.0 < length signals.now }
     ensures { Walks (with_put (signal_forms signals.now) target.0 (piece_forms pieces.now)
-        (typed_tree right.now) (route_of trail.now) ∷ []) result }
+        (typed_tree right.now) (route_of trail.entry) ∷ []) result }
 {
-    let put = with_put(signals, target, pieces, right, trail.copy(alloc)?)?;
+    let put = with_put(signals, target, pieces, right, trail)?;
     Ok(alone(alloc, put)?)
 }
 
@@ -135,15 +136,16 @@ fn put_ways<'a>(
     signals: &[Signal],
     target: SigId,
     pieces: &[Piece],
-    trail: &Trail<'a>,
+    trail: Trail<'a>,
 ) -> Result<Vec<Trail<'a>>, WalkFault>
     requires { target.0 < length signals.now }
     ensures { Walks (with_ways (signal_forms signals.now) target.0 (piece_forms pieces.now)
-        (typed_tree right.now) (route_of trail.now)) result }
+        (typed_tree right.now) (route_of trail.entry)) result }
 {
     match &right.node {
         FNode::Choice(place, cond, yes, no) => {
-            let first = put_ways(yes, alloc, signals, target, pieces, trail)?;
+            let copy = trail.copy(alloc)?;
+            let first = put_ways(yes, alloc, signals, target, pieces, copy)?;
             let second = put_ways(no, alloc, signals, target, pieces, trail)?;
             fork(alloc, *place, cond, first, second)
         }
@@ -158,109 +160,80 @@ fn put_right<'a>(
     target: SigId,
     pieces: &[Piece],
     right: &'a FExpr,
-    trail: &Trail<'a>,
+    trail: Trail<'a>,
 ) -> Result<Vec<Trail<'a>>, WalkFault>
     requires { target.0 < length signals.now }
     ensures { Walks (with_right (signal_forms signals.now) target.0 (piece_forms pieces.now)
-        (typed_tree right.now) (route_of trail.now)) result }
+        (typed_tree right.now) (route_of trail.entry)) result }
 {
-    if is_all(signals, target, pieces, trail) {
+    if is_all(signals, target, pieces, &trail) {
         put_ways(right, alloc, signals, target, pieces, trail)
     } else {
         put_whole(alloc, signals, target, pieces, right, trail)
     }
 }
 
-// Whether the statement is taken: it assigns the target, and the trail wants it.
-fn is_taken(stmt: &FStmt, target: SigId, trail: &Trail) -> bool
-    ensures { result ≡ (assigns (flat_statement stmt.now) target.0 && trail.now.wants) }
+// The trail alone, before what leaves it as it is.
+fn unchanged<'a>(alloc: Global, trail: Trail<'a>) -> Result<Vec<Trail<'a>>, WalkFault>
+    ensures { Walks (route_of trail.entry ∷ []) result }
 {
-    trail.wants && assigns(stmt, target)
+    Ok(alone(alloc, trail)?)
 }
 
-// The trail alone, before a statement that is not taken.
-fn unchanged<'a>(alloc: Global, trail: &Trail<'a>) -> Result<Vec<Trail<'a>>, WalkFault>
-    ensures { Walks (route_of trail.now ∷ []) result }
-{
-    Ok(alone(alloc, trail.copy(alloc)?)?)
-}
-
-/// The trails that a trail becomes where a statement is taken before it; an error where they are
-/// more than 4,096, or where memory runs out.
+/// The trails that a trail becomes where a cut for the target is taken before it; an error where
+/// they are more than 4,096, or where memory runs out.
 #[cycle(before)]
 pub fn before<'a>(
-    stmt: &'a FStmt,
+    cut: &Cut<'a>,
     alloc: Global,
     signals: &[Signal],
     target: SigId,
-    trail: &Trail<'a>,
+    trail: Trail<'a>,
 ) -> Result<Vec<Trail<'a>>, WalkFault>
     requires { target.0 < length signals.now }
-    ensures { Walks (routes_before (signal_forms signals.now) target.0 (flat_statement stmt.now)
-        (route_of trail.now)) result }
+    ensures { Walks (cut_routes (signal_forms signals.now) target.0 cut.now
+        (route_of trail.entry)) result }
 {
-    match stmt {
-        FStmt::Assign { pieces, value, .. } => {
-            if is_taken(stmt, target, trail) {
-                put_right(alloc, signals, target, pieces, value, trail)
-            } else {
-                unchanged(alloc, trail)
-            }
+    if !trail.wants {
+        return unchanged(alloc, trail);
+    }
+    match cut {
+        Cut::Nothing => unchanged(alloc, trail),
+        Cut::Assign { pieces, value } => put_right(alloc, signals, target, *pieces, *value, trail),
+        Cut::Chain { first, second } => {
+            let trails = before(second, alloc, signals, target, trail)?;
+            before_each(first, alloc, signals, target, trails)
         }
-        FStmt::Block(stmts) => before_all(stmts, alloc, signals, target, trail),
-        FStmt::If {
+        Cut::Branch {
             place,
             cond,
             yes,
             no,
         } => {
-            if !is_taken(stmt, target, trail) {
-                return unchanged(alloc, trail);
-            }
-            let first = before(yes, alloc, signals, target, trail)?;
+            let copy = trail.copy(alloc)?;
+            let first = before(yes, alloc, signals, target, copy)?;
             let second = before(no, alloc, signals, target, trail)?;
-            fork(alloc, *place, cond, first, second)
+            fork(alloc, *place, *cond, first, second)
         }
     }
 }
 
-// The same of some statements, from the last one back.
-#[cycle(before)]
-fn before_all<'a>(
-    stmts: &'a [FStmt],
-    alloc: Global,
-    signals: &[Signal],
-    target: SigId,
-    trail: &Trail<'a>,
-) -> Result<Vec<Trail<'a>>, WalkFault>
-    requires { target.0 < length signals.now }
-    ensures { Walks (routes_before (signal_forms signals.now) target.0
-        (chain_of (flat_statements stmts.now)) (route_of trail.now)) result }
-{
-    let mut trails = unchanged(alloc, trail)?;
-    for i in 0..stmts.len() {
-        let stmt = &stmts[stmts.len() - 1 - i];
-        trails = before_each(stmt, alloc, signals, target, &trails)?;
-    }
-    Ok(trails)
-}
-
-// The trails that some trails become where a statement is taken before each.
+// The trails that some trails become where a cut is taken before each.
 #[cycle(before)]
 fn before_each<'a>(
-    stmt: &'a FStmt,
+    cut: &Cut<'a>,
     alloc: Global,
     signals: &[Signal],
     target: SigId,
-    trails: &[Trail<'a>],
+    trails: Vec<Trail<'a>>,
 ) -> Result<Vec<Trail<'a>>, WalkFault>
     requires { target.0 < length signals.now }
-    ensures { Walks (flat_map (routes_before (signal_forms signals.now) target.0
-        (flat_statement stmt.now)) (routes_of trails.now)) result }
+    ensures { Walks (flat_map (cut_routes (signal_forms signals.now) target.0 cut.now)
+        (routes_of trails.entry.items)) result }
 {
     let mut all = Vec::new(alloc);
     for trail in trails {
-        let more = before(stmt, alloc, signals, target, trail)?;
+        let more = before(cut, alloc, signals, target, trail)?;
         add_all(&mut all, more)?;
     }
     Ok(all)

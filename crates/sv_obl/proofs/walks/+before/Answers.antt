@@ -1,72 +1,80 @@
-use Rattle.std.proofs.Common.{◌≡◌, ◌+◌, ◌-◌, ◌<◌, ◌≤◌, ◌&&◌, true, cond, []}
-use Rattle.std.proofs.Common.{◌∷◌, length, drop, flat_map, get_or, sym, ap, subst}
-use Rattle.std.proofs.Common.{◌∙◌, arith, Err}
-use Rattle.sv_flat.specs.Assigned.{assigns}
+use Rattle.std.proofs.Common.{◌≡◌, ◌+◌, ◌≤◌, ◌++◌, List, length, flat_map, map-id, sym, ap, ap₂}
+use Rattle.std.proofs.Common.{subst, ◌∙◌, arith, rules, length-append}
+use Rattle.std.proofs.lemmas.Iterator.Consumers.{YieldsList-turn, YieldsList-so_far}
+use Rattle.std.proofs.lemmas.Iterator.Adapters.{YieldsList-from_vec}
 use Rattle.sv_flat.specs.ByNumber.{signal_forms}
-use Rattle.sv_flat.specs.Design.{assign}
-use Rattle.sv_flat.specs.Views.{typed_tree, flat_statement, flat_statements, chain_of}
-use Rattle.sv_obl.specs.Routes.{with_right, routes_before}
-use Rattle.sv_obl.specs.Trails.{piece_forms, route_of, routes_of, Walks}
-use Rattle.sv_obl.proofs.StatementFacts.{block_is, next_statement}
-use Rattle.sv_obl.proofs.WalkFacts.{ends_early, chain_longer, fails_alike}
+use Rattle.sv_obl.specs.Cuts.{cut_routes}
+use Rattle.sv_obl.specs.Routes.{Route}
+use Rattle.sv_obl.specs.Trails.{route_of, routes_of, Walks}
+use Rattle.sv_obl.proofs.CutFacts.{closed_stays}
+use Rattle.sv_obl.proofs.WalkFacts.{ends_early, fails_alike, adds_fails, chain_ends, next_longer}
 use Rattle.sv_obl.proofs.walks.+before.Goals as goal
 
-pub before-returns-in-Block : goal.before-returns-in-Block
-before-returns-in-Block t c =
-    subst (λ s. Walks (routes_before (signal_forms c.args.signals.now) c.args.target.0 s
-    (route_of c.args.trail.now)) c.before_all.result)
-    (sym (block_is c.args.stmt.now c.in-Block.stmts c.deref-in-Block.result.now c.in-Block.is
-    c.deref-in-Block.ensures.value))
-    c.before_all.ensures
+pub before-returns-then-not-trail : goal.before-returns-then-not-trail
+before-returns-then-not-trail t c =
+    let signals = signal_forms c.args.signals.now in
+    subst (λ (rs : List Route). Walks rs c.unchanged.result)
+    (sym (closed_stays signals c.args.target.0 c.args.cut.now (route_of c.args.trail)
+    c.if-not-trail.true))
+    c.unchanged.ensures
 
-pub before-returns-then-is_taken : goal.before-returns-then-is_taken
-before-returns-then-is_taken t c =
+pub before-returns-in_err-trails-in-Chain : goal.before-returns-in_err-trails-in-Chain
+before-returns-in_err-trails-in-Chain t c =
     let signals = signal_forms c.args.signals.now in
     let s = c.args.target.0 in
-    let route = route_of c.args.trail.now in
-    let right = typed_tree c.in-Assign.value in
-    let whole = assign (piece_forms c.in-Assign.pieces.items) c.in-Assign.place
-    c.in-Assign.blocking right in
-    let is : flat_statement c.args.stmt.now ≡ whole = ap flat_statement c.in-Assign.is in
-    let taken : (assigns whole s && route.wants) ≡ true =
-    ap (λ st. assigns st s && route.wants) (sym is) ∙ sym c.is_taken.ensures
-    ∙ c.if-is_taken.true in
-    subst (λ st. Walks (routes_before signals s st route) c.put_right.result) (sym is)
-    (subst (λ b. Walks (cond b (with_right signals s (piece_forms c.in-Assign.pieces.items) right
-    route) (route ∷ [])) c.put_right.result) (sym taken)
-    (subst (λ ps. Walks (with_right signals s (piece_forms ps) right route) c.put_right.result)
-    c.deref.ensures.value c.put_right.ensures))
+    let first = c.in-Chain.first.value in
+    let route = route_of c.args.trail in
+    fails_alike (cut_routes signals s c.args.cut.now route) c.in_err-trails-in-Chain.field-0.0
+    c.from_residual.result c.from_residual.ensures.1
+    (chain_ends signals s first c.deref.result.now c.args.cut.now route
+    c.in_err-trails-in-Chain.field-0.0
+    (λ r. ap (λ k. cut_routes signals s k r) c.in-Chain.is
+    ∙ ap (λ k. flat_map (cut_routes signals s first) (cut_routes signals s k r))
+    (sym c.deref.ensures))
+    c.in_err-trails-in-Chain.ensures)
 
-pub before_all-returns-in_err-trails-2 : goal.before_all-returns-in_err-trails-2
-before_all-returns-in_err-trails-2 t c =
-    let signals = signal_forms c.args.signals.now in
-    let s = c.args.target.0 in
-    let route = route_of c.args.trail.now in
-    let stmts = c.args.stmts.now in
-    let i = c.loop-i.i in
-    let j = length stmts - (i + 1) in
-    let stmt = c.index-stmts-stmts.result in
-    let inside : j < length stmts = omega (arith, c.loop-i-test.true) in
-    let same : length stmts - 1 - i ≡ j = omega (arith, c.loop-i-test.true) in
-    let later : length stmts - i ≡ j + 1 = omega (arith, c.loop-i-test.true) in
-    let rest = chain_of (flat_statements (drop (j + 1) stmts)) in
-    let taken = flat_map (routes_before signals s (flat_statement stmt))
-    (routes_before signals s rest route) in
-    let hand : routes_of c.deref.result.now ≡ routes_before signals s rest route =
-    ap routes_of c.deref.ensures.value
-    ∙ c.loop-i.invariant.0
-    ∙ ap (λ k. routes_before signals s (chain_of (flat_statements (drop k stmts))) route) later in
-    let next = next_statement stmts j stmt inside
-    (subst (λ k. stmt ≡ get_or stmts k stmt) same c.index-stmts-stmts.is) in
-    let less : length taken ≤ length (routes_before signals s (chain_of (flat_statements stmts))
-    route) =
-    subst (λ ch. length (routes_before signals s ch route)
-    ≤ length (routes_before signals s (chain_of (flat_statements stmts)) route)) next
-    (chain_longer signals s stmts j route) in
-    fails_alike (routes_before signals s (chain_of (flat_statements stmts)) route)
-    c.in_err-trails-2.field-0.0 c.from_residual-in_err-trails-2.result
-    c.from_residual-in_err-trails-2.ensures.1
-    (ends_early taken (routes_before signals s (chain_of (flat_statements stmts)) route) less
-    c.in_err-trails-2.field-0.0
-    (subst (λ rs. Walks (flat_map (routes_before signals s (flat_statement stmt)) rs)
-    (Err c.in_err-trails-2.field-0.0)) hand c.in_err-trails-2.ensures))
+pub before_each-returns-in_err-more : goal.before_each-returns-in_err-more
+before_each-returns-in_err-more t c =
+    let f = cut_routes (signal_forms c.args.signals.now) c.args.target.0 c.args.cut.now in
+    let trails = c.args.trails.items in
+    let seen = c.loop-trail.yielded in
+    let x = c.in-Some.trail in
+    let yields = YieldsList-from_vec {s = c.into_iter-trail-iterator.result} trails
+    (search rules) (search rules) in
+    let so_far = YieldsList-so_far yields seen c.loop-trail.trail-iterator
+    c.loop-trail.yielded_by in
+    let turn = YieldsList-turn yields seen c.loop-trail.trail-iterator c.loop-trail.yielded_by
+    c.next.result c.next.new.self x c.in-Some.is c.next.ensures.steps in
+    let longer = next_longer f trails seen x (sym (map-id seen) ∙ so_far) turn.0 turn.1 in
+    let less : length (f (route_of x)) ≤ length (flat_map f (routes_of trails)) =
+    omega (arith, longer) in
+    fails_alike (flat_map f (routes_of trails)) c.in_err-more.field-0.0 c.from_residual.result
+    c.from_residual.ensures.1
+    (ends_early (f (route_of x)) (flat_map f (routes_of trails)) less c.in_err-more.field-0.0
+    c.in_err-more.ensures)
+
+pub before_each-returns-in_err-add_all : goal.before_each-returns-in_err-add_all
+before_each-returns-in_err-add_all t c =
+    let f = cut_routes (signal_forms c.args.signals.now) c.args.target.0 c.args.cut.now in
+    let trails = c.args.trails.items in
+    let seen = c.loop-trail.yielded in
+    let x = c.in-Some.trail in
+    let yields = YieldsList-from_vec {s = c.into_iter-trail-iterator.result} trails
+    (search rules) (search rules) in
+    let so_far = YieldsList-so_far yields seen c.loop-trail.trail-iterator
+    c.loop-trail.yielded_by in
+    let turn = YieldsList-turn yields seen c.loop-trail.trail-iterator c.loop-trail.yielded_by
+    c.next.result c.next.new.self x c.in-Some.is c.next.ensures.steps in
+    let longer = next_longer f trails seen x (sym (map-id seen) ∙ so_far) turn.0 turn.1 in
+    let all = routes_of c.loop-trail.all.items in
+    let more = routes_of c.in_ok-more.more.items in
+    let both : length (all ++ more) ≡ length (flat_map f (routes_of seen)) + length (f (route_of x))
+    = length-append all more
+    ∙ ap₂ (λ a b. a + b) (ap length c.loop-trail.invariant.0) (ap length c.in_ok-more.ensures.0) in
+    let less : length (all ++ more) ≤ length (flat_map f (routes_of trails)) =
+    omega (arith, longer, both) in
+    fails_alike (flat_map f (routes_of trails)) c.in_err-add_all.field-0.0
+    c.from_residual-in_err-add_all.result c.from_residual-in_err-add_all.ensures.1
+    (ends_early (all ++ more) (flat_map f (routes_of trails)) less c.in_err-add_all.field-0.0
+    (adds_fails (all ++ more) c.add_all.new.all c.in_err-add_all.field-0.0
+    c.in_err-add_all.ensures))

@@ -1,0 +1,334 @@
+-- Cuts of statements, one after the other.
+use Rattle.std.proofs.Common.{◌≡◌, ℕ, zero, suc, ◌+◌, ◌-◌, ◌*◌, ◌^◌, ◌≤◌, Bool, true, false, cond}
+use Rattle.std.proofs.Common.{◌&&◌, ◌||◌, not, List, [], ◌∷◌, ◌++◌, length, map, flat_map, drop}
+use Rattle.std.proofs.Common.{refl, sym, ap, ap₂, subst, ◌∙◌, arith, append-nil, ◌==◌}
+use Rattle.std.proofs.Common.{Option, Some, None, option_to_list, Result, Ok, Err}
+use Rattle.std.specs.Prelude.{IsTrue, IsFalse, IfOk}
+use Rattle.std.specs.List.{list_all, list_any}
+use Rattle.std.proofs.Math.Nat.{pow-suc}
+use Rattle.std.proofs.lemmas.Bool.{false≢true}
+use Rattle.std.proofs.lemmas.List.Concat.{flat_map-append}
+use Rattle.sv_num.specs.declared.faults.Place.{Place}
+use Rattle.sv_flat.specs.Design.{SignalForm, TypedTree, PieceForm, FlatStatement, after, assign}
+use Rattle.sv_flat.specs.Design.{branch}
+use Rattle.sv_flat.specs.Assigned.{assigns}
+use Rattle.sv_obl.specs.declared.cuts.Cut.{Cut}
+use Rattle.sv_obl.specs.declared.cuts.Cut as cut
+use Rattle.sv_obl.specs.Routes.{Route, behind, with_right, routes_before}
+use Rattle.sv_obl.specs.Cuts.{is_nothing, cut_routes, Cuts, all_routes, CutsAll, IsChain}
+use Rattle.sv_obl.specs.Cuts.{AreBefore}
+use Rattle.sv_obl.proofs.PathLists.{cond_false}
+
+-- ---- lists of lists
+
+module _ {X Y Z : Type 0} where
+  pub flat_flat : (f : X → List Y) (g : Y → List Z) (xs : List X)
+      → flat_map g (flat_map f xs) ≡ flat_map (λ x. flat_map g (f x)) xs
+  flat_flat f g [] = refl
+  flat_flat f g (x ∷ xs) =
+      flat_map-append g (f x) (flat_map f xs)
+      ∙ ap (λ zs. flat_map g (f x) ++ zs) (flat_flat f g xs)
+
+module _ {X Y : Type 0} where
+  pub flat_alike : (f g : X → List Y) → ((x : X) → f x ≡ g x) → (xs : List X)
+      → flat_map f xs ≡ flat_map g xs
+  flat_alike f g same [] = refl
+  flat_alike f g same (x ∷ xs) = ap₂ (λ a b. a ++ b) (same x) (flat_alike f g same xs)
+
+pub flat_itself : {X : Type 0} (xs : List X) → flat_map (λ x. x ∷ []) xs ≡ xs
+flat_itself [] = refl
+flat_itself (x ∷ xs) = ap (λ ys. x ∷ ys) (flat_itself xs)
+
+-- ---- tests
+
+and_right : (b : Bool) → b ≡ (b && true)
+and_right true = refl
+and_right false = refl
+
+and_of : (a b c : Bool) → ((a && b) && c) ≡ (a && (b && c))
+and_of true b c = refl
+and_of false b c = refl
+
+-- ---- answers
+
+-- what follows from what holds of an answer
+pub on_ok : {T E : Type 0} (r : Result T E) (P Q : T → Type 0) → ((x : T) → P x → Q x)
+    → IfOk r P → IfOk r Q
+on_ok (Ok x) P Q follows h = follows x h
+on_ok (Err e) P Q follows h = h
+
+-- two halves were taken from so many
+pub two_halves : (depth all middle front : ℕ) → 1 ≤ depth → middle ≡ all - 2 ^ (depth - 1)
+    → front ≡ middle - 2 ^ (depth - 1) → front ≡ all - 2 ^ depth
+two_halves zero all middle front some one two = absurd (omega arith)
+two_halves (suc k) all middle front some one two =
+    let less : suc k - 1 ≡ k = omega arith in
+    let half : middle ≡ all - 2 ^ k = one ∙ ap (λ n. all - 2 ^ n) less in
+    let rest : front ≡ middle - 2 ^ k = two ∙ ap (λ n. middle - 2 ^ n) less in
+    let double : 2 ^ suc k ≡ 2 ^ k * 2 = pow-suc 2 k in
+    omega arith
+
+-- ---- nothing
+
+module _ (signals : List SignalForm) (s : ℕ) where
+  pub nothing_stays : (c : Cut) → IsTrue (is_nothing c) → (route : Route) →
+      cut_routes signals s c route ≡ route ∷ []
+  nothing_stays cut.Nothing h route = refl
+  nothing_stays (cut.Assign pieces value) h route = absurd (false≢true h)
+  nothing_stays (cut.Chain' p first q second) h route = absurd (false≢true h)
+  nothing_stays (cut.Branch' place c p met q unmet) h route = absurd (false≢true h)
+
+  -- a route that wants nothing stays as it is
+  pub closed_stays : (c : Cut) (route : Route) → IsFalse route.wants →
+      cut_routes signals s c route ≡ route ∷ []
+  closed_stays cut.Nothing route h = refl
+  closed_stays (cut.Assign pieces value) route h = cond_false route.wants _ (route ∷ []) h
+  closed_stays (cut.Chain' p first q second) route h =
+      ap (flat_map (cut_routes signals s first)) (closed_stays second route h)
+      ∙ append-nil (cut_routes signals s first route)
+      ∙ closed_stays first route h
+  closed_stays (cut.Branch' place c p met q unmet) route h = cond_false route.wants _ (route ∷ []) h
+
+-- ---- two cuts
+
+module _ (first second : Cut) where
+  pub chain_of_second : IsTrue (is_nothing first) → IsChain first second second
+  chain_of_second none = record {
+    nothing = ap (λ b. b && is_nothing second) (sym none);
+    routes = λ signals s route.
+        sym (flat_alike (cut_routes signals s first) (λ r. r ∷ [])
+        (nothing_stays signals s first none)
+        (cut_routes signals s second route)
+        ∙ flat_itself (cut_routes signals s second route));
+  }
+
+  pub chain_of_first : IsTrue (is_nothing second) → IsChain first second first
+  chain_of_first none = record {
+    nothing = and_right (is_nothing first) ∙ ap (λ b. is_nothing first && b) (sym none);
+    routes = λ signals s route.
+        sym (ap (flat_map (cut_routes signals s first)) (nothing_stays signals s second none route)
+        ∙ append-nil (cut_routes signals s first route));
+  }
+
+-- ---- some cuts and one more
+
+pub empty_before : AreBefore [] [] cut.Nothing
+empty_before = record { nothing = refl; routes = λ signals s route. refl }
+
+pub nothing_more : (cs : List Cut) (last : Cut) → IsTrue (is_nothing last) → AreBefore cs cs last
+nothing_more cs last none = record {
+  nothing = and_right (list_all is_nothing cs)
+      ∙ ap (λ b. list_all is_nothing cs && b) (sym none);
+  routes = λ signals s route.
+      sym (ap (flat_map (all_routes signals s cs)) (nothing_stays signals s last none route)
+      ∙ append-nil (all_routes signals s cs route));
+}
+
+module _ (last : Cut) where
+  all_nothing_more : (cs : List Cut) →
+      list_all is_nothing (cs ++ last ∷ []) ≡ (list_all is_nothing cs && is_nothing last)
+  all_nothing_more [] = sym (and_right (is_nothing last))
+  all_nothing_more (c ∷ cs) =
+      ap (λ b. is_nothing c && b) (all_nothing_more cs)
+      ∙ sym (and_of (is_nothing c) (list_all is_nothing cs) (is_nothing last))
+
+  all_routes_more : (signals : List SignalForm) (s : ℕ) (cs : List Cut) (route : Route)
+      → all_routes signals s (cs ++ last ∷ []) route
+      ≡ flat_map (all_routes signals s cs) (cut_routes signals s last route)
+  all_routes_more signals s [] route =
+      append-nil (cut_routes signals s last route)
+      ∙ sym (flat_itself (cut_routes signals s last route))
+  all_routes_more signals s (c ∷ cs) route =
+      ap (flat_map (cut_routes signals s c)) (all_routes_more signals s cs route)
+      ∙ flat_flat (all_routes signals s cs) (cut_routes signals s c)
+      (cut_routes signals s last route)
+
+  pub one_more : (cs : List Cut) → AreBefore (cs ++ last ∷ []) cs last
+  one_more cs = record {
+    nothing = all_nothing_more cs;
+    routes = λ signals s route. all_routes_more signals s cs route;
+  }
+
+pub popped : (old new : List Cut) (result : Option Cut) (last : Cut)
+    → old ≡ new ++ option_to_list result → result ≡ Some last → AreBefore old new last
+popped old new result last items is =
+    subst (λ o. AreBefore o new last)
+    (sym (items ∙ ap (λ r. new ++ option_to_list r) is)) (one_more last new)
+
+pub pushed : (old new : List Cut) (last : Cut) → new ≡ old ++ last ∷ [] → AreBefore new old last
+pushed old new last items = subst (λ n. AreBefore n old last) (sym items) (one_more last old)
+
+-- the last part and the one before it, taken as one
+pub two_more : (all middle front : List Cut) (first second whole : Cut)
+    → AreBefore all middle second → AreBefore middle front first → IsChain first second whole
+    → AreBefore all front whole
+two_more all middle front first second whole later earlier chain = record {
+  nothing =
+      later.nothing
+      ∙ ap (λ b. b && is_nothing second) earlier.nothing
+      ∙ and_of (list_all is_nothing front) (is_nothing first) (is_nothing second)
+      ∙ ap (λ b. list_all is_nothing front && b) (sym chain.nothing);
+  routes = λ signals s route.
+      later.routes signals s route
+      ∙ flat_alike (all_routes signals s middle)
+      (λ r. flat_map (all_routes signals s front) (cut_routes signals s first r))
+      (λ r. earlier.routes signals s r) (cut_routes signals s second route)
+      ∙ sym (flat_flat (cut_routes signals s first) (all_routes signals s front)
+      (cut_routes signals s second route))
+      ∙ ap (flat_map (all_routes signals s front)) (sym (chain.routes signals s route));
+}
+
+-- ---- statements
+
+pub whole_block : (s : ℕ) (statement : FlatStatement) (cs : List Cut) (whole : Cut)
+    → CutsAll s statement cs → AreBefore cs [] whole → Cuts s statement whole
+whole_block s statement cs whole each all = record {
+  nothing = sym all.nothing ∙ each.nothing;
+  routes = λ signals route.
+      sym (all.routes signals s route
+      ∙ flat_itself (cut_routes signals s whole route))
+      ∙ each.routes signals route;
+}
+
+-- the cuts so far, and the statements that are left
+pub record SoFar (s : ℕ) (whole rest : FlatStatement) (cs : List Cut) : Type 0 where
+  pub nothing : (list_all is_nothing cs && not (assigns rest s)) ≡ not (assigns whole s)
+  pub routes : (signals : List SignalForm) (route : Route) →
+      flat_map (all_routes signals s cs) (routes_before signals s rest route)
+      ≡ routes_before signals s whole route
+
+pub none_yet : (s : ℕ) (whole : FlatStatement) → SoFar s whole whole []
+none_yet s whole = record {
+  nothing = refl;
+  routes = λ signals route. flat_itself (routes_before signals s whole route);
+}
+
+pub next_cut : (s : ℕ) (whole first rest : FlatStatement) (cs more : List Cut) (c : Cut)
+    → SoFar s whole (after first rest) cs → Cuts s first c → AreBefore more cs c
+    → SoFar s whole rest more
+next_cut s whole first rest cs more c so cuts added = record {
+  nothing =
+      ap (λ b. b && not (assigns rest s)) added.nothing
+      ∙ ap (λ b. (list_all is_nothing cs && b) && not (assigns rest s)) cuts.nothing
+      ∙ neither (list_all is_nothing cs) (assigns first s) (assigns rest s)
+      ∙ so.nothing;
+  routes = λ signals route.
+      flat_alike (all_routes signals s more)
+      (λ r. flat_map (all_routes signals s cs) (cut_routes signals s c r))
+      (λ r. added.routes signals s r) (routes_before signals s rest route)
+      ∙ sym (flat_flat (cut_routes signals s c) (all_routes signals s cs)
+      (routes_before signals s rest route))
+      ∙ ap (flat_map (all_routes signals s cs))
+      (flat_alike (cut_routes signals s c) (routes_before signals s first)
+      (λ r. cuts.routes signals r) (routes_before signals s rest route))
+      ∙ so.routes signals route;
+}
+  where
+    neither : (a x y : Bool) → ((a && not x) && not y) ≡ (a && not (x || y))
+    neither true true y = refl
+    neither true false y = refl
+    neither false x y = refl
+
+pub all_cut : (s : ℕ) (whole rest : FlatStatement) (cs : List Cut) → SoFar s whole rest cs
+    → IsFalse (assigns rest s)
+    → ((signals : List SignalForm) (route : Route) →
+    routes_before signals s rest route ≡ route ∷ [])
+    → CutsAll s whole cs
+all_cut s whole rest cs so none stays = record {
+  nothing =
+      and_right (list_all is_nothing cs)
+      ∙ ap (λ b. list_all is_nothing cs && not b) (sym none) ∙ so.nothing;
+  routes = λ signals route.
+      sym (ap (flat_map (all_routes signals s cs)) (stays signals route)
+      ∙ append-nil (all_routes signals s cs route))
+      ∙ so.routes signals route;
+}
+
+-- ---- branches and assignments
+
+from_not : (b c : Bool) → IsTrue b → b ≡ not c → c ≡ false
+from_not b true h e = absurd (false≢true (sym e ∙ h))
+from_not b false h e = refl
+
+not_false : (b c : Bool) → IsFalse b → b ≡ not c → c ≡ true
+not_false b true h e = refl
+not_false b false h e = absurd (false≢true (sym h ∙ e))
+
+module _ (s : ℕ) (place : Place) (condition : TypedTree) (first second : FlatStatement)
+    (met unmet : Cut) (one : Cuts s first met) (two : Cuts s second unmet) where
+  abbrev whole : FlatStatement
+  whole = branch place condition first second
+
+  abbrev arms : List SignalForm → (Route → List Route) → (Route → List Route) → Route → List Route
+  arms signals f g route =
+      map (behind (record { place = place; condition = condition; truth = true })) (f route)
+      ++ map (behind (record { place = place; condition = condition; truth = false })) (g route)
+
+  pub no_arm : IsTrue (is_nothing met) → IsTrue (is_nothing unmet) → Cuts s whole cut.Nothing
+  no_arm none_yes none_no = record {
+    nothing = ap not (sym assigned);
+    routes = λ signals route.
+        sym (cond_false (assigns whole s && route.wants)
+        (arms signals (routes_before signals s first) (routes_before signals s second) route)
+        (route ∷ []) (ap (λ b. b && route.wants) assigned));
+  }
+    where
+      assigned : assigns whole s ≡ false
+      assigned =
+          ap₂ (λ a b. a || b) (from_not (is_nothing met) (assigns first s) none_yes one.nothing)
+          (from_not (is_nothing unmet) (assigns second s) none_no two.nothing)
+
+  pub some_arm : (c : Cut) → IsFalse (is_nothing met && is_nothing unmet) → is_nothing c ≡ false
+      → ((signals : List SignalForm) (route : Route) → cut_routes signals s c route
+      ≡ cond route.wants
+      (arms signals (cut_routes signals s met) (cut_routes signals s unmet) route)
+      (route ∷ []))
+      → Cuts s whole c
+  some_arm c some is routes = record {
+    nothing = is ∙ ap not (sym assigned);
+    routes = λ signals route.
+        routes signals route
+        ∙ ap₂ (λ ys ns. cond route.wants
+        (map (behind (record { place = place; condition = condition; truth = true })) ys
+        ++ map (behind (record { place = place; condition = condition; truth = false })) ns)
+        (route ∷ [])) (one.routes signals route) (two.routes signals route)
+        ∙ ap (λ b. cond (b && route.wants)
+        (arms signals (routes_before signals s first) (routes_before signals s second) route)
+        (route ∷ [])) (sym assigned);
+  }
+    where
+      either : (a b x y : Bool) → IsFalse (a && b) → a ≡ not x → b ≡ not y → (x || y) ≡ true
+      either a b true y h p q = refl
+      either a b false true h p q = refl
+      either a b false false h p q = absurd (false≢true (sym h ∙ ap₂ (λ m n. m && n) p q))
+
+      assigned : assigns whole s ≡ true
+      assigned = either (is_nothing met) (is_nothing unmet) (assigns first s) (assigns second s)
+          some
+          one.nothing two.nothing
+
+module _ (s : ℕ) (pieces : List PieceForm) (place : Place) (blocking : Bool)
+    (right : TypedTree) where
+  abbrev assignment : FlatStatement
+  assignment = assign pieces place blocking right
+
+  pub not_assigned : IsFalse (assigns assignment s) → Cuts s assignment cut.Nothing
+  not_assigned none = record {
+    nothing = ap not (sym none);
+    routes = λ signals route.
+        sym (cond_false (assigns assignment s && route.wants)
+        (with_right signals s pieces right route) (route ∷ [])
+        (ap (λ b. b && route.wants) none));
+  }
+
+  pub is_assigned : (c : Cut) → IsTrue (assigns assignment s) → is_nothing c ≡ false
+      → ((signals : List SignalForm) (route : Route) → cut_routes signals s c route
+      ≡ cond route.wants (with_right signals s pieces right route) (route ∷ []))
+      → Cuts s assignment c
+  is_assigned c assigned is routes = record {
+    nothing = is ∙ ap not (sym assigned);
+    routes = λ signals route.
+        routes signals route
+        ∙ ap (λ b. cond (b && route.wants) (with_right signals s pieces right route)
+        (route ∷ [])) (sym assigned);
+  }

@@ -1,0 +1,392 @@
+-- Every obligation of an admitted design is one of the design's.
+use Rattle.std.proofs.Common.{◌≡◌, ℕ, zero, suc, ◌+◌, ◌<◌, ◌≤◌, Bool, true, false, cond, ◌&&◌, ◌==◌}
+use Rattle.std.proofs.Common.{not, ltb-true, List, [], ◌∷◌, ◌++◌, length, map, filter, flat_map}
+use Rattle.std.proofs.Common.{reverse, ◌⊎◌, inl, inr, ⊎_elim, refl, sym, ap, subst, ◌∙◌, arith}
+use Rattle.std.proofs.Common.{Option, Some, None, lt-ltb}
+use Rattle.std.specs.Prelude.{Contains, All, IsTrue, IsFalse}
+use Rattle.std.specs.List.{range_with_len, list_any}
+use Rattle.std.proofs.lemmas.Bool.{or_left, eqb-true}
+use Rattle.std.proofs.lemmas.List.{reverse-append}
+use Rattle.std.proofs.lemmas.List.Elements.{All-nil, All-cons}
+use Rattle.sv_num.specs.declared.faults.Place.{Place}
+use Rattle.sv_system.proofs.Lists.{Contains-nil, Contains-head, Contains-later, Contains-cases}
+use Rattle.sv_system.proofs.Lists.{Contains-from_map, Contains-filter}
+use Rattle.sv_flat.specs.Design.{SignalForm, TypedTree, typed, choice, PieceForm, ProcessForm}
+use Rattle.sv_flat.specs.Design.{FlatStatement, nothing, after, assign, branch, FlatDesign}
+use Rattle.sv_flat.specs.Values.{signal_of}
+use Rattle.sv_flat.specs.Soundness.{is_one_to, has_type, node_well_formed, well_formed, piece_fits}
+use Rattle.sv_flat.specs.Soundness.{statement_sound, is_signal, sound}
+use Rattle.std.specs.List.{list_all}
+use Rattle.sv_flat.specs.Assigned.{assigns}
+use Rattle.sv_flat.specs.Readings.{ReadForm, reads, names_signal}
+use Rattle.sv_flat.specs.Reads.{is_combinational}
+use Rattle.sv_flat.specs.Processes.{is_clocked, is_register, signal_numbers, signals_that, drivers}
+use Rattle.sv_flat.specs.SignalLists.{seen}
+use Rattle.sv_flat.specs.Clocks.{is_clock, processes_of}
+use Rattle.sv_flat.specs.Admission.{IsAdmitted}
+use Rattle.sv_flat.proofs.Members.{Contains-either}
+use Rattle.sv_flat.proofs.Depths.{first_of, second_of}
+use Rattle.sv_flat.proofs.LeastSets.{from_some, some_from, in_those, those_below}
+use Rattle.sv_flat.proofs.LeastSets.{Contains-from_filter}
+use Rattle.sv_flat.proofs.ReadSignals.{reads_signals}
+use Rattle.sv_flat.proofs.SameRuns.{none_found}
+use Rattle.sv_flat.proofs.AdmittedFacts.{and_true, is_process, body_is_sound, assigns_no_clock}
+use Rattle.sv_flat.proofs.AdmittedFacts.{targets_are_combinational}
+use Rattle.sv_obl.specs.declared.frames.Frame.{Frame}
+use Rattle.sv_obl.specs.declared.frames.Frame.TheVariants.{Now, Next}
+use Rattle.sv_obl.specs.Paths.{StepForm, Path, path_names, open_path, before, closed, paths}
+use Rattle.sv_obl.specs.Obligations.{GoalForm, flow, holds, selector, Obligation, frame_of}
+use Rattle.sv_obl.specs.Obligations.{place_of, path_obligation, target_obligations, selectors_of}
+use Rattle.sv_obl.specs.Obligations.{always_flows, selector_obligation, selector_obligations}
+use Rattle.sv_obl.specs.Obligations.{obligations}
+use Rattle.sv_obl.specs.Routes.{Route, open_route, behind, is_all, with_put, with_ways, with_right}
+use Rattle.sv_obl.specs.Routes.{routes_before}
+use Rattle.sv_obl.specs.Views.{IsGoalAmong, IsAmong}
+use Rattle.sv_obl.specs.DesignQueries.{Ascends, IsExpressionOf, IsStepOf, IsTargetIn}
+use Rattle.sv_obl.specs.DesignQueries.{AsksSelector, IsGoalOf, IsQueryOf, HasPlace, IsPlaced}
+use Rattle.sv_obl.proofs.PathLists.{only, from_cond, from_flat_map, contained_all, all_contained}
+use Rattle.sv_obl.proofs.PathRuns.{step_of}
+use Rattle.sv_obl.proofs.RoutePaths.{Matches, AllMatch}
+use Rattle.sv_obl.proofs.RouteObligations.{steps_same, paths_are, all_match}
+use Rattle.sv_obl.proofs.SelectorFacts.{selector_is_seen, selected_is_seen}
+use Rattle.sv_obl.proofs.TargetReads.{reads_of, Origin, origin, inside, in_system, read_is_seen}
+
+-- ---- lists
+
+range_from : (a n m : ℕ) → Contains (range_with_len a n) m → a ≤ m
+range_from a zero m at = absurd (Contains-nil m at)
+range_from a (suc n) m at = ⊎_elim
+    (λ is. subst (λ k. a ≤ k) is (omega arith))
+    (λ later. let more = range_from (a + 1) n m later in omega arith)
+    (Contains-cases a (range_with_len (a + 1) n) m at)
+
+range_ascends : (test : ℕ → Bool) (a n : ℕ) → Ascends (filter test (range_with_len a n))
+range_ascends test a zero = tt
+range_ascends test a (suc n) = by_test (test a) (range_ascends test (a + 1) n)
+  where
+    rest : List ℕ
+    rest = filter test (range_with_len (a + 1) n)
+
+    above : All (λ m. a < m) rest
+    above = contained_all (λ m. a < m) rest (λ m at.
+        let more = range_from (a + 1) n m
+        (Contains-from_filter test (range_with_len (a + 1) n) m at).1 in
+        omega arith)
+
+    by_test : (c : Bool) → Ascends rest → Ascends (cond c (a ∷ rest) rest)
+    by_test true ascends = (above, ascends)
+    by_test false ascends = ascends
+
+-- an element of a list the other way round is one of the list
+from_reversed : {X : Type 0} (xs : List X) (y : X) → Contains (reverse xs) y → Contains xs y
+from_reversed [] y at = absurd (Contains-nil y at)
+from_reversed (x ∷ xs) y at = ⊎_elim
+    (λ l. Contains-later x xs y (from_reversed xs y l))
+    (λ r. subst (Contains (x ∷ xs)) (only x y r) (Contains-head x xs))
+    (Contains-either (reverse xs) (x ∷ []) y
+    (subst (λ zs. Contains zs y) (reverse-append (x ∷ []) xs) at))
+
+-- ---- conditions
+
+module _ (signals : List SignalForm) where
+  abbrev StepsFormed : List StepForm → Type 0
+  StepsFormed steps =
+      (step : StepForm) → Contains steps step → IsTrue (well_formed signals step.condition)
+
+  no_steps : StepsFormed []
+  no_steps step at = absurd (Contains-nil step at)
+
+  one_more : (steps : List StepForm) (last : StepForm) → StepsFormed steps
+      → IsTrue (well_formed signals last.condition) → StepsFormed (steps ++ last ∷ [])
+  one_more steps last each formed step at = ⊎_elim
+      (λ l. each step l)
+      (λ r. subst (λ (y : StepForm). IsTrue (well_formed signals y.condition))
+      (only last step r) formed)
+      (Contains-either steps (last ∷ []) step at)
+
+  abbrev RoutesFormed : List Route → Type 0
+  RoutesFormed routes = (r : Route) → Contains routes r → StepsFormed r.steps
+
+  alone : (r : Route) → StepsFormed r.steps → RoutesFormed (r ∷ [])
+  alone r formed other at =
+      subst (λ (y : Route). StepsFormed y.steps) (only r other at) formed
+
+  both : (xs ys : List Route) → RoutesFormed xs → RoutesFormed ys → RoutesFormed (xs ++ ys)
+  both xs ys one two r at = ⊎_elim (one r) (two r) (Contains-either xs ys r at)
+
+  behind_each : (step : StepForm) (xs : List Route)
+      → IsTrue (well_formed signals step.condition)
+      → RoutesFormed xs → RoutesFormed (map (behind step) xs)
+  behind_each step xs formed each r at =
+      let from = Contains-from_map (behind step) xs r at in
+      subst (λ (y : Route). StepsFormed y.steps) from.2
+      (one_more (from.0).steps step (each from.0 from.1) formed)
+
+  either : (c : Bool) (xs ys : List Route) → RoutesFormed xs → RoutesFormed ys →
+      RoutesFormed (cond c xs ys)
+  either true xs ys one two = one
+  either false xs ys one two = two
+
+  module _ (s : ℕ) where
+    ways_formed : (pieces : List PieceForm) (right : TypedTree) (route : Route)
+        → IsTrue (well_formed signals right) → StepsFormed route.steps
+        → RoutesFormed (with_ways signals s pieces right route)
+    ways_formed pieces (typed w sign (choice p c a b)) route h formed =
+        let types = has_type w sign a && has_type w sign b in
+        let node = second_of (is_one_to 64 w) (node_well_formed signals w sign (choice p c a b))
+        h in
+        let front = first_of (types && well_formed signals c && well_formed signals a)
+        (well_formed signals b) node in
+        let formed_c = second_of types (well_formed signals c)
+        (first_of (types && well_formed signals c) (well_formed signals a) front) in
+        let formed_a = second_of (types && well_formed signals c) (well_formed signals a) front in
+        let formed_b = second_of (types && well_formed signals c && well_formed signals a)
+        (well_formed signals b) node in
+        both (map (behind (step_of p c true)) (with_ways signals s pieces a route))
+        (map (behind (step_of p c false)) (with_ways signals s pieces b route))
+        (behind_each (step_of p c true) (with_ways signals s pieces a route) formed_c
+        (ways_formed pieces a route formed_a formed))
+        (behind_each (step_of p c false) (with_ways signals s pieces b route) formed_c
+        (ways_formed pieces b route formed_b formed))
+    ways_formed pieces right route h formed =
+        alone (with_put signals s pieces right route) formed
+
+    pub routes_formed : (statement : FlatStatement) (route : Route)
+        → IsTrue (statement_sound signals statement) → StepsFormed route.steps
+        → RoutesFormed (routes_before signals s statement route)
+    routes_formed nothing route h formed = alone route formed
+    routes_formed (after first second) route h formed = λ r at.
+        let from = from_flat_map (routes_before signals s first)
+        (routes_before signals s second route) r at in
+        routes_formed first from.0
+        (first_of (statement_sound signals first) (statement_sound signals second) h)
+        (routes_formed second route
+        (second_of (statement_sound signals first) (statement_sound signals second) h) formed
+        from.0 from.1)
+        r from.2
+    routes_formed (assign pieces place blocking right) route h formed =
+        let formed_right =
+        first_of (well_formed signals right) (list_all (piece_fits signals right) pieces) h in
+        either (assigns (assign pieces place blocking right) s && route.wants)
+        (with_right signals s pieces right route) (route ∷ [])
+        (either (is_all signals s pieces route) (with_ways signals s pieces right route)
+        (with_put signals s pieces right route ∷ [])
+        (ways_formed pieces right route formed_right formed)
+        (alone (with_put signals s pieces right route) formed))
+        (alone route formed)
+    routes_formed (branch place condition first second) route h formed =
+        let front = first_of (well_formed signals condition && statement_sound signals first)
+        (statement_sound signals second) h in
+        let formed_condition =
+        first_of (well_formed signals condition) (statement_sound signals first) front in
+        let met = routes_before signals s first route in
+        let unmet = routes_before signals s second route in
+        either (assigns (branch place condition first second) s && route.wants)
+        (map (behind (step_of place condition true)) met
+        ++ map (behind (step_of place condition false)) unmet)
+        (route ∷ [])
+        (both (map (behind (step_of place condition true)) met)
+        (map (behind (step_of place condition false)) unmet)
+        (behind_each (step_of place condition true) met formed_condition
+        (routes_formed first route
+        (second_of (well_formed signals condition) (statement_sound signals first) front) formed))
+        (behind_each (step_of place condition false) unmet formed_condition
+        (routes_formed second route
+        (second_of (well_formed signals condition && statement_sound signals first)
+        (statement_sound signals second) h) formed)))
+        (alone route formed)
+
+module _ (signals : List SignalForm) (s : ℕ) (inside : s < length signals) where
+  -- a path is what one of the routes stands for
+  its_route : (ps : List Path) (rs : List Route) → AllMatch signals s inside ps rs → (p : Path)
+      → Contains ps p → (r : Route) × Contains rs r × Matches signals s inside p r
+  its_route [] rs all p at = absurd (Contains-nil p at)
+  its_route (q ∷ ps) [] all p at = elim all [ ]
+  its_route (q ∷ ps) (r ∷ rs) all p at = ⊎_elim
+      (λ is. (r, Contains-head r rs, subst (λ (y : Path). Matches signals s inside y r) is all.0))
+      (λ later.
+      let found = its_route ps rs all.1 p later in
+      (found.0, Contains-later r rs found.0 found.1, found.2))
+      (Contains-cases q ps p at)
+
+-- ---- designs
+
+module _ (design : FlatDesign) (is_sound : IsTrue (sound design))
+    (admitted : IsAdmitted design) where
+  abbrev signals : List SignalForm
+  signals = design.signals
+
+  abbrev count : ℕ
+  count = length design.signals
+
+  -- ---- one path of a target
+
+  module _ (p : ProcessForm) (s : ℕ) (at : Contains (processes_of design) p)
+      (assigned : IsTrue (assigns p.body s)) (q : Path)
+      (q_at : Contains (paths design.signals s p.kind p.body) q) where
+    below : s < count
+    below = inside design is_sound admitted p s at assigned
+
+    from : Origin design is_sound admitted p s at assigned q
+    from = origin design is_sound admitted p s at assigned q q_at
+
+    steps_formed : (step : StepForm) → Contains q.steps step →
+        IsTrue (well_formed signals step.condition)
+    steps_formed step step_at =
+        let made = Contains-from_map (closed signals (is_clocked p.kind))
+        (before signals s p.body (open_path signals s)) q
+        (subst (λ ps. Contains ps q)
+        (paths_are design p s below is_sound admitted at) q_at) in
+        let route = its_route signals s below (before signals s p.body (open_path signals s))
+        (routes_before signals s p.body open_route)
+        (all_match design p s below is_sound admitted at) made.0 made.1 in
+        let steps = ap (λ (x : Path). x.steps) (sym made.2)
+        ∙ steps_same signals s below (is_clocked p.kind) made.0 route.0 route.2 in
+        routes_formed signals s p.body open_route (body_is_sound design is_sound admitted p at)
+        (no_steps signals) route.0 route.1 step
+        (from_reversed (route.0).steps step (subst (λ ss. Contains ss step) steps step_at))
+
+    read_seen : (t : ℕ) → Contains (reads_of design q) t → Contains (seen design) t
+    read_seen t t_at = read_is_seen design is_sound admitted p s at assigned q from t t_at
+
+    step_of_design : (step : StepForm) → Contains q.steps step → IsStepOf design step
+    step_of_design step step_at = record {
+      formed = steps_formed step step_at;
+      names = λ t named.
+          let found = from_some (λ (r : ReadForm). r.signal == t) (reads signals step.condition)
+          named in
+          let known = ltb-true t count (subst (λ k. IsTrue (is_signal signals k))
+          (eqb-true (found.0).signal t found.2)
+          (reads_signals signals step.condition (steps_formed step step_at) found.0 found.1)) in
+          read_seen t (in_those count (path_names signals q) t known
+          (or_left (list_any (λ (y : StepForm). names_signal signals y.condition t) q.steps)
+          (names_signal signals q.result t)
+          (some_from (λ (y : StepForm). names_signal signals y.condition t) q.steps step step_at
+          named)));
+    }
+
+    target_in : (c : Bool) → is_clocked p.kind ≡ c → IsTargetIn design s (cond c Next Now)
+    target_in true clock = in_those count (is_register design) s below
+        (some_from (λ (y : ProcessForm). is_clocked y.kind && assigns y.body s) design.processes p
+        (is_process design is_sound admitted p at)
+        (and_true (is_clocked p.kind) (assigns p.body s) clock assigned))
+    target_in false clock =
+        targets_are_combinational design is_sound admitted p s at clock assigned
+
+    path_is_one : IsQueryOf design (path_obligation [] design p s q)
+    path_is_one = record {
+      facts = All-nil (IsExpressionOf design);
+      path = contained_all (IsStepOf design) q.steps step_of_design;
+      reads = contained_all (Contains (seen design)) (reads_of design q) read_seen;
+      ascending = range_ascends (path_names signals q) 0 count;
+      goal = (
+        in_system design is_sound admitted p s at assigned s below
+            (assigns_no_clock design is_sound admitted p s at assigned),
+        target_in (is_clocked p.kind) refl,
+      );
+    }
+
+  target_is_one : (s : ℕ) (o : Obligation) → Contains (target_obligations [] design s) o →
+      IsQueryOf design o
+  target_is_one s o o_at =
+      let one = from_flat_map (λ (p : ProcessForm).
+      map (path_obligation [] design p s) (paths signals s p.kind p.body))
+      (drivers (processes_of design) s) o o_at in
+      let p = one.0 in
+      let driver = Contains-from_filter (λ (x : ProcessForm). assigns x.body s)
+      (processes_of design) p one.1 in
+      let path = Contains-from_map (path_obligation [] design p s) (paths signals s p.kind p.body)
+      o one.2 in
+      subst (IsQueryOf design) path.2 (path_is_one p s driver.1 driver.0 path.0 path.1)
+
+  -- ---- selectors
+
+  selector_is_one : (s : ℕ) → s < count → (o : Obligation)
+      → Contains (selector_obligations [] design s) o → IsQueryOf design o
+  selector_is_one s inside_of o o_at =
+      let label = (signal_of signals s).label in
+      let test = λ (t : ℕ). not (always_flows design s t) in
+      let made = Contains-from_map (selector_obligation [] s) (filter test (selectors_of label)) o
+      o_at in
+      let t = made.0 in
+      let selects = (Contains-from_filter test (selectors_of label) t made.1).1 in
+      subst (IsQueryOf design) made.2 (record {
+        facts = All-nil (IsExpressionOf design);
+        path = All-nil (IsStepOf design);
+        reads = All-cons (Contains (seen design)) t [] (selector_is_seen design is_sound admitted s
+            (lt-ltb s count inside_of) t selects) (All-nil (Contains (seen design)));
+        ascending = (All-nil (λ m. t < m), tt);
+        goal = (
+          selected_is_seen design is_sound admitted s inside_of t selects,
+          record {
+            read = t;
+            selects = selects;
+            reads = refl;
+            path = refl;
+            right = refl;
+          },
+        );
+      })
+
+  -- ---- all of them
+
+  pub all_are : All (IsQueryOf design) (obligations [] design)
+  all_are = contained_all (IsQueryOf design) (obligations [] design) (λ o o_at. ⊎_elim
+      (λ l.
+      let made = from_flat_map (target_obligations [] design) (signal_numbers design) o l in
+      target_is_one made.0 o made.2)
+      (λ r.
+      let made = from_flat_map (selector_obligations [] design) (signal_numbers design) o r in
+      selector_is_one made.0 (number_below made.0 made.1) o made.2)
+      (Contains-either (flat_map (target_obligations [] design) (signal_numbers design))
+      (flat_map (selector_obligations [] design) (signal_numbers design)) o o_at))
+    where
+      number_below : (s : ℕ) → Contains (signal_numbers design) s → s < count
+      number_below s at = those_below count (λ k. true) s
+          (Contains-filter (λ k. true) (signal_numbers design) s at refl)
+
+-- none of them asks an invariant, so none lacks its place
+pub all_placed : (design : FlatDesign) → All IsPlaced (obligations [] design)
+all_placed design = contained_all IsPlaced (obligations [] design) (λ o o_at. ⊎_elim
+    (λ l.
+    let target = from_flat_map (target_obligations [] design) (signal_numbers design) o l in
+    let one = from_flat_map (λ (p : ProcessForm).
+    map (path_obligation [] design p target.0) (paths design.signals target.0 p.kind p.body))
+    (drivers (processes_of design) target.0) o target.2 in
+    let p = one.0 in
+    let path = Contains-from_map (path_obligation [] design p target.0)
+    (paths design.signals target.0 p.kind p.body) o one.2 in
+    subst IsPlaced path.2 (flow_placed (place_of p path.0) target.0 (frame_of p.kind)))
+    (λ r.
+    let signal = from_flat_map (selector_obligations [] design) (signal_numbers design) o r in
+    let made = Contains-from_map (selector_obligation [] signal.0)
+    (filter (λ (t : ℕ). not (always_flows design signal.0 t))
+    (selectors_of (signal_of design.signals signal.0).label)) o signal.2 in
+    subst IsPlaced made.2 tt)
+    (Contains-either (flat_map (target_obligations [] design) (signal_numbers design))
+    (flat_map (selector_obligations [] design) (signal_numbers design)) o o_at))
+  where
+    flow_placed : (place : Option Place) (target : ℕ) (frame : Frame) →
+        HasPlace place (flow target frame)
+    flow_placed (Some place) target frame = tt
+    flow_placed None target frame = tt
+
+-- ---- what a line names
+
+module _ (design : FlatDesign) where
+  seen_below : (s : ℕ) → Contains (seen design) s → s < length design.signals
+  seen_below s at =
+      those_below (length design.signals) (λ z. not (is_clock design z)) s at
+
+  goal_among : (o : Obligation) (g : GoalForm) → IsGoalOf design o g →
+      IsGoalAmong (length design.signals) g
+  goal_among o (flow target frame) is = seen_below target is.0
+  goal_among o (holds e frame) is = tt
+  goal_among o (selector s) is = seen_below s is.0
+
+  pub query_among : (o : Obligation) → IsQueryOf design o → IsAmong (length design.signals) o
+  query_among o is = record {
+    reads = contained_all (λ s. s < length design.signals) o.reads (λ s at.
+        seen_below s (all_contained (Contains (seen design)) o.reads is.reads s at));
+    goal = goal_among o o.goal is.goal;
+  }

@@ -1,0 +1,3 @@
+pub mod PlaceFacts
+pub mod QuietFacts
+pub mod RunFacts

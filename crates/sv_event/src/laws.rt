@@ -1,0 +1,19 @@
+// What follows for the orders of an admitted design's processes, as contracts of functions that do
+// nothing.
+ghost use Rattle.sv_design.specs.Designs.{IsDesign};
+ghost use Rattle.sv_flat.specs.Design.{FlatDesign};
+ghost use Rattle.sv_flat.specs.FlatSystem.{flat_system};
+ghost use Rattle.sv_system.specs.Schedules.{RestIsSettled, RoundsSettle};
+
+/// Whatever combinational processes of an admitted design run, in whatever order, from a fitting
+/// environment: once no run would change anything, the environment is the one settled one of its
+/// registers and inputs.
+pub fn rest_is_settled()
+    ensures { (design : FlatDesign) → IsDesign design → RestIsSettled (flat_system design) }
+{}
+
+/// As many rounds of all combinational processes as there are combinational signals, or more, lead
+/// to that settled environment.
+pub fn rounds_settle()
+    ensures { (design : FlatDesign) → IsDesign design → RoundsSettle (flat_system design) }
+{}

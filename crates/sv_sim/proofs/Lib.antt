@@ -1,0 +1,10 @@
+pub mod AtPlace
+pub mod ByDepth
+pub mod EdgeFacts
+pub mod Fitting
+pub mod GivenValues
+pub mod InOrder
+pub mod NextValues
+pub mod OneDesign
+pub mod SameUpdates
+pub mod Simulated

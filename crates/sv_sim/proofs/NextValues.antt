@@ -1,0 +1,125 @@
+-- The registers' next values do not hang on clocks, and keep their widths.
+use Rattle.std.proofs.Common.{◌≡◌, ℕ, ◌<◌, ◌^◌, Bool, true, false, cond, not, ◌==◌, List, [], ◌∷◌}
+use Rattle.std.proofs.Common.{◌++◌, length, refl, sym, ap, subst, ◌∙◌, ⊎_elim, pow_pos, ltb-true}
+use Rattle.std.proofs.Common.{lt-ltb}
+use Rattle.std.specs.Prelude.{Contains, IsTrue, IsFalse, flat_map}
+use Rattle.std.proofs.lemmas.Bool.{eq-eqb}
+use Rattle.sv_system.specs.System.{Environment, last_update, Fits, KindFits}
+use Rattle.sv_system.proofs.Lists.{Contains-head, Contains-later}
+use Rattle.sv_system.proofs.Pointwise.{each, fits_at}
+use Rattle.sv_flat.specs.Design.{ProcessForm, FlatDesign}
+use Rattle.sv_flat.specs.Admission.{IsAdmitted}
+use Rattle.sv_flat.specs.Clocks.{is_clock, processes_of}
+use Rattle.sv_flat.specs.FlatSystem.{flat_system, clocked_processes, all_updates}
+use Rattle.sv_flat.specs.Processes.{is_clocked, is_register}
+use Rattle.sv_flat.specs.Readings.{Reading, readings, no_bits}
+use Rattle.sv_flat.specs.Runs.{updates_of}
+use Rattle.sv_flat.specs.Soundness.{is_signal, sound}
+use Rattle.sv_flat.specs.Values.{signal_width}
+use Rattle.sv_flat.proofs.AdmittedFacts.{body_is_sound, assigned_is_signal, assigns_no_clock}
+use Rattle.sv_flat.proofs.AdmittedFacts.{some_width}
+use Rattle.sv_flat.proofs.ClockFacts.{reads_no_clock}
+use Rattle.sv_flat.proofs.LeastSets.{either_way, some_from, Contains-from_filter, in_those}
+use Rattle.sv_flat.proofs.LeastSets.{those_below}
+use Rattle.sv_flat.proofs.LeastSets.{those_pass}
+use Rattle.sv_flat.proofs.ReadSignals.{readings_signals}
+use Rattle.sv_flat.proofs.RunsFit.{AllFit, edge_fits}
+use Rattle.sv_sim.proofs.SameUpdates.{run_alike}
+
+flat_map_same : {X Y : Type 0} (f g : X → List Y) (xs : List X) →
+    ((x : X) → Contains xs x → f x ≡ g x) → flat_map f xs ≡ flat_map g xs
+flat_map_same f g [] same = refl
+flat_map_same f g (x ∷ xs) same =
+    ap (λ ys. ys ++ flat_map f xs) (same x (Contains-head x xs))
+    ∙ ap (λ ys. g x ++ ys) (flat_map_same f g xs (λ y at. same y (Contains-later x xs y at)))
+
+module _ (design : FlatDesign) (is_sound : IsTrue (sound design))
+    (admitted : IsAdmitted design) where
+  abbrev IsSeen : ℕ → Type 0
+  IsSeen s = Contains (flat_system design).signals s
+
+  pub is_seen : (s : ℕ) → IsTrue (is_signal design.signals s) → IsFalse (is_clock design s) →
+      Contains (flat_system design).signals s
+  is_seen s inside no_clock =
+      in_those (length design.signals) (λ z. not (is_clock design z)) s
+      (ltb-true s (length design.signals) inside) (ap not no_clock)
+
+  -- ---- what the next values hang on
+
+  updates_same : (p : ProcessForm) → Contains (processes_of design) p → (e f : Environment ℕ)
+      → ((s : ℕ) → IsSeen s → e s ≡ f s)
+      → updates_of design.signals p.body e ≡ updates_of design.signals p.body f
+  updates_same p at e f same =
+      let sound_body = body_is_sound design is_sound admitted p at in
+      (run_alike design.signals (some_width design is_sound admitted) IsSeen p.body sound_body
+      no_bits no_bits
+      (λ r r_at. is_seen r.name.signal
+      (readings_signals design.signals p.body no_bits no_bits sound_body r r_at)
+      (reads_no_clock design is_sound admitted p r.name.signal at
+      (some_from (λ (z : Reading). z.name.signal == r.name.signal)
+      (readings design.signals p.body no_bits no_bits) r r_at
+      (eq-eqb r.name.signal r.name.signal refl))))
+      (λ s h. is_seen s (assigned_is_signal design.signals p.body sound_body s h)
+      (assigns_no_clock design is_sound admitted p s at h))
+      (e, []) (f, []) (same, refl)).1
+
+  all_updates_same : (e f : Environment ℕ) → ((s : ℕ) → IsSeen s → e s ≡ f s)
+      → all_updates design (clocked_processes design) e ≡
+      all_updates design (clocked_processes design) f
+  all_updates_same e f same =
+      flat_map_same (λ (p : ProcessForm). updates_of design.signals p.body e)
+      (λ (p : ProcessForm). updates_of design.signals p.body f) (clocked_processes design)
+      (λ p at. updates_same p
+      (Contains-from_filter (λ (z : ProcessForm). is_clocked z.kind) (processes_of design) p at).1
+      e f same)
+
+  -- a signal's next value hangs on its value and on the signals that are no clocks
+  pub next_same : (e f : Environment ℕ) (s : ℕ) → e s ≡ f s → ((t : ℕ) → IsSeen t → e t ≡ f t)
+      → (flat_system design).next e s ≡ (flat_system design).next f s
+  next_same e f s here same =
+      ap (λ us. last_update ◌==◌ s (e s) us) (all_updates_same e f same)
+      ∙ ap (λ old. last_update ◌==◌ s old (all_updates design (clocked_processes design) f)) here
+
+  -- ---- widths
+
+  -- the environment with clocks at 0
+  abbrev pub unclocked_values : Environment ℕ → Environment ℕ
+  unclocked_values e s = cond (is_clock design s) 0 (e s)
+
+  pub unclocked_same : (e : Environment ℕ) (s : ℕ) → IsFalse (is_clock design s) →
+      e s ≡ unclocked_values e s
+  unclocked_same e s no_clock = sym (ap (λ b. cond b 0 (e s)) no_clock)
+
+  pub seen_same : (e : Environment ℕ) (s : ℕ) → IsSeen s → e s ≡ unclocked_values e s
+  seen_same e s seen = unclocked_same e s
+      (negated (is_clock design s)
+      (those_pass (length design.signals) (λ z. not (is_clock design z)) s seen))
+    where
+      negated : (b : Bool) → IsTrue (not b) → IsFalse b
+      negated true h = sym h
+      negated false h = refl
+
+  pub unclocked_fit : (e : Environment ℕ) → Fits (flat_system design) e →
+      AllFit design.signals (unclocked_values e)
+  unclocked_fit e fits s inside = ⊎_elim
+      (λ clock. subst (λ b. cond b 0 (e s) < 2 ^ signal_width design.signals s) (sym clock)
+      (pow_pos (signal_width design.signals s)))
+      (λ no_clock. subst (λ v. v < 2 ^ signal_width design.signals s)
+      (unclocked_same e s no_clock)
+      (fits_at (flat_system design) e fits s (is_seen s inside no_clock)))
+      (either_way (is_clock design s))
+
+  -- the next value of a signal that is no clock has its width
+  pub next_fits : (e : Environment ℕ) → Fits (flat_system design) e →
+      KindFits (is_register design) (flat_system design) ((flat_system design).next e)
+  next_fits e fits = each (λ s. IsTrue (is_register design s) →
+      (flat_system design).next e s < 2 ^ signal_width design.signals s)
+      (flat_system design).signals (λ s seen register.
+      subst (λ v. v < 2 ^ signal_width design.signals s)
+      (sym (next_same e (unclocked_values e) s (seen_same e s seen) (seen_same e)))
+      (edge_fits design is_sound admitted (unclocked_values e) (unclocked_fit e fits) s
+      (within s seen)))
+    where
+      within : (s : ℕ) → IsSeen s → IsTrue (is_signal design.signals s)
+      within s seen = lt-ltb s (length design.signals)
+          (those_below (length design.signals) (λ z. not (is_clock design z)) s seen)

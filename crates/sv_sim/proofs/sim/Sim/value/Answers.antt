@@ -1,0 +1,22 @@
+use Rattle.std.proofs.Common.{◌<◌, length, not, sym, ap, subst, ◌∙◌}
+use Rattle.std.specs.Prelude.{slice_index}
+use Rattle.sv_flat.specs.Clocks.{is_clock}
+use Rattle.sv_flat.specs.Views.{design_of}
+use Rattle.sv_flat.proofs.LeastSets.{those_below}
+use Rattle.sv_sim.specs.Simulations.{Simulation}
+use Rattle.sv_sim.proofs.sim.Sim.value.Goals as goal
+
+pub bounds-values-s : goal.bounds-values-s
+bounds-values-s c =
+    let design = design_of c.args.self.now.design in
+    let s = c.args.s.0 in
+    subst (λ n. s < n)
+    (ap (λ (v : Simulation). length (design_of v.design).signals) (sym c.self.view_is)
+    ∙ sym (c.self.invariant.0).fit.count
+    ∙ ap length (sym c.as_slice-values.ensures.value))
+    (those_below (length design.signals) (λ z. not (is_clock design z)) s c.requires.seen)
+
+pub returns : goal.returns
+returns c =
+    ap (λ vs. slice_index vs c.args.s.0)
+    (c.as_slice-values.ensures.value ∙ ap (λ (v : Simulation). v.values) c.self.view_is)

@@ -1,0 +1,51 @@
+-- Words for how settling and the clock edge go, process by process. What settled and next mean is
+-- said in sv_system/specs/System.antt.
+use Rattle.std.specs.Prelude.{◌≡◌, ℕ, ◌<◌, IsTrue, IsFalse, List, length, take, filter}
+use Rattle.std.specs.Prelude.{slice_index_or, Contains}
+use Rattle.sv_system.specs.System.{Environment}
+use Rattle.sv_flat.specs.Design.{ProcessForm, continuous, nothing, FlatDesign}
+use Rattle.sv_flat.specs.Assigned.{assigns}
+use Rattle.sv_flat.specs.Clocks.{processes_of}
+use Rattle.sv_flat.specs.FlatSystem.{combinational_processes, run_of}
+use Rattle.sv_flat.specs.Processes.{is_clocked}
+use Rattle.sv_flat.specs.Reads.{is_combinational, order}
+
+-- no run of a combinational process that assigns the signal changes it
+abbrev pub IsStable : FlatDesign → Environment ℕ → ℕ → Type 0
+IsStable design environment s = (p : ProcessForm) → Contains (combinational_processes design) p
+    → IsTrue (assigns p.body s)
+    → run_of design p environment s ≡ environment s
+
+-- the first so many signals of the order are stable
+abbrev pub FrontIsStable : FlatDesign → Environment ℕ → ℕ → Type 0
+FrontIsStable design environment i =
+    (s : ℕ) → Contains (take i (order design)) s → IsStable design environment s
+
+-- the process at a place; past the end one that does nothing
+abbrev pub process_at : FlatDesign → ℕ → ProcessForm
+process_at design place = slice_index_or (processes_of design) place (record {
+  place = record { line = 0; column = 0 };
+  kind = continuous;
+  body = nothing;
+})
+
+-- what the process at the place assigns is stable
+abbrev pub OwnIsStable : FlatDesign → Environment ℕ → (place : ℕ) → Type 0
+OwnIsStable design environment place =
+    (s : ℕ) → IsTrue (assigns (process_at design place).body s) → IsStable design environment s
+
+-- the environments agree on inputs, registers and clocks
+abbrev pub SameOthers : FlatDesign → Environment ℕ → Environment ℕ → Type 0
+SameOthers design first second =
+    (s : ℕ) → IsFalse (is_combinational design s) → first s ≡ second s
+
+-- the clocked ones among the first so many processes
+abbrev pub clocked_before : FlatDesign → ℕ → List ProcessForm
+clocked_before design place =
+    filter (λ (p : ProcessForm). is_clocked p.kind) (take place (processes_of design))
+
+-- the process at the place is a combinational one that assigns the signal
+pub record IsDriver (design : FlatDesign) (s place : ℕ) : Type 0 where
+  pub among : place < length (processes_of design)
+  pub process : Contains (combinational_processes design) (process_at design place)
+  pub assigned : IsTrue (assigns (process_at design place).body s)

@@ -1,0 +1,25 @@
+//! Simulation of an admitted design, cycle by cycle.
+//!
+//! Takes a design of `sv_design`. Gives a simulation, which holds a value for each signal, and
+//! settles them, and makes the clock edge. Only `new` takes memory. For layers that hold values
+//! themselves it gives two steps of this: giving values to listed signals, and running one process.
+//!
+//! Promises that after `settle` the values are the one settled environment of the registers and
+//! the inputs, and that `tick` gives each register its next value, as `sv_system/specs/System.antt`
+//! says it of the system in `sv_flat/specs/FlatSystem.antt`; and that each fitting start and list
+//! of inputs of an admitted design has exactly one trace. `Simulations` says what a contract sees
+//! of a simulation, and `Given` how values are given to signals. `Settling` has the words for how
+//! settling goes; of them `process_at` stands in a public contract.
+#![tactic(auto)]
+
+mod edges;
+mod laws;
+mod listed;
+mod settling;
+mod sim;
+
+pub use laws::admitted_designs_have_one_trace;
+pub use listed::put_listed;
+pub use settling::run_at;
+pub use sim::Sim;
+pub use std::alloc::AllocError as OutOfMemory;

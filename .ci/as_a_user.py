@@ -31,7 +31,7 @@ SAID = {101: "no token begins with this byte", 102: "this is no number, or too l
         104: "this form of Verilog is left out", 202: "this form of Verilog is left out",
         201: "no text goes on with this token, or the text ends too early", 203: "this opens a level too many: at most 64 may be open",
         204: "this is too long: an expression has at most 1,024 tokens, a case 256 arms"}
-USAGE = "; usage: secv check FILE (`secv --help` says more)"
+USAGE = "; usage: secv check FILE [--top MODULE] (`secv --help` says more)"
 STATUS = {"accepted": 0, "refused": 1, "usage": 2, "unknown": 3}
 passed = failed = 0
 
@@ -83,11 +83,12 @@ def words_and_faults():
     compare("-h is the same text", run(["-h"]).stdout, help_text.stdout)
     version = run(["--version"])
     compare("--version", (version.stdout, version.returncode), (b"secv 0.1.0\n", 0))
-    wrong = "`check` takes one FILE, which does not begin with `-`" + USAGE
+    wrong = "`check` takes one FILE and at most one `--top MODULE`" + USAGE
     for words, kind, said in [([], "no-command", "no command is given" + USAGE),
                               (["chekc", "f"], "unknown-command", "there is no command chekc; `secv --help` shows all"),
                               (["--help", "more"], "unknown-command", "there is no command --help; `secv --help` shows all"),
                               (["check"], "words", wrong), (["check", "--f"], "words", wrong), (["check", "f", "g"], "words", wrong),
+                              (["check", "f", "--top"], "words", wrong), (["check", "--top", "a", "f", "--top", "b"], "words", wrong),
                               ([b"\xff"], "words", "an argument is not UTF-8" + USAGE)]:
         answer = run(words)
         compare(f"words {words}", (answer.stdout, answer.returncode), (f"usage {kind}\n".encode(), 2))
@@ -104,7 +105,7 @@ def words_and_faults():
         answer = run(["check", other])
         compare("a text that is not built", (answer.stdout, answer.returncode), (b"refused 199 not-built 1:1\n", 1))
         compare("it is explained", answer.stderr.decode(),
-                "secv: only modules of one-bit signals are read so far; docs/language.md says which\n")
+                "secv: only modules of one-bit signals are decided so far; docs/language.md says which\n")
         for text, wanted in SYNTAX:
             with open(other, "wb") as file:
                 file.write(text)
@@ -126,12 +127,31 @@ def words_and_faults():
     compare("a closed standard error", (answer.stdout, answer.returncode), (b"refused flow 1 y from k\nin k 0\n", 1))
 
 
+def rules(title, least):
+    """The texts of a table of rules in docs/language.md, each with what is printed for it."""
+    with open(os.path.join(TOP, "docs", "language.md"), encoding="utf-8") as file:
+        table = file.read().partition(f"## {title}")[2].partition("\n## ")[0]
+    rows = re.findall(r"^\|[^|]*\|[^|]*\| `([^`|]+)` \| (?:`([^`|]+)`)? ?\| `([^`|]+)` \|$", table, re.M)
+    compare(f"docs/language.md shows rules: {title}", len(rows) >= least, True)
+    with tempfile.TemporaryDirectory() as folder:
+        path = os.path.join(folder, "text.v")
+        for text, option, wanted in rows:
+            with open(path, "w", encoding="utf-8") as file:
+                file.write(text)
+            answer = run(["check", *option.split(), path])
+            compare(f"language.md: {text} {option}", (answer.stdout, answer.returncode), (f"{wanted}\n".encode(), 1))
+            place = wanted.split(" ")[3]
+            compare(f"it is explained, {text}", answer.stderr.startswith(f"secv: {path}:{place}: ".encode()) and answer.stderr.count(b"\n") == 1, True)
+
+
 def main():
     if run(["--version"]).returncode:
         sys.exit("secv could not be built:\n" + run(["--version"]).stderr.decode(errors="replace"))
     examples()
     shown_in_readme()
     words_and_faults()
+    rules("Elaboration", 25)
+    rules("Admission", 7)
     print(f"{passed} passed, {failed} failed")
     sys.exit(1 if failed else 0)
 

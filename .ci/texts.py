@@ -46,11 +46,11 @@ def check(what, text, wanted, folder):
 
 def levels(folder):
     """Each kind of level 64 times, and 65 times: then its token is told."""
-    assign, always = "module m; assign y = ", "module m; always @* "
+    assign, always = "module m(input a, output y); assign y = ", "module m(input a); always @* "
     kinds = [("groups", assign, "(", "a", ")", ";"), ("joins", assign, "{", "a", "}", ";"), ("signs", assign, "-", "a", "", ";"),
              ("indexes", assign, "a[", "a", "]", ";"), ("choices", assign, "a?", "a", ":a", ";"),
              ("blocks", always, "begin ", ";", " end", ""), ("ifs", always, "if(a) ", ";", "", ""),
-             ("else ifs", always, "if(a) ; else ", ";", "", ""), ("cases", always, "case(a) a: ", ";", " endcase", "")]
+             ("else ifs", always, "if(a) ; else ", ";", "", ""), ("cases", always, "case(a) 0: ", ";", " endcase", "")]
     for name, before, opening, inside, closing, after in kinds:
         for count in (64, 65):
             text = before + opening * count + inside + closing * count + after + " endmodule\n"
@@ -65,18 +65,19 @@ def levels(folder):
 
 def lengths(folder):
     """1,024 and 1,025 tokens of an expression, 256 and 257 arms, and longer lists that have no limit."""
-    assign = "module m; assign y = "
+    assign = "module m(input a, output y); assign y = "
     for first, count in (("-", 1024), ("", 1025)):
         text = assign + first + "a" + "+a" * 511 + ("" if first else "+a") + "; endmodule\n"
         wanted = NOT_BUILT if count == 1024 else f"refused 204 too-long 1:{len(assign) + 1025}"
         check(f"{count} tokens", text, wanted, folder)
-    case = "module m; always @* case(a) "
+    case = "module m(input a); always @* case(a) "
     for count in (256, 257):
         wanted = NOT_BUILT if count == 256 else f"refused 204 too-long 1:{len(case) + 256 * 3 + 1}"
-        check(f"{count} arms", case + "a:;" * count + " endcase endmodule\n", wanted, folder)
-    check("5,000 assigns, names, statements and instances",
-          "module m; wire a0" + "".join(f", a{i}" for i in range(1, 5000)) + ";" + "assign y = a;" * 5000 + "always @* begin " + "y = a;" * 5000 + " end n "
-          + ", ".join(f"u{i}()" for i in range(5000)) + "; endmodule\n", NOT_BUILT, folder)
+        check(f"{count} arms", case + "0:;" * count + " endcase endmodule\n", wanted, folder)
+    names = "module m; wire a0" + "".join(f", a{i}" for i in range(1, 4096))
+    check("5,000 names, assigns, statements and instances, of which the 4,097th name is one too many",
+          names + "".join(f", a{i}" for i in range(4096, 5000)) + ";" + "assign y = a;" * 5000 + "always @* begin " + "y = a;" * 5000 + " end n "
+          + ", ".join(f"u{i}()" for i in range(5000)) + "; endmodule\n", f"refused 315 too-many 1:{len(names) + 3}", folder)
 
 
 def one_byte(folder):

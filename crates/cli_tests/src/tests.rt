@@ -21,6 +21,17 @@ const WIRE: &str = "module m(input a, input {H} b, output {H} y);
   wire {H} w; assign w = a ^ b; assign y = ~w | a; endmodule
 ";
 
+const OVERRIDE: &str = "module cnt #(parameter W = 2) (input clk, input en, output reg [W-1:0] q);
+  always @(posedge clk) if (en) q <= q + 1;
+endmodule
+module top(input clk, input en, output [3:0] a, output [7:0] b);
+  cnt #(.V(4)) u (.clk(clk), .en(en), .q(a));
+  cnt #(8) v (clk, en, b);
+endmodule
+";
+
+const ROUND: &str = "module m(input a, output y); m u(a, y); endmodule\n";
+
 const SUM: &str = "module m(input a, output y); assign y = a + a; endmodule\n";
 
 // The status and all that was written for words that one blank parts, where `f` holds the text.
@@ -91,10 +102,34 @@ fn every_row_has_its_whole_output(rt: HostRuntime) -> Result<(), Fail> {
             1,
             "refused 104 unsupported 1:9 real\n",
         ),
+        (
+            "check f",
+            "module m(input {Q} a, output y); assign y = a; endmodule",
+            1,
+            "refused 410 label 1:17 Q\n",
+        ),
+        ("check f", ROUND, 1, "refused 310 no-top 1:1\n"),
+        (
+            "check f --top m",
+            ROUND,
+            1,
+            "refused 314 recursive 1:30 m\n",
+        ),
+        ("check f", OVERRIDE, 1, "refused 316 parameter 5:10 V\n"),
+        (
+            "check f",
+            "lattice point A, B, C, D; A <= C; A <= D; B <= C; B <= D; endlattice
+module m(input a, input b, output y); assign y = a & b; endmodule",
+            1,
+            "refused 304 no-join 1:1 A B\n",
+        ),
+        ("check --top m f", GATE, 0, "accepted 1 obligations\n"),
+        ("check f --top n", GATE, 1, "refused 310 no-top 1:1\n"),
         ("", GATE, 2, "usage no-command\n"),
         ("chekc f", GATE, 2, "usage unknown-command\n"),
         ("check", GATE, 2, "usage words\n"),
         ("check f f", GATE, 2, "usage words\n"),
+        ("check f --top", GATE, 2, "usage words\n"),
         ("check -f", GATE, 2, "usage words\n"),
         ("check g", GATE, 4, ""),
     ];

@@ -18,9 +18,9 @@ const HELP: &str =
     "secv checks designs in SecVerilog: Verilog in which every signal has a security label.
 
 usage:
-  secv check FILE    say whether a secret can reach a public signal
-  secv --help, -h    print this text
-  secv --version     print the version
+  secv check FILE [--top MODULE]    say whether a secret can reach a public signal
+  secv --help, -h                   print this text
+  secv --version                    print the version
 
 exit status: 0 accepted, 1 refused, 2 wrong words, 4 unreadable file, 5 unwritable output,
              6 out of memory

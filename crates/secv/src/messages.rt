@@ -6,7 +6,7 @@ use sv_cli::{Broken, Outcome, UsageKind};
 use sv_num::{Place, Refusal};
 
 const UNBUILT: &str =
-    "secv: only modules of one-bit signals are read so far; docs/language.md says which";
+    "secv: only modules of one-bit signals are decided so far; docs/language.md says which";
 
 const MEMORY: &str = "secv: memory ran out";
 
@@ -33,26 +33,120 @@ pub fn explain(
     }
 }
 
+// What is said of each rule.
+const FAULTS: [(u16, &str); 40] = [
+    (101, "no token begins with this byte"),
+    (102, "this is no number, or too large a one"),
+    (103, "this comment has no end"),
+    (104, "this form of Verilog is left out"),
+    (
+        201,
+        "no text goes on with this token, or the text ends too early",
+    ),
+    (202, "this form of Verilog is left out"),
+    (203, "this opens a level too many: at most 64 may be open"),
+    (
+        204,
+        "this is too long: an expression has at most 1,024 tokens, a case 256 arms",
+    ),
+    (301, "a lattice has 1 to 32 points"),
+    (302, "this point is declared twice, or not at all"),
+    (303, "the two points named flow to each other"),
+    (304, "the two points named have no least upper point"),
+    (305, "the two points named have no greatest lower point"),
+    (306, "this label map is declared twice"),
+    (
+        307,
+        "this label map has a wrong range, key or point, or a key twice",
+    ),
+    (
+        308,
+        "this label map gives some key no point, and has no default",
+    ),
+    (
+        310,
+        "there is no top: it is the module that --top names, or else the only one in no other",
+    ),
+    (311, "there is no module of this name"),
+    (312, "this name is declared twice"),
+    (
+        313,
+        "this links no port, one twice or one too many, or an output to no whole signal",
+    ),
+    (314, "this module would stand inside itself"),
+    (
+        315,
+        "this is one too many: a design has at most 4,096 signals and 1,024 instances",
+    ),
+    (
+        316,
+        "this sets no parameter that may be set, one twice or one too many",
+    ),
+    (
+        401,
+        "no signal or parameter of this name is in reach, or a parameter stands for a signal",
+    ),
+    (402, "this is longer than 64 bits"),
+    (
+        403,
+        "this index or part lies outside of its signal, or its high bound is below its low one",
+    ),
+    (404, "a constant is wanted here, and this is a signal"),
+    (405, "this divisor is 0"),
+    (406, "both operands of `/` and `%` are constants"),
+    (407, "a number directly in braces needs a size, as 4'd3 has"),
+    (408, "a replication count is 1 to 64"),
+    (409, "a range is [m:0] with m from 0 to 63"),
+    (
+        410,
+        "this label has an unknown point, map or selector, or its selectors do not fit the map",
+    ),
+    (
+        601,
+        "this signal may not be assigned here, or not by this sign, or a bit of it twice",
+    ),
+    (
+        602,
+        "a clock is a 1-bit input, comes from the one clock of the top, and is nothing else",
+    ),
+    (
+        603,
+        "this signal has a driver already, or is an input of the top",
+    ),
+    (604, "nothing drives this signal"),
+    (605, "this block does not assign the signal on every path"),
+    (
+        606,
+        "this signal is read before its block has assigned it for good",
+    ),
+    (607, "the signals named read each other in a circle"),
+];
+
+// What is said of a rule; nothing of one that is told of no place.
+fn fault_of(number: u16) -> Option<&'static str> {
+    FAULTS.iter().find(|row| row.0 == number).map(|row| row.1)
+}
+
+// FILE of a `check`, before or behind its option.
+fn file_in(words: &[String]) -> Option<&str> {
+    match words {
+        [_, option, _, file, ..] if option.as_str() == "--top" => Some(file.as_str()),
+        [_, file, ..] => Some(file.as_str()),
+        _ => None,
+    }
+}
+
 // What is wrong at the place of a broken rule.
 fn explain_rule(rt: &HostRuntime, words: &[String], refusal: &Refusal) {
-    let fault = match refusal.number {
-        101 => "no token begins with this byte",
-        102 => "this is no number, or too large a one",
-        103 => "this comment has no end",
-        104 | 202 => "this form of Verilog is left out",
-        201 => "no text goes on with this token, or the text ends too early",
-        203 => "this opens a level too many: at most 64 may be open",
-        204 => "this is too long: an expression has at most 1,024 tokens, a case 256 arms",
-        _ => {
-            // not used: where this cannot be written, the status tells of the rule
-            let _ = rt.eprintln(UNBUILT);
-            return;
-        }
-    };
-    let [_, file, ..] = words else {
+    let Some(fault) = fault_of(refusal.number) else {
+        // not used: where this cannot be written, the status tells of the rule
+        let _ = rt.eprintln(UNBUILT);
         return;
     };
-    let name = file.as_str().escape_debug();
+    let Some(file) = file_in(words) else {
+        return;
+    };
+    let name = file.escape_debug();
     let Place { line, column } = refusal.place;
     // not used: where this cannot be written, the status tells of the rule
     let _ = eprintln!(rt; "secv: {name}:{line}:{column}: {fault}; docs/language.md says more");
@@ -68,7 +162,7 @@ fn explain_usage(rt: &HostRuntime, words: &[String], kind: UsageKind) {
             );
         }
         (UsageKind::Words, _) => {
-            explain_words(rt, "`check` takes one FILE, which does not begin with `-`");
+            explain_words(rt, "`check` takes one FILE and at most one `--top MODULE`");
         }
         _ => explain_words(rt, "no command is given"),
     }
@@ -77,15 +171,17 @@ fn explain_usage(rt: &HostRuntime, words: &[String], kind: UsageKind) {
 /// What is wrong with the words, and how they are written.
 pub fn explain_words(rt: &HostRuntime, fault: &str) {
     // not used: where this cannot be written, the status tells of it
-    let _ = eprintln!(rt; "secv: {fault}; usage: secv check FILE (`secv --help` says more)");
+    let _ = eprintln!(rt;
+        "secv: {fault}; usage: secv check FILE [--top MODULE] (`secv --help` says more)"
+    );
 }
 
 // The file and why the system did not read it. Control characters of the name are escaped.
 fn explain_file(rt: &HostRuntime, words: &[String], error: Option<&io::Error>) {
-    let [_, file, ..] = words else {
+    let Some(file) = file_in(words) else {
         return;
     };
-    let name = file.as_str().escape_debug();
+    let name = file.escape_debug();
     // not used: where this cannot be written, the status tells of it
     let _ = match error {
         Some(error) => eprintln!(rt; "secv: {name}: {error}"),

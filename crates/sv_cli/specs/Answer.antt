@@ -1,11 +1,17 @@
 -- What the program answers, and when.
-use Rattle.std.specs.Prelude.{◌≡◌, ℕ, ◌+◌, ◌<◌, ◌≤◌, ◌⊎◌, ◌++◌, ◌∷◌, not, IsTrue, List, [], length}
-use Rattle.std.specs.Prelude.{take, slice_get, Option, Some, None, MatchOption}
-use Rattle.std.specs.List.{list_all, find}
+use Rattle.std.specs.Prelude.{◌≡◌, ℕ, ◌+◌, ◌<◌, ◌≤◌, ◌⊎◌, ◌++◌, ◌∷◌, Bool, true, false, not, IsTrue}
+use Rattle.std.specs.Prelude.{IsFalse, List, [], length, take, slice_get, Option, Some, None}
+use Rattle.std.specs.Prelude.{MatchOption}
+use Rattle.std.specs.List.{list_all, list_any, find}
 use Rattle.sv_num.specs.declared.faults.Place.{Place}
 use Rattle.sv_system.specs.System.{Noninterferent, HasOneTrace}
-use Rattle.sv_ast.specs.Tree.{TextTree}
+use Rattle.sv_ast.specs.Tree.{ItemTree, memory_item, released, invariant_item, TextTree}
+use Rattle.sv_ast.specs.Tree.{ModuleTree as WholeModule}
 use Rattle.sv_ast.specs.GrammarMeaning.{Means as MeansText, BreaksSyntax}
+use Rattle.sv_flat.specs.Design.{FlatDesign}
+use Rattle.sv_flat.specs.Admission.{IsAdmitted}
+use Rattle.sv_flat.specs.Admission.{IsRefused as IsRefusedDesign}
+use Rattle.sv_walk.specs.Texts.{flat_of, BreaksRule}
 use Rattle.sv_first_ast.specs.Tree.{ModuleTree}
 use Rattle.sv_first_ast.specs.Meaning.{label_of, flows, system}
 use Rattle.sv_first_ast.specs.Form.{is_first_form}
@@ -18,7 +24,7 @@ use Rattle.sv_cli.specs.declared.outcome.Outcome.{Outcome}
 use Rattle.sv_cli.specs.declared.outcome.Outcome.TheVariants as outcome
 use Rattle.sv_cli.specs.declared.outcome.Broken.TheVariants as broken
 use Rattle.sv_io.specs.Exchange.{Exchange, fetched, whole, too_long}
-use Rattle.sv_cli.specs.Command.{usage_of, file_of}
+use Rattle.sv_cli.specs.Command.{usage_of, file_of, top_of}
 use Rattle.sv_cli.specs.Text.{usage_text, accepted_text, refusal_text, limit_text, leak_text}
 
 -- the exit status
@@ -57,46 +63,103 @@ answer_of outcome.OutOfMemory = None
 abbrev pub largest_file : ℕ
 largest_file = 1048576
 
--- the text means a tree: it breaks no rule on tokens or on the grammar
-abbrev pub HasTree : List ℕ → Type 0
-HasTree text = (tree : TextTree) × MeansText text tree
+-- ---- which rule a text breaks first
 
--- the text is of the first form, and means the module
-pub record IsFirstForm (text : List ℕ) (m : ModuleTree) : Type 0 where
-  pub within : length text ≤ largest_file
-  pub whole : HasTree text
-  pub means : Means text m
-  pub form : IsTrue (is_first_form m)
+-- an item that is read and not built yet: a memory, an invariant, a released value
+abbrev pub is_unbuilt_item : ItemTree → Bool
+is_unbuilt_item (memory_item m) = true
+is_unbuilt_item (released t e to) = true
+is_unbuilt_item (invariant_item p e) = true
+is_unbuilt_item _ = false
 
--- The text means a tree and is of no form that is read so far. This is told at its first place,
--- whatever it is.
-pub record IsNotBuilt (text : List ℕ) (number : ℕ) (place : Place) (names : List (List ℕ)) :
-    Type 0 where
-  pub whole : HasTree text
-  pub no_form : (m : ModuleTree) → IsFirstForm text m → ⊥
+abbrev pub has_unbuilt_item : TextTree → Bool
+has_unbuilt_item tree =
+    list_any (λ (m : WholeModule). list_any is_unbuilt_item m.items) tree.modules
+
+-- the text means a tree with such an item
+abbrev pub HasUnbuiltItem : List ℕ → Type 0
+HasUnbuiltItem text = (tree : TextTree) × MeansText text tree × IsTrue (has_unbuilt_item tree)
+
+-- what is not built is told at the first place of the text, whatever it is
+pub record IsNotBuilt (number : ℕ) (place : Place) (names : List (List ℕ)) : Type 0 where
   pub numbered : number ≡ 199
   pub placed : place ≡ record { line = 1; column = 1 }
   pub nameless : names ≡ []
 
--- The first rule that a text within the limit breaks: one on tokens or on the grammar, at the first
--- place where it breaks one, or else 199.
-pub record IsRefused (text : List ℕ) (number : ℕ) (place : Place) (names : List (List ℕ))
-    (printed : List ℕ) : Type 0 where
+-- The text means a tree without such items, and this is the first rule that its walk from the top
+-- asked for breaks.
+pub record BreaksElaboration (top : Option (List ℕ)) (text : List ℕ) (number : ℕ) (place : Place)
+    (names : List (List ℕ)) : Type 0 where
+  pub tree : TextTree
+  pub means : MeansText text tree
+  pub built : IsFalse (has_unbuilt_item tree)
+  pub broken : BreaksRule number place names tree top
+
+-- The text means a tree without such items, whose walk breaks no rule and ends in this flat design.
+pub record StandsFor (top : Option (List ℕ)) (text : List ℕ) (design : FlatDesign) : Type 0 where
+  pub tree : TextTree
+  pub means : MeansText text tree
+  pub built : IsFalse (has_unbuilt_item tree)
+  pub flat : flat_of tree top ≡ Some design
+
+-- The text stands for a flat design, and this is the first rule of admission that it breaks.
+pub record BreaksAdmission (top : Option (List ℕ)) (text : List ℕ) (number : ℕ) (place : Place)
+    (names : List (List ℕ)) : Type 0 where
+  pub design : FlatDesign
+  pub stands : StandsFor top text design
+  pub refused : IsRefusedDesign design number place names
+
+-- The first rule that a text breaks, in the order in which rules are asked: those on tokens and on
+-- the grammar, at the first place that breaks one; 199 for an item that is not built; those of
+-- elaboration, in the order of its walk; those of admission, by number, place and signal.
+abbrev pub BreaksFirst : (top : Option (List ℕ)) → (text : List ℕ) → (number : ℕ) → Place →
+    (names : List (List ℕ)) → Type 0
+BreaksFirst top text number place names =
+    BreaksSyntax number names place text
+    ⊎ ((HasUnbuiltItem text × IsNotBuilt number place names)
+    ⊎ (BreaksElaboration top text number place names
+    ⊎ BreaksAdmission top text number place names))
+
+-- the text breaks none of them
+pub record Passes (top : Option (List ℕ)) (text : List ℕ) : Type 0 where
+  pub design : FlatDesign
+  pub stands : StandsFor top text design
+  pub admitted : IsAdmitted design
+
+-- ---- verdicts
+
+-- the text breaks no rule, is of the first form, and means the module
+pub record IsFirstForm (top : Option (List ℕ)) (text : List ℕ) (m : ModuleTree) : Type 0 where
   pub within : length text ≤ largest_file
-  pub broken : BreaksSyntax number names place text ⊎ IsNotBuilt text number place names
+  pub passes : Passes top text
+  pub means : Means text m
+  pub form : IsTrue (is_first_form m)
+
+-- the text breaks no rule, and is of no form that is decided so far
+abbrev pub IsUndecided : (top : Option (List ℕ)) → (text : List ℕ) → Type 0
+IsUndecided top text = Passes top text × ((m : ModuleTree) → IsFirstForm top text m → ⊥)
+
+-- A text within the limit is refused for the first rule that it breaks, or as not built where it
+-- breaks none and is not decided.
+pub record IsRefused (top : Option (List ℕ)) (text : List ℕ) (number : ℕ) (place : Place)
+    (names : List (List ℕ)) (printed : List ℕ) : Type 0 where
+  pub within : length text ≤ largest_file
+  pub broken : BreaksFirst top text number place names
+      ⊎ (IsUndecided top text × IsNotBuilt number place names)
   pub prints : printed ≡ refusal_text number place names
 
 -- every obligation of the text's module holds
-pub record IsAccepted (text printed : List ℕ) : Type 0 where
+pub record IsAccepted (top : Option (List ℕ)) (text printed : List ℕ) : Type 0 where
   pub tree : ModuleTree
-  pub form : IsFirstForm text tree
+  pub form : IsFirstForm top text tree
   pub flows_hold : IsTrue (list_all (flow_holds tree) (obligations tree))
   pub prints : printed ≡ accepted_text (length (obligations tree))
 
 -- the obligation of this number, counted from 1, is the first that fails, and the values falsify it
-pub record IsFalsified (text : List ℕ) (number : ℕ) (v : Values) (printed : List ℕ) : Type 0 where
+pub record IsFalsified (top : Option (List ℕ)) (text : List ℕ) (number : ℕ) (v : Values)
+    (printed : List ℕ) : Type 0 where
   pub tree : ModuleTree
-  pub form : IsFirstForm text tree
+  pub form : IsFirstForm top text tree
   pub before : ℕ
   pub numbered : number ≡ before + 1
   pub failing : Obligation
@@ -109,15 +172,26 @@ pub record IsFalsified (text : List ℕ) (number : ℕ) (v : Values) (printed : 
       failing.reads ≡ Some read
   pub prints : printed ≡ leak_text tree number failing read v
 
--- What `check` answers for a text, and what it prints.
-abbrev pub IsVerdict : List ℕ → Answer → List ℕ → Type 0
-IsVerdict text accepted printed = IsAccepted text printed
-IsVerdict text (rule_broken number place names) printed = IsRefused text number place names printed
-IsVerdict text (limit_passed number names) printed =
+-- What `check` answers for a text with this top, and what it prints.
+abbrev pub IsVerdict : (top : Option (List ℕ)) → (text : List ℕ) → Answer → List ℕ → Type 0
+IsVerdict top text accepted printed = IsAccepted top text printed
+IsVerdict top text (rule_broken number place names) printed =
+    IsRefused top text number place names printed
+IsVerdict top text (limit_passed number names) printed =
     (largest_file < length text) × (number ≡ 701) × (names ≡ [])
     × (printed ≡ limit_text number names)
-IsVerdict text (falsified number v) printed = IsFalsified text number v printed
-IsVerdict text (misused kind) printed = ⊥
+IsVerdict top text (falsified number v) printed = IsFalsified top text number v printed
+IsVerdict top text (misused kind) printed = ⊥
+
+-- Two answers that name circles of signals that read each other, both from the signal that rule 607
+-- tells of: where several circles begin there any of them is named.
+pub record AreCircles (answer other : Answer) : Type 0 where
+  pub place : Place
+  pub first : List ℕ
+  pub rest : List (List ℕ)
+  pub rest_of_other : List (List ℕ)
+  pub one : answer ≡ rule_broken 607 place (first ∷ rest)
+  pub two : other ≡ rule_broken 607 place (first ∷ rest_of_other)
 
 -- One fetch of FILE was made, and it handed out this text: all of it or, where FILE is larger than
 -- the largest file, its first bytes, one more than are allowed.
@@ -135,7 +209,7 @@ Reads words text old new =
 -- What the program answers to these words and the text that it reads, and what it prints.
 abbrev pub IsAnswer : List (List ℕ) → List ℕ → Answer → List ℕ → Type 0
 IsAnswer words text answer printed =
-    MatchOption (usage_of words) (IsVerdict text answer printed) (λ kind.
+    MatchOption (usage_of words) (IsVerdict (top_of words) text answer printed) (λ kind.
     (answer ≡ misused kind) × (printed ≡ usage_text kind))
 
 -- The text means exactly one module. Any two of its traces that look alike to a level have equal

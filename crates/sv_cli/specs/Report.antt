@@ -1,10 +1,18 @@
 -- What a report has to be.
-use Rattle.std.specs.Prelude.{◌≡◌, ℕ, List, Some, length, replicate}
+use Rattle.std.specs.Prelude.{◌≡◌, ◌⊎◌, ℕ, IsTrue, IsFalse, List, Option, Some}
+use Rattle.std.specs.Prelude.{length, replicate}
+use Rattle.sv_num.specs.declared.faults.Place.{Place}
+use Rattle.sv_num.specs.declared.faults.Fault.{Fault}
+use Rattle.sv_num.specs.declared.faults.Fault.TheVariants.{Rule, OutOfMemory}
+use Rattle.sv_ast.specs.Tree.{TextTree}
+use Rattle.sv_flat.specs.Design.{FlatDesign}
+use Rattle.sv_walk.specs.Texts.{flat_of, BreaksRule}
 use Rattle.sv_first_ast.specs.Obligations.{Values}
 use Rattle.sv_first_flow.specs.declared.leak.Leak.{Leak}
 use Rattle.sv_cli.specs.declared.outcome.Outcome.{Outcome}
 use Rattle.sv_cli.specs.declared.outcome.Outcome.TheVariants.{Done}
-use Rattle.sv_cli.specs.Answer.{Answer, answer_of, IsVerdict, KeepsSecrets}
+use Rattle.sv_cli.specs.Answer.{has_unbuilt_item, IsNotBuilt, Answer, answer_of, IsVerdict}
+use Rattle.sv_cli.specs.Answer.{AreCircles, KeepsSecrets}
 
 -- 0 for each register and input
 abbrev pub zeros_for : Leak → Values
@@ -14,11 +22,29 @@ zeros_for leak = record {
   next_inputs = replicate (length leak.inputs.items) 0;
 }
 
--- the outcome and what is printed with it are those of the text, and no others are
-pub record Decides (text : List ℕ) (outcome : Outcome) (printed : List ℕ) : Type 0 where
+-- the fault is want of memory, or tells of a rule of which this holds
+abbrev pub IsFaultBy : (ℕ → Place → List (List ℕ) → Type 0) → Fault → Type 0
+IsFaultBy Holds (Rule r) = Holds r.number r.place r.names.items
+IsFaultBy Holds OutOfMemory = Unit {0}
+
+-- The tree has an item that is not built, or this is the rule that its walk breaks first.
+abbrev pub BreaksAsTree : (top : Option (List ℕ)) → TextTree → (number : ℕ) → Place →
+    (names : List (List ℕ)) → Type 0
+BreaksAsTree top tree number place names =
+    (IsTrue (has_unbuilt_item tree) × IsNotBuilt number place names)
+    ⊎ (IsFalse (has_unbuilt_item tree) × BreaksRule number place names tree top)
+
+-- The tree has no item that is not built, and its walk ends in the flat design.
+abbrev pub IsFlatOf : (top : Option (List ℕ)) → TextTree → FlatDesign → Type 0
+IsFlatOf top tree design = IsFalse (has_unbuilt_item tree) × (flat_of tree top ≡ Some design)
+
+-- the outcome and what is printed with it are those of the text, and no others are but that of
+-- another circle
+pub record Decides (top : Option (List ℕ)) (text : List ℕ) (outcome : Outcome) (printed : List ℕ) :
+    Type 0 where
   pub answer : Answer
   pub gives : answer_of outcome ≡ Some answer
-  pub verdict : IsVerdict text answer printed
-  pub only : (other : Answer) (others : List ℕ) → IsVerdict text other others →
-      (other ≡ answer) × (others ≡ printed)
+  pub verdict : IsVerdict top text answer printed
+  pub only : (other : Answer) (others : List ℕ) → IsVerdict top text other others →
+      ((other ≡ answer) × (others ≡ printed)) ⊎ AreCircles other answer
   pub secrets : outcome ≡ Done → KeepsSecrets text

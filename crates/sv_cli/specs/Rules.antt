@@ -10,7 +10,7 @@ rule_names =
     (102, codes "bad-number") ∷
     (103, codes "open-comment") ∷
     (104, codes "unsupported") ∷
-    -- a text of no form that is read so far
+    -- a text with an item, or of a form, that is not built so far
     (199, codes "not-built") ∷
     -- on the grammar
     (201, codes "unexpected") ∷

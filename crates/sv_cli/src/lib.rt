@@ -6,6 +6,7 @@
 #![tactic(auto)]
 
 mod arguments;
+mod designs;
 mod laws;
 mod outcome;
 mod report;

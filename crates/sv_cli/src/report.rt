@@ -1,18 +1,18 @@
 // What is answered, and the text that says so.
-ghost use Rattle.std.specs.Prelude.{◌≡◌, ◌≤◌, [], Some, IfOk, IfSome, IfNone, length, replicate};
-ghost use Rattle.sv_ast.specs.GrammarMeaning.{BreaksSyntax};
+ghost use Rattle.std.specs.Prelude.{◌≡◌, ◌≤◌, [], Some, IfOk, length, replicate};
 ghost use Rattle.sv_cli.specs.Text.{usage_text, accepted_text, refusal_text, limit_text, flow_text};
 ghost use Rattle.sv_cli.specs.Answer.{answer_of, accepted, rule_broken, limit_passed, falsified};
-ghost use Rattle.sv_cli.specs.Answer.{misused, largest_file, HasTree};
+ghost use Rattle.sv_cli.specs.Answer.{misused, largest_file, Passes};
 ghost use Rattle.sv_cli.specs.Report.{Decides, zeros_for};
+ghost use Rattle.sv_cli.specs.Requests.{text_of};
 
+use crate::designs::{design_of_text, unbuilt_form};
 use crate::outcome::{Broken, Outcome, UsageKind, Valuation};
 use crate::text;
 use std::alloc::{AllocError, Global};
 use sv_first::read_module;
 use sv_first_flow::{Finding, Leak, check};
-use sv_num::{Fault, Place, Refusal};
-use sv_parse::read_text;
+use sv_num::{Fault, Refusal};
 
 /// An outcome, and all that is to be written with it.
 #[derive(Drop)]
@@ -67,14 +67,7 @@ fn report_of_unbuilt_form(alloc: Global) -> Result<Report, AllocError>
     ensures text { IfOk result
         (λ report. report.text.items ≡ refusal_text 199 (record { line = 1; column = 1 }) []) }
 {
-    report_of_refusal(
-        alloc,
-        Refusal {
-            number: 199,
-            place: Place { line: 1, column: 1 },
-            names: Vec::new(alloc),
-        },
-    )
+    report_of_refusal(alloc, unbuilt_form(alloc))
 }
 
 fn report_of_acceptance(alloc: Global, count: u32) -> Result<Report, AllocError>
@@ -121,25 +114,12 @@ fn report_of_leak(alloc: Global, leak: &Leak) -> Result<Report, AllocError>
     })
 }
 
-// The first rule on tokens or on the grammar that a text breaks.
-fn broken_syntax(alloc: Global, bytes: &[u8]) -> Result<Option<Refusal>, AllocError>
-    requires { length bytes.now ≤ largest_file }
-    ensures broken { IfOk result
-        (λ found. IfSome found (λ r. BreaksSyntax r.number r.names.items r.place bytes.now)) }
-    ensures none { IfOk result (λ found. IfNone found (HasTree bytes.now)) }
-{
-    match read_text(alloc, bytes) {
-        Ok(_) => Ok(None),
-        Err(Fault::Rule(refusal)) => Ok(Some(refusal)),
-        Err(Fault::OutOfMemory) => Err(AllocError),
-    }
-}
-
-// The answer to a text within the limit that means a tree.
-fn report_on_tree(alloc: Global, bytes: &[u8]) -> Result<Report, AllocError>
+// The answer to a text within the limit that breaks no rule.
+fn report_on_form(alloc: Global, bytes: &[u8], top: Option<&str>) -> Result<Report, AllocError>
     requires within { length bytes.now ≤ largest_file }
-    requires whole { HasTree bytes.now }
-    ensures { IfOk result (λ report. Decides bytes.now report.outcome report.text.items) }
+    requires passes { Passes (text_of top) bytes.now }
+    ensures { IfOk result
+        (λ report. Decides (text_of top.entry) bytes.now report.outcome report.text.items) }
 {
     let Some(module) = read_module(alloc, bytes)? else {
         return report_of_unbuilt_form(alloc);
@@ -151,13 +131,15 @@ fn report_on_tree(alloc: Global, bytes: &[u8]) -> Result<Report, AllocError>
     }
 }
 
-/// The answer to a text within the limit.
-pub fn report_on(alloc: Global, bytes: &[u8]) -> Result<Report, AllocError>
+/// The answer to a text within the limit, with the top that is asked for.
+pub fn report_on(alloc: Global, bytes: &[u8], top: Option<&str>) -> Result<Report, AllocError>
     requires { length bytes.now ≤ largest_file }
-    ensures { IfOk result (λ report. Decides bytes.now report.outcome report.text.items) }
+    ensures { IfOk result
+        (λ report. Decides (text_of top.entry) bytes.now report.outcome report.text.items) }
 {
-    match broken_syntax(alloc, bytes)? {
-        Some(refusal) => report_of_refusal(alloc, refusal),
-        None => report_on_tree(alloc, bytes),
+    match design_of_text(alloc, bytes, top) {
+        Ok(_) => report_on_form(alloc, bytes, top),
+        Err(Fault::Rule(refusal)) => report_of_refusal(alloc, refusal),
+        Err(Fault::OutOfMemory) => Err(AllocError),
     }
 }

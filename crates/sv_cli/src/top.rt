@@ -1,6 +1,6 @@
 // The top call.
-ghost use Rattle.std.specs.Prelude.{◌≡◌, ◌∷◌, ◌++◌, ◌+◌, ◌≤◌, ℕ, List, [], IsTrue, None, Some, Err};
-ghost use Rattle.std.specs.Prelude.{IfOk, IfErr, IfSome, IfNone, IsSome, IsErrOf, MatchOption};
+ghost use Rattle.std.specs.Prelude.{◌≡◌, ◌∷◌, ◌++◌, ◌+◌, ◌≤◌, ◌⊎◌, ℕ, List, [], IsTrue, None, Some};
+ghost use Rattle.std.specs.Prelude.{Err, IfOk, IfErr, IfSome, IfNone, IsSome, IsErrOf, MatchOption};
 ghost use Rattle.std.specs.Prelude.{length, take, vec_len, ⊤};
 ghost use Rattle.sv_io.specs.Cabinet.{bytes_under, IfLong};
 ghost use Rattle.sv_io.specs.Count.{Rose};
@@ -8,10 +8,11 @@ ghost use Rattle.sv_io.specs.Exchange.{Fetched, nothing, fetched, fetched_of, wh
 ghost use Rattle.sv_io.specs.Sink.{WritesFront};
 ghost use Rattle.sv_cli.specs.Command.{words_of, usage_of, file_of};
 ghost use Rattle.sv_cli.specs.Answer.{Answer, answer_of, misused, largest_file, ReadsFile, Reads};
-ghost use Rattle.sv_cli.specs.Answer.{IsAnswer, IsVerdict, KeepsSecrets};
+ghost use Rattle.sv_cli.specs.Answer.{IsAnswer, IsVerdict, AreCircles, KeepsSecrets};
 ghost use Rattle.sv_cli.specs.Report.{Decides};
+ghost use Rattle.sv_cli.specs.Requests.{text_of};
 
-use crate::arguments::read_words;
+use crate::arguments::{Request, read_words};
 use crate::outcome::Outcome;
 use crate::report::{Report, report_of_large_file, report_of_misuse, report_on};
 use std::alloc::Global;
@@ -27,9 +28,10 @@ enum NoReport {
     OutOfMemory,
 }
 
-/// Does what the words ask: `check FILE` checks the file's text. It fetches FILE once, judges what
-/// that fetch handed out, and writes the answer, as the definitions of `Answer` say. What it says
-/// of a text holds for every cabinet and sink, those of the real system among them.
+/// Does what the words ask: `check FILE` checks the file's text, with the module of `--top M` as
+/// its top where that is named. It fetches FILE once, judges what that fetch handed out, and writes
+/// the answer, as the definitions of `Answer` say. What it says of a text holds for every cabinet
+/// and sink, those of the real system among them.
 pub fn run<C: Cabinet, S: Source, K: Sink>(
     alloc: Global,
     words: &[String],
@@ -52,17 +54,19 @@ pub fn run<C: Cabinet, S: Source, K: Sink>(
         × Reads (words_of words.now) text (C.exchanges cabinet.old) (C.exchanges cabinet.new)
         × IsAnswer (words_of words.now) text a printed
         × (K.accepted out.new ≡ K.accepted out.old ++ printed)) }
-    // No other answer is that of the words and the text.
+    // No other answer is that of the words and the text, but that of another circle of rule 607.
     ensures only { (text : List ℕ) (a : Answer) (printed : List ℕ) →
         Reads (words_of words.now) text (C.exchanges cabinet.old) (C.exchanges cabinet.new) →
         IsAnswer (words_of words.now) text a printed →
-        IfSome (answer_of result) (λ b. b ≡ a) }
-    // Without an answer a front of what is defined was accepted, and nothing where nothing was
-    // read.
-    ensures front { (text : List ℕ) (a : Answer) (printed : List ℕ) →
-        Reads (words_of words.now) text (C.exchanges cabinet.old) (C.exchanges cabinet.new) →
-        IsAnswer (words_of words.now) text a printed →
-        IfNone (answer_of result) (WritesFront (K.accepted out.old) printed (K.accepted out.new)) }
+        IfSome (answer_of result) (λ b. (b ≡ a) ⊎ AreCircles a b) }
+    // Without an answer nothing was accepted, or a front of what is defined; and nothing where
+    // nothing was read.
+    ensures front { IfNone (answer_of result)
+        ((K.accepted out.new ≡ K.accepted out.old)
+        ⊎ ((text : List ℕ) × (a : Answer) × (printed : List ℕ)
+        × Reads (words_of words.now) text (C.exchanges cabinet.old) (C.exchanges cabinet.new)
+        × IsAnswer (words_of words.now) text a printed
+        × WritesFront (K.accepted out.old) printed (K.accepted out.new))) }
     ensures silent { C.exchanges cabinet.new ≡
         C.exchanges cabinet.old ++ fetched (file_of (words_of words.now)) nothing ∷ [] →
         K.accepted out.new ≡ K.accepted out.old }
@@ -97,7 +101,7 @@ pub fn run<C: Cabinet, S: Source, K: Sink>(
     // No command reads the input yet.
     let _ = input;
     match read_words(words) {
-        Ok(file) => check_file(alloc, file, cabinet, out),
+        Ok(request) => check_file(alloc, request, cabinet, out),
         Err(kind) => match report_of_misuse(alloc, kind) {
             Ok(report) => send(out, report),
             Err(_) => Outcome::OutOfMemory,
@@ -107,42 +111,47 @@ pub fn run<C: Cabinet, S: Source, K: Sink>(
 
 fn check_file<C: Cabinet, K: Sink>(
     alloc: Global,
-    file: &str,
+    request: Request<'_>,
     cabinet: &mut C,
     out: &mut K,
 ) -> Outcome
     ensures noninterference { result ≡ Outcome.Done →
         (text : List ℕ)
-        × (C.exchanges cabinet.new ≡ C.exchanges cabinet.old ++ fetched file.now (whole text) ∷ [])
+        × (C.exchanges cabinet.new ≡ C.exchanges cabinet.old
+        ++ fetched request.entry.file.now (whole text) ∷ [])
         × KeepsSecrets text }
     ensures answer { IfSome (answer_of result)
         (λ a. (text printed : List ℕ)
-        × ReadsFile file.now text (C.exchanges cabinet.old) (C.exchanges cabinet.new)
-        × IsVerdict text a printed
+        × ReadsFile request.entry.file.now text (C.exchanges cabinet.old) (C.exchanges cabinet.new)
+        × IsVerdict (text_of request.entry.top) text a printed
         × (K.accepted out.new ≡ K.accepted out.old ++ printed)) }
     ensures only { (text : List ℕ) (a : Answer) (printed : List ℕ) →
-        ReadsFile file.now text (C.exchanges cabinet.old) (C.exchanges cabinet.new) →
-        IsVerdict text a printed →
-        IfSome (answer_of result) (λ b. b ≡ a) }
-    ensures front { (text : List ℕ) (a : Answer) (printed : List ℕ) →
-        ReadsFile file.now text (C.exchanges cabinet.old) (C.exchanges cabinet.new) →
-        IsVerdict text a printed →
-        IfNone (answer_of result) (WritesFront (K.accepted out.old) printed (K.accepted out.new)) }
+        ReadsFile request.entry.file.now text (C.exchanges cabinet.old) (C.exchanges cabinet.new) →
+        IsVerdict (text_of request.entry.top) text a printed →
+        IfSome (answer_of result) (λ b. (b ≡ a) ⊎ AreCircles a b) }
+    ensures front { IfNone (answer_of result)
+        ((K.accepted out.new ≡ K.accepted out.old)
+        ⊎ ((text : List ℕ) × (a : Answer) × (printed : List ℕ)
+        × ReadsFile request.entry.file.now text (C.exchanges cabinet.old) (C.exchanges cabinet.new)
+        × IsVerdict (text_of request.entry.top) text a printed
+        × WritesFront (K.accepted out.old) printed (K.accepted out.new))) }
     ensures silent { C.exchanges cabinet.new ≡
-        C.exchanges cabinet.old ++ fetched file.now nothing ∷ [] →
+        C.exchanges cabinet.old ++ fetched request.entry.file.now nothing ∷ [] →
         K.accepted out.new ≡ K.accepted out.old }
     ensures one_fetch { (got : Fetched)
-        × (C.exchanges cabinet.new ≡ C.exchanges cabinet.old ++ fetched file.now got ∷ []) }
+        × (C.exchanges cabinet.new ≡ C.exchanges cabinet.old
+        ++ fetched request.entry.file.now got ∷ []) }
     ensures told { IsTrue C.tells → (text : List ℕ) →
-        ReadsFile file.now text (C.exchanges cabinet.old) (C.exchanges cabinet.new) →
-        text ≡ take (largest_file + 1) (bytes_under (C.held cabinet.old) file.now) }
+        ReadsFile request.entry.file.now text (C.exchanges cabinet.old) (C.exchanges cabinet.new) →
+        text ≡ take (largest_file + 1) (bytes_under (C.held cabinet.old) request.entry.file.now) }
     ensures read_fault { result ≡ Outcome.ReadFault →
-        Rose (C.fetch_faults cabinet.old file.now) (C.fetch_faults cabinet.new file.now) }
+        Rose (C.fetch_faults cabinet.old request.entry.file.now)
+        (C.fetch_faults cabinet.new request.entry.file.now) }
     ensures write_fault { result ≡ Outcome.WriteFault → Rose (K.faults out.old) (K.faults out.new) }
     ensures cabinet_unchanged { (name : List ℕ) →
         C.held cabinet.new name ≡ C.held cabinet.old name }
 {
-    match report_on_file(alloc, file, cabinet) {
+    match report_on_file(alloc, request, cabinet) {
         Ok(report) => send(out, report),
         Err(NoReport::Unread) => Outcome::ReadFault,
         Err(NoReport::OutOfMemory) => Outcome::OutOfMemory,
@@ -151,25 +160,27 @@ fn check_file<C: Cabinet, K: Sink>(
 
 fn report_on_file<C: Cabinet>(
     alloc: Global,
-    file: &str,
+    request: Request<'_>,
     cabinet: &mut C,
 ) -> Result<Report, NoReport>
     ensures report { IfOk result
         (λ report. (text : List ℕ)
-        × ReadsFile file.now text (C.exchanges cabinet.old) (C.exchanges cabinet.new)
-        × Decides text report.outcome report.text.items) }
+        × ReadsFile request.entry.file.now text (C.exchanges cabinet.old) (C.exchanges cabinet.new)
+        × Decides (text_of request.entry.top) text report.outcome report.text.items) }
     ensures one_fetch { (got : Fetched)
-        × (C.exchanges cabinet.new ≡ C.exchanges cabinet.old ++ fetched file.now got ∷ []) }
+        × (C.exchanges cabinet.new ≡ C.exchanges cabinet.old
+        ++ fetched request.entry.file.now got ∷ []) }
     ensures told { IsTrue C.tells → (text : List ℕ) →
-        ReadsFile file.now text (C.exchanges cabinet.old) (C.exchanges cabinet.new) →
-        text ≡ take (largest_file + 1) (bytes_under (C.held cabinet.old) file.now) }
+        ReadsFile request.entry.file.now text (C.exchanges cabinet.old) (C.exchanges cabinet.new) →
+        text ≡ take (largest_file + 1) (bytes_under (C.held cabinet.old) request.entry.file.now) }
     ensures unread { result ≡ Err NoReport.Unread →
-        Rose (C.fetch_faults cabinet.old file.now) (C.fetch_faults cabinet.new file.now) }
+        Rose (C.fetch_faults cabinet.old request.entry.file.now)
+        (C.fetch_faults cabinet.new request.entry.file.now) }
     ensures cabinet_unchanged { (name : List ℕ) →
         C.held cabinet.new name ≡ C.held cabinet.old name }
 {
-    match fetch_text(alloc, file, cabinet) {
-        Ok(bytes) => report_on_text(alloc, &bytes),
+    match fetch_text(alloc, request.file, cabinet) {
+        Ok(bytes) => report_on_text(alloc, &bytes, request.top),
         Err(FetchFault::Long(_)) => match report_of_large_file(alloc) {
             Ok(report) => Ok(report),
             Err(_) => Err(NoReport::OutOfMemory),
@@ -180,13 +191,13 @@ fn report_on_file<C: Cabinet>(
 }
 
 // The report on a text that was fetched whole.
-fn report_on_text(alloc: Global, bytes: &[u8]) -> Result<Report, NoReport>
+fn report_on_text(alloc: Global, bytes: &[u8], top: Option<&str>) -> Result<Report, NoReport>
     requires { length bytes.now ≤ largest_file }
     ensures report { IfOk result
-        (λ report. Decides bytes.now report.outcome report.text.items) }
+        (λ report. Decides (text_of top.entry) bytes.now report.outcome report.text.items) }
     ensures read { IsErrOf result NoReport.Unread → ⊥ }
 {
-    match report_on(alloc, bytes) {
+    match report_on(alloc, bytes, top) {
         Ok(report) => Ok(report),
         Err(_) => Err(NoReport::OutOfMemory),
     }

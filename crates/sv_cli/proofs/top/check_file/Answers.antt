@@ -1,3 +1,4 @@
+use Rattle.sv_cli.specs.Requests.{text_of}
 use Rattle.std.proofs.Common.{List, ℕ}
 use Rattle.sv_cli.specs.Answer.{answer_of, ReadsFile}
 use Rattle.sv_cli.proofs.Telling.{answer_sent, only_sent, front_sent, secrets_sent, reads_none}
@@ -5,15 +6,16 @@ use Rattle.sv_cli.proofs.top.check_file.Goals as goal
 
 pub returns-in-Ok-clause-noninterference : goal.returns-in-Ok-clause-noninterference
 returns-in-Ok-clause-noninterference g c done =
-    secrets_sent c.args.file.now (g.C.Cabinet.exchanges c.args.cabinet.now)
+    secrets_sent (text_of c.args.request.top) c.args.request.file.now
+    (g.C.Cabinet.exchanges c.args.cabinet.now)
     (g.C.Cabinet.exchanges c.report_on_file.new.cabinet) c.in-Ok.report.outcome
     c.in-Ok.report.text.items
     c.in-Ok.ensures.report (c.send.ensures.done done)
 
 pub returns-in-Ok-clause-answer : goal.returns-in-Ok-clause-answer
 returns-in-Ok-clause-answer g c =
-    answer_sent (answer_of c.send.result) (λ (text : List ℕ).
-    ReadsFile c.args.file.now text (g.C.Cabinet.exchanges c.args.cabinet.now)
+    answer_sent (text_of c.args.request.top) (answer_of c.send.result) (λ (text : List ℕ).
+    ReadsFile c.args.request.file.now text (g.C.Cabinet.exchanges c.args.cabinet.now)
     (g.C.Cabinet.exchanges c.report_on_file.new.cabinet))
     c.in-Ok.report.outcome c.in-Ok.report.text.items (g.K.Sink.accepted c.args.out.now)
     (g.K.Sink.accepted c.send.new.out) c.in-Ok.ensures.report c.send.ensures.answered
@@ -21,14 +23,16 @@ returns-in-Ok-clause-answer g c =
 
 pub returns-in-Ok-clause-only : goal.returns-in-Ok-clause-only
 returns-in-Ok-clause-only g c =
-    only_sent (answer_of c.send.result) c.args.file.now (g.C.Cabinet.exchanges c.args.cabinet.now)
+    only_sent (text_of c.args.request.top) (answer_of c.send.result) c.args.request.file.now
+    (g.C.Cabinet.exchanges c.args.cabinet.now)
     (g.C.Cabinet.exchanges c.report_on_file.new.cabinet) c.in-Ok.report.outcome
     c.in-Ok.report.text.items
     c.in-Ok.ensures.report c.send.ensures.answered
 
 pub returns-in-Ok-clause-front : goal.returns-in-Ok-clause-front
 returns-in-Ok-clause-front g c =
-    front_sent (answer_of c.send.result) c.args.file.now (g.C.Cabinet.exchanges c.args.cabinet.now)
+    front_sent (text_of c.args.request.top) (answer_of c.send.result) c.args.request.file.now
+    (g.C.Cabinet.exchanges c.args.cabinet.now)
     (g.C.Cabinet.exchanges c.report_on_file.new.cabinet) c.in-Ok.report.outcome
     c.in-Ok.report.text.items
     (g.K.Sink.accepted c.args.out.now) (g.K.Sink.accepted c.send.new.out) c.in-Ok.ensures.report
@@ -36,6 +40,6 @@ returns-in-Ok-clause-front g c =
 
 pub returns-in-Ok-clause-silent : goal.returns-in-Ok-clause-silent
 returns-in-Ok-clause-silent g c failed =
-    absurd (reads_none c.args.file.now c.in-Ok.ensures.report.0
+    absurd (reads_none c.args.request.file.now c.in-Ok.ensures.report.0
     (g.C.Cabinet.exchanges c.args.cabinet.now)
     (g.C.Cabinet.exchanges c.report_on_file.new.cabinet) c.in-Ok.ensures.report.1 failed)

@@ -1,24 +1,29 @@
+use Rattle.sv_cli.specs.Requests.{text_of}
 use Rattle.sv_cli.proofs.Deciding.{unread, unformed, unbuilt_reports, holding_reports}
 use Rattle.sv_cli.proofs.Deciding.{failing_reports}
-use Rattle.sv_cli.proofs.report.report_on_tree.Goals as goal
+use Rattle.sv_cli.proofs.report.report_on_form.Goals as goal
 
 pub returns-in_default : goal.returns-in_default
 returns-in_default c =
-    unbuilt_reports c.args.bytes.now c.requires.within c.requires.whole
-    (unread c.args.bytes.now c.in_ok-module.field-0 c.in_default.is c.in_ok-module.ensures.none)
+    unbuilt_reports (text_of c.args.top) c.args.bytes.now c.requires.within c.requires.passes
+    (unread (text_of c.args.top) c.args.bytes.now c.in_ok-module.field-0 c.in_default.is
+    c.in_ok-module.ensures.none)
     c.report_of_unbuilt_form.result c.report_of_unbuilt_form.ensures.answer
     c.report_of_unbuilt_form.ensures.text
 
 pub returns-in-None : goal.returns-in-None
-returns-in-None c = unbuilt_reports c.args.bytes.now c.requires.within c.requires.whole
-    (unformed c.args.bytes.now c.in_ok-module.field-0 c.in-Some.module c.in-Some.is
+returns-in-None c =
+    unbuilt_reports (text_of c.args.top) c.args.bytes.now c.requires.within c.requires.passes
+    (unformed (text_of c.args.top) c.args.bytes.now c.in_ok-module.field-0 c.in-Some.module
+    c.in-Some.is
     c.in_ok-module.ensures.found c.in_ok-check.field-0 c.in-None.is c.in_ok-check.ensures.none)
     c.report_of_unbuilt_form-in-None.result c.report_of_unbuilt_form-in-None.ensures.answer
     c.report_of_unbuilt_form-in-None.ensures.text
 
 pub returns-in-Some-Holds : goal.returns-in-Some-Holds
 returns-in-Some-Holds c =
-    holding_reports c.args.bytes.now c.requires.within c.requires.whole c.in_ok-module.field-0
+    holding_reports (text_of c.args.top) c.args.bytes.now c.requires.within c.requires.passes
+    c.in_ok-module.field-0
     c.in-Some.module c.in-Some.is c.in_ok-module.ensures.found
     c.in_ok-check.field-0 c.in-Some-Holds.field-0 c.in-Some-Holds.is c.in_ok-check.ensures.finding
     c.report_of_acceptance.result c.in-Some-Holds.count c.in-Some-Holds.field-0-is
@@ -26,7 +31,8 @@ returns-in-Some-Holds c =
 
 pub returns : goal.returns
 returns c =
-    failing_reports c.args.bytes.now c.requires.within c.requires.whole c.in_ok-module.field-0
+    failing_reports (text_of c.args.top) c.args.bytes.now c.requires.within c.requires.passes
+    c.in_ok-module.field-0
     c.in-Some.module c.in-Some.is c.in_ok-module.ensures.found
     c.in_ok-check.field-0 c.in-Some-Leaks.field-0 c.in-Some-Leaks.is c.in_ok-check.ensures.finding
     c.report_of_leak.result c.in-Some-Leaks.leak c.in-Some-Leaks.field-0-is

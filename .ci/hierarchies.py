@@ -1,0 +1,116 @@
+#!/usr/bin/env python3
+"""Checks hierarchies at the limits of elaboration through ./secv: signals, instances, points and rows of maps at the limit and one past
+it, modules nested and chained, and a hierarchy whose whole size no machine could hold. Each wanted line is worked out here from
+docs/language.md. The last line is 'N passed, M failed'.
+"""
+import os
+import subprocess
+import sys
+import tempfile
+import time
+
+TOP = os.path.dirname(os.path.dirname(os.path.abspath(__file__)))
+SECV = os.path.join(TOP, "secv")
+NOT_BUILT = "refused 199 not-built 1:1"
+MOST_SECONDS = 10
+MOST_MEGABYTES = 256
+passed = failed = 0
+
+
+def check(what, text, wanted, folder, words=()):
+    """The program's line for the text, and whether it is the wanted one, in little time and memory."""
+    global passed, failed
+    path = os.path.join(folder, "text.v")
+    with open(path, "w", encoding="ascii") as file:
+        file.write(text)
+    limit = f"ulimit -v {MOST_MEGABYTES * 1024}; exec \"$@\""
+    start = time.monotonic()
+    answer = subprocess.run(["sh", "-c", limit, "sh", SECV, "check", path, *words], stdin=subprocess.DEVNULL, stdout=subprocess.PIPE,
+                            stderr=subprocess.DEVNULL, timeout=10 * MOST_SECONDS, check=False)
+    took = time.monotonic() - start
+    if (answer.stdout, answer.returncode) == ((wanted + "\n").encode(), 1) and took < MOST_SECONDS:
+        passed += 1
+    else:
+        failed += 1
+        print(f"{what}\n  wanted {wanted}\n  got    {answer.stdout!r}, status {answer.returncode}, after {took:.1f} s")
+
+
+def signals(folder):
+    """4,096 signals and one more, in one module and over instances: the one more is told at its name."""
+    for count in (4096, 4097):
+        wires = count - 2
+        lines = ["module m(input [1:0] a, output [1:0] y);", "  assign y = a;"]
+        lines += [f"  wire [1:0] w{i} = {'a' if i == 0 else f'w{i - 1}'};" for i in range(wires)]
+        wanted = NOT_BUILT if count == 4096 else f"refused 315 too-many {2 + wires}:14"
+        check(f"{count} signals of one module", "\n".join([*lines, "endmodule"]) + "\n", wanted, folder)
+    for wires in (1022, 1023):
+        # four instances, each with its port and its wires, and the input of the top
+        lines = ["module s(input a);", *[f"  wire w{i} = a;" for i in range(wires)], "endmodule", "module m(input a);"]
+        lines += [f"  s u{i}(.a(a));" for i in range(4)]
+        wanted = NOT_BUILT if wires == 1022 else f"refused 315 too-many {1 + wires}:8"
+        check(f"{4 * (1 + wires) + 1} signals in instances", "\n".join([*lines, "endmodule"]) + "\n", wanted, folder)
+
+
+def instances(folder):
+    """1,024 instances, the top among them, and one more: it is told at its module's name."""
+    for count in (1024, 1025):
+        lines = ["module s(input a); endmodule", "module m(input a);", *[f"  s u{i}(.a(a));" for i in range(count - 1)], "endmodule"]
+        wanted = NOT_BUILT if count == 1024 else f"refused 315 too-many {count + 1}:3"
+        check(f"{count} instances side by side", "\n".join(lines) + "\n", wanted, folder)
+    for count in (64, 1024, 1025):
+        lines = [f"module m{i}(input a); {f'm{i + 1} u(.a(a));' if i + 1 < count else ''} endmodule" for i in range(count)]
+        wanted = NOT_BUILT if count <= 1024 else f"refused 315 too-many {count - 1}:{len(f'module m{count - 2}(input a); ') + 1}"
+        check(f"{count} modules, each in the one before", "\n".join(lines) + "\n", wanted, folder)
+    # a tree: 31 in the top, and 32 in each of these, are 1 + 31 + 31 * 32 = 1,024
+    for more in (0, 1):
+        lines = ["module s(input a); endmodule", "module r(input a);", *[f"  s u{i}(.a(a));" for i in range(32)], "endmodule"]
+        lines += ["module m(input a);", *[f"  r u{i}(.a(a));" for i in range(31)], *["  s v(.a(a));"] * more, "endmodule"]
+        wanted = f"refused 315 too-many {2 + 32 + 1 + 1 + 31 + 1}:3" if more else NOT_BUILT
+        check(f"a tree of {1024 + more} instances", "\n".join(lines) + "\n", wanted, folder)
+
+
+def astronomical(folder):
+    """Twelve modules, each of which holds the next one a thousand times, are refused at the 1,025th instance at once."""
+    levels, width = 12, 1000
+    lines, first = [], {}
+    for i in range(levels):
+        lines.append(f"module m{i};")
+        if i + 1 < levels:
+            first[i] = len(lines) + 1
+            lines += [f"  m{i + 1} u{k}();" for k in range(width)]
+        lines.append("endmodule")
+    # the first of each level, then the innermost ones: a thousand, the next module around them, and the rest of the count inside it
+    outer = levels - 1
+    left = 1025 - outer - width - 1
+    wanted = f"refused 315 too-many {first[levels - 2] + left - 1}:3"
+    check("a thousand of each of twelve modules", "\n".join(lines) + "\n", wanted, folder)
+    ring = [f"module m{i}; m{(i + 1) % 64} u(); endmodule" for i in range(64)]
+    check("a ring of 64 modules", "\n".join(ring) + "\n", "refused 314 recursive 64:13 m0", folder, ("--top", "m0"))
+    check("a ring of 64 modules without a top", "\n".join(ring) + "\n", "refused 310 no-top 1:1", folder)
+
+
+def labels(folder):
+    """32 and 33 points, in a chain; a map with a row for each of 256 keys, one without a row, and one with a row more."""
+    for count in (32, 33):
+        points = ", ".join(f"P{i}" for i in range(count))
+        pairs = " ".join(f"P{i} <= P{i + 1};" for i in range(count - 1))
+        text = f"lattice point {points}; {pairs} endlattice\nmodule m(input {{P0}} a, output {{P31}} y); assign y = a & a; endmodule\n"
+        check(f"{count} points", text, NOT_BUILT if count == 32 else "refused 301 lattice-size 1:1", folder)
+    for keys, wanted in ((range(256), NOT_BUILT), (range(255), "refused 308 map-hole 1:10 D"), ([*range(256), 7], "refused 307 map-row 1:10 D"),
+                         ([*range(255), 256], "refused 307 map-row 1:10 D")):
+        rows = " ".join(f"{key}: {'H' if key % 2 else 'L'};" for key in keys)
+        text = f"labelmap D [7:0] {rows} endlabelmap\nmodule m(input [7:0] s, input {{D(s)}} a, output {{H}} y); assign y = a; endmodule\n"
+        check(f"a map of {len(keys)} rows, the last of {list(keys)[-1]}", text, wanted, folder)
+
+
+def main():
+    # the first run builds the program, which takes more than a run may
+    subprocess.run([SECV, "--version"], stdout=subprocess.DEVNULL, check=True)
+    with tempfile.TemporaryDirectory() as folder:
+        for group in (signals, instances, astronomical, labels):
+            group(folder)
+    print(f"{passed} passed, {failed} failed")
+    sys.exit(1 if failed else 0)
+
+
+main()

@@ -1,9 +1,10 @@
 #!/bin/sh
-# Times `secv check` on texts of 1/8, 1/4, 1/2 and the whole of the size limit, in four mixtures: expressions, nested statements,
-# declarations and instances. Prints a table of times and greatest memory, with the ratio of the last two times (asked: at most 2.2);
-# then iverilog and yosys on the whole text where they are installed, and secv's time and memory against theirs (asked: at most a
-# tenth of their time, a fifth of iverilog's memory); last, the greatest ratio of the last two times. Memory is the greatest resident
-# size that GNU time tells (`/usr/bin/time`). Texts pass the grammar, so what is timed is reading and the search for the first form.
+# Times `secv check` on texts of 1/8, 1/4, 1/2 and the whole of the size limit, in five mixtures: expressions, nested statements,
+# declarations, instances, and hierarchies at the limits of instances and signals. Prints a table of times and greatest memory, with
+# the ratio of the last two times (asked: at most 2.2); then iverilog and yosys on the whole text where they are installed, and secv's
+# time and memory against theirs (asked: at most a tenth of their time, a fifth of iverilog's memory; of hierarchies a quarter of
+# iverilog's time); last, the greatest ratio of the last two times. Memory is the greatest resident size that GNU time tells
+# (`/usr/bin/time`).
 set -eu
 if ! [ -x /usr/bin/time ]; then
     echo "front.sh: GNU time is missing; on Debian and Ubuntu it is the package 'time'" >&2
@@ -90,12 +91,27 @@ def declarations(draw, size):
 
 def instances(draw, size):
     """Modules that stand in one another, with overrides and links."""
-    yield "module cell #(parameter N = 1) (input [7:0] a, b, output [7:0] y); assign y = a + b; endmodule\nmodule m(input [7:0] a, b);\n"
+    yield "module adder #(parameter N = 1) (input [7:0] a, b, output [7:0] y); assign y = a + b; endmodule\nmodule m(input [7:0] a, b);\n"
     made, count = 0, 0
     while made < size:
-        line = f"  wire [7:0] w{count}; cell #(.N({draw.randrange(9)})) u{count}(.a(a), .b({expression(draw, ['a', 'b'], 3)}), .y(w{count}));\n"
+        line = f"  wire [7:0] w{count}; adder #(.N({draw.randrange(9)})) u{count}(.a(a), .b({expression(draw, ['a', 'b'], 3)}), .y(w{count}));\n"
         made += len(line)
         count += 1
+        yield line
+    yield "endmodule\n"
+
+
+def hierarchies(draw, size):
+    """Instances of one module, as many for the size as the limits allow for a megabyte: 1,024 with the top, and 4,096 signals."""
+    count = size * 1023 // LIMIT
+    yield "module adder #(parameter N = 1) (input [7:0] a, b, output [7:0] y); assign y = a + b + N; endmodule\n"
+    yield "module m(input [7:0] a, b);\n"
+    made = 0
+    for i in range(count):
+        names = ["a", "b", *[f"w{k}" for k in range(max(0, i - 8), i)]]
+        tokens = max(3, (size * (i + 1) // count - made) // 8)
+        line = f"  wire [7:0] w{i}; adder #(.N({draw.randrange(9)})) u{i}(.a({draw.choice(names)}), .b({expression(draw, names, min(tokens, 200))}), .y(w{i}));\n"
+        made += len(line)
         yield line
     yield "endmodule\n"
 
@@ -111,10 +127,12 @@ def text(mixture, size):
 
 
 def run(words, statuses):
-    """The least time of five runs, in seconds, and the greatest resident memory, in MB."""
+    """The least time of five runs, or of one that takes over 5 seconds, and the greatest resident memory, in MB."""
     best, most = None, 0
     told = os.path.join(work, "told")
     for _ in range(5):
+        if best is not None and best > 5:
+            break
         start = time.perf_counter()
         child = subprocess.run(["/usr/bin/time", "-v", "-o", told, *words], stdout=subprocess.DEVNULL, stderr=subprocess.DEVNULL)
         took = time.perf_counter() - start
@@ -127,9 +145,14 @@ def run(words, statuses):
     return best, most
 
 
-others = [("iverilog", ["iverilog", "-t", "null", "-o", "/dev/null"]), ("yosys", ["yosys", "-q", "-p"])]
+def others(mixture, file):
+    """The other tools' names and words: for hierarchies they elaborate too."""
+    passes = "; hierarchy -top m; proc; flatten" if mixture is hierarchies else ""
+    return [("iverilog", ["iverilog", "-t", "null", "-o", "/dev/null", file]), ("yosys", ["yosys", "-q", "-p", f"read_verilog {file}{passes}"])]
+
+
 worst = 0
-for mixture in (expressions, statements, declarations, instances):
+for mixture in (expressions, statements, declarations, instances, hierarchies):
     print(f"{mixture.__name__}\n{'bytes':>10} {'seconds':>9} {'MB':>7} {'ratio':>6}")
     before = None
     for part in (8, 4, 2, 1):
@@ -143,10 +166,9 @@ for mixture in (expressions, statements, declarations, instances):
         last = None if before is None else seconds / before
         before = seconds
     worst = max(worst, last)
-    for name, words in others:
+    for name, words in others(mixture, file):
         if shutil.which(name):
-            command = [*words, file] if name == "iverilog" else [*words, f"read_verilog {file}"]
-            other_seconds, other_memory = run(command, range(0, 256))
+            other_seconds, other_memory = run(words, range(0, 256))
             print(f"{name:>10} {other_seconds:>9.4f} {other_memory:>7.1f}   secv: {seconds / other_seconds:.3f} of its time, {memory / other_memory:.3f} of its memory")
 print(f"{worst:.2f}")
 PY

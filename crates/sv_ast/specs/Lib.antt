@@ -19,3 +19,4 @@ pub mod ClockPaths
 pub mod Processes
 pub mod SourceLabels
 pub mod Meaning
+pub mod TextSystem

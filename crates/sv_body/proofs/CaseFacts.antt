@@ -3,7 +3,7 @@ use Rattle.std.proofs.Common.{◌≡◌, ℕ, max, Bool, true, false, List, [], 
 use Rattle.std.proofs.Common.{◌∙◌, arith}
 use Rattle.std.specs.Prelude.{◌&&◌, Ok, Err}
 use Rattle.sv_ast.specs.Tree.{ExpressionTree, ArmTrees, no_arms, more_arms}
-use Rattle.sv_ast.specs.Values.{length_of, sign_of}
+use Rattle.sv_ast.specs.Values.{sign_of}
 use Rattle.sv_walk.specs.Walks.{Step, done, value_or}
 use Rattle.sv_walk.specs.Names.{Names}
 use Rattle.sv_walk.specs.ExpressionSteps.{asked}
@@ -13,27 +13,12 @@ use Rattle.sv_walk.proofs.WalkLemmas.{end_after, end_broken}
 
 -- ---- one item
 
-pub passed_length : (names : Names) (e : ExpressionTree) → (asked names true e).end ≡ Ok tt
-    → item_length names e ≡ length_of names.scope e
-unfolding item_length
-passed_length names e h =
-    ap (λ r. value_or r 0) (end_after (asked names true e) (λ _.
-    done (length_of names.scope e)) tt h)
-
 pub passed_sign : (names : Names) (e : ExpressionTree) → (asked names true e).end ≡ Ok tt
     → item_sign names e ≡ sign_of names.scope e
 unfolding item_sign
 passed_sign names e h =
     ap (λ r. value_or r true) (end_after (asked names true e) (λ _.
     done (sign_of names.scope e)) tt h)
-
-pub broken_length : (names : Names) (e : ExpressionTree) (s : Step)
-    → (asked names true e).end ≡ Err s
-    → item_length names e ≡ 0
-unfolding item_length
-broken_length names e s h =
-    ap (λ r. value_or r 0) (end_broken (asked names true e) (λ _.
-    done (length_of names.scope e)) s h)
 
 pub broken_sign : (names : Names) (e : ExpressionTree) (s : Step) → (asked names true e).end ≡ Err s
     → item_sign names e ≡ true

@@ -12,7 +12,8 @@ use Rattle.sv_width.specs.Operands.{IsOperandOf, own_width, own_sign}
 use Rattle.sv_body.specs.declared.cases.Item.{Item}
 use Rattle.sv_body.specs.Cases.{item_tree, item_trees, IsBroken, IsItem, AreItems, greatest}
 use Rattle.sv_body.specs.Cases.{all_signed}
-use Rattle.sv_body.proofs.CaseFacts.{passed_length, passed_sign, broken_length, broken_sign}
+use Rattle.sv_width.proofs.SoundStatements.{passed_length, broken_length}
+use Rattle.sv_body.proofs.CaseFacts.{passed_sign, broken_sign}
 
 -- ---- lengths and signs
 

@@ -1,6 +1,6 @@
 pub mod TargetFacts
 pub mod CaseFacts
-pub mod SoundFacts
+pub mod StatementLengths
 pub mod ChainFacts
 pub mod CompleteFacts
 pub mod ItemFacts

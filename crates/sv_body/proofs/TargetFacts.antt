@@ -1,17 +1,17 @@
 -- What targets are asked, and the pieces that they get.
 use Rattle.std.proofs.Common.{◌≡◌, ℕ, ◌+◌, ◌-◌, ◌<◌, ◌≤◌, Bool, true, false, List, [], ◌∷◌, map}
-use Rattle.std.proofs.Common.{Option, Some, None, refl, sym, ap, ◌∙◌, subst, arith}
-use Rattle.std.specs.Prelude.{nat_le, IsTrue, Ok, Err, ℤ, pos, negsuc}
-use Rattle.std.proofs.lemmas.Bool.{ltb-true, le-leb}
+use Rattle.std.proofs.Common.{refl, sym, ap, ◌∙◌, arith}
+use Rattle.std.specs.Prelude.{nat_le, IsTrue, Ok, Err}
+use Rattle.std.proofs.lemmas.Bool.{le-leb}
 use Rattle.sv_num.specs.declared.faults.Place.{Place}
 use Rattle.sv_num.specs.declared.faults.Fault.{Fault}
 use Rattle.sv_num.specs.Parts.{span_of}
 use Rattle.sv_num.specs.declared.vectors.Bits.{Bits}
 use Rattle.sv_num.specs.Vectors.{as_number, number_of as whole_number_of}
-use Rattle.sv_ast.specs.Scopes.{Scope, Number, Binding, parameter, signal, width_of}
+use Rattle.sv_ast.specs.Scopes.{Number, signal, width_of}
 use Rattle.sv_ast.specs.Tree.{ExpressionTree, Selection, whole, bit_at, part_from, TargetTree}
 use Rattle.sv_ast.specs.Instances.{is_signal}
-use Rattle.sv_ast.specs.Values.{natural, length_of, joined_length, whole_number, constant_of}
+use Rattle.sv_ast.specs.Values.{natural, whole_number, constant_of}
 use Rattle.sv_ast.specs.Runs.{selected, target_width, targets_width}
 use Rattle.sv_flat.specs.Design.{TypedTree, PieceForm, assign}
 use Rattle.sv_walk.specs.Walks.{Step, Steps, ask, each}
@@ -21,72 +21,17 @@ use Rattle.sv_walk.specs.ExpressionSteps.{is_below, is_part, asked, own_divisors
 use Rattle.sv_walk.specs.ExpressionSteps.{expression_walk}
 use Rattle.sv_walk.specs.Targets.{highest, lowest, selection_steps, target_steps, targets_steps}
 use Rattle.sv_walk.specs.Targets.{pieces_of, assignment_walk}
-use Rattle.sv_walk.proofs.WalkLemmas.{end_after, end_broken, parts_done, asked_true}
-use Rattle.sv_width.specs.Agreement.{HaveLengths, IsLength}
+use Rattle.sv_walk.proofs.WalkLemmas.{end_after, end_broken, parts_done}
+use Rattle.sv_width.specs.Agreement.{HaveLengths}
 use Rattle.sv_width.specs.Answers.{IsBreach}
 use Rattle.sv_width.specs.Scopes.{number_of as number_in}
-use Rattle.sv_width.proofs.Sound.{both_pass}
-use Rattle.sv_width.proofs.Lengths.{part_inside}
+use Rattle.sv_width.proofs.SoundStatements.{IsRange, range_of, target_passes}
+use Rattle.sv_width.proofs.SoundStatements.{each_parts}
 use Rattle.sv_width.proofs.Measures.{breach_first, breach_after, passes_on}
 use Rattle.sv_body.specs.declared.parts.Part.{Part}
 use Rattle.sv_body.specs.Targets.{IsSelected, piece_at, target_piece, AreParts, parts_width, placed}
 
 -- ---- selections
-
-pub signal_there : (b : Option Binding) → is_signal b ≡ true
-    → (width : ℕ) × (signed : Bool) × (b ≡ Some (signal width signed))
-signal_there (Some (signal width signed)) h = (width, signed, refl)
-signal_there (Some (parameter n)) h = absurd (cc h)
-signal_there None h = absurd (cc h)
-
-signal_length : (scope : Scope) → HaveLengths scope → (n : List ℕ) → is_signal (scope n) ≡ true
-    → IsLength (width_of (scope n))
-signal_length scope lengths n h =
-    let there = signal_there (scope n) h in
-    subst (λ (b : Option Binding).
-    IsLength (width_of b)) (sym there.2) (lengths n (signal there.0 there.1) there.2)
-
-pub below_natural : (limit : ℕ) (z : ℤ) → is_below limit z ≡ true → natural z < limit
-below_natural limit (pos n) h = ltb-true n limit h
-below_natural limit (negsuc n) h = absurd (cc h)
-
--- the bits of a selection lie inside the signal, and are as many as the selected expression has
-abbrev pub IsRange : Names → List ℕ → Place → Selection → Type 0
-IsRange names n p sel =
-    (highest names.scope (width_of (names.scope n)) sel < width_of (names.scope n))
-    × (lowest names.scope sel ≤ highest names.scope (width_of (names.scope n)) sel)
-    × (span_of (highest names.scope (width_of (names.scope n)) sel) (lowest names.scope sel)
-    ≡ length_of names.scope (selected n p sel))
-
-pub range_of : (names : Names) → HaveLengths names.scope
-    → (n : List ℕ) (p : Place) (sel : Selection)
-    → is_signal (names.scope n) ≡ true → (selection_steps names n p sel).end ≡ Ok tt
-    → IsRange names n p sel
-unfolding selection_steps length_of joined_length
-range_of names lengths n p whole h passes =
-    let long = signal_length names.scope lengths n h in
-    (omega (arith, long.0), omega arith, omega (arith, long.0))
-range_of names lengths n p (bit_at i) h passes =
-    let parts = parts_done (constant_walk names i) _ tt passes in
-    let test = asked_true _ _ parts.2 in
-    let inside = below_natural (width_of (names.scope n)) (whole_number names.scope i) test in
-    (inside, omega arith, omega arith)
-range_of names lengths n p (part_from high low) h passes =
-    let first = parts_done (constant_walk names high) _ tt passes in
-    let second = parts_done (constant_walk names low) _ tt first.2 in
-    let test = asked_true _ _ second.2 in
-    let inside = part_inside (width_of (names.scope n)) (whole_number names.scope high)
-    (whole_number names.scope low) test in
-    (inside.0, inside.1, refl)
-
-pub target_passes : (names : Names) (t : TargetTree) → (target_steps names t).end ≡ Ok tt
-    → (is_signal (names.scope t.name) ≡ true)
-    × ((selection_steps names t.name t.place t.selection).end ≡ Ok tt)
-unfolding target_steps
-target_passes names t h =
-    let both = both_pass (ask (is_signal (names.scope t.name)) _) (λ _.
-    selection_steps names t.name t.place t.selection) h in
-    (asked_true _ _ both.0, both.1)
 
 target_range : (names : Names) → HaveLengths names.scope → (t : TargetTree)
     → (target_steps names t).end ≡ Ok tt
@@ -299,12 +244,6 @@ module _ (names : Names) (n : List ℕ) (p : Place) (width : ℕ)
       ∙ outside)
 
 -- ---- some things, one after the other
-
-pub each_parts : {X : Type 0} (step : X → Steps) (x : X) (xs : List X)
-    → (each step (x ∷ xs)).end ≡ Ok tt
-    → ((step x).end ≡ Ok tt) × ((each step xs).end ≡ Ok tt)
-unfolding each
-each_parts step x xs h = both_pass (step x) (λ _. each step xs) h
 
 pub each_none : {X : Type 0} (step : X → Steps) → (each step []).end ≡ Ok tt
 unfolding each

@@ -24,7 +24,7 @@ use Rattle.sv_flat.specs.Processes.{signals_that}
 use Rattle.sv_flat.specs.Readings.{readings, no_bits, is_followed}
 use Rattle.sv_flat.specs.Soundness.{well_formed, piece_fits, statement_sound}
 use Rattle.sv_flat.specs.Values.{signal_width}
-use Rattle.sv_flat.proofs.BlockFacts.{followed_is_assigned}
+use Rattle.sv_flat.proofs.BlockFacts.{can_is_assigned, followed_is_assigned}
 use Rattle.sv_flat.proofs.AdmittedFacts.{none_in, and_true, assigned_is_signal}
 use Rattle.sv_flat.proofs.Depths.{first_of, second_of, from_all}
 use Rattle.sv_flat.proofs.LeastSets.{either_way, or_cases, range_has, some_from, from_some}
@@ -43,26 +43,6 @@ use Rattle.sv_design.proofs.EntryFacts.{key_test, nothing_in}
 use Rattle.sv_design.proofs.Firsts.{finds_both}
 use Rattle.sv_design.proofs.PhaseFacts.{in_range}
 use Rattle.sv_design.proofs.Sound.{piece_has_bits}
-
--- ---- what follows a read
-
-pub can_is_assigned : (body : FlatStatement) (s b : ℕ) → IsTrue (can_assign body s b) →
-    IsTrue (assigns body s)
-can_is_assigned nothing s b h = absurd (false≢true h)
-can_is_assigned (after first second) s b h = ⊎_elim
-    (λ l. or_left (assigns first s) (assigns second s) (can_is_assigned first s b l))
-    (λ r. or_right (assigns first s) (assigns second s) (can_is_assigned second s b r))
-    (or_cases (can_assign first s b) (can_assign second s b) h)
-can_is_assigned (assign pieces place blocking right) s b h =
-    let found = from_some (has_bit s b) pieces h in
-    let p = found.0 in
-    some_from (λ (q : PieceForm). q.signal == s) pieces p found.1
-    (first_of (p.signal == s) (nat_le p.low b)
-    (first_of ((p.signal == s) && nat_le p.low b) (nat_le b p.high) found.2))
-can_is_assigned (branch place condition first second) s b h = ⊎_elim
-    (λ l. or_left (assigns first s) (assigns second s) (can_is_assigned first s b l))
-    (λ r. or_right (assigns first s) (assigns second s) (can_is_assigned second s b r))
-    (or_cases (can_assign first s b) (can_assign second s b) h)
 
 -- ---- signals that a block assigns
 

@@ -15,7 +15,6 @@ use Rattle.sv_flat.specs.Loops.{HasReadOrder}
 use Rattle.sv_flat.specs.Processes.{signals_that}
 use Rattle.sv_flat.specs.Reads.{is_combinational, is_read_for, reads_for}
 use Rattle.sv_flat.specs.Sets.{holds, least_set}
-use Rattle.sv_flat.specs.Soundness.{sound}
 use Rattle.sv_flat.proofs.AdmittedFacts.{and_true}
 use Rattle.sv_flat.proofs.Depths.{first_of, second_of, is_below}
 use Rattle.sv_flat.proofs.LeastSets.{either_way, holds-from_Contains, Contains-from_holds}
@@ -468,9 +467,8 @@ module _ (design : FlatDesign) where
         (only_before (s ∷ first) signals before.1)
 
   -- where no signals read each other in a circle, there is an order of reads
-  pub no_circle_has_order : IsTrue (sound design) → ((b : Breach) → IsLoop design b → ⊥)
-      → HasReadOrder design
-  no_circle_has_order is_sound none =
+  pub no_circle_has_order : ((b : Breach) → IsLoop design b → ⊥) → HasReadOrder design
+  no_circle_has_order none =
       let found = ordered_from none n 0 (omega arith) in (
         found.0,
         and_true (list_all (holds found.0) (signals_that design comb))

@@ -21,3 +21,4 @@ pub mod ClockFacts
 pub mod FlatScheduled
 pub mod BlockFacts
 pub mod RunsFit
+pub mod SameUpdates

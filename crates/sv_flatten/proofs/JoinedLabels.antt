@@ -63,7 +63,7 @@ use Rattle.sv_flatten.proofs.JoinedRuns.{to_name, values_fit}
 use Rattle.sv_flatten.proofs.JoinedLattice.{IsPointNumber, position_found}
 use Rattle.sv_flatten.proofs.JoinedMaps.{IsMapOf, maps_done, same_places, SecondFits}
 use Rattle.sv_flatten.proofs.JoinedMaps.{selected_value, same_row}
-use Rattle.sv_flatten.specs.TextSystem.{text_clocks}
+use Rattle.sv_ast.specs.TextSystem.{text_clocks}
 
 mapped_place : {X : Type 0} (name : X → List ℕ) (test : List ℕ → Bool) (xs : List X)
     → position_or_len (λ x. test (name x)) xs ≡ position_or_len test (map name xs)

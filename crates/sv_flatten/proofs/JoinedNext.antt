@@ -30,7 +30,7 @@ use Rattle.sv_flat.proofs.AdmittedFacts.{is_process, body_is_sound, assigned_is_
 use Rattle.sv_flat.proofs.AdmittedFacts.{assigns_no_clock, some_width}
 use Rattle.sv_flat.proofs.ClockFacts.{reads_no_clock}
 use Rattle.sv_flat.proofs.ReadSignals.{readings_signals}
-use Rattle.sv_flatten.specs.TextSystem.{text_clocks}
+use Rattle.sv_ast.specs.TextSystem.{text_clocks}
 use Rattle.sv_flatten.specs.SameStates.{by_number}
 use Rattle.sv_flatten.proofs.PartsLists.{zip_right, contains_get}
 use Rattle.sv_flatten.proofs.PartsGrown.{IsBody, IsFlat, number_of_name}
@@ -44,7 +44,7 @@ use Rattle.sv_flatten.proofs.JoinedRuns.{source_processes, source_system, path_t
 use Rattle.sv_flatten.proofs.JoinedRuns.{numbered_values, path_no_clock, numbered_same}
 use Rattle.sv_flatten.proofs.JoinedRuns.{numbering, have_values, values_fit, to_name}
 use Rattle.sv_flatten.proofs.JoinedOver.{same_place, link_unclocked}
-use Rattle.sv_flatten.proofs.JoinedAgree.{run_alike}
+use Rattle.sv_flat.proofs.SameUpdates.{run_alike}
 use Rattle.sv_flatten.proofs.StatementsSame.{body_same}
 
 flat_map_same : {X Y : Type 0} (f g : X → List Y) (xs : List X) →

@@ -40,7 +40,7 @@ use Rattle.sv_flat.proofs.AdmittedFacts.{is_process, no_clock_link, body_is_soun
 use Rattle.sv_flat.proofs.AdmittedFacts.{assigned_is_signal, assigns_no_clock}
 use Rattle.sv_flat.proofs.FlatScheduled.{in_processes, unclocked}
 use Rattle.sv_walk.specs.Links.{port_number, port_width}
-use Rattle.sv_flatten.specs.TextSystem.{text_clocks, unclocked as unclocked_run}
+use Rattle.sv_ast.specs.TextSystem.{text_clocks, unclocked as unclocked_run}
 use Rattle.sv_flatten.proofs.PartsLists.{zip_left, zip_right, get_contains, contains_get}
 use Rattle.sv_flatten.proofs.PartsNamed.{to_filter_map, from_filter_map}
 use Rattle.sv_flatten.proofs.PartsGrown.{IsLink, IsFlat}

@@ -42,7 +42,7 @@ use Rattle.sv_walk.specs.Names.{Names}
 use Rattle.sv_width.specs.Agreement.{HaveValues, HaveSignals}
 use Rattle.sv_flatten.specs.Numbering.{IsNumbering}
 use Rattle.sv_flatten.specs.SameStates.{ValuesFit}
-use Rattle.sv_flatten.specs.TextSystem.{text_clocks, without_clocks, unclocked, seeing_no_clock}
+use Rattle.sv_ast.specs.TextSystem.{text_clocks, without_clocks, unclocked, seeing_no_clock}
 use Rattle.sv_ast.proofs.PathNames.{name_in-itself, path_of-name_in}
 use Rattle.sv_ast.proofs.RunFrames.{run_keeps}
 use Rattle.sv_flatten.proofs.PartsLists.{get_contains, contains_get}

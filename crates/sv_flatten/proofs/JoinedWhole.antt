@@ -9,7 +9,7 @@ use Rattle.sv_lattice.specs.declared.points.Point.{Point}
 use Rattle.sv_ast.specs.Tree.{TextTree}
 use Rattle.sv_ast.specs.Parts.{Path, signal_path}
 use Rattle.sv_ast.specs.Meaning.{label_in, is_top_input, is_register, system}
-use Rattle.sv_flatten.specs.TextSystem.{text_system}
+use Rattle.sv_ast.specs.TextSystem.{text_system}
 use Rattle.sv_flat.specs.Design.{FlatDesign}
 use Rattle.sv_flat.specs.Admission.{IsAdmitted}
 use Rattle.sv_flat.specs.Soundness.{sound}

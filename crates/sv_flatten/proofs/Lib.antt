@@ -33,7 +33,6 @@ pub mod JoinedNumbers
 pub mod JoinedRegisters
 pub mod JoinedRuns
 pub mod JoinedOver
-pub mod JoinedAgree
 pub mod JoinedNext
 pub mod JoinedWhole
 pub mod JoinedLattice
@@ -41,7 +40,6 @@ pub mod JoinedMaps
 pub mod JoinedLabels
 pub mod LatticeTests
 pub mod JoinedLeast
-pub mod SoundStatements
 pub mod SoundLabels
 pub mod SoundProcesses
 pub mod SoundSources

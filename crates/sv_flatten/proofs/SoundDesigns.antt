@@ -24,7 +24,7 @@ use Rattle.sv_walk.specs.Texts.{module_names, top_walk, tables_of, design_of, wa
 use Rattle.sv_walk.proofs.WalkLemmas.{parts_done, found_some}
 use Rattle.sv_width.specs.Agreement.{HaveLengths}
 use Rattle.sv_flatten.proofs.PartsShapes.{IsFlattened}
-use Rattle.sv_flatten.specs.WrittenLengths.{TextHasLengths}
+use Rattle.sv_width.specs.WrittenLengths.{TextHasLengths}
 use Rattle.sv_flatten.proofs.PartsDeclared.{same_ok}
 use Rattle.sv_flatten.proofs.PartsNamed.{IsSound}
 use Rattle.sv_flatten.proofs.PartsTexts.{side_by_side, value_is, top_listed}

@@ -22,7 +22,7 @@ use Rattle.sv_walk.proofs.WalkLemmas.{parts_done}
 use Rattle.sv_width.specs.Agreement.{HaveLengths, IsLength}
 use Rattle.sv_width.proofs.Sound.{passed_sound}
 use Rattle.sv_width.proofs.Lengths.{own_length}
-use Rattle.sv_flatten.specs.WrittenLengths.{OverridesHaveLengths}
+use Rattle.sv_width.specs.WrittenLengths.{OverridesHaveLengths}
 use Rattle.sv_flatten.proofs.PartsBindings.{last_entry}
 use Rattle.sv_flatten.proofs.PartsDeclared.{same_ok, constant_done, range_length}
 use Rattle.sv_flatten.proofs.SoundSources.{IsMeasured}

@@ -29,7 +29,7 @@ use Rattle.sv_walk.specs.InstanceSteps.{items_from, module_walk, site_walk}
 use Rattle.sv_walk.proofs.WalkLemmas.{parts_done, found_some}
 use Rattle.sv_width.specs.Agreement.{HaveLengths}
 use Rattle.sv_flatten.proofs.PartsShapes.{IsFlattenedModule}
-use Rattle.sv_flatten.specs.WrittenLengths.{ModuleHasLengths}
+use Rattle.sv_width.specs.WrittenLengths.{ModuleHasLengths}
 use Rattle.sv_flatten.proofs.PartsLists.{contains_either}
 use Rattle.sv_flatten.proofs.PartsDeclared.{walked}
 use Rattle.sv_flatten.proofs.PartsOverrides.{overrides_done, overrides_open}

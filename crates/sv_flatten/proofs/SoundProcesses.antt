@@ -28,7 +28,7 @@ use Rattle.sv_walk.specs.Links.{port_number, port_width, port_value, whole_assig
 use Rattle.sv_walk.proofs.WalkLemmas.{parts_done}
 use Rattle.sv_width.specs.Agreement.{HaveLengths, IsLength, NumbersHaveLengths}
 use Rattle.sv_width.proofs.Sound.{both_pass}
-use Rattle.sv_flatten.specs.WrittenLengths.{StatementHasLengths}
+use Rattle.sv_width.specs.WrittenLengths.{StatementHasLengths}
 use Rattle.sv_flatten.proofs.PartsLists.{zip_right, contains_get, get_contains}
 use Rattle.sv_flatten.proofs.PartsNamed.{IsNamed, to_filter_map}
 use Rattle.sv_flatten.proofs.PartsGrown.{KindFits, IsBody, IsLink, IsFlat, IsNoLink, IsNumberOf}
@@ -38,7 +38,7 @@ use Rattle.sv_flatten.proofs.JoinedLinks.{IsInput, IsOutput, link_is, port_is_si
 use Rattle.sv_flatten.proofs.JoinedLinks.{outer_numbered}
 use Rattle.sv_flatten.proofs.JoinedClocks.{number_below}
 use Rattle.sv_flatten.proofs.JoinedRuns.{have_signals}
-use Rattle.sv_flatten.proofs.SoundStatements.{expression_sound, pieces_whole, sound_of}
+use Rattle.sv_width.proofs.SoundStatements.{expression_sound, pieces_whole, sound_of}
 use Rattle.sv_flatten.proofs.SoundLabels.{all_from}
 
 -- the numbers that a process of the source has written have lengths, and its link is shaped

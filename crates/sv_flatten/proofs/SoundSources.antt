@@ -23,8 +23,8 @@ use Rattle.sv_ast.specs.Processes.{Process, combinational, clocked, linking, com
 use Rattle.sv_ast.specs.Processes.{clocked_body, own_processes, item_processes, processes_from}
 use Rattle.sv_flat.proofs.Depths.{from_all}
 use Rattle.sv_width.specs.Agreement.{NumbersHaveLengths}
-use Rattle.sv_flatten.specs.WrittenLengths.{ValueHasLengths, LinksHaveLengths, ItemHasLengths}
-use Rattle.sv_flatten.specs.WrittenLengths.{ModuleHasLengths}
+use Rattle.sv_width.specs.WrittenLengths.{ValueHasLengths, LinksHaveLengths, ItemHasLengths}
+use Rattle.sv_width.specs.WrittenLengths.{ModuleHasLengths}
 use Rattle.sv_flatten.proofs.PartsLists.{contains_right, contains_either, get_contains}
 use Rattle.sv_flatten.proofs.PartsNamed.{from_filter_map, found_place}
 use Rattle.sv_flatten.proofs.PartsPaths.{from_flat_map}

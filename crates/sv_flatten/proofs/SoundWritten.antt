@@ -23,10 +23,10 @@ use Rattle.sv_ast.specs.Views.{text_tree}
 use Rattle.sv_width.specs.Agreement.{NumbersHaveLengths}
 use Rattle.sv_width.proofs.Ends.{expression_lengths}
 use Rattle.sv_flatten.specs.FlattenedTexts.{ItemNumbersFit, EachItem}
-use Rattle.sv_flatten.specs.WrittenLengths.{ItemsHaveLengths, StatementHasLengths}
-use Rattle.sv_flatten.specs.WrittenLengths.{StatementsHaveLengths, ArmsHaveLengths, AllHaveLengths}
-use Rattle.sv_flatten.specs.WrittenLengths.{ValueHasLengths, OverridesHaveLengths, LinksHaveLengths}
-use Rattle.sv_flatten.specs.WrittenLengths.{ItemHasLengths, ModuleHasLengths, TextHasLengths}
+use Rattle.sv_width.specs.WrittenLengths.{ItemsHaveLengths, StatementHasLengths}
+use Rattle.sv_width.specs.WrittenLengths.{StatementsHaveLengths, ArmsHaveLengths, AllHaveLengths}
+use Rattle.sv_width.specs.WrittenLengths.{ValueHasLengths, OverridesHaveLengths, LinksHaveLengths}
+use Rattle.sv_width.specs.WrittenLengths.{ItemHasLengths, ModuleHasLengths, TextHasLengths}
 use Rattle.sv_flatten.proofs.PartsLists.{contains_either}
 use Rattle.sv_flatten.proofs.WrittenNumbers.{selectors_fit}
 

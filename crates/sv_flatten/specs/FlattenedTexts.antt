@@ -3,7 +3,7 @@ use Rattle.std.specs.Prelude.{ℕ, IsTrue, List, Option, Contains}
 use Rattle.sv_ast.specs.Tree.{ItemTree, released, always_item, ModuleTree, TextTree}
 use Rattle.sv_ast.specs.Shape.{is_shaped}
 use Rattle.sv_flatten.specs.Numbers.{SelectorsFit}
-use Rattle.sv_flatten.specs.WrittenLengths.{TextHasLengths}
+use Rattle.sv_width.specs.WrittenLengths.{TextHasLengths}
 
 -- the item releases no value: such texts are refused before the walk
 abbrev pub ReleasesNothing : ItemTree → Type 0

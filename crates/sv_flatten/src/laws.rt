@@ -9,7 +9,7 @@ ghost use Rattle.sv_flat.specs.Design.{FlatDesign};
 ghost use Rattle.sv_flat.specs.FlatSystem.{flat_system};
 ghost use Rattle.sv_walk.specs.Texts.{flat_of};
 ghost use Rattle.sv_flatten.specs.FlattenedTexts.{CanBeFlattened};
-ghost use Rattle.sv_flatten.specs.TextSystem.{text_system};
+ghost use Rattle.sv_ast.specs.TextSystem.{text_system};
 
 /// The cycle system of a text and that of the flat design that it stands for are the same under
 /// other names of signals: by paths in the one, by numbers in the other. The design is admitted;

@@ -8,7 +8,7 @@ ghost use Rattle.sv_flat.specs.Design.{FlatDesign};
 ghost use Rattle.sv_flat.specs.Soundness.{sound};
 ghost use Rattle.sv_walk.specs.Texts.{flat_of};
 ghost use Rattle.sv_flatten.specs.FlattenedTexts.{ReleasesNothing, ItemNumbersFit, EachItem};
-ghost use Rattle.sv_flatten.specs.WrittenLengths.{TextHasLengths};
+ghost use Rattle.sv_width.specs.WrittenLengths.{TextHasLengths};
 
 /// The numbers that are written in a text have 1 to 64 bits and, where they select a case, fit them
 /// (IEEE 1364-2005, clause 3.5.1).

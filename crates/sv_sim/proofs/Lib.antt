@@ -6,5 +6,4 @@ pub mod GivenValues
 pub mod InOrder
 pub mod NextValues
 pub mod OneDesign
-pub mod SameUpdates
 pub mod Simulated

@@ -24,7 +24,7 @@ use Rattle.sv_flat.proofs.LeastSets.{those_below}
 use Rattle.sv_flat.proofs.LeastSets.{those_pass}
 use Rattle.sv_flat.proofs.ReadSignals.{readings_signals}
 use Rattle.sv_flat.proofs.RunsFit.{AllFit, edge_fits}
-use Rattle.sv_sim.proofs.SameUpdates.{run_alike}
+use Rattle.sv_flat.proofs.SameUpdates.{run_alike}
 
 flat_map_same : {X Y : Type 0} (f g : X → List Y) (xs : List X) →
     ((x : X) → Contains xs x → f x ≡ g x) → flat_map f xs ≡ flat_map g xs

@@ -13,7 +13,7 @@ ghost use Rattle.sv_flat.specs.Admission.{IsAdmitted};
 ghost use Rattle.sv_flat.specs.Design.{FlatDesign};
 ghost use Rattle.sv_walk.specs.Texts.{flat_of};
 ghost use Rattle.sv_flatten.specs.FlattenedTexts.{CanBeFlattened};
-ghost use Rattle.sv_flatten.specs.TextSystem.{text_system};
+ghost use Rattle.sv_ast.specs.TextSystem.{text_system};
 ghost use Rattle.sv_obl.specs.Noninterference.{IsChecked};
 ghost use Rattle.sv_obl.specs.Validity.{AllValid};
 

@@ -17,3 +17,4 @@ pub mod Wholes
 pub mod Folds
 pub mod Arms
 pub mod Rest
+pub mod SoundStatements

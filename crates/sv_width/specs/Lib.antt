@@ -7,3 +7,4 @@ pub mod Pushed
 pub mod Views
 pub mod Outcomes
 pub mod Operands
+pub mod WrittenLengths

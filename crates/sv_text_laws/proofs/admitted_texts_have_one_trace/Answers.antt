@@ -1,5 +1,5 @@
 use Rattle.sv_flat.specs.FlatSystem.{flat_system}
-use Rattle.sv_flatten.specs.TextSystem.{text_system}
+use Rattle.sv_ast.specs.TextSystem.{text_system}
 use Rattle.sv_flatten.proofs.JoinedWhole.{flattened_joined}
 use Rattle.sv_flatten.proofs.PartsShapes.{flattened}
 use Rattle.sv_flatten.proofs.SoundDesigns.{design_sound}

@@ -17,7 +17,7 @@ use Rattle.sv_width.proofs.Breaches.{breach_of}
 use Rattle.sv_body.specs.Targets.{parts_width, placed}
 use Rattle.sv_body.proofs.TargetFacts.{parts_have, parts_placed, targets_broken, targets_wide}
 use Rattle.sv_body.proofs.TargetFacts.{value_broken, assigned}
-use Rattle.sv_body.proofs.SoundFacts.{assignment_sound, pieces_whole}
+use Rattle.sv_width.proofs.SoundStatements.{assignment_sound, pieces_whole}
 use Rattle.sv_body.proofs.targets.assignment.Goals as goal
 
 too_many : (n w : ℕ) → w ≡ min n 4294967295 → 64 < w → nat_le n 64 ≡ false

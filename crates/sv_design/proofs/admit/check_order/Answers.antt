@@ -37,5 +37,5 @@ pub returns-in-None-clause-whole : goal.returns-in-None-clause-whole
 returns-in-None-clause-whole c =
     let design = design_of c.args.flat.now in
     whole_of_longest design (numbers c.args.order.now) c.requires.longest
-    (c.requires.longest.longest (no_circle_has_order design c.requires.sound
+    (c.requires.longest.longest (no_circle_has_order design
     (subst (FindsCircle design) c.in-None.is c.in_ok-circle.ensures)))

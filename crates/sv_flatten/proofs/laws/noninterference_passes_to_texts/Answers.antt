@@ -1,4 +1,4 @@
-use Rattle.sv_flatten.specs.TextSystem.{text_system}
+use Rattle.sv_ast.specs.TextSystem.{text_system}
 use Rattle.sv_flat.specs.FlatSystem.{flat_system}
 use Rattle.sv_system.proofs.JoinedViews.{joined_noninterferent}
 use Rattle.sv_flatten.proofs.JoinedWhole.{flattened_joined}

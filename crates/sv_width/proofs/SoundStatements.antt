@@ -43,8 +43,8 @@ use Rattle.sv_width.proofs.Sound.{both_pass, passed_sound}
 use Rattle.sv_width.proofs.SameValue.{type_of_typed}
 use Rattle.sv_width.proofs.Lengths.{own_length, part_inside}
 use Rattle.sv_width.proofs.WellFormed.{typed_formed}
-use Rattle.sv_flatten.specs.WrittenLengths.{ItemsHaveLengths, StatementHasLengths}
-use Rattle.sv_flatten.specs.WrittenLengths.{StatementsHaveLengths, ArmsHaveLengths}
+use Rattle.sv_width.specs.WrittenLengths.{ItemsHaveLengths, StatementHasLengths}
+use Rattle.sv_width.specs.WrittenLengths.{StatementsHaveLengths, ArmsHaveLengths}
 
 -- ---- targets
 

@@ -1,0 +1,161 @@
+#!/bin/sh
+# Admits designs at the limits and runs one of 4,096 signals. First it prints, for three kinds of designs (a chain of wires, one block
+# that assigns every signal in nested branches, one block of many statements), the processor time of admission at 1/4, 1/2 and the
+# whole of the limit, the ratio of the last two (asked: at most 2.3), and that of the whole against a whole run of iverilog on the
+# same text (asked: at most a quarter). Then it prints the cycles in a second of the simulator's core on a design of 4,096 signals, beside those of
+# vvp and of Verilator's program, where they are installed (asked: at least three times vvp's). Last come the greatest ratio of
+# admission and the ratio to vvp.
+set -eu
+top=$(CDPATH='' cd -- "$(dirname -- "$0")/.." && pwd -P)
+work=$(mktemp -d)
+trap 'rm -rf "$work"' EXIT
+cd "$top/crates/simulation_bench"
+mkdir -p out
+rt run <stdin >out/build.log 2>&1 || { cat out/build.log; exit 1; }
+python3 - "$top/crates/simulation_bench/out/simulation_bench" "$work" <<'PY'
+import os, shutil, subprocess, sys, time
+
+program, work = sys.argv[1], sys.argv[2]
+SIGNALS = 4096
+
+
+def chain(size):
+    """Each wire reads the one before it and some others."""
+    count = size - 2
+    yield "module m(input [31:0] a, output [31:0] y);\n"
+    for i in range(count):
+        before = [f"w{i - k}" for k in (1, 2, 3) if i >= k] or ["a"]
+        yield f"  wire [31:0] w{i}; assign w{i} = a + {' ^ '.join(before)};\n"
+    yield f"  assign y = w{count - 1};\nendmodule\n"
+
+
+def branches(size):
+    """One block that gives each signal a value in each branch of a nest of eight."""
+    count = size - 3
+    names = [f"r{i}" for i in range(count)]
+    yield "module m(input [7:0] a, output [7:0] y);\n  reg [7:0] " + ", ".join(names) + ";\n  always @* begin\n"
+    share = count // 8 + 1
+    for depth in range(8):
+        for name in names[depth * share:(depth + 1) * share]:
+            yield f"{name} = a;\n"
+        yield f"if (a[{depth}]) begin\n"
+        for name in names[depth * share:(depth + 1) * share]:
+            yield f"{name} = a + {depth};\n"
+        yield "end else begin\n"
+    yield "end " * 8 + f"end\n  assign y = r{count - 1};\nendmodule\n"
+
+
+def statements(size):
+    """One block of many statements over few signals: as many as a hundred thousand at the whole of the limit."""
+    yield "module m(input a, output y);\n  reg p, q;\n  always @* begin p=a;q=a;\n"
+    for i in range(size * 100000 // SIGNALS):
+        yield "p=q;\n" if i % 2 else "q=p;\n"
+    yield "end\n  assign y = q;\nendmodule\n"
+
+
+def datapath(size):
+    """Registers with a wire each, which reads the wire before it and the register."""
+    count = (size - 3) // 2
+    yield "module m(input clk, input [31:0] a, output [31:0] y);\n"
+    for i in range(count):
+        before = f"w{i - 1}" if i % 16 else "a"
+        yield f"  reg [31:0] r{i}; wire [31:0] w{i}; assign w{i} = (r{i} + {before}) ^ (r{(i * 7) % count} & a);\n"
+        yield f"  always @(posedge clk) r{i} <= w{i} + 32'd{i};\n"
+    yield f"  assign y = w{count - 1};\nendmodule\n"
+
+
+def timed(words, text=None):
+    """The least time of three runs, or of one that takes over 5 seconds, and what the last printed."""
+    best, said = None, ""
+    for _ in range(3):
+        start = time.perf_counter()
+        done = subprocess.run(words, input=text, capture_output=True, text=True)
+        took = time.perf_counter() - start
+        if done.returncode:
+            sys.exit(f"{words} ended with {done.returncode}: {done.stderr[-400:]}")
+        best, said = took if best is None else min(best, took), done.stdout
+        if best > 5:
+            break
+    return best, said
+
+
+def admission(text):
+    """The least processor seconds of admission in five runs."""
+    return min(int(subprocess.run([program, "0"], input=text, capture_output=True, text=True, check=True).stdout.split()[1]) for _ in range(5)) / 1e6
+
+
+def admissions():
+    print(f"{'admission, s':<12}{'1/4':>9}{'1/2':>9}{'whole':>9}{'ratio':>8}{'iverilog':>10}{'of it':>8}")
+    worst = 0.0
+    for kind in (chain, branches, statements):
+        texts = ["".join(kind(SIGNALS // part)) for part in (4, 2, 1)]
+        times = [admission(text) for text in texts]
+        ratio = times[2] / max(times[1], 1e-6)
+        worst = max(worst, ratio)
+        beside = ""
+        if shutil.which("iverilog"):
+            with open(os.path.join(work, "design.v"), "w") as file:
+                file.write(texts[2])
+            whole, _ = timed(["iverilog", "-t", "null", os.path.join(work, "design.v")])
+            beside = f"{whole:10.3f}{times[2] / whole:8.3f}"
+        print(f"{kind.__name__:<12}" + "".join(f"{it:9.4f}" for it in times) + f"{ratio:8.2f}" + beside)
+    return worst
+
+
+TESTBENCH = """module bench; reg clk; reg [31:0] a; wire [31:0] y; reg [31:0] all; integer i; m dut(clk, a, y);
+initial begin clk = 0; a = 1; all = 0;
+%s
+for (i = 0; i < %d; i = i + 1) begin a = a * 1664525 + 1; #1 all = all ^ y; clk = 1; #1 clk = 0; end
+$display("%%0d", all); end endmodule
+"""
+
+HARNESS = """#include "Vm.h"
+#include <cstdint>
+#include <cstdio>
+int main() { Vm dut; uint32_t a = 1, all = 0; dut.clk = 0;
+for (int i = 0; i < %d; i++) { a = a * 1664525 + 1; dut.a = a; dut.eval(); all ^= dut.y; dut.clk = 1; dut.eval(); dut.clk = 0; }
+std::printf("%%u\\n", all); }
+"""
+
+
+def cycles_of_vvp(text, cycles):
+    with open(os.path.join(work, "bench.v"), "w") as file:
+        start = "".join(f"dut.r{i} = 0;\n" for i in range((SIGNALS - 3) // 2))
+        file.write(text + TESTBENCH % (start, cycles))
+    subprocess.run(["iverilog", "-o", os.path.join(work, "bench.vvp"), "-s", "bench", os.path.join(work, "bench.v")], check=True)
+    took, _ = timed(["vvp", "-n", os.path.join(work, "bench.vvp")])
+    return cycles / took
+
+
+def cycles_of_verilator(text, cycles):
+    folder = os.path.join(work, "verilated")
+    os.makedirs(folder, exist_ok=True)
+    for name, what in (("m.v", text), ("main.cpp", HARNESS % cycles)):
+        with open(os.path.join(folder, name), "w") as file:
+            file.write(what)
+    subprocess.run(["verilator", "--cc", "--exe", "--build", "-Wno-fatal", "-O3", "--top-module", "m", "m.v", "main.cpp"],
+                   cwd=folder, check=True, stdout=subprocess.DEVNULL, stderr=subprocess.DEVNULL)
+    took, _ = timed([os.path.join(folder, "obj_dir", "Vm")])
+    return cycles / took
+
+
+def running():
+    text = "".join(datapath(SIGNALS))
+    cycles = 20000
+    spent = min(int(subprocess.run([program, str(cycles)], input=text, capture_output=True, text=True, check=True).stdout.split()[2]) for _ in range(3))
+    ours = cycles / (spent / 1e6)
+    print(f"\ncycles in a second, 4,096 signals: secv {ours:.0f}", end="")
+    vvp = None
+    if shutil.which("vvp"):
+        vvp = cycles_of_vvp(text, 2000)
+        print(f", vvp {vvp:.0f}", end="")
+    if shutil.which("verilator"):
+        print(f", Verilator {cycles_of_verilator(text, 20000):.0f}", end="")
+    print()
+    return ours / vvp if vvp else None
+
+
+worst = admissions()
+beside = running()
+print(f"greatest ratio of admission {worst:.2f}" + (f"; {beside:.2f} times vvp's cycles" if beside else ""))
+PY

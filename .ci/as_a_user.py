@@ -31,6 +31,16 @@ SAID = {101: "no token begins with this byte", 102: "this is no number, or too l
         104: "this form of Verilog is left out", 202: "this form of Verilog is left out",
         201: "no text goes on with this token, or the text ends too early", 203: "this opens a level too many: at most 64 may be open",
         204: "this is too long: an expression has at most 1,024 tokens, a case 256 arms"}
+HELP = b"""secv checks designs in SecVerilog: Verilog in which every signal has a security label.
+
+usage:
+  secv check FILE [--top MODULE]    say whether a secret can reach a public signal
+  secv --help, -h                   print this text
+  secv --version                    print the version
+
+exit status: 0 accepted, 1 refused, 2 wrong words, 4 unreadable file, 5 unwritable output,
+             6 out of memory
+"""
 USAGE = "; usage: secv check FILE [--top MODULE] (`secv --help` says more)"
 STATUS = {"accepted": 0, "refused": 1, "usage": 2, "unknown": 3}
 passed = failed = 0
@@ -78,9 +88,9 @@ def shown_in_readme():
 
 
 def words_and_faults():
-    help_text = run(["--help"])
-    compare("--help is a text", (help_text.stdout.startswith(b"secv "), help_text.returncode), (True, 0))
-    compare("-h is the same text", run(["-h"]).stdout, help_text.stdout)
+    for word in ("--help", "-h"):
+        answer = run([word])
+        compare(word, (answer.stdout, answer.stderr, answer.returncode), (HELP, b"", 0))
     version = run(["--version"])
     compare("--version", (version.stdout, version.returncode), (b"secv 0.1.0\n", 0))
     wrong = "`check` takes one FILE and at most one `--top MODULE`" + USAGE
@@ -122,6 +132,8 @@ def words_and_faults():
                 "secv: the output could not be written: No space left on device (os error 28)\n")
         answer = run(words, stdout=None, before=lambda: os.close(1))
         compare(f"a closed output, {words}", answer.returncode, 5)
+        said = answer.stderr.startswith(b"secv: the output could not be written") and answer.stderr.count(b"\n") == 1
+        compare(f"a closed output is explained, {words}", said, True)
     answer = subprocess.run([SECV, "check", "examples/leak.v"], cwd=TOP, stdout=subprocess.PIPE, stderr=None,
                             preexec_fn=lambda: os.close(2))
     compare("a closed standard error", (answer.stdout, answer.returncode), (b"refused flow 1 y from k\nin k 0\n", 1))

@@ -57,6 +57,10 @@ def instances(folder):
         lines = ["module s(input a); endmodule", "module m(input a);", *[f"  s u{i}(.a(a));" for i in range(count - 1)], "endmodule"]
         wanted = NOT_BUILT if count == 1024 else f"refused 315 too-many {count + 1}:3"
         check(f"{count} instances side by side", "\n".join(lines) + "\n", wanted, folder)
+        # of one item, so each instance's place is that of the item's module
+        names = ", ".join(f"u{i}(a)" for i in range(count - 1))
+        text = f"module s(input a); endmodule\nmodule m(input a);\n  s {names};\nendmodule\n"
+        check(f"{count} instances of one list", text, NOT_BUILT if count == 1024 else "refused 315 too-many 3:3", folder)
     for count in (64, 1024, 1025):
         lines = [f"module m{i}(input a); {f'm{i + 1} u(.a(a));' if i + 1 < count else ''} endmodule" for i in range(count)]
         wanted = NOT_BUILT if count <= 1024 else f"refused 315 too-many {count - 1}:{len(f'module m{count - 2}(input a); ') + 1}"

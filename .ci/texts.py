@@ -11,6 +11,8 @@ import tempfile
 TOP = os.path.dirname(os.path.dirname(os.path.abspath(__file__)))
 SECV = os.path.join(TOP, "secv")
 LIMIT = 1048576
+MOST_SECONDS = 10
+MOST_MEGABYTES = 256
 NOT_BUILT = "refused 199 not-built 1:1"
 REFUSED = """and automatic buf bufif0 bufif1 casex casez cell cmos config deassign defparam design disable edge endconfig endfunction endgenerate
  endprimitive endspecify endtable endtask event for force forever fork function generate genvar highz0 highz1 ifnone incdir include initial inout
@@ -31,12 +33,14 @@ passed = failed = 0
 
 
 def check(what, text, wanted, folder):
-    """The program's line for the text, and whether it is the wanted one, within ten seconds."""
+    """The program's line for the text, and whether it is the wanted one, in little time and memory."""
     global passed, failed
     path = os.path.join(folder, "text.v")
     with open(path, "wb") as file:
         file.write(text if isinstance(text, bytes) else text.encode())
-    answer = subprocess.run([SECV, "check", path], stdin=subprocess.DEVNULL, stdout=subprocess.PIPE, stderr=subprocess.DEVNULL, timeout=10)
+    limit = f"ulimit -v {MOST_MEGABYTES * 1024}; exec \"$@\""
+    answer = subprocess.run(["sh", "-c", limit, "sh", SECV, "check", path], stdin=subprocess.DEVNULL, stdout=subprocess.PIPE,
+                            stderr=subprocess.DEVNULL, timeout=MOST_SECONDS, check=False)
     if (answer.stdout, answer.returncode) == ((wanted + "\n").encode(), 1):
         passed += 1
     else:
@@ -126,6 +130,8 @@ def megabytes(folder):
 
 
 def main():
+    # the first run builds the program, which takes more than a run may
+    subprocess.run([SECV, "--version"], stdout=subprocess.DEVNULL, check=True)
     with tempfile.TemporaryDirectory() as folder:
         for group in (levels, lengths, one_byte, left_out, megabytes):
             group(folder)

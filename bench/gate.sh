@@ -1,7 +1,8 @@
 #!/bin/sh
 # Runs the gate from nothing on a clone of the last commit, and prints what it cost: a crate a line, the processor minutes of
 # its proof, of its tests' proof, of its wrong bodies and of its programs, and its lines of code; then the sum, and the longest
-# chain of crates, each of which waits for the one before it. With names of crates it does so for these and those below them.
+# chain of crates, each of which waits for the one before it. With names of crates it does so for these and those below them. The crates
+# that stood first, with the crates that hold their tests now, have a sum of their own (asked: at most 75).
 #
 # `rt ci` prints no times, so the processor time of each process below it is read twice a second. What a process spends after
 # the last reading is in the sum's `other`, which is the whole processor time less what was read.
@@ -22,6 +23,8 @@ import collections, os, re, resource, subprocess, sys, time
 work, names = sys.argv[1], sys.argv[2:]
 TICK = os.sysconf("SC_CLK_TCK")
 PARTS = ("proof", "tests", "edits", "programs")
+FIRST = """sv_num sv_io sv_lattice sv_system sv_first_ast sv_first sv_first_flow sv_cli secv sv_clause sv_proof certificate_bench sv_solve
+ solve_bench low_tests cli_tests solver_tests""".split()
 
 
 def crates():
@@ -135,6 +138,8 @@ def table(told, whole, passed):
         print(row.format(name, *(f"{it:.1f}" for it in spent), f"{sum(spent):.1f}", lines_of(name)))
     sums = [sum(told[name, part] for name in every) / 60 for part in PARTS]
     print(row.format("sum", *(f"{it:.1f}" for it in sums), f"{sum(sums):.1f}", sum(lines_of(name) for name in every)))
+    first = sum(told[name, part] for name in FIRST for part in PARTS) / 60
+    print(f"the crates that stood first, with their tests: {first:.1f} of at most 75")
     print(f"other {whole / 60 - sum(sums):.1f}, in all {whole / 60:.1f} processor minutes in {passed / 60:.1f} minutes on {os.cpu_count()} processors")
     # a crate waits for the proofs of those below it, and its own proof and tests run side by side
     longest = {}

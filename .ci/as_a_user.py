@@ -109,6 +109,8 @@ def words_and_faults():
             answer = run(["check", path])
             compare(name, (answer.stdout, answer.returncode), (b"", 4))
             compare(f"{name} is explained", answer.stderr.decode(), f"secv: {path}: {cause}\n")
+        answer = run(["check", os.path.join(folder, "no\nne.v")])
+        compare("a name with a line feed is escaped", answer.stderr.decode(), f"secv: {folder}/no\\nne.v: No such file or directory (os error 2)\n")
         other = os.path.join(folder, "other.v")
         with open(other, "w", encoding="ascii") as file:
             file.write("module m(input [7:0] a, output y); assign y = a == 3; endmodule\n")
@@ -134,9 +136,14 @@ def words_and_faults():
         compare(f"a closed output, {words}", answer.returncode, 5)
         said = answer.stderr.startswith(b"secv: the output could not be written") and answer.stderr.count(b"\n") == 1
         compare(f"a closed output is explained, {words}", said, True)
-    answer = subprocess.run([SECV, "check", "examples/leak.v"], cwd=TOP, stdout=subprocess.PIPE, stderr=None,
-                            preexec_fn=lambda: os.close(2))
-    compare("a closed standard error", (answer.stdout, answer.returncode), (b"refused flow 1 y from k\nin k 0\n", 1))
+    for words, wanted in [(["check", "examples/leak.v"], (b"refused flow 1 y from k\nin k 0\n", 1)), (["check"], (b"usage words\n", 2)),
+                          (["check", "examples/unknown_value.v"], (b"refused 104 unsupported 3:34 four-state\n", 1)),
+                          (["check", "none.v"], (b"", 4))]:
+        answer = subprocess.run([SECV, *words], cwd=TOP, stdout=subprocess.PIPE, stderr=None, preexec_fn=lambda: os.close(2))
+        compare(f"a closed standard error, {words}", (answer.stdout, answer.returncode), wanted)
+        with open("/dev/full", "wb") as full:
+            answer = subprocess.run([SECV, *words], cwd=TOP, stdout=subprocess.PIPE, stderr=full)
+        compare(f"a full standard error, {words}", (answer.stdout, answer.returncode), wanted)
 
 
 def rules(title, least):

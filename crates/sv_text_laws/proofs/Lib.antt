@@ -1,0 +1,8 @@
+pub mod LatticesAsked
+pub mod MapsAsked
+pub mod CheckedDesigns
+pub mod FineTokens
+pub mod FineForms
+pub mod FineStatements
+pub mod FineTexts
+pub mod TextLaws

@@ -1,30 +1,52 @@
 //! What admission and valid obligations mean for a source text: it has one trace for each start and
 //! each list of inputs, and no level learns more of it than it may (SecVerilog, ASPLOS 2015).
 //!
-//! Takes the flat design that the text stands for (`sv_walk`), that the design does what the text
-//! means (`sv_flatten`), its one trace (`sv_sim`) and its obligations (`sv_obl`). This crate has
-//! laws, no program.
+//! Takes what the bytes of a text mean (`sv_ast`), the flat design that it stands for (`sv_walk`),
+//! that the design is sound and does what the text means (`sv_flatten`), its one trace (`sv_sim`)
+//! and its obligations (`sv_obl`). This crate has laws, no program.
 #![tactic(auto)]
 
-ghost use Rattle.std.specs.Prelude.{◌≡◌, ℕ, List, [], Option, Some};
+ghost use Rattle.std.specs.Prelude.{◌≡◌, ℕ, List, [], Option, Some, All};
 ghost use Rattle.sv_system.specs.System.{Noninterferent, HasOneTrace};
+ghost use Rattle.sv_lattice.specs.Maps.{MapRows, IsMap};
+ghost use Rattle.sv_lattice.specs.Tables.{IsLatticeTable};
+ghost use Rattle.sv_ast.specs.GrammarMeaning.{Means};
+ghost use Rattle.sv_ast.specs.TextSystem.{text_system};
 ghost use Rattle.sv_ast.specs.Tree.{TextTree};
 ghost use Rattle.sv_flat.specs.Admission.{IsAdmitted};
 ghost use Rattle.sv_flat.specs.Design.{FlatDesign};
 ghost use Rattle.sv_walk.specs.Texts.{flat_of};
-ghost use Rattle.sv_flatten.specs.FlattenedTexts.{CanBeFlattened};
-ghost use Rattle.sv_ast.specs.TextSystem.{text_system};
-ghost use Rattle.sv_obl.specs.Noninterference.{IsChecked};
+ghost use Rattle.sv_flatten.specs.FlattenedTexts.{CanBeFlattened, EachItem, ReleasesNothing};
 ghost use Rattle.sv_obl.specs.Validity.{AllValid};
 
-/// For a text whose flat design is admitted, with a lattice and label maps as every built one has,
-/// and whose obligations are all valid, every level and any two traces of the text that look alike
-/// to the level, the level's whole view is equal at every cycle. The text has the shape that the
-/// grammar gives, releases nothing, and writes numbers that have 1 to 64 bits and fit them.
+/// The flat design that a text stands for has a lattice of 1 to 32 points: no two different ones
+/// flow to each other, and any two have a least upper and a greatest lower point. Each of its label
+/// maps has one or two ranges of 1 to 8 bits in all, and a row for each of their values
+/// (SecVerilog, ASPLOS 2015; the limits are this project's profile).
+pub fn flat_designs_have_lattices_and_maps()
+    ensures lattice { (text : TextTree) (asked : Option (List ℕ)) (design : FlatDesign)
+        → flat_of text asked ≡ Some design → IsLatticeTable design.lattice }
+    ensures maps { (text : TextTree) (asked : Option (List ℕ)) (design : FlatDesign)
+        → flat_of text asked ≡ Some design
+        → All (λ (m : MapRows). IsMap m.first m.second m.rows) design.maps }
+{}
+
+/// What bytes mean has the shape that the grammar gives, and writes numbers that have 1 to 64 bits
+/// and fit them (IEEE 1364-2005, annex A and clause 3.5.1). So where it releases nothing, its flat
+/// design does what it means.
+pub fn texts_of_bytes_can_be_flattened()
+    ensures { (bytes : List ℕ) (text : TextTree) → Means bytes text → EachItem ReleasesNothing text
+        → CanBeFlattened text }
+{}
+
+/// For a text whose flat design is admitted and whose obligations are all valid, every level and
+/// any two traces of the text that look alike to the level, the level's whole view is equal at
+/// every cycle. The text has the shape that the grammar gives, releases nothing, and writes numbers
+/// that have 1 to 64 bits and fit them.
 pub fn valid_texts_are_noninterferent()
     ensures { (text : TextTree) (asked : Option (List ℕ)) (design : FlatDesign)
-        → CanBeFlattened text → flat_of text asked ≡ Some design → IsChecked design
-        → AllValid [] design → Noninterferent (text_system text asked) }
+        → CanBeFlattened text → flat_of text asked ≡ Some design
+        → IsAdmitted design → AllValid [] design → Noninterferent (text_system text asked) }
 {}
 
 /// A text whose flat design is admitted has exactly one trace for each start and each list of
@@ -33,4 +55,22 @@ pub fn admitted_texts_have_one_trace()
     ensures { (text : TextTree) (asked : Option (List ℕ)) (design : FlatDesign)
         → CanBeFlattened text → flat_of text asked ≡ Some design → IsAdmitted design
         → HasOneTrace (text_system text asked) }
+{}
+
+/// For bytes that mean a text which releases nothing, whose flat design is admitted and whose
+/// obligations are all valid, every level and any two traces of the text that look alike to the
+/// level, the level's whole view is equal at every cycle.
+pub fn valid_bytes_are_noninterferent()
+    ensures { (bytes : List ℕ) (text : TextTree) (asked : Option (List ℕ)) (design : FlatDesign)
+        → Means bytes text → EachItem ReleasesNothing text
+        → flat_of text asked ≡ Some design → IsAdmitted design
+        → AllValid [] design → Noninterferent (text_system text asked) }
+{}
+
+/// A text of bytes that releases nothing, and whose flat design is admitted, has exactly one trace
+/// for each start and each list of inputs, all of them fitting.
+pub fn admitted_bytes_have_one_trace()
+    ensures { (bytes : List ℕ) (text : TextTree) (asked : Option (List ℕ)) (design : FlatDesign)
+        → Means bytes text → EachItem ReleasesNothing text → flat_of text asked ≡ Some design
+        → IsAdmitted design → HasOneTrace (text_system text asked) }
 {}

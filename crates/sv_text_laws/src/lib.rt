@@ -53,8 +53,9 @@ pub fn valid_texts_are_noninterferent()
 /// inputs, all of them fitting. The text is as above.
 pub fn admitted_texts_have_one_trace()
     ensures { (text : TextTree) (asked : Option (List ℕ)) (design : FlatDesign)
-        → CanBeFlattened text → flat_of text asked ≡ Some design → IsAdmitted design
-        → HasOneTrace (text_system text asked) }
+        → CanBeFlattened text
+        → flat_of text asked ≡ Some design
+        → IsAdmitted design → HasOneTrace (text_system text asked) }
 {}
 
 /// For bytes that mean a text which releases nothing, whose flat design is admitted and whose
@@ -71,6 +72,7 @@ pub fn valid_bytes_are_noninterferent()
 /// for each start and each list of inputs, all of them fitting.
 pub fn admitted_bytes_have_one_trace()
     ensures { (bytes : List ℕ) (text : TextTree) (asked : Option (List ℕ)) (design : FlatDesign)
-        → Means bytes text → EachItem ReleasesNothing text → flat_of text asked ≡ Some design
-        → IsAdmitted design → HasOneTrace (text_system text asked) }
+        → Means bytes text → EachItem ReleasesNothing text
+        → flat_of text asked ≡ Some design → IsAdmitted design
+        → HasOneTrace (text_system text asked) }
 {}

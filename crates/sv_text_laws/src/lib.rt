@@ -32,8 +32,8 @@ pub fn flat_designs_have_lattices_and_maps()
 {}
 
 /// What bytes mean has the shape that the grammar gives, and writes numbers that have 1 to 64 bits
-/// and fit them (IEEE 1364-2005, annex A and clause 3.5.1). So where it releases nothing, its flat
-/// design does what it means.
+/// and fit them (IEEE 1364-2005, annex A and clause 3.5.1). So where it releases nothing, the laws
+/// of flattening speak of it.
 pub fn texts_of_bytes_can_be_flattened()
     ensures { (bytes : List ℕ) (text : TextTree) → Means bytes text → EachItem ReleasesNothing text
         → CanBeFlattened text }

@@ -6,3 +6,6 @@ pub mod FineForms
 pub mod FineStatements
 pub mod FineTexts
 pub mod TextLaws
+mod TypedSizes
+mod PlainSignals
+mod DeclaredSignals

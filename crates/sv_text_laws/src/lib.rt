@@ -6,6 +6,14 @@
 //! and its obligations (`sv_obl`). This crate has laws, no program.
 #![tactic(auto)]
 
+mod meanings;
+mod signals;
+mod sizes;
+
+pub use meanings::bytes_mean_at_most_one_text;
+pub use signals::flat_signals_are_those_declared;
+pub use sizes::typed_expressions_are_no_larger;
+
 ghost use Rattle.std.specs.Prelude.{◌≡◌, ℕ, List, [], Option, Some, All};
 ghost use Rattle.sv_system.specs.System.{Noninterferent, HasOneTrace};
 ghost use Rattle.sv_lattice.specs.Maps.{MapRows, IsMap};

@@ -1,5 +1,5 @@
 -- Each signal of a flat design is that of a declaration of the text.
-use Rattle.std.proofs.Common.{◌≡◌, ℕ, Bool, true, false, List, [], ◌∷◌, ◌++◌, map, Option, Some}
+use Rattle.std.proofs.Common.{◌≡◌, ℕ, Bool, true, false, List, [], ◌∷◌, map, Option, Some}
 use Rattle.std.proofs.Common.{None, refl, sym, ap, subst, ◌∙◌}
 use Rattle.std.specs.Prelude.{◌&&◌, ◌==◌, flat_map, position, if◌then◌else◌, Ok}
 use Rattle.std.specs.List.{slice_get, AllZip}
@@ -19,7 +19,6 @@ use Rattle.sv_ast.specs.Parts.{Part, part_with, parts_from, most_levels, parts, 
 use Rattle.sv_ast.specs.Parts.{signals_of}
 use Rattle.sv_ast.specs.ClockPaths.{is_input_kind}
 use Rattle.sv_ast.specs.SourceLabels.{points, pairs, least}
-use Rattle.sv_flat.specs.declared.signals.SigKind.{SigKind}
 use Rattle.sv_flat.specs.declared.signals.SigKind.TheVariants as kinds
 use Rattle.sv_flat.specs.Design.{SignalForm, FlatDesign}
 use Rattle.sv_walk.specs.Walks.{ask, found}

@@ -9,3 +9,4 @@ pub mod TextLaws
 mod TypedSizes
 mod PlainSignals
 mod DeclaredSignals
+mod DeclaredMaps

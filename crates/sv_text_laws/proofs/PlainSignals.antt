@@ -1,9 +1,9 @@
 -- The walk of an instance adds a signal for each declaration in it and in all inside it, in order,
 -- with the declaration's full name, sign and place. Scopes play no part in it.
-use Rattle.std.proofs.Common.{◌≡◌, ℕ, zero, suc, ◌+◌, Bool, true, List, [], ◌∷◌, ◌++◌, map, length, Option}
-use Rattle.std.proofs.Common.{Some, None, refl, sym, ap, subst, ◌∙◌}
+use Rattle.std.proofs.Common.{◌≡◌, ℕ, zero, suc, ◌+◌, Bool, true, List, [], ◌∷◌, ◌++◌}
+use Rattle.std.proofs.Common.{map, length, Option, Some, None, refl, sym, ap, subst, ◌∙◌}
 use Rattle.std.specs.Prelude.{not, nat_lt, flat_map, option_map, Ok}
-use Rattle.std.specs.List.{list_any, filter_map, cons_option, join_with_byte}
+use Rattle.std.specs.List.{list_any, filter_map, cons_option}
 use Rattle.std.specs.Option.{option_map_or}
 use Rattle.std.specs.Str.{bytes_eq}
 use Rattle.std.proofs.lemmas.List.{append_assoc, append-nil, map-append}
@@ -16,7 +16,7 @@ use Rattle.sv_ast.specs.Tree.{memory_item, continuous, released, always_item, in
 use Rattle.sv_ast.specs.Tree.{instance_item, ModuleTree}
 use Rattle.sv_ast.specs.Instances.{module_named, instance_of, settings, all_items, is_signal}
 use Rattle.sv_ast.specs.Parts.{Path, Part, part_with, within, child, parts_from, PartSignal}
-use Rattle.sv_ast.specs.Parts.{signal_path, declarations, signals_of}
+use Rattle.sv_ast.specs.Parts.{declarations, signals_of}
 use Rattle.sv_flat.specs.Design.{SignalForm}
 use Rattle.sv_walk.specs.Walks.{Walk, done, ask, found}
 use Rattle.sv_walk.specs.Rules.{unknown_module, twice, recursive, too_many, unknown_name}

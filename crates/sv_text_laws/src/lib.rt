@@ -4,6 +4,10 @@
 //! Takes what the bytes of a text mean (`sv_ast`), the flat design that it stands for (`sv_walk`),
 //! that the design is sound and does what the text means (`sv_flatten`), its one trace (`sv_sim`)
 //! and its obligations (`sv_obl`). This crate has laws, no program.
+//!
+//! Of the way from bytes to the flat design it says besides that bytes mean one text, that typed
+//! expressions are no larger than their sources (`specs/Sizes.antt`), and that the signals of the
+//! design and its label maps are those declared (`specs/Signals.antt`, `specs/LabelRows.antt`).
 #![tactic(auto)]
 
 mod meanings;

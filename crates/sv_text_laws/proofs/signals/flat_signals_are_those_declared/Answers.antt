@@ -1,3 +1,4 @@
+use Rattle.sv_text_laws.proofs.DeclaredMaps.{all_tables}
 use Rattle.sv_text_laws.proofs.DeclaredSignals.{all_declared, same_points}
 use Rattle.sv_text_laws.proofs.signals.flat_signals_are_those_declared.Goals as goal
 
@@ -6,3 +7,6 @@ returns-clause-signals c text asked design can flat = all_declared text asked de
 
 pub returns-clause-points : goal.returns-clause-points
 returns-clause-points c text asked design can flat = same_points text asked design can flat
+
+pub returns-clause-maps : goal.returns-clause-maps
+returns-clause-maps c text asked design can flat = all_tables text asked design can flat

@@ -7,6 +7,8 @@ pub mod FineStatements
 pub mod FineTexts
 pub mod TextLaws
 mod TypedSizes
+mod SizeExamples
 mod PlainSignals
 mod DeclaredSignals
 mod DeclaredMaps
+mod SignalExamples

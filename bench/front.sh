@@ -127,10 +127,10 @@ def text(mixture, size):
 
 
 def run(words, statuses):
-    """The least time of five runs, or of one that takes over 5 seconds, and the greatest resident memory, in MB."""
+    """The least time of fifteen runs, or of one that takes over 5 seconds, and the greatest resident memory, in MB."""
     best, most = None, 0
     told = os.path.join(work, "told")
-    for _ in range(5):
+    for _ in range(15):
         if best is not None and best > 5:
             break
         start = time.perf_counter()

@@ -1,7 +1,7 @@
 -- The first of all circles is found by going through the signals that circles begin at.
 use Rattle.std.proofs.Common.{◌≡◌, ⊎_elim, ℕ, ◌+◌, ◌<◌, ◌≤◌, nat_lt, List, ◌∷◌, length}
 use Rattle.std.proofs.Common.{get_or, Option, Some, None, Vec, Global, sym, ap, ap₂, subst, ◌∙◌}
-use Rattle.std.proofs.Common.{arith}
+use Rattle.std.proofs.Common.{arith, Bool, true, false, cond, ◌&&◌}
 use Rattle.std.specs.Prelude.{IsTrue, IsFalse}
 use Rattle.std.proofs.lemmas.Bool.{false≢true}
 use Rattle.sv_num.specs.declared.faults.Place.{Place}
@@ -12,12 +12,18 @@ use Rattle.sv_flat.specs.Loops.{is_circle, loop_breach, IsLoop}
 use Rattle.sv_flat.specs.Processes.{declared_at}
 use Rattle.sv_flat.proofs.Depths.{is_below}
 use Rattle.sv_design.specs.Circles.{circle_breach, FindsCircle, IsCircleFrom, FindsCircleBelow}
-use Rattle.sv_design.specs.Circles.{precedes}
-use Rattle.sv_design.specs.First.{breach_of, found_before}
+use Rattle.sv_design.specs.Circles.{precedes, IsBegin}
+use Rattle.sv_design.specs.Marks.{is_marked}
+use Rattle.sv_design.specs.Nests.{HasBegins}
+use Rattle.sv_design.specs.Orders.{AreReads}
+use Rattle.sv_design.specs.declared.orders.Reads.{Reads}
+use Rattle.sv_flat.proofs.AdmittedFacts.{and_true}
+use Rattle.sv_flat.proofs.LeastSets.{either_way}
+use Rattle.sv_design.specs.First.{breach_of, found_before, first_found}
 use Rattle.sv_design.specs.Numbers.{numbers}
 use Rattle.sv_design.specs.declared.found.Found.{Found}
 use Rattle.sv_design.specs.declared.loops.Circle.{Circle}
-use Rattle.sv_design.proofs.CircleFacts.{circle_is_combinational}
+use Rattle.sv_design.proofs.CircleFacts.{circle_is_combinational, no_candidate}
 use Rattle.sv_design.proofs.Firsts.{one_rule, itself, not_before}
 use Rattle.sv_design.proofs.SearchFacts.{below_or_at}
 
@@ -37,6 +43,28 @@ module _ (circle : Circle)
       ap (λ k. then_by 607 o.number
       (then_by circle.first.place.line o.place.line
       (then_by circle.first.place.column o.place.column (nat_lt k (first_signal o))))) begins
+
+-- no circle begins at a signal that a table of begins or that of combinational signals lacks
+pub not_begun : (design : FlatDesign) (reads : Reads) (are : AreReads design reads)
+    (begins : List Bool) → HasBegins design begins → (s : ℕ) → s < length reads.combs.items
+    → IsFalse (is_marked begins s && is_marked reads.combs.items s)
+    → (signals : List ℕ) → IsTrue (is_circle design (s ∷ signals)) → ⊥
+not_begun design reads are begins has s below out signals circle = ⊎_elim
+    (λ comb. false≢true (sym out
+    ∙ and_true (is_marked begins s) (is_marked reads.combs.items s) (has s signals circle) comb))
+    (λ other. no_candidate design reads are s below other signals circle)
+    (either_way (is_marked reads.combs.items s))
+
+-- the first of two signals with their places is one of them
+pub first_is_begin : (design : FlatDesign) (reads : Reads) (a b : Option Found)
+    → IsBegin design reads a → IsBegin design reads b → IsBegin design reads (first_found a b)
+first_is_begin design reads None b a_is b_is = b_is
+first_is_begin design reads (Some a) None a_is b_is = a_is
+first_is_begin design reads (Some a) (Some b) a_is b_is = by (found_before b a)
+  where
+    by : (earlier : Bool) → IsBegin design reads (Some (cond earlier b a))
+    by true = b_is
+    by false = a_is
 
 module _ (design : FlatDesign) where
   -- the circle's first signal, as the breach names it
@@ -130,6 +158,15 @@ module _ (design : FlatDesign) where
           ∙ place_on_left (record { first = here; signals = signals }) new_begins
           (breach_of 607 circle.first)
           ∙ one_rule 607 here circle.first ∙ first)
+
+      -- a circle that begins here may be found before any signal was looked at
+      pub starts_here : FindsCircleBelow design 0
+          (Some (record { first = here; signals = signals }))
+      starts_here = record {
+        is_loop = new_is_loop;
+        begins = new_begins;
+        before = λ o loop lt. absurd (omega arith);
+      }
 
       pub first_here : (old : Option Circle) → IsTrue (precedes here old)
           → FindsCircleBelow design here.signal.0 old

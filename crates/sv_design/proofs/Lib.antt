@@ -39,3 +39,4 @@ pub mod ClockOrder
 pub mod WholeOrders
 pub mod ReadTables
 pub mod ProcessCounts
+pub mod NestFacts

@@ -10,7 +10,10 @@ use Rattle.sv_flat.specs.Loops.{is_circle, IsLoop}
 use Rattle.sv_design.specs.declared.found.Found.{Found}
 use Rattle.sv_design.specs.declared.loops.Circle.{Circle}
 use Rattle.sv_design.specs.First.{found_before}
+use Rattle.sv_flat.specs.Processes.{declared_at}
+use Rattle.sv_design.specs.Marks.{is_marked}
 use Rattle.sv_design.specs.Numbers.{numbers}
+use Rattle.sv_design.specs.declared.orders.Reads.{Reads}
 
 -- the breach of a circle
 abbrev pub circle_breach : Circle → Breach
@@ -60,3 +63,10 @@ FindsCircleBelow design limit (Some circle) = IsFirstLoopBelow design limit circ
 abbrev pub precedes : Found → Option Circle → Bool
 precedes here None = true
 precedes here (Some circle) = found_before here circle.first
+
+-- what was found is a combinational signal with its place, if there is one
+abbrev pub IsBegin : FlatDesign → Reads → Option Found → Type 0
+IsBegin design reads None = Unit {0}
+IsBegin design reads (Some here) =
+    IsTrue (is_marked reads.combs.items here.signal.0)
+    × (here.place ≡ declared_at design here.signal.0)

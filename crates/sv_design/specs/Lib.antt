@@ -13,6 +13,7 @@ pub mod Graphs
 pub mod Marks
 pub mod Searches
 pub mod Orders
+pub mod Nests
 pub mod Circles
 pub mod Links
 pub mod Feeds

@@ -12,16 +12,20 @@
 //! `Tables` what its lists are.
 //!
 //! Private to the crate, for the contracts of its parts: `BitSets`, `ClockTables`, `Depths`,
-//! `DriverTables`, `Feeds`, `Graphs`, `Links`, `Marks`, `Orders`, `Phases`, `Queues`, `ReadForms`,
-//! `Scopes`, `Searches`, `Selectors`, `Tops`, `WrongAssigns`.
+//! `DriverTables`, `Feeds`, `Graphs`, `Links`, `Marks`, `Nests`, `Orders`, `Phases`, `Queues`,
+//! `ReadForms`, `Scopes`, `Searches`, `Selectors`, `Tops`, `WrongAssigns`. `components` and `nests`
+//! promise no more than to end safely: what circles there are is the same by any order that they
+//! find, and only the time to find the first one is not.
 #![tactic(auto)]
 
 mod admit;
 mod assignments;
+mod begins;
 mod bits;
 mod blocks;
 mod clock_rule;
 mod clocks;
+mod components;
 mod depths;
 mod design;
 mod drivers;
@@ -32,6 +36,7 @@ mod lists;
 mod loops;
 mod marks;
 mod names;
+mod nests;
 mod orders;
 mod processes;
 mod reads;

@@ -1,16 +1,19 @@
 // Rule 607: no combinational signals read each other in a circle.
-ghost use Rattle.std.specs.Prelude.{◌≡◌, ◌<◌, ◌+◌, ◌∷◌, List, ℕ, length, IsTrue, IfOk};
+ghost use Rattle.std.specs.Prelude.{◌≡◌, ◌<◌, ◌+◌, ◌&&◌, ◌∷◌, List, ℕ, length, IsTrue, IfOk};
 ghost use Rattle.sv_flat.specs.Design.{FlatDesign};
 ghost use Rattle.sv_flat.specs.Processes.{declared_at};
 ghost use Rattle.sv_flat.specs.Soundness.{sound};
 ghost use Rattle.sv_flat.specs.Views.{design_of};
 ghost use Rattle.sv_design.specs.Circles.{FindsCircle, FindsCircleFrom, FindsCircleBelow, precedes};
+ghost use Rattle.sv_design.specs.Circles.{IsBegin};
 ghost use Rattle.sv_design.specs.Marks.{is_marked};
+ghost use Rattle.sv_design.specs.Nests.{HasBegins};
 ghost use Rattle.sv_design.specs.Numbers.{numbers};
 ghost use Rattle.sv_design.specs.Orders.{AreReads, HasDesign};
 ghost use Rattle.sv_design.specs.Searches.{found_by, LeadsDown, IsWayBack};
 
-use crate::found::{Found, is_before};
+use crate::begins::begin_table;
+use crate::found::{Found, first_of, is_before};
 use crate::orders::Reads;
 use crate::searches::{Search, search_from};
 use std::alloc::{AllocError, Global};
@@ -60,6 +63,20 @@ fn circle_from(alloc: Global, reads: &Reads, first: SigId) -> Result<Option<Vec<
     Ok(None)
 }
 
+// Whether a table has the signal.
+fn has_mark(table: &[bool], signal: SigId) -> bool
+    ensures { result ≡ is_marked table.now signal.0 }
+{
+    table.get(signal.0 as usize).copied().unwrap_or(false)
+}
+
+// Whether the signal is combinational and a circle can begin at it.
+fn can_begin(reads: &Reads, begins: &[bool], signal: SigId) -> bool
+    ensures { result ≡ (is_marked begins.now signal.0 && is_marked reads.now.combs.items signal.0) }
+{
+    has_mark(begins, signal) & has_mark(&reads.combs, signal)
+}
+
 // Whether something comes before the circle.
 fn precedes(here: Found, circle: &Option<Circle>) -> bool
     ensures { result ≡ precedes here circle.now }
@@ -70,23 +87,23 @@ fn precedes(here: Found, circle: &Option<Circle>) -> bool
     }
 }
 
-// A circle from the signal on, where one begins there and comes before the one that was found so
+// A circle from the signal on, where one can begin there and comes before the one that was found so
 // far; else that one.
 fn earlier_circle(
     alloc: Global,
     reads: &Reads,
+    begins: &[bool],
     here: Found,
     circle: Option<Circle>,
 ) -> Result<Option<Circle>, AllocError>
     requires tables { HasDesign reads.now }
     requires inside { here.signal.0 < length reads.now.combs.items }
     ensures { IfOk result (λ next. (design : FlatDesign) → AreReads design reads.now
-        → here.place ≡ declared_at design here.signal.0
+        → HasBegins design begins.now → here.place ≡ declared_at design here.signal.0
         → FindsCircleBelow design here.signal.0 circle
         → FindsCircleBelow design (here.signal.0 + 1) next) }
 {
-    let comb = reads.combs[here.signal.0 as usize];
-    if !comb {
+    if !can_begin(reads, begins, here.signal) {
         return Ok(circle);
     }
     if !precedes(here, &circle) {
@@ -101,19 +118,70 @@ fn earlier_circle(
     }
 }
 
+// The signal, where a circle can begin at it.
+fn begin_at(reads: &Reads, begins: &[bool], here: Found) -> Option<Found>
+    ensures { (design : FlatDesign) → here.place ≡ declared_at design here.signal.0
+        → IsBegin design reads.now result }
+{
+    if can_begin(reads, begins, here.signal) {
+        Some(here)
+    } else {
+        None
+    }
+}
+
+// The first of the combinational signals at which a circle can begin.
+fn first_begin(flat: &Flat, reads: &Reads, begins: &[bool]) -> Option<Found>
+    requires sound { IsTrue (sound (design_of flat.now)) }
+    ensures { IsBegin (design_of flat.now) reads.now result }
+{
+    let mut first = None;
+    for (s, signal) in flat.signals.iter().enumerate() {
+        let here = Found {
+            place: signal.place,
+            signal: SigId(s as u32),
+        };
+        let found = begin_at(reads, begins, here);
+        let next = first_of(first, found);
+        first = next;
+    }
+    first
+}
+
+// A circle from that signal on.
+fn likely_circle(
+    alloc: Global,
+    flat: &Flat,
+    reads: &Reads,
+    begins: &[bool],
+) -> Result<Option<Circle>, AllocError>
+    requires sound { IsTrue (sound (design_of flat.now)) }
+    requires reads { AreReads (design_of flat.now) reads.now }
+    ensures { IfOk result (FindsCircleBelow (design_of flat.now) 0) }
+{
+    let Some(first) = first_begin(flat, reads, begins) else {
+        return Ok(None);
+    };
+    match circle_from(alloc, reads, first.signal)? {
+        Some(signals) => Ok(Some(Circle { first, signals })),
+        None => Ok(None),
+    }
+}
+
 /// The first circle of reads. It fails where memory runs out.
 pub fn first_circle(alloc: Global, flat: &Flat, reads: &Reads) -> Result<Option<Circle>, AllocError>
     requires sound { IsTrue (sound (design_of flat.now)) }
     requires reads { AreReads (design_of flat.now) reads.now }
     ensures { IfOk result (FindsCircle (design_of flat.now)) }
 {
-    let mut circle = None;
+    let begins = begin_table(alloc, reads)?;
+    let mut circle = likely_circle(alloc, flat, reads, &begins)?;
     for (s, signal) in flat.signals.iter().enumerate() {
         let here = Found {
             place: signal.place,
             signal: SigId(s as u32),
         };
-        let next = earlier_circle(alloc, reads, here, circle)?;
+        let next = earlier_circle(alloc, reads, &begins, here, circle)?;
         circle = next;
     }
     Ok(circle)

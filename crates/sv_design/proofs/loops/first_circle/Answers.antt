@@ -1,9 +1,10 @@
-use Rattle.std.proofs.Common.{length, refl, sym, ap, arith}
+use Rattle.std.proofs.Common.{length, sym, ap, subst, arith}
 use Rattle.std.proofs.Math.ListN.{length-map}
 use Rattle.sv_flat.specs.Design.{SignalForm}
 use Rattle.sv_flat.specs.Views.{design_of, signal_form}
+use Rattle.sv_design.specs.Nests.{HasBegins}
 use Rattle.sv_design.proofs.DriverFacts.{signal_at, inside_design}
-use Rattle.sv_design.proofs.FirstCircles.{none_begin, all_passed}
+use Rattle.sv_design.proofs.FirstCircles.{all_passed}
 use Rattle.sv_design.proofs.loops.first_circle.Goals as goal
 
 pub earlier_circle-requires-clause-tables : goal.earlier_circle-requires-clause-tables
@@ -17,7 +18,7 @@ earlier_circle-requires-clause-inside c =
     omega arith
 
 pub loop-s-init : goal.loop-s-init
-loop-s-init c = none_begin (design_of c.args.flat.now) 0 refl
+loop-s-init c = c.in_ok-circle.ensures
 
 pub loop-s-preserved : goal.loop-s-preserved
 loop-s-preserved c =
@@ -25,6 +26,8 @@ loop-s-preserved c =
     let at = signal_at flat c.deref-signal-items.result.now c.loop-s.s c.signal-item.result
     c.deref-signal-items.ensures.value c.loop-s-test.true c.signal-item.is in
     c.in_ok-next.ensures (design_of flat) c.requires.reads
+    (subst (HasBegins (design_of flat)) (sym c.deref-in-loop-s.ensures.value)
+    (c.in_ok-begins.ensures (design_of flat) c.requires.reads))
     (sym (ap (λ (z : SignalForm). z.place) at)) c.loop-s.invariant
 
 pub returns : goal.returns

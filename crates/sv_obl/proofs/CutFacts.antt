@@ -1,22 +1,20 @@
 -- Cuts of statements, one after the other.
-use Rattle.std.proofs.Common.{◌≡◌, ℕ, zero, suc, ◌+◌, ◌-◌, ◌*◌, ◌^◌, ◌≤◌, Bool, true, false, cond}
-use Rattle.std.proofs.Common.{◌&&◌, ◌||◌, not, List, [], ◌∷◌, ◌++◌, length, map, flat_map, drop}
-use Rattle.std.proofs.Common.{refl, sym, ap, ap₂, subst, ◌∙◌, arith, append-nil, ◌==◌}
-use Rattle.std.proofs.Common.{Option, Some, None, option_to_list, Result, Ok, Err}
+use Rattle.std.proofs.Common.{◌≡◌, ℕ, zero, suc, ◌-◌, ◌*◌, ◌^◌, ◌≤◌, Bool, true, false, cond}
+use Rattle.std.proofs.Common.{◌&&◌, ◌||◌, not, List, [], ◌∷◌, ◌++◌, map, flat_map}
+use Rattle.std.proofs.Common.{refl, sym, ap, ap₂, ◌∙◌, arith, append-nil}
+use Rattle.std.proofs.Common.{Result, Ok, Err}
 use Rattle.std.specs.Prelude.{IsTrue, IsFalse, IfOk}
-use Rattle.std.specs.List.{list_all, list_any}
 use Rattle.std.proofs.Math.Nat.{pow-suc}
 use Rattle.std.proofs.lemmas.Bool.{false≢true}
 use Rattle.std.proofs.lemmas.List.Concat.{flat_map-append}
 use Rattle.sv_num.specs.declared.faults.Place.{Place}
-use Rattle.sv_flat.specs.Design.{SignalForm, TypedTree, PieceForm, FlatStatement, after, assign}
+use Rattle.sv_flat.specs.Design.{SignalForm, TypedTree, PieceForm, FlatStatement, assign}
 use Rattle.sv_flat.specs.Design.{branch}
 use Rattle.sv_flat.specs.Assigned.{assigns}
 use Rattle.sv_obl.specs.declared.cuts.Cut.{Cut}
 use Rattle.sv_obl.specs.declared.cuts.Cut as cut
 use Rattle.sv_obl.specs.Routes.{Route, behind, with_right, routes_before}
-use Rattle.sv_obl.specs.Cuts.{is_nothing, cut_routes, Cuts, all_routes, CutsAll, IsChain}
-use Rattle.sv_obl.specs.Cuts.{AreBefore}
+use Rattle.sv_obl.specs.Cuts.{is_nothing, cut_routes, Cuts, IsChain}
 use Rattle.sv_obl.proofs.PathLists.{cond_false}
 
 -- ---- lists of lists
@@ -44,10 +42,6 @@ flat_itself (x ∷ xs) = ap (λ ys. x ∷ ys) (flat_itself xs)
 and_right : (b : Bool) → b ≡ (b && true)
 and_right true = refl
 and_right false = refl
-
-and_of : (a b c : Bool) → ((a && b) && c) ≡ (a && (b && c))
-and_of true b c = refl
-and_of false b c = refl
 
 -- ---- answers
 
@@ -109,140 +103,6 @@ module _ (first second : Cut) where
         sym (ap (flat_map (cut_routes signals s first)) (nothing_stays signals s second none route)
         ∙ append-nil (cut_routes signals s first route));
   }
-
--- ---- some cuts and one more
-
-pub empty_before : AreBefore [] [] cut.Nothing
-empty_before = record { nothing = refl; routes = λ signals s route. refl }
-
-pub nothing_more : (cs : List Cut) (last : Cut) → IsTrue (is_nothing last) → AreBefore cs cs last
-nothing_more cs last none = record {
-  nothing = and_right (list_all is_nothing cs)
-      ∙ ap (λ b. list_all is_nothing cs && b) (sym none);
-  routes = λ signals s route.
-      sym (ap (flat_map (all_routes signals s cs)) (nothing_stays signals s last none route)
-      ∙ append-nil (all_routes signals s cs route));
-}
-
-module _ (last : Cut) where
-  all_nothing_more : (cs : List Cut) →
-      list_all is_nothing (cs ++ last ∷ []) ≡ (list_all is_nothing cs && is_nothing last)
-  all_nothing_more [] = sym (and_right (is_nothing last))
-  all_nothing_more (c ∷ cs) =
-      ap (λ b. is_nothing c && b) (all_nothing_more cs)
-      ∙ sym (and_of (is_nothing c) (list_all is_nothing cs) (is_nothing last))
-
-  all_routes_more : (signals : List SignalForm) (s : ℕ) (cs : List Cut) (route : Route)
-      → all_routes signals s (cs ++ last ∷ []) route
-      ≡ flat_map (all_routes signals s cs) (cut_routes signals s last route)
-  all_routes_more signals s [] route =
-      append-nil (cut_routes signals s last route)
-      ∙ sym (flat_itself (cut_routes signals s last route))
-  all_routes_more signals s (c ∷ cs) route =
-      ap (flat_map (cut_routes signals s c)) (all_routes_more signals s cs route)
-      ∙ flat_flat (all_routes signals s cs) (cut_routes signals s c)
-      (cut_routes signals s last route)
-
-  pub one_more : (cs : List Cut) → AreBefore (cs ++ last ∷ []) cs last
-  one_more cs = record {
-    nothing = all_nothing_more cs;
-    routes = λ signals s route. all_routes_more signals s cs route;
-  }
-
-pub popped : (old new : List Cut) (result : Option Cut) (last : Cut)
-    → old ≡ new ++ option_to_list result → result ≡ Some last → AreBefore old new last
-popped old new result last items is =
-    subst (λ o. AreBefore o new last)
-    (sym (items ∙ ap (λ r. new ++ option_to_list r) is)) (one_more last new)
-
-pub pushed : (old new : List Cut) (last : Cut) → new ≡ old ++ last ∷ [] → AreBefore new old last
-pushed old new last items = subst (λ n. AreBefore n old last) (sym items) (one_more last old)
-
--- the last part and the one before it, taken as one
-pub two_more : (all middle front : List Cut) (first second whole : Cut)
-    → AreBefore all middle second → AreBefore middle front first → IsChain first second whole
-    → AreBefore all front whole
-two_more all middle front first second whole later earlier chain = record {
-  nothing =
-      later.nothing
-      ∙ ap (λ b. b && is_nothing second) earlier.nothing
-      ∙ and_of (list_all is_nothing front) (is_nothing first) (is_nothing second)
-      ∙ ap (λ b. list_all is_nothing front && b) (sym chain.nothing);
-  routes = λ signals s route.
-      later.routes signals s route
-      ∙ flat_alike (all_routes signals s middle)
-      (λ r. flat_map (all_routes signals s front) (cut_routes signals s first r))
-      (λ r. earlier.routes signals s r) (cut_routes signals s second route)
-      ∙ sym (flat_flat (cut_routes signals s first) (all_routes signals s front)
-      (cut_routes signals s second route))
-      ∙ ap (flat_map (all_routes signals s front)) (sym (chain.routes signals s route));
-}
-
--- ---- statements
-
-pub whole_block : (s : ℕ) (statement : FlatStatement) (cs : List Cut) (whole : Cut)
-    → CutsAll s statement cs → AreBefore cs [] whole → Cuts s statement whole
-whole_block s statement cs whole each all = record {
-  nothing = sym all.nothing ∙ each.nothing;
-  routes = λ signals route.
-      sym (all.routes signals s route
-      ∙ flat_itself (cut_routes signals s whole route))
-      ∙ each.routes signals route;
-}
-
--- the cuts so far, and the statements that are left
-pub record SoFar (s : ℕ) (whole rest : FlatStatement) (cs : List Cut) : Type 0 where
-  pub nothing : (list_all is_nothing cs && not (assigns rest s)) ≡ not (assigns whole s)
-  pub routes : (signals : List SignalForm) (route : Route) →
-      flat_map (all_routes signals s cs) (routes_before signals s rest route)
-      ≡ routes_before signals s whole route
-
-pub none_yet : (s : ℕ) (whole : FlatStatement) → SoFar s whole whole []
-none_yet s whole = record {
-  nothing = refl;
-  routes = λ signals route. flat_itself (routes_before signals s whole route);
-}
-
-pub next_cut : (s : ℕ) (whole first rest : FlatStatement) (cs more : List Cut) (c : Cut)
-    → SoFar s whole (after first rest) cs → Cuts s first c → AreBefore more cs c
-    → SoFar s whole rest more
-next_cut s whole first rest cs more c so cuts added = record {
-  nothing =
-      ap (λ b. b && not (assigns rest s)) added.nothing
-      ∙ ap (λ b. (list_all is_nothing cs && b) && not (assigns rest s)) cuts.nothing
-      ∙ neither (list_all is_nothing cs) (assigns first s) (assigns rest s)
-      ∙ so.nothing;
-  routes = λ signals route.
-      flat_alike (all_routes signals s more)
-      (λ r. flat_map (all_routes signals s cs) (cut_routes signals s c r))
-      (λ r. added.routes signals s r) (routes_before signals s rest route)
-      ∙ sym (flat_flat (cut_routes signals s c) (all_routes signals s cs)
-      (routes_before signals s rest route))
-      ∙ ap (flat_map (all_routes signals s cs))
-      (flat_alike (cut_routes signals s c) (routes_before signals s first)
-      (λ r. cuts.routes signals r) (routes_before signals s rest route))
-      ∙ so.routes signals route;
-}
-  where
-    neither : (a x y : Bool) → ((a && not x) && not y) ≡ (a && not (x || y))
-    neither true true y = refl
-    neither true false y = refl
-    neither false x y = refl
-
-pub all_cut : (s : ℕ) (whole rest : FlatStatement) (cs : List Cut) → SoFar s whole rest cs
-    → IsFalse (assigns rest s)
-    → ((signals : List SignalForm) (route : Route) →
-    routes_before signals s rest route ≡ route ∷ [])
-    → CutsAll s whole cs
-all_cut s whole rest cs so none stays = record {
-  nothing =
-      and_right (list_all is_nothing cs)
-      ∙ ap (λ b. list_all is_nothing cs && not b) (sym none) ∙ so.nothing;
-  routes = λ signals route.
-      sym (ap (flat_map (all_routes signals s cs)) (stays signals route)
-      ∙ append-nil (all_routes signals s cs route))
-      ∙ so.routes signals route;
-}
 
 -- ---- branches and assignments
 

@@ -1,9 +1,9 @@
 -- Every obligation of an admitted design is one of the design's.
 use Rattle.std.proofs.Common.{◌≡◌, ℕ, zero, suc, ◌+◌, ◌<◌, ◌≤◌, Bool, true, false, cond, ◌&&◌, ◌==◌}
 use Rattle.std.proofs.Common.{not, ltb-true, List, [], ◌∷◌, ◌++◌, length, map, filter, flat_map}
-use Rattle.std.proofs.Common.{reverse, ◌⊎◌, inl, inr, ⊎_elim, refl, sym, ap, subst, ◌∙◌, arith}
+use Rattle.std.proofs.Common.{reverse, ⊎_elim, refl, sym, ap, subst, ◌∙◌, arith}
 use Rattle.std.proofs.Common.{Option, Some, None, lt-ltb}
-use Rattle.std.specs.Prelude.{Contains, All, IsTrue, IsFalse}
+use Rattle.std.specs.Prelude.{Contains, All, IsTrue}
 use Rattle.std.specs.List.{range_with_len, list_any}
 use Rattle.std.proofs.lemmas.Bool.{or_left, eqb-true}
 use Rattle.std.proofs.lemmas.List.{reverse-append}
@@ -19,8 +19,7 @@ use Rattle.sv_flat.specs.Soundness.{statement_sound, is_signal, sound}
 use Rattle.std.specs.List.{list_all}
 use Rattle.sv_flat.specs.Assigned.{assigns}
 use Rattle.sv_flat.specs.Readings.{ReadForm, reads, names_signal}
-use Rattle.sv_flat.specs.Reads.{is_combinational}
-use Rattle.sv_flat.specs.Processes.{is_clocked, is_register, signal_numbers, signals_that, drivers}
+use Rattle.sv_flat.specs.Processes.{is_clocked, is_register, signal_numbers, drivers}
 use Rattle.sv_flat.specs.SignalLists.{seen}
 use Rattle.sv_flat.specs.Clocks.{is_clock, processes_of}
 use Rattle.sv_flat.specs.Admission.{IsAdmitted}
@@ -29,7 +28,6 @@ use Rattle.sv_flat.proofs.Depths.{first_of, second_of}
 use Rattle.sv_flat.proofs.LeastSets.{from_some, some_from, in_those, those_below}
 use Rattle.sv_flat.proofs.LeastSets.{Contains-from_filter}
 use Rattle.sv_flat.proofs.ReadSignals.{reads_signals}
-use Rattle.sv_flat.proofs.SameRuns.{none_found}
 use Rattle.sv_flat.proofs.AdmittedFacts.{and_true, is_process, body_is_sound, assigns_no_clock}
 use Rattle.sv_flat.proofs.AdmittedFacts.{targets_are_combinational}
 use Rattle.sv_obl.specs.declared.frames.Frame.{Frame}
@@ -43,8 +41,8 @@ use Rattle.sv_obl.specs.Routes.{Route, open_route, behind, is_all, with_put, wit
 use Rattle.sv_obl.specs.Routes.{routes_before}
 use Rattle.sv_obl.specs.Views.{IsGoalAmong, IsAmong}
 use Rattle.sv_obl.specs.DesignQueries.{Ascends, IsExpressionOf, IsStepOf, IsTargetIn}
-use Rattle.sv_obl.specs.DesignQueries.{AsksSelector, IsGoalOf, IsQueryOf, HasPlace, IsPlaced}
-use Rattle.sv_obl.proofs.PathLists.{only, from_cond, from_flat_map, contained_all, all_contained}
+use Rattle.sv_obl.specs.DesignQueries.{IsGoalOf, IsQueryOf, HasPlace, IsPlaced}
+use Rattle.sv_obl.proofs.PathLists.{only, from_flat_map, contained_all, all_contained}
 use Rattle.sv_obl.proofs.PathRuns.{step_of}
 use Rattle.sv_obl.proofs.RoutePaths.{Matches, AllMatch}
 use Rattle.sv_obl.proofs.RouteObligations.{steps_same, paths_are, all_match}

@@ -22,6 +22,7 @@ pub mod RouteObligations
 pub mod RoutePaths
 pub mod SelectorBounds
 pub mod SelectorFacts
+pub mod ShortFacts
 pub mod StatementFacts
 pub mod TakenPaths
 pub mod TargetFacts

@@ -2,7 +2,6 @@
 -- goes; which paths a target has stands in `Paths`.
 use Rattle.std.specs.Prelude.{◌≡◌, ℕ, Bool, true, false, ◌&&◌, not, if◌then◌else◌, List, [], ◌∷◌}
 use Rattle.std.specs.Prelude.{◌++◌, map, flat_map}
-use Rattle.std.specs.List.{list_all}
 use Rattle.sv_flat.specs.Design.{SignalForm, FlatStatement}
 use Rattle.sv_flat.specs.Views.{typed_tree}
 use Rattle.sv_flat.specs.Assigned.{assigns}
@@ -39,29 +38,9 @@ pub record Cuts (s : ℕ) (statement : FlatStatement) (c : Cut) : Type 0 where
   pub routes : (signals : List SignalForm) (route : Route) →
       cut_routes signals s c route ≡ routes_before signals s statement route
 
--- ---- cuts one after the other
-
-abbrev pub all_routes : List SignalForm → (target : ℕ) → List Cut → Route → List Route
-all_routes signals s [] route = route ∷ []
-all_routes signals s (c ∷ cs) route =
-    flat_map (cut_routes signals s c) (all_routes signals s cs route)
-
--- the same of a statement and cuts one after the other
-pub record CutsAll (s : ℕ) (statement : FlatStatement) (cs : List Cut) : Type 0 where
-  pub nothing : list_all is_nothing cs ≡ not (assigns statement s)
-  pub routes : (signals : List SignalForm) (route : Route) →
-      all_routes signals s cs route ≡ routes_before signals s statement route
-
 -- one cut goes as two one after the other
 pub record IsChain (first second whole : Cut) : Type 0 where
   pub nothing : is_nothing whole ≡ (is_nothing first && is_nothing second)
   pub routes : (signals : List SignalForm) (s : ℕ) (route : Route) →
       cut_routes signals s whole route
       ≡ flat_map (cut_routes signals s first) (cut_routes signals s second route)
-
--- some cuts go as others and then one more
-pub record AreBefore (all front : List Cut) (last : Cut) : Type 0 where
-  pub nothing : list_all is_nothing all ≡ (list_all is_nothing front && is_nothing last)
-  pub routes : (signals : List SignalForm) (s : ℕ) (route : Route) →
-      all_routes signals s all route
-      ≡ flat_map (all_routes signals s front) (cut_routes signals s last route)

@@ -10,6 +10,7 @@ pub mod Obligations
 pub mod PathValues
 pub mod Paths
 pub mod Routes
+pub mod Shorts
 pub mod Trails
 pub mod Validity
 pub mod Wanted

@@ -1,14 +1,16 @@
 // Statements as far as they assign one target, so that a walk asks nothing twice.
-ghost use Rattle.std.specs.Prelude.{◌≡◌, ℕ, ◌-◌, ◌^◌, Bool, [], length, IfOk, OnOk};
+ghost use Rattle.std.specs.Prelude.{◌≡◌, ℕ, Bool, IfOk};
 ghost use Rattle.sv_num.specs.declared.faults.Place.{Place};
 ghost use Rattle.sv_flat.specs.Design.{FlatStatement, assign, branch};
-ghost use Rattle.sv_flat.specs.Views.{typed_tree, flat_statement, flat_statements, chain_of};
-ghost use Rattle.sv_obl.specs.Cuts.{is_nothing, Cuts, CutsAll, IsChain, AreBefore};
+ghost use Rattle.sv_flat.specs.Views.{typed_tree};
+ghost use Rattle.sv_obl.specs.Cuts.{is_nothing, Cuts, IsChain};
+ghost use Rattle.sv_obl.specs.Shorts.{statement_of, IsMarked};
 ghost use Rattle.sv_obl.specs.Trails.{piece_forms};
 
 use crate::pieces::is_some_of;
+use crate::shorts::Short;
 use std::alloc::{AllocError, Global};
-use sv_flat::{FExpr, FStmt, Piece, SigId};
+use sv_flat::{FExpr, Piece, SigId};
 use sv_num::Place;
 
 /// What is left of a statement where all that does not assign a target is cut away.
@@ -56,57 +58,6 @@ fn chained<'a>(alloc: Global, first: Cut<'a>, second: Cut<'a>) -> Result<Cut<'a>
     })
 }
 
-// The last of some cuts, and nothing where there are none.
-fn last_of<'a>(cuts: &mut Vec<Cut<'a>>) -> Cut<'a>
-    ensures before { AreBefore cuts.old.items cuts.new.items result }
-    ensures count { length cuts.new.items ≡ length cuts.old.items - 1 }
-{
-    match cuts.pop() {
-        Some(last) => last,
-        None => Cut::Nothing,
-    }
-}
-
-// The last 2^depth of some cuts, or as many as there are, taken as one. Halves of halves keep the
-// walk from going as deep as a block is long.
-fn last_together<'a>(
-    depth: u32,
-    alloc: Global,
-    cuts: &mut Vec<Cut<'a>>,
-) -> Result<Cut<'a>, AllocError>
-    ensures before { IfOk result (λ last. AreBefore cuts.old.items cuts.new.items last) }
-    ensures count { OnOk result (length cuts.new.items ≡ length cuts.old.items - 2 ^ depth) }
-{
-    if depth == 0 {
-        return Ok(last_of(cuts));
-    }
-    if cuts.is_empty() {
-        return Ok(Cut::Nothing);
-    }
-    let second = last_together(depth - 1, alloc, cuts)?;
-    let first = last_together(depth - 1, alloc, cuts)?;
-    chained(alloc, first, second)
-}
-
-// All of some cuts, taken as one.
-fn together<'a>(alloc: Global, cuts: Vec<Cut<'a>>) -> Result<Cut<'a>, AllocError>
-    ensures { IfOk result (λ whole. AreBefore cuts.entry.items [] whole) }
-{
-    let mut rest = cuts;
-    last_together(64, alloc, &mut rest)
-}
-
-// Adds a cut, unless it is nothing.
-fn add_cut<'a>(cuts: &mut Vec<Cut<'a>>, last: Cut<'a>) -> Result<(), AllocError>
-    ensures { OnOk result (AreBefore cuts.new.items cuts.old.items last.entry) }
-{
-    if is_nothing(&last) {
-        return Ok(());
-    }
-    cuts.push(last)?;
-    Ok(())
-}
-
 // The cut of a branch, from those of its arms.
 fn cut_branch<'a>(
     alloc: Global,
@@ -143,44 +94,40 @@ fn cut_assign<'a>(pieces: &'a [Piece], value: &'a FExpr, target: SigId) -> Cut<'
     }
 }
 
-/// The cut of a statement for a target; an error where memory runs out.
-#[cycle(cut)]
-pub fn cut_for<'a>(stmt: &'a FStmt, alloc: Global, target: SigId) -> Result<Cut<'a>, AllocError>
-    ensures { IfOk result (λ cut. Cuts target.0 (flat_statement stmt.now) cut) }
+/// The cut of a statement for a target; an error where memory runs out. What does not assign the
+/// target is passed over.
+pub fn cut_for<'a>(short: &Short<'a>, alloc: Global, target: SigId) -> Result<Cut<'a>, AllocError>
+    ensures { IsMarked short.now
+        → IfOk result (λ cut. Cuts target.0 (statement_of short.now) cut) }
 {
-    match stmt {
-        FStmt::Assign { pieces, value, .. } => Ok(cut_assign(pieces, value, target)),
-        FStmt::Block(stmts) => {
-            let cuts = cuts_for(stmts, alloc, target)?;
-            together(alloc, cuts)
+    match short {
+        Short::Nothing => Ok(Cut::Nothing),
+        Short::Assign { pieces, value } => Ok(cut_assign(*pieces, *value, target)),
+        Short::Chain {
+            targets,
+            first,
+            second,
+        } => {
+            if !targets.contains(&target.0) {
+                return Ok(Cut::Nothing);
+            }
+            let first = cut_for(first, alloc, target)?;
+            let second = cut_for(second, alloc, target)?;
+            chained(alloc, first, second)
         }
-        FStmt::If {
+        Short::Branch {
+            targets,
             place,
             cond,
             yes,
             no,
         } => {
+            if !targets.contains(&target.0) {
+                return Ok(Cut::Nothing);
+            }
             let first = cut_for(yes, alloc, target)?;
             let second = cut_for(no, alloc, target)?;
-            cut_branch(alloc, *place, cond, first, second)
+            cut_branch(alloc, *place, *cond, first, second)
         }
     }
-}
-
-// Those of some statements, as far as they are something.
-#[cycle(cut)]
-fn cuts_for<'a>(
-    stmts: &'a [FStmt],
-    alloc: Global,
-    target: SigId,
-) -> Result<Vec<Cut<'a>>, AllocError>
-    ensures { IfOk result (λ cuts.
-        CutsAll target.0 (chain_of (flat_statements stmts.now)) cuts.items) }
-{
-    let mut cuts = Vec::new(alloc);
-    for stmt in stmts {
-        let cut = cut_for(stmt, alloc, target)?;
-        add_cut(&mut cuts, cut)?;
-    }
-    Ok(cuts)
 }

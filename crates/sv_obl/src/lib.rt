@@ -10,9 +10,10 @@
 //! `obligations` takes an admitted design and gives exactly the list of the definition in its
 //! order, or the first limit that the design passes; `specs/DesignQueries.antt` says what makes an
 //! obligation one of the design's, as each of them is. Inside, `specs/Routes.antt` tells paths as
-//! they are where no read is an earlier one, `specs/Cuts.antt` what of a statement is walked for a
-//! target, `specs/Trails.antt` ties routes to what is walked, and `specs/Answers.antt` the walk
-//! through all targets to the limits; those four are private.
+//! they are where no read is an earlier one, `specs/Shorts.antt` statements in short, each part with
+//! what it assigns, `specs/Cuts.antt` what of such a statement is walked for a target,
+//! `specs/Trails.antt` ties routes to what is walked, and `specs/Answers.antt` the walk through all
+//! targets to the limits; those five are private.
 #![tactic(auto)]
 
 mod cuts;
@@ -27,6 +28,7 @@ mod pieces;
 mod queries;
 mod reads;
 mod selectors;
+mod shorts;
 mod targets;
 mod trails;
 mod valuations;

@@ -11,6 +11,7 @@ ghost use Rattle.sv_obl.specs.Views.{obligation_of};
 use crate::faults::OblFault;
 use crate::queries::Query;
 use crate::selectors::add_selectors;
+use crate::shorts::shorts_of;
 use crate::targets::add_target;
 use std::alloc::{AllocError, Global};
 use sv_design::Design;
@@ -28,9 +29,10 @@ fn count_of(design: &Design) -> u32
 fn list_targets(alloc: Global, design: &Design) -> Result<Vec<Query>, OblFault>
     ensures { ListsTargets (design_of design.now) result }
 {
+    let shorts = shorts_of(alloc, design.processes())?;
     let mut queries = Vec::new(alloc);
     for s in 0..count_of(design) {
-        add_target(alloc, design, SigId(s), &mut queries)?;
+        add_target(alloc, design, &shorts, SigId(s), &mut queries)?;
     }
     Ok(queries)
 }

@@ -108,8 +108,8 @@ fn add_held(held: bool, target: SigId, names: &mut Vec<u32>) -> Result<(), Alloc
     Ok(())
 }
 
-// The numbers in ascending order, each once.
-fn set_of(alloc: Global, names: &[u32]) -> Result<BTreeSet<u32>, AllocError>
+/// The numbers in ascending order, each once; an error where memory runs out.
+pub fn set_of(alloc: Global, names: &[u32]) -> Result<BTreeSet<u32>, AllocError>
     ensures { IfOk result (λ set. set.keys ≡ fold (insert_key nat_cmp) [] names.now) }
 {
     let mut set = BTreeSet::new(alloc);

@@ -3,10 +3,12 @@ ghost use Rattle.std.specs.Prelude.{◌≡◌, ℕ, ◌<◌, ◌≤◌, [], ◌+
 ghost use Rattle.std.specs.Prelude.{OnOk};
 ghost use Rattle.sv_flat.specs.ByNumber.{signal_forms};
 ghost use Rattle.sv_flat.specs.Processes.{is_clocked};
-ghost use Rattle.sv_flat.specs.Views.{process_form, process_kind, flat_statement, design_of};
+ghost use Rattle.sv_flat.specs.Clocks.{processes_of};
+ghost use Rattle.sv_flat.specs.Views.{process_form, process_kind, design_of};
 ghost use Rattle.sv_obl.specs.Answers.{Answers, target_excess, excess_at};
 ghost use Rattle.sv_obl.specs.Obligations.{target_obligations};
 ghost use Rattle.sv_obl.specs.Routes.{Route, open_route, routes_before, names_on, route_obligation};
+ghost use Rattle.sv_obl.specs.Shorts.{statement_of, IsMarked, AreShort};
 ghost use Rattle.sv_obl.specs.Trails.{routes_of, Finds};
 ghost use Rattle.sv_obl.specs.Views.{obligation_of};
 
@@ -15,6 +17,7 @@ use crate::faults::{OblFault, WalkFault};
 use crate::nodes::some_large;
 use crate::path_queries::query_of;
 use crate::queries::Query;
+use crate::shorts::Short;
 use crate::trails::Trail;
 use crate::walks::before;
 use std::alloc::{AllocError, Global};
@@ -25,14 +28,15 @@ use sv_flat::{Process, SigId, Signal};
 fn paths_of<'a>(
     alloc: Global,
     signals: &[Signal],
-    process: &'a Process,
+    short: &Short<'a>,
     target: SigId,
 ) -> Result<Vec<Trail<'a>>, OblFault>
-    requires { target.0 < length signals.now }
+    requires known { target.0 < length signals.now }
+    requires marked { IsMarked short.now }
     ensures { Finds target.0 (routes_before (signal_forms signals.now) target.0
-        (flat_statement process.now.body) open_route) result }
+        (statement_of short.now) open_route) result }
 {
-    let cut = cut_for(&process.body, alloc, target)?;
+    let cut = cut_for(short, alloc, target)?;
     match before(&cut, alloc, signals, target, Trail::open(alloc)) {
         Ok(trails) => Ok(trails),
         Err(WalkFault::TooMany) => Err(OblFault::Paths(target)),
@@ -44,18 +48,19 @@ fn paths_of<'a>(
 fn paths_within<'a>(
     alloc: Global,
     signals: &[Signal],
-    process: &'a Process,
+    short: &Short<'a>,
     target: SigId,
     total: usize,
 ) -> Result<Vec<Trail<'a>>, OblFault>
     requires known { target.0 < length signals.now }
+    requires marked { IsMarked short.now }
     requires few { total ≤ 65536 }
     ensures excess { Answers (target_excess target.0 total (routes_before
-        (signal_forms signals.now) target.0 (flat_statement process.now.body) open_route)) result }
+        (signal_forms signals.now) target.0 (statement_of short.now) open_route)) result }
     ensures routes { IfOk result (λ trails. routes_of trails.items ≡ routes_before
-        (signal_forms signals.now) target.0 (flat_statement process.now.body) open_route) }
+        (signal_forms signals.now) target.0 (statement_of short.now) open_route) }
 {
-    let trails = paths_of(alloc, signals, process, target)?;
+    let trails = paths_of(alloc, signals, short, target)?;
     if some_large(&trails) {
         return Err(OblFault::Large(target));
     }
@@ -89,35 +94,39 @@ fn add_paths(
     alloc: Global,
     signals: &[Signal],
     process: &Process,
+    short: &Short,
     target: SigId,
     queries: &mut Vec<Query>,
 ) -> Result<(), OblFault>
     requires known { target.0 < length signals.now }
+    requires marked { IsMarked short.now }
     requires few { length queries.old.items ≤ 65536 }
     ensures excess { Answers (target_excess target.0 (length queries.old.items) (routes_before
-        (signal_forms signals.now) target.0 (flat_statement process.now.body) open_route)) result }
+        (signal_forms signals.now) target.0 (statement_of short.now) open_route)) result }
     ensures listed { (n : ℕ) → ((route : Route) → Contains (routes_before
-        (signal_forms signals.now) target.0 (flat_statement process.now.body) open_route) route
+        (signal_forms signals.now) target.0 (statement_of short.now) open_route) route
         → All (λ t. t < n)
         (names_on (is_clocked (process_kind process.now.kind)) target.0 route))
         → OnOk result (map obligation_of queries.new.items ≡ map obligation_of queries.old.items
         ++ map (route_obligation n (process_form process.now) target.0) (routes_before
-        (signal_forms signals.now) target.0 (flat_statement process.now.body) open_route)) }
+        (signal_forms signals.now) target.0 (statement_of short.now) open_route)) }
 {
-    let trails = paths_within(alloc, signals, process, target, queries.len())?;
+    let trails = paths_within(alloc, signals, short, target, queries.len())?;
     add_queries(alloc, process, target, &trails, queries)?;
     Ok(())
 }
 
-/// Adds the obligations of a target; an error where it passes a limit after those before it, or
-/// where memory runs out.
+/// Adds the obligations of a target, where the bodies of the processes are given in short; an error
+/// where it passes a limit after those before it, or where memory runs out.
 pub fn add_target(
     alloc: Global,
     design: &Design,
+    shorts: &[Short],
     target: SigId,
     queries: &mut Vec<Query>,
 ) -> Result<(), OblFault>
     requires known { target.0 < length design.now.signals.items }
+    requires shorts { AreShort (processes_of (design_of design.now)) shorts.now }
     requires few { length queries.old.items ≤ 65536 }
     ensures excess { Answers
         (excess_at (design_of design.now) (length queries.old.items) target.0) result }
@@ -131,6 +140,7 @@ pub fn add_target(
                 alloc,
                 design.signals(),
                 &design.processes()[place],
+                &shorts[place],
                 target,
                 queries,
             )

@@ -1,4 +1,4 @@
-use Rattle.std.proofs.Common.{[], ◌++◌, flat_map, map, All, sym, ap, subst, ◌∙◌}
+use Rattle.std.proofs.Common.{[], ◌++◌, flat_map, All, sym, ap, subst, ◌∙◌}
 use Rattle.sv_flat.specs.Processes.{signal_numbers}
 use Rattle.sv_flat.specs.Views.{design_of}
 use Rattle.sv_obl.specs.DesignQueries.{IsQueryOf, IsPlaced}

@@ -1,0 +1,46 @@
+use Rattle.std.proofs.Common.{[], sym, ap, subst, ◌+◌, drop}
+use Rattle.std.specs.Prelude.{IfOk}
+use Rattle.sv_flat.specs.Design.{assign}
+use Rattle.sv_flat.specs.Views.{typed_tree, flat_statement, flat_statements, chain_of}
+use Rattle.sv_obl.specs.Shorts.{IsShort, EndsIn, SoFar}
+use Rattle.sv_obl.proofs.CutFacts.{on_ok}
+use Rattle.sv_obl.specs.Trails.{piece_forms}
+use Rattle.sv_obl.proofs.ShortFacts.{none_so_far, one_so_far, all_short}
+use Rattle.sv_obl.proofs.StatementFacts.{block_is, next_statement}
+use Rattle.sv_obl.proofs.shorts.+short.Goals as goal
+
+pub short_of-returns-in-Assign : goal.short_of-returns-in-Assign
+short_of-returns-in-Assign t c =
+    subst (λ st. IsShort st c.assigned.result) (sym (ap flat_statement c.in-Assign.is))
+    (subst (λ ps. IsShort (assign (piece_forms ps) c.in-Assign.place c.in-Assign.blocking
+    (typed_tree c.in-Assign.value)) c.assigned.result) c.deref.ensures.value
+    (c.assigned.ensures c.in-Assign.place c.in-Assign.blocking))
+
+pub short_of-returns-in_ok-shorts-in-Block : goal.short_of-returns-in_ok-shorts-in-Block
+short_of-returns-in_ok-shorts-in-Block t c =
+    let chain = chain_of (flat_statements c.deref-in-Block.result.now) in
+    let shorts = c.in_ok-shorts-in-Block.shorts.items in
+    subst (λ st. IfOk c.together.result (IsShort st))
+    (sym (block_is c.args.stmt.now c.in-Block.stmts c.deref-in-Block.result.now c.in-Block.is
+    c.deref-in-Block.ensures.value))
+    (on_ok c.together.result (EndsIn shorts []) (IsShort chain)
+    (λ whole ends. all_short chain shorts whole c.in_ok-shorts-in-Block.ensures ends)
+    c.together.ensures)
+
+pub block_shorts-loop-stmt-init : goal.block_shorts-loop-stmt-init
+block_shorts-loop-stmt-init t c =
+    let whole = chain_of (flat_statements c.args.stmts.now) in
+    subst (SoFar whole whole) (sym c.new-shorts.ensures.items) (none_so_far whole)
+
+pub block_shorts-loop-stmt-preserved : goal.block_shorts-loop-stmt-preserved
+block_shorts-loop-stmt-preserved t c =
+    let stmts = c.args.stmts.now in
+    let i = c.loop-stmt.stmt-index in
+    let stmt = c.stmt-item.result in
+    let whole = chain_of (flat_statements stmts) in
+    let rest = chain_of (flat_statements (drop (i + 1) stmts)) in
+    one_so_far whole (flat_statement stmt) rest c.loop-stmt.shorts.items c.push.new.self.items
+    c.in_ok-short.short
+    (subst (λ st. SoFar whole st c.loop-stmt.shorts.items)
+    (next_statement stmts i stmt c.loop-stmt-test.true c.stmt-item.is) c.loop-stmt.invariant)
+    c.in_ok-short.ensures c.in_ok-push.ensures.items

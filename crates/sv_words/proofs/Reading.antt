@@ -1,0 +1,174 @@
+-- From a parse by `clap` to the words of `specs/Words.antt`.
+use Rattle.std.proofs.Common.{◌≡◌, ◌∙◌, ◌⊎◌, ℕ, Bool, true, false, List, [], ◌∷◌, length, Option, Some, None, is_some, Result, refl, sym, ap, subst, inl, inr, arith, ne_eqb, true≢false, codes}
+use Rattle.std.specs.Prelude.{option_map, slice_get, string_bytes, String, ⊤}
+use Rattle.std.specs.Str.Parse.{ParsesUnsigned}
+use Rattle.std.specs.Borrow.{Bor}
+use Rattle.std.specs.declared.alloc.Global.{Global}
+use Rattle.clap.specs.Words.{App, FailsBy, HasKind, HasMatchesOf, IsParsedFrom, Kinds, Row, Text, app_of, fault_of, first_of, first_value, found_of, is_simple, is_simple_and_free, kind_of, matches_of, one_text, rows_of}
+use Rattle.clap.specs.Walk.{is_empty}
+use Rattle.clap.specs.Matches.{ReadsOne, matched_of}
+use Rattle.clap.proofs.OnLiterals.{clap_on_literals}
+use Rattle.clap.proofs.WalkLemmas.{first_value-rows}
+use Rattle.clap.specs.declared.builder.command.Command.{Command as Line}
+use Rattle.clap.specs.declared.error.Error.{Error}
+use Rattle.clap.specs.declared.error.kind.ErrorKind.{ErrorKind}
+use Rattle.clap.specs.declared.error.kind.ErrorKind.TheVariants as kind
+use Rattle.clap.specs.declared.parser.matches.ArgMatches.{ArgMatches}
+use Rattle.clap.specs.declared.parser.matches.Found.{Found}
+use Rattle.clap.specs.declared.parser.matches.MatchedArg.{MatchedArg}
+use Rattle.sv_words.specs.Found.{HasNumber, HasNumbers, IsReadAs, Rejects}
+use Rattle.sv_words.specs.Lines.{command_named, found_in, greatest, is_read, line_of, needed, number}
+use Rattle.sv_words.specs.Words.{Request, check, list, number_of, plain, request_in, request_of, request_with, sim, usage_of}
+use Rattle.sv_words.specs.declared.command.Command.{Command}
+use Rattle.sv_words.specs.declared.command.Command.TheVariants as asked
+use Rattle.sv_words.specs.declared.command.CommandName.{CommandName}
+use Rattle.sv_words.specs.declared.command.CommandName.TheVariants as name
+use Rattle.sv_words.specs.declared.command.UsageKind.TheVariants.{UnknownCommand, Words}
+use Rattle.sv_words.specs.declared.command.WordFault.{WordFault}
+use Rattle.sv_words.specs.declared.command.WordFault.TheVariants.{OutOfMemory, Usage}
+use Rattle.sv_words.proofs.Given.{StandsAt, number_is_read, required_is_given, value_is_read}
+
+-- ---- the lines, computed
+
+free_line : (n : CommandName) → is_simple_and_free (line_of n) ≡ true
+unfolding line_of clap_on_literals
+free_line name.Check = refl
+free_line name.List = refl
+free_line name.Sim = refl
+
+simple_line : (n : CommandName) → is_simple (line_of n) ≡ true
+unfolding line_of clap_on_literals
+simple_line name.Check = refl
+simple_line name.List = refl
+simple_line name.Sim = refl
+
+file_stands : (n : CommandName) → StandsAt (line_of n) 0 (needed (codes "FILE"))
+unfolding line_of
+file_stands name.Check = record { line = refl; at = refl; once = refl; own = refl }
+file_stands name.List = record { line = refl; at = refl; once = refl; own = refl }
+file_stands name.Sim = record { line = refl; at = refl; once = refl; own = refl }
+
+order_stands : StandsAt (line_of name.Sim) 2 (number (codes "order") 0 greatest)
+unfolding line_of
+order_stands = record { line = refl; at = refl; once = refl; own = refl }
+
+-- ---- what a parse says
+
+holds_numbers : (n : CommandName) (c : Line) (m : ArgMatches) → IsParsedFrom c m → app_of c ≡ line_of n → HasNumbers n m
+holds_numbers name.Check c m p same = tt
+holds_numbers name.List c m p same = tt
+holds_numbers name.Sim c m p same = λ text has.
+    value_is_read c m (line_of name.Sim) 2 (number (codes "order") 0 greatest) _ text p same order_stands refl has
+
+rejected_by : (a : App) (n : CommandName) (words : List Text) → a ≡ line_of n → is_empty (fault_of a words) ≡ is_read n words
+unfolding is_read
+rejected_by a n words same = ap (λ (x : App). is_empty (fault_of x words)) same
+
+found_by : (a : App) (n : CommandName) (words : List Text) → a ≡ line_of n → matches_of a words ≡ found_in n words
+unfolding found_in
+found_by a n words same = ap (λ (x : App). matches_of x words) same
+
+pub line_is_read : (n : CommandName) (c : Line) (m : ArgMatches) (words : List Text) → app_of c ≡ line_of n → IsParsedFrom c m
+    → HasMatchesOf (app_of c) words m → (is_simple_and_free (app_of c) ≡ true → fault_of (app_of c) words ≡ [])
+    → IsReadAs n words m
+line_is_read n c m words same p matches fails = record {
+  read = sym (rejected_by (app_of c) n words same) ∙ ap (λ (k : Kinds). is_empty k) (fails (ap is_simple_and_free same ∙ free_line n));
+  rows = (matches (ap is_simple same ∙ simple_line n)).0 ∙ found_by (app_of c) n words same;
+  file = required_is_given c m (line_of n) 0 (needed (codes "FILE")) p same (file_stands n) refl refl refl;
+  numbers = holds_numbers n c m p same;
+}
+
+some_kind : (ks : Kinds) (e : Error) → HasKind ks e → (kind_of e ≡ kind.OutOfMemory → ⊥) → is_empty ks ≡ false
+some_kind [] e (inl h) other = absurd (other h)
+some_kind [] e (inr h) other = absurd h
+some_kind (k ∷ ks) e h other = ne_eqb _ _ (λ z. omega arith)
+
+pub line_is_refused : (n : CommandName) (c : Line) (e : Error) (words : List Text) → app_of c ≡ line_of n
+    → (is_simple_and_free (app_of c) ≡ true → HasKind (fault_of (app_of c) words) e) → (kind_of e ≡ kind.OutOfMemory → ⊥)
+    → is_read n words ≡ false
+line_is_refused n c e words same fails other =
+    sym (rejected_by (app_of c) n words same)
+    ∙ some_kind (fault_of (app_of c) words) e (fails (ap is_simple_and_free same ∙ free_line n)) other
+
+pub rejects : (n : CommandName) (c : Line) (e : Error) (words : List Text) (k : ErrorKind) (fault : WordFault) → app_of c ≡ line_of n
+    → (is_simple_and_free (app_of c) ≡ true → HasKind (fault_of (app_of c) words) e) → k ≡ kind_of e
+    → (fault ≡ OutOfMemory) ⊎ ((fault ≡ Usage Words) × (k ≡ kind.OutOfMemory → ⊥)) → Rejects n words fault
+rejects n c e words k fault same fails is (inl h) = subst (Rejects n words) (sym h) tt
+rejects n c e words k fault same fails is (inr h) =
+    subst (Rejects n words) (sym h.0) (refl, line_is_refused n c e words same fails (λ oom. h.1 (is ∙ oom)))
+
+-- ---- what is found
+
+as_asked : (n : CommandName) (rows : List Row) (file : Text) (request : Request) → first_of (codes "FILE") rows ≡ Some file
+    → request_with n file rows ≡ request → request_in n rows ≡ Some request
+as_asked n rows file request f r = ap (option_map (λ (t : Text). request_with n t rows)) f ∙ ap Some r
+
+module _ (f : Found) where
+  in_rows : (id : Text) (value : Option (String Global)) → option_map string_bytes value ≡ first_value f id → first_of id (rows_of f) ≡ option_map string_bytes value
+  in_rows id value e = sym (first_value-rows f id) ∙ sym e
+
+  pub asks_check : (file : String Global) (top : Option (String Global)) → first_value f (codes "FILE") ≡ Some (string_bytes file)
+      → option_map string_bytes top ≡ first_value f (codes "top") → request_in name.Check (rows_of f) ≡ Some (plain (asked.Check file top))
+  asks_check file top is_file is_top = as_asked name.Check (rows_of f) (string_bytes file) _ (sym (first_value-rows f (codes "FILE")) ∙ is_file)
+      (ap (λ (t : Option Text). check (string_bytes file) t) (in_rows (codes "top") top is_top))
+
+  pub asks_list : (file : String Global) (top : Option (String Global)) → first_value f (codes "FILE") ≡ Some (string_bytes file)
+      → option_map string_bytes top ≡ first_value f (codes "top") → request_in name.List (rows_of f) ≡ Some (plain (asked.List file top))
+  asks_list file top is_file is_top = as_asked name.List (rows_of f) (string_bytes file) _ (sym (first_value-rows f (codes "FILE")) ∙ is_file)
+      (ap (λ (t : Option Text). list (string_bytes file) t) (in_rows (codes "top") top is_top))
+
+  pub asks_sim : (file : String Global) (level : Option (String Global)) (order : Option ℕ) (top : Option (String Global))
+      → first_value f (codes "FILE") ≡ Some (string_bytes file) → option_map string_bytes level ≡ first_value f (codes "level")
+      → order ≡ option_map number_of (first_value f (codes "order")) → option_map string_bytes top ≡ first_value f (codes "top")
+      → request_in name.Sim (rows_of f) ≡ Some (plain (asked.Sim file level order top))
+  asks_sim file level order top is_file is_level is_order is_top =
+      let levels = in_rows (codes "level") level is_level in
+      let orders = ap (option_map number_of) (sym (first_value-rows f (codes "order"))) ∙ sym is_order in
+      let tops = in_rows (codes "top") top is_top in
+      as_asked name.Sim (rows_of f) (string_bytes file) _ (sym (first_value-rows f (codes "FILE")) ∙ is_file)
+      (λ i. sim (string_bytes file) (levels i) (orders i) (tops i))
+
+  -- an option that is not there has no text
+  no_text : (id : Text) → first_value f id ≡ None → one_text f id ≡ None
+  no_text id e = go (matched_of f id) refl
+    where
+      here : (x : MatchedArg) (vs : List (Bor (List ℕ))) → option_map (λ (s : Bor (List ℕ)). s.now) (slice_get vs 0) ≡ None
+          → option_map (λ (s : Bor (List ℕ)). Rattle.clap.specs.Values.read_as x.reading s.now) (slice_get vs 0) ≡ None
+      here x [] h = refl
+      here x (v ∷ vs) h = absurd (true≢false (ap (λ (o : Option (List ℕ)). is_some o) h))
+
+      go : (o : Option MatchedArg) → matched_of f id ≡ o → one_text f id ≡ None
+      go None is = rw is refl
+      go (Some x) is = rw is (here x x.vals.items (rw is at e))
+
+-- the number of an option, as `get_one` reads it
+pub order_is : (E : Type 0) (G : List ℕ → Result ℕ E → Type 0) (m : ArgMatches) (id : Text) (least most : ℕ) (r : Option ℕ)
+    → HasNumber id least most m → (one_text (found_of m) id ≡ None → r ≡ None)
+    → ((t : List ℕ) → one_text (found_of m) id ≡ Some t → ReadsOne G t r)
+    → ((u : List ℕ) (x : Result ℕ E) → G u x → ParsesUnsigned 64 10 u x)
+    → r ≡ option_map number_of (first_value (found_of m) id)
+order_is E G m id least most r has none value only = go (first_value (found_of m) id) refl
+  where
+    go : (o : Option Text) → first_value (found_of m) id ≡ o → r ≡ option_map number_of (first_value (found_of m) id)
+    go None e = none (no_text (found_of m) id e) ∙ sym (ap (option_map number_of) e)
+    go (Some t) e =
+        let h = has t e in
+        number_is_read E G least most t r (value t h.0) only h.1 ∙ sym (ap (option_map number_of) e)
+
+-- ---- the words
+
+pub nothing_wrong : (w : Text) (rest : List Text) (n : CommandName) → command_named w ≡ Some n → is_read n (w ∷ rest) ≡ true → usage_of (w ∷ rest) ≡ None
+nothing_wrong w rest n named read =
+    ap (λ (o : Option CommandName). Rattle.std.specs.Option.option_map_or (λ (x : CommandName). Rattle.std.specs.Prelude.cond (is_read x (w ∷ rest)) None (Some Words)) o (Some UnknownCommand)) named
+    ∙ ap (λ (b : Bool). Rattle.std.specs.Prelude.cond b None (Some Words)) read
+
+pub wrong_words : (w : Text) (rest : List Text) (n : CommandName) → command_named w ≡ Some n → is_read n (w ∷ rest) ≡ false → usage_of (w ∷ rest) ≡ Some Words
+wrong_words w rest n named read =
+    ap (λ (o : Option CommandName). Rattle.std.specs.Option.option_map_or (λ (x : CommandName). Rattle.std.specs.Prelude.cond (is_read x (w ∷ rest)) None (Some Words)) o (Some UnknownCommand)) named
+    ∙ ap (λ (b : Bool). Rattle.std.specs.Prelude.cond b None (Some Words)) read
+
+pub asks_for : (w : Text) (rest : List Text) (n : CommandName) (rows : List Row) (request : Request) → command_named w ≡ Some n
+    → rows ≡ found_in n (w ∷ rest) → request_in n rows ≡ Some request → request_of (w ∷ rest) ≡ Some request
+asks_for w rest n rows request named is asks =
+    ap (λ (o : Option CommandName). Rattle.std.specs.Prelude.option_and_then (λ (x : CommandName). request_in x (found_in x (w ∷ rest))) o) named
+    ∙ ap (λ (rs : List Row). request_in n rs) (sym is) ∙ asks

@@ -1,0 +1,14 @@
+use Rattle.sv_words.specs.Lines.{line_of}
+use Rattle.sv_words.proofs.lines.line_of.Goals as goal
+
+pub returns-in-Check : goal.returns-in-Check
+unfolding line_of
+returns-in-Check c = rw c.in-Check.is c.check_line.ensures
+
+pub returns-in-List : goal.returns-in-List
+unfolding line_of
+returns-in-List c = rw c.in-List.is c.list_line.ensures
+
+pub returns-in-Sim : goal.returns-in-Sim
+unfolding line_of
+returns-in-Sim c = rw c.in-Sim.is c.sim_line.ensures

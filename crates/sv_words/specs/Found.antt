@@ -1,0 +1,37 @@
+-- Says only how the code goes, of a line that was read; the meaning stands in `Words.antt`.
+use Rattle.std.specs.Prelude.{◌≡◌, ℕ, List, Some, codes, is_some, true, ⊤}
+use Rattle.clap.specs.Words.{Text, Row, first_value, found_of, one_text, rows_of}
+use Rattle.clap.specs.Values.{IsUnsignedIn}
+use Rattle.clap.specs.declared.parser.matches.ArgMatches.{ArgMatches}
+use Rattle.sv_words.specs.Lines.{found_in, greatest, is_read}
+use Rattle.sv_words.specs.declared.command.CommandName.{CommandName}
+use Rattle.sv_words.specs.declared.command.CommandName.TheVariants as name
+use Rattle.sv_words.specs.declared.command.WordFault.{WordFault}
+use Rattle.sv_words.specs.declared.command.WordFault.TheVariants.{Usage, OutOfMemory}
+use Rattle.sv_words.specs.declared.command.UsageKind.TheVariants.{Words}
+use Rattle.std.specs.Prelude.{false}
+
+-- FILE is there
+abbrev pub HasFile : ArgMatches → Type 0
+HasFile m = is_some (first_value (found_of m) (codes "FILE")) ≡ true
+
+-- where the option is there, its value is a number within the bounds, and read as it is written
+abbrev pub HasNumber : Text → ℕ → ℕ → ArgMatches → Type 0
+HasNumber id least most m = (text : Text) → first_value (found_of m) id ≡ Some text
+    → (one_text (found_of m) id ≡ Some text) × IsUnsignedIn least most text
+
+abbrev pub HasNumbers : CommandName → ArgMatches → Type 0
+HasNumbers name.Sim m = HasNumber (codes "order") 0 greatest m
+HasNumbers _ m = ⊤
+
+-- the command's words were read, and these are their matches
+pub record IsReadAs (name : CommandName) (words : List Text) (m : ArgMatches) : Type 0 where
+  pub read : is_read name words ≡ true
+  pub rows : rows_of (found_of m) ≡ found_in name words
+  pub file : HasFile m
+  pub numbers : HasNumbers name m
+
+-- why the words were not read
+abbrev pub Rejects : CommandName → List Text → WordFault → Type 0
+Rejects name words (Usage kind) = (kind ≡ Words) × (is_read name words ≡ false)
+Rejects name words OutOfMemory = ⊤

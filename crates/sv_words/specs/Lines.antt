@@ -1,0 +1,68 @@
+-- The words of each command, as the simple command of `clap` that reads them. FILE is a word that
+-- stands alone and has to be there; an option is `--NAME VALUE` or `--NAME=VALUE`, before or behind
+-- it, once at most; after a word `--` no word is an option.
+use Rattle.std.specs.Prelude.{◌≡◌, ◌∷◌, ℕ, Bool, true, List, [], Option, Some, None, codes, cond}
+use Rattle.std.specs.Str.{bytes_eq}
+use Rattle.clap.specs.Words.{App, Rule, Row, Text, fault_of, matches_of, new_app, new_rule}
+use Rattle.clap.specs.Words.{with_rule}
+use Rattle.clap.specs.Walk.{is_empty}
+use Rattle.clap.specs.declared.builder.action.ArgAction.TheVariants.{Set}
+use Rattle.clap.specs.declared.builder.value_parser.ValueParser.TheVariants.{Unsigned}
+use Rattle.sv_words.specs.declared.command.CommandName.{CommandName}
+use Rattle.sv_words.specs.declared.command.CommandName.TheVariants.{Check, List as ListName, Sim}
+
+-- a word that stands alone and has to be there
+abbrev pub needed : Text → Rule
+needed id = record (new_rule id) { action = Some Set; required = true }
+
+-- an option with one value, any text
+abbrev pub option : Text → Rule
+option id = record (new_rule id) { long = Some id; action = Some Set; value_names = 1 }
+
+-- an option whose value is a number from `least` to `most`
+abbrev pub number : Text → (least most : ℕ) → Rule
+number id least most = record (option id) { parser = Some (Unsigned least most) }
+
+-- the greatest number that a u64 holds
+abbrev pub greatest : ℕ
+greatest = 18446744073709551615
+
+-- a command with no words yet, and without `-h` and `--help`
+abbrev pub named : Text → App
+named name = let a = new_app name in record a { top = record a.top { disable_help_flag = true } }
+
+-- `check FILE [--top M]`
+abbrev pub check_line : App
+check_line = with_rule (with_rule (named (codes "check")) (needed (codes "FILE")))
+    (option (codes "top"))
+
+-- `list FILE [--top M]`
+abbrev pub list_line : App
+list_line = with_rule (with_rule (named (codes "list")) (needed (codes "FILE")))
+    (option (codes "top"))
+
+-- `sim FILE [--level P] [--order N] [--top M]`
+abbrev pub sim_line : App
+sim_line = with_rule (with_rule (with_rule (with_rule (named (codes "sim"))
+    (needed (codes "FILE"))) (option (codes "level"))) (number (codes "order") 0 greatest))
+    (option (codes "top"))
+
+unfoldable pub line_of : CommandName → App
+line_of Check = check_line
+line_of ListName = list_line
+line_of Sim = sim_line
+
+-- the command that a first word names
+abbrev pub command_named : Text → Option CommandName
+command_named word =
+    cond (bytes_eq word (codes "check")) (Some Check)
+    (cond (bytes_eq word (codes "list")) (Some ListName)
+    (cond (bytes_eq word (codes "sim")) (Some Sim) None))
+
+-- `clap` reads the words: they begin with the command's name
+unfoldable pub is_read : CommandName → List Text → Bool
+is_read name words = is_empty (fault_of (line_of name) words)
+
+-- what it finds in them
+unfoldable pub found_in : CommandName → List Text → List Row
+found_in name words = matches_of (line_of name) words

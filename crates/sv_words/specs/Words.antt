@@ -1,0 +1,77 @@
+-- What words ask for, and what is wrong with words that ask for nothing.
+use Rattle.std.specs.Prelude.{◌≡◌, ◌∷◌, ℕ, List, [], map, Option, Some, None, codes, cond, ⊤}
+use Rattle.std.specs.Prelude.{option_map, option_and_then, string_bytes, String}
+use Rattle.std.specs.Option.{option_map_or}
+use Rattle.std.specs.Str.{bytes_eq}
+use Rattle.std.specs.Str.Parse.{digits_value, without_leading_plus}
+use Rattle.std.specs.declared.alloc.Global.{Global}
+use Rattle.clap.specs.Words.{Row, Text, first_of}
+use Rattle.sv_words.specs.Lines.{command_named, found_in, is_read}
+use Rattle.sv_words.specs.declared.command.Command.{Command}
+use Rattle.sv_words.specs.declared.command.Command.TheVariants as asked
+use Rattle.sv_words.specs.declared.command.CommandName.{CommandName}
+use Rattle.sv_words.specs.declared.command.CommandName.TheVariants as name
+use Rattle.sv_words.specs.declared.command.UsageKind.{UsageKind}
+use Rattle.sv_words.specs.declared.command.UsageKind.TheVariants.{NoCommand, UnknownCommand, Words}
+use Rattle.sv_words.specs.declared.command.WordFault.{WordFault}
+use Rattle.sv_words.specs.declared.command.WordFault.TheVariants.{Usage, OutOfMemory}
+
+-- the bytes of each word
+abbrev pub words_of : List (String Global) → List Text
+words_of words = map string_bytes words
+
+-- a command with what it was given: FILE, and the values of its options, where they are there
+pub data Request : Type 0 where
+  check : (file : Text) → (top : Option Text) → Request
+  list : (file : Text) → (top : Option Text) → Request
+  sim : (file : Text) → (level : Option Text) → (order : Option ℕ) → (top : Option Text) → Request
+
+-- the number that decimal digits spell, with a `+` before them or not
+abbrev pub number_of : Text → ℕ
+number_of text = digits_value 10 (without_leading_plus text)
+
+abbrev pub request_with : CommandName → Text → List Row → Request
+request_with name.Check file rows = check file (first_of (codes "top") rows)
+request_with name.List file rows = list file (first_of (codes "top") rows)
+request_with name.Sim file rows = sim file (first_of (codes "level") rows)
+    (option_map number_of (first_of (codes "order") rows)) (first_of (codes "top") rows)
+
+-- what is found in the words of a command asks for
+abbrev pub request_in : CommandName → List Row → Option Request
+request_in name rows =
+    option_map (λ file. request_with name file rows) (first_of (codes "FILE") rows)
+
+-- what the words ask for: of words that are read
+abbrev pub request_of : List Text → Option Request
+request_of [] = None
+request_of (word ∷ rest) =
+    option_and_then (λ name. request_in name (found_in name (word ∷ rest))) (command_named word)
+
+-- what is wrong with the words: nothing is where the first names a command and they are read
+abbrev pub usage_of : List Text → Option UsageKind
+usage_of [] = Some NoCommand
+usage_of (word ∷ rest) = option_map_or
+    (λ name. cond (is_read name (word ∷ rest)) None (Some Words))
+    (command_named word) (Some UnknownCommand)
+
+-- the words are a command's name and `--help`
+abbrev pub help_asked : List Text → Option CommandName
+help_asked (word ∷ option ∷ []) =
+    cond (bytes_eq option (codes "--help")) (command_named word) None
+help_asked _ = None
+
+-- a command, as the code holds it
+abbrev pub plain : Command → Request
+plain (asked.Check file top) = check (string_bytes file) (option_map string_bytes top)
+plain (asked.List file top) = list (string_bytes file) (option_map string_bytes top)
+plain (asked.Sim file level order top) = sim (string_bytes file)
+    (option_map string_bytes level) order (option_map string_bytes top)
+
+-- nothing is wrong with the words, and the command is what they ask for
+abbrev pub IsAskedBy : List Text → Command → Type 0
+IsAskedBy words command = (usage_of words ≡ None) × (request_of words ≡ Some (plain command))
+
+-- why the words give no command
+abbrev pub IsFaultOf : List Text → WordFault → Type 0
+IsFaultOf words (Usage kind) = usage_of words ≡ Some kind
+IsFaultOf words OutOfMemory = ⊤

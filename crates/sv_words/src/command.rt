@@ -1,0 +1,86 @@
+// What words may ask for, and what may be wrong with them.
+ghost use Rattle.sv_words.specs.declared.command.WordFault.TheVariants.{OutOfMemory};
+ghost use Rattle.std.specs.Prelude.{◌≡◌};
+
+use std::alloc::{AllocError, AllocFailed};
+use thiserror::Error;
+
+/// The commands of the program, by their first words.
+#[derive(Clone, Copy, Debug, PartialEq, Eq)]
+pub enum CommandName {
+    /// `check`
+    Check,
+    /// `list`
+    List,
+    /// `sim`
+    Sim,
+}
+
+/// What the words ask for. `file` is FILE, and `top` the name after `--top`, where there is one;
+/// either may be empty.
+#[derive(Debug, PartialEq, Eq, Drop)]
+pub enum Command {
+    /// `check FILE [--top M]`: say whether the text keeps its secrets.
+    Check {
+        /// The name of the text.
+        file: String,
+        /// The module to take as the top.
+        top: Option<String>,
+    },
+    /// `list FILE [--top M]`: list the text's obligations.
+    List {
+        /// The name of the text.
+        file: String,
+        /// The module to take as the top.
+        top: Option<String>,
+    },
+    /// `sim FILE [--level P] [--order N] [--top M]`: simulate the text's design.
+    Sim {
+        /// The name of the text.
+        file: String,
+        /// The point whose view is shown.
+        level: Option<String>,
+        /// The number of the order in which processes run, 0 to the greatest u64.
+        order: Option<u64>,
+        /// The module to take as the top.
+        top: Option<String>,
+    },
+}
+
+/// What is wrong with words that ask for nothing.
+#[derive(Clone, Copy, Debug, PartialEq, Eq)]
+pub enum UsageKind {
+    /// There are no words.
+    NoCommand,
+    /// The first word is no command.
+    UnknownCommand,
+    /// The other words do not go with the command.
+    Words,
+}
+
+/// Why words give no command.
+#[derive(Clone, Copy, Debug, PartialEq, Eq, Error)]
+pub enum WordFault {
+    /// They ask for nothing.
+    #[error("the words are no command")]
+    Usage(UsageKind),
+    /// Memory ran out.
+    #[error("out of memory")]
+    OutOfMemory,
+}
+
+impl From<AllocError> for WordFault {
+    ghost from_gives = { λ _ fault. fault ≡ OutOfMemory };
+
+    fn from(_error: AllocError) -> WordFault {
+        WordFault::OutOfMemory
+    }
+}
+
+impl<T: Drop> From<AllocFailed<T>> for WordFault {
+    ghost from_gives = { λ _ fault. fault ≡ OutOfMemory };
+
+    fn from(_error: AllocFailed<T>) -> WordFault {
+        WordFault::OutOfMemory
+    }
+}

@@ -1,0 +1,133 @@
+// The words of each command, as a command of `clap`.
+ghost use Rattle.std.specs.Prelude.{◌≡◌, IfOk, codes, false};
+ghost use Rattle.clap.specs.Words.{app_of, rule_of};
+ghost use Rattle.sv_words.specs.Lines.{command_named, line_of, named, needed, option, number};
+ghost use Rattle.sv_words.specs.Lines.{check_line, list_line, sim_line, greatest};
+
+use crate::command::CommandName;
+use clap::{Arg, ArgAction, value_parser};
+use std::alloc::{AllocError, Global};
+
+pub fn command_named(word: &str) -> Option<CommandName>
+    ensures { result ≡ command_named word.now }
+{
+    if word == "check" {
+        Some(CommandName::Check)
+    } else if word == "list" {
+        Some(CommandName::List)
+    } else if word == "sim" {
+        Some(CommandName::Sim)
+    } else {
+        None
+    }
+}
+
+pub fn line_of<'a>(alloc: Global, name: CommandName) -> Result<clap::Command<'a>, AllocError>
+    ensures { IfOk result (λ line. app_of line ≡ line_of name) }
+{
+    match name {
+        CommandName::Check => check_line(alloc),
+        CommandName::List => list_line(alloc),
+        CommandName::Sim => sim_line(alloc),
+    }
+}
+
+fn check_line<'a>(alloc: Global) -> Result<clap::Command<'a>, AllocError>
+    ensures { IfOk result (λ line. app_of line ≡ check_line) }
+{
+    named(
+        alloc,
+        "check",
+        "secv check",
+        "Say whether a secret can reach a public signal",
+    )?
+    .arg(file_word(alloc))?
+    .arg(top_option(alloc))
+}
+
+fn list_line<'a>(alloc: Global) -> Result<clap::Command<'a>, AllocError>
+    ensures { IfOk result (λ line. app_of line ≡ list_line) }
+{
+    named(
+        alloc,
+        "list",
+        "secv list",
+        "List the obligations of a design, one a line",
+    )?
+    .arg(file_word(alloc))?
+    .arg(top_option(alloc))
+}
+
+fn sim_line<'a>(alloc: Global) -> Result<clap::Command<'a>, AllocError>
+    ensures { IfOk result (λ line. app_of line ≡ sim_line) }
+{
+    named(
+        alloc,
+        "sim",
+        "secv sim",
+        "Simulate a design on the inputs that standard input gives, cycle by cycle",
+    )?
+    .arg(file_word(alloc))?
+    .arg(level_option(alloc))?
+    .arg(order_option(alloc))?
+    .arg(top_option(alloc))
+}
+
+// A command with no words yet, under its name, how it is called, and what it does.
+fn named<'a>(
+    alloc: Global,
+    name: &'a str,
+    call: &str,
+    about: &'a str,
+) -> Result<clap::Command<'a>, AllocError>
+    ensures { IfOk result (λ line. app_of line ≡ named name.entry.now) }
+{
+    let line = clap::Command::new(alloc, name)
+        .disable_help_flag(true)
+        .bin_name(call)?;
+    Ok(line.about(about))
+}
+
+fn file_word<'a>(alloc: Global) -> Arg<'a>
+    ensures rule { rule_of result ≡ needed (codes "FILE") }
+    ensures local { result.global ≡ false }
+{
+    Arg::new(alloc, "FILE")
+        .required(true)
+        .action(ArgAction::Set)
+        .help("The file of the design")
+}
+
+fn top_option<'a>(alloc: Global) -> Arg<'a>
+    ensures rule { rule_of result ≡ option (codes "top") }
+    ensures local { result.global ≡ false }
+{
+    Arg::new(alloc, "top")
+        .long("top")
+        .action(ArgAction::Set)
+        .value_name("MODULE")
+        .help("The module to take as the top")
+}
+
+fn level_option<'a>(alloc: Global) -> Arg<'a>
+    ensures rule { rule_of result ≡ option (codes "level") }
+    ensures local { result.global ≡ false }
+{
+    Arg::new(alloc, "level")
+        .long("level")
+        .action(ArgAction::Set)
+        .value_name("POINT")
+        .help("Show only the signals whose labels flow to this point")
+}
+
+fn order_option<'a>(alloc: Global) -> Arg<'a>
+    ensures rule { rule_of result ≡ number (codes "order") 0 greatest }
+    ensures local { result.global ≡ false }
+{
+    Arg::new(alloc, "order")
+        .long("order")
+        .action(ArgAction::Set)
+        .value_name("NUMBER")
+        .value_parser(value_parser!(u64))
+        .help("Run the processes in the order of this number")
+}

@@ -1,20 +1,19 @@
 -- What a parse gives of an argument, from what `clap` reads of the command.
-use Rattle.std.proofs.Common.{◌≡◌, ◌∙◌, ◌<◌, ◌≤◌, ◌⊎◌, ◌&&◌, ℕ, Bool, true, false, not, zero, suc, List, [], ◌∷◌, map, length, Option, Some, None, is_some, Result, Ok, Err, refl, sym, ap, subst, inl, inr, arith, true≢false, codes}
+use Rattle.std.proofs.Common.{◌≡◌, ◌∙◌, ◌<◌, ◌≤◌, ◌⊎◌, ◌&&◌, ℕ, Bool, true, false, not, zero, suc, List, [], ◌∷◌, map, length, Option, Some, None, is_some, refl, sym, ap, subst, inl, inr, arith, true≢false, codes}
 use Rattle.std.specs.Prelude.{option_map, slice_get, unwrap_or}
 use Rattle.std.specs.List.{All, list_all, slice_index_or}
 use Rattle.std.specs.Str.{bytes_eq}
-use Rattle.std.specs.Str.Parse.{ParsesUnsigned, digits_value, without_leading_plus}
 use Rattle.std.specs.Borrow.{Bor}
 use Rattle.std.proofs.lemmas.List.Elements.{All-get_or}
 use Rattle.std.proofs.lemmas.Slice.Eq.{bytes_eq-Decides}
 use Rattle.clap.specs.Facts.{Entry, EntryPasses, HasReading, PassesArg, ValuesPass, args_of, groups_of, least_values, parser_of, parser_of_value}
 use Rattle.clap.specs.Built.{IsAuto, IsParsedFrom, IsPlain, SameRules}
-use Rattle.clap.specs.Matches.{ReadsOne, first_value, found_of, matched_of, one_text}
-use Rattle.clap.specs.Values.{Accepts, IsUnsignedIn, read_as, reading_of}
+use Rattle.clap.specs.Matches.{first_value, found_of, matched_of, one_text}
+use Rattle.clap.specs.Values.{Accepts, read_as, reading_of}
 use Rattle.clap.specs.Walk.{Rule, Text, is_empty, rule_of}
 use Rattle.clap.specs.Simple.{App, IsSimple, app_of, has_simple_rules, is_ready, is_ready_leaf, shape_of}
 use Rattle.clap.proofs.WalkLemmas.{both}
-use Rattle.clap.proofs.SimpleLemmas.{is_false, is_nil, ready_simple, simple_groups}
+use Rattle.clap.proofs.SimpleLemmas.{is_false, ready_simple, simple_groups}
 use Rattle.clap.proofs.TakesLemmas.{each_rule, free_arg}
 use Rattle.clap.proofs.CallerLemmas.{entry_by_id, required_has_value, same_rules_by_id}
 use Rattle.clap.specs.declared.builder.action.ArgAction.TheVariants.{Set}
@@ -234,17 +233,7 @@ value_is_read c m a k r q t p same s parser has =
     let passes = λ (v : List ℕ) (any : PassesArg p.built b.id.now v).
     accepts_of b any.1 q v (same_rules_by_id c m p k x.d x.lt x.unique x.own any.0 any.1 any.2 any.3 any.4.0) mine any.4.1 in
     let got = entry_read p.built (found_of m) b.id.now t (λ (v : List ℕ). Accepts b.ignore_case q v) (reading_of q) parsed.values
-    (p.from.plain x.facts.plain).1 x.named reads passes (subst (λ (w : List ℕ). first_value (found_of m) w ≡ Some t) (sym id) has) in
-    (
+    (p.from.plain x.facts.plain).1 x.named reads passes (subst (λ (w : List ℕ). first_value (found_of m) w ≡ Some t) (sym id) has) in (
       subst (λ (w : List ℕ). one_text (found_of m) w ≡ Some (read_as (reading_of q) t)) id got.0,
       subst (λ (y : Bool). Accepts y q t) (ap (λ (y : Rule). y.ignore_case) x.is) got.1,
     )
-
--- ---- numbers
-
--- a text that passed is read as the number that its digits spell
-pub number_is_read : (E : Type 0) (G : List ℕ → Result ℕ E → Type 0) (least most : ℕ) (t : List ℕ) (r : Option ℕ)
-    → ReadsOne G t r → ((u : List ℕ) (x : Result ℕ E) → G u x → ParsesUnsigned 64 10 u x) → IsUnsignedIn least most t
-    → r ≡ Some (digits_value 10 (without_leading_plus t))
-number_is_read E G least most t (Some v) h only passed = ap Some (only t (Ok v) h).1
-number_is_read E G least most t None h only passed = absurd (only t (Err h.0) h.1 (passed.0, passed.1))

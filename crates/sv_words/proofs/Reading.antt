@@ -1,12 +1,9 @@
 -- From a parse by `clap` to the words of `specs/Words.antt`.
-use Rattle.std.proofs.Common.{◌≡◌, ◌∙◌, ◌⊎◌, ℕ, Bool, true, false, List, [], ◌∷◌, length, Option, Some, None, is_some, Result, refl, sym, ap, subst, inl, inr, arith, ne_eqb, true≢false, codes}
-use Rattle.std.specs.Prelude.{option_map, slice_get, string_bytes, String, ⊤}
-use Rattle.std.specs.Str.Parse.{ParsesUnsigned}
-use Rattle.std.specs.Borrow.{Bor}
+use Rattle.std.proofs.Common.{◌≡◌, ◌∙◌, ◌⊎◌, ℕ, true, false, List, [], ◌∷◌, Option, Some, refl, sym, ap, subst, inl, inr, arith, ne_eqb, codes}
+use Rattle.std.specs.Prelude.{option_map, string_bytes, String}
 use Rattle.std.specs.declared.alloc.Global.{Global}
-use Rattle.clap.specs.Words.{App, FailsBy, HasKind, HasMatchesOf, IsParsedFrom, Kinds, Row, Text, app_of, fault_of, first_of, first_value, found_of, is_simple, is_simple_and_free, kind_of, matches_of, one_text, rows_of}
+use Rattle.clap.specs.Words.{App, HasKind, HasMatchesOf, IsParsedFrom, Kinds, Row, Text, app_of, fault_of, first_of, first_value, is_simple, is_simple_and_free, kind_of, matches_of, rows_of}
 use Rattle.clap.specs.Walk.{is_empty}
-use Rattle.clap.specs.Matches.{ReadsOne, matched_of}
 use Rattle.clap.proofs.OnLiterals.{clap_on_literals}
 use Rattle.clap.proofs.WalkLemmas.{first_value-rows}
 use Rattle.clap.specs.declared.builder.command.Command.{Command as Line}
@@ -15,18 +12,16 @@ use Rattle.clap.specs.declared.error.kind.ErrorKind.{ErrorKind}
 use Rattle.clap.specs.declared.error.kind.ErrorKind.TheVariants as kind
 use Rattle.clap.specs.declared.parser.matches.ArgMatches.{ArgMatches}
 use Rattle.clap.specs.declared.parser.matches.Found.{Found}
-use Rattle.clap.specs.declared.parser.matches.MatchedArg.{MatchedArg}
-use Rattle.sv_words.specs.Found.{HasNumber, HasNumbers, IsReadAs, Rejects}
-use Rattle.sv_words.specs.Lines.{command_named, found_in, greatest, is_read, line_of, needed, number}
-use Rattle.sv_words.specs.Words.{Request, check, list, number_of, plain, request_in, request_of, request_with, sim, usage_of}
-use Rattle.sv_words.specs.declared.command.Command.{Command}
+use Rattle.sv_words.specs.Found.{HasNumbers, IsReadAs, Rejects}
+use Rattle.sv_words.specs.Lines.{found_in, greatest, is_read, line_of, needed, number}
+use Rattle.sv_words.specs.Words.{Request, check, list, number_of, plain, request_in, request_with, sim}
 use Rattle.sv_words.specs.declared.command.Command.TheVariants as asked
 use Rattle.sv_words.specs.declared.command.CommandName.{CommandName}
 use Rattle.sv_words.specs.declared.command.CommandName.TheVariants as name
-use Rattle.sv_words.specs.declared.command.UsageKind.TheVariants.{UnknownCommand, Words}
+use Rattle.sv_words.specs.declared.command.UsageKind.TheVariants.{Words}
 use Rattle.sv_words.specs.declared.command.WordFault.{WordFault}
 use Rattle.sv_words.specs.declared.command.WordFault.TheVariants.{OutOfMemory, Usage}
-use Rattle.sv_words.proofs.Given.{StandsAt, number_is_read, required_is_given, value_is_read}
+use Rattle.sv_words.proofs.Given.{StandsAt, required_is_given, value_is_read}
 
 -- ---- the lines, computed
 
@@ -127,48 +122,3 @@ module _ (f : Found) where
       let tops = in_rows (codes "top") top is_top in
       as_asked name.Sim (rows_of f) (string_bytes file) _ (sym (first_value-rows f (codes "FILE")) ∙ is_file)
       (λ i. sim (string_bytes file) (levels i) (orders i) (tops i))
-
-  -- an option that is not there has no text
-  no_text : (id : Text) → first_value f id ≡ None → one_text f id ≡ None
-  no_text id e = go (matched_of f id) refl
-    where
-      here : (x : MatchedArg) (vs : List (Bor (List ℕ))) → option_map (λ (s : Bor (List ℕ)). s.now) (slice_get vs 0) ≡ None
-          → option_map (λ (s : Bor (List ℕ)). Rattle.clap.specs.Values.read_as x.reading s.now) (slice_get vs 0) ≡ None
-      here x [] h = refl
-      here x (v ∷ vs) h = absurd (true≢false (ap (λ (o : Option (List ℕ)). is_some o) h))
-
-      go : (o : Option MatchedArg) → matched_of f id ≡ o → one_text f id ≡ None
-      go None is = rw is refl
-      go (Some x) is = rw is (here x x.vals.items (rw is at e))
-
--- the number of an option, as `get_one` reads it
-pub order_is : (E : Type 0) (G : List ℕ → Result ℕ E → Type 0) (m : ArgMatches) (id : Text) (least most : ℕ) (r : Option ℕ)
-    → HasNumber id least most m → (one_text (found_of m) id ≡ None → r ≡ None)
-    → ((t : List ℕ) → one_text (found_of m) id ≡ Some t → ReadsOne G t r)
-    → ((u : List ℕ) (x : Result ℕ E) → G u x → ParsesUnsigned 64 10 u x)
-    → r ≡ option_map number_of (first_value (found_of m) id)
-order_is E G m id least most r has none value only = go (first_value (found_of m) id) refl
-  where
-    go : (o : Option Text) → first_value (found_of m) id ≡ o → r ≡ option_map number_of (first_value (found_of m) id)
-    go None e = none (no_text (found_of m) id e) ∙ sym (ap (option_map number_of) e)
-    go (Some t) e =
-        let h = has t e in
-        number_is_read E G least most t r (value t h.0) only h.1 ∙ sym (ap (option_map number_of) e)
-
--- ---- the words
-
-pub nothing_wrong : (w : Text) (rest : List Text) (n : CommandName) → command_named w ≡ Some n → is_read n (w ∷ rest) ≡ true → usage_of (w ∷ rest) ≡ None
-nothing_wrong w rest n named read =
-    ap (λ (o : Option CommandName). Rattle.std.specs.Option.option_map_or (λ (x : CommandName). Rattle.std.specs.Prelude.cond (is_read x (w ∷ rest)) None (Some Words)) o (Some UnknownCommand)) named
-    ∙ ap (λ (b : Bool). Rattle.std.specs.Prelude.cond b None (Some Words)) read
-
-pub wrong_words : (w : Text) (rest : List Text) (n : CommandName) → command_named w ≡ Some n → is_read n (w ∷ rest) ≡ false → usage_of (w ∷ rest) ≡ Some Words
-wrong_words w rest n named read =
-    ap (λ (o : Option CommandName). Rattle.std.specs.Option.option_map_or (λ (x : CommandName). Rattle.std.specs.Prelude.cond (is_read x (w ∷ rest)) None (Some Words)) o (Some UnknownCommand)) named
-    ∙ ap (λ (b : Bool). Rattle.std.specs.Prelude.cond b None (Some Words)) read
-
-pub asks_for : (w : Text) (rest : List Text) (n : CommandName) (rows : List Row) (request : Request) → command_named w ≡ Some n
-    → rows ≡ found_in n (w ∷ rest) → request_in n rows ≡ Some request → request_of (w ∷ rest) ≡ Some request
-asks_for w rest n rows request named is asks =
-    ap (λ (o : Option CommandName). Rattle.std.specs.Prelude.option_and_then (λ (x : CommandName). request_in x (found_in x (w ∷ rest))) o) named
-    ∙ ap (λ (rs : List Row). request_in n rs) (sym is) ∙ asks

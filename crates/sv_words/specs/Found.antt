@@ -1,6 +1,6 @@
 -- Says only how the code goes, of a line that was read; the meaning stands in `Words.antt`.
 use Rattle.std.specs.Prelude.{◌≡◌, ℕ, List, Some, codes, is_some, true, ⊤}
-use Rattle.clap.specs.Words.{Text, Row, first_value, found_of, one_text, rows_of}
+use Rattle.clap.specs.Words.{Text, first_value, found_of, one_text, rows_of}
 use Rattle.clap.specs.Values.{IsUnsignedIn}
 use Rattle.clap.specs.declared.parser.matches.ArgMatches.{ArgMatches}
 use Rattle.sv_words.specs.Lines.{found_in, greatest, is_read}

@@ -1,7 +1,7 @@
 -- The words of each command, as the simple command of `clap` that reads them. FILE is a word that
 -- stands alone and has to be there; an option is `--NAME VALUE` or `--NAME=VALUE`, before or behind
 -- it, once at most; after a word `--` no word is an option.
-use Rattle.std.specs.Prelude.{◌≡◌, ◌∷◌, ℕ, Bool, true, List, [], Option, Some, None, codes, cond}
+use Rattle.std.specs.Prelude.{ℕ, Bool, true, List, Option, Some, None, codes, cond}
 use Rattle.std.specs.Str.{bytes_eq}
 use Rattle.clap.specs.Words.{App, Rule, Row, Text, fault_of, matches_of, new_app, new_rule}
 use Rattle.clap.specs.Words.{with_rule}

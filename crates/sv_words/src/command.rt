@@ -2,7 +2,7 @@
 ghost use Rattle.sv_words.specs.declared.command.WordFault.TheVariants.{OutOfMemory};
 ghost use Rattle.std.specs.Prelude.{◌≡◌};
 
-use std::alloc::{AllocError, AllocFailed};
+use std::alloc::AllocError;
 use thiserror::Error;
 
 /// The commands of the program, by their first words.
@@ -73,14 +73,6 @@ impl From<AllocError> for WordFault {
     ghost from_gives = { λ _ fault. fault ≡ OutOfMemory };
 
     fn from(_error: AllocError) -> WordFault {
-        WordFault::OutOfMemory
-    }
-}
-
-impl<T: Drop> From<AllocFailed<T>> for WordFault {
-    ghost from_gives = { λ _ fault. fault ≡ OutOfMemory };
-
-    fn from(_error: AllocFailed<T>) -> WordFault {
         WordFault::OutOfMemory
     }
 }

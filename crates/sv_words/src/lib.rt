@@ -5,7 +5,8 @@
 //! [`help_text`] are for who answers `secv COMMAND --help`, which is no command's words.
 //!
 //! Which words a command takes is said in `specs/Lines.antt`, in the words of `clap`'s own
-//! specification of a simple command, and what they ask for in `specs/Words.antt`.
+//! specification of a simple command, and what they ask for in `specs/Words.antt`. `Found.antt` is
+//! private: it says how the code goes.
 #![tactic(auto)]
 
 mod command;

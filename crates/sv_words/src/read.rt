@@ -107,11 +107,7 @@ fn order_in(matches: &ArgMatches<'_>) -> Option<u64>
 }
 
 // The text of an argument, where it was used.
-fn text_of(
-    alloc: Global,
-    matches: &ArgMatches<'_>,
-    id: &str,
-) -> Result<Option<String>, AllocError>
+fn text_of(alloc: Global, matches: &ArgMatches<'_>, id: &str) -> Result<Option<String>, AllocError>
     ensures { IfOk result
         (λ text. option_map string_bytes text ≡ first_value (found_of matches.now) id.now) }
 {

@@ -1,0 +1,64 @@
+-- Examples of the definitions, computed.
+use Rattle.std.proofs.Common.{◌≡◌, [], ◌∷◌, Some, None, codes, refl}
+use Rattle.clap.proofs.OnLiterals.{clap_on_literals}
+use Rattle.sv_words.specs.Lines.{found_in, is_read, line_of}
+use Rattle.sv_words.specs.Words.{check, help_asked, request_of, sim, usage_of}
+use Rattle.sv_words.specs.declared.command.CommandName.TheVariants.{Check}
+use Rattle.sv_words.specs.declared.command.UsageKind.TheVariants.{NoCommand, UnknownCommand, Words}
+
+no_words : usage_of [] ≡ Some NoCommand
+no_words = refl
+
+unknown : usage_of (codes "Check" ∷ codes "f" ∷ []) ≡ Some UnknownCommand
+unknown = refl
+
+-- the empty name after `--top=`
+empty_top : request_of (codes "check" ∷ codes "f" ∷ codes "--top=" ∷ []) ≡ Some (check (codes "f") (Some []))
+unfolding found_in line_of clap_on_literals
+empty_top = refl
+
+empty_top_is_right : usage_of (codes "check" ∷ codes "f" ∷ codes "--top=" ∷ []) ≡ None
+unfolding is_read line_of clap_on_literals
+empty_top_is_right = refl
+
+-- after `--` no word is an option
+past_options : request_of (codes "check" ∷ codes "--" ∷ codes "--top" ∷ []) ≡ Some (check (codes "--top") None)
+unfolding found_in line_of clap_on_literals
+past_options = refl
+
+past_options_is_right : usage_of (codes "check" ∷ codes "--" ∷ codes "--top" ∷ []) ≡ None
+unfolding is_read line_of clap_on_literals
+past_options_is_right = refl
+
+-- a number may have a `+` and zeros before it, and `-` alone is a name
+numbered : request_of (codes "sim" ∷ codes "--order" ∷ codes "+07" ∷ codes "-" ∷ []) ≡ Some (sim (codes "-") None (Some 7) None)
+unfolding found_in line_of clap_on_literals
+numbered = refl
+
+numbered_is_right : usage_of (codes "sim" ∷ codes "--order" ∷ codes "+07" ∷ codes "-" ∷ []) ≡ None
+unfolding is_read line_of clap_on_literals
+numbered_is_right = refl
+
+too_large : usage_of (codes "sim" ∷ codes "f" ∷ codes "--order=18446744073709551616" ∷ []) ≡ Some Words
+unfolding is_read line_of clap_on_literals
+too_large = refl
+
+two_tops : usage_of (codes "check" ∷ codes "f" ∷ codes "--top=m" ∷ codes "--top=m" ∷ []) ≡ Some Words
+unfolding is_read line_of clap_on_literals
+two_tops = refl
+
+two_files : usage_of (codes "list" ∷ codes "f" ∷ codes "g" ∷ []) ≡ Some Words
+unfolding is_read line_of clap_on_literals
+two_files = refl
+
+no_file : usage_of (codes "check" ∷ codes "--top" ∷ codes "m" ∷ []) ≡ Some Words
+unfolding is_read line_of clap_on_literals
+no_file = refl
+
+-- `--help` asks for help, and is no word of the command
+helped : help_asked (codes "check" ∷ codes "--help" ∷ []) ≡ Some Check
+helped = refl
+
+help_is_no_word : usage_of (codes "check" ∷ codes "--help" ∷ []) ≡ Some Words
+unfolding is_read line_of clap_on_literals
+help_is_no_word = refl

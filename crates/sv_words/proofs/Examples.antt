@@ -13,7 +13,8 @@ unknown : usage_of (codes "Check" ∷ codes "f" ∷ []) ≡ Some UnknownCommand
 unknown = refl
 
 -- the empty name after `--top=`
-empty_top : request_of (codes "check" ∷ codes "f" ∷ codes "--top=" ∷ []) ≡ Some (check (codes "f") (Some []))
+empty_top : request_of (codes "check" ∷ codes "f" ∷ codes "--top=" ∷ [])
+    ≡ Some (check (codes "f") (Some []))
 unfolding found_in line_of clap_on_literals
 empty_top = refl
 
@@ -22,7 +23,8 @@ unfolding is_read line_of clap_on_literals
 empty_top_is_right = refl
 
 -- after `--` no word is an option
-past_options : request_of (codes "check" ∷ codes "--" ∷ codes "--top" ∷ []) ≡ Some (check (codes "--top") None)
+past_options : request_of (codes "check" ∷ codes "--" ∷ codes "--top" ∷ [])
+    ≡ Some (check (codes "--top") None)
 unfolding found_in line_of clap_on_literals
 past_options = refl
 
@@ -31,7 +33,8 @@ unfolding is_read line_of clap_on_literals
 past_options_is_right = refl
 
 -- a number may have a `+` and zeros before it, and `-` alone is a name
-numbered : request_of (codes "sim" ∷ codes "--order" ∷ codes "+07" ∷ codes "-" ∷ []) ≡ Some (sim (codes "-") None (Some 7) None)
+numbered : request_of (codes "sim" ∷ codes "--order" ∷ codes "+07" ∷ codes "-" ∷ [])
+    ≡ Some (sim (codes "-") None (Some 7) None)
 unfolding found_in line_of clap_on_literals
 numbered = refl
 
@@ -39,11 +42,13 @@ numbered_is_right : usage_of (codes "sim" ∷ codes "--order" ∷ codes "+07" �
 unfolding is_read line_of clap_on_literals
 numbered_is_right = refl
 
-too_large : usage_of (codes "sim" ∷ codes "f" ∷ codes "--order=18446744073709551616" ∷ []) ≡ Some Words
+too_large : usage_of (codes "sim" ∷ codes "f" ∷ codes "--order=18446744073709551616" ∷ [])
+    ≡ Some Words
 unfolding is_read line_of clap_on_literals
 too_large = refl
 
-two_tops : usage_of (codes "check" ∷ codes "f" ∷ codes "--top=m" ∷ codes "--top=m" ∷ []) ≡ Some Words
+two_tops : usage_of (codes "check" ∷ codes "f" ∷ codes "--top=m" ∷ codes "--top=m" ∷ [])
+    ≡ Some Words
 unfolding is_read line_of clap_on_literals
 two_tops = refl
 

@@ -1,8 +1,11 @@
 -- From a parse by `clap` to the words of `specs/Words.antt`.
-use Rattle.std.proofs.Common.{◌≡◌, ◌∙◌, ◌⊎◌, ℕ, true, false, List, [], ◌∷◌, Option, Some, refl, sym, ap, subst, inl, inr, arith, ne_eqb, codes}
+use Rattle.std.proofs.Common.{◌≡◌, ◌∙◌, ◌⊎◌, ℕ, true, false, List, [], ◌∷◌, Option, Some, refl, sym}
+use Rattle.std.proofs.Common.{ap, subst, inl, inr, arith, ne_eqb, codes}
 use Rattle.std.specs.Prelude.{option_map, string_bytes, String}
 use Rattle.std.specs.declared.alloc.Global.{Global}
-use Rattle.clap.specs.Words.{App, HasKind, HasMatchesOf, IsParsedFrom, Kinds, Row, Text, app_of, fault_of, first_of, first_value, is_simple, is_simple_and_free, kind_of, matches_of, rows_of}
+use Rattle.clap.specs.Words.{App, HasKind, HasMatchesOf, IsParsedFrom, Kinds, Row, Text, app_of}
+use Rattle.clap.specs.Words.{fault_of, first_of, first_value, is_simple, is_simple_and_free}
+use Rattle.clap.specs.Words.{kind_of, matches_of, rows_of}
 use Rattle.clap.specs.Walk.{is_empty}
 use Rattle.clap.proofs.OnLiterals.{clap_on_literals}
 use Rattle.clap.proofs.WalkLemmas.{first_value-rows}
@@ -14,7 +17,8 @@ use Rattle.clap.specs.declared.parser.matches.ArgMatches.{ArgMatches}
 use Rattle.clap.specs.declared.parser.matches.Found.{Found}
 use Rattle.sv_words.specs.Found.{HasNumbers, IsReadAs, Rejects}
 use Rattle.sv_words.specs.Lines.{found_in, greatest, is_read, line_of, needed, number}
-use Rattle.sv_words.specs.Words.{Request, check, list, number_of, plain, request_in, request_with, sim}
+use Rattle.sv_words.specs.Words.{Request, check, list, number_of, plain, request_in, request_with}
+use Rattle.sv_words.specs.Words.{sim}
 use Rattle.sv_words.specs.declared.command.Command.TheVariants as asked
 use Rattle.sv_words.specs.declared.command.CommandName.{CommandName}
 use Rattle.sv_words.specs.declared.command.CommandName.TheVariants as name
@@ -49,76 +53,106 @@ order_stands = record { line = refl; at = refl; once = refl; own = refl }
 
 -- ---- what a parse says
 
-holds_numbers : (n : CommandName) (c : Line) (m : ArgMatches) → IsParsedFrom c m → app_of c ≡ line_of n → HasNumbers n m
+holds_numbers : (n : CommandName) (c : Line) (m : ArgMatches) → IsParsedFrom c m
+    → app_of c ≡ line_of n → HasNumbers n m
 holds_numbers name.Check c m p same = tt
 holds_numbers name.List c m p same = tt
 holds_numbers name.Sim c m p same = λ text has.
-    value_is_read c m (line_of name.Sim) 2 (number (codes "order") 0 greatest) _ text p same order_stands refl has
+    value_is_read c m (line_of name.Sim) 2
+    (number (codes "order") 0 greatest) _ text p same order_stands refl has
 
-rejected_by : (a : App) (n : CommandName) (words : List Text) → a ≡ line_of n → is_empty (fault_of a words) ≡ is_read n words
+rejected_by : (a : App) (n : CommandName) (words : List Text) → a ≡ line_of n
+    → is_empty (fault_of a words) ≡ is_read n words
 unfolding is_read
 rejected_by a n words same = ap (λ (x : App). is_empty (fault_of x words)) same
 
-found_by : (a : App) (n : CommandName) (words : List Text) → a ≡ line_of n → matches_of a words ≡ found_in n words
+found_by : (a : App) (n : CommandName) (words : List Text) → a ≡ line_of n
+    → matches_of a words ≡ found_in n words
 unfolding found_in
 found_by a n words same = ap (λ (x : App). matches_of x words) same
 
-pub line_is_read : (n : CommandName) (c : Line) (m : ArgMatches) (words : List Text) → app_of c ≡ line_of n → IsParsedFrom c m
-    → HasMatchesOf (app_of c) words m → (is_simple_and_free (app_of c) ≡ true → fault_of (app_of c) words ≡ [])
+pub line_is_read : (n : CommandName) (c : Line) (m : ArgMatches) (words : List Text)
+    → app_of c ≡ line_of n → IsParsedFrom c m
+    → HasMatchesOf (app_of c) words m
+    → (is_simple_and_free (app_of c) ≡ true → fault_of (app_of c) words ≡ [])
     → IsReadAs n words m
 line_is_read n c m words same p matches fails = record {
-  read = sym (rejected_by (app_of c) n words same) ∙ ap (λ (k : Kinds). is_empty k) (fails (ap is_simple_and_free same ∙ free_line n));
+  read = sym (rejected_by (app_of c) n words same)
+      ∙ ap (λ (k : Kinds). is_empty k) (fails (ap is_simple_and_free same ∙ free_line n));
   rows = (matches (ap is_simple same ∙ simple_line n)).0 ∙ found_by (app_of c) n words same;
-  file = required_is_given c m (line_of n) 0 (needed (codes "FILE")) p same (file_stands n) refl refl refl;
+  file = required_is_given c m (line_of n) 0 (needed (codes "FILE")) p same
+      (file_stands n) refl refl refl;
   numbers = holds_numbers n c m p same;
 }
 
-some_kind : (ks : Kinds) (e : Error) → HasKind ks e → (kind_of e ≡ kind.OutOfMemory → ⊥) → is_empty ks ≡ false
+some_kind : (ks : Kinds) (e : Error) → HasKind ks e → (kind_of e ≡ kind.OutOfMemory → ⊥)
+    → is_empty ks ≡ false
 some_kind [] e (inl h) other = absurd (other h)
 some_kind [] e (inr h) other = absurd h
 some_kind (k ∷ ks) e h other = ne_eqb _ _ (λ z. omega arith)
 
-pub line_is_refused : (n : CommandName) (c : Line) (e : Error) (words : List Text) → app_of c ≡ line_of n
-    → (is_simple_and_free (app_of c) ≡ true → HasKind (fault_of (app_of c) words) e) → (kind_of e ≡ kind.OutOfMemory → ⊥)
+pub line_is_refused : (n : CommandName) (c : Line) (e : Error) (words : List Text)
+    → app_of c ≡ line_of n
+    → (is_simple_and_free (app_of c) ≡ true → HasKind (fault_of (app_of c) words) e)
+    → (kind_of e ≡ kind.OutOfMemory → ⊥)
     → is_read n words ≡ false
 line_is_refused n c e words same fails other =
     sym (rejected_by (app_of c) n words same)
-    ∙ some_kind (fault_of (app_of c) words) e (fails (ap is_simple_and_free same ∙ free_line n)) other
+    ∙ some_kind (fault_of (app_of c) words) e
+    (fails (ap is_simple_and_free same ∙ free_line n)) other
 
-pub rejects : (n : CommandName) (c : Line) (e : Error) (words : List Text) (k : ErrorKind) (fault : WordFault) → app_of c ≡ line_of n
+pub rejects : (n : CommandName) (c : Line) (e : Error) (words : List Text) (k : ErrorKind)
+    (fault : WordFault) → app_of c ≡ line_of n
     → (is_simple_and_free (app_of c) ≡ true → HasKind (fault_of (app_of c) words) e) → k ≡ kind_of e
-    → (fault ≡ OutOfMemory) ⊎ ((fault ≡ Usage Words) × (k ≡ kind.OutOfMemory → ⊥)) → Rejects n words fault
+    → (fault ≡ OutOfMemory) ⊎ ((fault ≡ Usage Words) × (k ≡ kind.OutOfMemory → ⊥))
+    → Rejects n words fault
 rejects n c e words k fault same fails is (inl h) = subst (Rejects n words) (sym h) tt
 rejects n c e words k fault same fails is (inr h) =
-    subst (Rejects n words) (sym h.0) (refl, line_is_refused n c e words same fails (λ oom. h.1 (is ∙ oom)))
+    subst (Rejects n words) (sym h.0)
+    (refl, line_is_refused n c e words same fails (λ oom. h.1 (is ∙ oom)))
 
 -- ---- what is found
 
-as_asked : (n : CommandName) (rows : List Row) (file : Text) (request : Request) → first_of (codes "FILE") rows ≡ Some file
+as_asked : (n : CommandName) (rows : List Row) (file : Text) (request : Request)
+    → first_of (codes "FILE") rows ≡ Some file
     → request_with n file rows ≡ request → request_in n rows ≡ Some request
-as_asked n rows file request f r = ap (option_map (λ (t : Text). request_with n t rows)) f ∙ ap Some r
+as_asked n rows file request f r = ap (option_map (λ (t : Text). request_with n t rows)) f
+    ∙ ap Some r
 
 module _ (f : Found) where
-  in_rows : (id : Text) (value : Option (String Global)) → option_map string_bytes value ≡ first_value f id → first_of id (rows_of f) ≡ option_map string_bytes value
+  in_rows : (id : Text) (value : Option (String Global))
+      → option_map string_bytes value ≡ first_value f id
+      → first_of id (rows_of f) ≡ option_map string_bytes value
   in_rows id value e = sym (first_value-rows f id) ∙ sym e
 
-  pub asks_check : (file : String Global) (top : Option (String Global)) → first_value f (codes "FILE") ≡ Some (string_bytes file)
-      → option_map string_bytes top ≡ first_value f (codes "top") → request_in name.Check (rows_of f) ≡ Some (plain (asked.Check file top))
-  asks_check file top is_file is_top = as_asked name.Check (rows_of f) (string_bytes file) _ (sym (first_value-rows f (codes "FILE")) ∙ is_file)
+  pub asks_check : (file : String Global) (top : Option (String Global))
+      → first_value f (codes "FILE") ≡ Some (string_bytes file)
+      → option_map string_bytes top ≡ first_value f (codes "top")
+      → request_in name.Check (rows_of f) ≡ Some (plain (asked.Check file top))
+  asks_check file top is_file is_top = as_asked name.Check (rows_of f) (string_bytes file) _
+      (sym (first_value-rows f (codes "FILE")) ∙ is_file)
       (ap (λ (t : Option Text). check (string_bytes file) t) (in_rows (codes "top") top is_top))
 
-  pub asks_list : (file : String Global) (top : Option (String Global)) → first_value f (codes "FILE") ≡ Some (string_bytes file)
-      → option_map string_bytes top ≡ first_value f (codes "top") → request_in name.List (rows_of f) ≡ Some (plain (asked.List file top))
-  asks_list file top is_file is_top = as_asked name.List (rows_of f) (string_bytes file) _ (sym (first_value-rows f (codes "FILE")) ∙ is_file)
+  pub asks_list : (file : String Global) (top : Option (String Global))
+      → first_value f (codes "FILE") ≡ Some (string_bytes file)
+      → option_map string_bytes top ≡ first_value f (codes "top")
+      → request_in name.List (rows_of f) ≡ Some (plain (asked.List file top))
+  asks_list file top is_file is_top = as_asked name.List (rows_of f) (string_bytes file) _
+      (sym (first_value-rows f (codes "FILE")) ∙ is_file)
       (ap (λ (t : Option Text). list (string_bytes file) t) (in_rows (codes "top") top is_top))
 
-  pub asks_sim : (file : String Global) (level : Option (String Global)) (order : Option ℕ) (top : Option (String Global))
-      → first_value f (codes "FILE") ≡ Some (string_bytes file) → option_map string_bytes level ≡ first_value f (codes "level")
-      → order ≡ option_map number_of (first_value f (codes "order")) → option_map string_bytes top ≡ first_value f (codes "top")
+  pub asks_sim : (file : String Global) (level : Option (String Global)) (order : Option ℕ)
+      (top : Option (String Global))
+      → first_value f (codes "FILE") ≡ Some (string_bytes file)
+      → option_map string_bytes level ≡ first_value f (codes "level")
+      → order ≡ option_map number_of (first_value f (codes "order"))
+      → option_map string_bytes top ≡ first_value f (codes "top")
       → request_in name.Sim (rows_of f) ≡ Some (plain (asked.Sim file level order top))
   asks_sim file level order top is_file is_level is_order is_top =
       let levels = in_rows (codes "level") level is_level in
-      let orders = ap (option_map number_of) (sym (first_value-rows f (codes "order"))) ∙ sym is_order in
+      let orders = ap (option_map number_of) (sym (first_value-rows f (codes "order")))
+      ∙ sym is_order in
       let tops = in_rows (codes "top") top is_top in
-      as_asked name.Sim (rows_of f) (string_bytes file) _ (sym (first_value-rows f (codes "FILE")) ∙ is_file)
+      as_asked name.Sim (rows_of f) (string_bytes file) _
+      (sym (first_value-rows f (codes "FILE")) ∙ is_file)
       (λ i. sim (string_bytes file) (levels i) (orders i) (tops i))

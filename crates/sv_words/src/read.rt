@@ -1,9 +1,11 @@
 // From words to a command.
-ghost use Rattle.std.specs.Prelude.{◌≡◌, ◌≢◌, ◌⊎◌, MatchResult, IfOk, Some, codes, option_map, string_bytes};
+ghost use Rattle.std.specs.Prelude.{◌≡◌, ◌≢◌, ◌⊎◌, MatchResult, IfOk, Some, codes, option_map};
+ghost use Rattle.std.specs.Prelude.{string_bytes};
 ghost use Rattle.clap.specs.Words.{first_value, found_of, rows_of};
 ghost use Rattle.sv_words.specs.Found.{HasFile, HasNumber, HasNumbers, IsReadAs, Rejects};
 ghost use Rattle.sv_words.specs.Lines.{greatest};
-ghost use Rattle.sv_words.specs.Words.{words_of, IsAskedBy, IsFaultOf, number_of, plain, request_in};
+ghost use Rattle.sv_words.specs.Words.{words_of, IsAskedBy, IsFaultOf, number_of, plain};
+ghost use Rattle.sv_words.specs.Words.{request_in};
 
 use crate::command::{Command, CommandName, UsageKind, WordFault};
 use crate::lines::{command_named, line_of};

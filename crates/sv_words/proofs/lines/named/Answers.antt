@@ -6,4 +6,5 @@ pub returns : goal.returns
 returns c = ap app_of_fields c.about.ensures
     ∙ (ap app_of_fields c.in_ok-line.ensures.0
     ∙ (ap app_of_fields c.disable_help_flag.ensures
-    ∙ ap (λ (a : App). record a { top = record a.top { disable_help_flag = true } }) c.new.ensures.app))
+    ∙ ap (λ (a : App). record a { top = record a.top { disable_help_flag = true } })
+    c.new.ensures.app))

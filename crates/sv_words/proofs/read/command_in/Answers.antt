@@ -7,9 +7,12 @@ pub returns : goal.returns
 returns c =
     let f = found_of c.args.matches.now in
     elim c.match-name.branch [
-      | in-Check w ↦ rw (w.in-Check.is, w.result-is) (asks_check f c.in_ok-file.file c.in_ok-top.top c.in_ok-file.ensures c.in_ok-top.ensures)
-      | in-List w ↦ rw (w.in-List.is, w.result-is) (asks_list f c.in_ok-file.file c.in_ok-top.top c.in_ok-file.ensures c.in_ok-top.ensures)
+      | in-Check w ↦ rw (w.in-Check.is, w.result-is)
+          (asks_check f c.in_ok-file.file c.in_ok-top.top c.in_ok-file.ensures c.in_ok-top.ensures)
+      | in-List w ↦ rw (w.in-List.is, w.result-is)
+          (asks_list f c.in_ok-file.file c.in_ok-top.top c.in_ok-file.ensures c.in_ok-top.ensures)
       | in-Sim+in_ok-text_of-in-Sim w ↦ rw (w.in-Sim.is, w.result-is)
-          (asks_sim f c.in_ok-file.file w.in_ok-text_of-in-Sim.field-0 w.order_in.result c.in_ok-top.top c.in_ok-file.ensures
+          (asks_sim f c.in_ok-file.file w.in_ok-text_of-in-Sim.field-0 w.order_in.result
+          c.in_ok-top.top c.in_ok-file.ensures
           w.in_ok-text_of-in-Sim.ensures w.order_in.ensures c.in_ok-top.ensures)
     ]

@@ -52,6 +52,32 @@ fn taken<S: Source>(alloc: Global, source: &mut S) -> Result<Vec<u8>, OutOfMemor
 }
 
 #[test]
+fn a_repeating_source_gives_its_head_and_then_its_lines(rt: HostRuntime) -> Result<(), Fail> {
+    let alloc = rt.alloc();
+    let head = Vec::from_slice(alloc, b"ab\n")?;
+    let line = Vec::from_slice(alloc, b"xyz\n")?;
+    let mut source = RepeatSource::new(head, line, 3, 2);
+    let all = taken(alloc, &mut source)?;
+    assert_eq!(rt; all.as_slice(), b"ab\nxyz\nxyz\nxyz\n".as_slice());
+    let mut lines = RepeatSource::new(Vec::new(alloc), Vec::from_slice(alloc, b"0")?, 2, 7);
+    assert_eq!(rt; taken(alloc, &mut lines)?.as_slice(), b"00".as_slice());
+    let mut none = RepeatSource::new(Vec::new(alloc), Vec::new(alloc), u32::MAX, 1);
+    assert_eq!(rt; taken(alloc, &mut none)?.len(), 0);
+    Ok(())
+}
+
+#[test]
+fn a_tally_counts_the_bytes_that_are_put(rt: HostRuntime) -> Result<(), Fail> {
+    let mut tally = TallySink::new();
+    put_all(&mut tally, b"")?;
+    assert_eq!(rt; tally.bytes(), 0);
+    put_all(&mut tally, b"abc")?;
+    put_all(&mut tally, b"de")?;
+    assert_eq!(rt; tally.bytes(), 5);
+    Ok(())
+}
+
+#[test]
 fn a_source_gives_its_bytes_in_turn(rt: HostRuntime) -> Result<(), Fail> {
     let alloc = rt.alloc();
     let failing = Vec::from_slice(alloc, &[2])?;

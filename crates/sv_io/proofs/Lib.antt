@@ -1,5 +1,6 @@
 pub mod Given
 pub mod Known
+pub mod Repeating
 pub mod Rising
 pub mod Walks
 pub mod Writing

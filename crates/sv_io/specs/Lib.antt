@@ -4,7 +4,9 @@ pub mod Count
 pub mod Exchange
 pub mod ExchangeCode
 pub mod Files
+pub mod Large
 pub mod Mem
+pub mod Repeated
 pub mod Sink
 pub mod Sure
 pub mod System

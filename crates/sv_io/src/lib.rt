@@ -9,7 +9,8 @@
 //!
 //! What a cabinet holds and what passes it is said in `specs/Cabinet.antt` and `Exchange.antt`,
 //! what a sink accepts in `Sink.antt`, and that a count rose in `Count.antt`. `Mem.antt`,
-//! `Sure.antt` and `System.antt` name what the objects remember. `Called.antt`, `ExchangeCode.antt`
+//! `Sure.antt`, `Large.antt` and `System.antt` name what the objects remember, `Repeated.antt` what a
+//! repeated line is. `Called.antt`, `ExchangeCode.antt`
 //! and `Files.antt` are private: they say how the code goes; the meaning stands in the files
 //! before.
 #![tactic(auto)]
@@ -18,6 +19,7 @@ mod calls;
 mod faults;
 mod files;
 mod history;
+mod large;
 mod mem;
 mod pieces;
 mod sure;
@@ -25,6 +27,7 @@ mod system;
 mod traits;
 
 pub use faults::{Failed, FetchFault, PutFault, StoreFault};
+pub use large::{RepeatSource, TallySink};
 pub use mem::{MemCabinet, MemSink, MemSource};
 pub use std::alloc::AllocError as OutOfMemory;
 pub use sure::{SureCabinet, SureSink, SureSource};

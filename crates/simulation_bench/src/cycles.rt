@@ -38,7 +38,10 @@ fn put_inputs(inputs: &mut [u64], design: &Design, mut draw: u64) -> u64 {
 // The bits of the number that the signal has room for.
 fn low_bits(number: u64, signal: SigId, signals: &[Signal]) -> u64 {
     let width = signals.get(signal.0 as usize).map_or(1, |it| it.width);
-    number & 1_u64.checked_shl(u32::from(width)).map_or(u64::MAX, |power| power - 1)
+    number
+        & 1_u64
+            .checked_shl(u32::from(width))
+            .map_or(u64::MAX, |power| power - 1)
 }
 
 // The exclusive or of the values and a number.

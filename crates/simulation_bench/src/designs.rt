@@ -19,8 +19,14 @@ pub(crate) fn elaborated(rt: &impl Input, alloc: Global) -> Result<Flat>
     BufReader::new(alloc, rt.reader())?.read_to_end(&mut bytes)?;
     ensure!(bytes.len() <= 1_048_576, "the text is too long");
     let text = read_text(alloc, &bytes)?;
-    let pairs = text.lattice.as_ref().map_or(0, |lattice| lattice.pairs.len());
-    ensure!(pairs < 1_048_576 && text.maps.len() < 1_048_576, "the lattice is too large");
+    let pairs = text
+        .lattice
+        .as_ref()
+        .map_or(0, |lattice| lattice.pairs.len());
+    ensure!(
+        pairs < 1_048_576 && text.maps.len() < 1_048_576,
+        "the lattice is too large"
+    );
     let flat = elaborate(alloc, &text, None)?;
     let is_sound = sound(&flat);
     ensure!(is_sound, "the design is not sound");

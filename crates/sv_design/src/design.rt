@@ -82,7 +82,8 @@ impl Design {
         self.tables.processes.as_slice()
     }
 
-    /// The one clock that is an input of the top module, or None where the design has no clock.
+    /// The one clock that is an input of the top module, or None where no clock is one, as in each
+    /// design of a text without a clock.
     pub fn clock(&self) -> Option<SigId>
         ensures clock { number_if_any result ≡ top_clock (design_of self.now) }
         ensures design { IsDesign (design_of self.now) }

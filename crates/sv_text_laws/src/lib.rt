@@ -14,10 +14,6 @@ mod meanings;
 mod signals;
 mod sizes;
 
-pub use meanings::bytes_mean_at_most_one_text;
-pub use signals::flat_signals_are_those_declared;
-pub use sizes::typed_expressions_are_no_larger;
-
 ghost use Rattle.std.specs.Prelude.{◌≡◌, ℕ, List, [], Option, Some, All};
 ghost use Rattle.sv_system.specs.System.{Noninterferent, HasOneTrace};
 ghost use Rattle.sv_lattice.specs.Maps.{MapRows, IsMap};
@@ -30,6 +26,10 @@ ghost use Rattle.sv_flat.specs.Design.{FlatDesign};
 ghost use Rattle.sv_walk.specs.Texts.{flat_of};
 ghost use Rattle.sv_flatten.specs.FlattenedTexts.{CanBeFlattened, EachItem, ReleasesNothing};
 ghost use Rattle.sv_obl.specs.Validity.{AllValid};
+
+pub use meanings::bytes_mean_at_most_one_text;
+pub use signals::flat_signals_are_those_declared;
+pub use sizes::typed_expressions_are_no_larger;
 
 /// The flat design that a text stands for has a lattice of 1 to 32 points: no two different ones
 /// flow to each other, and any two have a least upper and a greatest lower point. Each of its label

@@ -7,6 +7,9 @@
 # `rt ci` prints no times, so the processor time of each process below it is read twice a second. What a process spends after
 # the last reading is in the sum's `other`, which is the whole processor time less what was read.
 #
+# gate.sh --beside reads the runs of `rt ci` that go on anywhere on this machine instead, until it is interrupted, and prints the same
+# table: so the cost of a gate from nothing is told where its crates were proved in several runs, none of them twice.
+#
 # gate.sh --slow NAME.. prints the ten functions of each crate that cost most instead. `rt ci` names no function, so this is
 # `rt check` with one job, and a function's cost is the processor time between the line of the one before it and its own, with the
 # lemmas that are checked on the way. `rt check` begins with what this machine kept of the same crate, and the first line says how
@@ -102,25 +105,59 @@ def part_of(pid):
     return name, "tests" if "--test" in words else "proof"
 
 
+def gates_here():
+    """The runs of `rt ci` on this machine."""
+    found = []
+    for entry in os.listdir("/proc"):
+        if entry.isdigit():
+            try:
+                with open(f"/proc/{entry}/cmdline", encoding="utf-8", errors="replace") as file:
+                    words = file.read().split("\0")
+            except OSError:
+                continue
+            if "ci" in words and any(os.path.basename(word) == "rt" for word in words):
+                found.append(int(entry))
+    return found
+
+
+def note(seen, roots, seconds, knows):
+    """Notes what each process below the roots has spent, and what it works at."""
+    for pid in {pid for root in roots for pid in below(seen, root)}:
+        key = pid, seen[pid][2]
+        knows[key] = part_of(pid) or knows.get(key)
+        seconds[key] = seen[pid][1]
+
+
+def told_of(seconds, knows):
+    told = collections.Counter()
+    for key, spent in seconds.items():
+        if knows[key]:
+            told[knows[key]] += spent
+    return told
+
+
+def beside():
+    start, seconds, knows = time.time(), {}, {}
+    try:
+        while True:
+            note(processes(), gates_here(), seconds, knows)
+            time.sleep(0.5)
+    except KeyboardInterrupt:
+        table(told_of(seconds, knows), sum(seconds.values()), time.time() - start)
+    return 0
+
+
 def gate():
     log = open(f"{work}/log", "w+", encoding="utf-8", errors="replace")
     child = subprocess.Popen(["rt", "ci", *names, "--anew"], stdout=log, stderr=subprocess.STDOUT, stdin=subprocess.DEVNULL)
     start, seconds, knows = time.time(), {}, {}
     while child.poll() is None:
-        seen = processes()
-        for pid in below(seen, child.pid):
-            key = pid, seen[pid][2]
-            knows[key] = part_of(pid) or knows.get(key)
-            seconds[key] = seen[pid][1]
+        note(processes(), [child.pid], seconds, knows)
         time.sleep(0.5)
     used = resource.getrusage(resource.RUSAGE_CHILDREN)
     log.seek(0)
     said = log.read()
-    told = collections.Counter()
-    for key, spent in seconds.items():
-        if knows[key]:
-            told[knows[key]] += spent
-    table(told, used.ru_utime + used.ru_stime, time.time() - start)
+    table(told_of(seconds, knows), used.ru_utime + used.ru_stime, time.time() - start)
     last = said.rstrip("\n").rpartition("\n")[2]
     print(last)
     if child.returncode:
@@ -176,5 +213,5 @@ def slow():
     return 0
 
 
-sys.exit(slow() if names[:1] == ["--slow"] else gate())
+sys.exit(slow() if names[:1] == ["--slow"] else beside() if names[:1] == ["--beside"] else gate())
 PY

@@ -15,12 +15,12 @@ use Rattle.sv_flat.specs.Admission.{IsAdmitted}
 use Rattle.sv_flat.specs.Breaches.{Breach, then_by, comes_before, first_signal}
 use Rattle.sv_flat.specs.Design.{FlatDesign}
 use Rattle.sv_flat.specs.Loops.{reads_along, all_differ, is_circle, IsLoop, loop_breach}
-use Rattle.sv_flat.specs.Loops.{HasReadOrder}
 use Rattle.sv_flat.specs.Reads.{is_combinational}
 use Rattle.sv_flat.proofs.Depths.{first_of, second_of, from_all, is_below}
 use Rattle.sv_flat.proofs.LeastSets.{or_cases, either_way, range_has, Contains-from_filter}
 use Rattle.sv_flat.proofs.Members.{Contains-left, Contains-right, Contains-either}
 use Rattle.sv_design.proofs.Firsts.{before_chain}
+use Rattle.sv_design.proofs.OrderFacts.{no_circle_has_order}
 
 -- ---- lists of different numbers
 
@@ -263,12 +263,11 @@ module _ (design : FlatDesign) where
             },
           )
 
-  -- a design is admitted or refused, where no circle means that there is an order
-  pub admitted_or_refused : (((b : Breach) → IsLoop design b → ⊥) → HasReadOrder design)
-      → IsAdmitted design
+  -- a design is admitted or refused
+  pub admitted_or_refused : IsAdmitted design
       ⊎ ((number : ℕ) × (place : Place) × (names : List (List ℕ))
       × IsRefused design number place names)
-  admitted_or_refused ordered = ⊎_elim
+  admitted_or_refused = ⊎_elim
       (λ first. inr (
         first.0.number,
         first.0.place,
@@ -277,7 +276,7 @@ module _ (design : FlatDesign) where
       ))
       (λ none. inl (record {
         unbroken = empty (breaches design) (λ b at. none b (inl at));
-        ordered = ordered (λ b loop. none b (inr loop));
+        ordered = no_circle_has_order design (λ b loop. none b (inr loop));
       }))
       first_or_none
     where

@@ -10,8 +10,6 @@ use Rattle.sv_ast.specs.GrammarMeaning.{Means as MeansText}
 use Rattle.sv_flat.specs.Design.{FlatDesign}
 use Rattle.sv_flat.specs.Admission.{IsAdmitted}
 use Rattle.sv_flat.specs.Admission.{IsRefused as IsRefusedDesign}
-use Rattle.sv_flat.specs.Breaches.{Breach}
-use Rattle.sv_flat.specs.Loops.{IsLoop, HasReadOrder}
 use Rattle.sv_walk.specs.Walks.{Step}
 use Rattle.sv_walk.specs.Texts.{walk_of, value_in}
 use Rattle.sv_grammar.proofs.Syntax.{MeansOrBreaksSyntax, text_or_rule}
@@ -84,11 +82,7 @@ within_or_not n m =
           elim d [ inl l ↦ inl (omega arith) | inr l ↦ inr l ]
     ]
 
--- where no signals read each other in a circle there is an order of reads
-abbrev pub IsOrdered : FlatDesign → Type 0
-IsOrdered design = ((b : Breach) → IsLoop design b → ⊥) → HasReadOrder design
-
-module _ (top : Option (List ℕ)) (ordered : (design : FlatDesign) → IsOrdered design) where
+module _ (top : Option (List ℕ)) where
   -- ---- a verdict for each text
 
   abbrev HasVerdict : List ℕ → Type 0
@@ -193,7 +187,7 @@ module _ (top : Option (List ℕ)) (ordered : (design : FlatDesign) → IsOrdere
   by_walk text within tree means built (Ok design) is =
       by_design text within design
       (record { tree = tree; means = means; built = built; flat = ap value_in is })
-      (admitted_or_refused design (ordered design))
+      (admitted_or_refused design)
   by_walk text within tree means built (Err s) is =
       broken_first text within s.rule s.place s.names
       (inr (inr (inl (record { tree = tree; means = means; built = built; broken = is }))))

@@ -23,7 +23,6 @@ use Rattle.sv_ast.specs.Shape.{is_shaped}
 use Rattle.sv_ast.specs.Views.{item_tree, module_tree, pair_tree, lattice_tree, map_tree, text_tree}
 use Rattle.sv_ast.specs.GrammarMeaning.{Means}
 use Rattle.sv_grammar.proofs.ShapedTexts.{text_is_shaped}
-use Rattle.sv_parse.specs.Faults.{IsSyntaxFault}
 use Rattle.sv_flat.specs.declared.designs.Flat.{Flat}
 use Rattle.sv_flat.specs.Admission.{IsRefused, IsAdmitted}
 use Rattle.sv_flat.specs.Design.{FlatDesign}
@@ -171,12 +170,6 @@ module _ (top : Option (List ℕ)) (bytes : List ℕ) (text : Text)
   broken_tells (Ok flat) broken = tt
   broken_tells (Err (Rule r)) broken = breaks r.number r.place r.names.items broken
   broken_tells (Err OutOfMemory) broken = tt
-
--- what is refused for its tokens or its grammar breaks a rule
-pub syntax_tells : (top : Option (List ℕ)) (bytes : List ℕ) (fault : Fault) →
-    IsSyntaxFault bytes fault → IsFaultBy (BreaksFirst top bytes) fault
-syntax_tells top bytes (Rule r) broken = inl broken
-syntax_tells top bytes OutOfMemory broken = tt
 
 -- ---- admission
 

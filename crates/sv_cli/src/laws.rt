@@ -1,9 +1,6 @@
 // What follows from the meaning of texts, as contracts of functions that do nothing.
 
 ghost use Rattle.std.specs.Prelude.{◌≡◌, ◌↔◌, ◌⊎◌, ℕ, List, Option, IsTrue};
-ghost use Rattle.sv_flat.specs.Breaches.{Breach};
-ghost use Rattle.sv_flat.specs.Design.{FlatDesign};
-ghost use Rattle.sv_flat.specs.Loops.{IsLoop, HasReadOrder};
 ghost use Rattle.sv_cli.specs.Answer.{Answer, IsVerdict, AreCircles};
 ghost use Rattle.sv_first_ast.specs.Form.{is_first_form};
 ghost use Rattle.sv_first_ast.specs.Obligations.{Obligation, Values, flow_holds, Falsifies};
@@ -18,11 +15,10 @@ pub fn flow_holds_where_nothing_falsifies_it()
         IsTrue (flow_holds m o) ↔ ((v : Values) → Falsifies m v o → ⊥) }
 {}
 
-/// Each text has a verdict for each top, where no circle of reads means an order of reads; and no
-/// other, with one text that is printed for it, but those that name another circle.
+/// Each text has a verdict for each top, and no other, with one text that is printed for it, but
+/// those that name another circle.
 pub fn each_text_has_one_verdict()
-    ensures { ((design : FlatDesign) → ((b : Breach) → IsLoop design b → ⊥) → HasReadOrder design) →
-        (top : Option (List ℕ)) (text : List ℕ) →
+    ensures { (top : Option (List ℕ)) (text : List ℕ) →
         (answer : Answer) × (printed : List ℕ) × IsVerdict top text answer printed
         × ((other : Answer) (others : List ℕ) → IsVerdict top text other others →
         ((other ≡ answer) × (others ≡ printed)) ⊎ AreCircles other answer) }

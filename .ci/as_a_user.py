@@ -1,7 +1,7 @@
 #!/usr/bin/env python3
 """Runs what a user runs, through ./secv, and compares whole outputs and statuses with what stands in the repository.
 
-Every design of examples/ against the .out file beside it, every command that README.md shows with its output, and the answers
+Every design of examples/ against the .out file beside it, and its obligations against the .list file where one is, every command that README.md shows with its output, and the answers
 to wrong words, missing files and failing outputs. The last line is 'N passed, M failed'.
 """
 import os
@@ -35,13 +35,20 @@ HELP = b"""secv checks designs in SecVerilog: Verilog in which every signal has 
 
 usage:
   secv check FILE [--top MODULE]    say whether a secret can reach a public signal
+  secv list FILE [--top MODULE]     list the obligations of a design, a line each
   secv --help, -h                   print this text
   secv --version                    print the version
 
-exit status: 0 accepted, 1 refused, 2 wrong words, 4 unreadable file, 5 unwritable output,
-             6 out of memory
+exit status: 0 accepted or listed, 1 refused, 2 wrong words, 4 unreadable file,
+             5 unwritable output, 6 out of memory
 """
-USAGE = "; usage: secv check FILE [--top MODULE] (`secv --help` says more)"
+USAGE = "; usage: secv COMMAND FILE [--top MODULE] (`secv --help` says more)"
+# Texts, the option that `list` gets, and what it prints. A case of 256 arms, with 16 paths each and one more in the last, has a path too many.
+MANY = "module m(input [7:0] s, input [15:0] t, output reg y); always @* case (s) " + "".join(
+    f"{arm}: y = {''.join(f't[{bit}] ? 1 : ' for bit in range(15))}{'t[15] ? 1 : 0' if arm == 255 else '0'}; " for arm in range(256)) + "endcase endmodule\n"
+LISTS = [("module m(output y); endmodule", [], "refused 604 undriven 1:17 y\n"), ("module m(output y); endmodule", ["--top", "n"], "refused 310 no-top 1:1\n"),
+         ("module m(input a, output y); assign y = a; endmodule", ["--top", "m"], "1 y now =1:37 reads a\n"), ("module m; endmodule", [], ""),
+         ("module m(input a, output y); invariant a; assign y = a; endmodule", [], "refused 199 not-built 1:1\n"), (MANY, [], "refused 702 paths y\n")]
 STATUS = {"accepted": 0, "refused": 1, "usage": 2, "unknown": 3}
 passed = failed = 0
 
@@ -72,6 +79,11 @@ def examples():
                 wanted = file.read()
             answer = run(["check", os.path.join("examples", name)])
             compare(f"secv check examples/{name}", (answer.stdout, answer.returncode), (wanted, status_of(wanted)))
+        elif name.endswith(".list"):
+            with open(os.path.join(folder, name), "rb") as file:
+                wanted = file.read()
+            answer = run(["list", os.path.join("examples", name[:-5] + ".v")])
+            compare(f"secv list examples/{name[:-5]}.v", (answer.stdout, answer.returncode), (wanted, 0))
 
 
 def shown_in_readme():
@@ -93,13 +105,13 @@ def words_and_faults():
         compare(word, (answer.stdout, answer.stderr, answer.returncode), (HELP, b"", 0))
     version = run(["--version"])
     compare("--version", (version.stdout, version.returncode), (b"secv 0.1.0\n", 0))
-    wrong = "`check` takes one FILE and at most one `--top MODULE`" + USAGE
+    wrong = "`check` takes one FILE and at most one `--top MODULE`; usage: secv check FILE [--top MODULE] (`secv --help` says more)"
     for words, kind, said in [([], "no-command", "no command is given" + USAGE),
                               (["chekc", "f"], "unknown-command", "there is no command chekc; `secv --help` shows all"),
                               (["--help", "more"], "unknown-command", "there is no command --help; `secv --help` shows all"),
                               (["check"], "words", wrong), (["check", "--f"], "words", wrong), (["check", "f", "g"], "words", wrong),
                               (["check", "f", "--top"], "words", wrong), (["check", "--top", "a", "f", "--top", "b"], "words", wrong),
-                              ([b"\xff"], "words", "an argument is not UTF-8" + USAGE)]:
+                              (["list"], "words", wrong.replace("check", "list")), ([b"\xff"], "words", "an argument is not UTF-8" + USAGE)]:
         answer = run(words)
         compare(f"words {words}", (answer.stdout, answer.returncode), (f"usage {kind}\n".encode(), 2))
         compare(f"words {words} are explained", answer.stderr.decode(), f"secv: {said}\n")
@@ -146,6 +158,22 @@ def words_and_faults():
         compare(f"a full standard error, {words}", (answer.stdout, answer.returncode), wanted)
 
 
+def lists():
+    with tempfile.TemporaryDirectory() as folder:
+        path = os.path.join(folder, "text.v")
+        for text, option, wanted in LISTS:
+            with open(path, "w", encoding="ascii") as file:
+                file.write(text)
+            answer = run(["list", *option, path])
+            compare(f"list {option} {text[:60]}", (answer.stdout, answer.returncode), (wanted.encode(), status_of(wanted.encode())))
+        with open(path, "w", encoding="ascii") as file:
+            file.write(MANY.replace("t[15] ? 1 : 0", "0"))
+        answer = run(["list", path])
+        compare("4,096 paths are listed", (answer.stdout.count(b"\n"), answer.stdout.split(b" ")[0], answer.returncode), (4096, b"1", 0))
+        with open("/dev/full", "wb") as full:
+            compare("list to a full device", run(["list", path], stdout=full).returncode, 5)
+
+
 def rules(title, least):
     """The texts of a table of rules in docs/language.md, each with what is printed for it."""
     with open(os.path.join(TOP, "docs", "language.md"), encoding="utf-8") as file:
@@ -169,6 +197,7 @@ def main():
     examples()
     shown_in_readme()
     words_and_faults()
+    lists()
     rules("Elaboration", 25)
     rules("Admission", 7)
     print(f"{passed} passed, {failed} failed")

@@ -32,6 +32,15 @@ endmodule
 
 const ROUND: &str = "module m(input a, output y); m u(a, y); endmodule\n";
 
+const TURN: &str = "labelmap Dom [0:0] 0: L; default: H; endlabelmap
+module top(input turn, input a, input {H} b, output {Dom(turn)} y);
+  assign y = turn ? b : a;
+endmodule
+";
+
+const TURN_LIST: &str =
+    "1 y now +3:19 =3:10 reads turn b\n2 y now -3:19 =3:10 reads turn a\n";
+
 const SUM: &str = "module m(input a, output y); assign y = a + a; endmodule\n";
 
 // The status and all that was written for words that one blank parts, where `f` holds the text.
@@ -125,6 +134,10 @@ module m(input a, input b, output y); assign y = a & b; endmodule",
         ),
         ("check --top m f", GATE, 0, "accepted 1 obligations\n"),
         ("check f --top n", GATE, 1, "refused 310 no-top 1:1\n"),
+        ("list f", TURN, 0, TURN_LIST),
+        ("list --top top f", TURN, 0, TURN_LIST),
+        ("list f", ROUND, 1, "refused 310 no-top 1:1\n"),
+        ("list", GATE, 2, "usage words\n"),
         ("", GATE, 2, "usage no-command\n"),
         ("chekc f", GATE, 2, "usage unknown-command\n"),
         ("check", GATE, 2, "usage words\n"),
@@ -160,11 +173,16 @@ fn a_text_over_the_limit_is_refused(rt: HostRuntime) -> Result<(), Fail> {
 // The sink moves one byte a put.
 #[test]
 fn a_sink_that_fails_has_the_front_of_the_text(rt: HostRuntime) -> Result<(), Fail> {
-    let whole = b"accepted 1 obligations\n".as_slice();
-    for n in 0..whole.len() {
-        let (status, bytes) = called(rt.alloc(), "check f", GATE.as_bytes(), &[], &[n as u32 + 1])?;
-        assert_eq!(rt; status, 5);
-        assert_eq!(rt; bytes.as_slice(), &whole[..n]);
+    let rows = [
+        ("check f", GATE, "accepted 1 obligations\n"),
+        ("list f", TURN, TURN_LIST),
+    ];
+    for (words, text, whole) in rows {
+        for n in 0..whole.len() {
+            let (status, bytes) = called(rt.alloc(), words, text.as_bytes(), &[], &[n as u32 + 1])?;
+            assert_eq!(rt; status, 5);
+            assert_eq!(rt; bytes.as_slice(), &whole.as_bytes()[..n]);
+        }
     }
     Ok(())
 }

@@ -8,7 +8,8 @@ use Rattle.std.proofs.lemmas.Slice.Eq.{bytes_eq-Decides}
 use Rattle.sv_io.specs.Exchange.{Exchange, fetched, whole}
 use Rattle.sv_cli.specs.declared.outcome.Outcome.{Outcome}
 use Rattle.sv_cli.specs.declared.outcome.Outcome.TheVariants.{Done}
-use Rattle.sv_cli.specs.Command.{words_of, usage_of, file_of}
+use Rattle.sv_cli.specs.declared.arguments.Command.TheVariants.{Check}
+use Rattle.sv_cli.specs.Command.{words_of, usage_of, command_of, file_of}
 use Rattle.sv_cli.specs.Answer.{Answer, status_of, answer_of, misused, Reads, IsAnswer}
 use Rattle.sv_cli.specs.Answer.{KeepsSecrets}
 use Rattle.secv.specs.Ends.{Ends}
@@ -33,8 +34,8 @@ pub ended : (words : List (List ℕ)) (status : ℕ) (outcome : Outcome) (old ne
     → IfSome (answer_of outcome) (λ a.
     (text printed : List ℕ) × Reads words text old new × IsAnswer words text a printed
     × (after ≡ before ++ printed))
-    → (outcome ≡ Done → (text : List ℕ) × (new ≡ old ++ fetched (file_of words) (whole text) ∷ [])
-    × KeepsSecrets text)
+    → (outcome ≡ Done → command_of words ≡ Check → (text : List ℕ)
+    × (new ≡ old ++ fetched (file_of words) (whole text) ∷ []) × KeepsSecrets text)
     → MatchOption (usage_of words) ⊤ (λ kind. IfSome (answer_of outcome) (λ a. a ≡ misused kind))
     → Ends words status
 ended words status outcome old new before after no_exchange nothing_printed is answer secrets
@@ -47,7 +48,7 @@ ended words status outcome old new before after no_exchange nothing_printed is a
           answer_from (answer_of outcome) words old new before after no_exchange
           nothing_printed answer;
       secrets =
-          λ done. let s = secrets done in (
+          λ done checks. let s = secrets done checks in (
             s.0,
             s.1 ∙ ap (λ (es : List Exchange).
                 es ++ fetched (file_of words) (whole s.0) ∷ []) no_exchange,

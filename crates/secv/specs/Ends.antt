@@ -3,7 +3,8 @@ use Rattle.std.specs.Prelude.{◌≡◌, ◌⊎◌, ℕ, List, [], ◌∷◌, co
 use Rattle.sv_io.specs.Exchange.{Exchange, fetched, whole}
 use Rattle.sv_cli.specs.declared.outcome.Outcome.{Outcome}
 use Rattle.sv_cli.specs.declared.outcome.Outcome.TheVariants.{Done}
-use Rattle.sv_cli.specs.Command.{usage_of, file_of}
+use Rattle.sv_cli.specs.declared.arguments.Command.TheVariants.{Check}
+use Rattle.sv_cli.specs.Command.{usage_of, command_of, file_of}
 use Rattle.sv_cli.specs.Answer.{status_of, answer_of, misused, Reads, IsAnswer, KeepsSecrets}
 
 -- the words ask for a text about the program itself
@@ -21,7 +22,7 @@ pub record Ends (words : List (List ℕ)) (status : ℕ) : Type 0 where
   pub printed : List ℕ
   pub answer : IfSome (answer_of outcome) (λ a.
       (text : List ℕ) × Reads words text [] exchanges × IsAnswer words text a printed)
-  pub secrets : outcome ≡ Done → (text : List ℕ)
+  pub secrets : outcome ≡ Done → command_of words ≡ Check → (text : List ℕ)
       × (exchanges ≡ fetched (file_of words) (whole text) ∷ []) × KeepsSecrets text
   pub usage : MatchOption (usage_of words) ⊤ (λ kind.
       IfSome (answer_of outcome) (λ a. a ≡ misused kind))

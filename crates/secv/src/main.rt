@@ -19,11 +19,12 @@ const HELP: &str =
 
 usage:
   secv check FILE [--top MODULE]    say whether a secret can reach a public signal
+  secv list FILE [--top MODULE]     list the obligations of a design, a line each
   secv --help, -h                   print this text
   secv --version                    print the version
 
-exit status: 0 accepted, 1 refused, 2 wrong words, 4 unreadable file, 5 unwritable output,
-             6 out of memory
+exit status: 0 accepted or listed, 1 refused, 2 wrong words, 4 unreadable file,
+             5 unwritable output, 6 out of memory
 ";
 
 const VERSION: &str = "secv 0.1.0\n";
@@ -64,7 +65,7 @@ fn answer(rt: &HostRuntime, words: &[String]) -> u8
         [word] if word.as_str() == "--help" => print(rt, HELP, DONE),
         [word] if word.as_str() == "-h" => print(rt, HELP, DONE),
         [word] if word.as_str() == "--version" => print(rt, VERSION, DONE),
-        words => check(rt, words),
+        words => command(rt, words),
     }
 }
 
@@ -83,7 +84,7 @@ fn print(rt: &HostRuntime, text: &str, status: u8) -> u8
 }
 
 // The status of what `run` answers over the real files and streams.
-fn check(rt: &HostRuntime, words: &[String]) -> u8
+fn command(rt: &HostRuntime, words: &[String]) -> u8
     ensures { Ends (words_of words.now) result }
 {
     let Ok(files) = rt.clone() else {

@@ -5,8 +5,11 @@ use std::io;
 use sv_cli::{Broken, Outcome, UsageKind};
 use sv_num::{Place, Refusal};
 
-const UNBUILT: &str =
+const UNDECIDED: &str =
     "secv: only modules of one-bit signals are decided so far; docs/language.md says which";
+
+const UNBUILT: &str =
+    "secv: memories, invariants and released values are not built; docs/language.md says more";
 
 const MEMORY: &str = "secv: memory ran out";
 
@@ -127,7 +130,11 @@ fn fault_of(number: u16) -> Option<&'static str> {
     FAULTS.iter().find(|row| row.0 == number).map(|row| row.1)
 }
 
-// FILE of a `check`, before or behind its option.
+fn is_list(words: &[String]) -> bool {
+    matches!(words, [command, ..] if command.as_str() == "list")
+}
+
+// FILE of a command, before or behind its option.
 fn file_in(words: &[String]) -> Option<&str> {
     match words {
         [_, option, _, file, ..] if option.as_str() == "--top" => Some(file.as_str()),
@@ -140,7 +147,7 @@ fn file_in(words: &[String]) -> Option<&str> {
 fn explain_rule(rt: &HostRuntime, words: &[String], refusal: &Refusal) {
     let Some(fault) = fault_of(refusal.number) else {
         // not used: where this cannot be written, the status tells of the rule
-        let _ = rt.eprintln(UNBUILT);
+        let _ = rt.eprintln(if is_list(words) { UNBUILT } else { UNDECIDED });
         return;
     };
     let Some(file) = file_in(words) else {
@@ -161,8 +168,13 @@ fn explain_usage(rt: &HostRuntime, words: &[String], kind: UsageKind) {
                 word.as_str().escape_debug()
             );
         }
-        (UsageKind::Words, _) => {
-            explain_words(rt, "`check` takes one FILE and at most one `--top MODULE`");
+        (UsageKind::Words, [word, ..]) => {
+            let command = word.as_str().escape_debug();
+            // not used: where this cannot be written, the status tells of it
+            let _ = eprintln!(rt;
+                "secv: `{command}` takes one FILE and at most one `--top MODULE`; usage: \
+                 secv {command} FILE [--top MODULE] (`secv --help` says more)"
+            );
         }
         _ => explain_words(rt, "no command is given"),
     }
@@ -172,7 +184,7 @@ fn explain_usage(rt: &HostRuntime, words: &[String], kind: UsageKind) {
 pub fn explain_words(rt: &HostRuntime, fault: &str) {
     // not used: where this cannot be written, the status tells of it
     let _ = eprintln!(rt;
-        "secv: {fault}; usage: secv check FILE [--top MODULE] (`secv --help` says more)"
+        "secv: {fault}; usage: secv COMMAND FILE [--top MODULE] (`secv --help` says more)"
     );
 }
 

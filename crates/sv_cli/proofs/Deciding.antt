@@ -24,7 +24,7 @@ use Rattle.sv_cli.specs.declared.report.Report.{Report}
 use Rattle.sv_cli.specs.declared.outcome.Outcome.{Outcome}
 use Rattle.sv_cli.specs.declared.outcome.Outcome.TheVariants.{Done}
 use Rattle.sv_cli.specs.Text.{accepted_text, flow_text, leak_text, refusal_text, limit_text}
-use Rattle.sv_cli.specs.Answer.{Answer, answer_of, accepted, rule_broken, limit_passed, falsified}
+use Rattle.sv_cli.specs.Answer.{Answer, answer_of, done, rule_broken, limit_passed, falsified}
 use Rattle.sv_cli.specs.Answer.{largest_file, BreaksFirst, Passes, IsFirstForm, IsAccepted}
 use Rattle.sv_cli.specs.Answer.{IsVerdict, KeepsSecrets}
 use Rattle.sv_cli.specs.Report.{Decides, zeros_for}
@@ -48,23 +48,25 @@ module _ (top : Option (List ℕ)) where
 
   -- Done is the answer that accepts
   done_accepts : (outcome : Outcome) (a : Answer) → outcome ≡ Done → answer_of outcome ≡ Some a →
-      a ≡ accepted
-  done_accepts outcome a done gives =
+      a ≡ done
+  done_accepts outcome a is_done gives =
       let g : answer_of Done ≡ Some a =
-      subst (λ (o : Outcome). answer_of o ≡ Some a) done gives in cc
+      subst (λ (o : Outcome). answer_of o ≡ Some a) is_done gives in cc
 
   -- a verdict that is given and printed decides the text
   pub decided : (text : List ℕ) (outcome : Outcome) (printed : List ℕ) (answer : Answer) →
       answer_of outcome ≡ Some answer → IsVerdict top text answer printed →
       Decides top text outcome printed
   decided text outcome printed answer gives verdict = record {
-    answer = answer;
-    gives = gives;
-    verdict = verdict;
-    only = verdict_is_one top text answer printed verdict;
+    verdict = record {
+      answer = answer;
+      gives = gives;
+      stands = verdict;
+      only = verdict_is_one top text answer printed verdict;
+    };
     secrets =
-        λ done. keeps_secrets text printed (subst (λ (a : Answer).
-        IsVerdict top text a printed) (done_accepts outcome answer done gives) verdict);
+        λ is_done. keeps_secrets text printed (subst (λ (a : Answer).
+        IsVerdict top text a printed) (done_accepts outcome answer is_done gives) verdict);
   }
 
   pub decides_large : (text : List ℕ) (outcome : Outcome) (printed : List ℕ)
@@ -104,10 +106,10 @@ module _ (top : Option (List ℕ)) where
       (text : List ℕ) (m : ModuleTree) (count : ℕ) (outcome : Outcome) (printed : List ℕ)
       → IsFirstForm top text m
       → IsTrue (list_all (flow_holds m) (obligations m)) → count ≡ length (obligations m)
-      → answer_of outcome ≡ Some accepted → printed ≡ accepted_text count
+      → answer_of outcome ≡ Some done → printed ≡ accepted_text count
       → Decides top text outcome printed
   decides_holding text m count outcome printed form holds counted gives prints =
-      decided text outcome printed accepted gives (record {
+      decided text outcome printed done gives (record {
         tree = m;
         form = form;
         flows_hold = holds;
@@ -243,12 +245,12 @@ module _ (top : Option (List ℕ)) where
         (was_found ∙ ap Some is) finds
 
     pub holding_reports : (count : ℕ) → f ≡ Holds count
-        → IfOk r (λ p. answer_of p.outcome ≡ Some accepted)
+        → IfOk r (λ p. answer_of p.outcome ≡ Some done)
         → IfOk r (λ p. p.text.items ≡ accepted_text count)
         → IfOk r (λ p. Decides top text p.outcome p.text.items)
     holding_reports count is a t =
         let finds2 = finding_is (Holds count) is in
-        elim r as (λ q. IfOk q (λ p. answer_of p.outcome ≡ Some accepted) →
+        elim r as (λ q. IfOk q (λ p. answer_of p.outcome ≡ Some done) →
         IfOk q (λ p. p.text.items ≡ accepted_text count) →
         IfOk q (λ p. Decides top text p.outcome p.text.items)) [
           | Ok p ↦ λ x y. decides_holding text (module_tree m) count p.outcome p.text.items

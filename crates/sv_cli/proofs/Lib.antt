@@ -9,3 +9,7 @@ mod Unfalsified
 pub mod Telling
 pub mod FewPairs
 pub mod TreeAnswers
+pub mod Limits
+pub mod Lines
+mod ListVerdicts
+pub mod Listed

@@ -20,7 +20,7 @@ use Rattle.sv_first_ast.specs.Obligations.{obligations, flow_holds, zeros}
 use Rattle.sv_first_ast.proofs.Leak.{leak_falsifies}
 use Rattle.sv_first.proofs.Readings.{MeansOne, MeansNone, one_or_none}
 use Rattle.sv_cli.specs.Text.{accepted_text, refusal_text, limit_text, leak_text}
-use Rattle.sv_cli.specs.Answer.{Answer, accepted, rule_broken, limit_passed, falsified}
+use Rattle.sv_cli.specs.Answer.{Answer, done, rule_broken, limit_passed, falsified}
 use Rattle.sv_cli.specs.Answer.{largest_file, has_unbuilt_item, StandsFor, BreaksFirst, Passes}
 use Rattle.sv_cli.specs.Answer.{IsFirstForm, IsUndecided, IsVerdict, AreCircles}
 use Rattle.sv_cli.proofs.Deciders.{admitted_or_refused}
@@ -113,7 +113,7 @@ module _ (top : Option (List ℕ)) where
   by_flows : (text : List ℕ) (m : ModuleTree) → IsFirstForm top text m → (b : Bool) →
       list_all (flow_holds m) (obligations m) ≡ b → HasVerdict text
   by_flows text m form true holds = (
-    accepted,
+    done,
     accepted_text (length (obligations m)),
     record {
       tree = m;

@@ -10,17 +10,20 @@ use Rattle.sv_io.specs.declared.faults.FetchFault.TheVariants.{Long, Failed, Out
 use Rattle.sv_io.specs.Cabinet.{IfLong}
 use Rattle.sv_io.specs.Exchange.{Fetched, whole, too_long, nothing, Exchange, fetched, fetched_of}
 use Rattle.sv_io.specs.Sink.{WritesFront}
-use Rattle.sv_cli.specs.declared.report.Report.{Report}
 use Rattle.sv_cli.specs.declared.outcome.UsageKind.{UsageKind}
 use Rattle.sv_cli.specs.declared.outcome.Outcome.{Outcome}
 use Rattle.sv_cli.specs.declared.outcome.Outcome.TheVariants.{Done}
-use Rattle.sv_cli.specs.Command.{Request, request_of, usage_kind, usage_of, file_of, top_of}
-use Rattle.sv_cli.specs.Text.{limit_text, usage_text}
-use Rattle.sv_cli.specs.Answer.{Answer, answer_of, accepted, limit_passed, misused, largest_file}
-use Rattle.sv_cli.specs.Answer.{IsAccepted, ReadsFile, Reads, IsVerdict, IsAnswer, AreCircles}
-use Rattle.sv_cli.specs.Answer.{KeepsSecrets}
-use Rattle.sv_cli.specs.Report.{Decides}
-use Rattle.sv_cli.proofs.Deciding.{decides_large}
+use Rattle.sv_cli.specs.declared.arguments.Command.{Command}
+use Rattle.sv_cli.specs.declared.arguments.Command.TheVariants.{Check}
+use Rattle.sv_cli.specs.declared.listing.Listing.{Listing}
+use Rattle.sv_cli.specs.Command.{Request, request_of, usage_kind, usage_of, command_of, file_of}
+use Rattle.sv_cli.specs.Command.{top_of}
+use Rattle.sv_cli.specs.Text.{usage_text}
+use Rattle.sv_cli.specs.Answer.{Answer, answer_of, done, misused, largest_file}
+use Rattle.sv_cli.specs.Answer.{IsAccepted, ReadsFile, Reads, IsVerdict, IsListing, IsAnswerBy}
+use Rattle.sv_cli.specs.Answer.{IsAnswer, AreCircles, KeepsSecrets}
+use Rattle.sv_cli.specs.Report.{IsOnlyAnswer, Decides}
+use Rattle.sv_cli.specs.Listings.{answer_in, text_in, Lists}
 
 -- what two equal growths by one fetch handed out is the same
 one_exchange : (file : List ℕ) (got other : Fetched) (old new : List Exchange) →
@@ -76,79 +79,71 @@ told_by (Err (Long bytes)) file held old new exchange is_whole within long_lengt
 told_by (Err OutOfMemory) file held old new exchange is_whole within long_length long_front text
     reads = absurd (reads_none file text old new reads exchange)
 
-module _ (top : Option (List ℕ)) where
-  -- a text that a fetch handed out is decided: the whole of it, or the front of one that is too
-  -- large
-  whole_decided : (file : List ℕ) (bytes : Vec ℕ) (outcome : Outcome) (printed : List ℕ)
-      (old new : List Exchange) → new ≡ old ++ fetched file (whole bytes.items) ∷ []
-      → vec_len bytes ≤ largest_file → Decides top bytes.items outcome printed
-      → (text : List ℕ) × ReadsFile file text old new × Decides top text outcome printed
-  whole_decided file bytes outcome printed old new exchange within decides =
-      let small : length bytes.items ≤ largest_file = grind (arith, within) in
-      (bytes.items, inl (exchange, small), decides)
+-- What is made of the text that a fetch handed out holds of a text that was read: the whole of it.
+pub whole_told : {X E : Type 0} (Holds : List ℕ → X → Type 0) (file : List ℕ) (bytes : Vec ℕ)
+    (r : Result X E) (old new : List Exchange) → new ≡ old ++ fetched file (whole bytes.items) ∷ []
+    → vec_len bytes ≤ largest_file → IfOk r (Holds bytes.items)
+    → IfOk r (λ x. (text : List ℕ) × ReadsFile file text old new × Holds text x)
+whole_told Holds file bytes (Ok x) old new exchange within holds =
+    let small : length bytes.items ≤ largest_file = grind (arith, within) in
+    (bytes.items, inl (exchange, small), holds)
+whole_told Holds file bytes (Err e) old new exchange within holds = tt
 
-  -- so is a report on it
-  pub whole_reported :
-      {E : Type 0} (file : List ℕ) (bytes : Vec ℕ) (r : Result Report E) (old new : List Exchange)
-      → new ≡ old ++ fetched file (whole bytes.items) ∷ []
-      → vec_len bytes ≤ largest_file → IfOk r (λ p. Decides top bytes.items p.outcome p.text.items)
-      → IfOk r (λ p. (text : List ℕ) × ReadsFile file text old new
-      × Decides top text p.outcome p.text.items)
-  whole_reported file bytes (Ok p) old new exchange within decides =
-      whole_decided file bytes p.outcome p.text.items old new exchange within decides
-  whole_reported file bytes (Err e) old new exchange within decides = tt
+-- Or the front of one that is too large.
+pub large_told : (Holds : List ℕ → Type 0) (fault : FetchFault) (bytes : Vec ℕ) (file : List ℕ)
+    (old new : List Exchange) → fault ≡ Long bytes
+    → (let r : Result (Vec ℕ) FetchFault = Err fault in
+    new ≡ old ++ fetched file (fetched_of r) ∷ [])
+    → (let r : Result (Vec ℕ) FetchFault = Err fault in
+    IfLong r (λ b. length b ≡ largest_file + 1))
+    → ((text : List ℕ) → largest_file < length text → Holds text)
+    → (text : List ℕ) × ReadsFile file text old new × Holds text
+large_told Holds fault bytes file old new long exchange long_length holds =
+    let e = subst (λ (f : FetchFault). let r : Result (Vec ℕ) FetchFault = Err f in
+    new ≡ old ++ fetched file (fetched_of r) ∷ []) long exchange in
+    let l = subst (λ (f : FetchFault). let r : Result (Vec ℕ) FetchFault = Err f in
+    IfLong r (λ b. length b ≡ largest_file + 1)) long long_length in
+    let more : largest_file < length bytes.items = omega arith in
+    (bytes.items, inr (e, l), holds bytes.items more)
 
-  pub large_decided : (fault : FetchFault) (bytes : Vec ℕ) (file : List ℕ) (outcome : Outcome)
-      (printed : List ℕ) (old new : List Exchange) → fault ≡ Long bytes
-      → (let r : Result (Vec ℕ) FetchFault = Err fault in
-      new ≡ old ++ fetched file (fetched_of r) ∷ [])
-      → (let r : Result (Vec ℕ) FetchFault = Err fault in
-      IfLong r (λ b. length b ≡ largest_file + 1))
-      → answer_of outcome ≡ Some (limit_passed 701 []) → printed ≡ limit_text 701 []
-      → (text : List ℕ) × ReadsFile file text old new × Decides top text outcome printed
-  large_decided fault bytes file outcome printed old new long exchange long_length gives prints =
-      let e = subst (λ (f : FetchFault). let r : Result (Vec ℕ) FetchFault = Err f in
-      new ≡ old ++ fetched file (fetched_of r) ∷ []) long exchange in
-      let l = subst (λ (f : FetchFault). let r : Result (Vec ℕ) FetchFault = Err f in
-      IfLong r (λ b. length b ≡ largest_file + 1)) long long_length in
-      let more : largest_file < length bytes.items = omega arith in
-      (bytes.items, inr (e, l), decides_large top bytes.items outcome printed more gives prints)
+-- ---- answers
+
+module _ (Is : List ℕ → Answer → List ℕ → Type 0) (given : Option Answer) where
+  -- some text that was read has this answer alone
+  abbrev pub HasAnswer : (List ℕ → Type 0) → List ℕ → Type 0
+  HasAnswer IsRead printed =
+      (text : List ℕ) × IsRead text × IsOnlyAnswer (Is text) given printed
 
   -- the answer that was sent is the one that was decided
-  pub answer_sent : (o : Option Answer) (T : List ℕ
-      → Type 0) (outcome : Outcome) (printed old new : List ℕ)
-      → (text : List ℕ) × T text × Decides top text outcome printed
-      → IfSome o (λ a. answer_of outcome ≡ Some a) → IfSome o (λ a. new ≡ old ++ printed)
-      → IfSome o (λ a. (x x' : List ℕ) × T x × IsVerdict top x a x' × (new ≡ old ++ x'))
-  answer_sent None T outcome printed old new decided answered all = tt
-  answer_sent (Some a) T outcome printed old new decided answered all =
-      let d = decided.2 in
+  pub answer_sent : (o : Option Answer) (IsRead : List ℕ → Type 0) (printed old new : List ℕ)
+      → HasAnswer IsRead printed
+      → IfSome o (λ a. given ≡ Some a) → IfSome o (λ a. new ≡ old ++ printed)
+      → IfSome o (λ a. (x x' : List ℕ) × IsRead x × Is x a x' × (new ≡ old ++ x'))
+  answer_sent None IsRead printed old new has answered all = tt
+  answer_sent (Some a) IsRead printed old new has answered all =
+      let d = has.2 in
       let g = d.gives in
       let same : d.answer ≡ a = cc in (
-        decided.0,
+        has.0,
         printed,
-        decided.1,
-        subst (λ (b : Answer).
-            IsVerdict top decided.0 b printed) same d.verdict,
+        has.1,
+        subst (λ (b : Answer). Is has.0 b printed) same d.stands,
         all,
       )
 
   -- no other answer is that of a text that was read
   pub only_sent : (o : Option Answer) (file : List ℕ) (before after : List Exchange)
-      (outcome : Outcome) (printed : List ℕ)
-      → (text : List ℕ) × ReadsFile file text before after × Decides top text outcome printed
-      → IfSome o (λ a. answer_of outcome ≡ Some a)
+      (printed : List ℕ) → HasAnswer (λ text. ReadsFile file text before after) printed
+      → IfSome o (λ a. given ≡ Some a)
       → (text : List ℕ) (a : Answer) (others : List ℕ) → ReadsFile file text before after
-      → IsVerdict top text a others → IfSome o (λ b. (b ≡ a) ⊎ AreCircles a b)
-  only_sent None file before after outcome printed decided answered text a others reads verdict = tt
-  only_sent (Some b) file before after outcome printed decided answered text a others reads
-      verdict =
-      let d = decided.2 in
+      → Is text a others → IfSome o (λ b. (b ≡ a) ⊎ AreCircles a b)
+  only_sent None file before after printed has answered text a others reads is = tt
+  only_sent (Some b) file before after printed has answered text a others reads is =
+      let d = has.2 in
       let g = d.gives in
-      let same = reads_one file text decided.0 before after reads decided.1 in
-      let is : d.answer ≡ b = cc in
-      sort d.answer is
-      (d.only a others (subst (λ (t : List ℕ). IsVerdict top t a others) same verdict))
+      let same = reads_one file text has.0 before after reads has.1 in
+      let given_is : d.answer ≡ b = cc in
+      sort d.answer given_is (d.only a others (subst (λ (t : List ℕ). Is t a others) same is))
     where
       sort : (answer : Answer) → answer ≡ b
           → ((a ≡ answer) × (others ≡ printed)) ⊎ AreCircles a answer
@@ -158,25 +153,37 @@ module _ (top : Option (List ℕ)) where
 
   -- without an answer a front of what is defined was accepted
   pub front_sent : (o : Option Answer) (file : List ℕ) (before after : List Exchange)
-      (outcome : Outcome) (printed old new : List ℕ)
-      → (text : List ℕ) × ReadsFile file text before after × Decides top text outcome printed
+      (printed old new : List ℕ) → HasAnswer (λ text. ReadsFile file text before after) printed
       → IfNone o (WritesFront old printed new)
       → IfNone o ((new ≡ old)
       ⊎ ((text : List ℕ) × (a : Answer) × (printed : List ℕ) × ReadsFile file text before after
-      × IsVerdict top text a printed × WritesFront old printed new))
-  front_sent (Some b) file before after outcome printed old new decided front = tt
-  front_sent None file before after outcome printed old new decided front =
-      inr (decided.0, decided.2.answer, printed, decided.1, decided.2.verdict, front)
+      × Is text a printed × WritesFront old printed new))
+  front_sent (Some b) file before after printed old new has front = tt
+  front_sent None file before after printed old new has front =
+      inr (has.0, has.2.answer, printed, has.1, has.2.stands, front)
+
+module _ (top : Option (List ℕ)) where
+  -- what is decided of a text is its answer
+  pub verdict_in : (IsRead : List ℕ → Type 0) (outcome : Outcome) (printed : List ℕ)
+      → (text : List ℕ) × IsRead text × Decides top text outcome printed
+      → HasAnswer (IsVerdict top) (answer_of outcome) IsRead printed
+  verdict_in IsRead outcome printed decided = (decided.0, decided.1, decided.2.verdict)
+
+  -- and so is what is listed
+  pub listing_in : (IsRead : List ℕ → Type 0) (listing : Listing)
+      → (text : List ℕ) × IsRead text × Lists top text listing
+      → HasAnswer (IsListing top) (answer_in listing) IsRead (text_in listing)
+  listing_in IsRead listing listed = (listed.0, listed.1, listed.2.answer)
 
   -- a text that is accepted is within the limit
   done_within : (text : List ℕ) (outcome : Outcome) (printed : List ℕ) →
       Decides top text outcome printed → outcome ≡ Done → length text ≤ largest_file
-  done_within text outcome printed d done =
-      let gives : answer_of Done ≡ Some d.answer =
-      subst (λ (o : Outcome). answer_of o ≡ Some d.answer) done d.gives in
-      let same : d.answer ≡ accepted = cc in
+  done_within text outcome printed d is_done =
+      let gives : answer_of Done ≡ Some d.verdict.answer =
+      subst (λ (o : Outcome). answer_of o ≡ Some d.verdict.answer) is_done d.verdict.gives in
+      let same : d.verdict.answer ≡ done = cc in
       let v : IsAccepted top text printed =
-      subst (λ (a : Answer). IsVerdict top text a printed) same d.verdict in
+      subst (λ (a : Answer). IsVerdict top text a printed) same d.verdict.stands in
       v.form.within
 
   -- Done is the answer of a text that was read whole and keeps its secrets
@@ -185,84 +192,106 @@ module _ (top : Option (List ℕ)) where
       → (text : List ℕ) × ReadsFile file text before after × Decides top text outcome printed
       → outcome ≡ Done
       → (text : List ℕ) × (after ≡ before ++ fetched file (whole text) ∷ []) × KeepsSecrets text
-  secrets_sent file before after outcome printed decided done =
+  secrets_sent file before after outcome printed decided is_done =
       let d = decided.2 in (
         decided.0,
         reads_whole file decided.0 before after
-            (done_within decided.0 outcome printed d done) decided.1,
-        d.secrets done,
+            (done_within decided.0 outcome printed d is_done) decided.1,
+        d.secrets is_done,
       )
 
 -- what the request of the words says
 pub of_request : (words : List (List ℕ)) (request : Request) → request_of words ≡ Some request →
     (usage_of words ≡ None) × (file_of words ≡ request.file) × (top_of words ≡ request.top)
+    × (command_of words ≡ request.command)
 of_request words request is = (
   ap (λ (r : Option Request).
       option_map_or (λ (r : Request). None) r (Some (usage_kind words))) is,
   ap (λ (r : Option Request). option_map_or (λ (r : Request). r.file) r []) is,
   ap (λ (r : Option Request). option_map_or (λ (r : Request). r.top) r None) is,
+  ap (λ (r : Option Request). option_map_or (λ (r : Request). r.command) r Check) is,
 )
 
--- where the words are a command the answer to the text is the answer to the words
-pub answer_to_words : (o : Option Answer) (Q : List ℕ
-    → Type 0) (words : List (List ℕ)) (request : Request) (before after : List Exchange)
-    → request_of words ≡ Some request
-    → IfSome o (λ a. (x x' : List ℕ) × ReadsFile request.file x before after
-    × IsVerdict request.top x a x' × Q x')
-    → IfSome o (λ a. (x x' : List ℕ) × Reads words x before after × IsAnswer words x a x' × Q x')
-answer_to_words None Q words request before after is answered = tt
-answer_to_words (Some a) Q words request before after is answered =
-    let of = of_request words request is in (
-      answered.0,
-      answered.1,
+-- What a request reads, and its answer.
+module _ (words : List (List ℕ)) (request : Request) (is : request_of words ≡ Some request)
+    (command : Command) (named : request.command ≡ command) where
+  same_command : command_of words ≡ command
+  same_command = (of_request words request is).3 ∙ named
+
+  reads_to_words : (text : List ℕ) (before after : List Exchange)
+      → ReadsFile request.file text before after → Reads words text before after
+  reads_to_words text before after reads =
+      let of = of_request words request is in
       subst (λ (u : Option UsageKind).
-          MatchOption u (ReadsFile (file_of words) answered.0 before after) (λ kind.
-          after ≡ before)) (sym of.0)
-          (subst (λ (f : List ℕ). ReadsFile f answered.0 before after) (sym of.1) answered.2),
+      MatchOption u (ReadsFile (file_of words) text before after) (λ kind.
+      after ≡ before)) (sym of.0)
+      (subst (λ (f : List ℕ). ReadsFile f text before after) (sym of.1) reads)
+
+  pub command_reads : (text : List ℕ) (before after : List Exchange)
+      → Reads words text before after → ReadsFile request.file text before after
+  command_reads text before after reads =
+      let of = of_request words request is in
+      subst (λ (f : List ℕ). ReadsFile f text before after) of.1
+      (subst (λ (u : Option UsageKind).
+      MatchOption u (ReadsFile (file_of words) text before after) (λ kind.
+      after ≡ before)) of.0 reads)
+
+  is_to_words : (text : List ℕ) (a : Answer) (printed : List ℕ)
+      → IsAnswerBy command request.top text a printed → IsAnswer words text a printed
+  is_to_words text a printed answer =
+      let of = of_request words request is in
       subst (λ (u : Option UsageKind).
-          MatchOption u (IsVerdict (top_of words) answered.0 a answered.1) (λ kind.
-          (a ≡ misused kind) × (answered.1 ≡ usage_text kind))) (sym of.0)
-          (subst (λ (t : Option (List ℕ)).
-          IsVerdict t answered.0 a answered.1) (sym of.2) answered.3),
-      answered.4,
-    )
+      MatchOption u (IsAnswerBy (command_of words) (top_of words) text a printed) (λ kind.
+      (a ≡ misused kind) × (printed ≡ usage_text kind))) (sym of.0)
+      (subst (λ (k : Command). IsAnswerBy k (top_of words) text a printed) (sym same_command)
+      (subst (λ (t : Option (List ℕ)). IsAnswerBy command t text a printed) (sym of.2) answer))
 
--- so is the front of a text
-pub front_to_words : (o : Option Answer) (Q : List ℕ
-    → Type 0) (none : Type 0) (words : List (List ℕ)) (request : Request)
-    (before after : List Exchange) → request_of words ≡ Some request
-    → IfNone o (none ⊎ ((x : List ℕ) × (a : Answer) × (x' : List ℕ)
-    × ReadsFile request.file x before after × IsVerdict request.top x a x' × Q x'))
-    → IfNone o (none ⊎ ((x : List ℕ) × (a : Answer) × (x' : List ℕ)
-    × Reads words x before after × IsAnswer words x a x' × Q x'))
-front_to_words (Some b) Q none words request before after is front = tt
-front_to_words None Q none words request before after is (inl unchanged) =
-    inl unchanged
-front_to_words None Q none words request before after is (inr front) =
-    let told = answer_to_words (Some front.1) Q words request before after is
-    (front.0, front.2, front.3, front.4, front.5) in
-    inr (told.0, front.1, told.1, told.2, told.3, told.4)
+  pub command_answer : (text : List ℕ) (a : Answer) (printed : List ℕ)
+      → IsAnswer words text a printed → IsAnswerBy command request.top text a printed
+  command_answer text a printed answer =
+      let of = of_request words request is in
+      subst (λ (t : Option (List ℕ)). IsAnswerBy command t text a printed) of.2
+      (subst (λ (k : Command). IsAnswerBy k (top_of words) text a printed) same_command
+      (subst (λ (u : Option UsageKind).
+      MatchOption u (IsAnswerBy (command_of words) (top_of words) text a printed) (λ kind.
+      (a ≡ misused kind) × (printed ≡ usage_text kind))) of.0 answer))
 
--- what a command reads, and its answer
-pub command_reads : (words : List (List ℕ)) (request : Request) (text : List ℕ)
-    (before after : List Exchange) → request_of words ≡ Some request →
-    Reads words text before after → ReadsFile request.file text before after
-command_reads words request text before after is reads =
-    let of = of_request words request is in
-    subst (λ (f : List ℕ). ReadsFile f text before after) of.1
-    (subst (λ (u : Option UsageKind).
-    MatchOption u (ReadsFile (file_of words) text before after) (λ kind.
-    after ≡ before)) of.0 reads)
+  -- the answer to the text is the answer to the words
+  pub answer_to_words : (o : Option Answer) (Q : List ℕ → Type 0) (before after : List Exchange)
+      → IfSome o (λ a. (x x' : List ℕ) × ReadsFile request.file x before after
+      × IsAnswerBy command request.top x a x' × Q x')
+      → IfSome o (λ a. (x x' : List ℕ) × Reads words x before after × IsAnswer words x a x' × Q x')
+  answer_to_words None Q before after answered = tt
+  answer_to_words (Some a) Q before after answered = (
+    answered.0,
+    answered.1,
+    reads_to_words answered.0 before after answered.2,
+    is_to_words answered.0 a answered.1 answered.3,
+    answered.4,
+  )
 
-pub command_verdict : (words : List (List ℕ)) (request : Request) (text : List ℕ) (a : Answer)
-    (printed : List ℕ) → request_of words ≡ Some request → IsAnswer words text a printed →
-    IsVerdict request.top text a printed
-command_verdict words request text a printed is answer =
-    let of = of_request words request is in
-    subst (λ (t : Option (List ℕ)). IsVerdict t text a printed) of.2
-    (subst (λ (u : Option UsageKind).
-    MatchOption u (IsVerdict (top_of words) text a printed) (λ kind.
-    (a ≡ misused kind) × (printed ≡ usage_text kind))) of.0 answer)
+  -- so is the front of a text
+  pub front_to_words : (o : Option Answer) (Q : List ℕ → Type 0) (none : Type 0)
+      (before after : List Exchange)
+      → IfNone o (none ⊎ ((x : List ℕ) × (a : Answer) × (x' : List ℕ)
+      × ReadsFile request.file x before after × IsAnswerBy command request.top x a x' × Q x'))
+      → IfNone o (none ⊎ ((x : List ℕ) × (a : Answer) × (x' : List ℕ)
+      × Reads words x before after × IsAnswer words x a x' × Q x'))
+  front_to_words (Some b) Q none before after front = tt
+  front_to_words None Q none before after (inl unchanged) = inl unchanged
+  front_to_words None Q none before after (inr front) =
+      inr (
+        front.0,
+        front.1,
+        front.2,
+        reads_to_words front.0 before after front.3,
+        is_to_words front.0 front.1 front.2 front.4,
+        front.5,
+      )
+
+  -- Done is no acceptance where the command is another one
+  pub other_command : (other : Command) → (command ≡ other → ⊥) → command_of words ≡ other → ⊥
+  other_command other differ asked = differ (sym same_command ∙ asked)
 
 -- where they are none the answer is what is wrong with them
 pub misuse_sent : (o : Option Answer) (words : List (List ℕ)) (kind : UsageKind) (outcome : Outcome)
@@ -281,7 +310,7 @@ misuse_sent (Some a) words kind outcome printed old new exchanges usage gives pr
           MatchOption u (ReadsFile (file_of words) [] exchanges exchanges) (λ k.
           exchanges ≡ exchanges)) (sym usage) refl,
       subst (λ (u : Option UsageKind).
-          MatchOption u (IsVerdict (top_of words) [] a printed) (λ k.
+          MatchOption u (IsAnswerBy (command_of words) (top_of words) [] a printed) (λ k.
           (a ≡ misused k) × (printed ≡ usage_text k))) (sym usage) (same, prints),
       all,
     )
@@ -302,7 +331,7 @@ misuse_front None words kind printed old new exchanges usage prints front = inr 
       MatchOption u (ReadsFile (file_of words) [] exchanges exchanges) (λ k.
       exchanges ≡ exchanges)) (sym usage) refl,
   subst (λ (u : Option UsageKind).
-      MatchOption u (IsVerdict (top_of words) [] (misused kind) printed) (λ k.
+      MatchOption u (IsAnswerBy (command_of words) (top_of words) [] (misused kind) printed) (λ k.
       (misused kind ≡ misused k) × (printed ≡ usage_text k))) (sym usage) (refl, prints),
   front,
 )

@@ -20,7 +20,7 @@ use Rattle.sv_first_ast.specs.Obligations.{Obligation, Values, obligations, flow
 use Rattle.sv_first_ast.specs.Obligations.{zeros}
 use Rattle.sv_first.proofs.Readings.{one_module}
 use Rattle.sv_cli.specs.Text.{accepted_text, refusal_text, limit_text, leak_text}
-use Rattle.sv_cli.specs.Answer.{Answer, accepted, rule_broken, limit_passed, falsified, misused}
+use Rattle.sv_cli.specs.Answer.{Answer, done, rule_broken, limit_passed, falsified, misused}
 use Rattle.sv_cli.specs.Answer.{has_unbuilt_item, HasUnbuiltItem, IsNotBuilt, BreaksElaboration}
 use Rattle.sv_cli.specs.Answer.{StandsFor, BreaksAdmission, BreaksFirst, Passes, IsFirstForm}
 use Rattle.sv_cli.specs.Answer.{IsUndecided, IsRefused, IsAccepted, IsFalsified, IsVerdict}
@@ -62,7 +62,7 @@ first_one p xs j k x y before at fails before2 at2 fails2 =
           elim d [ inl l ↦ absurd (b l) | inr l ↦ absurd (a l) ]
     ]
 
-some_is : {A : Type 0} (x y : A) → Some x ≡ Some y → x ≡ y
+pub some_is : {A : Type 0} (x y : A) → Some x ≡ Some y → x ≡ y
 some_is x y e = cc
 
 module _ (top : Option (List ℕ)) where
@@ -93,7 +93,7 @@ module _ (top : Option (List ℕ)) where
       absurd cc
 
   -- a text stands for one design
-  one_design : (text : List ℕ) (d e : FlatDesign) → StandsFor top text d → StandsFor top text e →
+  pub one_design : (text : List ℕ) (d e : FlatDesign) → StandsFor top text d → StandsFor top text e →
       d ≡ e
   one_design text d e stands others =
       let same = one_meaning text stands.tree others.tree stands.means others.means in
@@ -102,7 +102,7 @@ module _ (top : Option (List ℕ)) where
       some_is d e (sym flat ∙ others.flat)
 
   -- where that is admitted the text breaks no rule
-  passes_all : (text : List ℕ) → Passes top text → (number : ℕ) (place : Place)
+  pub passes_all : (text : List ℕ) → Passes top text → (number : ℕ) (place : Place)
       (names : List (List ℕ)) → BreaksFirst top text number place names → ⊥
   passes_all text passes number place names (inl broken) =
       text_breaks_nothing text passes.stands.tree passes.stands.means number names place broken
@@ -118,7 +118,7 @@ module _ (top : Option (List ℕ)) where
   -- ---- two rules that are broken first
 
   -- one rule at one place, with the same names or two circles from one signal
-  abbrev IsOneRule : (n m : ℕ) (p q : Place) (ns ms : List (List ℕ)) → Type 0
+  abbrev pub IsOneRule : (n m : ℕ) (p q : Place) (ns ms : List (List ℕ)) → Type 0
   IsOneRule n m p q ns ms = (n ≡ m) × (p ≡ q) × ((ns ≡ ms) ⊎ AreFromOne n ns ms)
 
   same_step : {A : Type 0} (x y : Step) → ◌≡◌ {A = Result A Step} (Err x) (Err y) → x ≡ y
@@ -155,7 +155,7 @@ module _ (top : Option (List ℕ)) where
     by_syntax a b =
         let same = one_syntax_rule text n m ns ms p q a b in (same.0, same.2, inl same.1)
 
-    one_first : BreaksFirst top text n p ns → BreaksFirst top text m q ms →
+    pub one_first : BreaksFirst top text n p ns → BreaksFirst top text m q ms →
         IsOneRule n m p q ns ms
     one_first (inl a) (inl b) = by_syntax a b
     one_first (inl a) (inr (inl b)) =
@@ -298,11 +298,11 @@ module _ (top : Option (List ℕ)) where
   -- ---- refusals
 
   -- one answer with one text, or two circles
-  abbrev IsOneAnswer : (answer other : Answer) (printed others : List ℕ) → Type 0
+  abbrev pub IsOneAnswer : (answer other : Answer) (printed others : List ℕ) → Type 0
   IsOneAnswer answer other printed others =
       ((other ≡ answer) × (others ≡ printed)) ⊎ AreCircles other answer
 
-  refused_alike : (n m : ℕ) (p q : Place) (ns ms : List (List ℕ)) (printed others : List ℕ)
+  pub refused_alike : (n m : ℕ) (p q : Place) (ns ms : List (List ℕ)) (printed others : List ℕ)
       → IsOneRule m n q p ms ns → printed ≡ refusal_text n p ns → others ≡ refusal_text m q ms
       → IsOneAnswer (rule_broken n p ns) (rule_broken m q ms) printed others
   refused_alike n m p q ns ms printed others (numbers, places, inl names) prints prints' = inl (
@@ -346,8 +346,8 @@ module _ (top : Option (List ℕ)) where
 
   one_accepted : (text printed : List ℕ) → IsAccepted top text printed →
       (other : Answer) (others : List ℕ) → IsVerdict top text other others →
-      IsOneAnswer accepted other printed others
-  one_accepted text printed v accepted others w =
+      IsOneAnswer done other printed others
+  one_accepted text printed v done others w =
       inl (refl, two_accepted text others printed w v)
   one_accepted text printed v (rule_broken number place names) others w =
       absurd (no_refused text v.tree v.form number place names others w)
@@ -361,7 +361,7 @@ module _ (top : Option (List ℕ)) where
       → IsRefused top text n p ns printed
       → (other : Answer) (others : List ℕ) → IsVerdict top text other others
       → IsOneAnswer (rule_broken n p ns) other printed others
-  one_refused text n p ns printed v accepted others w =
+  one_refused text n p ns printed v done others w =
       absurd (no_refused text w.tree w.form n p ns printed v)
   one_refused text n p ns printed v (rule_broken m q ms) others w =
       two_refused text n m p q ns ms printed others v w
@@ -372,10 +372,10 @@ module _ (top : Option (List ℕ)) where
   one_refused text n p ns printed v (misused kind) others w = absurd w
 
   -- what is asked of a text that passes a limit
-  abbrev IsLarge : List ℕ → ℕ → List (List ℕ) → List ℕ → Type 0
+  abbrev pub IsLarge : List ℕ → ℕ → List (List ℕ) → List ℕ → Type 0
   IsLarge text number names printed = IsVerdict top text (limit_passed number names) printed
 
-  two_large : (text : List ℕ) (n m : ℕ) (ns ms : List (List ℕ)) (printed printed' : List ℕ)
+  pub two_large : (text : List ℕ) (n m : ℕ) (ns ms : List (List ℕ)) (printed printed' : List ℕ)
       → IsLarge text n ns printed → IsLarge text m ms printed'
       → (limit_passed n ns ≡ limit_passed m ms) × (printed ≡ printed')
   two_large text n m ns ms printed printed' v w =
@@ -390,7 +390,7 @@ module _ (top : Option (List ℕ)) where
       → IsLarge text n ns printed
       → (other : Answer) (others : List ℕ) → IsVerdict top text other others
       → IsOneAnswer (limit_passed n ns) other printed others
-  one_large text n ns printed v accepted others w =
+  one_large text n ns printed v done others w =
       let a = w.form.within in let b = v.0 in absurd (omega arith)
   one_large text n ns printed v (rule_broken number place names) others w =
       let a = w.within in let b = v.0 in absurd (omega arith)
@@ -404,7 +404,7 @@ module _ (top : Option (List ℕ)) where
       → IsFalsified top text n values printed
       → (other : Answer) (others : List ℕ) → IsVerdict top text other others
       → IsOneAnswer (falsified n values) other printed others
-  one_falsified text n values printed v accepted others w =
+  one_falsified text n values printed v done others w =
       absurd (accepted_falsified text others n values printed w v)
   one_falsified text n values printed v (rule_broken number place names) others w =
       absurd (no_refused text v.tree v.form number place names others w)
@@ -419,7 +419,7 @@ module _ (top : Option (List ℕ)) where
       → IsVerdict top text answer printed
       → (other : Answer) (others : List ℕ) → IsVerdict top text other others
       → IsOneAnswer answer other printed others
-  verdict_is_one text accepted printed v other others w = one_accepted text printed v other others w
+  verdict_is_one text done printed v other others w = one_accepted text printed v other others w
   verdict_is_one text (rule_broken n p ns) printed v other others w =
       one_refused text n p ns printed v other others w
   verdict_is_one text (limit_passed n ns) printed v other others w =

@@ -8,23 +8,27 @@ use Rattle.sv_system.specs.System.{Noninterferent, HasOneTrace}
 use Rattle.sv_ast.specs.Tree.{ItemTree, memory_item, released, invariant_item, TextTree}
 use Rattle.sv_ast.specs.Tree.{ModuleTree as WholeModule}
 use Rattle.sv_ast.specs.GrammarMeaning.{Means as MeansText, BreaksSyntax}
-use Rattle.sv_flat.specs.Design.{FlatDesign}
+use Rattle.sv_flat.specs.Design.{SignalForm, FlatDesign}
 use Rattle.sv_flat.specs.Admission.{IsAdmitted}
 use Rattle.sv_flat.specs.Admission.{IsRefused as IsRefusedDesign}
 use Rattle.sv_walk.specs.Texts.{flat_of, BreaksRule}
+use Rattle.sv_obl.specs.Limits.{Excess, many_paths, large_path, many_obligations, excess}
+use Rattle.sv_obl.specs.ListLines.{name_of, list_text}
 use Rattle.sv_first_ast.specs.Tree.{ModuleTree}
 use Rattle.sv_first_ast.specs.Meaning.{label_of, flows, system}
 use Rattle.sv_first_ast.specs.Form.{is_first_form}
 use Rattle.sv_first_ast.specs.Spelling.{Means}
 use Rattle.sv_first_ast.specs.Obligations.{Obligation, Values, obligations, flow_holds, Falsifies}
 use Rattle.sv_first_ast.specs.Obligations.{zeros}
+use Rattle.sv_cli.specs.declared.arguments.Command.{Command}
+use Rattle.sv_cli.specs.declared.arguments.Command.TheVariants as commands
 use Rattle.sv_cli.specs.declared.outcome.UsageKind.{UsageKind}
 use Rattle.sv_cli.specs.declared.outcome.Valuation.{Valuation}
 use Rattle.sv_cli.specs.declared.outcome.Outcome.{Outcome}
 use Rattle.sv_cli.specs.declared.outcome.Outcome.TheVariants as outcome
 use Rattle.sv_cli.specs.declared.outcome.Broken.TheVariants as broken
 use Rattle.sv_io.specs.Exchange.{Exchange, fetched, whole, too_long}
-use Rattle.sv_cli.specs.Command.{usage_of, file_of, top_of}
+use Rattle.sv_cli.specs.Command.{usage_of, command_of, file_of, top_of}
 use Rattle.sv_cli.specs.Text.{usage_text, accepted_text, refusal_text, limit_text, leak_text}
 
 -- the exit status
@@ -36,9 +40,10 @@ status_of outcome.ReadFault = 4
 status_of outcome.WriteFault = 5
 status_of outcome.OutOfMemory = 6
 
--- an answer that the words and the text decide, in plain values
+-- an answer that the words and the text decide, in plain values; `done` is that the text is
+-- accepted, or that its obligations are listed
 pub data Answer : Type 0 where
-  accepted : Answer
+  done : Answer
   rule_broken : ℕ → Place → List (List ℕ) → Answer
   limit_passed : ℕ → List (List ℕ) → Answer
   falsified : ℕ → Values → Answer
@@ -50,7 +55,7 @@ values_of v =
 
 -- the answer of an outcome; a failing object and want of memory give none
 abbrev pub answer_of : Outcome → Option Answer
-answer_of outcome.Done = Some accepted
+answer_of outcome.Done = Some done
 answer_of (outcome.Refused (broken.Rule r)) = Some (rule_broken r.number r.place r.names.items)
 answer_of (outcome.Refused (broken.Limit number names)) = Some (limit_passed number names.items)
 answer_of (outcome.Refused (broken.Fails number v)) = Some (falsified number (values_of v))
@@ -148,6 +153,13 @@ pub record IsRefused (top : Option (List ℕ)) (text : List ℕ) (number : ℕ) 
       ⊎ (IsUndecided top text × IsNotBuilt number place names)
   pub prints : printed ≡ refusal_text number place names
 
+-- a text over the limit is refused for its size
+abbrev pub IsTooLarge : (text : List ℕ) → (number : ℕ) → (names : List (List ℕ)) →
+    (printed : List ℕ) → Type 0
+IsTooLarge text number names printed =
+    (largest_file < length text) × (number ≡ 701) × (names ≡ [])
+    × (printed ≡ limit_text number names)
+
 -- every obligation of the text's module holds
 pub record IsAccepted (top : Option (List ℕ)) (text printed : List ℕ) : Type 0 where
   pub tree : ModuleTree
@@ -174,14 +186,68 @@ pub record IsFalsified (top : Option (List ℕ)) (text : List ℕ) (number : ℕ
 
 -- What `check` answers for a text with this top, and what it prints.
 abbrev pub IsVerdict : (top : Option (List ℕ)) → (text : List ℕ) → Answer → List ℕ → Type 0
-IsVerdict top text accepted printed = IsAccepted top text printed
+IsVerdict top text done printed = IsAccepted top text printed
 IsVerdict top text (rule_broken number place names) printed =
     IsRefused top text number place names printed
-IsVerdict top text (limit_passed number names) printed =
-    (largest_file < length text) × (number ≡ 701) × (names ≡ [])
-    × (printed ≡ limit_text number names)
+IsVerdict top text (limit_passed number names) printed = IsTooLarge text number names printed
 IsVerdict top text (falsified number v) printed = IsFalsified top text number v printed
 IsVerdict top text (misused kind) printed = ⊥
+
+-- ---- lists of obligations
+
+-- a text within the limit that breaks a rule is refused for the first that it breaks
+pub record IsRefusedByRule (top : Option (List ℕ)) (text : List ℕ) (number : ℕ) (place : Place)
+    (names : List (List ℕ)) (printed : List ℕ) : Type 0 where
+  pub within : length text ≤ largest_file
+  pub broken : BreaksFirst top text number place names
+  pub prints : printed ≡ refusal_text number place names
+
+-- the number of a limit on obligations, and what is named with it: the target, where one is told
+abbrev pub limit_number : Excess → ℕ
+limit_number (many_paths target) = 702
+limit_number (large_path target) = 712
+limit_number many_obligations = 703
+
+abbrev pub limit_names : List SignalForm → Excess → List (List ℕ)
+limit_names signals (many_paths target) = name_of signals target ∷ []
+limit_names signals (large_path target) = name_of signals target ∷ []
+limit_names signals many_obligations = []
+
+-- The text breaks no rule, and this is the first limit on obligations that its design passes.
+pub record PassesLimit (top : Option (List ℕ)) (text : List ℕ) (number : ℕ)
+    (names : List (List ℕ)) (printed : List ℕ) : Type 0 where
+  pub within : length text ≤ largest_file
+  pub passes : Passes top text
+  pub passed : Excess
+  pub first : excess passes.design ≡ Some passed
+  pub numbered : number ≡ limit_number passed
+  pub named : names ≡ limit_names passes.design.signals passed
+  pub prints : printed ≡ limit_text number names
+
+-- The text breaks no rule and its design passes no limit: each obligation has its line, in order.
+pub record IsListed (top : Option (List ℕ)) (text printed : List ℕ) : Type 0 where
+  pub within : length text ≤ largest_file
+  pub passes : Passes top text
+  pub few : excess passes.design ≡ None
+  pub prints : printed ≡ list_text passes.design
+
+-- What `list` answers for a text with this top, and what it prints.
+abbrev pub IsListing : (top : Option (List ℕ)) → (text : List ℕ) → Answer → List ℕ → Type 0
+IsListing top text done printed = IsListed top text printed
+IsListing top text (rule_broken number place names) printed =
+    IsRefusedByRule top text number place names printed
+IsListing top text (limit_passed number names) printed =
+    IsTooLarge text number names printed ⊎ PassesLimit top text number names printed
+IsListing top text (falsified number v) printed = ⊥
+IsListing top text (misused kind) printed = ⊥
+
+-- ---- words and texts
+
+-- what a command answers for a text with this top, and what it prints
+abbrev pub IsAnswerBy : Command → (top : Option (List ℕ)) → (text : List ℕ) → Answer → List ℕ →
+    Type 0
+IsAnswerBy commands.Check top text answer printed = IsVerdict top text answer printed
+IsAnswerBy commands.List top text answer printed = IsListing top text answer printed
 
 -- Two answers that name circles of signals that read each other, both from the signal that rule 607
 -- tells of: where several circles begin there any of them is named.
@@ -209,7 +275,8 @@ Reads words text old new =
 -- What the program answers to these words and the text that it reads, and what it prints.
 abbrev pub IsAnswer : List (List ℕ) → List ℕ → Answer → List ℕ → Type 0
 IsAnswer words text answer printed =
-    MatchOption (usage_of words) (IsVerdict (top_of words) text answer printed) (λ kind.
+    MatchOption (usage_of words)
+    (IsAnswerBy (command_of words) (top_of words) text answer printed) (λ kind.
     (answer ≡ misused kind) × (printed ≡ usage_text kind))
 
 -- The text means exactly one module. Any two of its traces that look alike to a level have equal

@@ -38,13 +38,18 @@ BreaksAsTree top tree number place names =
 abbrev pub IsFlatOf : (top : Option (List ℕ)) → TextTree → FlatDesign → Type 0
 IsFlatOf top tree design = IsFalse (has_unbuilt_item tree) × (flat_of tree top ≡ Some design)
 
--- the outcome and what is printed with it are those of the text, and no others are but that of
--- another circle
+-- The answer that is given and what is printed with it are as defined, and no others are but that
+-- of another circle.
+pub record IsOnlyAnswer (Is : Answer → List ℕ → Type 0) (given : Option Answer)
+    (printed : List ℕ) : Type 0 where
+  pub answer : Answer
+  pub gives : given ≡ Some answer
+  pub stands : Is answer printed
+  pub only : (other : Answer) (others : List ℕ) → Is other others →
+      ((other ≡ answer) × (others ≡ printed)) ⊎ AreCircles other answer
+
+-- the outcome and what is printed with it are what `check` answers for the text
 pub record Decides (top : Option (List ℕ)) (text : List ℕ) (outcome : Outcome) (printed : List ℕ) :
     Type 0 where
-  pub answer : Answer
-  pub gives : answer_of outcome ≡ Some answer
-  pub verdict : IsVerdict top text answer printed
-  pub only : (other : Answer) (others : List ℕ) → IsVerdict top text other others →
-      ((other ≡ answer) × (others ≡ printed)) ⊎ AreCircles other answer
+  pub verdict : IsOnlyAnswer (IsVerdict top text) (answer_of outcome) printed
   pub secrets : outcome ≡ Done → KeepsSecrets text

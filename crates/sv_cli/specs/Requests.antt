@@ -9,4 +9,8 @@ abbrev pub text_of : Option (Bor (List ℕ)) → Option (List ℕ)
 text_of word = option_map (λ (w : Bor (List ℕ)). w.now) word
 
 abbrev pub plain : Held → Request
-plain request = record { file = request.file.now; top = text_of request.top }
+plain request = record {
+  command = request.command;
+  file = request.file.now;
+  top = text_of request.top;
+}

@@ -8,6 +8,7 @@
 mod arguments;
 mod designs;
 mod laws;
+mod listing;
 mod outcome;
 mod report;
 mod rules;

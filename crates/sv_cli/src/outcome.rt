@@ -42,7 +42,7 @@ pub enum Broken {
 /// What `run` comes to.
 #[derive(Debug, Drop)]
 pub enum Outcome {
-    /// The text is accepted.
+    /// The text is accepted, or its obligations are listed.
     Done,
     /// The text is refused.
     Refused(Broken),

@@ -1,7 +1,7 @@
 // What is answered, and the text that says so.
 ghost use Rattle.std.specs.Prelude.{◌≡◌, ◌≤◌, [], Some, IfOk, length, replicate};
 ghost use Rattle.sv_cli.specs.Text.{usage_text, accepted_text, refusal_text, limit_text, flow_text};
-ghost use Rattle.sv_cli.specs.Answer.{answer_of, accepted, rule_broken, limit_passed, falsified};
+ghost use Rattle.sv_cli.specs.Answer.{answer_of, done, rule_broken, limit_passed, falsified};
 ghost use Rattle.sv_cli.specs.Answer.{misused, largest_file, Passes};
 ghost use Rattle.sv_cli.specs.Report.{Decides, zeros_for};
 ghost use Rattle.sv_cli.specs.Requests.{text_of};
@@ -12,7 +12,7 @@ use crate::text;
 use std::alloc::{AllocError, Global};
 use sv_first::read_module;
 use sv_first_flow::{Finding, Leak, check};
-use sv_num::{Fault, Refusal};
+use sv_num::{Fault, Name, Refusal};
 
 /// An outcome, and all that is to be written with it.
 #[derive(Drop)]
@@ -33,19 +33,33 @@ pub fn report_of_misuse(alloc: Global, kind: UsageKind) -> Result<Report, AllocE
     })
 }
 
+/// Of a limit that is passed, with the names that go with it.
+pub fn report_of_limit(
+    alloc: Global,
+    number: u16,
+    names: Vec<Name>,
+) -> Result<Report, AllocError>
+    ensures answer { IfOk result
+        (λ report. answer_of report.outcome ≡ Some (limit_passed number names.items)) }
+    ensures text { IfOk result (λ report. report.text.items ≡ limit_text number names.items) }
+{
+    let text = text::limit_text(alloc, number, &names)?;
+    Ok(Report {
+        outcome: Outcome::Refused(Broken::Limit(number, names)),
+        text,
+    })
+}
+
 /// Of a file that is larger than the largest.
 pub fn report_of_large_file(alloc: Global) -> Result<Report, AllocError>
     ensures answer { IfOk result (λ report. answer_of report.outcome ≡ Some (limit_passed 701 [])) }
     ensures text { IfOk result (λ report. report.text.items ≡ limit_text 701 []) }
 {
-    let text = text::limit_text(alloc, 701, &[])?;
-    Ok(Report {
-        outcome: Outcome::Refused(Broken::Limit(701, Vec::new(alloc))),
-        text,
-    })
+    report_of_limit(alloc, 701, Vec::new(alloc))
 }
 
-fn report_of_refusal(alloc: Global, refusal: Refusal) -> Result<Report, AllocError>
+/// Of a broken rule.
+pub fn report_of_refusal(alloc: Global, refusal: Refusal) -> Result<Report, AllocError>
     ensures answer { IfOk result
         (λ report. answer_of report.outcome ≡
         Some (rule_broken refusal.number refusal.place refusal.names.items)) }
@@ -71,7 +85,7 @@ fn report_of_unbuilt_form(alloc: Global) -> Result<Report, AllocError>
 }
 
 fn report_of_acceptance(alloc: Global, count: u32) -> Result<Report, AllocError>
-    ensures answer { IfOk result (λ report. answer_of report.outcome ≡ Some accepted) }
+    ensures answer { IfOk result (λ report. answer_of report.outcome ≡ Some done) }
     ensures text { IfOk result (λ report. report.text.items ≡ accepted_text count) }
 {
     let text = text::accepted_text(alloc, count)?;

@@ -1,7 +1,8 @@
 use Rattle.sv_cli.specs.Requests.{text_of}
 use Rattle.std.proofs.Common.{List, ℕ}
-use Rattle.sv_cli.specs.Answer.{answer_of, ReadsFile}
-use Rattle.sv_cli.proofs.Telling.{answer_sent, only_sent, front_sent, secrets_sent, reads_none}
+use Rattle.sv_cli.specs.Answer.{answer_of, ReadsFile, IsVerdict}
+use Rattle.sv_cli.proofs.Telling.{verdict_in, answer_sent, only_sent, front_sent, secrets_sent}
+use Rattle.sv_cli.proofs.Telling.{reads_none}
 use Rattle.sv_cli.proofs.top.check_file.Goals as goal
 
 pub returns-in-Ok-clause-noninterference : goal.returns-in-Ok-clause-noninterference
@@ -14,28 +15,46 @@ returns-in-Ok-clause-noninterference g c done =
 
 pub returns-in-Ok-clause-answer : goal.returns-in-Ok-clause-answer
 returns-in-Ok-clause-answer g c =
-    answer_sent (text_of c.args.request.top) (answer_of c.send.result) (λ (text : List ℕ).
+    let top = text_of c.args.request.top in
+    let outcome = c.in-Ok.report.outcome in
+    let printed = c.in-Ok.report.text.items in
+    answer_sent (IsVerdict top) (answer_of outcome) (answer_of c.send.result) (λ (text : List ℕ).
     ReadsFile c.args.request.file.now text (g.C.Cabinet.exchanges c.args.cabinet.now)
     (g.C.Cabinet.exchanges c.report_on_file.new.cabinet))
-    c.in-Ok.report.outcome c.in-Ok.report.text.items (g.K.Sink.accepted c.args.out.now)
-    (g.K.Sink.accepted c.send.new.out) c.in-Ok.ensures.report c.send.ensures.answered
-    c.send.ensures.whole
+    printed (g.K.Sink.accepted c.args.out.now) (g.K.Sink.accepted c.send.new.out)
+    (verdict_in top (λ (text : List ℕ).
+    ReadsFile c.args.request.file.now text (g.C.Cabinet.exchanges c.args.cabinet.now)
+    (g.C.Cabinet.exchanges c.report_on_file.new.cabinet)) outcome printed
+    c.in-Ok.ensures.report)
+    c.send.ensures.answered c.send.ensures.whole
 
 pub returns-in-Ok-clause-only : goal.returns-in-Ok-clause-only
 returns-in-Ok-clause-only g c =
-    only_sent (text_of c.args.request.top) (answer_of c.send.result) c.args.request.file.now
-    (g.C.Cabinet.exchanges c.args.cabinet.now)
-    (g.C.Cabinet.exchanges c.report_on_file.new.cabinet) c.in-Ok.report.outcome
-    c.in-Ok.report.text.items
-    c.in-Ok.ensures.report c.send.ensures.answered
+    let top = text_of c.args.request.top in
+    let outcome = c.in-Ok.report.outcome in
+    let printed = c.in-Ok.report.text.items in
+    only_sent (IsVerdict top) (answer_of outcome) (answer_of c.send.result)
+    c.args.request.file.now (g.C.Cabinet.exchanges c.args.cabinet.now)
+    (g.C.Cabinet.exchanges c.report_on_file.new.cabinet) printed
+    (verdict_in top (λ (text : List ℕ).
+    ReadsFile c.args.request.file.now text (g.C.Cabinet.exchanges c.args.cabinet.now)
+    (g.C.Cabinet.exchanges c.report_on_file.new.cabinet)) outcome printed
+    c.in-Ok.ensures.report)
+    c.send.ensures.answered
 
 pub returns-in-Ok-clause-front : goal.returns-in-Ok-clause-front
 returns-in-Ok-clause-front g c =
-    front_sent (text_of c.args.request.top) (answer_of c.send.result) c.args.request.file.now
-    (g.C.Cabinet.exchanges c.args.cabinet.now)
-    (g.C.Cabinet.exchanges c.report_on_file.new.cabinet) c.in-Ok.report.outcome
-    c.in-Ok.report.text.items
-    (g.K.Sink.accepted c.args.out.now) (g.K.Sink.accepted c.send.new.out) c.in-Ok.ensures.report
+    let top = text_of c.args.request.top in
+    let outcome = c.in-Ok.report.outcome in
+    let printed = c.in-Ok.report.text.items in
+    front_sent (IsVerdict top) (answer_of outcome) (answer_of c.send.result)
+    c.args.request.file.now (g.C.Cabinet.exchanges c.args.cabinet.now)
+    (g.C.Cabinet.exchanges c.report_on_file.new.cabinet) printed
+    (g.K.Sink.accepted c.args.out.now) (g.K.Sink.accepted c.send.new.out)
+    (verdict_in top (λ (text : List ℕ).
+    ReadsFile c.args.request.file.now text (g.C.Cabinet.exchanges c.args.cabinet.now)
+    (g.C.Cabinet.exchanges c.report_on_file.new.cabinet)) outcome printed
+    c.in-Ok.ensures.report)
     c.send.ensures.front
 
 pub returns-in-Ok-clause-silent : goal.returns-in-Ok-clause-silent

@@ -1,7 +1,7 @@
 use Rattle.sv_io.specs.System.{file_exchanges, sink_accepted}
 use Rattle.sv_cli.specs.Command.{words_of}
 use Rattle.secv.proofs.Ended.{ended}
-use Rattle.secv.proofs.check.Goals as goal
+use Rattle.secv.proofs.command.Goals as goal
 
 pub returns : goal.returns
 returns c =

@@ -38,8 +38,7 @@ module top(input turn, input a, input {H} b, output {Dom(turn)} y);
 endmodule
 ";
 
-const TURN_LIST: &str =
-    "1 y now +3:19 =3:10 reads turn b\n2 y now -3:19 =3:10 reads turn a\n";
+const TURN_LIST: &str = "1 y now +3:19 =3:10 reads turn b\n2 y now -3:19 =3:10 reads turn a\n";
 
 const SUM: &str = "module m(input a, output y); assign y = a + a; endmodule\n";
 

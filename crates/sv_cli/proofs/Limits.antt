@@ -1,7 +1,7 @@
 -- What the limits on obligations say of a design.
 use Rattle.std.proofs.Common.{◌≡◌, ℕ, zero, suc, ◌+◌, ◌<◌, ◌≤◌, Bool, true, false, cond, nat_lt}
-use Rattle.std.proofs.Common.{List, [], ◌∷◌, length, flat_map, Option, Some, None, refl, sym, ap}
-use Rattle.std.proofs.Common.{subst, ◌∙◌, arith, ltb-false, length-append}
+use Rattle.std.proofs.Common.{List, [], ◌∷◌, length, flat_map, Option, Some, None, refl, sym}
+use Rattle.std.proofs.Common.{subst, arith, ltb-false, length-append}
 use Rattle.std.specs.List.{list_any, range_with_len}
 use Rattle.sv_flat.specs.Design.{FlatDesign}
 use Rattle.sv_flat.specs.Processes.{signal_numbers}
@@ -55,7 +55,8 @@ module _ (design : FlatDesign) where
       below_either (i + suc k) (nat_lt 4096 (count i)) (many_paths i) e _ here
       (below_either (i + suc k) (large i) (large_path i) e _ here
       (below_either (i + suc k) (nat_lt 65536 (total + count i)) many_obligations e _ tt
-      (λ rest. subst (λ n. IsBelow n e) (next i k) (below_from (total + count i) (i + 1) k e rest))))
+      (λ rest. subst (λ n. IsBelow n e) (next i k)
+      (below_from (total + count i) (i + 1) k e rest))))
       h
     where
       next : (i k : ℕ) → (i + 1) + k ≡ i + suc k

@@ -1,5 +1,5 @@
 -- A text has one list, and one text is printed for it.
-use Rattle.std.proofs.Common.{◌≡◌, ℕ, ◌<◌, ◌≤◌, List, length, Option, Some, None, inl, inr, refl}
+use Rattle.std.proofs.Common.{◌≡◌, ℕ, List, Option, Some, None, inl, inr, refl}
 use Rattle.std.proofs.Common.{sym, ◌∙◌, ap, arith}
 use Rattle.sv_num.specs.declared.faults.Place.{Place}
 use Rattle.sv_flat.specs.Design.{FlatDesign}
@@ -51,7 +51,8 @@ module _ (top : Option (List ℕ)) (text : List ℕ) where
   -- ---- any two lists
 
   one_listed : (printed : List ℕ) → IsListed top text printed → (other : Answer)
-      (others : List ℕ) → IsListing top text other others → IsOneAnswer top done other printed others
+      (others : List ℕ) → IsListing top text other others
+      → IsOneAnswer top done other printed others
   one_listed printed v done others w = inl (refl, two_listed others printed w v)
   one_listed printed v (rule_broken number place names) others w =
       absurd (passes_all top text v.passes number place names w.broken)

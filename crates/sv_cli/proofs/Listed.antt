@@ -1,6 +1,6 @@
 -- What is to be written of a text is what `list` answers for it.
 use Rattle.std.proofs.Common.{◌≡◌, ℕ, ◌<◌, ◌≤◌, List, [], length, map, Option, Some, None, inl, inr}
-use Rattle.std.proofs.Common.{refl, sym, ap, subst, ◌∙◌, arith}
+use Rattle.std.proofs.Common.{refl, sym, ap, subst, ◌∙◌}
 use Rattle.std.specs.Prelude.{Result, Ok, Err, IfOk, IsSome}
 use Rattle.std.specs.declared.alloc.AllocError.{AllocError}
 use Rattle.sv_num.specs.declared.faults.Place.{Place}
@@ -19,7 +19,7 @@ use Rattle.sv_cli.specs.declared.listing.Listing.TheVariants.{Refused, Lines}
 use Rattle.sv_cli.specs.declared.report.Report.{Report}
 use Rattle.sv_cli.specs.Text.{refusal_text, limit_text}
 use Rattle.sv_cli.specs.Answer.{Answer, answer_of, done, rule_broken, limit_passed, largest_file}
-use Rattle.sv_cli.specs.Answer.{StandsFor, BreaksFirst, Passes, limit_number, limit_names}
+use Rattle.sv_cli.specs.Answer.{StandsFor, BreaksFirst, limit_number, limit_names}
 use Rattle.sv_cli.specs.Answer.{IsListing}
 use Rattle.sv_cli.specs.Listings.{answer_in, text_in, IsReady, TellsLimit, ListsDesign, Lists}
 use Rattle.sv_cli.proofs.Congruence.{two}

@@ -93,7 +93,8 @@ module _ (top : Option (List ℕ)) where
       absurd cc
 
   -- a text stands for one design
-  pub one_design : (text : List ℕ) (d e : FlatDesign) → StandsFor top text d → StandsFor top text e →
+  pub one_design : (text : List ℕ) (d e : FlatDesign) → StandsFor top text d
+      → StandsFor top text e →
       d ≡ e
   one_design text d e stands others =
       let same = one_meaning text stands.tree others.tree stands.means others.means in

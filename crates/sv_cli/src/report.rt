@@ -34,11 +34,7 @@ pub fn report_of_misuse(alloc: Global, kind: UsageKind) -> Result<Report, AllocE
 }
 
 /// Of a limit that is passed, with the names that go with it.
-pub fn report_of_limit(
-    alloc: Global,
-    number: u16,
-    names: Vec<Name>,
-) -> Result<Report, AllocError>
+pub fn report_of_limit(alloc: Global, number: u16, names: Vec<Name>) -> Result<Report, AllocError>
     ensures answer { IfOk result
         (λ report. answer_of report.outcome ≡ Some (limit_passed number names.items)) }
     ensures text { IfOk result (λ report. report.text.items ≡ limit_text number names.items) }

@@ -1,8 +1,6 @@
-use Rattle.std.proofs.Common.{◌≡◌, ◌≤◌, ◌++◌, take, map, Result, Ok, Err, OnErr, arith}
+use Rattle.std.proofs.Common.{arith}
 use Rattle.sv_flat.specs.Views.{design_of}
-use Rattle.sv_io.specs.Sink.{WritesFront}
 use Rattle.sv_obl.specs.DesignQueries.{IsQueryOf, IsPlaced}
-use Rattle.sv_obl.specs.Views.{obligation_of}
 use Rattle.sv_cli.proofs.Lines.{one_at, more_accepted, front_accepted, on_error}
 use Rattle.sv_cli.proofs.listing.put_lines.Goals as goal
 

@@ -10,7 +10,8 @@ pub returns-in-Ok-clause-answer : goal.returns-in-Ok-clause-answer
 returns-in-Ok-clause-answer g c =
     let top = text_of c.args.request.top in
     let listing = c.in-Ok.listing in
-    answer_sent (IsListing top) (answer_in listing) (answer_of c.write_listing.result) (λ (text : List ℕ).
+    answer_sent (IsListing top) (answer_in listing) (answer_of c.write_listing.result)
+    (λ (text : List ℕ).
     ReadsFile c.args.request.file.now text (g.C.Cabinet.exchanges c.args.cabinet.now)
     (g.C.Cabinet.exchanges c.listing_of_file.new.cabinet))
     (text_in listing) (g.K.Sink.accepted c.args.out.now) (g.K.Sink.accepted c.write_listing.new.out)

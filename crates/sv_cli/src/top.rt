@@ -101,6 +101,7 @@ pub fn run<C: Cabinet, S: Source, K: Sink>(
         C.held cabinet.new name ≡ C.held cabinet.old name }
     ensures input_left { S.left input.new ≡ S.left input.old }
     ensures input_untouched { S.given input.new ≡ S.given input.old }
+    ensures input_faults { S.faults input.new ≡ S.faults input.old }
 {
     // No command reads the input yet.
     let _ = input;

@@ -54,18 +54,18 @@ module _ {X : Type 0} (test : X → Bool) where
   kept_fewer true x zs ws fewer = both_kept (test x) x (filter test zs) ws fewer
   kept_fewer false x zs ws fewer = one_kept (test x) x (length (filter test zs)) ws fewer
 
-  twice_fewer : (kept : X → Bool) (xs : List X) →
+  pub twice_fewer : (kept : X → Bool) (xs : List X) →
       length (filter test (filter kept xs)) ≤ length (filter test xs)
   twice_fewer kept [] = omega arith
   twice_fewer kept (x ∷ xs) =
       kept_fewer (kept x) x (filter kept xs) (filter test xs) (twice_fewer kept xs)
 
-at_most_one : {X : Type 0} (xs : List X) → slice_get xs 1 ≡ None → length xs ≤ 1
+pub at_most_one : {X : Type 0} (xs : List X) → slice_get xs 1 ≡ None → length xs ≤ 1
 at_most_one [] none = omega arith
 at_most_one (x ∷ []) none = omega arith
 at_most_one (x ∷ y ∷ xs) none = absurd (some_is_some y none)
 
-no_second : {X : Type 0} (xs : List X) → length xs ≤ 1 → slice_get xs 1 ≡ None
+pub no_second : {X : Type 0} (xs : List X) → length xs ≤ 1 → slice_get xs 1 ≡ None
 no_second [] few = refl
 no_second (x ∷ []) few = refl
 no_second (x ∷ y ∷ xs) few = absurd (omega (arith, few))
@@ -155,7 +155,7 @@ module _ (design : FlatDesign) (is_sound : IsTrue (sound design))
 
   -- ---- the test
 
-  quiet_from : (e : Environment ℕ)
+  pub quiet_from : (e : Environment ℕ)
       → ((p : ProcessForm) → Contains combs p → LeavesAll p e) → IsTrue (is_quiet design e)
   quiet_from e each =
       all_pass (λ (run : Run ℕ). list_all (λ s. run e s == e s) (flat_system design).signals)
@@ -166,7 +166,7 @@ module _ (design : FlatDesign) (is_sound : IsTrue (sound design))
       (all_pass (λ s. run_of design from.0 e s == e s) (flat_system design).signals
       (λ s seen. eq-eqb (run_of design from.0 e s) (e s) (each from.0 from.1 s))))
 
-  from_quiet : (e : Environment ℕ) → IsTrue (is_quiet design e) → (p : ProcessForm) →
+  pub from_quiet : (e : Environment ℕ) → IsTrue (is_quiet design e) → (p : ProcessForm) →
       Contains combs p → LeavesAll p e
   from_quiet e quiet p at s = ⊎_elim
       (λ assigned.

@@ -1,2 +1,4 @@
 pub mod Events
 pub mod Places
+pub mod Rests
+pub mod Seen

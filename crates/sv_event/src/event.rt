@@ -1,15 +1,23 @@
 // Environments that are run process by process.
-ghost use Rattle.std.specs.Prelude.{◌≡◌, ◌<◌, ◌^◌, ℕ, All, IfOk, Contains, length, replicate};
+ghost use Rattle.std.specs.Prelude.{◌≡◌, ◌↔◌, ◌<◌, ◌≤◌, ◌+◌, ℕ, All, IsTrue, IfOk, Contains};
+ghost use Rattle.std.specs.Prelude.{length, replicate};
 ghost use Rattle.sv_flat.specs.ByNumber.{by_number};
+ghost use Rattle.sv_flat.specs.FlatSystem.{flat_system};
 ghost use Rattle.sv_flat.specs.Schedules.{numbered_run, after_schedule, is_quiet, process_count};
+ghost use Rattle.sv_flat.specs.Schedules.{IsRoundCount, after_rounds, is_order, after_tick};
 ghost use Rattle.sv_flat.specs.SignalLists.{seen, inputs as inputs_of};
 ghost use Rattle.sv_flat.specs.Views.{design_of};
+ghost use Rattle.sv_system.specs.Schedules.{IsTheSettled, combinational};
 ghost use Rattle.sv_sim.specs.Given.{FitListed, with_given};
 
+use crate::orders::is_order;
 use crate::places::places_of;
+use crate::rounds::run_rounds;
 use crate::runs::{is_quiet, run_all, run_numbered};
+use crate::ticks::tick_all;
 use std::alloc::{AllocError, Global};
 use std::marker::Model;
+use std::mem::swap;
 use sv_design::Design;
 use sv_flat::SigId;
 use sv_sim::put_listed;
@@ -19,11 +27,14 @@ use sv_sim::put_listed;
 #[derive(Drop)]
 pub struct Event<'a> {
     design: &'a Design,
-    // The places of the combinational processes among all processes.
+    // The places of the combinational processes and of the clocked ones among all processes.
     combs: Vec<usize>,
+    clocked: Vec<usize>,
     values: Vec<u64>,
-    // Room for the values of runs that are tried.
+    // Room for other values: those of runs that are tried, and those after the clock edge.
     other: Vec<u64>,
+    // Room for the order of one round.
+    order: Vec<usize>,
 }
 
 impl<'a> Model for Event<'a> {
@@ -46,7 +57,8 @@ impl<'a> Model for Event<'a> {
     ghost view = { λ s. record { design = s.design.now; values = s.values.items } };
 
     ghost invariant = { λ s.
-        IsEvent (design_of s.design.now) s.combs.items s.values.items s.other.items };
+        IsEvent (design_of s.design.now) s.combs.items s.clocked.items s.values.items
+        s.other.items s.order.items };
 }
 
 impl<'a> Event<'a> {
@@ -61,8 +73,10 @@ impl<'a> Event<'a> {
         Ok(Event {
             design,
             combs: places_of(alloc, design, false)?,
+            clocked: places_of(alloc, design, true)?,
             values: vec![in alloc; 0; count]?,
             other: vec![in alloc; 0; count]?,
+            order: vec![in alloc; 0; design.combs()]?,
         })
     }
 
@@ -119,13 +133,69 @@ impl<'a> Event<'a> {
         run_all(self.design, &self.combs, schedule, &mut self.values);
     }
 
-    /// Whether no run of a combinational process would change a value.
+    /// Whether no run of a combinational process would change a value: whether the values are the
+    /// one settled environment of their registers and inputs.
     pub fn quiet(&mut self) -> bool
         ensures quiet { result ≡
             is_quiet (design_of self.old.design) (by_number self.old.values) }
+        ensures settled { let environment = by_number self.old.values in
+            IsTrue result ↔ IsTheSettled (flat_system (design_of self.old.design)) environment
+            environment environment }
         ensures same { self.new ≡ self.old }
     {
         is_quiet(self.design, &self.combs, &self.values, &mut self.other)
+    }
+
+    /// Runs drawn rounds of all combinational processes until the first after which no run would
+    /// change a value, and gives how many it ran. The number says what is drawn. The values are
+    /// then the one settled environment of their registers and inputs.
+    pub fn rounds(&mut self, number: u64) -> u32
+        ensures count { IsRoundCount (design_of self.old.design) number
+            (by_number self.old.values) result }
+        ensures most { result ≤
+            length (combinational (flat_system (design_of self.old.design))) + 1 }
+        ensures values { by_number self.new.values ≡
+            after_rounds (design_of self.old.design) number result (by_number self.old.values) }
+        ensures settled { IsTheSettled (flat_system (design_of self.old.design))
+            (by_number self.old.values) (by_number self.old.values) (by_number self.new.values) }
+        ensures design { self.new.design ≡ self.old.design }
+    {
+        run_rounds(
+            self.design,
+            &self.combs,
+            number,
+            &mut self.order,
+            &mut self.values,
+            &mut self.other,
+        )
+    }
+
+    /// Whether the list has the number of each clocked process once, and no other number.
+    pub fn is_order(&self, order: &[usize]) -> bool
+        ensures { result ≡ is_order (design_of self.now.design) order.now }
+    {
+        is_order(self.clocked.len(), order)
+    }
+
+    /// Runs the clocked processes in this order on the values as they stand, and then makes all
+    /// their updates (IEEE 1364-2005, clause 11). Every order gives the registers the same values.
+    pub fn tick(&mut self, order: &[usize])
+        requires { IsTrue (is_order (design_of self.old.design) order.now) }
+        ensures values { by_number self.new.values ≡
+            after_tick (design_of self.old.design) order.now (by_number self.old.values) }
+        ensures next { by_number self.new.values ≡
+            (flat_system (design_of self.old.design)).next (by_number self.old.values) }
+        ensures design { self.new.design ≡ self.old.design }
+    {
+        self.other.copy_from_slice(&self.values);
+        tick_all(
+            self.design,
+            &self.clocked,
+            order,
+            &self.values,
+            &mut self.other,
+        );
+        swap(&mut self.values, &mut self.other);
     }
 
     /// The value of a signal that is no clock.

@@ -1,7 +1,6 @@
 // Where the processes of one kind stand among all processes.
 ghost use Rattle.std.specs.Prelude.{◌≡◌, [], ◌∷◌, ◌++◌, if◌then◌else◌, IfOk, OnOk};
-ghost use Rattle.sv_flat.specs.Design.{ProcessForm};
-ghost use Rattle.sv_flat.specs.Views.{design_of, process_kind, process_form};
+ghost use Rattle.sv_flat.specs.Views.{design_of, process_form};
 ghost use Rattle.sv_event.specs.Places.{is_of_kind, ArePlaces};
 
 use std::alloc::{AllocError, Global};

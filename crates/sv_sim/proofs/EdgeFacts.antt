@@ -81,14 +81,14 @@ clocked_sign (release point) b h fine = absurd (false≢true h)
 abbrev pub touches : Updates → ℕ → Bool
 touches us s = list_any (λ (u : ℕ × ℕ). u.0 == s) us
 
-last_untouched : (s old : ℕ) (us : Updates) → IsFalse (touches us s)
+pub last_untouched : (s old : ℕ) (us : Updates) → IsFalse (touches us s)
     → last_update ◌==◌ s old us ≡ old
 last_untouched s old [] none = refl
 last_untouched s old (u ∷ us) none =
     ap (λ b. last_update ◌==◌ s (cond b u.1 old) us) (or_none_left (u.0 == s) (touches us s) none)
     ∙ last_untouched s old us (or_none_right (u.0 == s) (touches us s) none)
 
-last_split : (s old : ℕ) (us ws : Updates)
+pub last_split : (s old : ℕ) (us ws : Updates)
     → last_update ◌==◌ s old (us ++ ws) ≡ last_update ◌==◌ s (last_update ◌==◌ s old us) ws
 last_split s old [] ws = refl
 last_split s old (u ∷ us) ws = last_split s (cond (u.0 == s) u.1 old) us ws
@@ -185,7 +185,7 @@ module _ (signals : List SignalForm) where
   either_touch true x y t first second = first
   either_touch false x y t first second = second
 
-  run_touch : (body : FlatStatement) (now : Environment ℕ × Updates) (t : ℕ)
+  pub run_touch : (body : FlatStatement) (now : Environment ℕ × Updates) (t : ℕ)
       → IsFalse (assigns body t) → IsFalse (touches now.1 t)
       → IsFalse (touches (run signals body now).1 t)
   run_touch nothing now t none had = had
@@ -203,7 +203,7 @@ module _ (signals : List SignalForm) where
 
 -- ---- lists of processes
 
-all_touch : (each : ProcessForm → Updates) (qs : List ProcessForm) (t : ℕ)
+pub all_touch : (each : ProcessForm → Updates) (qs : List ProcessForm) (t : ℕ)
     → ((q : ProcessForm) → Contains qs q → IsFalse (touches (each q) t))
     → IsFalse (touches (flat_map each qs) t)
 all_touch each [] t none = refl
@@ -234,7 +234,7 @@ module _ {X : Type 0} (test : X → Bool) (p : X) where
   one_more_fails (x ∷ xs) no' = left_more (test x) x (filter test (xs ++ p ∷ [])) (filter test xs)
       (one_more_fails xs no')
 
-some_first : {X : Type 0} (xs : List X) (x : X) → Contains xs x → slice_get xs 0 ≡ None → ⊥
+pub some_first : {X : Type 0} (xs : List X) (x : X) → Contains xs x → slice_get xs 0 ≡ None → ⊥
 some_first [] x at e = Contains-nil x at
 some_first (y ∷ xs) x at e = some_is_some y e
 

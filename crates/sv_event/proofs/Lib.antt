@@ -1,3 +1,4 @@
+pub mod CycleOrders
 pub mod PlaceFacts
 pub mod QuietFacts
 pub mod RoundFacts

@@ -89,7 +89,7 @@ round_permutes n state =
     shuffled_permutes (n - 1) (record { order = range_with_len 0 n; state = state })
     (λ some. omega (arith, size))
 
-range_is_below : (n : ℕ) → All (λ k. k < n) (range_with_len 0 n)
+pub range_is_below : (n : ℕ) → All (λ k. k < n) (range_with_len 0 n)
 range_is_below n = each (λ k. k < n) (range_with_len 0 n) (below 0 n n (omega arith))
   where
     below : (a m n : ℕ) → a + m ≤ n → (k : ℕ) → Contains (range_with_len a m) k → k < n

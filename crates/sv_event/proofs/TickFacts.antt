@@ -43,19 +43,19 @@ use Rattle.sv_event.proofs.QuietFacts.{at_most_one, twice_fewer, no_second}
 
 -- ---- how often a number stands in a list
 
-abbrev count : List ℕ → ℕ → ℕ
+abbrev pub count : List ℕ → ℕ → ℕ
 count xs v = count_by (λ m. m == v) xs
 
-abbrev once : Bool → ℕ
+abbrev pub once : Bool → ℕ
 once b = cond b 1 0
 
 is_once : (b : Bool) → IsTrue b → once b ≡ 1
 is_once b h = ap once h
 
-count_cons : (v x : ℕ) (xs : List ℕ) → count (x ∷ xs) v ≡ once (x == v) + count xs v
+pub count_cons : (v x : ℕ) (xs : List ℕ) → count (x ∷ xs) v ≡ once (x == v) + count xs v
 count_cons v x xs = sum_by-cons (λ m. once (m == v)) x xs
 
-count_head : (v : ℕ) (xs : List ℕ) → count (v ∷ xs) v ≡ 1 + count xs v
+pub count_head : (v : ℕ) (xs : List ℕ) → count (v ∷ xs) v ≡ 1 + count xs v
 count_head v xs =
     count_cons v v xs ∙ ap (λ n. n + count xs v) (is_once (v == v) (eq-eqb v v refl))
 

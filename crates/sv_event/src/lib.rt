@@ -22,5 +22,8 @@ mod runs;
 mod ticks;
 
 pub use event::Event;
-pub use laws::{numbered_rounds_settle, quiet_is_settled, rest_is_settled, rounds_settle};
+pub use laws::{
+    cycle_orders_are_orders, numbered_rounds_settle, quiet_is_settled, rest_is_settled,
+    rounds_settle,
+};
 pub use std::alloc::AllocError as OutOfMemory;

@@ -147,8 +147,9 @@ impl<'a> Event<'a> {
     }
 
     /// Runs drawn rounds of all combinational processes until the first after which no run would
-    /// change a value, and gives how many it ran. The number says what is drawn. The values are
-    /// then the one settled environment of their registers and inputs.
+    /// change a value, and gives how many it ran: at least 1, and at most one more than there are
+    /// combinational signals. The number says what is drawn. The values are then the one settled
+    /// environment of their registers and inputs.
     pub fn rounds(&mut self, number: u64) -> u32
         ensures count { IsRoundCount (design_of self.old.design) number
             (by_number self.old.values) result }

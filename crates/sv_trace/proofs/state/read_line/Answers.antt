@@ -1,0 +1,26 @@
+use Rattle.std.proofs.Common.{rules, ◌≡◌, true, false, sym, ◌∙◌}
+use Rattle.std.specs.Str.{bytes_eq}
+use Rattle.sv_trace.specs.Reading.{said_of}
+use Rattle.sv_trace.proofs.SaidFacts.{cycle_read, header_read, start_read}
+use Rattle.sv_trace.proofs.state.read_line.Goals as goal
+
+pub returns-then-state-clause-read : goal.returns-then-state-clause-read
+returns-then-state-clause-read c =
+    λ right taken read. cycle_read c.args.form.now right taken c.args.line.now
+    (said_of c.args.state.now) (said_of c.push_cycle.new.state) c.push_cycle.result read
+    c.if-state.true c.requires.short c.push_cycle.ensures.right c.push_cycle.ensures.pushed
+    c.push_cycle.ensures.wrong c.push_cycle.ensures.same
+
+pub returns-then-eq-clause-read : goal.returns-then-eq-clause-read
+returns-then-eq-clause-read c =
+    let is : bytes_eq c.args.line.now c.args.form.now.header ≡ true = search rules in
+    λ right taken read. header_read c.args.form.now right taken c.args.line.now
+    (said_of c.args.state.now) read c.if-state.false c.requires.short is
+
+pub returns-clause-read : goal.returns-clause-read
+returns-clause-read c =
+    let is : bytes_eq c.args.line.now c.args.form.now.header ≡ false = search rules in
+    λ right taken read. start_read c.args.form.now right taken c.args.line.now
+    (said_of c.args.state.now) (said_of c.put_start.new.state) c.put_start.result read
+    c.if-state.false c.requires.short is c.requires.said.given c.put_start.ensures.right
+    c.put_start.ensures.put c.put_start.ensures.wrong c.put_start.ensures.same

@@ -4,3 +4,7 @@ pub mod CycleWords
 pub mod Texts
 pub mod SaidFacts
 pub mod PieceFacts
+pub mod Stuck
+pub mod ReaderFacts
+pub mod FormFacts
+pub mod Shown

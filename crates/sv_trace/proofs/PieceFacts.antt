@@ -1,7 +1,8 @@
 -- What was read of the bytes of a text, piece by piece.
 use Rattle.std.proofs.Common.{◌≡◌, ℕ, ◌+◌, ◌<◌, ◌≤◌, true, false, List, [], ◌∷◌, ◌++◌, length}
-use Rattle.std.proofs.Common.{refl, sym, ap, ◌∙◌, arith, subst, Option, Some, None, append_assoc}
-use Rattle.std.specs.Prelude.{Ok, Err}
+use Rattle.std.proofs.Common.{refl, sym, ap, ◌∙◌, arith, subst, Option, Some, None, append_assoc, Bool, cond}
+use Rattle.std.specs.Prelude.{Result, Ok, Err, OnOk, IfErr}
+use Rattle.std.specs.Result.{IsErrAnd}
 use Rattle.std.proofs.lemmas.List.{length-append}
 use Rattle.sv_trace.specs.declared.faults.StimKind.{StimKind}
 use Rattle.sv_trace.specs.declared.faults.StimKind.TheVariants.{TooLong, Header}
@@ -10,6 +11,7 @@ use Rattle.sv_trace.specs.declared.faults.StimFault.TheVariants.{Line, OutOfMemo
 use Rattle.sv_trace.specs.Forms.{StimForm}
 use Rattle.sv_trace.specs.Reading.{Said, HaveRead, Lacks, IsCut, text_of}
 use Rattle.sv_trace.specs.Steps.{LineRead, Stands, Stops, StopsUnlessFull, IsTooLong, EndsWell}
+use Rattle.sv_trace.specs.Steps.{PieceRead}
 use Rattle.sv_trace.specs.Steps.{EndRead}
 use Rattle.sv_trace.specs.Stimulus.{LinesRead, read_after, read_front, read_whole, ended, fault_of}
 use Rattle.sv_trace.specs.Stimulus.{has_header}
@@ -165,3 +167,45 @@ last_stops form bytes taken old new kept (Line number kind) s more read =
     stopped (read_whole form bytes) form s.right taken new number kind
     (whole_stops form bytes s.right kept kind s.cut more s.good read.0.1) read.0.0 read.1
 last_stops form bytes taken old new kept OutOfMemory s more read = tt
+
+-- ---- with any answer
+
+-- what an error on its way out is
+pub at_err : (r : Result (Unit {0}) StimFault) (x : StimFault) → IsErrAnd r (λ y. y ≡ x)
+    → (P : Result (Unit {0}) StimFault → Type 0) → P (Err x) → P r
+at_err (Ok done) x is P holds = absurd is
+at_err (Err y) x is P holds = subst (λ z. P (Err z)) (sym is) holds
+
+pub rest_read : (form : StimForm) (bytes whole : List ℕ) (taken : List (List ℕ)) (said : Said)
+    (kept line new : List ℕ) (r : Result (Unit {0}) StimFault) → Stands form bytes taken said kept
+    → Lacks 10 line → whole ≡ bytes ++ line → OnOk r (new ≡ kept ++ line)
+    → OnOk r (length new ≤ 1048576)
+    → IfErr r (IsTooLong said.line (length kept + length line))
+    → PieceRead form whole taken r said new
+rest_read form bytes whole taken said kept line new (Ok done) s lacks w is short long =
+    subst (λ b. Stands form b taken said new) (sym w)
+    (subst (λ k. Stands form (bytes ++ line) taken said k) (sym is)
+    (stands_still form bytes taken said kept line s lacks (subst (λ k. length k ≤ 1048576) is short)))
+rest_read form bytes whole taken said kept line new (Err fault) s lacks w is short long =
+    stops_over form bytes whole taken said kept line fault s lacks w long
+
+pub empty_ends : (form : StimForm) (bytes : List ℕ) (taken : List (List ℕ)) (said : Said)
+    (kept : List ℕ) → Stands form bytes taken said kept → length kept ≤ 0
+    → EndRead form bytes taken (cond said.begun (Ok tt) (Err (Line said.line Header))) said
+empty_ends form bytes taken said kept s none = by_begun said.begun refl
+    where
+    by_begun : (b : Bool) → said.begun ≡ b
+        → EndRead form bytes taken (cond b (Ok tt) (Err (Line said.line Header))) said
+    by_begun true e = empty_ends_well form bytes taken said kept s none e
+    by_begun false e = empty_ends_early form bytes taken said kept s none e
+
+pub last_ends : (form : StimForm) (bytes : List ℕ) (taken : List (List ℕ)) (old new : Said)
+    (kept : List ℕ) → (s : Stands form bytes taken old kept) → 0 < length kept
+    → LineRead form s.right taken kept (Ok tt) new
+    → EndRead form bytes taken (cond new.begun (Ok tt) (Err (Line new.line Header))) new
+last_ends form bytes taken old new kept s more read = by_begun new.begun refl
+    where
+    by_begun : (b : Bool) → new.begun ≡ b
+        → EndRead form bytes taken (cond b (Ok tt) (Err (Line new.line Header))) new
+    by_begun true e = last_ends_well form bytes taken old new kept s more read e
+    by_begun false e = last_ends_early form bytes taken old new kept s more read e

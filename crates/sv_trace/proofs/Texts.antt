@@ -31,7 +31,7 @@ parts_text (line ∷ lines) bytes each =
     ∙ split_some 10 line (text_of lines ++ bytes) (All-head (Lacks 10) line lines each)
     ∙ ap (λ ps. line ∷ ps) (parts_text lines bytes (All-tail (Lacks 10) line lines each))
 
-lines_more : (test : List ℕ → Bool) (lines : List (List ℕ)) (x : List ℕ) (more : List (List ℕ))
+pub lines_more : (test : List ℕ → Bool) (lines : List (List ℕ)) (x : List ℕ) (more : List (List ℕ))
     → lines_if test (lines ++ x ∷ more) ≡ lines ++ lines_if test (x ∷ more)
 lines_more test [] x more = refl
 lines_more test (line ∷ []) x more = refl
@@ -113,14 +113,17 @@ wrong_lines form right line more kind good wrong =
 
 -- ---- the front of a text
 
+pub front_reads : (form : StimForm) (bytes : List ℕ) (right : List (List ℕ)) (rest : List ℕ)
+    → IsCut bytes right rest → read_front form bytes ≡ read_after form [] right
+front_reads form bytes right rest cut =
+    ap (λ ps. read_after form [] (lines_if long ps)) (cut_parts bytes right rest cut)
+    ∙ ap (read_after form []) (last_is_none long right rest (le-ltb 1048576 (length rest) cut.short))
+
 pub front_is : (form : StimForm) (bytes : List ℕ) (right : List (List ℕ)) (rest : List ℕ)
     → IsCut bytes right rest
     → read_after form [] right ≡ record { right = right; wrong = None }
     → read_front form bytes ≡ record { right = right; wrong = None }
-front_is form bytes right rest cut good =
-    ap (λ ps. read_after form [] (lines_if long ps)) (cut_parts bytes right rest cut)
-    ∙ ap (read_after form []) (last_is_none long right rest (le-ltb 1048576 (length rest) cut.short))
-    ∙ good
+front_is form bytes right rest cut good = front_reads form bytes right rest cut ∙ good
 
 -- a wrong line with a line feed
 pub front_stops : (form : StimForm) (right : List (List ℕ)) (line after : List ℕ) (kind : StimKind)

@@ -2,3 +2,4 @@ pub mod Forms
 pub mod Reading
 pub mod Steps
 pub mod Stimulus
+pub mod Traces

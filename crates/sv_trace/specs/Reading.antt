@@ -56,6 +56,7 @@ pub record IsSaid (form : StimForm) (said : Said) : Type 0 where
 pub record IsReading (reading : Reading) : Type 0 where
   pub said : IsSaid reading.form reading.said
   pub room : reading.said.line + length reading.rest < 2 ^ 64
+  pub short : length reading.rest ≤ 1048576
 
 -- ---- what was read
 

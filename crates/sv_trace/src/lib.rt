@@ -5,10 +5,13 @@ mod cycles;
 mod faults;
 mod fields;
 mod forms;
-mod laws;
 mod pieces;
+mod reader;
 mod starts;
 mod state;
+mod trace;
 
 pub use faults::{StimFault, StimKind};
+pub use reader::StimReader;
 pub use std::alloc::AllocError as OutOfMemory;
+pub use trace::trace_line;

@@ -1,5 +1,5 @@
 // Lines out of pieces.
-ghost use Rattle.std.specs.Prelude.{◌≡◌, ℕ, ◌+◌, ◌^◌, ◌<◌, ◌≤◌, List, ◌++◌, length, vec_len, OnOk};
+ghost use Rattle.std.specs.Prelude.{◌≡◌, ℕ, ◌+◌, ◌^◌, ◌<◌, ◌≤◌, List, ◌++◌, length, OnOk, Ok, Err};
 ghost use Rattle.std.specs.Prelude.{OnErr, IfErr, if◌then◌else◌};
 ghost use Rattle.sv_trace.specs.Reading.{said_of, IsSaid, Lacks};
 ghost use Rattle.sv_trace.specs.Steps.{IsTooLong, Stands, LineEnded, PieceRead, EndRead};
@@ -23,17 +23,19 @@ pub(crate) fn read_piece(
     piece: &[u8],
 ) -> Result<(), StimFault>
     requires said { IsSaid form.now (said_of state.old) }
-    requires room { state.old.line + vec_len kept.old + length piece.now < 2 ^ 64 }
+    requires room { state.old.line + length kept.old.items + length piece.now < 2 ^ 64 }
+    requires short { length kept.old.items ≤ 1048576 }
     ensures said { IsSaid form.now (said_of state.new) }
-    ensures room { state.new.line + vec_len kept.new < 2 ^ 64 }
+    ensures room { state.new.line + length kept.new.items < 2 ^ 64 }
+    ensures short { length kept.new.items ≤ 1048576 }
     ensures read { (bytes : List ℕ) (taken : List (List ℕ)) →
         Stands form.now bytes taken (said_of state.old) kept.old.items →
         PieceRead form.now (bytes ++ piece.now) taken result (said_of state.new) kept.new.items }
 {
     let mut left = piece;
-    'lines: while let Some((line, after)) = split_first(left, b'\n') {
-        end_line(alloc, form, state, kept, line)?;
-        left = after;
+    'lines: while let Some(parts) = split_first(left, b'\n') {
+        end_line(alloc, form, state, kept, parts.0)?;
+        left = parts.1;
     }
     keep(kept, left, state.line)
 }
@@ -48,12 +50,14 @@ fn end_line(
 ) -> Result<(), StimFault>
     requires said { IsSaid form.now (said_of state.old) }
     requires room { state.old.line + 1 < 2 ^ 64 }
+    requires short { length kept.old.items ≤ 1048576 }
     requires bytes { Lacks 10 line.now }
     ensures said { IsSaid form.now (said_of state.new) }
     ensures next { OnOk result (state.new.line ≡ state.old.line + 1) }
-    ensures none { OnOk result (vec_len kept.new ≡ 0) }
+    ensures none { OnOk result (length kept.new.items ≡ 0) }
     ensures same { OnErr result (state.new.line ≡ state.old.line) }
-    ensures kept { vec_len kept.new ≤ vec_len kept.old + length line.now }
+    ensures kept { length kept.new.items ≤ length kept.old.items + length line.now }
+    ensures short { length kept.new.items ≤ 1048576 }
     ensures read { (bytes : List ℕ) (taken : List (List ℕ)) →
         Stands form.now bytes taken (said_of state.old) kept.old.items →
         LineEnded form.now bytes line.now taken result (said_of state.new) kept.new.items }
@@ -67,8 +71,8 @@ fn end_line(
 // Keeps more of a line, unless it gets too long.
 fn keep(kept: &mut Vec<u8>, bytes: &[u8], line: u64) -> Result<(), StimFault>
     ensures kept { OnOk result (kept.new.items ≡ kept.old.items ++ bytes.now) }
-    ensures short { OnOk result (vec_len kept.new ≤ 1048576) }
-    ensures long { IfErr result (IsTooLong line (vec_len kept.old + length bytes.now)) }
+    ensures short { OnOk result (length kept.new.items ≤ 1048576) }
+    ensures long { IfErr result (IsTooLong line (length kept.old.items + length bytes.now)) }
     ensures same { OnErr result (kept.new.items ≡ kept.old.items) }
 {
     if kept.len() + bytes.len() > MAX_LINE {

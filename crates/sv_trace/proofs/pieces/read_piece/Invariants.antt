@@ -7,6 +7,7 @@ abbrev pub invariant-lines : goal.invariant-lines
 invariant-lines l = record {
   said : IsSaid l.form (said_of l.state);
   room : l.state.line + length l.kept.items + length l.left < 2 ^ 64;
+  short : length l.kept.items ≤ 1048576;
   read : (done : List ℕ) × (l.piece ≡ done ++ l.left)
       × ((bytes : List ℕ) (taken : List (List ℕ)) →
       Stands l.form bytes taken (said_of l.initial.state) l.initial.kept.items →

@@ -8,3 +8,5 @@ pub mod Stuck
 pub mod ReaderFacts
 pub mod FormFacts
 pub mod Shown
+mod StimulusExamples
+mod TraceExamples

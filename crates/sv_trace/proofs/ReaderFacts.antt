@@ -7,7 +7,7 @@ use Rattle.std.specs.Option.{is_some, option_to_list}
 use Rattle.std.specs.Result.{result_err}
 use Rattle.std.proofs.lemmas.Bool.{false≢true, cases_lt}
 use Rattle.std.proofs.lemmas.List.{length-map, get_or-map, get_or-replicate, length-replicate}
-use Rattle.std.proofs.lemmas.List.{get_or_past}
+use Rattle.std.proofs.lemmas.List.{get_or_past, length-append}
 use Rattle.std.proofs.lemmas.List.Elements.{All-head, All-tail}
 use Rattle.sv_flat.specs.Design.{SignalForm, FlatDesign}
 use Rattle.sv_flat.specs.SignalLists.{inputs, registers}
@@ -19,7 +19,7 @@ use Rattle.sv_trace.specs.declared.faults.StimFault.TheVariants.{Line, OutOfMemo
 use Rattle.sv_trace.specs.declared.forms.Register.{Register}
 use Rattle.sv_trace.specs.Forms.{StimForm, form_of, register_in}
 use Rattle.sv_trace.specs.Reading.{Said, Reading, HaveRead, HasRead, HasFed, IsCut, UnlessFull}
-use Rattle.sv_trace.specs.Reading.{answer_of, FitWidths, widths_of}
+use Rattle.sv_trace.specs.Reading.{answer_of, FitWidths, widths_of, text_of}
 use Rattle.sv_trace.specs.Steps.{Stands, Stops, PieceRead, EndRead}
 use Rattle.sv_trace.specs.Stimulus.{LinesRead, read_after, read_front, read_whole, fault_of}
 use Rattle.sv_trace.specs.Stimulus.{is_start}
@@ -378,3 +378,20 @@ no_flags n k = ⊎_elim
     (λ past. get_or_past (replicate n false) k false
     (omega (arith, length-replicate {A = Bool} n false)))
     (cases_lt k n)
+
+-- ---- room
+
+text_length : (lines : List (List ℕ)) → length lines ≤ length (text_of lines)
+text_length [] = omega arith
+text_length (line ∷ lines) =
+    omega (arith, text_length lines, length-append (line ++ 10 ∷ []) (text_of lines),
+    length-append line (10 ∷ []))
+
+-- the number of the next line and what was fed of it are no more than all bytes and one
+pub room_left : (bytes : List ℕ) (taken : List (List ℕ)) (r : Reading) → HasFed bytes taken r
+    → r.fault ≡ None → r.said.line + length r.rest ≤ length bytes + 1
+room_left bytes taken r fed none =
+    let right = (read_front r.form bytes).right in
+    let cut = fed.cut (ap is_some none) in
+    omega (arith, ap length cut.text, length-append (text_of right) r.rest, text_length right,
+    fed.read.lines.line)

@@ -229,7 +229,7 @@ pub zeros_are_zero : (values : List ℕ) (n : ℕ) → values ≡ replicate n 0 
     → by_number values s ≡ 0
 zeros_are_zero values n is s = ⊎_elim
     (λ inside. ap (λ vs. get_or vs s 0) is ∙ get_or-replicate n s 0 0 inside)
-    (λ past. get_or_past values s 0 (omega (arith, ap length is, length-replicate n 0)))
+    (λ past. get_or_past values s 0 (omega (arith, ap length is, length-replicate {A = ℕ} n 0)))
     (cases_lt s n)
 
 pub given_zeros : (listed values old : List ℕ) (n : ℕ) → old ≡ replicate n 0 → (s : ℕ)

@@ -1,4 +1,16 @@
-//! Stimuli and traces.
+//! Stimuli, which `secv sim` reads, and the lines of traces, which it prints.
+//!
+//! A stimulus gives registers their starting values and the inputs theirs, cycle by cycle. What one
+//! says, and which of its lines is the first wrong one, stands in `specs/Stimulus.antt`, over what
+//! a stimulus has to know of a design (`specs/Forms.antt`). [`StimReader`] reads one in pieces:
+//! however its bytes are cut, the start, the cycles and the fault are those of the whole text
+//! (`HasFed` and `HasRead` of `specs/Reading.antt`), and it keeps only the rest of the current line
+//! and the cycles that were not taken. A fault is answered from then on.
+//!
+//! [`trace_line`] gives the line of a cycle, with a level the view of that level
+//! (`specs/Traces.antt`).
+//!
+//! `specs/Steps.antt` is private: it says how the code goes, line by line.
 #![tactic(auto)]
 
 mod cycles;

@@ -9,17 +9,17 @@ use Rattle.sv_trace.proofs.forms.Form.new.Goals as goal
 pub header_line-requires : goal.header_line-requires
 header_line-requires c =
     let flat = c.args.design.now in
-    all_known flat c.signals-signals.result.now c.signals-signals.ensures.signals
-    (flat_system (design_of flat)).is_input c.inputs-inputs.result.now c.inputs-inputs.ensures.inputs
+    record { known = all_known flat c.signals-signals.result.now c.signals-signals.ensures.signals
+    (flat_system (design_of flat)).is_input c.inputs-inputs.result.now c.inputs-inputs.ensures.inputs }
 
 pub widths_of-requires : goal.widths_of-requires
 widths_of-requires c =
     let flat = c.args.design.now in
-    all_known flat c.signals-signals.result.now c.signals-signals.ensures.signals
-    (flat_system (design_of flat)).is_input c.inputs-inputs.result.now c.inputs-inputs.ensures.inputs
+    record { known = all_known flat c.signals-signals.result.now c.signals-signals.ensures.signals
+    (flat_system (design_of flat)).is_input c.inputs-inputs.result.now c.inputs-inputs.ensures.inputs }
 
 pub registers_of-requires : goal.registers_of-requires
 registers_of-requires c =
     let flat = c.args.design.now in
-    all_known flat c.signals-signals.result.now c.signals-signals.ensures.signals
-    (is_register (design_of flat)) c.registers-registers.result.now c.registers-registers.ensures.registers
+    record { known = all_known flat c.signals-signals.result.now c.signals-signals.ensures.signals
+    (is_register (design_of flat)) c.registers-registers.result.now c.registers-registers.ensures.registers }

@@ -1,11 +1,10 @@
 -- The words of a cycle's line against the widths.
-use Rattle.std.proofs.Common.{◌≡◌, ℕ, zero, suc, ◌+◌, ◌<◌, ◌≤◌, Bool, true, false, ◌&&◌, List, []}
-use Rattle.std.proofs.Common.{◌∷◌, ◌++◌, length, map, drop, get_or, refl, sym, ap, ◌∙◌, arith, Bor}
-use Rattle.std.proofs.Common.{Option, Some, None, add-one, append_assoc, drop-cons}
+use Rattle.std.proofs.Common.{◌≡◌, ℕ, ◌+◌, ◌<◌, ◌≤◌, true, false, ◌&&◌, List, []}
+use Rattle.std.proofs.Common.{◌∷◌, length, drop, get_or, refl, ap, ◌∙◌, Bor}
+use Rattle.std.proofs.Common.{Option, Some, None, add-one, drop-cons}
 use Rattle.std.specs.List.{slice_split}
 use Rattle.std.specs.Option.{option_copied, is_some}
 use Rattle.std.proofs.Math.ListN.{drop_of_length-le}
-use Rattle.std.proofs.lemmas.List.Splits.{length-slice_split}
 use Rattle.sv_trace.specs.Steps.{left_words}
 use Rattle.sv_trace.specs.Stimulus.{is_blank, is_value, are_values}
 use Rattle.sv_trace.proofs.Splitting.{first_part}

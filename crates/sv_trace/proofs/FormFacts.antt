@@ -1,5 +1,5 @@
 -- What a stimulus has to know of a design, signal by signal.
-use Rattle.std.proofs.Common.{◌≡◌, ℕ, zero, suc, ◌<◌, Bool, false, List, [], ◌∷◌, ◌++◌, map, length, refl, sym}
+use Rattle.std.proofs.Common.{◌≡◌, ℕ, zero, suc, ◌<◌, Bool, false, List, [], ◌∷◌, ◌++◌, map, length}
 use Rattle.std.proofs.Common.{ap, ◌∙◌, subst, arith, get_or}
 use Rattle.std.specs.Prelude.{All, codes, flat_map}
 use Rattle.std.proofs.lemmas.List.{length-map}
@@ -47,7 +47,12 @@ form_is design signals ins regs header widths rs es ei er eh ew eg =
     ap (λ x. let f : StimForm = record { header = x; inputs = widths; registers = rs } in f)
     (eh ∙ ap (λ ss. codes "inputs" ++ flat_map (λ s. codes " " ++ name_in ss s) ins) es
     ∙ ap (λ ns. codes "inputs" ++ flat_map (λ s. codes " " ++ name_in design.signals s) ns) ei)
-    ∙ ap (λ x. let f : StimForm = record { header = (form_of design).header; inputs = x; registers = rs }
+    ∙ ap (λ x. let f : StimForm = record {
+      header =
+          (form_of design).header;
+      inputs = x;
+      registers = rs;
+    }
     in f)
     (ew ∙ ap (λ ss. map (signal_width ss) ins) es ∙ ap (map (signal_width design.signals)) ei)
     ∙ ap (λ x. let f : StimForm = record {
@@ -57,5 +62,6 @@ form_is design signals ins regs header widths rs es ei er eh ew eg =
     } in f)
     (eg ∙ ap (λ ss. map (register_in ss) regs) es ∙ ap (map (register_in design.signals)) er)
 
-pub plain_header : (header rest : List ℕ) → header ≡ codes "inputs" ++ rest → is_start header ≡ false
+pub plain_header : (header rest : List ℕ) → header ≡ codes "inputs" ++ rest
+    → is_start header ≡ false
 plain_header header rest e = ap is_start e

@@ -10,3 +10,4 @@ pub mod FormFacts
 pub mod Shown
 mod StimulusExamples
 mod TraceExamples
+pub mod StimFacts

@@ -1,6 +1,7 @@
 -- What was read of the bytes of a text, piece by piece.
 use Rattle.std.proofs.Common.{◌≡◌, ℕ, ◌+◌, ◌<◌, ◌≤◌, true, false, List, [], ◌∷◌, ◌++◌, length}
-use Rattle.std.proofs.Common.{refl, sym, ap, ◌∙◌, arith, subst, Option, Some, None, append_assoc, Bool, cond}
+use Rattle.std.proofs.Common.{refl, sym, ap, ◌∙◌, arith, subst, Some, None, append_assoc, Bool}
+use Rattle.std.proofs.Common.{cond}
 use Rattle.std.specs.Prelude.{Result, Ok, Err, OnOk, IfErr}
 use Rattle.std.specs.Result.{IsErrAnd}
 use Rattle.std.proofs.lemmas.List.{length-append}
@@ -13,8 +14,7 @@ use Rattle.sv_trace.specs.Reading.{Said, HaveRead, Lacks, IsCut, text_of}
 use Rattle.sv_trace.specs.Steps.{LineRead, Stands, Stops, StopsUnlessFull, IsTooLong, EndsWell}
 use Rattle.sv_trace.specs.Steps.{PieceRead}
 use Rattle.sv_trace.specs.Steps.{EndRead}
-use Rattle.sv_trace.specs.Stimulus.{LinesRead, read_after, read_front, read_whole, ended, fault_of}
-use Rattle.sv_trace.specs.Stimulus.{has_header}
+use Rattle.sv_trace.specs.Stimulus.{LinesRead, read_front, read_whole, ended, fault_of}
 use Rattle.sv_trace.proofs.Texts.{read_more, one_right, cut_line, cut_rest, cut_then, kept_lacks}
 use Rattle.sv_trace.proofs.Texts.{front_stops, front_overflows, long_is_wrong, whole_empty}
 use Rattle.sv_trace.proofs.Texts.{whole_more, whole_stops, ended_with, ended_without}
@@ -185,7 +185,8 @@ pub rest_read : (form : StimForm) (bytes whole : List ℕ) (taken : List (List �
 rest_read form bytes whole taken said kept line new (Ok done) s lacks w is short long =
     subst (λ b. Stands form b taken said new) (sym w)
     (subst (λ k. Stands form (bytes ++ line) taken said k) (sym is)
-    (stands_still form bytes taken said kept line s lacks (subst (λ k. length k ≤ 1048576) is short)))
+    (stands_still form bytes taken said kept line s lacks (subst
+    (λ k. length k ≤ 1048576) is short)))
 rest_read form bytes whole taken said kept line new (Err fault) s lacks w is short long =
     stops_over form bytes whole taken said kept line fault s lacks w long
 
@@ -193,7 +194,7 @@ pub empty_ends : (form : StimForm) (bytes : List ℕ) (taken : List (List ℕ)) 
     (kept : List ℕ) → Stands form bytes taken said kept → length kept ≤ 0
     → EndRead form bytes taken (cond said.begun (Ok tt) (Err (Line said.line Header))) said
 empty_ends form bytes taken said kept s none = by_begun said.begun refl
-    where
+  where
     by_begun : (b : Bool) → said.begun ≡ b
         → EndRead form bytes taken (cond b (Ok tt) (Err (Line said.line Header))) said
     by_begun true e = empty_ends_well form bytes taken said kept s none e
@@ -204,7 +205,7 @@ pub last_ends : (form : StimForm) (bytes : List ℕ) (taken : List (List ℕ)) (
     → LineRead form s.right taken kept (Ok tt) new
     → EndRead form bytes taken (cond new.begun (Ok tt) (Err (Line new.line Header))) new
 last_ends form bytes taken old new kept s more read = by_begun new.begun refl
-    where
+  where
     by_begun : (b : Bool) → new.begun ≡ b
         → EndRead form bytes taken (cond b (Ok tt) (Err (Line new.line Header))) new
     by_begun true e = last_ends_well form bytes taken old new kept s more read e

@@ -2,7 +2,7 @@
 use Rattle.std.proofs.Common.{◌≡◌, ℕ, ◌+◌, ◌^◌, ◌<◌, true, false, List, [], ◌∷◌, ◌++◌, length, map}
 use Rattle.std.proofs.Common.{refl, sym, ap, ◌∙◌, subst, Option, Some, None, append_assoc, get_or}
 use Rattle.std.proofs.Common.{Bool, arith, pow_pos, ⊎_elim, ◌≤◌}
-use Rattle.std.specs.Prelude.{Result, Ok, Err, IsNone, All, IfSome, replicate}
+use Rattle.std.specs.Prelude.{Result, Ok, Err, All, IfSome, replicate}
 use Rattle.std.specs.Option.{is_some, option_to_list}
 use Rattle.std.specs.Result.{result_err}
 use Rattle.std.proofs.lemmas.Bool.{false≢true, cases_lt}
@@ -21,23 +21,23 @@ use Rattle.sv_trace.specs.Forms.{StimForm, form_of, register_in}
 use Rattle.sv_trace.specs.Reading.{Said, Reading, HaveRead, HasRead, HasFed, IsCut, UnlessFull}
 use Rattle.sv_trace.specs.Reading.{answer_of, FitWidths, widths_of, text_of}
 use Rattle.sv_trace.specs.Steps.{Stands, Stops, PieceRead, EndRead}
-use Rattle.sv_trace.specs.Stimulus.{LinesRead, read_after, read_front, read_whole, fault_of}
+use Rattle.sv_trace.specs.Stimulus.{LinesRead, read_front, read_whole, fault_of}
 use Rattle.sv_trace.specs.Stimulus.{is_start}
 use Rattle.sv_trace.proofs.Texts.{front_is, front_reads}
 use Rattle.sv_trace.proofs.Stuck.{front_stays, whole_stays}
 
 no_wrong : (read : LinesRead) → fault_of read ≡ None → read.wrong ≡ None
 no_wrong read e = go read.right read.wrong e
-    where
+  where
     go : (right : List (List ℕ)) (o : Option StimKind)
         → fault_of (record { right = right; wrong = o }) ≡ None → o ≡ None
     go right None w = refl
     go right (Some kind) w = cc
 
-wrong_of : (read : LinesRead) (number : ℕ) (kind : StimKind)
+pub wrong_of : (read : LinesRead) (number : ℕ) (kind : StimKind)
     → fault_of read ≡ Some (Line number kind) → read.wrong ≡ Some kind
 wrong_of read number kind e = go read.right read.wrong e
-    where
+  where
     go : (right : List (List ℕ)) (o : Option StimKind)
         → fault_of (record { right = right; wrong = o }) ≡ Some (Line number kind) → o ≡ Some kind
     go right None w = cc
@@ -66,7 +66,8 @@ fed_from bytes taken new s none =
     let is = front_is new.form bytes s.right new.rest s.cut s.good in
     record {
       read = record {
-        lines = subst (λ (r : LinesRead). HaveRead new.form r.right taken new.said) (sym is) s.lines;
+        lines = subst (λ (r : LinesRead). HaveRead new.form r.right taken new.said)
+            (sym is) s.lines;
         fault = none ∙ sym (ap fault_of is);
       };
       cut = λ still. subst (λ (r : LinesRead). IsCut bytes r.right new.rest) (sym is) s.cut;
@@ -103,7 +104,8 @@ pub piece_fed : (form : StimForm) (old_said new_said : Said) (old_rest new_rest 
 piece_fed form os ns or nr piece (Ok done) old new o n reads = λ bytes taken fed.
     let before = subst (HasFed bytes taken) o fed in
     subst (HasFed (bytes ++ piece) taken) (sym n)
-    (fed_from (bytes ++ piece) taken _ (reads bytes taken (stands_from bytes taken _ before refl)) refl)
+    (fed_from (bytes ++ piece) taken _ (reads bytes taken
+    (stands_from bytes taken _ before refl)) refl)
 piece_fed form os ns or nr piece (Err (Line number kind)) old new o n reads = λ bytes taken fed.
     let before = subst (HasFed bytes taken) o fed in
     subst (HasFed (bytes ++ piece) taken) (sym n)
@@ -139,14 +141,16 @@ pub end_read : (form : StimForm) (old_said new_said : Said) (old_rest new_rest :
     → UnlessFull r ((bytes : List ℕ) (taken : List (List ℕ)) → HasFed bytes taken old
     → HasRead (read_whole new.form bytes) taken new)
 end_read form os ns or nr (Ok done) old new o f s e reads = λ bytes taken fed.
-    let read = reads bytes taken (stands_from bytes taken _ (subst (HasFed bytes taken) o fed) refl) in
+    let read = reads bytes taken (stands_from bytes taken _ (subst
+    (HasFed bytes taken) o fed) refl) in
     record {
       lines = subst (λ g. HaveRead g (read_whole g bytes).right taken new.said) (sym f)
           (subst (λ z. HaveRead form (read_whole form bytes).right taken z) (sym s) read.lines);
       fault = e ∙ sym (ap (λ g. fault_of (read_whole g bytes)) f ∙ read.fault);
     }
 end_read form os ns or nr (Err (Line number kind)) old new o f s e reads = λ bytes taken fed.
-    let read = reads bytes taken (stands_from bytes taken _ (subst (HasFed bytes taken) o fed) refl) in
+    let read = reads bytes taken (stands_from bytes taken _ (subst
+    (HasFed bytes taken) o fed) refl) in
     record {
       lines = subst (λ g. HaveRead g (read_whole g bytes).right taken new.said) (sym f)
           (subst (λ z. HaveRead form (read_whole form bytes).right taken z) (sym s) read.lines);
@@ -236,7 +240,8 @@ pub start_fits : (form : StimForm) (values : List ℕ) (design : FlatDesign)
 start_fits form values design fit is =
     fit_listed design.signals (registers design) values
     (subst (λ ws. FitWidths ws values)
-    (ap (λ (f : StimForm). widths_of f.registers) is ∙ register_widths design (registers design)) fit)
+    (ap (λ (f : StimForm). widths_of f.registers) is
+    ∙ register_widths design (registers design)) fit)
 
 pub cycle_fits : (form : StimForm) (values : List ℕ) (design : FlatDesign)
     → FitWidths form.inputs values → form ≡ form_of design
@@ -272,16 +277,32 @@ piece_read form os ns or nr piece r old of nf fin is none unended err reads =
     piece_fed form os ns or nr piece r old _
     (sym is
     ∙ ap (λ f. let x : Reading = record {
-      form = form; said = os; rest = or; fault = f; finished = fin;
+      form = form;
+      said = os;
+      rest = or;
+      fault = f;
+      finished = fin;
     } in x) none
     ∙ ap (λ b. let x : Reading = record {
-      form = form; said = os; rest = or; fault = None; finished = b;
+      form = form;
+      said = os;
+      rest = or;
+      fault = None;
+      finished = b;
     } in x) unended)
     (ap (λ f. let x : Reading = record {
-      form = form; said = ns; rest = nr; fault = f; finished = fin;
+      form = form;
+      said = ns;
+      rest = nr;
+      fault = f;
+      finished = fin;
     } in x) err
     ∙ ap (λ b. let x : Reading = record {
-      form = form; said = ns; rest = nr; fault = result_err r; finished = b;
+      form = form;
+      said = ns;
+      rest = nr;
+      fault = result_err r;
+      finished = b;
     } in x) unended)
     reads
 
@@ -293,10 +314,18 @@ pub opened : (form : StimForm) (said : Said) (rest : List ℕ) (old : Reading)
 opened form said rest old fault fin is none unended =
     sym is
     ∙ ap (λ f. let x : Reading = record {
-      form = form; said = said; rest = rest; fault = f; finished = fin;
+      form = form;
+      said = said;
+      rest = rest;
+      fault = f;
+      finished = fin;
     } in x) none
     ∙ ap (λ b. let x : Reading = record {
-      form = form; said = said; rest = rest; fault = None; finished = b;
+      form = form;
+      said = said;
+      rest = rest;
+      fault = None;
+      finished = b;
     } in x) unended
 
 pub start_listed : (inside now : Reading) → inside ≡ now
@@ -384,8 +413,12 @@ no_flags n k = ⊎_elim
 text_length : (lines : List (List ℕ)) → length lines ≤ length (text_of lines)
 text_length [] = omega arith
 text_length (line ∷ lines) =
-    omega (arith, text_length lines, length-append (line ++ 10 ∷ []) (text_of lines),
-    length-append line (10 ∷ []))
+    omega (
+      arith,
+      text_length lines,
+      length-append (line ++ 10 ∷ []) (text_of lines),
+      length-append line (10 ∷ []),
+    )
 
 -- the number of the next line and what was fed of it are no more than all bytes and one
 pub room_left : (bytes : List ℕ) (taken : List (List ℕ)) (r : Reading) → HasFed bytes taken r
@@ -393,5 +426,10 @@ pub room_left : (bytes : List ℕ) (taken : List (List ℕ)) (r : Reading) → H
 room_left bytes taken r fed none =
     let right = (read_front r.form bytes).right in
     let cut = fed.cut (ap is_some none) in
-    omega (arith, ap length cut.text, length-append (text_of right) r.rest, text_length right,
-    fed.read.lines.line)
+    omega (
+      arith,
+      ap length cut.text,
+      length-append (text_of right) r.rest,
+      text_length right,
+      fed.read.lines.line,
+    )

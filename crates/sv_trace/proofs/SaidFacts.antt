@@ -1,8 +1,8 @@
 -- What one more right line changes in what lines say.
-use Rattle.std.proofs.Common.{◌≡◌, ℕ, zero, suc, ◌+◌, ◌<◌, ◌≤◌, ◌^◌, Bool, true, false, cond, ◌&&◌}
+use Rattle.std.proofs.Common.{◌≡◌, ℕ, ◌+◌, ◌<◌, ◌≤◌, Bool, true, false, cond, ◌&&◌}
 use Rattle.std.proofs.Common.{◌||◌, ◌==◌, List, [], ◌∷◌, ◌++◌, length, map, take, drop, get_or, set}
-use Rattle.std.proofs.Common.{refl, sym, ap, ◌∙◌, arith, subst, eqb, Option, Some, None, append_assoc}
-use Rattle.std.proofs.Common.{append-nil, ⊎_elim, nat_lt, replicate, get_or-set_same, get_or-set_other, ◌⊎◌}
+use Rattle.std.proofs.Common.{refl, sym, ap, ◌∙◌, arith, subst, Option, Some, None, append_assoc}
+use Rattle.std.proofs.Common.{⊎_elim, nat_lt, replicate, get_or-set_same, get_or-set_other, ◌⊎◌}
 use Rattle.std.specs.Prelude.{All, Result, Ok, Err, OnOk, OnErr, IfErr}
 use Rattle.std.specs.List.{list_any, prefix_len, fold}
 use Rattle.std.specs.Option.{option_map_or}
@@ -23,7 +23,7 @@ use Rattle.sv_trace.specs.declared.faults.StimKind.TheVariants.{TooLong, Header,
 use Rattle.sv_trace.specs.declared.forms.Register.{Register}
 use Rattle.sv_trace.specs.Forms.{StimForm}
 use Rattle.sv_trace.specs.declared.faults.StimFault.{StimFault}
-use Rattle.sv_trace.specs.Reading.{Said, HaveRead, IsStarting}
+use Rattle.sv_trace.specs.Reading.{Said, HaveRead}
 use Rattle.sv_trace.specs.Steps.{cycle_fault, early_fault, IsPut, IsFaultAt, LineRead}
 use Rattle.sv_trace.specs.Stimulus.{line_fault, has_header, is_start, starts_at, start_name}
 use Rattle.sv_trace.specs.Stimulus.{start_digits, start_fault, place_of, start_lines, started}
@@ -103,7 +103,7 @@ pub same_flags : (form : StimForm) (line : List ℕ) (first second : ℕ → Boo
 same_flags form line first second same inside =
     ap (λ f. cond (is_start line) f (Some Header))
     (at (place_of form.registers (start_name line)) inside)
-    where
+  where
     at : (o : Option ℕ) → ((k : ℕ) → o ≡ Some k → k < length form.registers)
         → start_fault form.registers first (start_digits line) o
         ≡ start_fault form.registers second (start_digits line) o
@@ -190,7 +190,8 @@ start_cycle form right line fewer =
 abbrev cycle_of : List ℕ → List ℕ
 cycle_of line = map (digits_value 16) (words line)
 
-no_cycles : (right : List (List ℕ)) → prefix_len is_start right ≡ length right → cycles_of right ≡ []
+no_cycles : (right : List (List ℕ)) → prefix_len is_start right ≡ length right
+    → cycles_of right ≡ []
 no_cycles right all =
     let count : length (start_lines right) ≡ length right = ap length (all_starts right all) in
     ap (map cycle_of) (drop_of_length-le right (omega arith))
@@ -210,11 +211,13 @@ cycles_more : (right : List (List ℕ)) (line : List ℕ)
 cycles_more right line fewer =
     let count : length (start_lines right) ≡ prefix_len is_start right =
     length-prefix_len is_start right in
-    ap (λ ls. map cycle_of (drop (length ls + 1) (right ++ line ∷ []))) (cycle_starts right line fewer)
+    ap (λ ls. map cycle_of (drop (length ls + 1) (right ++ line ∷ [])))
+    (cycle_starts right line fewer)
     ∙ ap (map cycle_of) (dropped (length (start_lines right) + 1) right (omega arith))
     ∙ map-append cycle_of (drop (length (start_lines right) + 1) right) (line ∷ [])
-    where
-    dropped : (n : ℕ) (ls : List (List ℕ)) → n ≤ length ls → drop n (ls ++ line ∷ []) ≡ drop n ls ++ line ∷ []
+  where
+    dropped : (n : ℕ) (ls : List (List ℕ)) → n ≤ length ls
+        → drop n (ls ++ line ∷ []) ≡ drop n ls ++ line ∷ []
     dropped n ls within = drop-append-le n ls (line ∷ []) within
 
 -- ---- headers
@@ -283,19 +286,24 @@ flag_more : (form : StimForm) (right : List (List ℕ)) (line : List ℕ) (given
     → get_or (set given place true) k false ≡ flag_of form (right ++ line ∷ []) k
 flag_more form right line given place k is at inside before =
     by_place (cases_eq k place)
-    where
+  where
     own : starts_at form.registers k line ≡ (place == k)
-    own = ap (λ t. t && option_map_or (λ j. j == k) (place_of form.registers (start_name line)) false) is
+    own = ap (λ t. t && option_map_or (λ j. j == k) (place_of form.registers
+        (start_name line)) false) is
         ∙ ap (λ o. option_map_or (λ j. j == k) o false) at
+
     whole : flag_of form (right ++ line ∷ []) k ≡ (flag_of form right k || (place == k || false))
     whole = list_any-append (starts_at form.registers k) right (line ∷ [])
         ∙ ap (λ t. flag_of form right k || (t || false)) own
+
     ends : (a : Bool) → (a || (true || false)) ≡ true
     ends true = refl
     ends false = refl
+
     stays : (a : Bool) → (a || (false || false)) ≡ a
     stays true = refl
     stays false = refl
+
     by_place : (k ≡ place) ⊎ (k ≡ place → ⊥)
         → get_or (set given place true) k false ≡ flag_of form (right ++ line ∷ []) k
     by_place h = ⊎_elim
@@ -360,23 +368,26 @@ pub cycle_read : (form : StimForm) (right taken : List (List ℕ)) (line : List 
     })
     → IfErr r (IsFaultAt old.line (cycle_fault form line)) → OnErr r (new ≡ old)
     → LineRead form right taken line r new
-cycle_read form right taken line old new (Ok done) read begun short good pushed wrong same =
-    (cycle_fault_is form right line short (sym read.begun ∙ begun) ∙ good,
-    subst (λ s. HaveRead form (right ++ line ∷ []) taken s) (sym pushed)
-    (after_cycle form right taken line old read begun))
-cycle_read form right taken line old new (Err fault) read begun short good pushed wrong same =
-    (fault_at old.line (length right + 1) (cycle_fault form line) (line_fault form right line) fault
-    wrong read.line (sym (cycle_fault_is form right line short (sym read.begun ∙ begun))),
-    subst (λ s. HaveRead form right taken s) (sym same) read)
+cycle_read form right taken line old new (Ok done) read begun short good pushed wrong same = (
+  cycle_fault_is form right line short (sym read.begun ∙ begun) ∙ good,
+  subst (λ s. HaveRead form (right ++ line ∷ []) taken s) (sym pushed)
+      (after_cycle form right taken line old read begun),
+)
+cycle_read form right taken line old new (Err fault) read begun short good pushed wrong same = (
+  fault_at old.line (length right + 1) (cycle_fault form line) (line_fault form right line) fault
+      wrong read.line (sym (cycle_fault_is form right line short (sym read.begun ∙ begun))),
+  subst (λ s. HaveRead form right taken s) (sym same) read,
+)
 
 pub header_read : (form : StimForm) (right taken : List (List ℕ)) (line : List ℕ) (old : Said)
     → HaveRead form right taken old → old.begun ≡ false → length line ≤ 1048576
     → bytes_eq line form.header ≡ true
     → LineRead form right taken line (Ok tt) (record old { begun = true; line = old.line + 1 })
-header_read form right taken line old read begun short header =
-    (header_is_right form right line short (sym read.begun ∙ begun) header,
-    after_header form right taken line old read begun header
-    ((bytes_eq-Decides line form.header).0 header))
+header_read form right taken line old read begun short header = (
+  header_is_right form right line short (sym read.begun ∙ begun) header,
+  after_header form right taken line old read begun header
+      ((bytes_eq-Decides line form.header).0 header),
+)
 
 own_fault : (form : StimForm) (right taken : List (List ℕ)) (line : List ℕ) (old : Said)
     → HaveRead form right taken old → old.begun ≡ false → length line ≤ 1048576
@@ -394,9 +405,10 @@ is_start_of : (form : StimForm) (given : ℕ → Bool) (line : List ℕ)
     → early_fault form given line ≡ None → is_start line ≡ true
 is_start_of form given line e =
     by_test (is_start line)
-    (start_fault form.registers given (start_digits line) (place_of form.registers (start_name line)))
+    (start_fault form.registers given (start_digits line) (place_of form.registers
+    (start_name line)))
     e
-    where
+  where
     by_test : (b : Bool) (o : Option StimKind) → cond b o (Some Header) ≡ None → b ≡ true
     by_test true o e = refl
     by_test false o e = cc
@@ -410,16 +422,20 @@ pub start_read : (form : StimForm) (right taken : List (List ℕ)) (line : List 
     → IfErr r (IsFaultAt old.line (early_fault form (λ k. get_or old.given k false) line))
     → OnErr r (new ≡ old)
     → LineRead form right taken line r new
-start_read form right taken line old new (Ok done) read begun short header count good put wrong same =
-    (own_fault form right taken line old read begun short header ∙ good,
-    subst (λ s. HaveRead form (right ++ line ∷ []) taken s) (sym put.said)
-    (after_start form right taken line old put.place read begun header
-    (is_start_of form (λ k. get_or old.given k false) line good) put.is put.inside count))
-start_read form right taken line old new (Err fault) read begun short header count good put wrong same =
-    (fault_at old.line (length right + 1) (early_fault form (λ k. get_or old.given k false) line)
-    (line_fault form right line) fault wrong read.line
-    (sym (own_fault form right taken line old read begun short header)),
-    subst (λ s. HaveRead form right taken s) (sym same) read)
+start_read form right taken line old new (Ok done) read begun short header count good put wrong
+    same = (
+      own_fault form right taken line old read begun short header ∙ good,
+      subst (λ s. HaveRead form (right ++ line ∷ []) taken s) (sym put.said)
+          (after_start form right taken line old put.place read begun header
+          (is_start_of form (λ k. get_or old.given k false) line good) put.is put.inside count),
+    )
+start_read form right taken line old new (Err fault) read begun short header count good put wrong
+    same = (
+      fault_at old.line (length right + 1) (early_fault form (λ k. get_or old.given k false) line)
+          (line_fault form right line) fault wrong read.line
+          (sym (own_fault form right taken line old read begun short header)),
+      subst (λ s. HaveRead form right taken s) (sym same) read,
+    )
 
 -- one more fitting list
 pub all_pushed : {X : Type 0} (f : X → List ℕ) (P : List ℕ → Type 0) (xs ys : List X) (x : X)

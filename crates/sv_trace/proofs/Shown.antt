@@ -1,7 +1,9 @@
 -- What stands in the line of a trace.
-use Rattle.std.proofs.Common.{◌≡◌, ℕ, zero, suc, ◌+◌, ◌<◌, ◌≤◌, ◌^◌, Bool, true, false, cond, ◌&&◌}
-use Rattle.std.proofs.Common.{◌==◌, nat_lt, List, [], ◌∷◌, ◌++◌, length, map, filter, get_or, refl, sym}
-use Rattle.std.proofs.Common.{ap, ◌∙◌, subst, arith, ⊎_elim, ◌⊎◌, Option, Some, None, ltb-true, lt-ltb, pow_pos, not}
+use Rattle.std.proofs.Common.{◌≡◌, ℕ, ◌+◌, ◌<◌, ◌^◌, Bool, true, false, cond, ◌&&◌}
+use Rattle.std.proofs.Common.{◌==◌, nat_lt, List, [], ◌∷◌, ◌++◌, length, map, filter, get_or, refl}
+use Rattle.std.proofs.Common.{sym}
+use Rattle.std.proofs.Common.{ap, ◌∙◌, subst, arith, ⊎_elim, ◌⊎◌, Option, Some, None, ltb-true}
+use Rattle.std.proofs.Common.{lt-ltb, pow_pos, not}
 use Rattle.std.specs.Prelude.{All, Contains, IsTrue, flat_map, replicate}
 use Rattle.std.specs.List.{zip}
 use Rattle.std.proofs.lemmas.Bool.{eqb-true, eq-eqb, false≢true, cases_lt}
@@ -20,7 +22,7 @@ use Rattle.sv_flat.specs.Clocks.{is_clock}
 use Rattle.sv_flat.specs.Design.{SignalForm, FlatDesign}
 use Rattle.sv_flat.specs.FlatSystem.{flat_system, label_in}
 use Rattle.sv_flat.specs.SignalLists.{seen}
-use Rattle.sv_flat.specs.Soundness.{sound, is_signal, is_point, label_sound, selector_fits}
+use Rattle.sv_flat.specs.Soundness.{sound, is_signal, label_sound, selector_fits}
 use Rattle.sv_flat.specs.Soundness.{second_fits}
 use Rattle.sv_flat.specs.Values.{signal_of, signal_width}
 use Rattle.sv_flat.proofs.Depths.{first_of, second_of}
@@ -43,7 +45,8 @@ range_fits : (design : FlatDesign) (values : List ℕ) (s width : ℕ)
 range_fits design values s width fit h =
     let known : s < length design.signals = ltb-true s (length design.signals)
     (first_of (is_signal design.signals s) (signal_width design.signals s == width) h) in
-    let same : signal_width design.signals s ≡ width = eqb-true (signal_width design.signals s) width
+    let same : signal_width design.signals s ≡ width = eqb-true
+    (signal_width design.signals s) width
     (second_of (is_signal design.signals s) (signal_width design.signals s == width) h) in
     (omega (arith, fit.count), subst (λ w. get_or values s 0 < 2 ^ w) same (fit.each s known))
 
@@ -59,20 +62,19 @@ pub readable : (design : FlatDesign) (values : List ℕ) (label : Label)
     → FitSignals design.signals values → IsTrue (label_sound design label)
     → IsReadable design.maps label values
 readable design values (Declared point) fit h = tt
-readable design values (Table map first second) fit h =
-    (
-      label_map design map first second h,
-      range_fits design values first (map_of design.maps map).first fit
-          (second_of (nat_lt map (length design.maps))
-          (selector_fits design.signals first (map_of design.maps map).first)
-          (first_of (nat_lt map (length design.maps)
-          && selector_fits design.signals first (map_of design.maps map).first)
-          (second_fits design.signals second (map_of design.maps map).second) h)),
-      second_range design values second (map_of design.maps map).second fit
-          (second_of (nat_lt map (length design.maps)
-          && selector_fits design.signals first (map_of design.maps map).first)
-          (second_fits design.signals second (map_of design.maps map).second) h),
-    )
+readable design values (Table map first second) fit h = (
+  label_map design map first second h,
+  range_fits design values first (map_of design.maps map).first fit
+      (second_of (nat_lt map (length design.maps))
+      (selector_fits design.signals first (map_of design.maps map).first)
+      (first_of (nat_lt map (length design.maps)
+      && selector_fits design.signals first (map_of design.maps map).first)
+      (second_fits design.signals second (map_of design.maps map).second) h)),
+  second_range design values second (map_of design.maps map).second fit
+      (second_of (nat_lt map (length design.maps)
+      && selector_fits design.signals first (map_of design.maps map).first)
+      (second_fits design.signals second (map_of design.maps map).second) h),
+)
 
 row_point : (n : ℕ) (rows : List Point) (v : ℕ) → All (λ (row : Point). row.0 < n) rows → 0 < n
     → (get_or rows v (record { 0 = 0 })).0 < n
@@ -109,7 +111,7 @@ text_over : (design : FlatDesign) (level : Option Point) (environment : Environm
 text_over design level environment p [] same = refl
 text_over design level environment p (s ∷ ss) same =
     by_test (p s) (same s) (text_over design level environment p ss same)
-    where
+  where
     by_test : (b : Bool) → b ≡ is_shown design level environment s
         → flat_map (pair_text design) (map (λ t. (t, environment t)) (filter p ss))
         ≡ flat_map (text_of_signal design level environment) ss
@@ -181,7 +183,8 @@ pub texts_agree : (design : FlatDesign) → IsTrue (sound design) → IsAdmitted
     → flat_map (text_of_signal design level first) (seen design)
     ≡ flat_map (text_of_signal design level second) (seen design)
 texts_agree design is admitted level first second same =
-    same_texts (text_of_signal design level first) (text_of_signal design level second) (seen design)
+    same_texts (text_of_signal design level first) (text_of_signal design level second)
+    (seen design)
     (λ s at.
     ap (λ b. cond b (pair_text design (s, first s)) [])
     (shown_agrees design is admitted level first second same s
@@ -195,7 +198,7 @@ keeps : (listed : List ℕ) (environment : Environment ℕ) (s old : ℕ) → ol
 keeps [] environment s old e = e
 keeps (t ∷ ts) environment s old e =
     keeps ts environment s (cond (t == s) (environment t) old) (by_test (t == s) refl)
-    where
+  where
     by_test : (b : Bool) → (t == s) ≡ b → cond b (environment t) old ≡ environment s
     by_test true same = ap environment (eqb-true t s same)
     by_test false other = e

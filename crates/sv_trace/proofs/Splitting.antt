@@ -1,7 +1,7 @@
 -- Where a separator first stands.
-use Rattle.std.proofs.Common.{◌≡◌, ℕ, zero, suc, ◌+◌, ◌<◌, ◌≤◌, Bool, true, false, cond, not, ◌==◌}
-use Rattle.std.proofs.Common.{List, [], ◌∷◌, ◌++◌, length, take, drop, refl, sym, ap, ◌∙◌, arith}
-use Rattle.std.specs.List.{position_or_len, before_first, after_first, slice_split, count_by}
+use Rattle.std.proofs.Common.{◌≡◌, ℕ, ◌+◌, ◌<◌, Bool, false, cond, not, ◌==◌}
+use Rattle.std.proofs.Common.{List, [], ◌∷◌, ◌++◌, length, take, drop, refl, ap, ◌∙◌, arith}
+use Rattle.std.specs.List.{position_or_len, before_first, after_first, slice_split}
 use Rattle.std.proofs.Math.ListN.{drop_of_length-le}
 use Rattle.std.proofs.Math.Seq.{take-append_seam, drop-append-add, take-length}
 use Rattle.std.proofs.lemmas.Bool.{eq-eqb}
@@ -52,7 +52,7 @@ split_some s a b l = slice_split_at (λ x. x == s) a s b l (eq-eqb s s refl)
 pub first_part : (p : ℕ → Bool) (a : List ℕ)
     → (x : List ℕ) × (xs : List (List ℕ)) × (slice_split p a ≡ x ∷ xs)
 first_part p a = some (slice_split p a) (omega (arith, length-slice_split p a))
-    where
+  where
     some : (parts : List (List ℕ)) → 0 < length parts
         → (x : List ℕ) × (xs : List (List ℕ)) × (parts ≡ x ∷ xs)
     some [] h = absurd (omega arith)

@@ -1,11 +1,10 @@
 -- A wrong line stays the first wrong one, whatever follows.
-use Rattle.std.proofs.Common.{◌≡◌, ℕ, zero, suc, ◌+◌, ◌<◌, ◌≤◌, Bool, true, false, cond, ◌==◌, nat_lt}
-use Rattle.std.proofs.Common.{List, [], ◌∷◌, ◌++◌, length, refl, sym, ap, ◌∙◌, arith, subst, ⊎_elim, ◌⊎◌}
+use Rattle.std.proofs.Common.{◌≡◌, ℕ, ◌+◌, ◌<◌, ◌≤◌, Bool, true, false, cond, ◌==◌, nat_lt}
+use Rattle.std.proofs.Common.{List, [], ◌∷◌, ◌++◌, length, refl, sym, ap, ◌∙◌, arith, ⊎_elim, ◌⊎◌}
 use Rattle.std.proofs.Common.{Option, Some, None, append_assoc, append-nil}
 use Rattle.std.specs.Prelude.{All}
-use Rattle.std.specs.List.{slice_split, onto_first}
-use Rattle.std.proofs.lemmas.Bool.{lt-ltb, le-ltb, ltb-true, cases_Bool, eqb-true}
-use Rattle.std.proofs.lemmas.List.{length-append}
+use Rattle.std.specs.List.{onto_first}
+use Rattle.std.proofs.lemmas.Bool.{lt-ltb, ltb-true, cases_Bool, eqb-true}
 use Rattle.std.proofs.lemmas.List.Elements.{All-head, All-tail, All-cons}
 use Rattle.std.proofs.lemmas.List.Splits.{slice_split-cons_no, slice_split_none}
 use Rattle.sv_trace.specs.declared.faults.StimKind.{StimKind}
@@ -44,7 +43,7 @@ cut [] = record {
   last = none_lack (λ b. (b == 10) ≡ false);
 }
 cut (b ∷ bytes) = by_byte (cut bytes) (cases_Bool (b == 10))
-    where
+  where
     joined : (lines : List (List ℕ)) (rest : List ℕ) → bytes ≡ text_of lines ++ rest
         → All (Lacks 10) lines → Lacks 10 rest → (b == 10) ≡ false → Cut (b ∷ bytes)
     joined [] rest text each last other = record {
@@ -63,6 +62,7 @@ cut (b ∷ bytes) = by_byte (cut bytes) (cases_Bool (b == 10))
           (All-tail (Lacks 10) line lines each);
       last = last;
     }
+
     by_byte : Cut bytes → ((b == 10) ≡ true) ⊎ ((b == 10) ≡ false) → Cut (b ∷ bytes)
     by_byte c h = ⊎_elim
         (λ feed. record {
@@ -84,8 +84,7 @@ first_begins [] piece lacks =
     (first.0, first.1, first.2, omega arith)
 first_begins (b ∷ rest) piece lacks =
     let other : (b == 10) ≡ false = All-head (λ c. (c == 10) ≡ false) b rest lacks in
-    let more = first_begins rest piece (All-tail (λ c. (c == 10) ≡ false) b rest lacks) in
-    (
+    let more = first_begins rest piece (All-tail (λ c. (c == 10) ≡ false) b rest lacks) in (
       b ∷ more.0,
       more.1,
       slice_split-cons_no (λ c. c == 10) b (rest ++ piece) other
@@ -101,7 +100,7 @@ stays : (form : StimForm) (before xs ys : List (List ℕ)) (kind : StimKind)
 stays form before [] ys kind e = let no_fault : None ≡ Some kind = e in cc
 stays form before (x ∷ xs) ys kind e =
     go (line_fault form before x) (stays form (before ++ x ∷ []) xs ys kind) e
-    where
+  where
     go : (o : Option StimKind)
         → ((read_after form (before ++ x ∷ []) xs).wrong ≡ Some kind
         → read_after form (before ++ x ∷ []) (xs ++ ys) ≡ read_after form (before ++ x ∷ []) xs)
@@ -117,7 +116,7 @@ goes_on : (form : StimForm) (before xs ys : List (List ℕ))
 goes_on form before [] ys e = refl
 goes_on form before (x ∷ xs) ys e =
     go (line_fault form before x) (goes_on form (before ++ x ∷ []) xs ys) e
-    where
+  where
     go : (o : Option StimKind)
         → ((read_after form (before ++ x ∷ []) xs).wrong ≡ None
         → read_after form (before ++ x ∷ []) (xs ++ ys)
@@ -132,7 +131,8 @@ too_long_first : (form : StimForm) (right : List (List ℕ)) (x : List ℕ) (xs 
     → 1048576 < length x
     → read_after form right (x ∷ xs) ≡ record { right = right; wrong = Some TooLong }
 too_long_first form right x xs h =
-    ap (λ o. read_next o right (read_after form (right ++ x ∷ []) xs)) (long_is_wrong form right x h)
+    ap (λ o. read_next o right (read_after form (right ++ x ∷ []) xs))
+    (long_is_wrong form right x h)
 
 -- lines with a wrong one, and others with the same front whose next line is no shorter than one
 -- that is too long
@@ -145,7 +145,7 @@ same_read : (form : StimForm) (lines : List (List ℕ)) (rest : List ℕ) (more 
     ≡ read_after form [] (lines ++ cond (long rest) (rest ∷ []) [])
 same_read form lines rest more kind begins e =
     by_front (read_after form [] lines).wrong refl (long rest) refl
-    where
+  where
     by_front : (o : Option StimKind) → (read_after form [] lines).wrong ≡ o → (b : Bool)
         → long rest ≡ b
         → read_after form [] (lines ++ more)
@@ -204,7 +204,7 @@ front_stays form bytes piece kind e =
 ended_wrong : (form : StimForm) (read : LinesRead) (kind : StimKind) → read.wrong ≡ Some kind
     → ended form read ≡ read
 ended_wrong form read kind e = go read.right read.wrong e
-    where
+  where
     go : (right : List (List ℕ)) (o : Option StimKind) → o ≡ Some kind
         → ended form (record { right = right; wrong = o }) ≡ record { right = right; wrong = o }
     go right (Some k) w = refl
@@ -216,18 +216,22 @@ pub whole_stays : (form : StimForm) (bytes : List ℕ) (kind : StimKind)
 whole_stays form bytes kind e =
     let c = cut bytes in
     let wrong : (read_after form [] (c.lines ++ cond (long c.rest) (c.rest ∷ []) [])).wrong
-        ≡ Some kind =
+    ≡ Some kind =
     ap (λ (r : LinesRead). r.wrong) (sym (front_lines form bytes c)) ∙ e in
     let same = same_read form c.lines c.rest (lines_if filled (c.rest ∷ [])) kind
     (λ l.
-    let large : 1048576 < length c.rest = ltb-true 1048576 (length c.rest) l in
-    (c.rest, [], ap (λ b. cond b (c.rest ∷ []) []) (lt-ltb 0 (length c.rest) (omega arith)),
-    omega arith))
+    let large : 1048576 < length c.rest = ltb-true 1048576 (length c.rest) l in (
+      c.rest,
+      [],
+      ap (λ b. cond b (c.rest ∷ []) []) (lt-ltb 0 (length c.rest) (omega arith)),
+      omega arith,
+    ))
     wrong in
     ap (λ ps. ended form (read_after form [] (lines_if filled ps)))
     (ap parts c.text ∙ parts_text c.lines c.rest c.each
     ∙ ap (λ ps. c.lines ++ ps) (slice_split_none (λ b. b == 10) c.rest c.last))
     ∙ ap (λ ls. ended form (read_after form [] ls)) (lines_more filled c.lines c.rest [])
     ∙ ap (ended form) same
-    ∙ ended_wrong form (read_after form [] (c.lines ++ cond (long c.rest) (c.rest ∷ []) [])) kind wrong
+    ∙ ended_wrong form (read_after form [] (c.lines ++ cond (long c.rest)
+    (c.rest ∷ []) [])) kind wrong
     ∙ sym (front_lines form bytes c)

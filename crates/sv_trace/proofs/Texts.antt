@@ -1,9 +1,8 @@
 -- Texts cut at line feeds, and lines read one after the other.
 use Rattle.std.proofs.Common.{◌≡◌, ℕ, ◌+◌, ◌<◌, ◌≤◌, Bool, true, false, cond, not, ◌==◌, nat_lt}
-use Rattle.std.proofs.Common.{List, [], ◌∷◌, ◌++◌, length, refl, sym, ap, ◌∙◌, arith, subst}
+use Rattle.std.proofs.Common.{List, [], ◌∷◌, ◌++◌, length, refl, sym, ap, ◌∙◌, arith}
 use Rattle.std.proofs.Common.{Option, Some, None, append_assoc, append-nil}
 use Rattle.std.specs.Prelude.{All}
-use Rattle.std.specs.List.{slice_split}
 use Rattle.std.proofs.lemmas.Bool.{lt-ltb, le-ltb}
 use Rattle.std.proofs.lemmas.List.Concat.{flat_map-append}
 use Rattle.std.proofs.lemmas.List.Elements.{All-head, All-tail, All-cons, All-append}
@@ -79,7 +78,7 @@ pub read_more : (form : StimForm) (before xs ys right : List (List ℕ))
 read_more form before [] ys right e = ap (λ (r : LinesRead). read_after form r.right ys) e
 read_more form before (x ∷ xs) ys right e =
     go (line_fault form before x) (read_more form (before ++ x ∷ []) xs ys right) e
-    where
+  where
     go : (o : Option StimKind)
         → (read_after form (before ++ x ∷ []) xs ≡ record { right = right; wrong = None }
         → read_after form (before ++ x ∷ []) (xs ++ ys) ≡ read_after form right ys)
@@ -117,7 +116,8 @@ pub front_reads : (form : StimForm) (bytes : List ℕ) (right : List (List ℕ))
     → IsCut bytes right rest → read_front form bytes ≡ read_after form [] right
 front_reads form bytes right rest cut =
     ap (λ ps. read_after form [] (lines_if long ps)) (cut_parts bytes right rest cut)
-    ∙ ap (read_after form []) (last_is_none long right rest (le-ltb 1048576 (length rest) cut.short))
+    ∙ ap (read_after form []) (last_is_none long right rest (le-ltb 1048576
+    (length rest) cut.short))
 
 pub front_is : (form : StimForm) (bytes : List ℕ) (right : List (List ℕ)) (rest : List ℕ)
     → IsCut bytes right rest
@@ -135,7 +135,8 @@ pub front_stops : (form : StimForm) (right : List (List ℕ)) (line after : List
 front_stops form right line after kind each lacks good wrong =
     let first = first_part (λ byte. byte == 10) after in
     ap (λ ps. read_after form [] (lines_if long ps))
-    (parts_text right (line ++ 10 ∷ after) each ∙ ap (λ ps. right ++ ps) (split_some 10 line after lacks))
+    (parts_text right (line ++ 10 ∷ after) each ∙ ap (λ ps. right ++ ps)
+    (split_some 10 line after lacks))
     ∙ ap (read_after form []) (inner_is long right line (parts after) first.0 first.1 first.2)
     ∙ wrong_lines form right line (lines_if long (parts after)) kind good wrong
 
@@ -152,7 +153,8 @@ pub front_overflows : (form : StimForm) (right : List (List ℕ)) (line : List �
     → read_front form (text_of right ++ line) ≡ record { right = right; wrong = Some TooLong }
 front_overflows form right line each lacks good h =
     ap (λ ps. read_after form [] (lines_if long ps))
-    (parts_text right line each ∙ ap (λ ps. right ++ ps) (slice_split_none (λ byte. byte == 10) line lacks))
+    (parts_text right line each ∙ ap (λ ps. right ++ ps) (slice_split_none
+    (λ byte. byte == 10) line lacks))
     ∙ ap (read_after form []) (last_is long right line (lt-ltb 1048576 (length line) h))
     ∙ wrong_lines form right line [] TooLong good (too_long form right line h)
 
@@ -186,7 +188,8 @@ pub whole_more : (form : StimForm) (bytes : List ℕ) (right : List (List ℕ)) 
 whole_more form bytes right rest cut more good last =
     whole_lines form bytes right rest (right ++ rest ∷ []) cut
     (last_is some right rest (lt-ltb 0 (length rest) more))
-    ∙ ap (ended form) (read_more form [] right (rest ∷ []) right good ∙ one_right form right rest last)
+    ∙ ap (ended form) (read_more form [] right (rest ∷ []) right good
+    ∙ one_right form right rest last)
 
 pub whole_stops : (form : StimForm) (bytes : List ℕ) (right : List (List ℕ)) (rest : List ℕ)
     (kind : StimKind) → IsCut bytes right rest → 0 < length rest

@@ -1,5 +1,6 @@
 -- Words that are values, digit by digit.
-use Rattle.std.proofs.Common.{◌≡◌, ℕ, zero, suc, ◌+◌, ◌*◌, ◌^◌, ◌<◌, ◌≤◌, Bool, true, false, ◌&&◌, ◌==◌, nat_le, nat_lt}
+use Rattle.std.proofs.Common.{◌≡◌, ℕ, zero, suc, ◌+◌, ◌*◌, ◌^◌, ◌<◌, ◌≤◌, Bool, true, false, ◌&&◌}
+use Rattle.std.proofs.Common.{◌==◌, nat_le, nat_lt}
 use Rattle.std.proofs.Common.{List, [], ◌∷◌, length, take, get_or, refl, sym, ap, ◌∙◌, subst, arith}
 use Rattle.std.specs.Char.{digit_value, is_digit}
 use Rattle.std.specs.List.{list_all}
@@ -47,7 +48,7 @@ not_all [] k inside large = absurd (omega arith)
 not_all (c ∷ cs) zero inside large = rw (le-ltb (digit_value c) 16 large) refl
 not_all (c ∷ cs) (suc k) inside large =
     both (is_digit c 16) (list_all (λ c. is_digit c 16) cs) (not_all cs k (omega arith) large)
-    where
+  where
     both : (a b : Bool) → b ≡ false → (a && b) ≡ false
     both true b e = e
     both false b e = refl
@@ -59,23 +60,28 @@ abbrev fits : ℕ → List ℕ → Bool
 fits width ds = nat_lt (digits_value 16 ds) (2 ^ width)
 
 pub empty_is_none : (width : ℕ) (ds : List ℕ) → length ds ≡ 0 → is_value width ds ≡ false
-empty_is_none width ds e = fails_first (nat_le 1 (length ds)) (nat_le (length ds) 16) (digits_all ds) (fits width ds) (lt-leb 1 (length ds) (omega arith))
+empty_is_none width ds e = fails_first (nat_le 1 (length ds)) (nat_le (length ds) 16)
+    (digits_all ds) (fits width ds) (lt-leb 1 (length ds) (omega arith))
 
 pub long_is_none : (width : ℕ) (ds : List ℕ) → 16 < length ds → is_value width ds ≡ false
-long_is_none width ds h = fails_second (nat_le 1 (length ds)) (nat_le (length ds) 16) (digits_all ds) (fits width ds) (lt-leb (length ds) 16 h)
+long_is_none width ds h = fails_second (nat_le 1 (length ds)) (nat_le (length ds) 16)
+    (digits_all ds) (fits width ds) (lt-leb (length ds) 16 h)
 
 pub other_is_none : (width : ℕ) (ds : List ℕ) (k : ℕ) → k < length ds
     → 16 ≤ digit_value (get_or ds k 0) → is_value width ds ≡ false
-other_is_none width ds k inside large = fails_third (nat_le 1 (length ds)) (nat_le (length ds) 16) (digits_all ds) (fits width ds) (not_all ds k inside large)
+other_is_none width ds k inside large = fails_third (nat_le 1 (length ds)) (nat_le (length ds) 16)
+    (digits_all ds) (fits width ds) (not_all ds k inside large)
 
 pub wide_is_none : (width : ℕ) (ds : List ℕ) → 2 ^ width ≤ digits_value 16 ds
     → is_value width ds ≡ false
-wide_is_none width ds h = fails_fourth (nat_le 1 (length ds)) (nat_le (length ds) 16) (digits_all ds) (fits width ds) (le-ltb (digits_value 16 ds) (2 ^ width) h)
+wide_is_none width ds h = fails_fourth (nat_le 1 (length ds)) (nat_le (length ds) 16)
+    (digits_all ds) (fits width ds) (le-ltb (digits_value 16 ds) (2 ^ width) h)
 
 pub right_is_one : (width : ℕ) (ds : List ℕ) → 0 < length ds → length ds ≤ 16 → AllDigits 16 ds
     → digits_value 16 ds < 2 ^ width → is_value width ds ≡ true
 right_is_one width ds some few all low =
-    holds (nat_le 1 (length ds)) (nat_le (length ds) 16) (digits_all ds) (fits width ds) (le-leb 1 (length ds) (omega arith)) (le-leb (length ds) 16 few)
+    holds (nat_le 1 (length ds)) (nat_le (length ds) 16) (digits_all ds) (fits width ds) (le-leb 1
+    (length ds) (omega arith)) (le-leb (length ds) 16 few)
     (all_digits ds all) (lt-ltb (digits_value 16 ds) (2 ^ width) low)
 
 -- fifteen digits leave room for one more
@@ -93,9 +99,10 @@ pub one_more : (ds : List ℕ) (k value : ℕ) → k < length ds → digit_value
     → AllDigits 16 (take k ds) → value ≡ digits_value 16 (take k ds)
     → AllDigits 16 (take (k + 1) ds)
     × (value * 16 + digit_value (get_or ds k 0) ≡ digits_value 16 (take (k + 1) ds))
-one_more ds k value inside small all is =
-    (digits_more 16 ds k inside all small,
-    ap (λ v. v * 16 + digit_value (get_or ds k 0)) is ∙ sym (digits_value_more 16 ds k inside))
+one_more ds k value inside small all is = (
+  digits_more 16 ds k inside all small,
+  ap (λ v. v * 16 + digit_value (get_or ds k 0)) is ∙ sym (digits_value_more 16 ds k inside),
+)
 
 pub whole_is_one : (width : ℕ) (ds : List ℕ) (k value : ℕ) → (length ds == 0) ≡ false
     → length ds ≤ 16 → length ds ≤ k → AllDigits 16 (take k ds)

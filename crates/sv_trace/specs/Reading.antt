@@ -112,3 +112,15 @@ abbrev pub UnlessFull : Result (Unit {0}) StimFault → Type 0 → Type 0
 UnlessFull (Ok done) P = P
 UnlessFull (Err (Line number kind)) P = P
 UnlessFull (Err OutOfMemory) P = Unit {0}
+
+-- the start and the cycles are those of a text that is right
+pub record IsStim (form : StimForm) (read : LinesRead) (start : List ℕ) (cycles : List (List ℕ)) :
+    Type 0 where
+  pub right : fault_of read ≡ None
+  pub starts : start ≡ start_of form read.right
+  pub cycles_are : cycles ≡ cycles_of read.right
+
+-- the fault is that of what was read; want of memory says nothing
+abbrev pub IsFaultOf : LinesRead → StimFault → Type 0
+IsFaultOf read (Line number kind) = fault_of read ≡ Some (Line number kind)
+IsFaultOf read OutOfMemory = Unit {0}

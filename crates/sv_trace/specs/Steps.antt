@@ -1,6 +1,7 @@
 -- How the lines are read, one by one: words for the code. What a stimulus says stands in
 -- Stimulus.antt.
-use Rattle.std.specs.Prelude.{◌≡◌, ℕ, ◌+◌, ◌<◌, Bool, true, if◌then◌else◌, slice_set, List, [], ◌∷◌, ◌++◌, length, Option, Some, None}
+use Rattle.std.specs.Prelude.{◌≡◌, ℕ, ◌+◌, ◌<◌, Bool, true, if◌then◌else◌, slice_set, List, [], ◌∷◌}
+use Rattle.std.specs.Prelude.{◌++◌, length, Option, Some, None}
 use Rattle.std.specs.Prelude.{Result, Ok, Err}
 use Rattle.std.specs.List.{slice_split}
 use Rattle.std.specs.Str.Parse.{digits_value}
@@ -40,7 +41,7 @@ abbrev pub early_fault : StimForm → (given : ℕ → Bool) → (line : List �
 early_fault form given line =
     if is_start line
     then start_fault form.registers given (start_digits line)
-      (place_of form.registers (start_name line))
+    (place_of form.registers (start_name line))
     else Some Header
 
 -- a register was given the value of its line

@@ -86,11 +86,11 @@ abbrev pub line_fault : StimForm → (before : List (List ℕ)) → List ℕ →
 line_fault form before line =
     if nat_lt 1048576 (length line) then Some TooLong
     else (if has_header form before
-      then (if are_values form.inputs (words line) then None else Some Value)
+    then (if are_values form.inputs (words line) then None else Some Value)
     else (if bytes_eq line form.header then None
     else (if is_start line
-      then start_fault form.registers (λ k. list_any (starts_at form.registers k) before)
-        (start_digits line) (place_of form.registers (start_name line))
+    then start_fault form.registers (λ k. list_any (starts_at form.registers k) before)
+    (start_digits line) (place_of form.registers (start_name line))
     else Some Header)))
 
 -- lines that were read: the right ones before the first wrong one, and what is wrong with that

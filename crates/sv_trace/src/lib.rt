@@ -5,7 +5,8 @@
 //! a stimulus has to know of a design (`specs/Forms.antt`). [`StimReader`] reads one in pieces:
 //! however its bytes are cut, the start, the cycles and the fault are those of the whole text
 //! (`HasFed` and `HasRead` of `specs/Reading.antt`), and it keeps only the rest of the current line
-//! and the cycles that were not taken. A fault is answered from then on.
+//! and the cycles that were not taken. A fault is answered from then on. [`read_stim`] reads a
+//! whole text.
 //!
 //! [`trace_line`] gives the line of a cycle, with a level the view of that level
 //! (`specs/Traces.antt`).
@@ -21,9 +22,11 @@ mod pieces;
 mod reader;
 mod starts;
 mod state;
+mod stim;
 mod trace;
 
 pub use faults::{StimFault, StimKind};
 pub use reader::StimReader;
 pub use std::alloc::AllocError as OutOfMemory;
+pub use stim::{Stim, read_stim};
 pub use trace::trace_line;

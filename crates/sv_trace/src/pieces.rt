@@ -4,8 +4,8 @@ ghost use Rattle.std.specs.Prelude.{OnErr, IfErr, if◌then◌else◌};
 ghost use Rattle.sv_trace.specs.Reading.{said_of, IsSaid, Lacks};
 ghost use Rattle.sv_trace.specs.Steps.{IsTooLong, Stands, LineEnded, PieceRead, EndRead};
 
-use crate::fields::split_first;
 use crate::faults::{StimFault, StimKind};
+use crate::fields::split_first;
 use crate::forms::Form;
 use crate::state::{State, read_line};
 use std::alloc::Global;

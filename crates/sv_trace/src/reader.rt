@@ -55,11 +55,14 @@ impl Model for StimReader {
 }
 
 impl StimReader {
-    /// A reader of a stimulus of the design, which has read nothing. It fails where memory runs out.
+    /// A reader of a stimulus of the design, which has read nothing. It fails where memory runs
+    /// out.
     pub fn new(alloc: Global, design: &Design) -> Result<StimReader, AllocError>
         ensures form { IfOk result (λ reader. reader.form ≡ form_of (design_of design.now)) }
         ensures fed { IfOk result (HasFed [] []) }
         ensures open { IfOk result (λ reader. IsFalse reader.finished) }
+        ensures line { IfOk result (λ reader. reader.said.line ≡ 1) }
+        ensures rest { IfOk result (λ reader. reader.rest ≡ []) }
     {
         let form = Form::new(alloc, design)?;
         StimReader::with_form(alloc, form)
@@ -71,6 +74,8 @@ impl StimReader {
         ensures form { IfOk result (λ reader. reader.form ≡ form) }
         ensures fed { IfOk result (HasFed [] []) }
         ensures open { IfOk result (λ reader. IsFalse reader.finished) }
+        ensures line { IfOk result (λ reader. reader.said.line ≡ 1) }
+        ensures rest { IfOk result (λ reader. reader.rest ≡ []) }
     {
         let count = form.registers.len();
         Ok(StimReader {
@@ -171,7 +176,8 @@ impl StimReader {
         ensures cycle { IfSome result (λ cycle.
             self.old.said.cycles ≡ cycle.items ∷ self.new.said.cycles) }
         ensures same { self.new ≡ record self.old {
-            said = record self.old.said { cycles = self.new.said.cycles } } }
+          said = record self.old.said { cycles = self.new.said.cycles };
+        } }
         ensures fed { IfSome result (λ cycle. (bytes : List ℕ) (taken : List (List ℕ)) →
             HasFed bytes taken self.old → HasFed bytes (taken ++ cycle.items ∷ []) self.new) }
         ensures read { IfSome result (λ cycle. (read : LinesRead) (taken : List (List ℕ)) →
@@ -181,5 +187,20 @@ impl StimReader {
             FitListed design.signals (inputs design) cycle.items) }
     {
         self.state.cycles.pop_front()
+    }
+
+    // The registers' starting values.
+    pub(crate) fn into_start(self) -> Vec<u64>
+        ensures { result.items ≡ self.said.start }
+    {
+        let StimReader {
+            alloc: _,
+            form: _,
+            state,
+            kept: _,
+            fault: _,
+            is_finished: _,
+        } = self;
+        state.start
     }
 }

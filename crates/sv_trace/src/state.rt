@@ -53,19 +53,15 @@ pub(crate) fn read_line(
 }
 
 // Reads the line of a cycle.
-fn push_cycle(
-    alloc: Global,
-    form: &Form,
-    state: &mut State,
-    line: &[u8],
-) -> Result<(), StimFault>
+fn push_cycle(alloc: Global, form: &Form, state: &mut State, line: &[u8]) -> Result<(), StimFault>
     requires said { IsSaid form.now (said_of state.old) }
     requires room { state.old.line + 1 < 2 ^ 64 }
     ensures said { IsSaid form.now (said_of state.new) }
     ensures right { OnOk result (cycle_fault form.now line.now ≡ None) }
     ensures pushed { OnOk result (said_of state.new ≡ record (said_of state.old) {
-        cycles = (said_of state.old).cycles ++ map (digits_value 16) (words line.now) ∷ [];
-        line = state.old.line + 1 }) }
+      cycles = (said_of state.old).cycles ++ map (digits_value 16) (words line.now) ∷ [];
+      line = state.old.line + 1;
+    }) }
     ensures wrong { IfErr result (IsFaultAt state.old.line (cycle_fault form.now line.now)) }
     ensures same { OnErr result (said_of state.new ≡ said_of state.old) }
 {

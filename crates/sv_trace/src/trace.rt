@@ -125,12 +125,7 @@ fn is_shown(design: &Design, s: SigId, table: &[u64], level: Option<Point>) -> b
     }
 }
 
-fn push_pair(
-    line: &mut Vec<u8>,
-    alloc: Global,
-    name: &[u8],
-    value: u64,
-) -> Result<(), AllocError>
+fn push_pair(line: &mut Vec<u8>, alloc: Global, name: &[u8], value: u64) -> Result<(), AllocError>
     ensures { OnOk result (line.new.items ≡ line.old.items
         ++ (codes " " ++ name.now ++ codes "=" ++ hexadecimal value)) }
 {

@@ -1,6 +1,6 @@
-use Rattle.std.proofs.Common.{rules, ◌≡◌, ◌^◌, ◌<◌, ◌+◌, ◌*◌, get_or, length, sym, ap, ◌∙◌, arith, refl}
+use Rattle.std.proofs.Common.{◌≡◌, ◌<◌, ◌+◌, ◌*◌, get_or, sym, ap, ◌∙◌, arith, refl}
 use Rattle.std.specs.Char.{digit_value}
-use Rattle.sv_trace.proofs.Values.{has_room_for_digit, one_more, whole_is_one, whole_is_wide}
+use Rattle.sv_trace.proofs.Values.{has_room_for_digit, one_more, whole_is_one}
 use Rattle.sv_trace.proofs.fields.read_value.Goals as goal
 
 pub overflow_mul-value : goal.overflow_mul-value
@@ -19,9 +19,11 @@ overflow_add-value c =
 
 pub digits-preserved : goal.digits-preserved
 digits-preserved c =
-    let d : digit_value c.from.result ≡ digit_value (get_or c.args.digits.now c.digits.digit-index 0) =
+    let d : digit_value c.from.result ≡ digit_value
+    (get_or c.args.digits.now c.digits.digit-index 0) =
     ap digit_value c.from.ensures in
-    let is : c.from-in-digits.result ≡ digit_value (get_or c.args.digits.now c.digits.digit-index 0) =
+    let is : c.from-in-digits.result ≡ digit_value (get_or c.args.digits.now c.digits.digit-index
+    0) =
     c.from-in-digits.ensures ∙ (c.in-Some.ensures.value.1 ∙ d) in
     let small : digit_value (get_or c.args.digits.now c.digits.digit-index 0) < 16 =
     omega (arith, d, c.in-Some.ensures.value.0) in

@@ -1,9 +1,7 @@
-use Rattle.std.proofs.Common.{◌≡◌, ◌++◌, take, map}
-use Rattle.std.specs.Prelude.{codes, flat_map}
+use Rattle.std.proofs.Common.{◌≡◌, take, map}
 use Rattle.sv_flat.specs.ByNumber.{signal_forms}
-use Rattle.sv_flat.specs.Values.{signal_width}
 use Rattle.sv_design.specs.Numbers.{numbers}
-use Rattle.sv_trace.specs.Forms.{name_in, register_in}
+use Rattle.sv_trace.specs.Forms.{register_in}
 use Rattle.sv_trace.proofs.forms.registers_of.Given as goal
 
 abbrev pub invariant-listed : goal.invariant-listed

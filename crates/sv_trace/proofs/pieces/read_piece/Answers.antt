@@ -1,4 +1,5 @@
-use Rattle.std.proofs.Common.{rules, ◌≡◌, [], ◌∷◌, ◌++◌, refl, sym, ap, ◌∙◌, subst, append_assoc, length, arith}
+use Rattle.std.proofs.Common.{rules, [], ◌∷◌, ◌++◌, sym, ap, ◌∙◌, subst, append_assoc, length}
+use Rattle.std.proofs.Common.{arith}
 use Rattle.std.proofs.lemmas.List.{length-append}
 use Rattle.sv_trace.specs.Reading.{said_of, Lacks}
 use Rattle.sv_trace.specs.Steps.{PieceRead, Stands, StopsUnlessFull}
@@ -34,8 +35,13 @@ lines-preserved c =
     let kept = c.end_line.new.kept.items in
     record {
       said = search rules;
-      room = omega (arith, ap length c.in-Some.ensures.parts, length-append line (10 ∷ after),
-          c.in_ok-end_line.ensures.next, c.in_ok-end_line.ensures.none);
+      room = omega (
+        arith,
+        ap length c.in-Some.ensures.parts,
+        length-append line (10 ∷ after),
+        c.in_ok-end_line.ensures.next,
+        c.in_ok-end_line.ensures.none,
+      );
       short = search rules;
       read = (
         done ++ (line ++ 10 ∷ []),
@@ -43,9 +49,9 @@ lines-preserved c =
             ∙ sym (append_assoc done (line ++ 10 ∷ []) after
             ∙ ap (λ b. done ++ b) (append_assoc line (10 ∷ []) after)),
         λ bytes taken s.
-        subst (λ b. Stands form b taken new kept) (append_assoc bytes done (line ++ 10 ∷ []))
-        (c.in_ok-end_line.ensures.read (bytes ++ done) taken
-        (c.lines.invariant.read.2 bytes taken s)),
+            subst (λ b. Stands form b taken new kept) (append_assoc bytes done (line ++ 10 ∷ []))
+            (c.in_ok-end_line.ensures.read (bytes ++ done) taken
+            (c.lines.invariant.read.2 bytes taken s)),
       );
     }
 

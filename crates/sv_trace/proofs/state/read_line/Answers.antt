@@ -1,4 +1,4 @@
-use Rattle.std.proofs.Common.{rules, ◌≡◌, true, false, sym, ◌∙◌}
+use Rattle.std.proofs.Common.{rules, ◌≡◌, true, false}
 use Rattle.std.specs.Str.{bytes_eq}
 use Rattle.sv_trace.specs.Reading.{said_of}
 use Rattle.sv_trace.proofs.SaidFacts.{cycle_read, header_read, start_read}

@@ -1,0 +1,72 @@
+-- Whole stimuli, as a reader reads them.
+use Rattle.std.proofs.Common.{◌≡◌, ℕ, List, [], ◌∷◌, ◌++◌, map, refl, sym, ap, ◌∙◌, subst, Option}
+use Rattle.std.proofs.Common.{Some, None, append-nil}
+use Rattle.std.specs.Prelude.{Result, Ok, Err, IfErr}
+use Rattle.std.specs.Result.{IsErrAnd}
+use Rattle.std.proofs.lemmas.List.{map-append}
+use Rattle.sv_trace.specs.declared.faults.StimFault.{StimFault}
+use Rattle.sv_trace.specs.declared.faults.StimFault.TheVariants.{Line, OutOfMemory}
+use Rattle.sv_trace.specs.Forms.{StimForm}
+use Rattle.sv_trace.specs.Reading.{Reading, HasRead, HasFed, UnlessFull, answer_of, IsStim}
+use Rattle.sv_trace.specs.Reading.{IsFaultOf}
+use Rattle.sv_trace.specs.Stimulus.{LinesRead, read_front, read_whole, fault_of, start_of}
+use Rattle.sv_trace.proofs.ReaderFacts.{wrong_of}
+use Rattle.sv_trace.proofs.Stuck.{whole_stays}
+
+answered_fault : (fault : StimFault) (o : Option StimFault)
+    → (let r : Result (Unit {0}) StimFault = Err fault in r) ≡ answer_of o → o ≡ Some fault
+answered_fault fault None e = cc
+answered_fault fault (Some other) e = cc
+
+pub answered_none : (o : Option StimFault)
+    → (let r : Result (Unit {0}) StimFault = Ok tt in r) ≡ answer_of o → o ≡ None
+answered_none None e = refl
+answered_none (Some other) e = cc
+
+pub feed_fault : (form : StimForm) (bytes : List ℕ) (old new : Reading) (fault : StimFault)
+    → HasFed [] [] old → new.form ≡ form
+    → (let r : Result (Unit {0}) StimFault = Err fault in r) ≡ answer_of new.fault
+    → UnlessFull (Err fault) ((more : List ℕ) (taken : List (List ℕ)) → HasFed more taken old
+    → HasFed (more ++ bytes) taken new)
+    → IsFaultOf (read_whole form bytes) fault
+feed_fault form bytes old new (Line number kind) start same answer reads =
+    let fed = reads [] [] start in
+    let is : fault_of (read_front new.form bytes) ≡ Some (Line number kind) =
+    sym fed.read.fault ∙ answered_fault (Line number kind) new.fault answer in
+    ap (λ f. fault_of (read_whole f bytes)) (sym same)
+    ∙ ap fault_of (whole_stays new.form bytes kind
+    (wrong_of (read_front new.form bytes) number kind is))
+    ∙ is
+feed_fault form bytes old new OutOfMemory start same answer reads = tt
+
+pub finish_fault : (form : StimForm) (bytes : List ℕ) (old new : Reading) (fault : StimFault)
+    → HasFed bytes [] old → new.form ≡ form
+    → (let r : Result (Unit {0}) StimFault = Err fault in r) ≡ answer_of new.fault
+    → UnlessFull (Err fault) ((more : List ℕ) (taken : List (List ℕ)) → HasFed more taken old
+    → HasRead (read_whole new.form more) taken new)
+    → IsFaultOf (read_whole form bytes) fault
+finish_fault form bytes old new (Line number kind) fed same answer reads =
+    let read = reads bytes [] fed in
+    ap (λ f. fault_of (read_whole f bytes)) (sym same)
+    ∙ sym read.fault ∙ answered_fault (Line number kind) new.fault answer
+finish_fault form bytes old new OutOfMemory fed same answer reads = tt
+
+pub all_taken : (form : StimForm) (read : LinesRead) (taken : List (List ℕ)) (r : Reading)
+    (start : List ℕ) → r.form ≡ form → r.fault ≡ None → HasRead read taken r
+    → r.said.cycles ≡ [] → start ≡ r.said.start → IsStim form read start taken
+all_taken form read taken r start same none has empty is = record {
+  right = sym has.fault ∙ none;
+  starts = is ∙ has.lines.start ∙ ap (λ f. start_of f read.right) same;
+  cycles_are = sym (append-nil taken) ∙ ap (λ cs. taken ++ cs) (sym empty) ∙ has.lines.cycles;
+}
+
+pub one_taken : {X : Type 0} (f : X → List ℕ) (read : LinesRead) (xs ys : List X) (x : X)
+    (r : Reading) → HasRead read (map f xs ++ f x ∷ []) r → ys ≡ xs ++ x ∷ []
+    → HasRead read (map f ys) r
+one_taken f read xs ys x r has e =
+    subst (λ taken. HasRead read taken r) (sym (ap (map f) e ∙ map-append f xs (x ∷ []))) has
+
+pub passed : {T : Type 0} (P : StimFault → Type 0) (r : Result T StimFault) (x : StimFault)
+    → IsErrAnd r (λ y. y ≡ x) → P x → IfErr r P
+passed P (Ok v) x is holds = absurd is
+passed P (Err y) x is holds = subst P (sym is) holds

@@ -1,6 +1,6 @@
 // Lines out of pieces.
 ghost use Rattle.std.specs.Prelude.{◌≡◌, ℕ, ◌+◌, ◌^◌, ◌<◌, ◌≤◌, List, ◌++◌, length, OnOk, Ok, Err};
-ghost use Rattle.std.specs.Prelude.{OnErr, IfErr, if◌then◌else◌};
+ghost use Rattle.std.specs.Prelude.{OnErr, IfErr, IsTrue, if◌then◌else◌};
 ghost use Rattle.sv_trace.specs.Reading.{said_of, IsSaid, Lacks};
 ghost use Rattle.sv_trace.specs.Steps.{IsTooLong, Stands, LineEnded, PieceRead, EndRead};
 
@@ -28,6 +28,8 @@ pub(crate) fn read_piece(
     ensures said { IsSaid form.now (said_of state.new) }
     ensures room { state.new.line + length kept.new.items < 2 ^ 64 }
     ensures short { length kept.new.items ≤ 1048576 }
+    ensures start { IsTrue state.old.begun →
+        (state.new.start.items ≡ state.old.start.items) × IsTrue state.new.begun }
     ensures read { (bytes : List ℕ) (taken : List (List ℕ)) →
         Stands form.now bytes taken (said_of state.old) kept.old.items →
         PieceRead form.now (bytes ++ piece.now) taken result (said_of state.new) kept.new.items }
@@ -58,6 +60,8 @@ fn end_line(
     ensures same { OnErr result (state.new.line ≡ state.old.line) }
     ensures kept { length kept.new.items ≤ length kept.old.items + length line.now }
     ensures short { length kept.new.items ≤ 1048576 }
+    ensures start { IsTrue state.old.begun →
+        (state.new.start.items ≡ state.old.start.items) × IsTrue state.new.begun }
     ensures read { (bytes : List ℕ) (taken : List (List ℕ)) →
         Stands form.now bytes taken (said_of state.old) kept.old.items →
         LineEnded form.now bytes line.now taken result (said_of state.new) kept.new.items }

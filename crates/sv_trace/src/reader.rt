@@ -1,6 +1,6 @@
 // Readers of stimuli.
 ghost use Rattle.std.specs.Prelude.{◌≡◌, ℕ, ◌+◌, ◌^◌, ◌<◌, List, [], ◌∷◌, ◌++◌, false, length};
-ghost use Rattle.std.specs.Prelude.{None, IsFalse, IsSome, IsNone, IfOk, IfSome, is_ok};
+ghost use Rattle.std.specs.Prelude.{None, IsTrue, IsFalse, IsSome, IsNone, IfOk, IfSome, is_ok};
 ghost use Rattle.std.specs.Prelude.{if◌then◌else◌, Some};
 ghost use Rattle.std.specs.Option.{option_copied};
 ghost use Rattle.sv_flat.specs.Design.{FlatDesign};
@@ -104,6 +104,8 @@ impl StimReader {
         ensures read { UnlessFull result ((bytes : List ℕ) (taken : List (List ℕ)) →
             HasFed bytes taken self.old → HasFed (bytes ++ piece.now) taken self.new) }
         ensures stays { IsSome self.old.fault → self.new ≡ self.old }
+        ensures start { IsTrue self.old.said.begun →
+            (self.new.said.start ≡ self.old.said.start) × IsTrue self.new.said.begun }
         ensures form { self.new.form ≡ self.old.form }
         ensures open { IsFalse self.new.finished }
     {

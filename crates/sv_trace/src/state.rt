@@ -1,6 +1,6 @@
 // What the lines of a stimulus say, line by line.
 ghost use Rattle.std.specs.Prelude.{◌≡◌, ℕ, ◌+◌, ◌^◌, ◌<◌, ◌≤◌, false, List, [], ◌∷◌, ◌++◌, map};
-ghost use Rattle.std.specs.Prelude.{length, slice_index_or, OnErr, OnOk, IfErr};
+ghost use Rattle.std.specs.Prelude.{length, slice_index_or, OnErr, OnOk, IfErr, IsTrue};
 ghost use Rattle.std.specs.Str.Parse.{digits_value};
 ghost use Rattle.sv_trace.specs.Reading.{said_of, IsSaid, HaveRead};
 ghost use Rattle.sv_trace.specs.Steps.{LineRead, IsFaultAt, IsPut, cycle_fault, early_fault};
@@ -37,6 +37,8 @@ pub(crate) fn read_line(
     ensures said { IsSaid form.now (said_of state.new) }
     ensures next { OnOk result (state.new.line ≡ state.old.line + 1) }
     ensures same { OnErr result (state.new.line ≡ state.old.line) }
+    ensures start { IsTrue state.old.begun →
+        (state.new.start.items ≡ state.old.start.items) × IsTrue state.new.begun }
     ensures read { (right taken : List (List ℕ)) →
         HaveRead form.now right taken (said_of state.old) →
         LineRead form.now right taken line.now result (said_of state.new) }
@@ -64,6 +66,8 @@ fn push_cycle(alloc: Global, form: &Form, state: &mut State, line: &[u8]) -> Res
     }) }
     ensures wrong { IfErr result (IsFaultAt state.old.line (cycle_fault form.now line.now)) }
     ensures same { OnErr result (said_of state.new ≡ said_of state.old) }
+    ensures start { state.new.start.items ≡ state.old.start.items }
+    ensures begun { state.new.begun ≡ state.old.begun }
 {
     let Some(values) = read_cycle(alloc, form.inputs.as_slice(), line)? else {
         return Err(StimFault::Line(state.line, StimKind::Value));

@@ -43,6 +43,10 @@ lines-preserved c =
         c.in_ok-end_line.ensures.none,
       );
       short = search rules;
+      begun = λ begun.
+          let was = c.lines.invariant.begun begun in
+          let now = c.end_line.ensures.start was.1 in
+          (now.0 ∙ was.0, now.1);
       read = (
         done ++ (line ++ 10 ∷ []),
         c.lines.invariant.read.1 ∙ ap (λ b. done ++ b) c.in-Some.ensures.parts

@@ -1,4 +1,4 @@
-use Rattle.std.proofs.Common.{◌≡◌, ℕ, ◌+◌, ◌^◌, ◌<◌, ◌≤◌, List, ◌++◌, length}
+use Rattle.std.proofs.Common.{◌≡◌, true, ℕ, ◌+◌, ◌^◌, ◌<◌, ◌≤◌, List, ◌++◌, length}
 use Rattle.sv_trace.specs.Reading.{said_of, IsSaid}
 use Rattle.sv_trace.specs.Steps.{Stands}
 use Rattle.sv_trace.proofs.pieces.read_piece.Given as goal
@@ -8,6 +8,8 @@ invariant-lines l = record {
   said : IsSaid l.form (said_of l.state);
   room : l.state.line + length l.kept.items + length l.left < 2 ^ 64;
   short : length l.kept.items ≤ 1048576;
+  begun : l.initial.state.begun ≡ true →
+      (l.state.start.items ≡ l.initial.state.start.items) × (l.state.begun ≡ true);
   read : (done : List ℕ) × (l.piece ≡ done ++ l.left)
       × ((bytes : List ℕ) (taken : List (List ℕ)) →
       Stands l.form bytes taken (said_of l.initial.state) l.initial.kept.items →

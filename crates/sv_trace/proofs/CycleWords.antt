@@ -1,12 +1,12 @@
 -- The words of a cycle's line against the widths.
-use Rattle.std.proofs.Common.{◌≡◌, ℕ, ◌+◌, ◌<◌, ◌≤◌, true, false, ◌&&◌, List, []}
+use Rattle.std.proofs.Common.{◌≡◌, ℕ, ◌+◌, ◌<◌, ◌≤◌, true, false, List, []}
 use Rattle.std.proofs.Common.{◌∷◌, length, drop, get_or, refl, ap, ◌∙◌, Bor}
 use Rattle.std.proofs.Common.{Option, Some, None, add-one, drop-cons}
 use Rattle.std.specs.List.{slice_split}
 use Rattle.std.specs.Option.{option_copied, is_some}
 use Rattle.std.proofs.Math.ListN.{drop_of_length-le}
 use Rattle.sv_trace.specs.Steps.{left_words}
-use Rattle.sv_trace.specs.Stimulus.{is_blank, is_value, are_values}
+use Rattle.sv_trace.specs.Stimulus.{is_blank, are_values}
 use Rattle.sv_trace.proofs.Splitting.{first_part}
 
 cons_at : (ws : List ℕ) (k : ℕ) → k < length ws → drop k ws ≡ get_or ws k 0 ∷ drop (k + 1) ws
@@ -24,16 +24,3 @@ no_width ws k (Some text) past some =
     let parts = first_part is_blank text.now in
     ap (λ vs. are_values vs (slice_split is_blank text.now)) (drop_of_length-le ws past)
     ∙ ap (are_values []) parts.2
-
--- none of either is left
-pub both_end : (ws : List ℕ) (k : ℕ) (rest : Option (Bor (List ℕ))) → length ws ≤ k
-    → is_some rest ≡ false → are_values (drop k ws) (left_words (option_copied rest)) ≡ true
-both_end ws k None past none = ap (λ vs. are_values vs []) (drop_of_length-le ws past)
-both_end ws k (Some text) past none = cc
-
--- one more word is a value or none
-pub next_test : (ws : List ℕ) (k : ℕ) (word : List ℕ) (more : List (List ℕ)) → k < length ws
-    → are_values (drop k ws) (word ∷ more)
-    ≡ (is_value (get_or ws k 0) word && are_values (drop (k + 1) ws) more)
-next_test ws k word more inside =
-    ap (λ vs. are_values vs (word ∷ more)) (cons_at ws k inside)

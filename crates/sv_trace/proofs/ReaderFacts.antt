@@ -1,13 +1,13 @@
 -- What a reader has read, after each of its calls.
 use Rattle.std.proofs.Common.{◌≡◌, ℕ, ◌+◌, ◌^◌, ◌<◌, true, false, List, [], ◌∷◌, ◌++◌, length, map}
-use Rattle.std.proofs.Common.{refl, sym, ap, ◌∙◌, subst, Option, Some, None, append_assoc, get_or}
-use Rattle.std.proofs.Common.{Bool, arith, pow_pos, ⊎_elim, ◌≤◌}
+use Rattle.std.proofs.Common.{refl, sym, ap, ◌∙◌, subst, Option, Some, None, get_or}
+use Rattle.std.proofs.Common.{Bool, arith, pow_pos, ◌≤◌}
 use Rattle.std.specs.Prelude.{Result, Ok, Err, All, IfSome, replicate}
 use Rattle.std.specs.Option.{is_some, option_to_list}
 use Rattle.std.specs.Result.{result_err}
-use Rattle.std.proofs.lemmas.Bool.{false≢true, cases_lt}
+use Rattle.std.proofs.lemmas.Bool.{false≢true}
 use Rattle.std.proofs.lemmas.List.{length-map, get_or-map, get_or-replicate, length-replicate}
-use Rattle.std.proofs.lemmas.List.{get_or_past, length-append}
+use Rattle.std.proofs.lemmas.List.{length-append}
 use Rattle.std.proofs.lemmas.List.Elements.{All-head, All-tail}
 use Rattle.sv_flat.specs.Design.{SignalForm, FlatDesign}
 use Rattle.sv_flat.specs.SignalLists.{inputs, registers}
@@ -22,7 +22,6 @@ use Rattle.sv_trace.specs.Reading.{Said, Reading, HaveRead, HasRead, HasFed, IsC
 use Rattle.sv_trace.specs.Reading.{answer_of, FitWidths, widths_of, text_of}
 use Rattle.sv_trace.specs.Steps.{Stands, Stops, PieceRead, EndRead}
 use Rattle.sv_trace.specs.Stimulus.{LinesRead, read_front, read_whole, fault_of}
-use Rattle.sv_trace.specs.Stimulus.{is_start}
 use Rattle.sv_trace.proofs.Texts.{front_is, front_reads}
 use Rattle.sv_trace.proofs.Stuck.{front_stays, whole_stays}
 
@@ -171,50 +170,6 @@ end_still old OutOfMemory is = tt
 pub answered : (r : Result (Unit {0}) StimFault) → r ≡ answer_of (result_err r)
 answered (Ok done) = refl
 answered (Err fault) = refl
-
--- ---- cycles that are taken
-
-lines_taken : (form : StimForm) (right taken : List (List ℕ)) (old new : Said) (cycle : List ℕ)
-    → new ≡ record old { cycles = new.cycles } → old.cycles ≡ cycle ∷ new.cycles
-    → HaveRead form right taken old → HaveRead form right (taken ++ cycle ∷ []) new
-lines_taken form right taken old new cycle same e read =
-    subst (HaveRead form right (taken ++ cycle ∷ [])) (sym same) (record {
-      header = read.header;
-      begun = read.begun;
-      starting = read.starting;
-      cycling = read.cycling;
-      start = read.start;
-      cycles = append_assoc taken (cycle ∷ []) new.cycles
-          ∙ ap (λ cs. taken ++ cs) (sym e) ∙ read.cycles;
-      line = read.line;
-    })
-
-pub read_taken : (read : LinesRead) (taken : List (List ℕ)) (old new : Reading) (cycle : List ℕ)
-    → new ≡ record old { said = record old.said { cycles = new.said.cycles } }
-    → old.said.cycles ≡ cycle ∷ new.said.cycles
-    → HasRead read taken old → HasRead read (taken ++ cycle ∷ []) new
-read_taken read taken old new cycle same e has = record {
-  lines = subst (λ f. HaveRead f read.right (taken ++ cycle ∷ []) new.said)
-      (sym (ap (λ (r : Reading). r.form) same))
-      (lines_taken old.form read.right taken old.said new.said cycle
-      (ap (λ (r : Reading). r.said) same) e has.lines);
-  fault = ap (λ (r : Reading). r.fault) same ∙ has.fault;
-}
-
-pub fed_taken : (bytes : List ℕ) (taken : List (List ℕ)) (old new : Reading) (cycle : List ℕ)
-    → new ≡ record old { said = record old.said { cycles = new.said.cycles } }
-    → old.said.cycles ≡ cycle ∷ new.said.cycles
-    → HasFed bytes taken old → HasFed bytes (taken ++ cycle ∷ []) new
-fed_taken bytes taken old new cycle same e fed =
-    let form : old.form ≡ new.form = sym (ap (λ (r : Reading). r.form) same) in
-    record {
-      read = subst (λ f. HasRead (read_front f bytes) (taken ++ cycle ∷ []) new) form
-          (read_taken (read_front old.form bytes) taken old new cycle same e fed.read);
-      cut = λ none. subst (λ f. IsCut bytes (read_front f bytes).right new.rest) form
-          (subst (IsCut bytes (read_front old.form bytes).right)
-          (sym (ap (λ (r : Reading). r.rest) same))
-          (fed.cut (ap (λ (r : Reading). is_some r.fault) (sym same) ∙ none)));
-    }
 
 -- ---- fitting values
 
@@ -367,46 +322,6 @@ new_fits registers n start count is =
           (sym (ap (λ vs. get_or vs k 0) is ∙ get_or-replicate n k 0 0 (omega arith)))
           (pow_pos (get_or (widths_of registers) k 0));
     }
-
--- ---- a new reader
-
-pub new_fed : (form : StimForm) (given : List Bool) (start : List ℕ)
-    → is_start form.header ≡ false → ((k : ℕ) → get_or given k false ≡ false)
-    → start ≡ replicate (length form.registers) 0
-    → HasFed [] [] (record {
-      form = form;
-      said = record { begun = false; given = given; start = start; cycles = []; line = 1 };
-      rest = [];
-      fault = None;
-      finished = false;
-    })
-new_fed form given start plain flags zero = record {
-  read = record {
-    lines = record {
-      header = plain;
-      begun = refl;
-      starting = λ e. record { starts = refl; flags = λ k inside. flags k };
-      cycling = λ e. absurd (false≢true e);
-      start = zero;
-      cycles = refl;
-      line = refl;
-    };
-    fault = refl;
-  };
-  cut = λ none. record {
-    text = refl;
-    each = λ k d h. absurd (omega arith);
-    last = λ k d h. absurd (omega arith);
-    short = omega arith;
-  };
-}
-
-pub no_flags : (n k : ℕ) → get_or (replicate n false) k false ≡ false
-no_flags n k = ⊎_elim
-    (λ inside. get_or-replicate n k false false inside)
-    (λ past. get_or_past (replicate n false) k false
-    (omega (arith, length-replicate {A = Bool} n false)))
-    (cases_lt k n)
 
 -- ---- room
 

@@ -95,12 +95,6 @@ label_point design is (Table map first (Some second)) values h some =
     (pair_value (map_of design.maps map) (get_or values first 0) (get_or values second 0))
     (rows_are_points design is map (label_map design map first (Some second) h)) some
 
-pub label_same : (maps : List MapRows) (label : Label) (values : List ℕ)
-    → label_of maps label values ≡ label_in maps label (by_number values)
-label_same maps (Declared point) values = refl
-label_same maps (Table map first None) values = refl
-label_same maps (Table map first (Some second)) values = refl
-
 -- ---- the signals of a line, one by one
 
 text_over : (design : FlatDesign) (level : Option Point) (environment : Environment ℕ)
@@ -268,19 +262,6 @@ point_at flat signals maps s x values es em is inside some =
     (label_point (design_of flat) is (signal_of (design_of flat).signals s).label values
     (label_is_sound (design_of flat) is s
     (subst (λ n. s < n) (sym (length-map flat.signals.items signal_form)) inside)) some)))
-
-pub shown_at : (flat : Flat) (signals : List Signal) (maps : List MapRows) (s : ℕ) (x : Signal)
-    (values : List ℕ) (level point : Point) → signals ≡ flat.signals.items
-    → maps ≡ flat.maps.items → s < length flat.signals.items
-    → point ≡ label_of maps (get_or signals s x).label values
-    → flow_test flat.lattice point.0 level.0
-    ≡ is_shown (design_of flat) (Some level) (by_number values) s
-shown_at flat signals maps s x values level point es em inside is =
-    ap (λ (p : Point). flow_test flat.lattice p.0 level.0)
-    (is ∙ ap (λ ms. label_of ms (get_or signals s x).label values) em
-    ∙ ap (λ (ss : List Signal). label_of flat.maps.items (get_or ss s x).label values) es
-    ∙ ap (λ l. label_of flat.maps.items l values) (sym (label_here flat.signals.items s x inside))
-    ∙ label_same flat.maps.items (signal_of (design_of flat).signals s).label values)
 
 pub line_agrees : (design : FlatDesign) → IsTrue (sound design) → IsAdmitted design
     → (level : Option Point) (environment : Environment ℕ) (values table : List ℕ)

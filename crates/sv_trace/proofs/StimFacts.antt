@@ -1,15 +1,15 @@
 -- Whole stimuli, as a reader reads them.
 use Rattle.std.proofs.Common.{◌≡◌, ℕ, List, [], ◌∷◌, ◌++◌, map, refl, sym, ap, ◌∙◌, subst, Option}
-use Rattle.std.proofs.Common.{Some, None, append-nil}
+use Rattle.std.proofs.Common.{Some, None}
 use Rattle.std.specs.Prelude.{Result, Ok, Err, IfErr}
 use Rattle.std.specs.Result.{IsErrAnd}
 use Rattle.std.proofs.lemmas.List.{map-append}
 use Rattle.sv_trace.specs.declared.faults.StimFault.{StimFault}
 use Rattle.sv_trace.specs.declared.faults.StimFault.TheVariants.{Line, OutOfMemory}
 use Rattle.sv_trace.specs.Forms.{StimForm}
-use Rattle.sv_trace.specs.Reading.{Reading, HasRead, HasFed, UnlessFull, answer_of, IsStim}
+use Rattle.sv_trace.specs.Reading.{Reading, HasRead, HasFed, UnlessFull, answer_of}
 use Rattle.sv_trace.specs.Reading.{IsFaultOf}
-use Rattle.sv_trace.specs.Stimulus.{LinesRead, read_front, read_whole, fault_of, start_of}
+use Rattle.sv_trace.specs.Stimulus.{LinesRead, read_front, read_whole, fault_of}
 use Rattle.sv_trace.proofs.ReaderFacts.{wrong_of}
 use Rattle.sv_trace.proofs.Stuck.{whole_stays}
 
@@ -50,15 +50,6 @@ finish_fault form bytes old new (Line number kind) fed same answer reads =
     ap (λ f. fault_of (read_whole f bytes)) (sym same)
     ∙ sym read.fault ∙ answered_fault (Line number kind) new.fault answer
 finish_fault form bytes old new OutOfMemory fed same answer reads = tt
-
-pub all_taken : (form : StimForm) (read : LinesRead) (taken : List (List ℕ)) (r : Reading)
-    (start : List ℕ) → r.form ≡ form → r.fault ≡ None → HasRead read taken r
-    → r.said.cycles ≡ [] → start ≡ r.said.start → IsStim form read start taken
-all_taken form read taken r start same none has empty is = record {
-  right = sym has.fault ∙ none;
-  starts = is ∙ has.lines.start ∙ ap (λ f. start_of f read.right) same;
-  cycles_are = sym (append-nil taken) ∙ ap (λ cs. taken ++ cs) (sym empty) ∙ has.lines.cycles;
-}
 
 pub one_taken : {X : Type 0} (f : X → List ℕ) (read : LinesRead) (xs ys : List X) (x : X)
     (r : Reading) → HasRead read (map f xs ++ f x ∷ []) r → ys ≡ xs ++ x ∷ []

@@ -1,38 +1,15 @@
 -- Words that are values, digit by digit.
-use Rattle.std.proofs.Common.{◌≡◌, ℕ, zero, suc, ◌+◌, ◌*◌, ◌^◌, ◌<◌, ◌≤◌, Bool, true, false, ◌&&◌}
+use Rattle.std.proofs.Common.{◌≡◌, ℕ, ◌+◌, ◌*◌, ◌^◌, ◌<◌, ◌≤◌, Bool, true, false, ◌&&◌}
 use Rattle.std.proofs.Common.{◌==◌, nat_le, nat_lt}
 use Rattle.std.proofs.Common.{List, [], ◌∷◌, length, take, get_or, refl, sym, ap, ◌∙◌, subst, arith}
 use Rattle.std.specs.Char.{digit_value, is_digit}
 use Rattle.std.specs.List.{list_all}
 use Rattle.std.specs.Str.Parse.{AllDigits, digits_value}
 use Rattle.std.proofs.Math.Nat.{pow-le-pow_right}
-use Rattle.std.proofs.lemmas.Bool.{lt-ltb, le-ltb, le-leb, lt-leb, eqb-false}
+use Rattle.std.proofs.lemmas.Bool.{lt-ltb, le-leb, eqb-false}
 use Rattle.std.proofs.lemmas.Int.Digits.{digits_more, digits_value_more, digits_value-lt}
 use Rattle.std.proofs.lemmas.List.{length-take-le, take_all}
 use Rattle.sv_trace.specs.Stimulus.{is_value}
-
--- where one of four tests fails, so do all
-fails_first : (a b c d : Bool) → a ≡ false → (a && b && c && d) ≡ false
-fails_first true b c d e = cc
-fails_first false b c d e = refl
-
-fails_second : (a b c d : Bool) → b ≡ false → (a && b && c && d) ≡ false
-fails_second true true c d e = cc
-fails_second true false c d e = refl
-fails_second false b c d e = refl
-
-fails_third : (a b c d : Bool) → c ≡ false → (a && b && c && d) ≡ false
-fails_third true true true d e = cc
-fails_third true true false d e = refl
-fails_third true false c d e = refl
-fails_third false b c d e = refl
-
-fails_fourth : (a b c d : Bool) → d ≡ false → (a && b && c && d) ≡ false
-fails_fourth true true true true e = cc
-fails_fourth true true true false e = refl
-fails_fourth true true false d e = refl
-fails_fourth true false c d e = refl
-fails_fourth false b c d e = refl
 
 holds : (a b c d : Bool) → a ≡ true → b ≡ true → c ≡ true → d ≡ true → (a && b && c && d) ≡ true
 holds a b c d ea eb ec ed = cc
@@ -42,40 +19,11 @@ all_digits [] all = refl
 all_digits (c ∷ cs) all =
     rw (lt-ltb (digit_value c) 16 all.0) (all_digits cs all.1)
 
-not_all : (ds : List ℕ) (k : ℕ) → k < length ds → 16 ≤ digit_value (get_or ds k 0)
-    → list_all (λ c. is_digit c 16) ds ≡ false
-not_all [] k inside large = absurd (omega arith)
-not_all (c ∷ cs) zero inside large = rw (le-ltb (digit_value c) 16 large) refl
-not_all (c ∷ cs) (suc k) inside large =
-    both (is_digit c 16) (list_all (λ c. is_digit c 16) cs) (not_all cs k (omega arith) large)
-  where
-    both : (a b : Bool) → b ≡ false → (a && b) ≡ false
-    both true b e = e
-    both false b e = refl
-
 abbrev digits_all : List ℕ → Bool
 digits_all ds = list_all (λ c. is_digit c 16) ds
 
 abbrev fits : ℕ → List ℕ → Bool
 fits width ds = nat_lt (digits_value 16 ds) (2 ^ width)
-
-pub empty_is_none : (width : ℕ) (ds : List ℕ) → length ds ≡ 0 → is_value width ds ≡ false
-empty_is_none width ds e = fails_first (nat_le 1 (length ds)) (nat_le (length ds) 16)
-    (digits_all ds) (fits width ds) (lt-leb 1 (length ds) (omega arith))
-
-pub long_is_none : (width : ℕ) (ds : List ℕ) → 16 < length ds → is_value width ds ≡ false
-long_is_none width ds h = fails_second (nat_le 1 (length ds)) (nat_le (length ds) 16)
-    (digits_all ds) (fits width ds) (lt-leb (length ds) 16 h)
-
-pub other_is_none : (width : ℕ) (ds : List ℕ) (k : ℕ) → k < length ds
-    → 16 ≤ digit_value (get_or ds k 0) → is_value width ds ≡ false
-other_is_none width ds k inside large = fails_third (nat_le 1 (length ds)) (nat_le (length ds) 16)
-    (digits_all ds) (fits width ds) (not_all ds k inside large)
-
-pub wide_is_none : (width : ℕ) (ds : List ℕ) → 2 ^ width ≤ digits_value 16 ds
-    → is_value width ds ≡ false
-wide_is_none width ds h = fails_fourth (nat_le 1 (length ds)) (nat_le (length ds) 16)
-    (digits_all ds) (fits width ds) (le-ltb (digits_value 16 ds) (2 ^ width) h)
 
 pub right_is_one : (width : ℕ) (ds : List ℕ) → 0 < length ds → length ds ≤ 16 → AllDigits 16 ds
     → digits_value 16 ds < 2 ^ width → is_value width ds ≡ true
@@ -113,10 +61,3 @@ whole_is_one width ds k value some few past all is low =
     let more : length ds ≡ 0 → ⊥ = eqb-false (length ds) 0 some in
     right_is_one width ds (omega arith) few (subst (AllDigits 16) whole all)
     (subst (λ v. v < 2 ^ width) same low)
-
-pub whole_is_wide : (width : ℕ) (ds : List ℕ) (k value : ℕ) → length ds ≤ k
-    → value ≡ digits_value 16 (take k ds) → (value < 2 ^ width → ⊥) → is_value width ds ≡ false
-whole_is_wide width ds k value past is wide =
-    let whole : take k ds ≡ ds = take_all k ds past in
-    let same : value ≡ digits_value 16 ds = is ∙ ap (digits_value 16) whole in
-    wide_is_none width ds (omega arith)

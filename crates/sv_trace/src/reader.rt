@@ -174,7 +174,8 @@ impl StimReader {
     /// The inputs' values in the next cycle, in order; None where all cycles that were read have
     /// been taken.
     pub fn next_cycle(&mut self) -> Option<Vec<u64>>
-        ensures none { IsNone result → self.old.said.cycles ≡ [] }
+        ensures none { IsNone result →
+            (self.old.said.cycles ≡ []) × (self.new ≡ self.old) }
         ensures cycle { IfSome result (λ cycle.
             self.old.said.cycles ≡ cycle.items ∷ self.new.said.cycles) }
         ensures same { self.new ≡ record self.old {

@@ -19,6 +19,8 @@ pub(crate) fn elaborated(rt: &impl Input, alloc: Global) -> Result<Flat>
     BufReader::new(alloc, rt.reader())?.read_to_end(&mut bytes)?;
     ensure!(bytes.len() <= 1_048_576, "the text is too long");
     let text = read_text(alloc, &bytes)?;
+    let is_shaped = text.is_shaped();
+    ensure!(is_shaped, "the text has no form");
     let pairs = text
         .lattice
         .as_ref()

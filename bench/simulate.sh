@@ -30,27 +30,25 @@ def chain(size):
 
 
 def branches(size):
-    """One block that gives each signal a value in each branch of a nest of eight."""
+    """One block that gives each signal a value, and then another in each branch of a nest of eight."""
     count = size - 3
     names = [f"r{i}" for i in range(count)]
     yield "module m(input [7:0] a, output [7:0] y);\n  reg [7:0] " + ", ".join(names) + ";\n  always @* begin\n"
+    yield "".join(f"{name} = a;\n" for name in names)
     share = count // 8 + 1
     for depth in range(8):
-        for name in names[depth * share:(depth + 1) * share]:
-            yield f"{name} = a;\n"
-        yield f"if (a[{depth}]) begin\n"
-        for name in names[depth * share:(depth + 1) * share]:
-            yield f"{name} = a + {depth};\n"
-        yield "end else begin\n"
+        inner = names[depth * share:(depth + 1) * share]
+        yield f"if (a[{depth}]) begin\n" + "".join(f"{name} = a + {depth};\n" for name in inner)
+        yield "end else begin\n" + "".join(f"{name} = a - {depth};\n" for name in inner)
     yield "end " * 8 + f"end\n  assign y = r{count - 1};\nendmodule\n"
 
 
 def statements(size):
-    """One block of many statements over few signals: as many as a hundred thousand at the whole of the limit."""
-    yield "module m(input a, output y);\n  reg p, q;\n  always @* begin p=a;q=a;\n"
+    """One block of many statements over two signals: a hundred thousand at the whole of the limit."""
+    yield "module m(input a, b, output y);\n  reg p, q;\n  always @* begin\n"
     for i in range(size * 100000 // SIGNALS):
-        yield "p=q;\n" if i % 2 else "q=p;\n"
-    yield "end\n  assign y = q;\nendmodule\n"
+        yield ("p=a;\n", "q=b;\n", "p=b;\n", "q=a;\n")[i % 4]
+    yield "end\n  assign y = p ^ q;\nendmodule\n"
 
 
 def datapath(size):

@@ -1,0 +1,4 @@
+pub mod Comparisons
+pub mod Forms
+pub mod Progress
+pub mod Sights

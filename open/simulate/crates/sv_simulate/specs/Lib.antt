@@ -1,6 +1,0 @@
-pub mod Traces
-pub mod Simulated
-pub mod SimulatedTexts
-pub mod Runs
-pub mod Runners
-pub mod Progress

@@ -1,5 +1,0 @@
-pub mod ApartFacts
-pub mod LeakFacts
-pub mod PairFacts
-pub mod RunFacts
-pub mod SightFacts

@@ -1,4 +1,0 @@
-pub mod Comparisons
-pub mod Forms
-pub mod Progress
-pub mod Sights

@@ -1,4 +1,8 @@
 //! The program `secv`: the real files and streams, and one call of `run`.
+//!
+//! Takes the words of the system, and gives the exit status of the outcome; promises that it is
+//! that of an outcome that `run` may give over these files (`specs/Ends.antt`). `main` itself has
+//! no contract.
 #![tactic(auto)]
 
 ghost use Rattle.std.specs.Prelude.{◌≡◌, ◌⊎◌};

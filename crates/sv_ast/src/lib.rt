@@ -1,8 +1,17 @@
-//! The trees of source texts, in the form that the grammar gives them.
+//! The trees of source texts, in the form that the grammar gives them, and what texts mean.
 //!
-//! A contract sees a tree by its plain form, as `text_tree` and the other functions of
-//! `specs/Views.antt` give it: lists of bytes stand for names and lists for vectors.
-//! `specs/Shape.antt` says which trees the grammar gives.
+//! Takes nothing: it has the types of trees, their copies, and whether a tree is shaped. Promises
+//! that a copy is equal, that the shape is told exactly, and that a text that means a tree breaks
+//! no rule of syntax. A contract sees a tree by its plain form (`specs/Tree.antt`), as `text_tree`
+//! and the other functions of `Views.antt` give it.
+//!
+//! `Shape.antt` says which trees the grammar gives. What tokens mean, and where they break rules
+//! 201 to 204, is said in `GrammarRules.antt` over the other files of the grammar, and of bytes in
+//! `GrammarMeaning.antt`. What a text means as a cycle system is said in `Meaning.antt`, and with
+//! no value of a clock in `TextSystem.antt`; `Scopes.antt`, `Instances.antt`, `Parts.antt` and
+//! `ClockPaths.antt` say what stands in an instance, `Values.antt`, `Runs.antt` and
+//! `Processes.antt` what it does, `SourceLabels.antt` and `Reach.antt` what its labels are. None is
+//! private.
 #![tactic(auto)]
 
 mod copies;

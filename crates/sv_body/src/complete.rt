@@ -16,7 +16,7 @@ use std::alloc::Global;
 use sv_ast::Expr;
 use sv_num::{BinOp, Bits, Fault, UnOp, extend};
 
-/// The most bits of a selector whose values are counted.
+// The most bits of a selector whose values are counted.
 const MOST_BITS: u8 = 8;
 
 // Whether an expression has only the values of its own bits, also at a greater length: no carry can

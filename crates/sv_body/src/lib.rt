@@ -1,8 +1,13 @@
 //! Statements of a text as flat statements (IEEE 1364-2005, clause 9), or the first rule that they
 //! break.
 //!
-//! A contract speaks of the walk of a statement, which `specs/Statements.antt` of `sv_walk`
-//! defines.
+//! `statement` and `assignment` take a tree of the grammar's shape and a scope, and give the flat
+//! form that the walk gives, sound over the signals of the scope's names; or else the first rule of
+//! 401 to 408 that is broken. A contract speaks of the walk of a statement, which
+//! `specs/Statements.antt`, `Targets.antt` and `CaseChains.antt` of `sv_walk` define.
+//!
+//! The files in `specs/` here are private: they say what the code holds on the way; the meaning
+//! stands in those of `sv_walk`.
 #![tactic(auto)]
 
 mod cases;

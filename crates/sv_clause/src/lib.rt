@@ -1,8 +1,12 @@
 //! Clauses, resolution and logs of resolution, and what they show.
 //!
-//! A contract sees a [`Clause`] as the list of its literals. `specs/` says on plain lists when
-//! values make a clause true, what a resolvent is, when a log refutes clauses, and what unit
-//! resolution reaches; the laws tie them together.
+//! Takes literals for a clause, and two clauses for a resolvent. Gives a clause in normal form, or
+//! the resolvent on the only variable on which the two clash; promises both exactly. A contract
+//! sees a [`Clause`] as the list of its literals.
+//!
+//! On plain lists `specs/Literals.antt` says when values make a clause true, `Resolution.antt` what
+//! a resolvent is, `Logs.antt` when a log refutes clauses, and `Units.antt` what unit resolution
+//! reaches; the laws tie them together. None is private.
 #![tactic(auto)]
 
 mod clause;

@@ -3,6 +3,10 @@
 //! `run` answers as `specs/Answer.antt` says. Where it answers `Done`, no secret reaches a public
 //! signal: any two traces of the text's cycle meaning that look alike to a level have equal views
 //! for it at every cycle.
+//!
+//! `specs/Command.antt` says which words are a command, `Text.antt` what is printed, and
+//! `Rules.antt` what the rules are called. `Report.antt` and `Requests.antt` are private: they say
+//! what the code holds on the way; the meaning stands in the files before.
 #![tactic(auto)]
 
 mod arguments;

@@ -28,7 +28,7 @@ use sv_lattice::{Label, Point};
 use sv_num::{Fault, Name, OutOfMemory, Place};
 use sv_width::{KnownSignal, Meaning, Scope};
 
-/// A label map: its number, and the widths of its ranges.
+// A label map: its number, and the widths of its ranges.
 #[derive(Clone, Copy)]
 struct FoundMap {
     number: u32,

@@ -4,6 +4,10 @@
 //! Each call takes a part of a module and answers as that part of the walk ends: with what it
 //! found, or with the first rule that is broken (`sv_walk`, `specs/Declarations.antt`,
 //! `specs/LabelSteps.antt` and `specs/Overrides.antt`).
+//!
+//! `specs/Sites.antt` says what an instance and its declarations are as the walk has them, and
+//! `Steps.antt` how a call answers. `Ranges.antt`, `Selectors.antt` and `Overridden.antt` are
+//! private: they say how the code goes; the meaning stands in those files of `sv_walk`.
 #![tactic(auto)]
 
 mod declarations;

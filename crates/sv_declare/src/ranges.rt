@@ -16,7 +16,7 @@ use sv_ast::Span;
 use sv_num::{Bits, Fault};
 use sv_width::{Scope, constant, natural, place_of};
 
-/// The most bits that a range gives.
+// The most bits that a range gives.
 const MOST_BITS: u64 = 64;
 
 // The width of the range between two bounds, if they are `m` and 0 with m from 0 to 63.

@@ -17,7 +17,7 @@ use sv_flat::{SigId, SigKind, Signal};
 use sv_lattice::{Label, Point};
 use sv_num::{Fault, Name, OutOfMemory};
 
-/// The most signals that a design has.
+// The most signals that a design has.
 const MOST_SIGNALS: usize = 4096;
 
 // The names of the instances and that of the signal, joined by `.`.

@@ -22,6 +22,7 @@ impl Graph {
     {
         let mut rows = Vec::with_capacity(alloc, count)?;
         for signal in 0..count {
+            // names what the loop's invariant counts by
             let _ = signal;
             rows.push(Vec::new(alloc))?;
         }

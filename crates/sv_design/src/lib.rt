@@ -8,8 +8,8 @@
 //! Promises that each part is its definition in `sv_flat` (`Admission`, `Assignments`, `Clocks`,
 //! `Drivers`, `Blocks`, `Loops`, `Processes`, `Reads`, `SignalLists`), and that what is found first
 //! is the first by number, then place, then signal (`First`, `Circles`, `Faults`). A contract sees
-//! an admitted design as the flat design that was admitted: `Designs` says what holds of it, and
-//! `Tables` what its lists are.
+//! an admitted design as the flat design that was admitted: `Designs` says what holds of it,
+//! `Tables` what its lists are, and `Numbers` has the words for signals by their numbers.
 //!
 //! Private to the crate, for the contracts of its parts: `BitSets`, `ClockTables`, `Depths`,
 //! `DriverTables`, `Feeds`, `Graphs`, `Links`, `Marks`, `Nests`, `Orders`, `Phases`, `Queues`,

@@ -35,7 +35,7 @@ use sv_flat::Process;
 use sv_num::{Fault, Name};
 use sv_width::Scope;
 
-/// The most instances that a text has, the top among them.
+// The most instances that a text has, the top among them.
 const MOST_INSTANCES: u32 = 1024;
 
 /// An instance from inside: what its declarations stand for, and the names of the instances in it

@@ -20,7 +20,7 @@ use sv_ast::{LatticeText, Text};
 use sv_lattice::{Lattice, LatticeFault, Point};
 use sv_num::{Fault, Name, OutOfMemory, Place};
 
-/// The most points that a lattice has.
+// The most points that a lattice has.
 const MOST_POINTS: usize = 32;
 
 /// The points of a lattice by name, with the lattice. A contract sees the names by number, and the

@@ -30,13 +30,13 @@ use sv_num::{Bits, Fault, Name, OutOfMemory, Place};
 use sv_token::Lit;
 use sv_width::natural;
 
-/// The most bits that the ranges of a map have in all.
+// The most bits that the ranges of a map have in all.
 const MOST_BITS: u8 = 8;
 
 // A row of a map, as its tree has it.
 type Row = (Lit, Place, Option<(Lit, Place)>, Name);
 
-/// The widths of a map's ranges.
+// The widths of a map's ranges.
 #[derive(Clone, Copy)]
 struct Ranges {
     first: u8,

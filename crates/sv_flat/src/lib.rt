@@ -1,7 +1,19 @@
 //! Flat designs: the signals and processes of a whole instance tree, by number, with typed
 //! expressions.
 //!
-//! A contract sees a design by its plain form, as `design_of` of `specs/Views.antt` gives it.
+//! Takes nothing: it has the types of a flat design, the value of a typed expression, a run of a
+//! body, and whether a design is sound. Promises that each is its definition, that a copy is equal,
+//! and that each combinational process of a sound and admitted design changes its own targets
+//! alone, by what lies lower. A contract sees a design by its plain form (`specs/Design.antt`), as
+//! `design_of` of `Views.antt` gives it.
+//!
+//! `Soundness.antt` says which designs are sound, `Values.antt` and `Runs.antt` what expressions
+//! and bodies do, `FlatSystem.antt` what a design means, and `Schedules.antt` in which orders its
+//! processes may run. `Admission.antt` says which designs have a meaning, by rules that
+//! `Assignments.antt`, `Clocks.antt`, `Drivers.antt`, `Blocks.antt` and `Loops.antt` define, in the
+//! order of `Breaches.antt`; `Assigned.antt`, `Readings.antt`, `Reads.antt`, `Processes.antt` and
+//! `SignalLists.antt` say what a design assigns, reads and lists. `Sets.antt` and `ByNumber.antt`
+//! have words for these. None is private.
 #![tactic(auto)]
 
 mod bits;

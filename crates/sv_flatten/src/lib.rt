@@ -2,7 +2,10 @@
 //! does to the signals of a design what its source does to those of an instance, and the cycle
 //! systems of both are the same under other names of signals. The design is sound.
 //!
-//! This crate has definitions and laws on them, no program.
+//! This crate has definitions and laws on them, no program; the crates above import the laws.
+//! `specs/FlattenedTexts.antt` says which texts the laws speak of, `Numbering.antt` when names of
+//! an instance have numbers of their own, `Numbers.antt` when numbers fit, and `SameStates.antt`
+//! when two states of a run are the same. None is private.
 #![tactic(auto)]
 
 mod bodies;

@@ -1,7 +1,14 @@
 //! Tokens: what a text is made of, without its blanks, comments and skipped lines.
 //!
-//! A token is plain data: its kind, the bytes that it spans and its place. What bytes are which
-//! tokens, and where a text breaks a lexical rule, is said in `specs/`; `lex` reads them.
+//! `lex` takes the bytes of a text. It gives the tokens, each as plain data: its kind, the bytes
+//! that it spans and its place; or the first place where the text breaks a rule on tokens, with the
+//! rule and its word. Promises that each text has one such list or one such place, never both, and
+//! that this is it.
+//!
+//! `specs/Tokens.antt` says what tokens a text has and where it breaks a rule, over `Bytes.antt`,
+//! `Fronts.antt`, `Gaps.antt`, `Words.antt`, `Numerals.antt` and `Signs.antt`; `Lexemes.antt` is
+//! how definitions see a token, and `Spans.antt` where tokens stand. `Lexed.antt` and `Views.antt`
+//! are private: they say how the code goes; the meaning stands in the files before.
 #![tactic(auto)]
 
 mod bytes;

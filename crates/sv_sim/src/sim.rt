@@ -1,7 +1,7 @@
 // Simulations.
 ghost use Rattle.std.specs.Prelude.{◌≡◌, ◌↔◌, ℕ, IsTrue, IsFalse, IfOk, Contains, length};
 ghost use Rattle.std.specs.Prelude.{replicate};
-ghost use Rattle.sv_flat.specs.ByNumber.{by_number};
+ghost use Rattle.sv_flat.specs.ByNumber.{by_number, FitSignals};
 ghost use Rattle.sv_flat.specs.Clocks.{is_clock};
 ghost use Rattle.sv_flat.specs.FlatSystem.{flat_system};
 ghost use Rattle.sv_flat.specs.SignalLists.{seen, inputs as inputs_of, registers};
@@ -173,6 +173,7 @@ impl<'a> Sim<'a> {
         requires { IsTrue self.now.is_settled }
         ensures values { result.now ≡ self.now.values }
         ensures count { length result.now ≡ length self.now.design.signals.items }
+        ensures fit { FitSignals (design_of self.now.design).signals result.now }
         ensures clocks { (s : ℕ) → IsTrue (is_clock (design_of self.now.design) s) →
             by_number result.now s ≡ 0 }
     {

@@ -38,23 +38,13 @@ pub fn sound(flat: &Flat) -> bool
 fn are_maps_sound(flat: &Flat) -> bool
     ensures { result ≡ list_all (map_sound (design_of flat.now)) flat.now.maps.items }
 {
-    for map in &flat.maps {
-        if !are_points(map.rows(), flat) {
-            return false;
-        }
-    }
-    true
+    flat.maps.iter().all(|map| are_points(map.rows(), flat))
 }
 
 fn are_points(points: &[Point], flat: &Flat) -> bool
     ensures { result ≡ list_all (is_point (design_of flat.now)) points.now }
 {
-    for point in points {
-        if !is_point(*point, flat) {
-            return false;
-        }
-    }
-    true
+    points.iter().all(|point| is_point(*point, flat))
 }
 
 fn is_point(point: Point, flat: &Flat) -> bool
@@ -67,12 +57,9 @@ fn are_signals_sound(flat: &Flat) -> bool
     ensures { result ≡ list_all (signal_sound (design_of flat.now))
         (signal_forms flat.now.signals.items) }
 {
-    for signal in &flat.signals {
-        if !is_signal_sound(signal, flat) {
-            return false;
-        }
-    }
-    true
+    flat.signals
+        .iter()
+        .all(|signal| is_signal_sound(signal, flat))
 }
 
 fn is_signal_sound(signal: &Signal, flat: &Flat) -> bool
@@ -118,12 +105,9 @@ fn are_processes_sound(flat: &Flat) -> bool
     ensures { result ≡ list_all (process_sound (design_of flat.now))
         (map process_form flat.now.processes.items) }
 {
-    for process in &flat.processes {
-        if !is_process_sound(process, flat) {
-            return false;
-        }
-    }
-    true
+    flat.processes
+        .iter()
+        .all(|process| is_process_sound(process, flat))
 }
 
 fn is_process_sound(process: &Process, flat: &Flat) -> bool
@@ -165,12 +149,7 @@ fn is_one_assignment(body: &FStmt, signals: &[Signal]) -> bool
 fn are_whole(pieces: &[Piece], signals: &[Signal]) -> bool
     ensures { result ≡ list_all (is_whole (signal_forms signals.now)) (map piece_form pieces.now) }
 {
-    for piece in pieces {
-        if !is_whole(piece, signals) {
-            return false;
-        }
-    }
-    true
+    pieces.iter().all(|piece| is_whole(piece, signals))
 }
 
 fn is_whole(piece: &Piece, signals: &[Signal]) -> bool
@@ -193,12 +172,9 @@ fn are_invariants_sound(flat: &Flat) -> bool
     ensures { result ≡ list_all (invariant_sound (design_of flat.now))
         (map invariant_form flat.now.invariants.items) }
 {
-    for (_, expression) in &flat.invariants {
-        if !well_formed(expression, &flat.signals) {
-            return false;
-        }
-    }
-    true
+    flat.invariants
+        .iter()
+        .all(|(_, expression)| well_formed(expression, &flat.signals))
 }
 
 // The statements after a condition are looked at one arm in the other, the last arm without a call:
@@ -241,12 +217,9 @@ fn do_pieces_fit(pieces: &[Piece], value: &FExpr, signals: &[Signal]) -> bool
     ensures { result ≡ list_all (piece_fits (signal_forms signals.now) (typed_tree value.now))
         (map piece_form pieces.now) }
 {
-    for piece in pieces {
-        if !does_piece_fit(piece, value, signals) {
-            return false;
-        }
-    }
-    true
+    pieces
+        .iter()
+        .all(|piece| does_piece_fit(piece, value, signals))
 }
 
 fn does_piece_fit(piece: &Piece, value: &FExpr, signals: &[Signal]) -> bool

@@ -283,22 +283,12 @@ impl Shaped for Memory {
 pub(crate) fn are_header_params(params: &[Param]) -> bool
     ensures { result ≡ are_header_parameters (map parameter_tree params.now) }
 {
-    for param in params {
-        if param.local {
-            return false;
-        }
-    }
-    true
+    params.iter().all(|param| !param.local)
 }
 
 /// Whether they can be the ports of a module: each is an input or an output, without a value.
 pub(crate) fn are_ports(decls: &[Decl]) -> bool
     ensures { result ≡ are_ports (map declaration_tree decls.now) }
 {
-    for decl in decls {
-        if !decl.is_port() {
-            return false;
-        }
-    }
-    true
+    decls.iter().all(|decl| decl.is_port())
 }

@@ -39,11 +39,6 @@ impl<T: Shaped> Shaped for Vec<T> {
     ghost shaped = { list_all T.shaped };
 
     fn is_shaped(&self) -> bool {
-        for item in self {
-            if !item.is_shaped() {
-                return false;
-            }
-        }
-        true
+        self.iter().all(|item| item.is_shaped())
     }
 }

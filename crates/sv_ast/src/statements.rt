@@ -127,23 +127,15 @@ impl Stmt {
                 place,
                 cond,
                 yes,
-                no: None,
+                no,
             } => Ok(Stmt::If {
                 place: *place,
                 cond: cond.copy(alloc)?,
                 yes: boxed(yes, alloc)?,
-                no: None,
-            }),
-            Stmt::If {
-                place,
-                cond,
-                yes,
-                no: Some(no),
-            } => Ok(Stmt::If {
-                place: *place,
-                cond: cond.copy(alloc)?,
-                yes: boxed(yes, alloc)?,
-                no: Some(boxed(no, alloc)?),
+                no: match no {
+                    Some(no) => Some(boxed(no, alloc)?),
+                    None => None,
+                },
             }),
             Stmt::Case {
                 place,
@@ -269,12 +261,7 @@ pub(crate) fn are_whole_targets(targets: &[Target]) -> bool
 fn are_whole(targets: &[Target]) -> bool
     ensures { result ≡ list_all is_whole_target (map target_tree targets.now) }
 {
-    for target in targets {
-        if !target.select.is_whole() {
-            return false;
-        }
-    }
-    true
+    targets.iter().all(|target| target.select.is_whole())
 }
 
 impl Stmt {

@@ -13,6 +13,7 @@ pub mod PathLists
 pub mod PathNames
 pub mod PathRuns
 pub mod PathTells
+pub mod PieceFacts
 pub mod PutAlone
 pub mod PutFacts
 pub mod ReadFacts

@@ -100,10 +100,5 @@ fn is_large(trail: &Trail) -> bool
 pub fn some_large(trails: &[Trail]) -> bool
     ensures { result ≡ list_any is_large (routes_of trails.now) }
 {
-    for trail in trails {
-        if is_large(trail) {
-            return true;
-        }
-    }
-    false
+    trails.iter().any(is_large)
 }

@@ -27,37 +27,26 @@ pub fn covers(signals: &[Signal], target: SigId, pieces: &[Piece]) -> bool
     requires { target.0 < length signals.now }
     ensures { result ≡ covers (signal_forms signals.now) target.0 (piece_forms pieces.now) }
 {
-    for piece in pieces {
-        if piece.signal == target && is_whole(signals, piece) {
-            return true;
-        }
-    }
-    false
+    pieces
+        .iter()
+        .any(|piece| piece.signal == target && is_whole(signals, piece))
 }
 
 /// How many of the pieces are bits of the target.
 pub fn count_of(target: SigId, pieces: &[Piece]) -> usize
     ensures { result ≡ length (pieces_of target.0 (piece_forms pieces.now)) }
 {
-    let mut count = 0;
-    for piece in pieces {
-        if piece.signal == target {
-            count += 1;
-        }
-    }
-    count
+    pieces.iter().filter(|piece| piece.signal == target).count()
 }
 
 /// The place of the first piece that is bits of the target, where there is one.
 pub fn first_place(target: SigId, pieces: &[Piece]) -> Option<Place>
     ensures { result ≡ first_place target.0 (piece_forms pieces.now) }
 {
-    for piece in pieces {
-        if piece.signal == target {
-            return Some(piece.place);
-        }
-    }
-    None
+    pieces
+        .iter()
+        .find(|piece| piece.signal == target)
+        .map(|piece| piece.place)
 }
 
 /// Whether some piece is bits of the target.
@@ -65,10 +54,5 @@ pub fn is_some_of(target: SigId, pieces: &[Piece]) -> bool
     ensures { result ≡ list_any (λ (piece : PieceForm).
         piece.signal == target.0) (piece_forms pieces.now) }
 {
-    for piece in pieces {
-        if piece.signal == target {
-            return true;
-        }
-    }
-    false
+    pieces.iter().any(|piece| piece.signal == target)
 }

@@ -26,12 +26,7 @@ fn flows_to_rows(lattice: &Lattice, point: Point, rows: &[Point]) -> bool
     ensures { result ≡
         list_all (λ (row : Point). flow_test lattice.now point.0 row.0) rows.now }
 {
-    for row in rows {
-        if !lattice.flows(point, *row) {
-            return false;
-        }
-    }
-    true
+    rows.iter().all(|row| lattice.flows(point, *row))
 }
 
 // Whether the label is a point that flows to every row of the map.

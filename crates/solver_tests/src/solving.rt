@@ -23,10 +23,10 @@ fn clauses_of(alloc: Global, variables: u32, lists: &[&[i32]]) -> Result<Vec<Cla
     Ok(clauses)
 }
 
-// How many of the values are true, if any were found.
-fn found(answer: &Solved) -> Option<usize> {
+// The values, if any were found.
+fn found(answer: &Solved) -> Option<&[bool]> {
     match answer {
-        Solved::Found(values) => Some(values.iter().filter(|value| **value).count()),
+        Solved::Found(values) => Some(values.as_slice()),
         _ => None,
     }
 }
@@ -53,7 +53,7 @@ fn finds_and_refutes(rt: HostRuntime) -> Result<(), Fail> {
     let alloc = rt.alloc();
     let three = clauses_of(alloc, 2, &[&[1, 2], &[-1, 2], &[1, -2]])?;
     let answer = solve(alloc, 2, &three, 5)?;
-    assert_eq!(rt; found(&answer), Some(2));
+    assert_eq!(rt; found(&answer), Some([true, true].as_slice()));
     let four = clauses_of(alloc, 2, &[&[1, 2], &[-1, 2], &[1, -2], &[-1, -2]])?;
     let answer = solve(alloc, 2, &four, 5)?;
     assert_eq!(rt; refuted(&answer), Some(2));
@@ -65,7 +65,7 @@ fn decides_without_a_decision(rt: HostRuntime) -> Result<(), Fail> {
     let alloc = rt.alloc();
     let none = clauses_of(alloc, 0, &[])?;
     let answer = solve(alloc, 0, &none, 1)?;
-    assert_eq!(rt; found(&answer), Some(0));
+    assert_eq!(rt; found(&answer), Some([].as_slice()));
     let empty = clauses_of(alloc, 0, &[&[]])?;
     let answer = solve(alloc, 0, &empty, 1)?;
     assert_eq!(rt; refuted(&answer), Some(1));

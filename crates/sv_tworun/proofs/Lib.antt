@@ -1,0 +1,9 @@
+pub mod ApartFacts
+pub mod DifferenceFacts
+pub mod LeakFacts
+pub mod OneFinding
+pub mod PairFacts
+pub mod RunFacts
+pub mod SightFacts
+pub mod StimFacts
+pub mod TraceFacts

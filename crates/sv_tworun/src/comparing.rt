@@ -1,0 +1,56 @@
+// Two runs side by side.
+ghost use Rattle.std.specs.Prelude.{[], ◌<◌, length, IfOk};
+ghost use Rattle.sv_flat.specs.Views.{design_of};
+ghost use Rattle.sv_obl.specs.Noninterference.{IsChecked};
+ghost use Rattle.sv_obl.specs.Validity.{AllValid};
+ghost use Rattle.sv_tworun.specs.Comparisons.{IsComparison, FindsNoLeak};
+ghost use Rattle.sv_tworun.specs.Forms.{run_of, FitsRun};
+
+use crate::compared::Compared;
+use crate::differences::difference;
+use std::alloc::{AllocError, Global};
+use sv_design::Design;
+use sv_lattice::Point;
+use sv_sim::Sim;
+use sv_trace::Stim;
+
+/// Runs the design on both stimuli, cycle by cycle, and finds the first cycle at which the level
+/// sees two things, and the signal that shows it; where there is none, whether one run is longer.
+/// It fails where memory runs out.
+///
+/// Where one stimulus has no cycle, the registers are not compared.
+pub fn compare(
+    alloc: Global,
+    design: &Design,
+    level: Point,
+    a: &Stim,
+    b: &Stim,
+) -> Result<Compared, AllocError>
+    requires level { level.0 < length design.now.lattice }
+    requires first { FitsRun (design_of design.now) (run_of a.now) }
+    requires second { FitsRun (design_of design.now) (run_of b.now) }
+    ensures comparison { IfOk result (IsComparison (design_of design.now) level (run_of a.now)
+        (run_of b.now)) }
+    ensures no_leak { IsChecked (design_of design.now) → AllValid [] (design_of design.now)
+        → IfOk result FindsNoLeak }
+{
+    let mut one = Sim::new(alloc, design)?;
+    let mut other = Sim::new(alloc, design)?;
+    one.load(&a.start);
+    other.load(&b.start);
+    let count = a.cycles.len().min(b.cycles.len());
+    for cycle in 0..count {
+        one.settle(&a.cycles[cycle]);
+        other.settle(&b.cycles[cycle]);
+        let found = difference(design, level, cycle as u64, one.values(), other.values());
+        if let Some(difference) = found {
+            return Ok(difference);
+        }
+        one.tick();
+        other.tick();
+    }
+    if a.cycles.len() != b.cycles.len() {
+        return Ok(Compared::LengthsDiffer(count as u64));
+    }
+    Ok(Compared::Equal(count as u64))
+}

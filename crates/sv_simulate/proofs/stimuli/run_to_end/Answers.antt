@@ -1,0 +1,31 @@
+use Rattle.sv_simulate.proofs.WholeRuns.{stops_run, front_run, whole_run}
+use Rattle.sv_simulate.proofs.stimuli.run_to_end.Goals as goal
+
+pub returns-in_err-ending-clause-runs : goal.returns-in_err-ending-clause-runs
+returns-in_err-ending-clause-runs g c =
+    stops_run g.S.Source.tells (g.S.Source.given c.args.input.now)
+    (g.S.Source.given c.read_all.new.input) (g.S.Source.left c.args.input.now)
+    (g.S.Source.left c.read_all.new.input) (g.K.Sink.accepted c.args.out.now)
+    c.args.simulation.now (g.K.Sink.accepted c.read_all.new.out) c.from_residual.result _
+    c.from_residual.ensures.1 c.in_err-ending.ensures.stops c.in_err-ending.ensures.prompt
+
+pub returns-in_err-put_last_line-clause-runs : goal.returns-in_err-put_last_line-clause-runs
+returns-in_err-put_last_line-clause-runs g c =
+    front_run g.S.Source.tells (g.S.Source.given c.args.input.now)
+    (g.S.Source.given c.read_all.new.input) (g.S.Source.left c.args.input.now)
+    (g.S.Source.left c.read_all.new.input) (g.K.Sink.accepted c.args.out.now)
+    c.args.simulation.now c.read_all.new.simulation (g.K.Sink.accepted c.read_all.new.out)
+    (g.K.Sink.accepted c.put_last_line.new.out) c.rounds.result c.in_ok-ending.ending
+    c.from_residual-in_err-put_last_line.result _ c.from_residual-in_err-put_last_line.ensures.1
+    c.read_all.ensures.same c.in_ok-ending.ensures.ends c.rounds.ensures
+    c.in_err-put_last_line.ensures.refused c.in_err-put_last_line.ensures.read
+
+pub returns-clause-runs : goal.returns-clause-runs
+returns-clause-runs g c =
+    whole_run g.S.Source.tells (g.S.Source.given c.args.input.now)
+    (g.S.Source.given c.read_all.new.input) (g.S.Source.left c.args.input.now)
+    (g.S.Source.left c.read_all.new.input) (g.K.Sink.accepted c.args.out.now)
+    c.args.simulation.now c.read_all.new.simulation (g.K.Sink.accepted c.read_all.new.out)
+    (g.K.Sink.accepted c.put_last_line.new.out) c.rounds.result c.in_ok-ending.ending
+    c.read_all.ensures.same c.in_ok-ending.ensures.ends c.rounds.ensures
+    c.in_ok-put_last_line.ensures.whole

@@ -1,0 +1,23 @@
+//! What `sim` writes of a design for a stimulus.
+//!
+//! Takes an admitted design (`sv_design`), a source that gives the stimulus and a sink (`sv_io`).
+//! [`simulate`] takes the stimulus in pieces, reads it (`sv_trace`), runs its cycles (`sv_sim`, or
+//! `sv_event` where an order is asked for), and writes each cycle's line before it takes more.
+//!
+//! Promises that what is written is the trace of the stimulus, and then why it ends: by
+//! `specs/Simulated.antt` over a flat design, whose traces and lines stand in `Traces.antt` for
+//! every kind of signal name. `Runs.antt` is
+//! private: it has the words for how far a simulation has come.
+#![tactic(auto)]
+
+mod endings;
+mod laws;
+mod lines;
+mod runners;
+mod simulations;
+mod stimuli;
+
+pub use endings::{Ending, SimFault};
+pub use laws::each_stimulus_has_one_text;
+pub use std::alloc::AllocError as OutOfMemory;
+pub use stimuli::simulate;

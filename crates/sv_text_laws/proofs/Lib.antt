@@ -6,6 +6,10 @@ pub mod FineForms
 pub mod FineStatements
 pub mod FineTexts
 pub mod TextLaws
+mod SameSimulations
+mod DesignForms
+mod TextNames
+pub mod TextSimulations
 mod TypedSizes
 mod SizeExamples
 mod PlainSignals

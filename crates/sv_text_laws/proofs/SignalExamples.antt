@@ -1,7 +1,8 @@
--- The signals of a small text, and the table of a small map.
+-- The signals of a small text, the table of a small map, and what a stimulus asks of the text.
 use Rattle.std.proofs.Common.{◌≡◌, [], ◌∷◌, Some, None, map, refl}
 use Rattle.std.specs.Prelude.{codes}
 use Rattle.sv_lattice.specs.declared.labels.Label.TheVariants as label
+use Rattle.sv_ast.specs.Meaning.{system}
 use Rattle.sv_ast.specs.Tree.{TextTree}
 use Rattle.sv_ast.specs.Parts.{Part, part_with, parts_from, signal_path}
 use Rattle.sv_ast.specs.Values.{length_of, sign_of, value}
@@ -11,6 +12,7 @@ use Rattle.sv_walk.proofs.SmallTexts.{no_links, stands, module_of, text_of, map_
 use Rattle.sv_walk.proofs.SmallTexts.{table_of, point_of}
 use Rattle.sv_text_laws.specs.LabelRows.{selector_width}
 use Rattle.sv_text_laws.specs.Signals.{text_signals, dotted, signal_kind, IsLabel}
+use Rattle.sv_text_laws.specs.SimulatedTexts.{level_asked_of, text_form}
 
 -- module m(input a); wire w; s u(); endmodule module s(input a, output b); endmodule
 abbrev small : TextTree
@@ -58,3 +60,13 @@ a_point_has_its_number = refl
 pub four_bits : selector_width (span (decimal 3 1) (decimal 0 3)) ≡ 4
 unfolding length_of sign_of value
 four_bits = refl
+
+pub a_point_is_shown : level_asked_of small (Some (codes "H")) ≡ Some (Some (codes "H"))
+a_point_is_shown = refl
+
+pub another_name_is_refused : level_asked_of small (Some (codes "M")) ≡ None
+another_name_is_refused = refl
+
+pub inputs_of_the_top_are_given : (text_form small None).header ≡ codes "inputs a"
+unfolding parts_from system
+inputs_of_the_top_are_given = refl

@@ -1,3 +1,4 @@
 pub mod Sizes
 pub mod Signals
 pub mod LabelRows
+pub mod SimulatedTexts

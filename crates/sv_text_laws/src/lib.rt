@@ -2,8 +2,12 @@
 //! each list of inputs, and no level learns more of it than it may (SecVerilog, ASPLOS 2015).
 //!
 //! Takes what the bytes of a text mean (`sv_ast`), the flat design that it stands for (`sv_walk`),
-//! that the design is sound and does what the text means (`sv_flatten`), its one trace (`sv_sim`)
-//! and its obligations (`sv_obl`). This crate has laws, no program.
+//! that the design is sound and does what the text means (`sv_flatten`), its one trace (`sv_sim`),
+//! its obligations (`sv_obl`), and what is written of it for a stimulus (`sv_simulate`). This crate
+//! has laws, no program.
+//!
+//! What is written of the flat design for a stimulus is what is written of the text, by the text's
+//! own cycle meaning (`specs/SimulatedTexts.antt`).
 //!
 //! Of the way from bytes to the flat design it says besides that bytes mean one text, that typed
 //! expressions are no larger than their sources (`specs/Sizes.antt`), and that the signals of the
@@ -12,6 +16,7 @@
 
 mod meanings;
 mod signals;
+mod simulated;
 mod sizes;
 
 ghost use Rattle.std.specs.Prelude.{◌≡◌, ℕ, List, [], Option, Some, All};
@@ -29,6 +34,7 @@ ghost use Rattle.sv_obl.specs.Validity.{AllValid};
 
 pub use meanings::bytes_mean_at_most_one_text;
 pub use signals::flat_signals_are_those_declared;
+pub use simulated::{designs_are_written_as_their_texts, each_stimulus_of_a_text_has_one_text};
 pub use sizes::typed_expressions_are_no_larger;
 
 /// The flat design that a text stands for has a lattice of 1 to 32 points: no two different ones

@@ -36,13 +36,28 @@ HELP = b"""secv checks designs in SecVerilog: Verilog in which every signal has 
 usage:
   secv check FILE [--top MODULE]    say whether a secret can reach a public signal
   secv list FILE [--top MODULE]     list the obligations of a design, a line each
+  secv sim FILE [--level POINT] [--order NUMBER] [--top MODULE]
+                                    simulate a design on the stimulus of standard input
+  secv COMMAND --help               say more of one command
   secv --help, -h                   print this text
   secv --version                    print the version
 
-exit status: 0 accepted or listed, 1 refused, 2 wrong words, 4 unreadable file,
-             5 unwritable output, 6 out of memory
+exit status: 0 accepted, listed or simulated, 1 refused, 2 wrong words,
+             4 unreadable file or input, 5 unwritable output, 6 out of memory
 """
-USAGE = "; usage: secv COMMAND FILE [--top MODULE] (`secv --help` says more)"
+SIM_HELP = b"""Simulate a design on the inputs that standard input gives, cycle by cycle
+
+Usage: secv sim [OPTIONS] <FILE>
+
+Arguments:
+  <FILE>  The file of the design
+
+Options:
+      --level <POINT>   Show only the signals whose labels flow to this point
+      --order <NUMBER>  Run the processes in the order of this number
+      --top <MODULE>    The module to take as the top
+"""
+USAGE = "; usage: secv COMMAND FILE [OPTIONS] (`secv --help` says more)"
 # Texts, the option that `list` gets, and what it prints. A case of 256 arms, with 16 paths each and one more in the last, has a path too many.
 MANY = "module m(input [7:0] s, input [15:0] t, output reg y); always @* case (s) " + "".join(
     f"{arm}: y = {''.join(f't[{bit}] ? 1 : ' for bit in range(15))}{'t[15] ? 1 : 0' if arm == 255 else '0'}; " for arm in range(256)) + "endcase endmodule\n"
@@ -53,9 +68,8 @@ STATUS = {"accepted": 0, "refused": 1, "usage": 2, "unknown": 3}
 passed = failed = 0
 
 
-def run(words, stdout=subprocess.PIPE, before=None):
-    return subprocess.run([SECV, *words], cwd=TOP, stdin=subprocess.DEVNULL, stdout=stdout, stderr=subprocess.PIPE,
-                          preexec_fn=before)
+def run(words, stdout=subprocess.PIPE, before=None, given=b""):
+    return subprocess.run([SECV, *words], cwd=TOP, input=given, stdout=stdout, stderr=subprocess.PIPE, preexec_fn=before)
 
 
 def compare(what, got, wanted):
@@ -87,13 +101,19 @@ def examples():
 
 
 def shown_in_readme():
-    """The commands of README's console blocks: a line '$ ./secv WORDS' and the lines up to the next one or the block's end."""
+    """The commands of README's console blocks: a line '$ ./secv WORDS', with '< FILE' behind it or not, and the lines up to the next one or the block's end."""
     with open(os.path.join(TOP, "README.md"), encoding="utf-8") as file:
         text = file.read()
     shown = 0
     for block in re.findall(r"^```console\n(.*?)^```$", text, re.M | re.S):
         for words, wanted in re.findall(r"^\$ \./secv ([^\n]*)\n((?:[^$\n][^\n]*\n)*)", block, re.M):
-            answer = run(words.split())
+            command, _, path = words.partition(" < ")
+            given = b""
+            if path:
+                with open(os.path.join(TOP, path), "rb") as file:
+                    given = file.read()
+                compare(f"README shows {path}", f"```\n{given.decode()}```\n" in text, True)
+            answer = run(command.split(), given=given)
             compare(f"README: secv {words}", (answer.stdout, answer.returncode), (wanted.encode(), status_of(wanted.encode())))
             shown += 1
     compare("README shows commands", shown > 0, True)
@@ -105,12 +125,18 @@ def words_and_faults():
         compare(word, (answer.stdout, answer.stderr, answer.returncode), (HELP, b"", 0))
     version = run(["--version"])
     compare("--version", (version.stdout, version.returncode), (b"secv 0.1.0\n", 0))
-    wrong = "`check` takes one FILE and at most one `--top MODULE`; usage: secv check FILE [--top MODULE] (`secv --help` says more)"
+    answer = run(["sim", "--help"])
+    compare("sim --help", (answer.stdout, answer.stderr, answer.returncode), (SIM_HELP, b"", 0))
+    for word in ("check", "list"):
+        answer = run([word, "--help"])
+        compare(f"{word} --help", (answer.stdout.count(f"Usage: secv {word} [OPTIONS] <FILE>\n".encode()), answer.stderr, answer.returncode), (1, b"", 0))
+    wrong = "`check` does not take these words; `secv check --help` shows those that it takes"
     for words, kind, said in [([], "no-command", "no command is given" + USAGE),
                               (["chekc", "f"], "unknown-command", "there is no command chekc; `secv --help` shows all"),
                               (["--help", "more"], "unknown-command", "there is no command --help; `secv --help` shows all"),
                               (["check"], "words", wrong), (["check", "--f"], "words", wrong), (["check", "f", "g"], "words", wrong),
                               (["check", "f", "--top"], "words", wrong), (["check", "--top", "a", "f", "--top", "b"], "words", wrong),
+                              (["check", "f", "--help"], "words", wrong), (["check", "-h"], "words", wrong), (["sim", "f", "--order", "18446744073709551616"], "words", wrong.replace("check", "sim")),
                               (["list"], "words", wrong.replace("check", "list")), ([b"\xff"], "words", "an argument is not UTF-8" + USAGE)]:
         answer = run(words)
         compare(f"words {words}", (answer.stdout, answer.returncode), (f"usage {kind}\n".encode(), 2))
@@ -174,6 +200,34 @@ def lists():
             compare("list to a full device", run(["list", path], stdout=full).returncode, 5)
 
 
+def simulations():
+    """The examples of docs/formats.md, what stops a simulation, and what a user sees of it line by line."""
+    with open(os.path.join(TOP, "docs", "formats.md"), encoding="utf-8") as file:
+        text = file.read().partition("\n# Stimulus and trace\n")[2]
+    design, stimulus, trace, public, refused = re.findall(r"^```(?:verilog)?\n(.*?)^```$", text, re.M | re.S)
+    wrong = stimulus.replace("0 F", "0 10")
+    with tempfile.TemporaryDirectory() as folder:
+        path = os.path.join(folder, "text.v")
+        with open(path, "w", encoding="ascii") as file:
+            file.write(design)
+        for words, given, wanted, status in [([], stimulus, trace, 0), (["--level", "L"], stimulus, public, 0), (["--level=H", "--top=m"], stimulus, trace, 0),
+                                             (["--order", "7"], stimulus, trace + "rounds 3\n", 0), (["--order", "7"], "inputs en d\n", "rounds 0\n", 0),
+                                             ([], wrong, trace.split("\n")[0] + "\n" + refused, 1), (["--level", "Q"], wrong, "refused 707 level\n", 1),
+                                             ([], "start q 9\n", "refused stimulus input 2 header\n", 1), (["--top", "n"], wrong, "refused 310 no-top 1:1\n", 1)]:
+            answer = run(["sim", path, *words], given=given.encode())
+            compare(f"sim {words} {given!r}", (answer.stdout, answer.stderr, answer.returncode), (wanted.encode(), b"", status))
+        with open("/dev/full", "wb") as full:
+            compare("sim to a full device", run(["sim", path], stdout=full, given=stimulus.encode()).returncode, 5)
+        answer = run(["sim", path], before=lambda: os.close(0))
+        compare("sim without an input", (answer.stdout, answer.stderr, answer.returncode), (b"", b"secv: the input could not be read\n", 4))
+        program = subprocess.Popen([SECV, "sim", path], stdin=subprocess.PIPE, stdout=subprocess.PIPE)
+        program.stdin.write(b"inputs en d\n1 3\n")
+        program.stdin.flush()
+        compare("a cycle's line comes before the next one is read", program.stdout.readline(), b"0 en=1 d=3 q=0 s=0 n=1\n")
+        program.stdin.close()
+        compare("the end of the stimulus", (program.stdout.read(), program.wait()), (b"", 0))
+
+
 def rules(title, least):
     """The texts of a table of rules in docs/language.md, each with what is printed for it."""
     with open(os.path.join(TOP, "docs", "language.md"), encoding="utf-8") as file:
@@ -198,6 +252,7 @@ def main():
     shown_in_readme()
     words_and_faults()
     lists()
+    simulations()
     rules("Elaboration", 25)
     rules("Admission", 7)
     print(f"{passed} passed, {failed} failed")

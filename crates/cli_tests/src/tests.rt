@@ -3,7 +3,7 @@ use std::alloc::{AllocError, Global};
 use std::test::Fail;
 use sv_ast::{Expr, Item, Stmt, Text};
 use sv_cli::run;
-use sv_io::{MemCabinet, MemSink, SureSource};
+use sv_io::{MemCabinet, MemSink, MemSource};
 use sv_num::BinOp;
 use sv_parse::read_text;
 
@@ -42,13 +42,42 @@ const TURN_LIST: &str = "1 y now +3:19 =3:10 reads turn b\n2 y now -3:19 =3:10 r
 
 const SUM: &str = "module m(input a, output y); assign y = a + a; endmodule\n";
 
-// The status and all that was written for words that one blank parts, where `f` holds the text.
+const COUNTER: &str = "module m(input clk, input en, input [3:0] {H} d,
+  output reg [3:0] q, output reg [3:0] {H} s);
+  wire [3:0] n = q + 1;
+  always @(posedge clk) if (en) q <= n;
+  always @(posedge clk) s <= s ^ d;
+endmodule
+";
+
+const STIMULUS: &str = "start q 9\ninputs en d\n1 3\n0 F\n1 0\n";
+
+const TRACE: &str = "0 en=1 d=3 q=9 s=0 n=a\n1 en=0 d=f q=a s=3 n=b\n2 en=1 d=0 q=a s=c n=b\n";
+
+const PUBLIC_TRACE: &str = "0 en=1 q=9 n=a\n1 en=0 q=a n=b\n2 en=1 q=a n=b\n";
+
+// The numbers, from 1, of the calls that fail.
+#[derive(Clone, Copy)]
+struct Failing<'a> {
+    fetches: &'a [u32],
+    takes: &'a [u32],
+    puts: &'a [u32],
+}
+
+const NONE: Failing<'static> = Failing {
+    fetches: &[],
+    takes: &[],
+    puts: &[],
+};
+
+// The status and all that was written for words that one blank parts, where `f` holds the text and
+// the input gives the stimulus, a byte a take.
 fn called(
     alloc: Global,
     words: &str,
     text: &[u8],
-    failing_fetches: &[u32],
-    failing_puts: &[u32],
+    stimulus: &str,
+    failing: Failing<'_>,
 ) -> Result<(u8, Vec<u8>), AllocError> {
     let mut list = Vec::new(alloc);
     for word in words.split(' ') {
@@ -56,10 +85,11 @@ fn called(
             list.push(String::from_str(alloc, word)?)?;
         }
     }
-    let mut cabinet = MemCabinet::new(alloc, Vec::from_slice(alloc, failing_fetches)?);
+    let mut cabinet = MemCabinet::new(alloc, Vec::from_slice(alloc, failing.fetches)?);
     cabinet.hold("f", text)?;
-    let mut input = SureSource::new(Vec::new(alloc));
-    let mut out = MemSink::new(alloc, Vec::from_slice(alloc, failing_puts)?, 1);
+    let bytes = Vec::from_slice(alloc, stimulus.as_bytes())?;
+    let mut input = MemSource::new(bytes, Vec::from_slice(alloc, failing.takes)?, 1);
+    let mut out = MemSink::new(alloc, Vec::from_slice(alloc, failing.puts)?, 1);
     let outcome = run(alloc, &list, &mut cabinet, &mut input, &mut out);
     Ok((outcome.status(), Vec::from_slice(alloc, out.bytes())?))
 }
@@ -143,10 +173,14 @@ module m(input a, input b, output y); assign y = a & b; endmodule",
         ("check f f", GATE, 2, "usage words\n"),
         ("check f --top", GATE, 2, "usage words\n"),
         ("check -f", GATE, 2, "usage words\n"),
+        ("check f --order 1", GATE, 2, "usage words\n"),
+        ("check f --top=n", GATE, 1, "refused 310 no-top 1:1\n"),
+        ("sim f --order 1x", GATE, 2, "usage words\n"),
+        ("sim f --help", GATE, 2, "usage words\n"),
         ("check g", GATE, 4, ""),
     ];
     for (words, text, status, printed) in rows {
-        let (got, bytes) = called(rt.alloc(), words, text.as_bytes(), &[], &[])?;
+        let (got, bytes) = called(rt.alloc(), words, text.as_bytes(), "", NONE)?;
         assert_eq!(rt; got, status, "{words} {text}");
         assert_eq!(rt; bytes.as_slice(), printed.as_bytes(), "{words} {text}");
     }
@@ -156,16 +190,60 @@ module m(input a, input b, output y); assign y = a & b; endmodule",
 #[test]
 fn a_text_over_the_limit_is_refused(rt: HostRuntime) -> Result<(), Fail> {
     let mut text = vec![in rt.alloc(); b' '; 1_048_576]?;
-    let (status, bytes) = called(rt.alloc(), "check f", &text, &[], &[])?;
+    let (status, bytes) = called(rt.alloc(), "check f", &text, "", NONE)?;
     assert_eq!(rt; status, 1);
     assert_eq!(rt;
         bytes.as_slice(),
         b"refused 201 unexpected 1:1048577\n".as_slice()
     );
     text.push(b' ')?;
-    let (status, bytes) = called(rt.alloc(), "check f", &text, &[], &[])?;
+    let (status, bytes) = called(rt.alloc(), "check f", &text, "", NONE)?;
     assert_eq!(rt; status, 1);
     assert_eq!(rt; bytes.as_slice(), b"refused 701 file-size\n".as_slice());
+    Ok(())
+}
+
+#[test]
+fn every_stimulus_has_its_whole_trace(rt: HostRuntime) -> Result<(), Fail> {
+    let wrong = "start q 9\ninputs en d\n1 3\n0 10\n1 0\n";
+    let told = "0 en=1 d=3 q=9 s=0 n=a\nrefused stimulus input 4 value\n";
+    let ordered = format!(in rt.alloc(); "{TRACE}rounds 3\n")?;
+    let rows = [
+        ("sim f", COUNTER, STIMULUS, 0, TRACE),
+        ("sim f --level L", COUNTER, STIMULUS, 0, PUBLIC_TRACE),
+        ("sim --level=H --top m f", COUNTER, STIMULUS, 0, TRACE),
+        ("sim f --order 7", COUNTER, STIMULUS, 0, ordered.as_str()),
+        (
+            "sim f --order +007",
+            COUNTER,
+            "inputs en d\n",
+            0,
+            "rounds 0\n",
+        ),
+        ("sim f", COUNTER, wrong, 1, told),
+        ("sim f", COUNTER, "", 1, "refused stimulus input 1 header\n"),
+        (
+            "sim f",
+            COUNTER,
+            "start r 1",
+            1,
+            "refused stimulus input 1 name\n",
+        ),
+        ("sim f --level Q", COUNTER, wrong, 1, "refused 707 level\n"),
+        (
+            "sim f --top n",
+            COUNTER,
+            wrong,
+            1,
+            "refused 310 no-top 1:1\n",
+        ),
+        ("sim g", COUNTER, STIMULUS, 4, ""),
+    ];
+    for (words, text, stimulus, status, printed) in rows {
+        let (got, bytes) = called(rt.alloc(), words, text.as_bytes(), stimulus, NONE)?;
+        assert_eq!(rt; got, status, "{words} {stimulus}");
+        assert_eq!(rt; bytes.as_slice(), printed.as_bytes(), "{words} {stimulus}");
+    }
     Ok(())
 }
 
@@ -173,12 +251,18 @@ fn a_text_over_the_limit_is_refused(rt: HostRuntime) -> Result<(), Fail> {
 #[test]
 fn a_sink_that_fails_has_the_front_of_the_text(rt: HostRuntime) -> Result<(), Fail> {
     let rows = [
-        ("check f", GATE, "accepted 1 obligations\n"),
-        ("list f", TURN, TURN_LIST),
+        ("check f", GATE, "", "accepted 1 obligations\n"),
+        ("list f", TURN, "", TURN_LIST),
+        ("sim f", COUNTER, STIMULUS, TRACE),
     ];
-    for (words, text, whole) in rows {
+    for (words, text, stimulus, whole) in rows {
         for n in 0..whole.len() {
-            let (status, bytes) = called(rt.alloc(), words, text.as_bytes(), &[], &[n as u32 + 1])?;
+            let puts = [n as u32 + 1];
+            let failing = Failing {
+                puts: &puts,
+                ..NONE
+            };
+            let (status, bytes) = called(rt.alloc(), words, text.as_bytes(), stimulus, failing)?;
             assert_eq!(rt; status, 5);
             assert_eq!(rt; bytes.as_slice(), &whole.as_bytes()[..n]);
         }
@@ -186,9 +270,38 @@ fn a_sink_that_fails_has_the_front_of_the_text(rt: HostRuntime) -> Result<(), Fa
     Ok(())
 }
 
+// The source gives one byte a take. The lines of a trace are there as soon as those of the stimulus
+// are; two of these stand before its cycles.
+#[test]
+fn a_source_that_fails_has_the_lines_so_far(rt: HostRuntime) -> Result<(), Fail> {
+    for n in 0..STIMULUS.len() {
+        let takes = [n as u32 + 1];
+        let failing = Failing {
+            takes: &takes,
+            ..NONE
+        };
+        let (status, bytes) = called(rt.alloc(), "sim f", COUNTER.as_bytes(), STIMULUS, failing)?;
+        let feeds = STIMULUS.as_bytes()[..n].iter().filter(|b| **b == b'\n');
+        let lines = TRACE
+            .split_inclusive('\n')
+            .take(feeds.count().saturating_sub(2));
+        let mut told = Vec::new(rt.alloc());
+        for line in lines {
+            told.extend_from_slice(line.as_bytes())?;
+        }
+        assert_eq!(rt; status, 4);
+        assert_eq!(rt; bytes.as_slice(), told.as_slice());
+    }
+    Ok(())
+}
+
 #[test]
 fn a_cabinet_that_fails_gives_a_read_fault(rt: HostRuntime) -> Result<(), Fail> {
-    let (status, bytes) = called(rt.alloc(), "check f", GATE.as_bytes(), &[1], &[])?;
+    let failing = Failing {
+        fetches: &[1],
+        ..NONE
+    };
+    let (status, bytes) = called(rt.alloc(), "check f", GATE.as_bytes(), "", failing)?;
     assert_eq!(rt; status, 4);
     assert_eq!(rt; bytes.len(), 0);
     Ok(())

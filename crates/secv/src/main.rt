@@ -6,8 +6,8 @@
 #![tactic(auto)]
 
 ghost use Rattle.std.specs.Prelude.{◌≡◌, ◌⊎◌};
-ghost use Rattle.sv_cli.specs.Command.{words_of};
-ghost use Rattle.secv.specs.Ends.{IsShown, Ends};
+ghost use Rattle.sv_words.specs.Words.{words_of};
+ghost use Rattle.secv.specs.Ends.{IsShown, IsHelp, Ends};
 
 mod messages;
 
@@ -17,6 +17,7 @@ use std::process::ExitCode;
 use std::rt::Files;
 use sv_cli::run;
 use sv_io::{FileCabinet, StdSink, StdSource, put_all};
+use sv_words::{CommandName, help_asked, help_text};
 
 const HELP: &str =
     "secv checks designs in SecVerilog: Verilog in which every signal has a security label.
@@ -24,11 +25,14 @@ const HELP: &str =
 usage:
   secv check FILE [--top MODULE]    say whether a secret can reach a public signal
   secv list FILE [--top MODULE]     list the obligations of a design, a line each
+  secv sim FILE [--level POINT] [--order NUMBER] [--top MODULE]
+                                    simulate a design on the stimulus of standard input
+  secv COMMAND --help               say more of one command
   secv --help, -h                   print this text
   secv --version                    print the version
 
-exit status: 0 accepted or listed, 1 refused, 2 wrong words, 4 unreadable file,
-             5 unwritable output, 6 out of memory
+exit status: 0 accepted, listed or simulated, 1 refused, 2 wrong words,
+             4 unreadable file or input, 5 unwritable output, 6 out of memory
 ";
 
 const VERSION: &str = "secv 0.1.0\n";
@@ -63,13 +67,28 @@ fn words_of(rt: &HostRuntime) -> io::Result<Vec<String>> {
 // The exit status for these words.
 fn answer(rt: &HostRuntime, words: &[String]) -> u8
     ensures shown { IsShown (words_of words.now) → (result ≡ 0) ⊎ (result ≡ 5) }
-    ensures ends { (IsShown (words_of words.now) → ⊥) → Ends (words_of words.now) result }
+    ensures help { IsHelp (words_of words.now) → (result ≡ 0) ⊎ (result ≡ 5) ⊎ (result ≡ 6) }
+    ensures ends { (IsShown (words_of words.now) → ⊥) → (IsHelp (words_of words.now) → ⊥) →
+        Ends (words_of words.now) result }
 {
     match words {
         [word] if word.as_str() == "--help" => print(rt, HELP, DONE),
         [word] if word.as_str() == "-h" => print(rt, HELP, DONE),
         [word] if word.as_str() == "--version" => print(rt, VERSION, DONE),
-        words => command(rt, words),
+        words => match help_asked(words) {
+            Some(name) => print_help(rt, name),
+            None => command(rt, words),
+        },
+    }
+}
+
+// The help of a command.
+fn print_help(rt: &HostRuntime, name: CommandName) -> u8
+    ensures { (result ≡ 0) ⊎ (result ≡ 5) ⊎ (result ≡ 6) }
+{
+    match help_text(rt.alloc(), name) {
+        Ok(text) => print(rt, text.as_str(), DONE),
+        Err(_) => OUT_OF_MEMORY,
     }
 }
 

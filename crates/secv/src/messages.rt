@@ -4,6 +4,7 @@
 use std::io;
 use sv_cli::{Broken, Outcome, UsageKind};
 use sv_num::{Place, Refusal};
+use sv_words::{Command, read_words};
 
 const UNDECIDED: &str =
     "secv: only modules of one-bit signals are decided so far; docs/language.md says which";
@@ -130,30 +131,31 @@ fn fault_of(number: u16) -> Option<&'static str> {
     FAULTS.iter().find(|row| row.0 == number).map(|row| row.1)
 }
 
-fn is_list(words: &[String]) -> bool {
-    matches!(words, [command, ..] if command.as_str() == "list")
+// What the words ask for, if they ask for something and memory does not run out.
+fn command_of(rt: &HostRuntime, words: &[String]) -> Option<Command> {
+    read_words(rt.alloc(), words).ok()
 }
 
-// FILE of a command, before or behind its option.
-fn file_in(words: &[String]) -> Option<&str> {
-    match words {
-        [_, option, _, file, ..] if option.as_str() == "--top" => Some(file.as_str()),
-        [_, file, ..] => Some(file.as_str()),
-        _ => None,
+fn file_in(command: &Command) -> &str {
+    match command {
+        Command::Check { file, .. } => file.as_str(),
+        Command::List { file, .. } => file.as_str(),
+        Command::Sim { file, .. } => file.as_str(),
     }
 }
 
 // What is wrong at the place of a broken rule.
 fn explain_rule(rt: &HostRuntime, words: &[String], refusal: &Refusal) {
+    let Some(command) = command_of(rt, words) else {
+        return;
+    };
     let Some(fault) = fault_of(refusal.number) else {
+        let is_check = matches!(command, Command::Check { .. });
         // not used: where this cannot be written, the status tells of the rule
-        let _ = rt.eprintln(if is_list(words) { UNBUILT } else { UNDECIDED });
+        let _ = rt.eprintln(if is_check { UNDECIDED } else { UNBUILT });
         return;
     };
-    let Some(file) = file_in(words) else {
-        return;
-    };
-    let name = file.escape_debug();
+    let name = file_in(&command).escape_debug();
     let Place { line, column } = refusal.place;
     // not used: where this cannot be written, the status tells of the rule
     let _ = eprintln!(rt; "secv: {name}:{line}:{column}: {fault}; docs/language.md says more");
@@ -172,8 +174,8 @@ fn explain_usage(rt: &HostRuntime, words: &[String], kind: UsageKind) {
             let command = word.as_str().escape_debug();
             // not used: where this cannot be written, the status tells of it
             let _ = eprintln!(rt;
-                "secv: `{command}` takes one FILE and at most one `--top MODULE`; usage: \
-                 secv {command} FILE [--top MODULE] (`secv --help` says more)"
+                "secv: `{command}` does not take these words; `secv {command} --help` shows those \
+                 that it takes"
             );
         }
         _ => explain_words(rt, "no command is given"),
@@ -184,20 +186,20 @@ fn explain_usage(rt: &HostRuntime, words: &[String], kind: UsageKind) {
 pub fn explain_words(rt: &HostRuntime, fault: &str) {
     // not used: where this cannot be written, the status tells of it
     let _ = eprintln!(rt;
-        "secv: {fault}; usage: secv COMMAND FILE [--top MODULE] (`secv --help` says more)"
+        "secv: {fault}; usage: secv COMMAND FILE [OPTIONS] (`secv --help` says more)"
     );
 }
 
 // The file and why the system did not read it. Control characters of the name are escaped.
 fn explain_file(rt: &HostRuntime, words: &[String], error: Option<&io::Error>) {
-    let Some(file) = file_in(words) else {
+    let Some(command) = command_of(rt, words) else {
         return;
     };
-    let name = file.escape_debug();
+    let name = file_in(&command).escape_debug();
     // not used: where this cannot be written, the status tells of it
     let _ = match error {
         Some(error) => eprintln!(rt; "secv: {name}: {error}"),
-        None => eprintln!(rt; "secv: {name}: the file could not be read"),
+        None => eprintln!(rt; "secv: the input could not be read"),
     };
 }
 

@@ -22,10 +22,9 @@ use Rattle.sv_first_flow.specs.Leak.{IsFirstLeak, IsFinding}
 use Rattle.sv_first.proofs.Readings.{one_module}
 use Rattle.sv_cli.specs.declared.report.Report.{Report}
 use Rattle.sv_cli.specs.declared.outcome.Outcome.{Outcome}
-use Rattle.sv_cli.specs.declared.outcome.Outcome.TheVariants.{Done}
-use Rattle.sv_cli.specs.Text.{accepted_text, flow_text, leak_text, refusal_text, limit_text}
-use Rattle.sv_cli.specs.Answer.{Answer, answer_of, done, rule_broken, limit_passed, falsified}
-use Rattle.sv_cli.specs.Answer.{largest_file, BreaksFirst, Passes, IsFirstForm, IsAccepted}
+use Rattle.sv_cli.specs.Text.{accepted_text, flow_text, leak_text, refusal_text}
+use Rattle.sv_cli.specs.Answer.{Answer, answer_of, done, rule_broken, falsified}
+use Rattle.sv_cli.specs.Answer.{largest_file, Passes, IsFirstForm, IsAccepted}
 use Rattle.sv_cli.specs.Answer.{IsVerdict, KeepsSecrets}
 use Rattle.sv_cli.specs.Report.{Decides, zeros_for}
 use Rattle.sv_cli.proofs.Congruence.{two, four}
@@ -37,7 +36,7 @@ start = record { line = 1; column = 1 }
 
 module _ (top : Option (List ℕ)) where
   -- what is accepted keeps its secrets
-  keeps_secrets : (text printed : List ℕ) → IsAccepted top text printed → KeepsSecrets text
+  pub keeps_secrets : (text printed : List ℕ) → IsAccepted top text printed → KeepsSecrets text
   keeps_secrets text printed v = record {
     tree = v.tree;
     means = v.form.means;
@@ -46,48 +45,16 @@ module _ (top : Option (List ℕ)) where
     one_trace = first_form_one_trace v.tree v.form.means.1 v.form.form;
   }
 
-  -- Done is the answer that accepts
-  done_accepts : (outcome : Outcome) (a : Answer) → outcome ≡ Done → answer_of outcome ≡ Some a →
-      a ≡ done
-  done_accepts outcome a is_done gives =
-      let g : answer_of Done ≡ Some a =
-      subst (λ (o : Outcome). answer_of o ≡ Some a) is_done gives in cc
-
   -- a verdict that is given and printed decides the text
   pub decided : (text : List ℕ) (outcome : Outcome) (printed : List ℕ) (answer : Answer) →
       answer_of outcome ≡ Some answer → IsVerdict top text answer printed →
       Decides top text outcome printed
   decided text outcome printed answer gives verdict = record {
-    verdict = record {
-      answer = answer;
-      gives = gives;
-      stands = verdict;
-      only = verdict_is_one top text answer printed verdict;
-    };
-    secrets =
-        λ is_done. keeps_secrets text printed (subst (λ (a : Answer).
-        IsVerdict top text a printed) (done_accepts outcome answer is_done gives) verdict);
+    answer = answer;
+    gives = gives;
+    stands = verdict;
+    only = verdict_is_one top text answer printed verdict;
   }
-
-  pub decides_large : (text : List ℕ) (outcome : Outcome) (printed : List ℕ)
-      → largest_file < length text → answer_of outcome ≡ Some (limit_passed 701 [])
-      → printed ≡ limit_text 701 []
-      → Decides top text outcome printed
-  decides_large text outcome printed large gives prints =
-      decided text outcome printed (limit_passed 701 []) gives (large, refl, refl, prints)
-
-  pub decides_broken :
-      (text : List ℕ) (outcome : Outcome) (printed : List ℕ) (number : ℕ) (place : Place)
-      (names : List (List ℕ)) → length text ≤ largest_file
-      → BreaksFirst top text number place names
-      → answer_of outcome ≡ Some (rule_broken number place names)
-      → printed ≡ refusal_text number place names → Decides top text outcome printed
-  decides_broken text outcome printed number place names within broken gives prints =
-      decided text outcome printed (rule_broken number place names) gives (record {
-        within = within;
-        broken = inl broken;
-        prints = prints;
-      })
 
   pub decides_unbuilt : (text : List ℕ) (outcome : Outcome) (printed : List ℕ)
       → length text ≤ largest_file → Passes top text
@@ -176,18 +143,6 @@ module _ (top : Option (List ℕ)) where
       })
 
   -- ---- reports
-
-  -- of a text that breaks a rule
-  pub broken_reports : (text : List ℕ) → length text ≤ largest_file
-      → (number : ℕ) (place : Place) (names : List (List ℕ))
-      → BreaksFirst top text number place names
-      → (r : Result Report AllocError)
-      → IfOk r (λ p. answer_of p.outcome ≡ Some (rule_broken number place names))
-      → IfOk r (λ p. p.text.items ≡ refusal_text number place names)
-      → IfOk r (λ p. Decides top text p.outcome p.text.items)
-  broken_reports text within number place names broken (Ok p) a t =
-      decides_broken text p.outcome p.text.items number place names within broken a t
-  broken_reports text within number place names broken (Err e) a t = tt
 
   -- of a text that breaks no rule and is not of the first form
   pub unbuilt_reports : (text : List ℕ) → length text ≤ largest_file → Passes top text

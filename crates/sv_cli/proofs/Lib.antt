@@ -6,10 +6,14 @@ mod Verdicts
 mod OneVerdict
 pub mod Deciding
 mod Unfalsified
+pub mod Fetches
 pub mod Telling
+pub mod Sending
 pub mod FewPairs
 pub mod TreeAnswers
 pub mod Limits
 pub mod Lines
 mod ListVerdicts
 pub mod Listed
+pub mod Simulating
+pub mod Preparing

@@ -7,6 +7,7 @@ use Rattle.sv_obl.specs.Limits.{Excess, excess}
 use Rattle.sv_obl.specs.ListLines.{list_text}
 use Rattle.sv_cli.specs.Text.{limit_text}
 use Rattle.sv_cli.specs.Answer.{Answer, done, rule_broken, limit_passed, falsified, misused}
+use Rattle.sv_cli.specs.Answer.{stimulus_refused}
 use Rattle.sv_cli.specs.Answer.{Passes, IsTooLarge, IsRefusedByRule, limit_number, limit_names}
 use Rattle.sv_cli.specs.Answer.{PassesLimit, IsListed, IsListing}
 use Rattle.sv_cli.proofs.Congruence.{two}
@@ -61,6 +62,7 @@ module _ (top : Option (List ℕ)) (text : List ℕ) where
   one_listed printed v (limit_passed number names) others (inr w) =
       absurd (few_or_many printed number names others v w)
   one_listed printed v (falsified number values) others w = absurd w
+  one_listed printed v (stimulus_refused source line kind) others w = absurd w
   one_listed printed v (misused kind) others w = absurd w
 
   one_refused : (n : ℕ) (p : Place) (ns : List (List ℕ)) (printed : List ℕ)
@@ -77,6 +79,7 @@ module _ (top : Option (List ℕ)) (text : List ℕ) where
   one_refused n p ns printed v (limit_passed number names) others (inr w) =
       absurd (passes_all top text w.passes n p ns v.broken)
   one_refused n p ns printed v (falsified number values) others w = absurd w
+  one_refused n p ns printed v (stimulus_refused source line kind) others w = absurd w
   one_refused n p ns printed v (misused kind) others w = absurd w
 
   one_large : (n : ℕ) (ns : List (List ℕ)) (printed : List ℕ) → IsTooLarge text n ns printed
@@ -91,6 +94,7 @@ module _ (top : Option (List ℕ)) (text : List ℕ) where
   one_large n ns printed v (limit_passed m ms) others (inr w) =
       let a = w.within in let b = v.0 in absurd (omega arith)
   one_large n ns printed v (falsified number values) others w = absurd w
+  one_large n ns printed v (stimulus_refused source line kind) others w = absurd w
   one_large n ns printed v (misused kind) others w = absurd w
 
   one_limit : (n : ℕ) (ns : List (List ℕ)) (printed : List ℕ) → PassesLimit top text n ns printed
@@ -105,6 +109,7 @@ module _ (top : Option (List ℕ)) (text : List ℕ) where
   one_limit n ns printed v (limit_passed m ms) others (inr w) =
       inl (two_limits m n ms ns others printed w v)
   one_limit n ns printed v (falsified number values) others w = absurd w
+  one_limit n ns printed v (stimulus_refused source line kind) others w = absurd w
   one_limit n ns printed v (misused kind) others w = absurd w
 
   -- two lists of a text are one
@@ -119,4 +124,5 @@ module _ (top : Option (List ℕ)) (text : List ℕ) where
   listing_is_one (limit_passed n ns) printed (inr v) other others w =
       one_limit n ns printed v other others w
   listing_is_one (falsified n values) printed v other others w = absurd v
+  listing_is_one (stimulus_refused source line kind) printed v other others w = absurd v
   listing_is_one (misused kind) printed v other others w = absurd v

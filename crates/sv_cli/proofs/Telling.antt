@@ -1,337 +1,329 @@
--- From what is decided of a text to what is answered.
-use Rattle.std.proofs.Common.{◌≡◌, ℕ, ◌+◌, ◌<◌, ◌≤◌, List, [], ◌∷◌, length, take, ◌++◌, Option}
-use Rattle.std.proofs.Common.{Some, None, refl, sym, ◌∙◌, ap, subst, arith, inl, inr, ◌⊎◌}
-use Rattle.std.specs.Prelude.{IfSome, IfNone, IfOk, MatchOption, Result, Ok, Err, vec_len}
-use Rattle.std.proofs.lemmas.List.{append_cancel_left, take_all}
-use Rattle.std.specs.Global.{Vec}
+-- From what is prepared and done to what is answered to the words.
+use Rattle.std.proofs.Common.{◌≡◌, ℕ, List, [], ◌∷◌, ◌++◌, Option, Some, None, sym, ◌∙◌, ap}
+use Rattle.std.proofs.Common.{refl, subst, inl, inr, ◌⊎◌}
+use Rattle.std.specs.Prelude.{IfSome, IfNone, IfOk, Result, Ok, Err, MatchOption, option_map, ⊤}
+use Rattle.std.proofs.lemmas.List.{append-nil, append_cancel_left}
 use Rattle.std.specs.Option.{option_map_or}
-use Rattle.sv_io.specs.declared.faults.FetchFault.{FetchFault}
-use Rattle.sv_io.specs.declared.faults.FetchFault.TheVariants.{Long, Failed, OutOfMemory}
-use Rattle.sv_io.specs.Cabinet.{IfLong}
-use Rattle.sv_io.specs.Exchange.{Fetched, whole, too_long, nothing, Exchange, fetched, fetched_of}
-use Rattle.sv_io.specs.Sink.{WritesFront}
-use Rattle.sv_cli.specs.declared.outcome.UsageKind.{UsageKind}
+use Rattle.sv_flat.specs.Design.{FlatDesign}
+use Rattle.sv_io.specs.Exchange.{Fetched, whole, nothing, Exchange, fetched}
+use Rattle.sv_words.specs.Words.{Request, request_of, usage_of, check, list, sim}
+use Rattle.sv_words.specs.declared.command.CommandName.TheVariants as name
+use Rattle.sv_words.specs.declared.command.UsageKind.{UsageKind}
 use Rattle.sv_cli.specs.declared.outcome.Outcome.{Outcome}
 use Rattle.sv_cli.specs.declared.outcome.Outcome.TheVariants.{Done}
-use Rattle.sv_cli.specs.declared.arguments.Command.{Command}
-use Rattle.sv_cli.specs.declared.arguments.Command.TheVariants.{Check}
-use Rattle.sv_cli.specs.declared.listing.Listing.{Listing}
-use Rattle.sv_cli.specs.Command.{Request, request_of, usage_kind, usage_of, command_of, file_of}
-use Rattle.sv_cli.specs.Command.{top_of}
+use Rattle.sv_cli.specs.declared.prepared.Prepared.{Prepared}
+use Rattle.sv_cli.specs.declared.prepared.Prepared.TheVariants.{Whole, Lines, Simulation}
+use Rattle.sv_cli.specs.Command.{command_in, file_in, command_of, file_of}
 use Rattle.sv_cli.specs.Text.{usage_text}
-use Rattle.sv_cli.specs.Answer.{Answer, answer_of, done, misused, largest_file}
-use Rattle.sv_cli.specs.Answer.{IsAccepted, ReadsFile, Reads, IsVerdict, IsListing, IsAnswerBy}
-use Rattle.sv_cli.specs.Answer.{IsAnswer, AreCircles, KeepsSecrets}
-use Rattle.sv_cli.specs.Report.{IsOnlyAnswer, Decides}
-use Rattle.sv_cli.specs.Listings.{answer_in, text_in, Lists}
+use Rattle.sv_cli.specs.Answer.{Answer, answer_of, done, misused, ReadsFile, Reads}
+use Rattle.sv_cli.specs.Answer.{IsVerdict, IsAnswerBy, IsAnswer}
+use Rattle.sv_cli.specs.Answer.{IsAccepted, AreCircles, KeepsSecrets, Simulates, WritesCycles}
+use Rattle.sv_cli.specs.Prepared.{IsPerformed, IsSimulationWith, IsOtherOrWith, PreparesFor}
+use Rattle.sv_cli.specs.Prepared.{PreparesWords}
+use Rattle.sv_simulate.specs.Simulated.{WritesAllCycles}
+use Rattle.sv_cli.proofs.Deciding.{keeps_secrets}
+use Rattle.sv_cli.proofs.Preparing.{words_prepared}
+use Rattle.sv_cli.proofs.Simulating.{cycles_told}
+use Rattle.sv_cli.proofs.Fetches.{reads_one, reads_none, reads_whole}
 
--- what two equal growths by one fetch handed out is the same
-one_exchange : (file : List ℕ) (got other : Fetched) (old new : List Exchange) →
-    new ≡ old ++ fetched file got ∷ [] → new ≡ old ++ fetched file other ∷ [] → got ≡ other
-one_exchange file got other old new first second =
-    let same = append_cancel_left old (fetched file got ∷ []) (fetched file other ∷ []) (sym first
-    ∙ second) in cc
+-- ---- words
 
--- one call reads one text
-pub reads_one : (file text other : List ℕ) (old new : List Exchange) → ReadsFile file text old new →
-    ReadsFile file other old new → text ≡ other
-reads_one file text other old new (inl first) (inl second) =
-    let same = one_exchange file (whole text) (whole other) old new first.0 second.0 in cc
-reads_one file text other old new (inl first) (inr second) =
-    let same = one_exchange file (whole text) (too_long other) old new first.0 second.0 in absurd cc
-reads_one file text other old new (inr first) (inl second) =
-    let same = one_exchange file (too_long text) (whole other) old new first.0 second.0 in absurd cc
-reads_one file text other old new (inr first) (inr second) =
-    let same = one_exchange file (too_long text) (too_long other) old new first.0 second.0 in cc
+-- FILE of words that ask for something
+pub file_is : (words : List (List ℕ)) (request : Request) → request_of words ≡ Some request
+    → file_of words ≡ file_in request
+file_is words request is = ap (λ (r : Option Request). option_map_or file_in r []) is
 
--- where nothing was handed out no text was read
-pub reads_none : (file text : List ℕ) (old new : List Exchange) → ReadsFile file text old new →
-    new ≡ old ++ fetched file nothing ∷ [] → ⊥
-reads_none file text old new (inl first) failed =
-    let same = one_exchange file (whole text) nothing old new first.0 failed in absurd cc
-reads_none file text old new (inr first) failed =
-    let same = one_exchange file (too_long text) nothing old new first.0 failed in absurd cc
+module _ (words : List (List ℕ)) (before after : List Exchange) where
+  abbrev IsRead : List ℕ → Type 0
+  IsRead text = Reads words text before after
 
--- a text within the limit was read whole
-pub reads_whole : (file text : List ℕ) (old new : List Exchange) → length text ≤ largest_file →
-    ReadsFile file text old new → new ≡ old ++ fetched file (whole text) ∷ []
-reads_whole file text old new within (inl first) = first.0
-reads_whole file text old new within (inr first) = let more = first.1 in absurd (omega arith)
-
--- what a fetch that answers within the limit, or tells that there is more, hands out of the bytes
--- under a name
-pub told_by : (r : Result (Vec ℕ) FetchFault) (file held : List ℕ) (old new : List Exchange)
-    → new ≡ old ++ fetched file (fetched_of r) ∷ []
-    → IfOk r (λ b. b.items ≡ held) → IfOk r (λ b. vec_len b ≤ largest_file)
-    → IfLong r (λ b. length b ≡ largest_file + 1)
-    → IfLong r (λ b. b ≡ take (largest_file + 1) held)
-    → (text : List ℕ) → ReadsFile file text old new → text ≡ take (largest_file + 1) held
-told_by (Ok bytes) file held old new exchange is_whole within long_length long_front text reads =
-    let small : length bytes.items ≤ largest_file = grind (arith, within) in
-    let same = reads_one file text bytes.items old new reads (inl (exchange, small)) in
-    let few : length held ≤ largest_file + 1 = grind (arith, small, is_whole) in
-    same ∙ is_whole ∙ sym (take_all (largest_file + 1) held few)
-told_by (Err Failed) file held old new exchange is_whole within long_length long_front text reads =
-    absurd (reads_none file text old new reads exchange)
-told_by (Err (Long bytes)) file held old new exchange is_whole within long_length long_front
-    text reads =
-    reads_one file text bytes.items old new reads (inr (exchange, long_length)) ∙ long_front
-told_by (Err OutOfMemory) file held old new exchange is_whole within long_length long_front text
-    reads = absurd (reads_none file text old new reads exchange)
-
--- What is made of the text that a fetch handed out holds of a text that was read: the whole of it.
-pub whole_told : {X E : Type 0} (Holds : List ℕ → X → Type 0) (file : List ℕ) (bytes : Vec ℕ)
-    (r : Result X E) (old new : List Exchange) → new ≡ old ++ fetched file (whole bytes.items) ∷ []
-    → vec_len bytes ≤ largest_file → IfOk r (Holds bytes.items)
-    → IfOk r (λ x. (text : List ℕ) × ReadsFile file text old new × Holds text x)
-whole_told Holds file bytes (Ok x) old new exchange within holds =
-    let small : length bytes.items ≤ largest_file = grind (arith, within) in
-    (bytes.items, inl (exchange, small), holds)
-whole_told Holds file bytes (Err e) old new exchange within holds = tt
-
--- Or the front of one that is too large.
-pub large_told : (Holds : List ℕ → Type 0) (fault : FetchFault) (bytes : Vec ℕ) (file : List ℕ)
-    (old new : List Exchange) → fault ≡ Long bytes
-    → (let r : Result (Vec ℕ) FetchFault = Err fault in
-    new ≡ old ++ fetched file (fetched_of r) ∷ [])
-    → (let r : Result (Vec ℕ) FetchFault = Err fault in
-    IfLong r (λ b. length b ≡ largest_file + 1))
-    → ((text : List ℕ) → largest_file < length text → Holds text)
-    → (text : List ℕ) × ReadsFile file text old new × Holds text
-large_told Holds fault bytes file old new long exchange long_length holds =
-    let e = subst (λ (f : FetchFault). let r : Result (Vec ℕ) FetchFault = Err f in
-    new ≡ old ++ fetched file (fetched_of r) ∷ []) long exchange in
-    let l = subst (λ (f : FetchFault). let r : Result (Vec ℕ) FetchFault = Err f in
-    IfLong r (λ b. length b ≡ largest_file + 1)) long long_length in
-    let more : largest_file < length bytes.items = omega arith in
-    (bytes.items, inr (e, l), holds bytes.items more)
-
--- ---- answers
-
-module _ (Is : List ℕ → Answer → List ℕ → Type 0) (given : Option Answer) where
-  -- some text that was read has this answer alone
-  abbrev pub HasAnswer : (List ℕ → Type 0) → List ℕ → Type 0
-  HasAnswer IsRead printed =
-      (text : List ℕ) × IsRead text × IsOnlyAnswer (Is text) given printed
-
-  -- the answer that was sent is the one that was decided
-  pub answer_sent : (o : Option Answer) (IsRead : List ℕ → Type 0) (printed old new : List ℕ)
-      → HasAnswer IsRead printed
-      → IfSome o (λ a. given ≡ Some a) → IfSome o (λ a. new ≡ old ++ printed)
-      → IfSome o (λ a. (x x' : List ℕ) × IsRead x × Is x a x' × (new ≡ old ++ x'))
-  answer_sent None IsRead printed old new has answered all = tt
-  answer_sent (Some a) IsRead printed old new has answered all =
-      let d = has.2 in
-      let g = d.gives in
-      let same : d.answer ≡ a = cc in (
-        has.0,
-        printed,
-        has.1,
-        subst (λ (b : Answer). Is has.0 b printed) same d.stands,
-        all,
-      )
-
-  -- no other answer is that of a text that was read
-  pub only_sent : (o : Option Answer) (file : List ℕ) (before after : List Exchange)
-      (printed : List ℕ) → HasAnswer (λ text. ReadsFile file text before after) printed
-      → IfSome o (λ a. given ≡ Some a)
-      → (text : List ℕ) (a : Answer) (others : List ℕ) → ReadsFile file text before after
-      → Is text a others → IfSome o (λ b. (b ≡ a) ⊎ AreCircles a b)
-  only_sent None file before after printed has answered text a others reads is = tt
-  only_sent (Some b) file before after printed has answered text a others reads is =
-      let d = has.2 in
-      let g = d.gives in
-      let same = reads_one file text has.0 before after reads has.1 in
-      let given_is : d.answer ≡ b = cc in
-      sort d.answer given_is (d.only a others (subst (λ (t : List ℕ). Is t a others) same is))
-    where
-      sort : (answer : Answer) → answer ≡ b
-          → ((a ≡ answer) × (others ≡ printed)) ⊎ AreCircles a answer
-          → (b ≡ a) ⊎ AreCircles a b
-      sort answer is (inl one) = inl (sym is ∙ sym one.0)
-      sort answer is (inr circles) = inr (subst (AreCircles a) is circles)
-
-  -- without an answer a front of what is defined was accepted
-  pub front_sent : (o : Option Answer) (file : List ℕ) (before after : List Exchange)
-      (printed old new : List ℕ) → HasAnswer (λ text. ReadsFile file text before after) printed
-      → IfNone o (WritesFront old printed new)
-      → IfNone o ((new ≡ old)
-      ⊎ ((text : List ℕ) × (a : Answer) × (printed : List ℕ) × ReadsFile file text before after
-      × Is text a printed × WritesFront old printed new))
-  front_sent (Some b) file before after printed old new has front = tt
-  front_sent None file before after printed old new has front =
-      inr (has.0, has.2.answer, printed, has.1, has.2.stands, front)
-
-module _ (top : Option (List ℕ)) where
-  -- what is decided of a text is its answer
-  pub verdict_in : (IsRead : List ℕ → Type 0) (outcome : Outcome) (printed : List ℕ)
-      → (text : List ℕ) × IsRead text × Decides top text outcome printed
-      → HasAnswer (IsVerdict top) (answer_of outcome) IsRead printed
-  verdict_in IsRead outcome printed decided = (decided.0, decided.1, decided.2.verdict)
-
-  -- and so is what is listed
-  pub listing_in : (IsRead : List ℕ → Type 0) (listing : Listing)
-      → (text : List ℕ) × IsRead text × Lists top text listing
-      → HasAnswer (IsListing top) (answer_in listing) IsRead (text_in listing)
-  listing_in IsRead listing listed = (listed.0, listed.1, listed.2.answer)
-
-  -- a text that is accepted is within the limit
-  done_within : (text : List ℕ) (outcome : Outcome) (printed : List ℕ) →
-      Decides top text outcome printed → outcome ≡ Done → length text ≤ largest_file
-  done_within text outcome printed d is_done =
-      let gives : answer_of Done ≡ Some d.verdict.answer =
-      subst (λ (o : Outcome). answer_of o ≡ Some d.verdict.answer) is_done d.verdict.gives in
-      let same : d.verdict.answer ≡ done = cc in
-      let v : IsAccepted top text printed =
-      subst (λ (a : Answer). IsVerdict top text a printed) same d.verdict.stands in
-      v.form.within
-
-  -- Done is the answer of a text that was read whole and keeps its secrets
-  pub secrets_sent : (file : List ℕ) (before after : List Exchange) (outcome : Outcome)
-      (printed : List ℕ)
-      → (text : List ℕ) × ReadsFile file text before after × Decides top text outcome printed
-      → outcome ≡ Done
-      → (text : List ℕ) × (after ≡ before ++ fetched file (whole text) ∷ []) × KeepsSecrets text
-  secrets_sent file before after outcome printed decided is_done =
-      let d = decided.2 in (
-        decided.0,
-        reads_whole file decided.0 before after
-            (done_within decided.0 outcome printed d is_done) decided.1,
-        d.secrets is_done,
-      )
-
--- what the request of the words says
-pub of_request : (words : List (List ℕ)) (request : Request) → request_of words ≡ Some request →
-    (usage_of words ≡ None) × (file_of words ≡ request.file) × (top_of words ≡ request.top)
-    × (command_of words ≡ request.command)
-of_request words request is = (
-  ap (λ (r : Option Request).
-      option_map_or (λ (r : Request). None) r (Some (usage_kind words))) is,
-  ap (λ (r : Option Request). option_map_or (λ (r : Request). r.file) r []) is,
-  ap (λ (r : Option Request). option_map_or (λ (r : Request). r.top) r None) is,
-  ap (λ (r : Option Request). option_map_or (λ (r : Request). r.command) r Check) is,
-)
-
--- What a request reads, and its answer.
-module _ (words : List (List ℕ)) (request : Request) (is : request_of words ≡ Some request)
-    (command : Command) (named : request.command ≡ command) where
-  same_command : command_of words ≡ command
-  same_command = (of_request words request is).3 ∙ named
-
-  reads_to_words : (text : List ℕ) (before after : List Exchange)
-      → ReadsFile request.file text before after → Reads words text before after
-  reads_to_words text before after reads =
-      let of = of_request words request is in
+  -- what is read for a command
+  pub command_reads : (text : List ℕ) → usage_of words ≡ None → IsRead text
+      → ReadsFile (file_of words) text before after
+  command_reads text none reads =
       subst (λ (u : Option UsageKind).
-      MatchOption u (ReadsFile (file_of words) text before after) (λ kind.
-      after ≡ before)) (sym of.0)
-      (subst (λ (f : List ℕ). ReadsFile f text before after) (sym of.1) reads)
+      MatchOption u (ReadsFile (file_of words) text before after) (λ kind. after ≡ before)) none
+      reads
 
-  pub command_reads : (text : List ℕ) (before after : List Exchange)
-      → Reads words text before after → ReadsFile request.file text before after
-  command_reads text before after reads =
-      let of = of_request words request is in
-      subst (λ (f : List ℕ). ReadsFile f text before after) of.1
-      (subst (λ (u : Option UsageKind).
-      MatchOption u (ReadsFile (file_of words) text before after) (λ kind.
-      after ≡ before)) of.0 reads)
-
-  is_to_words : (text : List ℕ) (a : Answer) (printed : List ℕ)
-      → IsAnswerBy command request.top text a printed → IsAnswer words text a printed
-  is_to_words text a printed answer =
-      let of = of_request words request is in
+  pub reads_command : (text : List ℕ) → usage_of words ≡ None
+      → ReadsFile (file_of words) text before after → IsRead text
+  reads_command text none reads =
       subst (λ (u : Option UsageKind).
-      MatchOption u (IsAnswerBy (command_of words) (top_of words) text a printed) (λ kind.
-      (a ≡ misused kind) × (printed ≡ usage_text kind))) (sym of.0)
-      (subst (λ (k : Command). IsAnswerBy k (top_of words) text a printed) (sym same_command)
-      (subst (λ (t : Option (List ℕ)). IsAnswerBy command t text a printed) (sym of.2) answer))
+      MatchOption u (ReadsFile (file_of words) text before after) (λ kind. after ≡ before))
+      (sym none) reads
 
-  pub command_answer : (text : List ℕ) (a : Answer) (printed : List ℕ)
-      → IsAnswer words text a printed → IsAnswerBy command request.top text a printed
-  command_answer text a printed answer =
-      let of = of_request words request is in
-      subst (λ (t : Option (List ℕ)). IsAnswerBy command t text a printed) of.2
-      (subst (λ (k : Command). IsAnswerBy k (top_of words) text a printed) same_command
-      (subst (λ (u : Option UsageKind).
-      MatchOption u (IsAnswerBy (command_of words) (top_of words) text a printed) (λ kind.
-      (a ≡ misused kind) × (printed ≡ usage_text kind))) of.0 answer))
-
-  -- the answer to the text is the answer to the words
-  pub answer_to_words : (o : Option Answer) (Q : List ℕ → Type 0) (before after : List Exchange)
-      → IfSome o (λ a. (x x' : List ℕ) × ReadsFile request.file x before after
-      × IsAnswerBy command request.top x a x' × Q x')
-      → IfSome o (λ a. (x x' : List ℕ) × Reads words x before after × IsAnswer words x a x' × Q x')
-  answer_to_words None Q before after answered = tt
-  answer_to_words (Some a) Q before after answered = (
-    answered.0,
-    answered.1,
-    reads_to_words answered.0 before after answered.2,
-    is_to_words answered.0 a answered.1 answered.3,
-    answered.4,
+  -- what is prepared for a command is prepared for the words that ask for it
+  pub command_told : {E : Type 0} (request : Request) (r : Result Prepared E)
+      → usage_of words ≡ None → request_of words ≡ Some request
+      → IfOk r (λ p. (t : List ℕ) × ReadsFile (file_in request) t before after
+      × PreparesFor request t p)
+      → IfOk r (λ p. (t : List ℕ) × IsRead t × PreparesWords words t p)
+  command_told request (Err e) none asked made = tt
+  command_told request (Ok prepared) none asked made = (
+    made.0,
+    reads_command made.0 none
+        (subst (λ (f : List ℕ). ReadsFile f made.0 before after)
+        (sym (file_is words request asked)) made.1),
+    words_prepared words made.0 request prepared none asked made.2,
   )
 
-  -- so is the front of a text
-  pub front_to_words : (o : Option Answer) (Q : List ℕ → Type 0) (none : Type 0)
-      (before after : List Exchange)
-      → IfNone o (none ⊎ ((x : List ℕ) × (a : Answer) × (x' : List ℕ)
-      × ReadsFile request.file x before after × IsAnswerBy command request.top x a x' × Q x'))
-      → IfNone o (none ⊎ ((x : List ℕ) × (a : Answer) × (x' : List ℕ)
-      × Reads words x before after × IsAnswer words x a x' × Q x'))
-  front_to_words (Some b) Q none before after front = tt
-  front_to_words None Q none before after (inl unchanged) = inl unchanged
-  front_to_words None Q none before after (inr front) =
-      inr (
-        front.0,
-        front.1,
-        front.2,
-        reads_to_words front.0 before after front.3,
-        is_to_words front.0 front.1 front.2 front.4,
-        front.5,
-      )
+  -- the answer is that of any text that was read
+  by_usage : (Is : List ℕ → Type 0) (Misuse : UsageKind → Type 0) (text other : List ℕ)
+      (u : Option UsageKind)
+      → MatchOption u (ReadsFile (file_of words) text before after) (λ kind. after ≡ before)
+      → MatchOption u (ReadsFile (file_of words) other before after) (λ kind. after ≡ before)
+      → MatchOption u (Is text) Misuse → MatchOption u (Is other) Misuse
+  by_usage Is Misuse text other None reads others is =
+      subst Is (reads_one (file_of words) text other before after reads others) is
+  by_usage Is Misuse text other (Some kind) reads others is = is
 
-  -- Done is no acceptance where the command is another one
-  pub other_command : (other : Command) → (command ≡ other → ⊥) → command_of words ≡ other → ⊥
-  other_command other differ asked = differ (sym same_command ∙ asked)
+  same_answer : (text other stimulus : List ℕ) (a : Answer) (printed : List ℕ) → IsRead text
+      → IsRead other → IsAnswer words text stimulus a printed
+      → IsAnswer words other stimulus a printed
+  same_answer text other stimulus a printed reads others is =
+      by_usage (λ t. (r : Request) × (request_of words ≡ Some r)
+      × IsAnswerBy r t stimulus a printed)
+      (λ kind. (a ≡ misused kind) × (printed ≡ usage_text kind)) text other (usage_of words) reads
+      others is
 
--- where they are none the answer is what is wrong with them
-pub misuse_sent : (o : Option Answer) (words : List (List ℕ)) (kind : UsageKind) (outcome : Outcome)
-    (printed old new : List ℕ) (exchanges : List Exchange)
-    → usage_of words ≡ Some kind → answer_of outcome ≡ Some (misused kind)
-    → printed ≡ usage_text kind
-    → IfSome o (λ a. answer_of outcome ≡ Some a) → IfSome o (λ a. new ≡ old ++ printed)
-    → IfSome o (λ a. (x x' : List ℕ) × Reads words x exchanges exchanges × IsAnswer words x a x'
-    × (new ≡ old ++ x'))
-misuse_sent None words kind outcome printed old new exchanges usage gives prints answered all = tt
-misuse_sent (Some a) words kind outcome printed old new exchanges usage gives prints answered all =
-    let same : a ≡ misused kind = cc in (
-      [],
-      printed,
-      subst (λ (u : Option UsageKind).
-          MatchOption u (ReadsFile (file_of words) [] exchanges exchanges) (λ k.
-          exchanges ≡ exchanges)) (sym usage) refl,
-      subst (λ (u : Option UsageKind).
-          MatchOption u (IsAnswerBy (command_of words) (top_of words) [] a printed) (λ k.
-          (a ≡ misused k) × (printed ≡ usage_text k))) (sym usage) (same, prints),
-      all,
+  -- ---- what is done with what is prepared
+
+  module _ (prepared : Prepared)
+      (found : (text : List ℕ) × Reads words text before after
+      × PreparesWords words text prepared) where
+    pub answer_told : (o : Option Answer) (Given Accepted : List ℕ → Type 0)
+        → IfSome o (λ a. (s p : List ℕ) × Given s × IsPerformed prepared s a p × Accepted p)
+        → IfSome o (λ a. (t s p : List ℕ) × IsRead t × Given s × IsAnswer words t s a p
+        × Accepted p)
+    answer_told None Given Accepted made = tt
+    answer_told (Some a) Given Accepted made = (
+      found.0,
+      made.0,
+      made.1,
+      found.1,
+      made.2,
+      found.2.stands made.0 a made.1 made.3,
+      made.4,
     )
 
--- and so a front of what is said of them was accepted
-pub misuse_front : (o : Option Answer) (words : List (List ℕ)) (kind : UsageKind)
-    (printed old new : List ℕ) (exchanges : List Exchange)
-    → usage_of words ≡ Some kind → printed ≡ usage_text kind
-    → IfNone o (WritesFront old printed new)
-    → IfNone o ((new ≡ old) ⊎ ((x : List ℕ) × (a : Answer) × (x' : List ℕ)
-    × Reads words x exchanges exchanges × IsAnswer words x a x' × WritesFront old x' new))
-misuse_front (Some a) words kind printed old new exchanges usage prints front = tt
-misuse_front None words kind printed old new exchanges usage prints front = inr (
-  [],
-  misused kind,
-  printed,
-  subst (λ (u : Option UsageKind).
-      MatchOption u (ReadsFile (file_of words) [] exchanges exchanges) (λ k.
-      exchanges ≡ exchanges)) (sym usage) refl,
-  subst (λ (u : Option UsageKind).
-      MatchOption u (IsAnswerBy (command_of words) (top_of words) [] (misused kind) printed) (λ k.
-      (misused kind ≡ misused k) × (printed ≡ usage_text k))) (sym usage) (refl, prints),
-  front,
-)
+    pub whole_told : (o : Option Answer) (left : List ℕ) (Accepted : List ℕ → Type 0)
+        → IfSome o (λ a. (p : List ℕ) × IsPerformed prepared left a p × Accepted p)
+        → IfSome o (λ a. (t p : List ℕ) × IsRead t × IsAnswer words t left a p × Accepted p)
+    whole_told None left Accepted made = tt
+    whole_told (Some a) left Accepted made =
+        (found.0, made.0, found.1, found.2.stands left a made.0 made.1, made.2)
+
+    -- no other answer is that of what was read and taken
+    pub only_told : (o : Option Answer) (Given : List ℕ → Type 0)
+        → ((s : List ℕ) (a : Answer) (p : List ℕ) → Given s → IsPerformed prepared s a p
+        → IfSome o (λ b. b ≡ a))
+        → (t s : List ℕ) (a : Answer) (p : List ℕ) → IsRead t → Given s
+        → IsAnswer words t s a p → IfSome o (λ b. (b ≡ a) ⊎ AreCircles a b)
+    only_told o Given only t s a p reads given is =
+        let own = found.2.only s a p (same_answer t found.0 s a p reads found.1 is) in
+        sort o own.0 own.3 (only s own.0 own.1 given own.2)
+      where
+        sort : (o : Option Answer) (b : Answer) → (a ≡ b) ⊎ AreCircles a b
+            → IfSome o (λ c. c ≡ b) → IfSome o (λ c. (c ≡ a) ⊎ AreCircles a c)
+        sort None b own is = tt
+        sort (Some c) b (inl one) is = inl (is ∙ sym one)
+        sort (Some c) b (inr circles) is = inr (subst (AreCircles a) (sym is) circles)
+
+    -- without an answer a front of what is defined was accepted
+    pub front_told : (o : Option Answer) (Same : Type 0) (Given Front : List ℕ → Type 0)
+        → IfNone o ((s : List ℕ) × (a : Answer) × (p : List ℕ) × Given s
+        × IsPerformed prepared s a p × Front p)
+        → IfNone o (Same ⊎ ((t s : List ℕ) × (a : Answer) × (p : List ℕ) × IsRead t × Given s
+        × IsAnswer words t s a p × Front p))
+    front_told (Some b) Same Given Front made = tt
+    front_told None Same Given Front made =
+        inr (
+          found.0,
+          made.0,
+          made.1,
+          made.2,
+          found.1,
+          made.3,
+          found.2.stands made.0 made.1 made.2 made.4,
+          made.5,
+        )
+
+    pub whole_front_told : (o : Option Answer) (Same : Type 0) (left : List ℕ)
+        (Front : List ℕ → Type 0)
+        → IfNone o ((a : Answer) × (p : List ℕ) × IsPerformed prepared left a p × Front p)
+        → IfNone o (Same ⊎ ((t : List ℕ) × (a : Answer) × (p : List ℕ) × IsRead t
+        × IsAnswer words t left a p × Front p))
+    whole_front_told (Some b) Same left Front made = tt
+    whole_front_told None Same left Front made =
+        inr (
+          found.0,
+          made.0,
+          made.1,
+          found.1,
+          found.2.stands left made.0 made.1 made.2,
+          made.3,
+        )
+
+  -- where a text was read something was handed out
+  pub read_silent : (text : List ℕ) (Same : Type 0) → IsRead text
+      → after ≡ before ++ fetched (file_of words) nothing ∷ [] → Same
+  read_silent text Same reads failed = by_words (usage_of words) reads
+    where
+      by_words : (u : Option UsageKind)
+          → MatchOption u (ReadsFile (file_of words) text before after) (λ kind. after ≡ before)
+          → Same
+      by_words None is =
+          absurd (reads_none (file_of words) text before after is failed)
+      by_words (Some kind) unchanged =
+          let both : before ++ [] ≡ before ++ fetched (file_of words) nothing ∷ [] =
+          append-nil before ∙ sym unchanged ∙ failed in
+          let none = append_cancel_left before [] (fetched (file_of words) nothing ∷ []) both in
+          absurd cc
+
+  -- what is simulated is the design of the text that was read
+  simulation_of : (text : List ℕ) (prepared : Prepared)
+      (Holds : Option (List ℕ) → FlatDesign → Type 0)
+      → IsOtherOrWith (Simulates words text) prepared → IsSimulationWith Holds prepared
+      → (level : Option (List ℕ)) × (design : FlatDesign) × Simulates words text level design
+      × Holds level design
+  simulation_of text (Whole report) Holds may is = absurd is
+  simulation_of text (Lines design queries) Holds may is = absurd is
+  simulation_of text (Simulation design level order) Holds may is = (_, _, may, is)
+
+  module _ (prepared : Prepared)
+      (found : (text : List ℕ) × Reads words text before after
+      × PreparesWords words text prepared) (Same : Type 0) where
+    -- the input is as it was, or something is simulated
+    pub left_told : Same ⊎ IsSimulationWith (λ level design. ⊤) prepared
+        → Same ⊎ ((t : List ℕ) × (level : Option (List ℕ)) × (design : FlatDesign) × IsRead t
+        × Simulates words t level design)
+    left_told (inl same) = inl same
+    left_told (inr is) =
+        let s = simulation_of found.0 prepared (λ level design. ⊤) found.2.simulates is in
+        inr (found.0, s.0, s.1, found.1, s.2)
+
+    pub untouched_told : (Holds : Option (List ℕ) → FlatDesign → Type 0)
+        → Same ⊎ IsSimulationWith Holds prepared
+        → Same ⊎ ((t : List ℕ) × (level : Option (List ℕ)) × (design : FlatDesign) × IsRead t
+        × Simulates words t level design × Holds level design)
+    untouched_told Holds (inl same) = inl same
+    untouched_told Holds (inr is) =
+        let s = simulation_of found.0 prepared Holds found.2.simulates is in
+        inr (found.0, s.0, s.1, found.1, s.2, s.3)
+
+  -- ---- what an answer to the words says
+
+  module _ (text stimulus printed : List ℕ) (a : Answer) where
+    abbrev IsAnswered : Option UsageKind → Type 0
+    IsAnswered u =
+        MatchOption u ((r : Request) × (request_of words ≡ Some r)
+        × IsAnswerBy r text stimulus a printed)
+        (λ kind. (a ≡ misused kind) × (printed ≡ usage_text kind))
+
+    misuse_in : (u : Option UsageKind) → IsAnswered u
+        → MatchOption u ⊤ (λ kind. a ≡ misused kind)
+    misuse_in None is = tt
+    misuse_in (Some kind) is = is.0
+
+    -- of words for `check`, that the text is accepted
+    accepted_in : (r : Request) → command_in r ≡ name.Check → IsAnswerBy r text stimulus a printed
+        → a ≡ done → (top : Option (List ℕ)) × IsAccepted top text printed
+    accepted_in (check file top) named is accepts =
+        (top, subst (λ (b : Answer). IsVerdict top text b printed) accepts is)
+    accepted_in (list file top) named is accepts = absurd cc
+    accepted_in (sim file level order top) named is accepts = absurd cc
+
+    secrets_in : (u : Option UsageKind) → usage_of words ≡ u → IsRead text → IsAnswered u
+        → command_of words ≡ Some name.Check → a ≡ done
+        → (after ≡ before ++ fetched (file_of words) (whole text) ∷ []) × KeepsSecrets text
+    secrets_in (Some kind) usage reads is checks accepts =
+        let both : misused kind ≡ done = sym is.0 ∙ accepts in absurd cc
+    secrets_in None usage reads is checks accepts =
+        let named : Some (command_in is.0) ≡ Some name.Check =
+        sym (ap (option_map command_in) is.1) ∙ checks in
+        let accepted = accepted_in is.0 (let n = named in cc) is.2 accepts in (
+          reads_whole (file_of words) text before after accepted.1.form.within
+              (command_reads text usage reads),
+          keeps_secrets accepted.0 text printed accepted.1,
+        )
+
+  pub usage_told : (o : Option Answer) (Given Accepted : List ℕ → Type 0)
+      → IfSome o (λ a. (t s p : List ℕ) × IsRead t × Given s × IsAnswer words t s a p
+      × Accepted p)
+      → MatchOption (usage_of words) ⊤ (λ kind. IfSome o (λ a. a ≡ misused kind))
+  usage_told None Given Accepted answered = by_words (usage_of words)
+    where
+      by_words : (u : Option UsageKind) → MatchOption u ⊤ (λ kind. ⊤)
+      by_words None = tt
+      by_words (Some kind) = tt
+  usage_told (Some a) Given Accepted answered =
+      misuse_in answered.0 answered.1 answered.2 a (usage_of words) answered.5
+
+  pub secrets_told : (result : Outcome) (Given Accepted : List ℕ → Type 0) → result ≡ Done
+      → command_of words ≡ Some name.Check
+      → IfSome (answer_of result) (λ a. (t s p : List ℕ) × IsRead t × Given s
+      × IsAnswer words t s a p × Accepted p)
+      → (text : List ℕ) × (after ≡ before ++ fetched (file_of words) (whole text) ∷ [])
+      × KeepsSecrets text
+  secrets_told result Given Accepted is_done checks answered =
+      let told = subst (λ (r : Outcome). IfSome (answer_of r) (λ a. (t s p : List ℕ) × IsRead t
+      × Given s × IsAnswer words t s a p × Accepted p)) is_done answered in
+      let kept = secrets_in told.0 told.1 told.2 done (usage_of words) refl told.3 told.5 checks
+      refl in
+      (told.0, kept.0, kept.1)
+
+  -- what passed: one fetch of FILE, or nothing
+  pub fetch_told : (E R : Type 0) → (E → R)
+      → MatchOption (usage_of words)
+      (((got : Fetched) × (after ≡ before ++ fetched (file_of words) got ∷ []))
+      ⊎ (E × (after ≡ before))) (λ kind. after ≡ before)
+      → MatchOption (usage_of words)
+      (((got : Fetched) × (after ≡ before ++ fetched (file_of words) got ∷ []))
+      ⊎ (R × (after ≡ before))) (λ kind. after ≡ before)
+  fetch_told E R turn passed = by_words (usage_of words) passed
+    where
+      by_words : (u : Option UsageKind)
+          → MatchOption u (((got : Fetched) × (after ≡ before ++ fetched (file_of words) got ∷ []))
+          ⊎ (E × (after ≡ before))) (λ kind. after ≡ before)
+          → MatchOption u (((got : Fetched) × (after ≡ before ++ fetched (file_of words) got ∷ []))
+          ⊎ (R × (after ≡ before))) (λ kind. after ≡ before)
+      by_words None (inl fetch) = inl fetch
+      by_words None (inr other) = inr (turn other.0, other.1)
+      by_words (Some kind) unchanged = unchanged
+
+  -- a fetch that handed out nothing
+  pub failed_fetch : (R : Type 0) → usage_of words ≡ None
+      → after ≡ before ++ fetched (file_of words) nothing ∷ []
+      → MatchOption (usage_of words)
+      (((got : Fetched) × (after ≡ before ++ fetched (file_of words) got ∷ []))
+      ⊎ (R × (after ≡ before))) (λ kind. after ≡ before)
+  failed_fetch R none failed =
+      subst (λ (u : Option UsageKind). MatchOption u
+      (((got : Fetched) × (after ≡ before ++ fetched (file_of words) got ∷ []))
+      ⊎ (R × (after ≡ before))) (λ kind. after ≡ before)) (sym none) (inl (nothing, failed))
+
+  -- no text is read of it
+  pub nothing_read : (text : List ℕ) → usage_of words ≡ None
+      → after ≡ before ++ fetched (file_of words) nothing ∷ [] → IsRead text → ⊥
+  nothing_read text none failed reads =
+      reads_none (file_of words) text before after (command_reads text none reads) failed
+
+  -- ---- a fault of the input
+
+  module _ (prepared : Prepared)
+      (found : (text : List ℕ) × Reads words text before after
+      × PreparesWords words text prepared) (s old new : List ℕ)
+      (is : IsSimulationWith (λ level design. WritesAllCycles design level s old new) prepared)
+    where
+      told_cycles : WritesCycles words found.0 s old new
+      told_cycles = cycles_told words found.0 s old new prepared found.2.simulates is
+
+      pub fault_told : usage_of words ≡ None
+      fault_told = told_cycles.simulates.is_command
+
+      pub prompt_told : (text : List ℕ) → IsRead text → WritesCycles words text s old new
+      prompt_told text reads =
+          subst (λ (t : List ℕ). WritesCycles words t s old new)
+          (reads_one (file_of words) found.0 text before after
+          (command_reads found.0 fault_told found.1) (command_reads text fault_told reads))
+          told_cycles

@@ -21,6 +21,7 @@ use Rattle.sv_first_ast.specs.Obligations.{zeros}
 use Rattle.sv_first.proofs.Readings.{one_module}
 use Rattle.sv_cli.specs.Text.{accepted_text, refusal_text, limit_text, leak_text}
 use Rattle.sv_cli.specs.Answer.{Answer, done, rule_broken, limit_passed, falsified, misused}
+use Rattle.sv_cli.specs.Answer.{stimulus_refused}
 use Rattle.sv_cli.specs.Answer.{has_unbuilt_item, HasUnbuiltItem, IsNotBuilt, BreaksElaboration}
 use Rattle.sv_cli.specs.Answer.{StandsFor, BreaksAdmission, BreaksFirst, Passes, IsFirstForm}
 use Rattle.sv_cli.specs.Answer.{IsUndecided, IsRefused, IsAccepted, IsFalsified, IsVerdict}
@@ -356,6 +357,7 @@ module _ (top : Option (List ℕ)) where
       let a = v.form.within in let b = w.0 in absurd (omega arith)
   one_accepted text printed v (falsified number values) others w =
       absurd (accepted_falsified text printed number values others v w)
+  one_accepted text printed v (stimulus_refused source line kind) others w = absurd w
   one_accepted text printed v (misused kind) others w = absurd w
 
   one_refused : (text : List ℕ) (n : ℕ) (p : Place) (ns : List (List ℕ)) (printed : List ℕ)
@@ -370,6 +372,7 @@ module _ (top : Option (List ℕ)) where
       let a = v.within in let b = w.0 in absurd (omega arith)
   one_refused text n p ns printed v (falsified number values) others w =
       absurd (no_refused text w.tree w.form n p ns printed v)
+  one_refused text n p ns printed v (stimulus_refused source line kind) others w = absurd w
   one_refused text n p ns printed v (misused kind) others w = absurd w
 
   -- what is asked of a text that passes a limit
@@ -399,6 +402,7 @@ module _ (top : Option (List ℕ)) where
       inl (two_large text m n ms ns others printed w v)
   one_large text n ns printed v (falsified number values) others w =
       let a = w.form.within in let b = v.0 in absurd (omega arith)
+  one_large text n ns printed v (stimulus_refused source line kind) others w = absurd w
   one_large text n ns printed v (misused kind) others w = absurd w
 
   one_falsified : (text : List ℕ) (n : ℕ) (values : Values) (printed : List ℕ)
@@ -413,6 +417,7 @@ module _ (top : Option (List ℕ)) where
       let a = v.form.within in let b = w.0 in absurd (omega arith)
   one_falsified text n values printed v (falsified m values') others w =
       inl (two_falsified text m n values' values others printed w v)
+  one_falsified text n values printed v (stimulus_refused source line kind) others w = absurd w
   one_falsified text n values printed v (misused kind) others w = absurd w
 
   -- two verdicts on a text are one
@@ -427,4 +432,5 @@ module _ (top : Option (List ℕ)) where
       one_large text n ns printed v other others w
   verdict_is_one text (falsified n values) printed v other others w =
       one_falsified text n values printed v other others w
+  verdict_is_one text (stimulus_refused source line kind) printed v other others w = absurd v
   verdict_is_one text (misused kind) printed v other others w = absurd v

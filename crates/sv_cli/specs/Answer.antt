@@ -20,15 +20,20 @@ use Rattle.sv_first_ast.specs.Form.{is_first_form}
 use Rattle.sv_first_ast.specs.Spelling.{Means}
 use Rattle.sv_first_ast.specs.Obligations.{Obligation, Values, obligations, flow_holds, Falsifies}
 use Rattle.sv_first_ast.specs.Obligations.{zeros}
-use Rattle.sv_cli.specs.declared.arguments.Command.{Command}
-use Rattle.sv_cli.specs.declared.arguments.Command.TheVariants as commands
-use Rattle.sv_cli.specs.declared.outcome.UsageKind.{UsageKind}
+use Rattle.sv_trace.specs.declared.faults.StimKind.{StimKind}
+use Rattle.sv_words.specs.Words.{Request, check, list, sim, request_of, usage_of}
+use Rattle.sv_words.specs.declared.command.UsageKind.{UsageKind}
+use Rattle.sv_simulate.specs.declared.endings.Ending.{Ending}
+use Rattle.sv_simulate.specs.declared.endings.Ending.TheVariants as endings
+use Rattle.sv_text_laws.specs.SimulatedTexts.{IsTextSimulated, WritesTextCycles}
 use Rattle.sv_cli.specs.declared.outcome.Valuation.{Valuation}
+use Rattle.sv_cli.specs.declared.outcome.StimSource.{StimSource}
+use Rattle.sv_cli.specs.declared.outcome.StimSource.TheVariants.{Input}
 use Rattle.sv_cli.specs.declared.outcome.Outcome.{Outcome}
 use Rattle.sv_cli.specs.declared.outcome.Outcome.TheVariants as outcome
 use Rattle.sv_cli.specs.declared.outcome.Broken.TheVariants as broken
 use Rattle.sv_io.specs.Exchange.{Exchange, fetched, whole, too_long}
-use Rattle.sv_cli.specs.Command.{usage_of, command_of, file_of, top_of}
+use Rattle.sv_cli.specs.Command.{file_of}
 use Rattle.sv_cli.specs.Text.{usage_text, accepted_text, refusal_text, limit_text, leak_text}
 
 -- the exit status
@@ -40,13 +45,14 @@ status_of outcome.ReadFault = 4
 status_of outcome.WriteFault = 5
 status_of outcome.OutOfMemory = 6
 
--- an answer that the words and the text decide, in plain values; `done` is that the text is
--- accepted, or that its obligations are listed
+-- An answer that the words, the text and the stimulus decide, in plain values. `done` is that the
+-- text is accepted, that its obligations are listed, or that the whole stimulus is simulated.
 pub data Answer : Type 0 where
   done : Answer
   rule_broken : ℕ → Place → List (List ℕ) → Answer
   limit_passed : ℕ → List (List ℕ) → Answer
   falsified : ℕ → Values → Answer
+  stimulus_refused : StimSource → (line : ℕ) → StimKind → Answer
   misused : UsageKind → Answer
 
 abbrev pub values_of : Valuation → Values
@@ -59,6 +65,8 @@ answer_of outcome.Done = Some done
 answer_of (outcome.Refused (broken.Rule r)) = Some (rule_broken r.number r.place r.names.items)
 answer_of (outcome.Refused (broken.Limit number names)) = Some (limit_passed number names.items)
 answer_of (outcome.Refused (broken.Fails number v)) = Some (falsified number (values_of v))
+answer_of (outcome.Refused (broken.Stimulus source line kind)) =
+    Some (stimulus_refused source line kind)
 answer_of (outcome.Usage kind) = Some (misused kind)
 answer_of outcome.ReadFault = None
 answer_of outcome.WriteFault = None
@@ -191,6 +199,7 @@ IsVerdict top text (rule_broken number place names) printed =
     IsRefused top text number place names printed
 IsVerdict top text (limit_passed number names) printed = IsTooLarge text number names printed
 IsVerdict top text (falsified number v) printed = IsFalsified top text number v printed
+IsVerdict top text (stimulus_refused source line kind) printed = ⊥
 IsVerdict top text (misused kind) printed = ⊥
 
 -- ---- lists of obligations
@@ -239,15 +248,67 @@ IsListing top text (rule_broken number place names) printed =
 IsListing top text (limit_passed number names) printed =
     IsTooLarge text number names printed ⊎ PassesLimit top text number names printed
 IsListing top text (falsified number v) printed = ⊥
+IsListing top text (stimulus_refused source line kind) printed = ⊥
 IsListing top text (misused kind) printed = ⊥
 
--- ---- words and texts
+-- ---- simulations
 
--- what a command answers for a text with this top, and what it prints
-abbrev pub IsAnswerBy : Command → (top : Option (List ℕ)) → (text : List ℕ) → Answer → List ℕ →
-    Type 0
-IsAnswerBy commands.Check top text answer printed = IsVerdict top text answer printed
-IsAnswerBy commands.List top text answer printed = IsListing top text answer printed
+-- what is answered where a simulation ends so
+abbrev pub answer_by : Ending → Answer
+answer_by endings.Done = done
+answer_by endings.NoLevel = limit_passed 707 []
+answer_by endings.TooLarge = limit_passed 704 []
+answer_by (endings.WrongLine line kind) = stimulus_refused Input line kind
+
+-- The text breaks no rule. Its own cycle meaning is simulated on the stimulus, and what is printed
+-- is the trace and, at its end, why it ends.
+pub record IsSimulatedText (level : Option (List ℕ)) (order : Option ℕ) (top : Option (List ℕ))
+    (text stimulus : List ℕ) (answer : Answer) (printed : List ℕ) : Type 0 where
+  pub within : length text ≤ largest_file
+  pub passes : Passes top text
+  pub ends : Ending
+  pub simulates : IsTextSimulated passes.stands.tree top passes.design level order stimulus ends
+      printed
+  pub answers : answer ≡ answer_by ends
+
+-- What `sim` answers for a text with this level, order and top on a stimulus, and what it prints.
+abbrev pub IsSimulation : (level : Option (List ℕ)) → (order : Option ℕ) →
+    (top : Option (List ℕ)) → (text stimulus : List ℕ) → Answer → List ℕ → Type 0
+IsSimulation level order top text stimulus (rule_broken number place names) printed =
+    IsRefusedByRule top text number place names printed
+IsSimulation level order top text stimulus (limit_passed number names) printed =
+    IsTooLarge text number names printed
+    ⊎ IsSimulatedText level order top text stimulus (limit_passed number names) printed
+IsSimulation level order top text stimulus answer printed =
+    IsSimulatedText level order top text stimulus answer printed
+
+-- The words are `sim` with this level, and the text breaks no rule and stands for this design.
+pub record Simulates (words : List (List ℕ)) (text : List ℕ) (level : Option (List ℕ))
+    (design : FlatDesign) : Type 0 where
+  pub file : List ℕ
+  pub order : Option ℕ
+  pub top : Option (List ℕ)
+  pub is_command : usage_of words ≡ None
+  pub asked : request_of words ≡ Some (sim file level order top)
+  pub within : length text ≤ largest_file
+  pub stands : StandsFor top text design
+  pub admitted : IsAdmitted design
+
+-- what was accepted is the lines of all cycles that these first bytes of a stimulus let read
+pub record WritesCycles (words : List (List ℕ)) (text stimulus old new : List ℕ) : Type 0 where
+  pub level : Option (List ℕ)
+  pub design : FlatDesign
+  pub simulates : Simulates words text level design
+  pub cycles : WritesTextCycles simulates.stands.tree simulates.top level stimulus old new
+
+-- ---- words, texts and stimuli
+
+-- what a command answers for a text, and what it prints; the stimulus is what `sim` is given
+abbrev pub IsAnswerBy : Request → (text stimulus : List ℕ) → Answer → List ℕ → Type 0
+IsAnswerBy (check file top) text stimulus answer printed = IsVerdict top text answer printed
+IsAnswerBy (list file top) text stimulus answer printed = IsListing top text answer printed
+IsAnswerBy (sim file level order top) text stimulus answer printed =
+    IsSimulation level order top text stimulus answer printed
 
 -- Two answers that name circles of signals that read each other, both from the signal that rule 607
 -- tells of: where several circles begin there any of them is named.
@@ -272,11 +333,13 @@ abbrev pub Reads : List (List ℕ) → List ℕ → List Exchange → List Excha
 Reads words text old new =
     MatchOption (usage_of words) (ReadsFile (file_of words) text old new) (λ kind. new ≡ old)
 
--- What the program answers to these words and the text that it reads, and what it prints.
-abbrev pub IsAnswer : List (List ℕ) → List ℕ → Answer → List ℕ → Type 0
-IsAnswer words text answer printed =
+-- What the program answers to these words, the text that it reads and the stimulus that it takes,
+-- and what it prints.
+abbrev pub IsAnswer : List (List ℕ) → (text stimulus : List ℕ) → Answer → List ℕ → Type 0
+IsAnswer words text stimulus answer printed =
     MatchOption (usage_of words)
-    (IsAnswerBy (command_of words) (top_of words) text answer printed) (λ kind.
+    ((request : Request) × (request_of words ≡ Some request)
+    × IsAnswerBy request text stimulus answer printed) (λ kind.
     (answer ≡ misused kind) × (printed ≡ usage_text kind))
 
 -- The text means exactly one module. Any two of its traces that look alike to a level have equal

@@ -3,5 +3,4 @@ pub mod Rules
 pub mod Text
 pub mod Answer
 pub mod Report
-pub mod Requests
-pub mod Listings
+pub mod Prepared

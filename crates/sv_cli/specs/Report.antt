@@ -10,9 +10,8 @@ use Rattle.sv_walk.specs.Texts.{flat_of, BreaksRule}
 use Rattle.sv_first_ast.specs.Obligations.{Values}
 use Rattle.sv_first_flow.specs.declared.leak.Leak.{Leak}
 use Rattle.sv_cli.specs.declared.outcome.Outcome.{Outcome}
-use Rattle.sv_cli.specs.declared.outcome.Outcome.TheVariants.{Done}
 use Rattle.sv_cli.specs.Answer.{has_unbuilt_item, IsNotBuilt, Answer, answer_of, IsVerdict}
-use Rattle.sv_cli.specs.Answer.{AreCircles, KeepsSecrets}
+use Rattle.sv_cli.specs.Answer.{AreCircles}
 
 -- 0 for each register and input
 abbrev pub zeros_for : Leak → Values
@@ -49,7 +48,6 @@ pub record IsOnlyAnswer (Is : Answer → List ℕ → Type 0) (given : Option An
       ((other ≡ answer) × (others ≡ printed)) ⊎ AreCircles other answer
 
 -- the outcome and what is printed with it are what `check` answers for the text
-pub record Decides (top : Option (List ℕ)) (text : List ℕ) (outcome : Outcome) (printed : List ℕ) :
-    Type 0 where
-  pub verdict : IsOnlyAnswer (IsVerdict top text) (answer_of outcome) printed
-  pub secrets : outcome ≡ Done → KeepsSecrets text
+abbrev pub Decides : (top : Option (List ℕ)) → (text : List ℕ) → Outcome → (printed : List ℕ) →
+    Type 0
+Decides top text outcome printed = IsOnlyAnswer (IsVerdict top text) (answer_of outcome) printed

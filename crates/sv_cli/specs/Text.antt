@@ -6,8 +6,8 @@ use Rattle.sv_num.specs.declared.faults.Place.{Place}
 use Rattle.sv_first_ast.specs.Tree.{ModuleTree}
 use Rattle.sv_first_ast.specs.Meaning.{signals, is_input, is_register}
 use Rattle.sv_first_ast.specs.Obligations.{Obligation, Values}
-use Rattle.sv_cli.specs.declared.outcome.UsageKind.{UsageKind}
-use Rattle.sv_cli.specs.declared.outcome.UsageKind.TheVariants.{NoCommand, UnknownCommand, Words}
+use Rattle.sv_words.specs.declared.command.UsageKind.{UsageKind}
+use Rattle.sv_words.specs.declared.command.UsageKind.TheVariants.{NoCommand, UnknownCommand, Words}
 use Rattle.sv_cli.specs.Rules.{rule_name}
 
 abbrev pub usage_name : UsageKind → List ℕ

@@ -9,7 +9,7 @@ ghost use Rattle.sv_flat.specs.Views.{design_of};
 ghost use Rattle.sv_cli.specs.Answer.{largest_file, is_unbuilt_item, has_unbuilt_item};
 ghost use Rattle.sv_cli.specs.Answer.{BreaksFirst, StandsFor};
 ghost use Rattle.sv_cli.specs.Report.{IsFaultBy, BreaksAsTree, IsFlatOf};
-ghost use Rattle.sv_cli.specs.Requests.{text_of};
+ghost use Rattle.std.specs.Option.{option_copied};
 
 use std::alloc::Global;
 use sv_ast::{Item, Module, Text};
@@ -69,9 +69,9 @@ fn flat_of_tree(alloc: Global, text: &Text, top: Option<&str>) -> Result<Flat, F
     requires pairs { IfSome text.now.lattice (λ l. length l.pairs.items < 2 ^ 32) }
     requires maps { length text.now.maps.items < 2 ^ 32 }
     ensures found { IfOk result
-        (λ flat. IsFlatOf (text_of top.entry) (text_tree text.now) (design_of flat)) }
+        (λ flat. IsFlatOf (option_copied top.entry) (text_tree text.now) (design_of flat)) }
     ensures broken { IfErr result
-        (IsFaultBy (BreaksAsTree (text_of top.entry) (text_tree text.now))) }
+        (IsFaultBy (BreaksAsTree (option_copied top.entry) (text_tree text.now))) }
     ensures sound { IfOk result (λ flat. IsTrue (sound (design_of flat))) }
 {
     if has_unbuilt_item(text) {
@@ -85,8 +85,8 @@ fn flat_of_tree(alloc: Global, text: &Text, top: Option<&str>) -> Result<Flat, F
 fn flat_of_text(alloc: Global, bytes: &[u8], top: Option<&str>) -> Result<Flat, Fault>
     requires { length bytes.now ≤ largest_file }
     ensures found { IfOk result
-        (λ flat. StandsFor (text_of top.entry) bytes.now (design_of flat)) }
-    ensures broken { IfErr result (IsFaultBy (BreaksFirst (text_of top.entry) bytes.now)) }
+        (λ flat. StandsFor (option_copied top.entry) bytes.now (design_of flat)) }
+    ensures broken { IfErr result (IsFaultBy (BreaksFirst (option_copied top.entry) bytes.now)) }
     ensures sound { IfOk result (λ flat. IsTrue (sound (design_of flat))) }
 {
     match read_text(alloc, bytes) {
@@ -112,9 +112,9 @@ fn admitted(alloc: Global, flat: Flat) -> Result<Design, Fault>
 pub fn design_of_text(alloc: Global, bytes: &[u8], top: Option<&str>) -> Result<Design, Fault>
     requires { length bytes.now ≤ largest_file }
     ensures stands { IfOk result
-        (λ design. StandsFor (text_of top.entry) bytes.now (design_of design)) }
+        (λ design. StandsFor (option_copied top.entry) bytes.now (design_of design)) }
     ensures admitted { IfOk result (λ design. IsAdmitted (design_of design)) }
-    ensures broken { IfErr result (IsFaultBy (BreaksFirst (text_of top.entry) bytes.now)) }
+    ensures broken { IfErr result (IsFaultBy (BreaksFirst (option_copied top.entry) bytes.now)) }
 {
     let flat = flat_of_text(alloc, bytes, top)?;
     admitted(alloc, flat)

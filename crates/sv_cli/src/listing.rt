@@ -1,7 +1,6 @@
 // What `list` writes: the line of each obligation, or why there are none.
 ghost use Rattle.std.specs.Prelude.{◌≡◌, ◌≤◌, ◌<◌, ◌++◌, ◌∷◌, [], IfOk, IsErrOf, OnOk, OnErr};
 ghost use Rattle.std.specs.Prelude.{length, map};
-ghost use Rattle.sv_flat.specs.Admission.{IsAdmitted};
 ghost use Rattle.sv_flat.specs.Views.{design_of};
 ghost use Rattle.sv_io.specs.Count.{Rose};
 ghost use Rattle.sv_io.specs.Sink.{WritesFront};
@@ -10,47 +9,24 @@ ghost use Rattle.sv_obl.specs.DesignQueries.{IsQueryOf, IsPlaced};
 ghost use Rattle.sv_obl.specs.Limits.{excess};
 ghost use Rattle.sv_obl.specs.ListLines.{name_of, lines_from, list_line as line_of};
 ghost use Rattle.sv_obl.specs.Views.{obligation_of};
-ghost use Rattle.sv_cli.specs.Answer.{largest_file, StandsFor};
-ghost use Rattle.sv_cli.specs.Listings.{HasLines, Lists, ListsDesign, TellsLimit};
-ghost use Rattle.sv_cli.specs.Requests.{text_of};
+ghost use Rattle.sv_cli.specs.Prepared.{HasLines, ListsDesign, TellsLimit};
 
-use crate::designs::design_of_text;
-use crate::report::{Report, report_of_limit, report_of_refusal};
+use crate::prepared::Prepared;
+use crate::report::{Report, report_of_limit};
 use std::alloc::{AllocError, Global};
 use sv_design::Design;
 use sv_flat::SigId;
 use sv_io::{PutFault, Sink, put_all};
-use sv_num::{Fault, Name};
+use sv_num::Name;
 use sv_obl::{OblFault, Query, list_line, obligations};
 
-/// What `list` is to write of a text.
-#[derive(Drop)]
-pub enum Listing {
-    /// A refusal.
-    Refused(Report),
-    /// The line of each obligation of the design.
-    Lines(Design, Vec<Query>),
-}
-
-/// What `list` is to write of a text within the limit, with the top that is asked for.
-pub fn listing_of(alloc: Global, bytes: &[u8], top: Option<&str>) -> Result<Listing, AllocError>
-    requires { length bytes.now ≤ largest_file }
-    ensures { IfOk result (λ listing. Lists (text_of top.entry) bytes.now listing) }
-{
-    match design_of_text(alloc, bytes, top) {
-        Ok(design) => listing_of_design(alloc, design),
-        Err(Fault::Rule(refusal)) => Ok(Listing::Refused(report_of_refusal(alloc, refusal)?)),
-        Err(Fault::OutOfMemory) => Err(AllocError),
-    }
-}
-
-// What is to be written of an admitted design.
-fn listing_of_design(alloc: Global, design: Design) -> Result<Listing, AllocError>
+/// What is prepared of an admitted design to list its obligations.
+pub fn lines_of_design(alloc: Global, design: Design) -> Result<Prepared, AllocError>
     ensures { IfOk result (ListsDesign (design_of design)) }
 {
     match obligations(alloc, &design) {
-        Ok(queries) => Ok(Listing::Lines(design, queries)),
-        Err(fault) => Ok(Listing::Refused(report_of_fault(alloc, &design, fault)?)),
+        Ok(queries) => Ok(Prepared::Lines(design, queries)),
+        Err(fault) => Ok(Prepared::Whole(report_of_fault(alloc, &design, fault)?)),
     }
 }
 

@@ -4,17 +4,8 @@ ghost use Rattle.std.specs.Prelude.{◌≡◌};
 ghost use Rattle.sv_cli.specs.Answer.{status_of};
 
 use sv_num::{Name, Refusal};
-
-/// What is wrong with the words.
-#[derive(Clone, Copy, Debug, PartialEq, Eq)]
-pub enum UsageKind {
-    /// There are no words.
-    NoCommand,
-    /// The first word is no command.
-    UnknownCommand,
-    /// The other words do not go with the command.
-    Words,
-}
+use sv_trace::StimKind;
+use sv_words::UsageKind;
 
 /// Values of the registers and inputs in a cycle, and of the inputs in the next, each in signal
 /// order.
@@ -28,6 +19,17 @@ pub struct Valuation {
     pub next_inputs: Vec<u64>,
 }
 
+/// Where a stimulus comes from.
+#[derive(Clone, Copy, Debug, PartialEq, Eq)]
+pub enum StimSource {
+    /// The input.
+    Input,
+    /// The first of two files.
+    FileA,
+    /// The second of two files.
+    FileB,
+}
+
 /// Why a text is refused.
 #[derive(Debug, Drop)]
 pub enum Broken {
@@ -37,18 +39,20 @@ pub enum Broken {
     Limit(u16, Vec<Name>),
     /// The obligation of this number, from 1, fails at these values.
     Fails(u32, Valuation),
+    /// The line of this number, from 1, is the first wrong one of the stimulus.
+    Stimulus(StimSource, u64, StimKind),
 }
 
 /// What `run` comes to.
 #[derive(Debug, Drop)]
 pub enum Outcome {
-    /// The text is accepted, or its obligations are listed.
+    /// The text is accepted, its obligations are listed, or its design is simulated.
     Done,
-    /// The text is refused.
+    /// The text or the stimulus is refused.
     Refused(Broken),
     /// The words are no command.
     Usage(UsageKind),
-    /// The file could not be read.
+    /// The file or the input could not be read.
     ReadFault,
     /// The output could not be written.
     WriteFault,

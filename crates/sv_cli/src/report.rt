@@ -4,15 +4,16 @@ ghost use Rattle.sv_cli.specs.Text.{usage_text, accepted_text, refusal_text, lim
 ghost use Rattle.sv_cli.specs.Answer.{answer_of, done, rule_broken, limit_passed, falsified};
 ghost use Rattle.sv_cli.specs.Answer.{misused, largest_file, Passes};
 ghost use Rattle.sv_cli.specs.Report.{Decides, zeros_for};
-ghost use Rattle.sv_cli.specs.Requests.{text_of};
+ghost use Rattle.std.specs.Option.{option_copied};
 
-use crate::designs::{design_of_text, unbuilt_form};
-use crate::outcome::{Broken, Outcome, UsageKind, Valuation};
+use crate::designs::unbuilt_form;
+use crate::outcome::{Broken, Outcome, Valuation};
 use crate::text;
 use std::alloc::{AllocError, Global};
 use sv_first::read_module;
 use sv_first_flow::{Finding, Leak, check};
-use sv_num::{Fault, Name, Refusal};
+use sv_num::{Name, Refusal};
+use sv_words::UsageKind;
 
 /// An outcome, and all that is to be written with it.
 #[derive(Drop)]
@@ -124,12 +125,12 @@ fn report_of_leak(alloc: Global, leak: &Leak) -> Result<Report, AllocError>
     })
 }
 
-// The answer to a text within the limit that breaks no rule.
-fn report_on_form(alloc: Global, bytes: &[u8], top: Option<&str>) -> Result<Report, AllocError>
+/// What `check` answers to a text within the limit that breaks no rule.
+pub fn report_on_form(alloc: Global, bytes: &[u8], top: Option<&str>) -> Result<Report, AllocError>
     requires within { length bytes.now ≤ largest_file }
-    requires passes { Passes (text_of top) bytes.now }
+    requires passes { Passes (option_copied top) bytes.now }
     ensures { IfOk result
-        (λ report. Decides (text_of top.entry) bytes.now report.outcome report.text.items) }
+        (λ report. Decides (option_copied top.entry) bytes.now report.outcome report.text.items) }
 {
     let Some(module) = read_module(alloc, bytes)? else {
         return report_of_unbuilt_form(alloc);
@@ -138,18 +139,5 @@ fn report_on_form(alloc: Global, bytes: &[u8], top: Option<&str>) -> Result<Repo
         None => report_of_unbuilt_form(alloc),
         Some(Finding::Holds(count)) => report_of_acceptance(alloc, count),
         Some(Finding::Leaks(leak)) => report_of_leak(alloc, &leak),
-    }
-}
-
-/// The answer to a text within the limit, with the top that is asked for.
-pub fn report_on(alloc: Global, bytes: &[u8], top: Option<&str>) -> Result<Report, AllocError>
-    requires { length bytes.now ≤ largest_file }
-    ensures { IfOk result
-        (λ report. Decides (text_of top.entry) bytes.now report.outcome report.text.items) }
-{
-    match design_of_text(alloc, bytes, top) {
-        Ok(_) => report_on_form(alloc, bytes, top),
-        Err(Fault::Rule(refusal)) => report_of_refusal(alloc, refusal),
-        Err(Fault::OutOfMemory) => Err(AllocError),
     }
 }

@@ -1,40 +1,61 @@
 // The top call.
 ghost use Rattle.std.specs.Prelude.{◌≡◌, ◌∷◌, ◌++◌, ◌+◌, ◌≤◌, ◌⊎◌, ℕ, List, [], IsTrue, None, Some};
 ghost use Rattle.std.specs.Prelude.{Err, IfOk, IfErr, IfSome, IfNone, IsSome, IsErrOf, MatchOption};
-ghost use Rattle.std.specs.Prelude.{length, take, vec_len, ⊤};
+ghost use Rattle.std.specs.Prelude.{Option, length, map, take, vec_len, ⊤};
+ghost use Rattle.sv_flat.specs.Design.{FlatDesign};
+ghost use Rattle.sv_flat.specs.Views.{design_of};
 ghost use Rattle.sv_io.specs.Cabinet.{bytes_under, IfLong};
 ghost use Rattle.sv_io.specs.Count.{Rose};
 ghost use Rattle.sv_io.specs.Exchange.{Fetched, nothing, fetched, fetched_of, whole};
 ghost use Rattle.sv_io.specs.Sink.{WritesFront};
-ghost use Rattle.sv_cli.specs.Command.{words_of, usage_of, command_of, file_of};
-ghost use Rattle.sv_cli.specs.Answer.{Answer, answer_of, misused, largest_file, ReadsFile, Reads};
-ghost use Rattle.sv_cli.specs.Answer.{IsAnswer, IsVerdict, IsListing, AreCircles, KeepsSecrets};
-ghost use Rattle.sv_cli.specs.Report.{Decides};
-ghost use Rattle.sv_cli.specs.Listings.{answer_in, text_in, IsReady, Lists};
-ghost use Rattle.sv_cli.specs.Requests.{text_of};
+ghost use Rattle.sv_obl.specs.ListLines.{lines_from};
+ghost use Rattle.sv_obl.specs.Views.{obligation_of};
+ghost use Rattle.sv_simulate.specs.Simulated.{largest_stimulus, level_asked, WritesAllCycles};
+ghost use Rattle.sv_words.specs.Words.{words_of, usage_of, plain};
+ghost use Rattle.sv_words.specs.declared.command.CommandName.{CommandName};
+ghost use Rattle.sv_cli.specs.Command.{command_of, file_of, file_in};
+ghost use Rattle.sv_cli.specs.Answer.{Answer, answer_of, done, misused, largest_file};
+ghost use Rattle.sv_cli.specs.Answer.{ReadsFile, Reads};
+ghost use Rattle.sv_cli.specs.Answer.{IsAnswer, AreCircles, KeepsSecrets, Simulates, WritesCycles};
+ghost use Rattle.sv_cli.specs.Prepared.{HasLines, IsReady, IsPerformed, Performs, IsSimulationWith};
+ghost use Rattle.sv_cli.specs.Prepared.{PreparesFor, PreparesWords};
 
-use crate::arguments::{Command, Request, read_words};
-use crate::listing::{Listing, listing_of, put_lines};
+use crate::listing::put_lines;
 use crate::outcome::Outcome;
-use crate::report::{Report, report_of_large_file, report_of_misuse, report_on};
-use std::alloc::Global;
+use crate::prepared::{Prepared, file_in, prepare_large, prepare_text};
+use crate::report::{Report, report_of_misuse};
+use crate::simulation::simulation;
+use std::alloc::{AllocError, Global};
+use sv_design::Design;
 use sv_io::{Cabinet, FetchFault, PutFault, Sink, Source, put_all};
+use sv_obl::Query;
+use sv_words::{Command, WordFault, read_words};
 
 // The bytes of the largest source file.
 const LARGEST_FILE: u64 = 1_048_576;
 
-// Why there is no report on a file.
+// Why nothing is prepared.
 #[derive(Clone, Copy, Debug)]
 enum NoReport {
     Unread,
     OutOfMemory,
 }
 
-/// Does what the words ask: `check FILE` checks the file's text, and `list FILE` lists its
-/// obligations, each with the module of `--top M` as the text's top where that is named. It fetches
-/// FILE once, judges what that fetch handed out, and writes the answer, as the definitions of
-/// `Answer` say. What it says of a text holds for every cabinet and sink, those of the real system
-/// among them.
+impl From<AllocError> for NoReport {
+    ghost use Rattle.sv_cli.specs.declared.top.NoReport.TheVariants.{OutOfMemory};
+
+    ghost from_gives = { λ _ fault. fault ≡ OutOfMemory };
+
+    fn from(_error: AllocError) -> NoReport {
+        NoReport::OutOfMemory
+    }
+}
+
+/// Does what the words ask: `check FILE` checks the file's text, `list FILE` lists its obligations,
+/// and `sim FILE` simulates its design on the stimulus that the input gives, each with the module
+/// of `--top M` as the text's top where that is named. It fetches FILE once, judges what that fetch
+/// handed out, and writes the answer, as the definitions of `Answer` say. What it says of a text
+/// holds for every cabinet, source and sink, those of the real system among them.
 pub fn run<C: Cabinet, S: Source, K: Sink>(
     alloc: Global,
     words: &[String],
@@ -45,41 +66,60 @@ pub fn run<C: Cabinet, S: Source, K: Sink>(
     // The headline: the text that the one fetch of FILE handed out keeps its secrets where `check`
     // accepts it.
     ensures noninterference { result ≡ Outcome.Done →
-        command_of (words_of words.now) ≡ Command.Check →
+        command_of (words_of words.now) ≡ Some CommandName.Check →
         (text : List ℕ)
         × (C.exchanges cabinet.new ≡
         C.exchanges cabinet.old ++ fetched (file_of (words_of words.now)) (whole text) ∷ [])
         × KeepsSecrets text }
 
-    // The answer is that of the words and the text that was read, and the whole of what is defined
-    // was accepted by the output.
+    // The answer is that of the words, the text that was read and the stimulus that was taken, and
+    // the whole of what is defined was accepted by the output.
     ensures answer { IfSome (answer_of result)
+        (λ a. (text stimulus printed : List ℕ)
+        × Reads (words_of words.now) text (C.exchanges cabinet.old) (C.exchanges cabinet.new)
+        × (S.given input.new ≡ S.given input.old ++ stimulus)
+        × IsAnswer (words_of words.now) text stimulus a printed
+        × (K.accepted out.new ≡ K.accepted out.old ++ printed)) }
+    // Where the input tells its bytes, it is that of all that were left.
+    ensures whole_stimulus { IsTrue S.tells → IfSome (answer_of result)
         (λ a. (text printed : List ℕ)
         × Reads (words_of words.now) text (C.exchanges cabinet.old) (C.exchanges cabinet.new)
-        × IsAnswer (words_of words.now) text a printed
+        × IsAnswer (words_of words.now) text (S.left input.old) a printed
         × (K.accepted out.new ≡ K.accepted out.old ++ printed)) }
-    // No other answer is that of the words and the text, but that of another circle of rule 607.
-    ensures only { (text : List ℕ) (a : Answer) (printed : List ℕ) →
+    // No other answer is that of the words, the text and the stimulus, but that of another circle
+    // of rule 607.
+    ensures only { (text stimulus : List ℕ) (a : Answer) (printed : List ℕ) →
         Reads (words_of words.now) text (C.exchanges cabinet.old) (C.exchanges cabinet.new) →
-        IsAnswer (words_of words.now) text a printed →
+        S.given input.new ≡ S.given input.old ++ stimulus →
+        IsAnswer (words_of words.now) text stimulus a printed →
         IfSome (answer_of result) (λ b. (b ≡ a) ⊎ AreCircles a b) }
+
     // Without an answer nothing was accepted, or a front of what is defined; and nothing where
     // nothing was read.
     ensures front { IfNone (answer_of result)
         ((K.accepted out.new ≡ K.accepted out.old)
+        ⊎ ((text stimulus : List ℕ) × (a : Answer) × (printed : List ℕ)
+        × Reads (words_of words.now) text (C.exchanges cabinet.old) (C.exchanges cabinet.new)
+        × (S.given input.new ≡ S.given input.old ++ stimulus)
+        × IsAnswer (words_of words.now) text stimulus a printed
+        × WritesFront (K.accepted out.old) printed (K.accepted out.new))) }
+    ensures whole_front { IsTrue S.tells → IfNone (answer_of result)
+        ((K.accepted out.new ≡ K.accepted out.old)
         ⊎ ((text : List ℕ) × (a : Answer) × (printed : List ℕ)
         × Reads (words_of words.now) text (C.exchanges cabinet.old) (C.exchanges cabinet.new)
-        × IsAnswer (words_of words.now) text a printed
+        × IsAnswer (words_of words.now) text (S.left input.old) a printed
         × WritesFront (K.accepted out.old) printed (K.accepted out.new))) }
     ensures silent { C.exchanges cabinet.new ≡
         C.exchanges cabinet.old ++ fetched (file_of (words_of words.now)) nothing ∷ [] →
         K.accepted out.new ≡ K.accepted out.old }
 
-    // FILE is fetched once, and nothing else passes between the program and the cabinet.
+    // FILE is fetched once, and nothing else passes between the program and the cabinet. Nothing
+    // does where the words are no command, or memory ran out over them.
     ensures one_fetch { MatchOption (usage_of (words_of words.now))
-        ((got : Fetched)
+        (((got : Fetched)
         × (C.exchanges cabinet.new ≡
         C.exchanges cabinet.old ++ fetched (file_of (words_of words.now)) got ∷ []))
+        ⊎ ((result ≡ Outcome.OutOfMemory) × (C.exchanges cabinet.new ≡ C.exchanges cabinet.old)))
         (λ kind. C.exchanges cabinet.new ≡ C.exchanges cabinet.old) }
     // What was read is what FILE held, or the front of it that shows that it is too large.
     ensures told { IsTrue C.tells → usage_of (words_of words.now) ≡ None → (text : List ℕ) →
@@ -91,211 +131,120 @@ pub fn run<C: Cabinet, S: Source, K: Sink>(
     // Words that are no command are never taken for one, nor a command for such words.
     ensures usage { MatchOption (usage_of (words_of words.now)) ⊤
         (λ kind. IfSome (answer_of result) (λ a. a ≡ misused kind)) }
+    // A fault of reading is FILE's, or else the input's.
     ensures read_fault { result ≡ Outcome.ReadFault →
         (usage_of (words_of words.now) ≡ None)
+        × (Rose (C.fetch_faults cabinet.old (file_of (words_of words.now)))
+        (C.fetch_faults cabinet.new (file_of (words_of words.now)))
+        ⊎ Rose (S.faults input.old) (S.faults input.new)) }
+    // It is the input's where FILE was read. Then the words are `sim`, the text breaks no rule, and
+    // the lines of all cycles that the bytes taken let read were accepted.
+    ensures prompt { result ≡ Outcome.ReadFault → (text : List ℕ) →
+        Reads (words_of words.now) text (C.exchanges cabinet.old) (C.exchanges cabinet.new) →
+        (stimulus : List ℕ)
+        × (S.given input.new ≡ S.given input.old ++ stimulus)
+        × Rose (S.faults input.old) (S.faults input.new)
+        × WritesCycles (words_of words.now) text stimulus (K.accepted out.old)
+        (K.accepted out.new) }
+    ensures write_fault { result ≡ Outcome.WriteFault → Rose (K.faults out.old) (K.faults out.new) }
+
+    ensures cabinet_unchanged { (name : List ℕ) →
+        C.held cabinet.new name ≡ C.held cabinet.old name }
+    // The input is left as it was, but by `sim` of a text that breaks no rule; and nothing is taken
+    // from it where the level is no point.
+    ensures input_left { (S.left input.new ≡ S.left input.old)
+        ⊎ ((text : List ℕ) × (level : Option (List ℕ)) × (design : FlatDesign)
+        × Reads (words_of words.now) text (C.exchanges cabinet.old) (C.exchanges cabinet.new)
+        × Simulates (words_of words.now) text level design) }
+    ensures input_untouched { (S.given input.new ≡ S.given input.old)
+        ⊎ ((text : List ℕ) × (level : Option (List ℕ)) × (design : FlatDesign)
+        × Reads (words_of words.now) text (C.exchanges cabinet.old) (C.exchanges cabinet.new)
+        × Simulates (words_of words.now) text level design
+        × IsSome (level_asked design level)) }
+    ensures input_faults { (S.faults input.new ≡ S.faults input.old)
+        ⊎ ((text : List ℕ) × (level : Option (List ℕ)) × (design : FlatDesign)
+        × Reads (words_of words.now) text (C.exchanges cabinet.old) (C.exchanges cabinet.new)
+        × Simulates (words_of words.now) text level design) }
+    ensures most { (stimulus : List ℕ) → S.given input.new ≡ S.given input.old ++ stimulus →
+        length stimulus ≤ largest_stimulus + 1 }
+{
+    match prepare(alloc, words, cabinet) {
+        Ok(prepared) => perform(alloc, prepared, input, out),
+        Err(NoReport::Unread) => Outcome::ReadFault,
+        Err(NoReport::OutOfMemory) => Outcome::OutOfMemory,
+    }
+}
+
+// What is prepared for the words: FILE is fetched, and its text is judged.
+fn prepare<C: Cabinet>(
+    alloc: Global,
+    words: &[String],
+    cabinet: &mut C,
+) -> Result<Prepared, NoReport>
+    ensures prepared { IfOk result
+        (λ prepared. (text : List ℕ)
+        × Reads (words_of words.now) text (C.exchanges cabinet.old) (C.exchanges cabinet.new)
+        × PreparesWords (words_of words.now) text prepared) }
+    ensures one_fetch { MatchOption (usage_of (words_of words.now))
+        (((got : Fetched)
+        × (C.exchanges cabinet.new ≡
+        C.exchanges cabinet.old ++ fetched (file_of (words_of words.now)) got ∷ []))
+        ⊎ ((result ≡ Err NoReport.OutOfMemory)
+        × (C.exchanges cabinet.new ≡ C.exchanges cabinet.old)))
+        (λ kind. C.exchanges cabinet.new ≡ C.exchanges cabinet.old) }
+    ensures told { IsTrue C.tells → usage_of (words_of words.now) ≡ None → (text : List ℕ) →
+        ReadsFile (file_of (words_of words.now)) text (C.exchanges cabinet.old)
+        (C.exchanges cabinet.new) →
+        text ≡ take (largest_file + 1)
+        (bytes_under (C.held cabinet.old) (file_of (words_of words.now))) }
+    ensures unread { result ≡ Err NoReport.Unread →
+        (usage_of (words_of words.now) ≡ None)
+        × (C.exchanges cabinet.new ≡
+        C.exchanges cabinet.old ++ fetched (file_of (words_of words.now)) nothing ∷ [])
         × Rose (C.fetch_faults cabinet.old (file_of (words_of words.now)))
         (C.fetch_faults cabinet.new (file_of (words_of words.now))) }
-    ensures write_fault { result ≡ Outcome.WriteFault → Rose (K.faults out.old) (K.faults out.new) }
-
-    ensures cabinet_unchanged { (name : List ℕ) →
-        C.held cabinet.new name ≡ C.held cabinet.old name }
-    ensures input_left { S.left input.new ≡ S.left input.old }
-    ensures input_untouched { S.given input.new ≡ S.given input.old }
-    ensures input_faults { S.faults input.new ≡ S.faults input.old }
-{
-    // No command reads the input yet.
-    let _ = input;
-    match read_words(words) {
-        Ok(request) => match request.command {
-            Command::Check => check_file(alloc, request, cabinet, out),
-            Command::List => list_file(alloc, request, cabinet, out),
-        },
-        Err(kind) => match report_of_misuse(alloc, kind) {
-            Ok(report) => send(out, report),
-            Err(_) => Outcome::OutOfMemory,
-        },
-    }
-}
-
-fn check_file<C: Cabinet, K: Sink>(
-    alloc: Global,
-    request: Request<'_>,
-    cabinet: &mut C,
-    out: &mut K,
-) -> Outcome
-    ensures noninterference { result ≡ Outcome.Done →
-        (text : List ℕ)
-        × (C.exchanges cabinet.new ≡ C.exchanges cabinet.old
-        ++ fetched request.entry.file.now (whole text) ∷ [])
-        × KeepsSecrets text }
-    ensures answer { IfSome (answer_of result)
-        (λ a. (text printed : List ℕ)
-        × ReadsFile request.entry.file.now text (C.exchanges cabinet.old) (C.exchanges cabinet.new)
-        × IsVerdict (text_of request.entry.top) text a printed
-        × (K.accepted out.new ≡ K.accepted out.old ++ printed)) }
-    ensures only { (text : List ℕ) (a : Answer) (printed : List ℕ) →
-        ReadsFile request.entry.file.now text (C.exchanges cabinet.old) (C.exchanges cabinet.new) →
-        IsVerdict (text_of request.entry.top) text a printed →
-        IfSome (answer_of result) (λ b. (b ≡ a) ⊎ AreCircles a b) }
-    ensures front { IfNone (answer_of result)
-        ((K.accepted out.new ≡ K.accepted out.old)
-        ⊎ ((text : List ℕ) × (a : Answer) × (printed : List ℕ)
-        × ReadsFile request.entry.file.now text (C.exchanges cabinet.old) (C.exchanges cabinet.new)
-        × IsVerdict (text_of request.entry.top) text a printed
-        × WritesFront (K.accepted out.old) printed (K.accepted out.new))) }
-    ensures silent { C.exchanges cabinet.new ≡
-        C.exchanges cabinet.old ++ fetched request.entry.file.now nothing ∷ [] →
-        K.accepted out.new ≡ K.accepted out.old }
-    ensures one_fetch { (got : Fetched)
-        × (C.exchanges cabinet.new ≡ C.exchanges cabinet.old
-        ++ fetched request.entry.file.now got ∷ []) }
-    ensures told { IsTrue C.tells → (text : List ℕ) →
-        ReadsFile request.entry.file.now text (C.exchanges cabinet.old) (C.exchanges cabinet.new) →
-        text ≡ take (largest_file + 1) (bytes_under (C.held cabinet.old) request.entry.file.now) }
-    ensures read_fault { result ≡ Outcome.ReadFault →
-        Rose (C.fetch_faults cabinet.old request.entry.file.now)
-        (C.fetch_faults cabinet.new request.entry.file.now) }
-    ensures write_fault { result ≡ Outcome.WriteFault → Rose (K.faults out.old) (K.faults out.new) }
     ensures cabinet_unchanged { (name : List ℕ) →
         C.held cabinet.new name ≡ C.held cabinet.old name }
 {
-    match report_on_file(alloc, request, cabinet) {
-        Ok(report) => send(out, report),
-        Err(NoReport::Unread) => Outcome::ReadFault,
-        Err(NoReport::OutOfMemory) => Outcome::OutOfMemory,
+    match read_words(alloc, words) {
+        Ok(command) => prepare_command(alloc, command, cabinet),
+        Err(WordFault::Usage(kind)) => Ok(Prepared::Whole(report_of_misuse(alloc, kind)?)),
+        Err(WordFault::OutOfMemory) => Err(NoReport::OutOfMemory),
     }
 }
 
-fn list_file<C: Cabinet, K: Sink>(
+// What is prepared for a command.
+fn prepare_command<C: Cabinet>(
     alloc: Global,
-    request: Request<'_>,
+    command: Command,
     cabinet: &mut C,
-    out: &mut K,
-) -> Outcome
-    ensures answer { IfSome (answer_of result)
-        (λ a. (text printed : List ℕ)
-        × ReadsFile request.entry.file.now text (C.exchanges cabinet.old) (C.exchanges cabinet.new)
-        × IsListing (text_of request.entry.top) text a printed
-        × (K.accepted out.new ≡ K.accepted out.old ++ printed)) }
-    ensures only { (text : List ℕ) (a : Answer) (printed : List ℕ) →
-        ReadsFile request.entry.file.now text (C.exchanges cabinet.old) (C.exchanges cabinet.new) →
-        IsListing (text_of request.entry.top) text a printed →
-        IfSome (answer_of result) (λ b. (b ≡ a) ⊎ AreCircles a b) }
-    ensures front { IfNone (answer_of result)
-        ((K.accepted out.new ≡ K.accepted out.old)
-        ⊎ ((text : List ℕ) × (a : Answer) × (printed : List ℕ)
-        × ReadsFile request.entry.file.now text (C.exchanges cabinet.old) (C.exchanges cabinet.new)
-        × IsListing (text_of request.entry.top) text a printed
-        × WritesFront (K.accepted out.old) printed (K.accepted out.new))) }
-    ensures silent { C.exchanges cabinet.new ≡
-        C.exchanges cabinet.old ++ fetched request.entry.file.now nothing ∷ [] →
-        K.accepted out.new ≡ K.accepted out.old }
+) -> Result<Prepared, NoReport>
+    ensures prepared { IfOk result
+        (λ prepared. (text : List ℕ)
+        × ReadsFile (file_in (plain command)) text (C.exchanges cabinet.old)
+        (C.exchanges cabinet.new)
+        × PreparesFor (plain command) text prepared) }
     ensures one_fetch { (got : Fetched)
         × (C.exchanges cabinet.new ≡ C.exchanges cabinet.old
-        ++ fetched request.entry.file.now got ∷ []) }
+        ++ fetched (file_in (plain command)) got ∷ []) }
     ensures told { IsTrue C.tells → (text : List ℕ) →
-        ReadsFile request.entry.file.now text (C.exchanges cabinet.old) (C.exchanges cabinet.new) →
-        text ≡ take (largest_file + 1) (bytes_under (C.held cabinet.old) request.entry.file.now) }
-    ensures read_fault { result ≡ Outcome.ReadFault →
-        Rose (C.fetch_faults cabinet.old request.entry.file.now)
-        (C.fetch_faults cabinet.new request.entry.file.now) }
-    ensures write_fault { result ≡ Outcome.WriteFault → Rose (K.faults out.old) (K.faults out.new) }
-    ensures cabinet_unchanged { (name : List ℕ) →
-        C.held cabinet.new name ≡ C.held cabinet.old name }
-{
-    match listing_of_file(alloc, request, cabinet) {
-        Ok(listing) => write_listing(alloc, out, listing),
-        Err(NoReport::Unread) => Outcome::ReadFault,
-        Err(NoReport::OutOfMemory) => Outcome::OutOfMemory,
-    }
-}
-
-fn report_on_file<C: Cabinet>(
-    alloc: Global,
-    request: Request<'_>,
-    cabinet: &mut C,
-) -> Result<Report, NoReport>
-    ensures report { IfOk result
-        (λ report. (text : List ℕ)
-        × ReadsFile request.entry.file.now text (C.exchanges cabinet.old) (C.exchanges cabinet.new)
-        × Decides (text_of request.entry.top) text report.outcome report.text.items) }
-    ensures one_fetch { (got : Fetched)
-        × (C.exchanges cabinet.new ≡ C.exchanges cabinet.old
-        ++ fetched request.entry.file.now got ∷ []) }
-    ensures told { IsTrue C.tells → (text : List ℕ) →
-        ReadsFile request.entry.file.now text (C.exchanges cabinet.old) (C.exchanges cabinet.new) →
-        text ≡ take (largest_file + 1) (bytes_under (C.held cabinet.old) request.entry.file.now) }
+        ReadsFile (file_in (plain command)) text (C.exchanges cabinet.old)
+        (C.exchanges cabinet.new) →
+        text ≡ take (largest_file + 1)
+        (bytes_under (C.held cabinet.old) (file_in (plain command))) }
     ensures unread { result ≡ Err NoReport.Unread →
-        Rose (C.fetch_faults cabinet.old request.entry.file.now)
-        (C.fetch_faults cabinet.new request.entry.file.now) }
+        (C.exchanges cabinet.new ≡ C.exchanges cabinet.old
+        ++ fetched (file_in (plain command)) nothing ∷ [])
+        × Rose (C.fetch_faults cabinet.old (file_in (plain command)))
+        (C.fetch_faults cabinet.new (file_in (plain command))) }
     ensures cabinet_unchanged { (name : List ℕ) →
         C.held cabinet.new name ≡ C.held cabinet.old name }
 {
-    match fetch_text(alloc, request.file, cabinet) {
-        Ok(bytes) => report_on_text(alloc, &bytes, request.top),
-        Err(FetchFault::Long(_)) => match report_of_large_file(alloc) {
-            Ok(report) => Ok(report),
-            Err(_) => Err(NoReport::OutOfMemory),
-        },
+    match fetch_text(alloc, file_in(&command), cabinet) {
+        Ok(bytes) => Ok(prepare_text(alloc, command, &bytes)?),
+        Err(FetchFault::Long(_)) => Ok(prepare_large(alloc)?),
         Err(FetchFault::Failed) => Err(NoReport::Unread),
         Err(FetchFault::OutOfMemory) => Err(NoReport::OutOfMemory),
-    }
-}
-
-// The report on a text that was fetched whole.
-fn report_on_text(alloc: Global, bytes: &[u8], top: Option<&str>) -> Result<Report, NoReport>
-    requires { length bytes.now ≤ largest_file }
-    ensures report { IfOk result
-        (λ report. Decides (text_of top.entry) bytes.now report.outcome report.text.items) }
-    ensures read { IsErrOf result NoReport.Unread → ⊥ }
-{
-    match report_on(alloc, bytes, top) {
-        Ok(report) => Ok(report),
-        Err(_) => Err(NoReport::OutOfMemory),
-    }
-}
-
-fn listing_of_file<C: Cabinet>(
-    alloc: Global,
-    request: Request<'_>,
-    cabinet: &mut C,
-) -> Result<Listing, NoReport>
-    ensures listing { IfOk result
-        (λ listing. (text : List ℕ)
-        × ReadsFile request.entry.file.now text (C.exchanges cabinet.old) (C.exchanges cabinet.new)
-        × Lists (text_of request.entry.top) text listing) }
-    ensures one_fetch { (got : Fetched)
-        × (C.exchanges cabinet.new ≡ C.exchanges cabinet.old
-        ++ fetched request.entry.file.now got ∷ []) }
-    ensures told { IsTrue C.tells → (text : List ℕ) →
-        ReadsFile request.entry.file.now text (C.exchanges cabinet.old) (C.exchanges cabinet.new) →
-        text ≡ take (largest_file + 1) (bytes_under (C.held cabinet.old) request.entry.file.now) }
-    ensures unread { result ≡ Err NoReport.Unread →
-        Rose (C.fetch_faults cabinet.old request.entry.file.now)
-        (C.fetch_faults cabinet.new request.entry.file.now) }
-    ensures cabinet_unchanged { (name : List ℕ) →
-        C.held cabinet.new name ≡ C.held cabinet.old name }
-{
-    match fetch_text(alloc, request.file, cabinet) {
-        Ok(bytes) => listing_of_text(alloc, &bytes, request.top),
-        Err(FetchFault::Long(_)) => match report_of_large_file(alloc) {
-            Ok(report) => Ok(Listing::Refused(report)),
-            Err(_) => Err(NoReport::OutOfMemory),
-        },
-        Err(FetchFault::Failed) => Err(NoReport::Unread),
-        Err(FetchFault::OutOfMemory) => Err(NoReport::OutOfMemory),
-    }
-}
-
-// What is to be written of a text that was fetched whole.
-fn listing_of_text(alloc: Global, bytes: &[u8], top: Option<&str>) -> Result<Listing, NoReport>
-    requires { length bytes.now ≤ largest_file }
-    ensures listing { IfOk result (λ listing. Lists (text_of top.entry) bytes.now listing) }
-    ensures read { IsErrOf result NoReport.Unread → ⊥ }
-{
-    match listing_of(alloc, bytes, top) {
-        Ok(listing) => Ok(listing),
-        Err(_) => Err(NoReport::OutOfMemory),
     }
 }
 
@@ -333,11 +282,46 @@ fn fetch_once<C: Cabinet>(alloc: Global, file: &str, cabinet: &mut C) -> Result<
     cabinet.fetch(alloc, file, LARGEST_FILE)
 }
 
+// Does what is prepared.
+fn perform<S: Source, K: Sink>(
+    alloc: Global,
+    prepared: Prepared,
+    input: &mut S,
+    out: &mut K,
+) -> Outcome
+    requires { IsReady prepared }
+    ensures performed { Performs (IsPerformed prepared)
+        (λ stimulus. S.given input.new ≡ S.given input.old ++ stimulus) S.tells (S.left input.old)
+        (K.accepted out.old) (K.accepted out.new) (answer_of result) }
+    ensures read_fault { result ≡ Outcome.ReadFault →
+        (stimulus : List ℕ)
+        × (S.given input.new ≡ S.given input.old ++ stimulus)
+        × Rose (S.faults input.old) (S.faults input.new)
+        × IsSimulationWith (λ level design.
+        WritesAllCycles design level stimulus (K.accepted out.old) (K.accepted out.new)) prepared }
+    ensures write_fault { result ≡ Outcome.WriteFault → Rose (K.faults out.old) (K.faults out.new) }
+    ensures input_left { (S.left input.new ≡ S.left input.old)
+        ⊎ IsSimulationWith (λ level design. ⊤) prepared }
+    ensures input_untouched { (S.given input.new ≡ S.given input.old)
+        ⊎ IsSimulationWith (λ level design. IsSome (level_asked design level)) prepared }
+    ensures input_faults { (S.faults input.new ≡ S.faults input.old)
+        ⊎ IsSimulationWith (λ level design. ⊤) prepared }
+    ensures most { (stimulus : List ℕ) → S.given input.new ≡ S.given input.old ++ stimulus →
+        length stimulus ≤ largest_stimulus + 1 }
+{
+    match prepared {
+        Prepared::Whole(report) => send(out, report),
+        Prepared::Lines(design, queries) => send_lines(alloc, out, &design, &queries),
+        Prepared::Simulation(design, level, order) => {
+            simulation(alloc, &design, level.as_deref(), order, input, out)
+        }
+    }
+}
+
 // Writes a report. Its outcome is the answer where all of it was accepted.
 fn send<K: Sink>(out: &mut K, report: Report) -> Outcome
     requires { IsSome (answer_of report.outcome) }
     ensures answered { IfSome (answer_of result) (λ a. answer_of report.outcome ≡ Some a) }
-    ensures done { result ≡ Outcome.Done → report.outcome ≡ Outcome.Done }
     ensures whole { IfSome (answer_of result)
         (λ _. K.accepted out.new ≡ K.accepted out.old ++ report.text.items) }
     ensures front { IfNone (answer_of result)
@@ -352,23 +336,23 @@ fn send<K: Sink>(out: &mut K, report: Report) -> Outcome
     }
 }
 
-// Writes what is to be written of a text, a line of an obligation as it is made.
-fn write_listing<K: Sink>(alloc: Global, out: &mut K, listing: Listing) -> Outcome
-    requires { IsReady listing }
-    ensures answered { IfSome (answer_of result) (λ a. answer_in listing ≡ Some a) }
+// Writes the line of each obligation of a design, as it is made.
+fn send_lines<K: Sink>(alloc: Global, out: &mut K, design: &Design, queries: &[Query]) -> Outcome
+    requires { HasLines design.now queries.now }
+    ensures answered { IfSome (answer_of result) (λ a. a ≡ done) }
     ensures whole { IfSome (answer_of result)
-        (λ _. K.accepted out.new ≡ K.accepted out.old ++ text_in listing) }
+        (λ _. K.accepted out.new ≡ K.accepted out.old
+        ++ lines_from (design_of design.now).signals 1 (map obligation_of queries.now)) }
     ensures front { IfNone (answer_of result)
-        (WritesFront (K.accepted out.old) (text_in listing) (K.accepted out.new)) }
+        (WritesFront (K.accepted out.old)
+        (lines_from (design_of design.now).signals 1 (map obligation_of queries.now))
+        (K.accepted out.new)) }
     ensures no_read { result ≡ Outcome.ReadFault → ⊥ }
     ensures write_fault { result ≡ Outcome.WriteFault → Rose (K.faults out.old) (K.faults out.new) }
 {
-    match listing {
-        Listing::Refused(report) => send(out, report),
-        Listing::Lines(design, queries) => match put_lines(alloc, out, &design, &queries) {
-            Ok(()) => Outcome::Done,
-            Err(PutFault::Failed) => Outcome::WriteFault,
-            Err(PutFault::OutOfMemory) => Outcome::OutOfMemory,
-        },
+    match put_lines(alloc, out, design, queries) {
+        Ok(()) => Outcome::Done,
+        Err(PutFault::Failed) => Outcome::WriteFault,
+        Err(PutFault::OutOfMemory) => Outcome::OutOfMemory,
     }
 }

@@ -1,4 +1,4 @@
-use Rattle.sv_cli.specs.Requests.{text_of}
+use Rattle.std.specs.Option.{option_copied}
 use Rattle.sv_cli.proofs.TreeAnswers.{shaped_text, few_pairs_of, few_maps_of, found_tells}
 use Rattle.sv_cli.proofs.TreeAnswers.{broken_tells}
 use Rattle.sv_cli.proofs.designs.flat_of_text.Goals as goal
@@ -17,10 +17,10 @@ flat_of_tree-requires-clause-maps c =
 
 pub returns-in-Ok-clause-found : goal.returns-in-Ok-clause-found
 returns-in-Ok-clause-found c =
-    found_tells (text_of c.args.top) c.args.bytes.now c.in-Ok.text c.in-Ok.ensures.text
+    found_tells (option_copied c.args.top) c.args.bytes.now c.in-Ok.text c.in-Ok.ensures.text
     c.flat_of_tree.result c.flat_of_tree.ensures.found
 
 pub returns-in-Ok-clause-broken : goal.returns-in-Ok-clause-broken
 returns-in-Ok-clause-broken c =
-    broken_tells (text_of c.args.top) c.args.bytes.now c.in-Ok.text c.in-Ok.ensures.text
+    broken_tells (option_copied c.args.top) c.args.bytes.now c.in-Ok.text c.in-Ok.ensures.text
     c.flat_of_tree.result c.flat_of_tree.ensures.broken

@@ -1,20 +1,20 @@
-use Rattle.sv_cli.specs.Requests.{text_of}
+use Rattle.std.specs.Option.{option_copied}
 use Rattle.sv_cli.proofs.Deciding.{unread, unformed, unbuilt_reports, holding_reports}
 use Rattle.sv_cli.proofs.Deciding.{failing_reports}
 use Rattle.sv_cli.proofs.report.report_on_form.Goals as goal
 
 pub returns-in_default : goal.returns-in_default
 returns-in_default c =
-    unbuilt_reports (text_of c.args.top) c.args.bytes.now c.requires.within c.requires.passes
-    (unread (text_of c.args.top) c.args.bytes.now c.in_ok-module.field-0 c.in_default.is
+    unbuilt_reports (option_copied c.args.top) c.args.bytes.now c.requires.within c.requires.passes
+    (unread (option_copied c.args.top) c.args.bytes.now c.in_ok-module.field-0 c.in_default.is
     c.in_ok-module.ensures.none)
     c.report_of_unbuilt_form.result c.report_of_unbuilt_form.ensures.answer
     c.report_of_unbuilt_form.ensures.text
 
 pub returns-in-None : goal.returns-in-None
 returns-in-None c =
-    unbuilt_reports (text_of c.args.top) c.args.bytes.now c.requires.within c.requires.passes
-    (unformed (text_of c.args.top) c.args.bytes.now c.in_ok-module.field-0 c.in-Some.module
+    unbuilt_reports (option_copied c.args.top) c.args.bytes.now c.requires.within c.requires.passes
+    (unformed (option_copied c.args.top) c.args.bytes.now c.in_ok-module.field-0 c.in-Some.module
     c.in-Some.is
     c.in_ok-module.ensures.found c.in_ok-check.field-0 c.in-None.is c.in_ok-check.ensures.none)
     c.report_of_unbuilt_form-in-None.result c.report_of_unbuilt_form-in-None.ensures.answer
@@ -22,7 +22,7 @@ returns-in-None c =
 
 pub returns-in-Some-Holds : goal.returns-in-Some-Holds
 returns-in-Some-Holds c =
-    holding_reports (text_of c.args.top) c.args.bytes.now c.requires.within c.requires.passes
+    holding_reports (option_copied c.args.top) c.args.bytes.now c.requires.within c.requires.passes
     c.in_ok-module.field-0
     c.in-Some.module c.in-Some.is c.in_ok-module.ensures.found
     c.in_ok-check.field-0 c.in-Some-Holds.field-0 c.in-Some-Holds.is c.in_ok-check.ensures.finding
@@ -31,7 +31,7 @@ returns-in-Some-Holds c =
 
 pub returns : goal.returns
 returns c =
-    failing_reports (text_of c.args.top) c.args.bytes.now c.requires.within c.requires.passes
+    failing_reports (option_copied c.args.top) c.args.bytes.now c.requires.within c.requires.passes
     c.in_ok-module.field-0
     c.in-Some.module c.in-Some.is c.in_ok-module.ensures.found
     c.in_ok-check.field-0 c.in-Some-Leaks.field-0 c.in-Some-Leaks.is c.in_ok-check.ensures.finding

@@ -1,5 +1,5 @@
 use Rattle.sv_io.specs.Cabinet.{bytes_under}
-use Rattle.sv_cli.proofs.Telling.{told_by}
+use Rattle.sv_cli.proofs.Fetches.{told_by}
 use Rattle.sv_cli.proofs.top.fetch_text.Goals as goal
 
 pub returns-clause-told : goal.returns-clause-told

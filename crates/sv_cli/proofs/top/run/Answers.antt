@@ -1,85 +1,219 @@
-use Rattle.std.proofs.Common.{◌≡◌, List, ℕ, ◌++◌}
-use Rattle.sv_cli.specs.declared.arguments.Command.TheVariants.{Check, List as Listing}
-use Rattle.sv_cli.specs.Command.{words_of}
-use Rattle.sv_cli.specs.Answer.{answer_of}
-use Rattle.sv_cli.specs.Requests.{plain}
+use Rattle.std.proofs.Common.{◌≡◌, ℕ, List, ◌++◌, None, inl, inr, refl}
+use Rattle.std.specs.Prelude.{IsSome, Result, Ok, Err, ⊤}
 use Rattle.sv_io.specs.Sink.{WritesFront}
-use Rattle.sv_cli.proofs.Telling.{answer_to_words, front_to_words, misuse_sent, misuse_front}
-use Rattle.sv_cli.proofs.Telling.{command_reads, command_answer, other_command}
+use Rattle.sv_simulate.specs.Simulated.{level_asked}
+use Rattle.sv_words.specs.Words.{words_of}
+use Rattle.sv_cli.specs.declared.outcome.Outcome.{Outcome}
+use Rattle.sv_cli.specs.declared.outcome.Outcome.TheVariants.{OutOfMemory}
+use Rattle.sv_cli.specs.declared.prepared.Prepared.{Prepared}
+use Rattle.sv_cli.specs.declared.top.NoReport.{NoReport}
+use Rattle.sv_cli.specs.declared.top.NoReport.TheVariants as unprepared
+use Rattle.sv_cli.specs.Answer.{answer_of}
+use Rattle.sv_cli.proofs.Telling.{answer_told, whole_told, only_told, front_told}
+use Rattle.sv_cli.proofs.Telling.{whole_front_told, read_silent, left_told, untouched_told}
+use Rattle.sv_cli.proofs.Telling.{usage_told, secrets_told, fetch_told, failed_fetch}
+use Rattle.sv_cli.proofs.Telling.{nothing_read, fault_told, prompt_told}
+use Rattle.sv_cli.proofs.Sending.{few_taken}
 use Rattle.sv_cli.proofs.top.run.Goals as goal
 
-pub returns-in-Check-clause-answer : goal.returns-in-Check-clause-answer
-returns-in-Check-clause-answer g c =
-    answer_to_words (words_of c.args.words.now) (plain c.in-Ok.request) c.in-Ok.ensures Check
-    c.in-Check.is (answer_of c.check_file.result) (λ (printed : List ℕ).
-    g.K.Sink.accepted c.check_file.new.out ≡ g.K.Sink.accepted c.args.out.now ++ printed)
-    (g.C.Cabinet.exchanges c.args.cabinet.now)
-    (g.C.Cabinet.exchanges c.check_file.new.cabinet) c.check_file.ensures.answer
+unread_is : (f : NoReport) → f ≡ unprepared.Unread
+    → ◌≡◌ {A = Result Prepared NoReport} (Err f) (Err unprepared.Unread)
+unread_is f e = cc
 
-pub returns-in-Check-clause-only : goal.returns-in-Check-clause-only
-returns-in-Check-clause-only g c text a printed reads answer =
-    c.check_file.ensures.only text a printed
-    (command_reads (words_of c.args.words.now) (plain c.in-Ok.request) c.in-Ok.ensures Check
-    c.in-Check.is text (g.C.Cabinet.exchanges c.args.cabinet.now)
-    (g.C.Cabinet.exchanges c.check_file.new.cabinet) reads)
-    (command_answer (words_of c.args.words.now) (plain c.in-Ok.request) c.in-Ok.ensures Check
-    c.in-Check.is text a printed answer)
+pub returns-in-Ok-clause-noninterference : goal.returns-in-Ok-clause-noninterference
+returns-in-Ok-clause-noninterference g c made checks =
+    secrets_told (words_of c.args.words.now) (g.C.Cabinet.exchanges c.args.cabinet.now)
+    (g.C.Cabinet.exchanges c.prepare.new.cabinet)
+    c.perform.result (λ (s : List ℕ).
+    g.S.Source.given c.perform.new.input ≡ g.S.Source.given c.args.input.now ++ s)
+    (λ (p : List ℕ).
+    g.K.Sink.accepted c.perform.new.out ≡ g.K.Sink.accepted c.args.out.now ++ p) made checks
+    (answer_told (words_of c.args.words.now) (g.C.Cabinet.exchanges c.args.cabinet.now)
+    (g.C.Cabinet.exchanges c.prepare.new.cabinet)
+    c.in-Ok.prepared c.in-Ok.ensures.prepared (answer_of c.perform.result)
+    (λ (s : List ℕ).
+    g.S.Source.given c.perform.new.input ≡ g.S.Source.given c.args.input.now ++ s)
+    (λ (p : List ℕ).
+    g.K.Sink.accepted c.perform.new.out ≡ g.K.Sink.accepted c.args.out.now ++ p)
+    c.perform.ensures.performed.answer)
 
-pub returns-in-Check-clause-front : goal.returns-in-Check-clause-front
-returns-in-Check-clause-front g c =
-    front_to_words (words_of c.args.words.now) (plain c.in-Ok.request) c.in-Ok.ensures Check
-    c.in-Check.is (answer_of c.check_file.result) (λ (printed : List ℕ).
-    WritesFront (g.K.Sink.accepted c.args.out.now) printed
-    (g.K.Sink.accepted c.check_file.new.out))
-    (g.K.Sink.accepted c.check_file.new.out ≡ g.K.Sink.accepted c.args.out.now)
-    (g.C.Cabinet.exchanges c.args.cabinet.now)
-    (g.C.Cabinet.exchanges c.check_file.new.cabinet) c.check_file.ensures.front
+pub returns-in-Ok-clause-answer : goal.returns-in-Ok-clause-answer
+returns-in-Ok-clause-answer g c =
+    answer_told (words_of c.args.words.now) (g.C.Cabinet.exchanges c.args.cabinet.now)
+    (g.C.Cabinet.exchanges c.prepare.new.cabinet)
+    c.in-Ok.prepared c.in-Ok.ensures.prepared (answer_of c.perform.result)
+    (λ (s : List ℕ).
+    g.S.Source.given c.perform.new.input ≡ g.S.Source.given c.args.input.now ++ s)
+    (λ (p : List ℕ).
+    g.K.Sink.accepted c.perform.new.out ≡ g.K.Sink.accepted c.args.out.now ++ p)
+    c.perform.ensures.performed.answer
 
-pub returns-in-List-clause-answer : goal.returns-in-List-clause-answer
-returns-in-List-clause-answer g c =
-    answer_to_words (words_of c.args.words.now) (plain c.in-Ok.request) c.in-Ok.ensures Listing
-    c.in-List.is (answer_of c.list_file.result) (λ (printed : List ℕ).
-    g.K.Sink.accepted c.list_file.new.out ≡ g.K.Sink.accepted c.args.out.now ++ printed)
-    (g.C.Cabinet.exchanges c.args.cabinet.now)
-    (g.C.Cabinet.exchanges c.list_file.new.cabinet) c.list_file.ensures.answer
+pub returns-in-Ok-clause-whole_stimulus : goal.returns-in-Ok-clause-whole_stimulus
+returns-in-Ok-clause-whole_stimulus g c tells =
+    whole_told (words_of c.args.words.now) (g.C.Cabinet.exchanges c.args.cabinet.now)
+    (g.C.Cabinet.exchanges c.prepare.new.cabinet)
+    c.in-Ok.prepared c.in-Ok.ensures.prepared (answer_of c.perform.result) (g.S.Source.left
+    c.args.input.now)
+    (λ (p : List ℕ).
+    g.K.Sink.accepted c.perform.new.out ≡ g.K.Sink.accepted c.args.out.now ++ p)
+    (c.perform.ensures.performed.whole tells)
 
-pub returns-in-List-clause-only : goal.returns-in-List-clause-only
-returns-in-List-clause-only g c text a printed reads answer =
-    c.list_file.ensures.only text a printed
-    (command_reads (words_of c.args.words.now) (plain c.in-Ok.request) c.in-Ok.ensures Listing
-    c.in-List.is text (g.C.Cabinet.exchanges c.args.cabinet.now)
-    (g.C.Cabinet.exchanges c.list_file.new.cabinet) reads)
-    (command_answer (words_of c.args.words.now) (plain c.in-Ok.request) c.in-Ok.ensures Listing
-    c.in-List.is text a printed answer)
+pub returns-in-Ok-clause-only : goal.returns-in-Ok-clause-only
+returns-in-Ok-clause-only g c =
+    only_told (words_of c.args.words.now) (g.C.Cabinet.exchanges c.args.cabinet.now)
+    (g.C.Cabinet.exchanges c.prepare.new.cabinet)
+    c.in-Ok.prepared c.in-Ok.ensures.prepared (answer_of c.perform.result)
+    (λ (s : List ℕ).
+    g.S.Source.given c.perform.new.input ≡ g.S.Source.given c.args.input.now ++ s)
+    c.perform.ensures.performed.only
 
-pub returns-in-List-clause-front : goal.returns-in-List-clause-front
-returns-in-List-clause-front g c =
-    front_to_words (words_of c.args.words.now) (plain c.in-Ok.request) c.in-Ok.ensures Listing
-    c.in-List.is (answer_of c.list_file.result) (λ (printed : List ℕ).
-    WritesFront (g.K.Sink.accepted c.args.out.now) printed
-    (g.K.Sink.accepted c.list_file.new.out))
-    (g.K.Sink.accepted c.list_file.new.out ≡ g.K.Sink.accepted c.args.out.now)
-    (g.C.Cabinet.exchanges c.args.cabinet.now)
-    (g.C.Cabinet.exchanges c.list_file.new.cabinet) c.list_file.ensures.front
+pub returns-in-Ok-clause-front : goal.returns-in-Ok-clause-front
+returns-in-Ok-clause-front g c =
+    front_told (words_of c.args.words.now) (g.C.Cabinet.exchanges c.args.cabinet.now)
+    (g.C.Cabinet.exchanges c.prepare.new.cabinet)
+    c.in-Ok.prepared c.in-Ok.ensures.prepared (answer_of c.perform.result)
+    (g.K.Sink.accepted c.perform.new.out ≡ g.K.Sink.accepted c.args.out.now)
+    (λ (s : List ℕ).
+    g.S.Source.given c.perform.new.input ≡ g.S.Source.given c.args.input.now ++ s)
+    (λ (p : List ℕ).
+    WritesFront (g.K.Sink.accepted c.args.out.now) p (g.K.Sink.accepted c.perform.new.out))
+    c.perform.ensures.performed.front
 
-pub returns-in-List-clause-noninterference : goal.returns-in-List-clause-noninterference
-returns-in-List-clause-noninterference g c done checks =
-    absurd (other_command (words_of c.args.words.now) (plain c.in-Ok.request) c.in-Ok.ensures
-    Listing c.in-List.is Check (λ same. cc) checks)
+pub returns-in-Ok-clause-whole_front : goal.returns-in-Ok-clause-whole_front
+returns-in-Ok-clause-whole_front g c tells =
+    whole_front_told (words_of c.args.words.now) (g.C.Cabinet.exchanges c.args.cabinet.now)
+    (g.C.Cabinet.exchanges c.prepare.new.cabinet)
+    c.in-Ok.prepared c.in-Ok.ensures.prepared (answer_of c.perform.result)
+    (g.K.Sink.accepted c.perform.new.out ≡ g.K.Sink.accepted c.args.out.now) (g.S.Source.left
+    c.args.input.now)
+    (λ (p : List ℕ).
+    WritesFront (g.K.Sink.accepted c.args.out.now) p (g.K.Sink.accepted c.perform.new.out))
+    (c.perform.ensures.performed.whole_front tells)
 
-pub returns-in-Ok-report_of_misuse-clause-answer : goal.returns-in-Ok-report_of_misuse-clause-answer
-returns-in-Ok-report_of_misuse-clause-answer g c =
-    misuse_sent (answer_of c.send.result) (words_of c.args.words.now) c.in-Err.kind
-    c.in-Ok-report_of_misuse.report.outcome c.in-Ok-report_of_misuse.report.text.items
-    (g.K.Sink.accepted c.args.out.now) (g.K.Sink.accepted c.send.new.out)
-    (g.C.Cabinet.exchanges c.args.cabinet.now) c.in-Err.ensures
-    c.in-Ok-report_of_misuse.ensures.answer c.in-Ok-report_of_misuse.ensures.text
-    c.send.ensures.answered c.send.ensures.whole
+pub returns-in-Ok-clause-silent : goal.returns-in-Ok-clause-silent
+returns-in-Ok-clause-silent g c failed =
+    read_silent (words_of c.args.words.now) (g.C.Cabinet.exchanges c.args.cabinet.now)
+    (g.C.Cabinet.exchanges c.prepare.new.cabinet)
+    c.in-Ok.ensures.prepared.0 (g.K.Sink.accepted c.perform.new.out ≡ g.K.Sink.accepted
+    c.args.out.now)
+    c.in-Ok.ensures.prepared.1 failed
 
-pub returns-in-Ok-report_of_misuse-clause-front : goal.returns-in-Ok-report_of_misuse-clause-front
-returns-in-Ok-report_of_misuse-clause-front g c =
-    misuse_front (answer_of c.send.result) (words_of c.args.words.now) c.in-Err.kind
-    c.in-Ok-report_of_misuse.report.text.items
-    (g.K.Sink.accepted c.args.out.now) (g.K.Sink.accepted c.send.new.out)
-    (g.C.Cabinet.exchanges c.args.cabinet.now) c.in-Err.ensures
-    c.in-Ok-report_of_misuse.ensures.text c.send.ensures.front
+pub returns-in-Ok-clause-one_fetch : goal.returns-in-Ok-clause-one_fetch
+returns-in-Ok-clause-one_fetch g c =
+    let made : Result Prepared NoReport = Ok c.in-Ok.prepared in
+    let failed : Result Prepared NoReport = Err unprepared.OutOfMemory in
+    fetch_told (words_of c.args.words.now) (g.C.Cabinet.exchanges c.args.cabinet.now)
+    (g.C.Cabinet.exchanges c.prepare.new.cabinet)
+    (made ≡ failed) (c.perform.result ≡ OutOfMemory) (λ e. absurd (let f = e in cc))
+    c.in-Ok.ensures.one_fetch
+
+pub returns-in-Ok-clause-usage : goal.returns-in-Ok-clause-usage
+returns-in-Ok-clause-usage g c =
+    usage_told (words_of c.args.words.now) (g.C.Cabinet.exchanges c.args.cabinet.now)
+    (g.C.Cabinet.exchanges c.prepare.new.cabinet)
+    (answer_of c.perform.result) (λ (s : List ℕ).
+    g.S.Source.given c.perform.new.input ≡ g.S.Source.given c.args.input.now ++ s)
+    (λ (p : List ℕ).
+    g.K.Sink.accepted c.perform.new.out ≡ g.K.Sink.accepted c.args.out.now ++ p)
+    (answer_told (words_of c.args.words.now) (g.C.Cabinet.exchanges c.args.cabinet.now)
+    (g.C.Cabinet.exchanges c.prepare.new.cabinet)
+    c.in-Ok.prepared c.in-Ok.ensures.prepared (answer_of c.perform.result)
+    (λ (s : List ℕ).
+    g.S.Source.given c.perform.new.input ≡ g.S.Source.given c.args.input.now ++ s)
+    (λ (p : List ℕ).
+    g.K.Sink.accepted c.perform.new.out ≡ g.K.Sink.accepted c.args.out.now ++ p)
+    c.perform.ensures.performed.answer)
+
+pub returns-in-Ok-clause-read_fault : goal.returns-in-Ok-clause-read_fault
+returns-in-Ok-clause-read_fault g c failed =
+    let fault = c.perform.ensures.read_fault failed in (
+      fault_told (words_of c.args.words.now) (g.C.Cabinet.exchanges c.args.cabinet.now)
+          (g.C.Cabinet.exchanges c.prepare.new.cabinet)
+          c.in-Ok.prepared c.in-Ok.ensures.prepared fault.0 (g.K.Sink.accepted c.args.out.now)
+          (g.K.Sink.accepted c.perform.new.out)
+          fault.3,
+      inr fault.2,
+    )
+
+pub returns-in-Ok-clause-prompt : goal.returns-in-Ok-clause-prompt
+returns-in-Ok-clause-prompt g c failed text reads =
+    let fault = c.perform.ensures.read_fault failed in (
+      fault.0,
+      fault.1,
+      fault.2,
+      prompt_told (words_of c.args.words.now) (g.C.Cabinet.exchanges c.args.cabinet.now)
+          (g.C.Cabinet.exchanges c.prepare.new.cabinet)
+          c.in-Ok.prepared c.in-Ok.ensures.prepared fault.0 (g.K.Sink.accepted c.args.out.now)
+          (g.K.Sink.accepted c.perform.new.out)
+          fault.3 text reads,
+    )
+
+pub returns-in-Ok-clause-input_left : goal.returns-in-Ok-clause-input_left
+returns-in-Ok-clause-input_left g c =
+    left_told (words_of c.args.words.now) (g.C.Cabinet.exchanges c.args.cabinet.now)
+    (g.C.Cabinet.exchanges c.prepare.new.cabinet)
+    c.in-Ok.prepared c.in-Ok.ensures.prepared
+    (g.S.Source.left c.perform.new.input ≡ g.S.Source.left c.args.input.now)
+    c.perform.ensures.input_left
+
+pub returns-in-Ok-clause-input_untouched : goal.returns-in-Ok-clause-input_untouched
+returns-in-Ok-clause-input_untouched g c =
+    untouched_told (words_of c.args.words.now) (g.C.Cabinet.exchanges c.args.cabinet.now)
+    (g.C.Cabinet.exchanges c.prepare.new.cabinet)
+    c.in-Ok.prepared c.in-Ok.ensures.prepared
+    (g.S.Source.given c.perform.new.input ≡ g.S.Source.given c.args.input.now)
+    (λ level design. IsSome (level_asked design level)) c.perform.ensures.input_untouched
+
+pub returns-in-Ok-clause-input_faults : goal.returns-in-Ok-clause-input_faults
+returns-in-Ok-clause-input_faults g c =
+    left_told (words_of c.args.words.now) (g.C.Cabinet.exchanges c.args.cabinet.now)
+    (g.C.Cabinet.exchanges c.prepare.new.cabinet)
+    c.in-Ok.prepared c.in-Ok.ensures.prepared
+    (g.S.Source.faults c.perform.new.input ≡ g.S.Source.faults c.args.input.now)
+    c.perform.ensures.input_faults
+
+pub returns-in-Err-Unread-clause-one_fetch : goal.returns-in-Err-Unread-clause-one_fetch
+returns-in-Err-Unread-clause-one_fetch g c =
+    let unread = c.in-Err-Unread.ensures.unread (unread_is c.in-Err-Unread.field-0
+    c.in-Err-Unread.field-0-is) in
+    failed_fetch (words_of c.args.words.now) (g.C.Cabinet.exchanges c.args.cabinet.now)
+    (g.C.Cabinet.exchanges c.prepare.new.cabinet) _
+    unread.0 unread.1
+
+pub returns-in-Err-Unread-clause-usage : goal.returns-in-Err-Unread-clause-usage
+returns-in-Err-Unread-clause-usage g c =
+    usage_told (words_of c.args.words.now) (g.C.Cabinet.exchanges c.args.cabinet.now)
+    (g.C.Cabinet.exchanges c.prepare.new.cabinet) None
+    (λ (s : List ℕ). ⊤) (λ (s : List ℕ). ⊤) tt
+
+pub returns-in-Err-Unread-clause-read_fault : goal.returns-in-Err-Unread-clause-read_fault
+returns-in-Err-Unread-clause-read_fault g c failed =
+    let unread = c.in-Err-Unread.ensures.unread (unread_is c.in-Err-Unread.field-0
+    c.in-Err-Unread.field-0-is) in (unread.0, inl unread.2)
+
+pub returns-in-Err-Unread-clause-prompt : goal.returns-in-Err-Unread-clause-prompt
+returns-in-Err-Unread-clause-prompt g c failed text reads =
+    let unread = c.in-Err-Unread.ensures.unread (unread_is c.in-Err-Unread.field-0
+    c.in-Err-Unread.field-0-is) in
+    absurd (nothing_read (words_of c.args.words.now) (g.C.Cabinet.exchanges c.args.cabinet.now)
+    (g.C.Cabinet.exchanges c.prepare.new.cabinet) text
+    unread.0 unread.1 reads)
+
+pub returns-in-Err-OutOfMemory-clause-one_fetch :
+    goal.returns-in-Err-OutOfMemory-clause-one_fetch
+returns-in-Err-OutOfMemory-clause-one_fetch g c =
+    fetch_told (words_of c.args.words.now) (g.C.Cabinet.exchanges c.args.cabinet.now)
+    (g.C.Cabinet.exchanges c.prepare.new.cabinet) _
+    _ (λ e. refl) c.in-Err-OutOfMemory.ensures.one_fetch
+
+pub returns-in-Err-OutOfMemory-clause-usage : goal.returns-in-Err-OutOfMemory-clause-usage
+returns-in-Err-OutOfMemory-clause-usage g c =
+    usage_told (words_of c.args.words.now) (g.C.Cabinet.exchanges c.args.cabinet.now)
+    (g.C.Cabinet.exchanges c.prepare.new.cabinet) None
+    (λ (s : List ℕ). ⊤) (λ (s : List ℕ). ⊤) tt
+
+pub returns-in-Err-Unread-clause-most : goal.returns-in-Err-Unread-clause-most
+returns-in-Err-Unread-clause-most g c = few_taken (g.S.Source.given c.args.input.now)
+
+pub returns-in-Err-OutOfMemory-clause-most : goal.returns-in-Err-OutOfMemory-clause-most
+returns-in-Err-OutOfMemory-clause-most g c = few_taken (g.S.Source.given c.args.input.now)

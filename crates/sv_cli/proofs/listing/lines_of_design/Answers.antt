@@ -1,7 +1,7 @@
 use Rattle.std.proofs.Common.{refl}
 use Rattle.sv_flat.specs.Views.{design_of}
 use Rattle.sv_cli.proofs.Listed.{few_lines}
-use Rattle.sv_cli.proofs.listing.listing_of_design.Goals as goal
+use Rattle.sv_cli.proofs.listing.lines_of_design.Goals as goal
 
 pub returns-in-Ok : goal.returns-in-Ok
 returns-in-Ok c = (

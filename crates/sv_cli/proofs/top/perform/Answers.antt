@@ -1,0 +1,102 @@
+use Rattle.std.proofs.Common.{◌≡◌, ℕ, List, ◌++◌, map, Some, ◌⊎◌, inl, inr, refl, sym, subst}
+use Rattle.std.specs.Prelude.{IsSome, Option, option_map, string_bytes, ⊤}
+use Rattle.std.specs.Option.{option_copied}
+use Rattle.sv_flat.specs.Views.{design_of}
+use Rattle.sv_obl.specs.ListLines.{lines_from}
+use Rattle.sv_obl.specs.Views.{obligation_of}
+use Rattle.sv_obl.specs.declared.queries.Query.{Query}
+use Rattle.sv_simulate.specs.Simulated.{level_asked, WritesAllCycles}
+use Rattle.sv_cli.specs.declared.prepared.Prepared.{Prepared}
+use Rattle.sv_cli.specs.Answer.{Answer, answer_of, done}
+use Rattle.sv_cli.specs.Prepared.{IsReady, EndsAs, IsPerformed, Performs, IsSimulationWith}
+use Rattle.sv_cli.proofs.Sending.{few_taken, sent, one_given, one_equal, some_given}
+use Rattle.sv_cli.proofs.top.perform.Goals as goal
+
+pub returns-in-Whole-clause-performed : goal.returns-in-Whole-clause-performed
+returns-in-Whole-clause-performed g c =
+    let report = c.in-Whole.report in
+    let ready : IsSome (answer_of report.outcome) = subst IsReady c.in-Whole.is c.requires in
+    let first = some_given (answer_of report.outcome) ready in
+    subst (λ (p : Prepared). Performs (IsPerformed p) (λ (s : List ℕ).
+    g.S.Source.given c.args.input.now ≡ g.S.Source.given c.args.input.now ++ s) g.S.Source.tells
+    (g.S.Source.left c.args.input.now) (g.K.Sink.accepted c.args.out.now)
+    (g.K.Sink.accepted c.send.new.out) (answer_of c.send.result)) (sym c.in-Whole.is)
+    (sent (λ (a : Answer). answer_of report.outcome ≡ Some a)
+    (g.S.Source.given c.args.input.now) report.text.items (g.S.Source.left c.args.input.now)
+    (g.K.Sink.accepted c.args.out.now) (g.K.Sink.accepted c.send.new.out) g.S.Source.tells first.0
+    first.1 (one_given (answer_of report.outcome)) (answer_of c.send.result)
+    c.send.ensures.answered c.send.ensures.whole c.send.ensures.front)
+
+pub returns-in-Whole-clause-most : goal.returns-in-Whole-clause-most
+returns-in-Whole-clause-most g c = few_taken (g.S.Source.given c.args.input.now)
+
+pub returns-in-Lines-clause-performed : goal.returns-in-Lines-clause-performed
+returns-in-Lines-clause-performed g c =
+    let signals = (design_of c.in-Lines.design).signals in
+    let given = g.S.Source.given c.args.input.now in
+    let left = g.S.Source.left c.args.input.now in
+    let old = g.K.Sink.accepted c.args.out.now in
+    let new = g.K.Sink.accepted c.send_lines.new.out in
+    subst (λ (p : Prepared). Performs (IsPerformed p) (λ (s : List ℕ). given ≡ given ++ s)
+    g.S.Source.tells left old new (answer_of c.send_lines.result)) (sym c.in-Lines.is)
+    (subst (λ (queries : List Query). Performs (λ (s : List ℕ) (a : Answer) (p : List ℕ).
+    (a ≡ done) × (p ≡ lines_from signals 1 (map obligation_of queries)))
+    (λ (s : List ℕ). given ≡ given ++ s) g.S.Source.tells left old new
+    (answer_of c.send_lines.result)) c.deref.ensures.value
+    (sent (λ (a : Answer). a ≡ done) given
+    (lines_from signals 1 (map obligation_of c.deref.result.now)) left old new g.S.Source.tells
+    done refl (one_equal done) (answer_of c.send_lines.result) c.send_lines.ensures.answered
+    c.send_lines.ensures.whole c.send_lines.ensures.front))
+
+pub returns-in-Lines-clause-most : goal.returns-in-Lines-clause-most
+returns-in-Lines-clause-most g c = few_taken (g.S.Source.given c.args.input.now)
+
+pub returns-in-Simulation-clause-performed : goal.returns-in-Simulation-clause-performed
+returns-in-Simulation-clause-performed g c =
+    subst (λ (p : Prepared). Performs (IsPerformed p) (λ (s : List ℕ).
+    g.S.Source.given c.simulation.new.input ≡ g.S.Source.given c.args.input.now ++ s)
+    g.S.Source.tells
+    (g.S.Source.left c.args.input.now) (g.K.Sink.accepted c.args.out.now)
+    (g.K.Sink.accepted c.simulation.new.out) (answer_of c.simulation.result))
+    (sym c.in-Simulation.is)
+    (subst (λ (l : Option (List ℕ)).
+    Performs (EndsAs (design_of c.in-Simulation.design) l c.in-Simulation.order) (λ (s : List ℕ).
+    g.S.Source.given c.simulation.new.input ≡ g.S.Source.given c.args.input.now ++ s)
+    g.S.Source.tells (g.S.Source.left c.args.input.now) (g.K.Sink.accepted c.args.out.now)
+    (g.K.Sink.accepted c.simulation.new.out) (answer_of c.simulation.result))
+    c.as_deref.ensures.value c.simulation.ensures.performed)
+
+pub returns-in-Simulation-clause-read_fault : goal.returns-in-Simulation-clause-read_fault
+returns-in-Simulation-clause-read_fault g c failed =
+    let fault = c.simulation.ensures.read_fault failed in (
+      fault.0,
+      fault.1,
+      fault.2,
+      subst (λ (p : Prepared). IsSimulationWith (λ level design.
+          WritesAllCycles design level fault.0 (g.K.Sink.accepted c.args.out.now)
+          (g.K.Sink.accepted c.simulation.new.out)) p) (sym c.in-Simulation.is)
+          (subst (λ (l : Option (List ℕ)).
+          WritesAllCycles (design_of c.in-Simulation.design) l fault.0
+          (g.K.Sink.accepted c.args.out.now) (g.K.Sink.accepted c.simulation.new.out))
+          c.as_deref.ensures.value fault.3),
+    )
+
+pub returns-in-Simulation-clause-input_left : goal.returns-in-Simulation-clause-input_left
+returns-in-Simulation-clause-input_left g c =
+    inr (subst (IsSimulationWith (λ level design. ⊤)) (sym c.in-Simulation.is) tt)
+
+pub returns-in-Simulation-clause-input_untouched :
+    goal.returns-in-Simulation-clause-input_untouched
+returns-in-Simulation-clause-input_untouched g c =
+    subst (λ (p : Prepared).
+    (g.S.Source.given c.simulation.new.input ≡ g.S.Source.given c.args.input.now)
+    ⊎ IsSimulationWith (λ level design. IsSome (level_asked design level)) p)
+    (sym c.in-Simulation.is)
+    (subst (λ (l : Option (List ℕ)).
+    (g.S.Source.given c.simulation.new.input ≡ g.S.Source.given c.args.input.now)
+    ⊎ IsSome (level_asked (design_of c.in-Simulation.design) l)) c.as_deref.ensures.value
+    c.simulation.ensures.untouched)
+
+pub returns-in-Simulation-clause-input_faults : goal.returns-in-Simulation-clause-input_faults
+returns-in-Simulation-clause-input_faults g c =
+    inr (subst (IsSimulationWith (λ level design. ⊤)) (sym c.in-Simulation.is) tt)

@@ -1,0 +1,123 @@
+-- What is prepared of a text before the stimulus is taken, as the code holds it.
+use Rattle.std.specs.Prelude.{◌≡◌, ◌≤◌, ◌⊎◌, ℕ, List, [], Option, Some, None, All, IsSome, length}
+use Rattle.std.specs.Prelude.{map, option_map, string_bytes, ⊤, ◌++◌, Bool, IsTrue, IfSome, IfNone}
+use Rattle.sv_io.specs.Sink.{WritesFront}
+use Rattle.sv_flat.specs.declared.designs.Flat.{Flat}
+use Rattle.sv_flat.specs.Design.{FlatDesign}
+use Rattle.sv_flat.specs.Views.{design_of}
+use Rattle.sv_obl.specs.declared.queries.Query.{Query}
+use Rattle.sv_obl.specs.DesignQueries.{IsQueryOf, IsPlaced}
+use Rattle.sv_obl.specs.Limits.{Excess, excess}
+use Rattle.sv_obl.specs.ListLines.{lines_from}
+use Rattle.sv_obl.specs.Obligations.{obligations}
+use Rattle.sv_obl.specs.Views.{obligation_of}
+use Rattle.sv_words.specs.Words.{Request, request_of, usage_of}
+use Rattle.sv_simulate.specs.declared.endings.Ending.{Ending}
+use Rattle.sv_simulate.specs.Simulated.{IsSimulated}
+use Rattle.sv_cli.specs.declared.prepared.Prepared.{Prepared}
+use Rattle.sv_cli.specs.declared.prepared.Prepared.TheVariants.{Whole, Lines, Simulation}
+use Rattle.sv_cli.specs.declared.report.Report.{Report}
+use Rattle.sv_cli.specs.Text.{limit_text}
+use Rattle.sv_cli.specs.Answer.{Answer, answer_of, answer_by, done, limit_passed, limit_number}
+use Rattle.sv_cli.specs.Answer.{limit_names, AreCircles, IsAnswerBy, IsAnswer, Simulates}
+
+-- each line can be made, and its number fits
+pub record HasLines (design : Flat) (queries : List Query) : Type 0 where
+  pub asked : All (IsQueryOf (design_of design)) (map obligation_of queries)
+  pub placed : All IsPlaced (map obligation_of queries)
+  pub few : length queries ≤ 65536
+
+abbrev pub IsReady : Prepared → Type 0
+IsReady (Whole report) = IsSome (answer_of report.outcome)
+IsReady (Lines design queries) = HasLines design queries.items
+IsReady (Simulation design level order) = ⊤
+
+-- what is answered of a design that is simulated, and what is printed
+abbrev pub EndsAs : FlatDesign → (level : Option (List ℕ)) → (order : Option ℕ) →
+    (stimulus : List ℕ) → Answer → (printed : List ℕ) → Type 0
+EndsAs design level order stimulus answer printed =
+    (ends : Ending) × (answer ≡ answer_by ends)
+    × IsSimulated design level order stimulus ends printed
+
+-- what is answered of it for a stimulus, and what is printed
+abbrev pub IsPerformed : Prepared → (stimulus : List ℕ) → Answer → (printed : List ℕ) → Type 0
+IsPerformed (Whole report) stimulus answer printed =
+    (answer_of report.outcome ≡ Some answer) × (printed ≡ report.text.items)
+IsPerformed (Lines design queries) stimulus answer printed =
+    (answer ≡ done) × (printed ≡
+    lines_from (design_of design).signals 1 (map obligation_of queries.items))
+IsPerformed (Simulation design level order) stimulus answer printed =
+    EndsAs (design_of design) (option_map string_bytes level) order stimulus answer printed
+
+-- What was answered and accepted is what Is says of the bytes that were taken and, where the input
+-- tells them, of all that were left.
+pub record Performs (Is : (stimulus : List ℕ) → Answer → (printed : List ℕ) → Type 0)
+    (Took : (stimulus : List ℕ) → Type 0) (tells : Bool) (left old new : List ℕ)
+    (given : Option Answer) : Type 0 where
+  pub answer : IfSome given (λ a. (stimulus printed : List ℕ) × Took stimulus
+      × Is stimulus a printed × (new ≡ old ++ printed))
+  pub whole : IsTrue tells
+      → IfSome given (λ a. (printed : List ℕ) × Is left a printed × (new ≡ old ++ printed))
+  pub only : (stimulus : List ℕ) (a : Answer) (printed : List ℕ) → Took stimulus
+      → Is stimulus a printed → IfSome given (λ b. b ≡ a)
+  -- without an answer a front of the text was accepted
+  pub front : IfNone given ((stimulus : List ℕ) × (a : Answer) × (printed : List ℕ)
+      × Took stimulus × Is stimulus a printed × WritesFront old printed new)
+  pub whole_front : IsTrue tells
+      → IfNone given ((a : Answer) × (printed : List ℕ) × Is left a printed
+      × WritesFront old printed new)
+
+-- it is a simulation, of whose level and design this holds
+abbrev pub IsSimulationWith : (Option (List ℕ) → FlatDesign → Type 0) → Prepared → Type 0
+IsSimulationWith Holds (Whole report) = ⊥
+IsSimulationWith Holds (Lines design queries) = ⊥
+IsSimulationWith Holds (Simulation design level order) =
+    Holds (option_map string_bytes level) (design_of design)
+
+-- of a simulation, if it is one, this holds
+abbrev pub IsOtherOrWith : (Option (List ℕ) → FlatDesign → Type 0) → Prepared → Type 0
+IsOtherOrWith Holds (Whole report) = ⊤
+IsOtherOrWith Holds (Lines design queries) = ⊤
+IsOtherOrWith Holds (Simulation design level order) =
+    Holds (option_map string_bytes level) (design_of design)
+
+-- What is made of it for a stimulus is an answer, and nothing else is but another circle. What it
+-- simulates may be simulated.
+pub record Prepares (Is : (stimulus : List ℕ) → Answer → (printed : List ℕ) → Type 0)
+    (MaySimulate : Option (List ℕ) → FlatDesign → Type 0) (prepared : Prepared) : Type 0 where
+  pub ready : IsReady prepared
+  pub simulates : IsOtherOrWith MaySimulate prepared
+  pub stands : (stimulus : List ℕ) (answer : Answer) (printed : List ℕ)
+      → IsPerformed prepared stimulus answer printed → Is stimulus answer printed
+  pub only : (stimulus : List ℕ) (other : Answer) (others : List ℕ) → Is stimulus other others
+      → (answer : Answer) × (printed : List ℕ) × IsPerformed prepared stimulus answer printed
+      × ((other ≡ answer) ⊎ AreCircles other answer)
+
+-- of a text for a request
+abbrev pub PreparesFor : Request → (text : List ℕ) → Prepared → Type 0
+PreparesFor request text prepared =
+    Prepares (IsAnswerBy request text) (λ level design.
+    (words : List (List ℕ)) → usage_of words ≡ None → request_of words ≡ Some request
+    → Simulates words text level design) prepared
+
+-- of words, and of the text that is read for them
+abbrev pub PreparesWords : (words : List (List ℕ)) → (text : List ℕ) → Prepared → Type 0
+PreparesWords words text prepared =
+    Prepares (IsAnswer words text) (Simulates words text) prepared
+
+-- the report tells of the first limit that the design passes
+pub record TellsLimit (design : FlatDesign) (report : Report) : Type 0 where
+  pub passed : Excess
+  pub first : excess design ≡ Some passed
+  pub answer : answer_of report.outcome
+      ≡ Some (limit_passed (limit_number passed) (limit_names design.signals passed))
+  pub text : report.text.items
+      ≡ limit_text (limit_number passed) (limit_names design.signals passed)
+
+-- what is prepared of an admitted design to list its obligations
+abbrev pub ListsDesign : FlatDesign → Prepared → Type 0
+ListsDesign design (Whole report) = TellsLimit design report
+ListsDesign design (Lines listed queries) =
+    (design_of listed ≡ design) × (map obligation_of queries.items ≡ obligations [] design)
+    × (excess design ≡ None) × HasLines listed queries.items
+ListsDesign design (Simulation simulated level order) = ⊥

@@ -1,0 +1,59 @@
+// What `sim` comes to.
+ghost use Rattle.std.specs.Prelude.{◌≡◌, ℕ, ◌++◌, ◌≤◌, ◌+◌, ◌⊎◌, List, Some, IsSome, length};
+ghost use Rattle.std.specs.Option.{option_copied};
+ghost use Rattle.sv_flat.specs.Views.{design_of};
+ghost use Rattle.sv_io.specs.Count.{Rose};
+ghost use Rattle.sv_simulate.specs.Simulated.{largest_stimulus, level_asked, WritesAllCycles};
+ghost use Rattle.sv_cli.specs.Answer.{answer_of, answer_by};
+ghost use Rattle.sv_cli.specs.Prepared.{EndsAs, Performs};
+
+use crate::outcome::{Broken, Outcome, StimSource};
+use std::alloc::Global;
+use sv_design::Design;
+use sv_io::{Sink, Source};
+use sv_simulate::{Ending, SimFault, simulate};
+
+/// Simulates the design on the input, for a level or for all, and says how that ends.
+pub fn simulation<S: Source, K: Sink>(
+    alloc: Global,
+    design: &Design,
+    level: Option<&str>,
+    order: Option<u64>,
+    input: &mut S,
+    out: &mut K,
+) -> Outcome
+    ensures performed { Performs (EndsAs (design_of design.now) (option_copied level.entry) order)
+        (λ stimulus. S.given input.new ≡ S.given input.old ++ stimulus) S.tells (S.left input.old)
+        (K.accepted out.old) (K.accepted out.new) (answer_of result) }
+    ensures read_fault { result ≡ Outcome.ReadFault →
+        (stimulus : List ℕ)
+        × (S.given input.new ≡ S.given input.old ++ stimulus)
+        × Rose (S.faults input.old) (S.faults input.new)
+        × WritesAllCycles (design_of design.now) (option_copied level.entry) stimulus
+        (K.accepted out.old) (K.accepted out.new) }
+    ensures write_fault { result ≡ Outcome.WriteFault → Rose (K.faults out.old) (K.faults out.new) }
+    ensures untouched { (S.given input.new ≡ S.given input.old)
+        ⊎ IsSome (level_asked (design_of design.now) (option_copied level.entry)) }
+    ensures most { (stimulus : List ℕ) → S.given input.new ≡ S.given input.old ++ stimulus →
+        length stimulus ≤ largest_stimulus + 1 }
+{
+    match simulate(alloc, design, input, out, level, order) {
+        Ok(ending) => outcome_of(alloc, ending),
+        Err(SimFault::Read) => Outcome::ReadFault,
+        Err(SimFault::Write) => Outcome::WriteFault,
+        Err(SimFault::OutOfMemory) => Outcome::OutOfMemory,
+    }
+}
+
+fn outcome_of(alloc: Global, ending: Ending) -> Outcome
+    ensures { answer_of result ≡ Some (answer_by ending) }
+{
+    match ending {
+        Ending::Done => Outcome::Done,
+        Ending::NoLevel => Outcome::Refused(Broken::Limit(707, Vec::new(alloc))),
+        Ending::TooLarge => Outcome::Refused(Broken::Limit(704, Vec::new(alloc))),
+        Ending::WrongLine(line, kind) => {
+            Outcome::Refused(Broken::Stimulus(StimSource::Input, line, kind))
+        }
+    }
+}

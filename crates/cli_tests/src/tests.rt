@@ -1,10 +1,9 @@
 // Whole outputs of `run` on worked examples.
 use std::alloc::{AllocError, Global};
 use std::test::Fail;
-use sv_ast::{Expr, Item, Stmt, Text};
+use sv_ast::{Item, Stmt, Text};
 use sv_cli::run;
 use sv_io::{MemCabinet, MemSink, MemSource};
-use sv_num::BinOp;
 use sv_parse::read_text;
 
 const GATE: &str = "module m(input a, input b, output y); assign y = a & b; endmodule\n";
@@ -315,15 +314,26 @@ fn process_of(text: &Text) -> Option<&Stmt> {
     }
 }
 
+// The whole tree of the process; a name stands in it as its bytes, `a` as 97.
 #[test]
 fn an_else_belongs_to_the_nearest_if(rt: HostRuntime) -> Result<(), Fail> {
     let bytes = b"module m; always @* if (a) if (b) y = a; else y = b; endmodule";
     let text = read_text(rt.alloc(), bytes.as_slice())?;
-    let nearest = match process_of(&text) {
-        Some(Stmt::If { yes, no: None, .. }) => matches!(&**yes, Stmt::If { no: Some(_), .. }),
-        _ => false,
-    };
-    assert!(rt; nearest);
+    assert_eq!(rt;
+        format!(in rt.alloc(); "{:?}", process_of(&text))?.as_str(),
+        "Some(If { place: Place { line: 1, column: 21 }, \
+         cond: Name(Name { bytes: [97] }, Place { line: 1, column: 25 }), \
+         yes: If { place: Place { line: 1, column: 28 }, \
+         cond: Name(Name { bytes: [98] }, Place { line: 1, column: 32 }), \
+         yes: Assign { targets: [Target { name: Name { bytes: [121] }, \
+         place: Place { line: 1, column: 35 }, select: Whole }], \
+         place: Place { line: 1, column: 35 }, blocking: true, \
+         value: Name(Name { bytes: [97] }, Place { line: 1, column: 39 }) }, \
+         no: Some(Assign { targets: [Target { name: Name { bytes: [121] }, \
+         place: Place { line: 1, column: 47 }, select: Whole }], \
+         place: Place { line: 1, column: 47 }, blocking: true, \
+         value: Name(Name { bytes: [98] }, Place { line: 1, column: 51 }) }) }, no: None })"
+    );
     Ok(())
 }
 
@@ -331,17 +341,16 @@ fn an_else_belongs_to_the_nearest_if(rt: HostRuntime) -> Result<(), Fail> {
 fn minus_goes_from_left_to_right(rt: HostRuntime) -> Result<(), Fail> {
     let bytes = b"module m; always @* y = a - b - c; endmodule";
     let text = read_text(rt.alloc(), bytes.as_slice())?;
-    let from_left = match process_of(&text) {
-        Some(
-            Stmt::Assign {
-                value: Expr::Binary(BinOp::Sub, _, left, right),
-                ..
-            },
-        ) => {
-            matches!(&**left, Expr::Binary(BinOp::Sub, ..)) && matches!(&**right, Expr::Name(..))
-        }
-        _ => false,
-    };
-    assert!(rt; from_left);
+    assert_eq!(rt;
+        format!(in rt.alloc(); "{:?}", process_of(&text))?.as_str(),
+        "Some(Assign { targets: [Target { name: Name { bytes: [121] }, \
+         place: Place { line: 1, column: 21 }, select: Whole }], \
+         place: Place { line: 1, column: 21 }, blocking: true, \
+         value: Binary(Sub, Place { line: 1, column: 31 }, \
+         Binary(Sub, Place { line: 1, column: 27 }, \
+         Name(Name { bytes: [97] }, Place { line: 1, column: 25 }), \
+         Name(Name { bytes: [98] }, Place { line: 1, column: 29 })), \
+         Name(Name { bytes: [99] }, Place { line: 1, column: 33 })) })"
+    );
     Ok(())
 }

@@ -215,7 +215,9 @@ def simulations():
                                              ([], wrong, trace.split("\n")[0] + "\n" + refused, 1), (["--level", "Q"], wrong, "refused 707 level\n", 1),
                                              ([], "start q 9\n", "refused stimulus input 2 header\n", 1), (["--top", "n"], wrong, "refused 310 no-top 1:1\n", 1)]:
             answer = run(["sim", path, *words], given=given.encode())
-            compare(f"sim {words} {given!r}", (answer.stdout, answer.stderr, answer.returncode), (wanted.encode(), b"", status))
+            # A broken rule has a line for a person too.
+            told = (answer.stdout, answer.stderr == b"", answer.returncode)
+            compare(f"sim {words} {given!r}", told, (wanted.encode(), "no-top" not in wanted, status))
         with open("/dev/full", "wb") as full:
             compare("sim to a full device", run(["sim", path], stdout=full, given=stimulus.encode()).returncode, 5)
         answer = run(["sim", path], before=lambda: os.close(0))

@@ -1,6 +1,5 @@
 pub mod TargetFacts
 pub mod CaseFacts
-pub mod StatementLengths
 pub mod ChainFacts
 pub mod CompleteFacts
 pub mod ItemFacts

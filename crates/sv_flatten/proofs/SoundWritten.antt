@@ -11,49 +11,21 @@ use Rattle.sv_ast.specs.declared.modules.Module.{Module}
 use Rattle.sv_ast.specs.declared.modules.Overrides.{Overrides}
 use Rattle.sv_ast.specs.declared.modules.Overrides.TheVariants as overrides
 use Rattle.sv_ast.specs.declared.modules.Text.{Text}
-use Rattle.sv_ast.specs.declared.statements.Stmt as stmt
-use Rattle.sv_ast.specs.declared.statements.Stmt.{Stmt, Row_of-Stmt, end_of-Stmt, more_of-Stmt}
-use Rattle.sv_ast.specs.declared.statements.Stmt.{Row_of-Arm, end_of-Arm, more_of-Arm}
 use Rattle.sv_ast.specs.Tree.{ParameterTree, DeclarationTree, parameter_item, declared}
 use Rattle.sv_ast.specs.Tree.{NamedOverride, NamedLink, ModuleTree}
-use Rattle.sv_ast.specs.Views.{expression_tree, expression_trees, statement_tree, row_statements}
-use Rattle.sv_ast.specs.Views.{row_arms, declaration_tree, parameter_tree, named_override}
+use Rattle.sv_ast.specs.Views.{expression_tree, expression_trees}
+use Rattle.sv_ast.specs.Views.{declaration_tree, parameter_tree, named_override}
 use Rattle.sv_ast.specs.Views.{override_trees, named_link, link_trees, item_tree, module_tree}
 use Rattle.sv_ast.specs.Views.{text_tree}
 use Rattle.sv_width.specs.Agreement.{NumbersHaveLengths}
 use Rattle.sv_width.proofs.Ends.{expression_lengths}
+use Rattle.sv_width.proofs.StatementLengths.{statement_lengths}
 use Rattle.sv_flatten.specs.FlattenedTexts.{ItemNumbersFit, EachItem}
-use Rattle.sv_width.specs.WrittenLengths.{ItemsHaveLengths, StatementHasLengths}
-use Rattle.sv_width.specs.WrittenLengths.{StatementsHaveLengths, ArmsHaveLengths, AllHaveLengths}
+use Rattle.sv_width.specs.WrittenLengths.{AllHaveLengths}
 use Rattle.sv_width.specs.WrittenLengths.{ValueHasLengths, OverridesHaveLengths, LinksHaveLengths}
 use Rattle.sv_width.specs.WrittenLengths.{ItemHasLengths, ModuleHasLengths, TextHasLengths}
 use Rattle.sv_flatten.proofs.PartsLists.{contains_either}
 use Rattle.sv_flatten.proofs.WrittenNumbers.{selectors_fit}
-
-items_lengths : (es : List Expr) → ItemsHaveLengths (expression_trees es)
-items_lengths [] = tt
-items_lengths (e ∷ es) = (expression_lengths e, items_lengths es)
-
-mutual
-  statement_lengths : (s : Stmt) → StatementHasLengths (statement_tree s)
-  statement_lengths stmt.Null = tt
-  statement_lengths (stmt.Assign targets place blocking value) = expression_lengths value
-  statement_lengths (stmt.Block' shape row) = statements_lengths row
-  statement_lengths (stmt.If' place condition p first stmt.None') =
-      (expression_lengths condition, statement_lengths first)
-  statement_lengths (stmt.If' place condition p first (stmt.Some' q second)) =
-      (expression_lengths condition, statement_lengths first, statement_lengths second)
-  statement_lengths (stmt.Case' place selector shape row) =
-      (expression_lengths selector, arms_lengths row)
-
-  statements_lengths : {n : _} (row : Row_of-Stmt n) → StatementsHaveLengths (row_statements row)
-  statements_lengths end_of-Stmt = tt
-  statements_lengths (more_of-Stmt s row) = (statement_lengths s, statements_lengths row)
-
-  arms_lengths : {n : _} (row : Row_of-Arm n) → ArmsHaveLengths (row_arms row)
-  arms_lengths end_of-Arm = tt
-  arms_lengths (more_of-Arm place items body row) =
-      (items_lengths items.items, statement_lengths body, arms_lengths row)
 
 value_lengths : (o : Option Expr) → ValueHasLengths (option_map expression_tree o)
 value_lengths (Some e) = expression_lengths e

@@ -18,3 +18,4 @@ pub mod Folds
 pub mod Arms
 pub mod Rest
 pub mod SoundStatements
+pub mod StatementLengths

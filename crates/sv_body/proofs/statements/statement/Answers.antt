@@ -5,7 +5,7 @@ use Rattle.sv_width.specs.Scopes.{names_of}
 use Rattle.sv_width.proofs.Breaches.{ok_weaker}
 use Rattle.sv_width.proofs.Ends.{known_lengths}
 use Rattle.sv_width.proofs.SoundStatements.{sound_of}
-use Rattle.sv_body.proofs.StatementLengths.{statement_lengths}
+use Rattle.sv_width.proofs.StatementLengths.{statement_lengths}
 use Rattle.sv_body.proofs.statements.statement.Goals as goal
 
 pub returns-clause-sound : goal.returns-clause-sound

@@ -22,6 +22,3 @@ mod values;
 
 pub use laws::at_most_one_module_is_meant;
 pub use modules::read_module;
-
-#[cfg(test)]
-mod tests;

@@ -16,6 +16,3 @@ mod scope;
 
 pub use answer::check;
 pub use leak::{Finding, Leak};
-
-#[cfg(test)]
-mod tests;

@@ -1,6 +1,6 @@
-use super::read_module;
 use std::alloc::{AllocError, Global};
 use std::test::Fail;
+use sv_first::read_module;
 
 // The name, how many ports and how many items the text has, if it is read.
 fn shape(alloc: Global, text: &[u8]) -> Result<Option<(u8, usize, usize)>, AllocError> {

@@ -1,7 +1,7 @@
-use super::{Finding, check};
 use std::alloc::Global;
 use std::test::Fail;
 use sv_first_ast::{Decl, DeclKind, Expr, Item, Module, Point, Stmt};
+use sv_first_flow::{Finding, check};
 use sv_num::{BinOp, Name, OutOfMemory, UnOp};
 
 fn decl(

@@ -3,9 +3,9 @@
 //!
 //! `elaborate` takes a text of the shape that the grammar gives, and answers as the walk of the
 //! whole text ends (`sv_walk`, `specs/Texts.antt` and the files below it): with the flat design
-//! that the walk finds, or with the rule, place and names of the step that is broken first. The
-//! design of a text that releases nothing is sound (`sv_flat`, `specs/Soundness.antt`;
-//! `sv_flatten`). It fails otherwise only where memory runs out.
+//! that the walk finds, which is sound (`sv_flat`, `specs/Soundness.antt`; `sv_flatten`), or with
+//! the rule, place and names of the step that is broken first. It fails otherwise only where memory
+//! runs out.
 //!
 //! On the way the lattice, the label maps, the names of modules, the top module and the instances
 //! in it are built, each as that part of the walk ends. Expressions, statements and declarations

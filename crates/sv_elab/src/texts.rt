@@ -6,7 +6,6 @@ ghost use Rattle.sv_flat.specs.Soundness.{sound};
 ghost use Rattle.sv_flat.specs.Views.{design_of};
 ghost use Rattle.sv_walk.specs.Texts.{walk_of};
 ghost use Rattle.sv_width.specs.Answers.{IsBreach};
-ghost use Rattle.sv_flatten.specs.FlattenedTexts.{ReleasesNothing, EachItem};
 ghost use Rattle.sv_elab.specs.Modules.{asked_name};
 
 use crate::instances::top_instance;
@@ -76,16 +75,15 @@ fn elaborate_under(alloc: Global, text: &Text, top: Option<&Name>) -> Result<Fla
 
 /// The flat design that a text stands for, under the module that is asked for as its top or else
 /// the only one that no module has an instance of; or the first rule that the walk of the text
-/// breaks. Memories, invariants and released values are passed over: a text with one is refused
-/// before. The design of a text that releases nothing is sound.
+/// breaks. The design is sound. Memories, invariants and released values are passed over: a text
+/// with one is refused before.
 pub fn elaborate(alloc: Global, text: &Text, top: Option<&str>) -> Result<Flat, Fault>
     requires shaped { IsTrue (is_shaped (text_tree text.now)) }
     requires pairs { IfSome text.now.lattice (λ l. length l.pairs.items < 2 ^ 32) }
     requires maps { length text.now.maps.items < 2 ^ 32 }
     ensures found { IfOk result
         (λ f. (walk_of (text_tree text.now) (asked_name top.entry)).end ≡ Ok (design_of f)) }
-    ensures sound { EachItem ReleasesNothing (text_tree text.now)
-        → IfOk result (λ f. IsTrue (sound (design_of f))) }
+    ensures sound { IfOk result (λ f. IsTrue (sound (design_of f))) }
     ensures broken { IfErr result
         (IsBreach (walk_of (text_tree text.now) (asked_name top.entry)).end) }
 {

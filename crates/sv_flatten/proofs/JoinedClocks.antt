@@ -8,7 +8,6 @@ use Rattle.std.specs.List.{slice_get, filter_map}
 use Rattle.std.specs.Option.{option_map_or}
 use Rattle.std.proofs.lemmas.Bool.{false≢true, or_cases, or_left, or_right, and_parts}
 use Rattle.std.proofs.lemmas.Bool.{and_from, eqb-true, eq-eqb}
-use Rattle.std.proofs.lemmas.List.{length-map}
 use Rattle.sv_system.proofs.Lists.{Contains-head, Contains-later, Contains-cases, Contains-nil}
 use Rattle.sv_ast.specs.Tree.{ModuleTree, TextTree}
 use Rattle.sv_ast.specs.Instances.{top_module, whole_signal}
@@ -30,13 +29,14 @@ use Rattle.sv_flat.specs.Clocks.{is_clock}
 use Rattle.sv_flat.proofs.LeastSets.{some_from, from_some, holds-from_Contains, Contains-from_holds}
 use Rattle.sv_flat.proofs.LeastSets.{in_those, those_below, those_pass, least_set_has}
 use Rattle.sv_flat.proofs.LeastSets.{least_set_closed, least_set_least}
-use Rattle.sv_flatten.proofs.PartsLists.{zip_left, zip_right, zip_length, get_contains}
-use Rattle.sv_flatten.proofs.PartsLists.{contains_get, get_below, differ_places}
+use Rattle.sv_flatten.proofs.PartsLists.{zip_left, zip_right, get_contains}
+use Rattle.sv_flatten.proofs.PartsLists.{contains_get, differ_places}
 use Rattle.sv_flatten.proofs.PartsNamed.{to_filter_map, from_filter_map}
-use Rattle.sv_flatten.proofs.PartsGrown.{IsLink, IsFlat, IsForm, IsNumberOf, kind_clock, clock_of}
+use Rattle.sv_flatten.proofs.PartsGrown.{IsLink, IsFlat, IsNumberOf, kind_clock, clock_of}
 use Rattle.sv_flatten.proofs.PartsGrown.{edges_from}
 use Rattle.sv_flatten.proofs.PartsPaths.{from_flat_map, to_flat_map}
 use Rattle.sv_flatten.proofs.PartsTexts.{SideBySide, sources_of, edges_of, paths_differ}
+use Rattle.sv_flatten.proofs.FormsBeside.{same_size, below_size}
 use Rattle.sv_flatten.proofs.JoinedSources.{edges_forth, edges_back, links_forth, links_back}
 use Rattle.sv_flatten.proofs.JoinedLinks.{port_at, port_numbered, outer_numbered, IsInput, IsOutput}
 use Rattle.sv_flatten.proofs.JoinedLinks.{link_is}
@@ -178,12 +178,10 @@ module _ (text : TextTree) (top : Option (List ℕ)) (design : FlatDesign)
   path_same x y k a b = let e : Some x ≡ Some y = sym a ∙ b in cc e
 
   pub sizes : length sources ≡ length design.signals
-  sizes = zip_length (IsForm side.tables sources (parts text top)) sources design.signals side.forms
+  sizes = same_size side.tables sources (parts text top) design.signals side.forms
 
   pub number_below : (x : Path) (k : ℕ) → IsNumber x k → k < length design.signals
-  number_below x k a =
-      subst (λ n. k < n) (length-map sources signal_path ∙ sizes)
-      (get_below (map signal_path sources) k x a)
+  number_below = below_size side.tables sources (parts text top) design.signals side.forms
 
   top_edges_forth : (x : Path) → Contains (edges_of text top) x →
       Contains (flat_map edges (parts text top)) x

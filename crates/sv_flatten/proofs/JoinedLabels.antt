@@ -50,14 +50,14 @@ use Rattle.sv_walk.specs.Lattices.{point_number}
 use Rattle.sv_walk.specs.LabelSteps.{Tables, second_selector, same_number, second_fits}
 use Rattle.sv_walk.specs.LabelSteps.{label_walk}
 use Rattle.sv_walk.proofs.WalkLemmas.{parts_done, asked_true, found_some}
-use Rattle.sv_flatten.proofs.PartsLists.{zip_right, get_contains, get_map}
+use Rattle.sv_flatten.proofs.PartsLists.{zip_right, get_contains, index_is, get_map}
 use Rattle.sv_flatten.proofs.PartsDeclared.{same_ok}
 use Rattle.sv_flatten.proofs.PartsMaps.{from_get_map}
 use Rattle.sv_flatten.proofs.PartsNamed.{IsNamed}
 use Rattle.sv_flatten.proofs.PartsGrown.{LabelFound, number_of_name, signal_is}
 use Rattle.sv_flatten.proofs.PartsTexts.{SideBySide, sources_of}
 use Rattle.sv_flatten.proofs.JoinedClocks.{number_below, same_clock}
-use Rattle.sv_flatten.proofs.JoinedNumbers.{At, signal_at, is_flat_signal, index_is}
+use Rattle.sv_flatten.proofs.JoinedNumbers.{At, signal_at, is_flat_signal}
 use Rattle.sv_flatten.proofs.JoinedRuns.{source_system, path_to, unclocked_values, agree_off}
 use Rattle.sv_flatten.proofs.JoinedRuns.{to_name, values_fit}
 use Rattle.sv_flatten.proofs.JoinedLattice.{IsPointNumber, position_found}

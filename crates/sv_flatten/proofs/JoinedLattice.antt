@@ -27,13 +27,12 @@ use Rattle.sv_walk.proofs.WalkLemmas.{parts_done, asked_true}
 use Rattle.sv_walk.proofs.LatticeLemmas.{table_is_exact}
 use Rattle.sv_ast.proofs.Reaching.{HasKnownPoints, flows_by_pairs}
 use Rattle.sv_flatten.proofs.PartsLists.{get_contains, contains_get, zip_left, zip_right, get_below}
-use Rattle.sv_flatten.proofs.PartsLists.{contains_left, contains_right}
+use Rattle.sv_flatten.proofs.PartsLists.{index_is, contains_left, contains_right}
 use Rattle.sv_flatten.proofs.PartsBindings.{same_name, name_itself}
 use Rattle.sv_flatten.proofs.PartsDeclared.{same_ok}
 use Rattle.sv_flatten.proofs.PartsLinks.{find_some}
 use Rattle.sv_flatten.proofs.PartsNamed.{found_place, find_passes}
 use Rattle.sv_flatten.proofs.JoinedClocks.{same_bool}
-use Rattle.sv_flatten.proofs.JoinedNumbers.{index_is}
 
 -- ---- questions are asked in some order, and all of them
 

@@ -33,12 +33,11 @@ use Rattle.sv_flatten.proofs.PartsBindings.{name_itself}
 use Rattle.sv_flatten.proofs.LatticeTests.{same_sets, and_test, some_below, apart_test}
 use Rattle.sv_flatten.proofs.LatticeTests.{turned_length, turned_test}
 use Rattle.sv_flatten.proofs.PartsLists.{get_contains, below_get, AllDiffer, differ_places}
-use Rattle.sv_flatten.proofs.PartsLists.{contains_left}
+use Rattle.sv_flatten.proofs.PartsLists.{index_is, contains_left}
 use Rattle.sv_flatten.proofs.PartsDeclared.{same_ok}
 use Rattle.sv_flatten.proofs.PartsLinks.{find_some}
 use Rattle.sv_flatten.proofs.PartsNamed.{found_place, find_passes}
 use Rattle.sv_flatten.proofs.PartsPaths.{to_flat_map}
-use Rattle.sv_flatten.proofs.JoinedNumbers.{index_is}
 use Rattle.sv_flatten.proofs.JoinedLattice.{IsPointNumber, IsOrderFrom, exact_table, listed_number}
 use Rattle.sv_flatten.proofs.JoinedLattice.{number_at, number_in, flows_same, all_hold, ordered_has}
 use Rattle.sv_flatten.proofs.JoinedLattice.{points_in, pairs_in}

@@ -37,7 +37,7 @@ use Rattle.sv_flat.proofs.LeastSets.{Contains-from_filter}
 use Rattle.sv_walk.specs.Names.{Names}
 use Rattle.sv_walk.specs.Declarations.{kind_of}
 use Rattle.sv_flatten.proofs.PartsLists.{zip_left, zip_right, get_contains, contains_get}
-use Rattle.sv_flatten.proofs.PartsLists.{below_get, get_map}
+use Rattle.sv_flatten.proofs.PartsLists.{below_get, index_is, get_map}
 use Rattle.sv_flatten.proofs.PartsMaps.{from_get_map, same_some}
 use Rattle.sv_flatten.proofs.PartsNamed.{found_place, find_passes}
 use Rattle.sv_flatten.proofs.PartsLinks.{find_some}
@@ -80,12 +80,6 @@ module _ {X Y : Type 0} (name : X → Y) (to : ℕ → Y) (keep : ℕ → Bool) 
       (ap keep (sym same) ∙ first.0) (ap to (sym same) ∙ first.1)
       (numbered_filter xs (k + 1) (λ j y at. subst (λ m. (keep m ≡ kept y) × (to m ≡ name y))
       (let e : k + suc j ≡ k + 1 + j = omega arith in e) (each (suc j) y at)))
-
-pub index_is : {X : Type 0} (xs : List X) (k : ℕ) (x d : X) → slice_get xs k ≡ Some x →
-    slice_index_or xs k d ≡ x
-index_is [] k x d at = absurd (cc at)
-index_is (y ∷ xs) zero x d at = cc at
-index_is (y ∷ xs) (suc k) x d at = index_is xs k x d at
 
 index_beyond : {X : Type 0} (xs : List X) (k : ℕ) (d : X) → length xs ≤ k →
     slice_index_or xs k d ≡ d

@@ -7,13 +7,13 @@ use Rattle.std.specs.Prelude.{All}
 use Rattle.std.specs.List.{slice_get}
 use Rattle.std.specs.Option.{option_map_or}
 use Rattle.std.proofs.lemmas.Bool.{cases_Bool}
-use Rattle.std.proofs.lemmas.Bool.{eqb-true, eq-eqb, cond-true, cond-false, lt-ltb}
+use Rattle.std.proofs.lemmas.Bool.{eqb-true, eq-eqb, cond-true, cond-false}
 use Rattle.std.proofs.lemmas.Bool.{ltb-true, false_from_ne_true}
 use Rattle.std.proofs.lemmas.Nat.{pow_pos}
 use Rattle.sv_system.specs.System.{System, Environment}
 use Rattle.sv_system.specs.Schedules.{Block, Scheduled}
 use Rattle.sv_system.proofs.Lists.{Contains-map, Contains-from_map}
-use Rattle.sv_ast.specs.Scopes.{signal, width_of}
+use Rattle.sv_ast.specs.Scopes.{signal}
 use Rattle.sv_ast.specs.Tree.{StatementTree, TextTree}
 use Rattle.sv_ast.specs.Instances.{is_signal}
 use Rattle.sv_ast.specs.Reach.{holds}
@@ -52,7 +52,8 @@ use Rattle.sv_flatten.proofs.PartsGrown.{IsBody, source_of_name, number_of_name}
 use Rattle.sv_flatten.proofs.PartsGrown.{signal_is}
 use Rattle.sv_flatten.proofs.PartsPaths.{same_member, signal_in, within_same, path_of}
 use Rattle.sv_flatten.proofs.PartsTexts.{SideBySide, sources_of, all_parts_differ}
-use Rattle.sv_flatten.proofs.JoinedClocks.{IsNumber, number_same, number_below}
+use Rattle.sv_flatten.proofs.FormsBeside.{name_width, names_listed}
+use Rattle.sv_flatten.proofs.JoinedClocks.{IsNumber, number_same}
 use Rattle.sv_flatten.proofs.JoinedClocks.{same_clock}
 use Rattle.sv_flatten.proofs.JoinedNumbers.{to, to_is, At, at_number, at_path_number, signal_at}
 use Rattle.sv_flatten.proofs.JoinedNumbers.{clock_at, flat_signals, source_signals, same_signals}
@@ -130,26 +131,12 @@ module _ (text : TextTree) (top : Option (List ℕ)) (design : FlatDesign)
         → names.scope n ≡ Some (signal width signed)
         → (names.number n < length design.signals)
         × (flat_width design.signals (names.number n) ≡ width)
-    number_width n width signed e =
-        let is = subst (λ b. IsTrue (is_signal b)) (sym e) refl in
-        let source = source_of_name side.tables sources (parts text top) p names is_named n is in
-        let number = number_of_name side.tables sources (parts text top) p names is_named n is in
-        let a = at_path_number text top design side (within p n) (names.number n) number in
-        let same : a.source ≡ record { part = p; declaration = source.0 } =
-        same_some (slice_get sources (names.number n)) a.source (record {
-          part = p;
-          declaration = source.0;
-        }) a.source_at source.3 in (
-          number_below text top design side (within p n) (names.number n) number,
-          width_at (names.number n) a ∙ ap signal_width same
-              ∙ ap (λ m. width_of (p.scope m)) source.1
-              ∙ ap (λ s. width_of (s n)) (sym is_named.scope) ∙ ap width_of e,
-        )
+    number_width =
+        name_width side.tables sources (parts text top) design.signals side.forms p names is_named
 
     pub have_signals : HaveSignals names design.signals
-    have_signals n width signed e =
-        let w = number_width n width signed e in
-        (lt-ltb (names.number n) (length design.signals) w.0, w.1)
+    have_signals =
+        names_listed side.tables sources (parts text top) design.signals side.forms p names is_named
 
     pub numbering : IsNumbering names design.signals
     numbering = record {

@@ -18,7 +18,7 @@ use Rattle.sv_ast.specs.SourceLabels.{points, pairs, least, flows}
 use Rattle.sv_walk.specs.LabelSteps.{Tables}
 use Rattle.sv_walk.specs.Texts.{flat_of}
 use Rattle.sv_flatten.specs.FlattenedTexts.{CanBeFlattened}
-use Rattle.sv_flatten.proofs.PartsShapes.{IsFlattened, flattened}
+use Rattle.sv_flatten.proofs.PartsShapes.{flattened}
 use Rattle.sv_flatten.proofs.PartsTexts.{SideBySide, side_by_side}
 use Rattle.sv_flatten.proofs.JoinedLattice.{IsPointNumber, IsOrderFrom, order_of, level, flow_at}
 use Rattle.sv_flatten.proofs.JoinedNumbers.{flat_signals}
@@ -101,15 +101,14 @@ module _ (text : TextTree) (top : Option (List ℕ)) (design : FlatDesign)
     seen_alike = seen side;
   }
 
-  pub joined : IsFlattened text → flat_of text top ≡ Some design →
+  pub joined : CanBeFlattened text → flat_of text top ≡ Some design →
       Joined (flat_system design) (text_system text top)
-  joined fine h = joined_side (side_by_side text top fine design h)
+  joined can h = joined_side (side_by_side text top can design h)
 
 -- where a text can be flattened
 pub flattened_joined : (text : TextTree) (top : Option (List ℕ)) (design : FlatDesign)
     → CanBeFlattened text → flat_of text top ≡ Some design → IsAdmitted design
     → Joined (flat_system design) (text_system text top)
 flattened_joined text top design can flat admitted =
-    let fine = flattened text can in
-    let is_sound = design_sound text top design can.shaped fine can.lengths flat in
-    joined text top design is_sound admitted fine flat
+    let is_sound = design_sound text top design can.shaped (flattened text can) can.lengths flat in
+    joined text top design is_sound admitted can flat

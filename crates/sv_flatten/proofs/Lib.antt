@@ -11,7 +11,9 @@ pub mod PartsSettings
 pub mod PartsSites
 pub mod PartsPaths
 pub mod PartsMaps
+pub mod PartsMade
 pub mod PartsTexts
+pub mod FormsBeside
 pub mod JoinedSources
 pub mod JoinedLinks
 pub mod JoinedClocks

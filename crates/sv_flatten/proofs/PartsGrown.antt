@@ -14,13 +14,13 @@ use Rattle.sv_lattice.specs.declared.labels.Label.{Label}
 use Rattle.sv_lattice.specs.declared.labels.Label.TheVariants.{Point as Declared_point}
 use Rattle.sv_ast.specs.Scopes.{Binding, signal}
 use Rattle.sv_ast.specs.Tree.{StatementTree, assignment, LabelTree, DeclarationTree}
-use Rattle.sv_ast.specs.Tree.{InstanceTree, ItemTree, instance_item, ModuleTree}
+use Rattle.sv_ast.specs.Tree.{InstanceTree, ItemTree, released, instance_item, ModuleTree}
 use Rattle.sv_ast.specs.Shape.{is_shaped_statement, is_whole_target}
 use Rattle.sv_ast.specs.Instances.{is_empty, is_signal, instance_of}
 use Rattle.sv_ast.specs.Parts.{Path, Part, within, child, PartSignal, signal_path, signal_width}
 use Rattle.sv_ast.specs.Parts.{declarations, signals_of, PortLink}
 use Rattle.sv_ast.specs.ClockPaths.{edge_of}
-use Rattle.sv_ast.specs.Processes.{Process, combinational, clocked, linking}
+use Rattle.sv_ast.specs.Processes.{Process, combinational, clocked, linking, item_processes}
 use Rattle.sv_flat.specs.Design.{SignalForm, ProcessKind}
 use Rattle.sv_flat.specs.Design.{continuous, clocked as clocked_kind, release}
 use Rattle.sv_flat.specs.Design.{ProcessForm}
@@ -54,6 +54,17 @@ unfoldable pub edges_from : (levels : ℕ) → List ModuleTree → Part → List
 edges_from zero modules p = []
 edges_from (suc levels) modules p =
     flat_map (item_edges (edges_from levels modules) modules p) p.definition.items
+
+-- the processes that the walk makes of an item: those of the text, but none of a released value
+abbrev pub item_made : (inside : Part → List Process) → List ModuleTree → Part → ItemTree
+    → List Process
+item_made inside modules p (released target e to) = []
+item_made inside modules p item = item_processes inside modules p item
+
+unfoldable pub made_from : (levels : ℕ) → List ModuleTree → Part → List Process
+made_from zero modules p = []
+made_from (suc levels) modules p =
+    flat_map (item_made (made_from levels modules) modules p) p.definition.items
 
 -- the names of the instances in some items
 abbrev pub instance_names_in : List ItemTree → List (List ℕ)

@@ -1,7 +1,7 @@
 -- Lists side by side, lists that stand in others, and lists of which no two members are the same.
 use Rattle.std.proofs.Common.{◌≡◌, ℕ, zero, suc, ◌+◌, ◌<◌, List, [], ◌∷◌, ◌++◌, map, length, Option}
 use Rattle.std.proofs.Common.{Some, None, refl, ap, subst, ◌∙◌, arith, ◌⊎◌, inl, inr, ⊎_elim}
-use Rattle.std.specs.Prelude.{Contains}
+use Rattle.std.specs.Prelude.{slice_index_or, Contains}
 use Rattle.std.specs.List.{slice_get, filter_map, cons_option, AllZip}
 use Rattle.sv_system.proofs.Lists.{Contains-head, Contains-later, Contains-cases, Contains-nil}
 
@@ -59,6 +59,12 @@ module _ {X : Type 0} where
   get_below [] k x at = absurd (cc at)
   get_below (y ∷ xs) zero x at = omega arith
   get_below (y ∷ xs) (suc k) x at = let h = get_below xs k x at in omega arith
+
+  pub index_is : (xs : List X) (k : ℕ) (x d : X) → slice_get xs k ≡ Some x →
+      slice_index_or xs k d ≡ x
+  index_is [] k x d at = absurd (cc at)
+  index_is (y ∷ xs) zero x d at = cc at
+  index_is (y ∷ xs) (suc k) x d at = index_is xs k x d at
 
   pub below_get : (xs : List X) (k : ℕ) → k < length xs → (x : X) × (slice_get xs k ≡ Some x)
   below_get [] k h = absurd (omega arith)

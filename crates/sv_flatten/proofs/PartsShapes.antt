@@ -8,11 +8,11 @@ use Rattle.sv_ast.specs.Shape.{is_shaped, is_shaped_map, is_shaped_module, is_sh
 use Rattle.sv_ast.specs.Shape.{is_shaped_declaration, is_shaped_item, are_header_parameters}
 use Rattle.sv_ast.specs.Shape.{are_ports}
 use Rattle.sv_flat.proofs.Depths.{from_all}
-use Rattle.sv_flatten.specs.FlattenedTexts.{ReleasesNothing, ItemNumbersFit, EachItem}
+use Rattle.sv_flatten.specs.FlattenedTexts.{ItemNumbersFit, EachItem}
 use Rattle.sv_flatten.specs.FlattenedTexts.{CanBeFlattened}
 
 abbrev pub IsFlattenedItem : ItemTree → Type 0
-IsFlattenedItem item = IsTrue (is_shaped_item item) × ReleasesNothing item × ItemNumbersFit item
+IsFlattenedItem item = IsTrue (is_shaped_item item) × ItemNumbersFit item
 
 pub record IsFlattenedModule (m : ModuleTree) : Type 0 where
   pub header : IsTrue (are_header_parameters m.parameters)
@@ -21,9 +21,9 @@ pub record IsFlattenedModule (m : ModuleTree) : Type 0 where
 abbrev pub IsFlattened : TextTree → Type 0
 IsFlattened text = (m : ModuleTree) → Contains text.modules m → IsFlattenedModule m
 
-pub all_flattened : (text : TextTree) → IsTrue (is_shaped text) → EachItem ReleasesNothing text
-    → EachItem ItemNumbersFit text → IsFlattened text
-all_flattened text shaped releases numbers m at =
+pub all_flattened : (text : TextTree) → IsTrue (is_shaped text) → EachItem ItemNumbersFit text →
+    IsFlattened text
+all_flattened text shaped numbers m at =
     let modules = (and_parts (list_all is_shaped_map text.maps)
     (list_all is_shaped_module text.modules) shaped).1 in
     let shape = from_all is_shaped_module text.modules m modules at in
@@ -39,11 +39,10 @@ all_flattened text shaped releases numbers m at =
       header = (and_parts header parameters two.0).0;
       items = λ item inside. (
         from_all is_shaped_item m.items item items.1 inside,
-        releases m at item inside,
         numbers m at item inside,
       );
     }
 
 pub flattened : (text : TextTree) → CanBeFlattened text →
     IsFlattened text
-flattened text can = all_flattened text can.shaped can.releases can.numbers
+flattened text can = all_flattened text can.shaped can.numbers

@@ -22,7 +22,7 @@ use Rattle.sv_ast.specs.Instances.{entry, is_empty, module_named, instance_of, s
 use Rattle.sv_ast.specs.Parts.{Path, Part, part_with, within, child, children, parts_from}
 use Rattle.sv_ast.specs.Parts.{PartSignal, declaration_of, declarations, signals_of}
 use Rattle.sv_ast.specs.Parts.{links_to}
-use Rattle.sv_ast.specs.Processes.{Process, linking, item_processes, processes_from}
+use Rattle.sv_ast.specs.Processes.{Process, linking}
 use Rattle.sv_flat.specs.Design.{SignalForm}
 use Rattle.sv_walk.specs.Walks.{Walk, done, ask, found}
 use Rattle.sv_walk.specs.Rules.{unknown_module, twice, recursive, too_many}
@@ -45,7 +45,8 @@ use Rattle.sv_flatten.proofs.PartsNamed.{IsNamed, IsSound, part_of, site_named, 
 use Rattle.sv_flatten.proofs.PartsNamed.{port_ahead, item_declarations, found_place}
 use Rattle.sv_flatten.proofs.PartsNamed.{to_filter_map}
 use Rattle.sv_flatten.proofs.PartsGrown.{LabelFound, IsForm, IsFlat, Grown, grown_none, grown_join}
-use Rattle.sv_flatten.proofs.PartsGrown.{item_edges, edges_from, clock_of, instance_names_in}
+use Rattle.sv_flatten.proofs.PartsGrown.{item_edges, edges_from, item_made, made_from, clock_of}
+use Rattle.sv_flatten.proofs.PartsGrown.{instance_names_in}
 use Rattle.sv_flatten.proofs.PartsItems.{value_grown, assign_grown, block_grown, clocked_grown}
 use Rattle.sv_flatten.proofs.PartsLinks.{links_done}
 use Rattle.sv_flatten.proofs.PartsSettings.{settings_fit}
@@ -140,7 +141,7 @@ module _ (tables : Tables) (sources : List PartSignal) (everything : List Part)
       → ((q : Part) → Contains (parts_from levels tables.modules (part_of site)) q
       → Contains everything q)
       → Inside site built after (parts_from levels tables.modules (part_of site))
-      (processes_from levels tables.modules (part_of site))
+      (made_from levels tables.modules (part_of site))
       (edges_from levels tables.modules (part_of site))
 
   -- the parts inside an item
@@ -184,7 +185,7 @@ module _ (tables : Tables) (sources : List PartSignal) (everything : List Part)
         → ((q : Part) → Contains (item_parts levels here (instance_item i)) q
         → Contains everything q)
         → Grown tables sources everything built next (item_parts levels here (instance_item i))
-        (item_processes (processes_from levels tables.modules) tables.modules here
+        (item_made (made_from levels tables.modules) tables.modules here
         (instance_item i))
         (item_edges (edges_from levels tables.modules) tables.modules here (instance_item i))
         × (list_any (bytes_eq i.name) taken ≡ false)
@@ -265,12 +266,12 @@ module _ (tables : Tables) (sources : List PartSignal) (everything : List Part)
         } in
         let whole = grown_join tables sources everything built start next []
         (parts_from levels modules q)
-        (map linking (links_to here q i)) (processes_from levels modules q) []
+        (map linking (links_to here q i)) (made_from levels modules q) []
         (edges_from levels modules q) grown_links ins.grown in (
           subst (λ o. Grown tables sources everything built next
               (option_map_or (parts_from levels modules) o [])
               (option_map_or (λ r.
-              map linking (links_to here r i) ++ processes_from levels modules r) o [])
+              map linking (links_to here r i) ++ made_from levels modules r) o [])
               (option_map_or (edges_from levels modules) o [])) (sym child_is) whole,
           not-true (list_any (bytes_eq i.name) taken)
               (asked_true (not (list_any (bytes_eq i.name) taken)) (twice i.name_place i.name)
@@ -280,7 +281,7 @@ module _ (tables : Tables) (sources : List PartSignal) (everything : List Part)
     abbrev GrownBy : Built → Built → ItemTree → Type 0
     GrownBy built next item =
         Grown tables sources everything built next (item_parts levels here item)
-        (item_processes (processes_from levels tables.modules) tables.modules here item)
+        (item_made (made_from levels tables.modules) tables.modules here item)
         (item_edges (edges_from levels tables.modules) tables.modules here item)
 
     -- the names of the instances in an item are not taken
@@ -324,15 +325,15 @@ module _ (tables : Tables) (sources : List PartSignal) (everything : List Part)
       nothing_free taken,
     )
     item_grown taken built next (released t e to) h many listed flattened stands all =
-        absurd flattened.1
+        (same_built built next h, nothing_free taken)
     item_grown taken built next (always_item p None s) h many listed flattened stands all = (
       block_grown tables sources everything here names named p s built next h flattened.0
-          flattened.2,
+          flattened.1,
       nothing_free taken,
     )
     item_grown taken built next (always_item p (Some clock) s) h many listed flattened stands all = (
       clocked_grown tables sources everything here names named p clock s built next h flattened.0
-          flattened.2,
+          flattened.1,
       nothing_free taken,
     )
     item_grown taken built next (invariant_item p e) h many listed flattened stands all =
@@ -378,7 +379,7 @@ module _ (tables : Tables) (sources : List PartSignal) (everything : List Part)
         → ((q : Part) → Contains (flat_map (item_parts levels here) items) q
         → Contains everything q)
         → Grown tables sources everything built after (flat_map (item_parts levels here) items)
-        (flat_map (item_processes (processes_from levels tables.modules) tables.modules here) items)
+        (flat_map (item_made (made_from levels tables.modules) tables.modules here) items)
         (flat_map (item_edges (edges_from levels tables.modules) tables.modules here) items)
         × AllFree taken items
     unfolding items_from
@@ -410,8 +411,8 @@ module _ (tables : Tables) (sources : List PartSignal) (everything : List Part)
         (subst (λ k. StandsAt sources k (flat_map signals_of rest_parts)) (sym count) halves.1)
         (λ q at. all q (contains_right head_parts rest_parts q at)) in (
           grown_join tables sources everything built next after head_parts rest_parts
-              (item_processes (processes_from levels tables.modules) tables.modules here item)
-              (flat_map (item_processes (processes_from levels tables.modules) tables.modules
+              (item_made (made_from levels tables.modules) tables.modules here item)
+              (flat_map (item_made (made_from levels tables.modules) tables.modules
               here) items)
               (item_edges (edges_from levels tables.modules) tables.modules here item)
               (flat_map (item_edges (edges_from levels tables.modules) tables.modules here) items)
@@ -428,9 +429,9 @@ module _ (tables : Tables) (sources : List PartSignal) (everything : List Part)
         → ((q : Part) → Contains (parts_from (suc levels) tables.modules (part_of site)) q
         → Contains everything q)
         → Inside site built after (parts_from (suc levels) tables.modules (part_of site))
-        (processes_from (suc levels) tables.modules (part_of site))
+        (made_from (suc levels) tables.modules (part_of site))
         (edges_from (suc levels) tables.modules (part_of site))
-    unfolding module_walk parts_from processes_from edges_from
+    unfolding module_walk parts_from made_from edges_from
     module_grown site built after h sound flattened many stands all =
         let modules = tables.modules in
         let m = site.master in
@@ -503,11 +504,11 @@ module _ (tables : Tables) (sources : List PartSignal) (everything : List Part)
         (λ q at. all q (Contains-later p kids q (subst (λ xs. Contains xs q) kids_are at))) in
         record {
           grown = grown_join tables sources everything built middle after (p ∷ []) kids []
-              (flat_map (item_processes (processes_from levels modules) modules p) m.items) []
+              (flat_map (item_made (made_from levels modules) modules p) m.items) []
               (flat_map (item_edges (edges_from levels modules) modules p) m.items)
               (grown_own items.1.0)
               (subst (λ xs. Grown tables sources everything middle after xs
-              (flat_map (item_processes (processes_from levels modules) modules p) m.items)
+              (flat_map (item_made (made_from levels modules) modules p) m.items)
               (flat_map (item_edges (edges_from levels modules) modules p) m.items)) kids_are
               items.0);
           names = names;

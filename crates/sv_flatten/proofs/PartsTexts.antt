@@ -12,7 +12,7 @@ use Rattle.sv_ast.specs.Tree.{DeclarationTree, ModuleTree, TextTree}
 use Rattle.sv_ast.specs.Instances.{uninstanced, only, top_module}
 use Rattle.sv_ast.specs.Parts.{Path, Part, part_with, parts_from, most_levels, parts, PartSignal}
 use Rattle.sv_ast.specs.Parts.{signal_path, declarations, signals_of}
-use Rattle.sv_ast.specs.Processes.{processes_from, processes}
+use Rattle.sv_ast.specs.Processes.{Process, processes_from, processes}
 use Rattle.sv_flat.specs.Design.{FlatDesign}
 use Rattle.sv_walk.specs.Walks.{Step, found}
 use Rattle.sv_walk.specs.Rules.{no_top}
@@ -24,12 +24,15 @@ use Rattle.sv_walk.specs.InstanceSteps.{Built}
 use Rattle.sv_walk.specs.Texts.{module_names, top_walk, tables_of, design_of, walk_of, value_in}
 use Rattle.sv_walk.specs.Texts.{flat_of}
 use Rattle.sv_walk.proofs.WalkLemmas.{parts_done, found_some}
-use Rattle.sv_flatten.proofs.PartsShapes.{IsFlattened, IsFlattenedModule}
+use Rattle.sv_flatten.specs.FlattenedTexts.{ReleasesNothing, EachItem, CanBeFlattened}
+use Rattle.sv_flatten.proofs.PartsShapes.{IsFlattened, IsFlattenedModule, flattened}
 use Rattle.sv_flatten.proofs.PartsLists.{stands_whole, get_contains, contains_get, zip_left}
 use Rattle.sv_flatten.proofs.PartsLists.{AllDiffer, get_map}
 use Rattle.sv_flatten.proofs.PartsDeclared.{same_ok}
 use Rattle.sv_flatten.proofs.PartsNamed.{IsNamed, IsSound, found_place}
-use Rattle.sv_flatten.proofs.PartsGrown.{IsForm, IsFlat, IsNumberOf, Grown, edges_from, clock_of}
+use Rattle.sv_flatten.proofs.PartsGrown.{IsForm, IsFlat, IsNumberOf, Grown, edges_from, made_from}
+use Rattle.sv_flatten.proofs.PartsGrown.{clock_of}
+use Rattle.sv_flatten.proofs.PartsMade.{all_made}
 use Rattle.sv_flatten.proofs.PartsSites.{sites_grown}
 use Rattle.sv_flatten.proofs.PartsPaths.{path_of, InstancesDiffer, DeclaredDiffer, parts_differ}
 use Rattle.sv_flatten.proofs.PartsPaths.{places_differ, signals_differ, to_flat_map}
@@ -44,8 +47,15 @@ edges_of text top =
     option_map_or (λ (m : ModuleTree). edges_from most_levels text.modules (part_with [] [] m))
     (top_module text.modules top) []
 
--- a text and a design side by side
-pub record SideBySide (text : TextTree) (top : Option (List ℕ)) (design : FlatDesign) : Type 0 where
+-- the processes that the walk of a text makes, in order
+abbrev pub made_of : TextTree → Option (List ℕ) → List Process
+made_of text top =
+    option_map_or (λ (m : ModuleTree). made_from most_levels text.modules (part_with [] [] m))
+    (top_module text.modules top) []
+
+-- a text, some of its processes and a design side by side
+pub record Beside (text : TextTree) (top : Option (List ℕ)) (qs : List Process)
+    (design : FlatDesign) : Type 0 where
   pub order : Order
   pub lattice : (lattice_walk text.lattice).end ≡ Ok order
   pub maps : List (List ℕ × MapRows)
@@ -57,11 +67,18 @@ pub record SideBySide (text : TextTree) (top : Option (List ℕ)) (design : Flat
   pub design_maps : design.maps ≡ tables.maps
   pub forms : AllZip (IsForm tables (sources_of text top) (parts text top)) (sources_of text top)
       design.signals
-  pub bodies : AllZip (IsFlat tables (sources_of text top) (parts text top)) (processes text top)
-      design.processes
+  pub bodies : AllZip (IsFlat tables (sources_of text top) (parts text top)) qs design.processes
   pub clocks : AllZip (IsNumberOf tables (sources_of text top) (parts text top)) (edges_of text top)
       (filter_map clock_of design.processes)
   pub differ : (q : Part) → Contains (parts text top) q → InstancesDiffer q
+
+-- a text and a design
+abbrev pub SideBySide : TextTree → Option (List ℕ) → FlatDesign → Type 0
+SideBySide text top design = Beside text top (processes text top) design
+
+-- what the walk makes of a text, and a design
+abbrev pub MadeBeside : TextTree → Option (List ℕ) → FlatDesign → Type 0
+MadeBeside text top design = Beside text top (made_of text top) design
 
 pub value_is : {X : Type 0} (r : Result X Step) (x : X) → value_in r ≡ Some x → r ≡ Ok x
 value_is (Ok y) x h = ap Ok (let e : y ≡ x = cc h in e)
@@ -92,7 +109,7 @@ module _ (text : TextTree) (top : Option (List ℕ)) (fine : IsFlattened text) w
         processes = [];
         instances = 1;
       }) built
-      (parts text top) (processes text top) (edges_of text top)
+      (parts text top) (made_of text top) (edges_of text top)
   unfolding top_walk
   top_grown tables m built same is_top h =
       let modules = tables.modules in
@@ -104,10 +121,10 @@ module _ (text : TextTree) (top : Option (List ℕ)) (fine : IsFlattened text) w
       ap (λ o. option_map_or (λ (x : ModuleTree).
       parts_from most_levels text.modules (part_with [] [] x)) o []) is_top
       ∙ ap (λ ms. parts_from most_levels ms top_part) (sym same) in
-      let processes_are : processes text top ≡ processes_from most_levels modules top_part =
+      let processes_are : made_of text top ≡ made_from most_levels modules top_part =
       ap (λ o. option_map_or (λ (x : ModuleTree).
-      processes_from most_levels text.modules (part_with [] [] x)) o []) is_top
-      ∙ ap (λ ms. processes_from most_levels ms top_part) (sym same) in
+      made_from most_levels text.modules (part_with [] [] x)) o []) is_top
+      ∙ ap (λ ms. made_from most_levels ms top_part) (sym same) in
       let edges_are : edges_of text top ≡ edges_from most_levels modules top_part =
       ap (λ o. option_map_or (λ (x : ModuleTree).
       edges_from most_levels text.modules (part_with [] [] x)) o []) is_top
@@ -125,17 +142,17 @@ module _ (text : TextTree) (top : Option (List ℕ)) (fine : IsFlattened text) w
       (stands_whole (sources_of text top)))
       (λ q at. subst (λ ps. Contains ps q) (sym parts_are) at) in
       subst (λ es. Grown tables (sources_of text top) (parts text top) start built (parts text top)
-      (processes text top) es) (sym edges_are)
+      (made_of text top) es) (sym edges_are)
       (subst (λ qs. Grown tables (sources_of text top) (parts text top) start built (parts text top)
       qs (edges_from most_levels modules top_part)) (sym processes_are)
       (subst (λ ps. Grown tables (sources_of text top) (parts text top) start built ps
-      (processes_from most_levels modules top_part)
+      (made_from most_levels modules top_part)
       (edges_from most_levels modules top_part)) (sym parts_are) ins.grown))
 
-  pub side_by_side : (design : FlatDesign) → flat_of text top ≡ Some design →
-      SideBySide text top design
+  pub made_beside : (design : FlatDesign) → flat_of text top ≡ Some design →
+      MadeBeside text top design
   unfolding walk_of
-  side_by_side design h =
+  made_beside design h =
       let walked = value_is (walk_of text top).end design h in
       let lattice = parts_done (lattice_walk text.lattice) _ design walked in
       let order = lattice.0 in
@@ -150,7 +167,7 @@ module _ (text : TextTree) (top : Option (List ℕ)) (fine : IsFlattened text) w
       same_ok (design_of order tables built.0) design built.2 in
       let grown = top_grown tables m built.0 refl
       (found_some (top_module text.modules top) no_top m topped.1) built.1 in
-      subst (SideBySide text top) is (record {
+      subst (MadeBeside text top) is (record {
         order = order;
         lattice = lattice.1;
         maps = maps;
@@ -165,13 +182,35 @@ module _ (text : TextTree) (top : Option (List ℕ)) (fine : IsFlattened text) w
             (sources_of text top)) (sym grown.signals) grown.each_form;
         bodies =
             subst (AllZip (IsFlat tables (sources_of text top) (parts text top))
-            (processes text top)) (sym grown.processes) grown.each_body;
+            (made_of text top)) (sym grown.processes) grown.each_body;
         clocks =
             subst (λ bs. AllZip (IsNumberOf tables (sources_of text top) (parts text top))
             (edges_of text top) (filter_map clock_of bs))
             (sym grown.processes) grown.each_edge;
         differ = grown.differ;
       })
+
+-- of a text that releases nothing the walk makes all processes
+nothing_left : (text : TextTree) (top : Option (List ℕ)) → EachItem ReleasesNothing text →
+    made_of text top ≡ processes text top
+nothing_left text top releases =
+    by_top (top_module text.modules top) (λ m is. top_listed text.modules top m is)
+  where
+    by_top : (o : Option ModuleTree)
+        → ((m : ModuleTree) → o ≡ Some m → Contains text.modules m)
+        → option_map_or (λ (m : ModuleTree).
+        made_from most_levels text.modules (part_with [] [] m)) o []
+        ≡ option_map_or (λ (m : ModuleTree).
+        processes_from most_levels text.modules (part_with [] [] m)) o []
+    by_top None listed = refl
+    by_top (Some m) listed =
+        all_made text.modules releases most_levels (part_with [] [] m) (listed m refl)
+
+pub side_by_side : (text : TextTree) (top : Option (List ℕ)) → CanBeFlattened text
+    → (design : FlatDesign) → flat_of text top ≡ Some design → SideBySide text top design
+side_by_side text top can design h =
+    subst (λ qs. Beside text top qs design) (nothing_left text top can.releases)
+    (made_beside text top (flattened text can) design h)
 
 -- ---- paths
 

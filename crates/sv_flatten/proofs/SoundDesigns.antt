@@ -9,7 +9,7 @@ use Rattle.sv_ast.specs.Tree.{ModuleTree, TextTree}
 use Rattle.sv_ast.specs.Shape.{is_shaped, is_shaped_map, is_shaped_module}
 use Rattle.sv_ast.specs.Instances.{top_module}
 use Rattle.sv_ast.specs.Parts.{Part, part_with, parts_from, most_levels, parts}
-use Rattle.sv_ast.specs.Processes.{Process, processes_from, processes}
+use Rattle.sv_ast.specs.Processes.{Process}
 use Rattle.sv_flat.specs.Design.{FlatDesign}
 use Rattle.sv_flat.specs.Soundness.{map_sound, signal_sound, process_sound, invariant_sound, sound}
 use Rattle.sv_flat.proofs.Depths.{from_all}
@@ -26,8 +26,9 @@ use Rattle.sv_width.specs.Agreement.{HaveLengths}
 use Rattle.sv_flatten.proofs.PartsShapes.{IsFlattened}
 use Rattle.sv_width.specs.WrittenLengths.{TextHasLengths}
 use Rattle.sv_flatten.proofs.PartsDeclared.{same_ok}
+use Rattle.sv_flatten.proofs.PartsGrown.{made_from}
 use Rattle.sv_flatten.proofs.PartsNamed.{IsSound}
-use Rattle.sv_flatten.proofs.PartsTexts.{side_by_side, value_is, top_listed}
+use Rattle.sv_flatten.proofs.PartsTexts.{made_of, made_beside, value_is, top_listed}
 use Rattle.sv_flatten.proofs.JoinedSources.{from_option}
 use Rattle.sv_flatten.proofs.SoundLabels.{points_sound, maps_sound, signals_sound}
 use Rattle.sv_flatten.proofs.SoundProcesses.{ProcessHasLengths, processes_sound}
@@ -130,17 +131,17 @@ module _ (text : TextTree) (top : Option (List ℕ)) (design : FlatDesign)
       (subst (λ ms. Contains ms w.master) (sym w.modules) listed) p
       (subst (λ ps. Contains ps p) parts_are at)
 
-  process_lengths : (q : Process) → Contains (processes text top) q → ProcessHasLengths q
+  process_lengths : (q : Process) → Contains (made_of text top) q → ProcessHasLengths q
   process_lengths q at =
       let m = from_option (λ (m : ModuleTree).
-      processes_from most_levels text.modules (part_with [] [] m))
+      made_from most_levels text.modules (part_with [] [] m))
       (top_module text.modules top) q at in
       processes_long text.modules modules_shaped long most_levels (part_with [] [] m.0)
       (top_listed text.modules top m.0 m.1) q m.2
 
   pub design_sound : IsTrue (sound design)
   design_sound =
-      let side = side_by_side text top fine design flat in
+      let side = made_beside text top fine design flat in
       let count = nat_lt (length design.signals) 4294967295 in
       let named = length design.points == length design.lattice in
       let maps = list_all (map_sound design) design.maps in

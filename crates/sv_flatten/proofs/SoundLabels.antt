@@ -36,8 +36,8 @@ use Rattle.sv_flatten.proofs.PartsLists.{zip_right, contains_get, get_below}
 use Rattle.sv_flatten.proofs.PartsDeclared.{same_ok}
 use Rattle.sv_flatten.proofs.PartsNamed.{IsNamed, found_place}
 use Rattle.sv_flatten.proofs.PartsGrown.{LabelFound, IsForm, signal_is}
-use Rattle.sv_flatten.proofs.PartsTexts.{SideBySide, sources_of}
-use Rattle.sv_flatten.proofs.JoinedRuns.{have_signals}
+use Rattle.sv_flatten.proofs.PartsTexts.{MadeBeside, sources_of}
+use Rattle.sv_flatten.proofs.FormsBeside.{names_listed}
 use Rattle.sv_flatten.proofs.JoinedLattice.{IsPointNumber, IsOrderFrom, order_of, exact_table}
 use Rattle.sv_flatten.proofs.JoinedLattice.{number_in, position_found}
 use Rattle.sv_flatten.proofs.JoinedLeast.{least_number}
@@ -101,7 +101,7 @@ module _ (points : List (List ℕ)) (t : MapTree) (m : List ℕ
           (default_point points t t.other is.other is.other_walked)
 
 module _ (text : TextTree) (top : Option (List ℕ)) (design : FlatDesign)
-    (side : SideBySide text top design) where
+    (side : MadeBeside text top design) where
   abbrev sources : List PartSignal
   sources = sources_of text top
 
@@ -175,7 +175,8 @@ module _ (text : TextTree) (top : Option (List ℕ)) (design : FlatDesign)
         → selector_fits design.signals (names.number n) width ≡ true
     selector_sound n width is same =
         let b = signal_is side.tables sources (parts text top) (names.scope n) is in
-        let there = have_signals text top design side p names named n b.0 b.1 b.2 in
+        let there = names_listed side.tables sources (parts text top) design.signals side.forms p
+        names named n b.0 b.1 b.2 in
         and_from _ _ there.0
         (eq-eqb _ width (there.1 ∙ sym (ap width_of b.2)
         ∙ eqb-true (width_of (names.scope n)) width same))

@@ -36,7 +36,8 @@ use Rattle.sv_flatten.proofs.PartsOverrides.{overrides_done, overrides_open}
 use Rattle.sv_flatten.proofs.PartsNamed.{IsSound, part_of, same_scope}
 use Rattle.sv_flatten.proofs.PartsSettings.{settings_fit}
 use Rattle.sv_flatten.proofs.JoinedSources.{inner_parts, inner_instance}
-use Rattle.sv_flatten.proofs.SoundSources.{IsGood, item_good, named_listed}
+use Rattle.sv_flatten.proofs.SoundSources.{IsGood, item_good}
+use Rattle.sv_flatten.proofs.PartsMade.{named_listed}
 use Rattle.sv_flatten.proofs.SoundLengths.{SetHasLengths, AreMeasured, declared_long, settings_long}
 
 no_port : (d : DeclarationTree) (p : ParameterTree) → declared d ≡ parameter_item p → ⊥
@@ -129,7 +130,7 @@ module _ (tables : Tables)
         let found_module : module_named modules i.master ≡ Some m =
         found_some (module_named modules i.master) (unknown_module i.place i.master) m
         module_step.1 in
-        let listed = named_listed modules shaped long i.master m found_module in
+        let listed = named_listed modules i.master m found_module in
         let set_is : set ≡ settings here.scope m i.overrides =
         overrides_done names m i.overrides set setting.1
         ∙ ap (λ s. settings s m i.overrides) scope_is in

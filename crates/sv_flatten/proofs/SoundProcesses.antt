@@ -11,7 +11,7 @@ use Rattle.sv_ast.specs.Tree.{ExpressionTree, StatementTree, null, assignment, b
 use Rattle.sv_ast.specs.Tree.{if_else, case_of, TargetTree, TextTree}
 use Rattle.sv_ast.specs.Shape.{is_shaped_expression, is_whole_target}
 use Rattle.sv_ast.specs.Parts.{Part, parts, PartSignal, PortLink}
-use Rattle.sv_ast.specs.Processes.{Process, combinational, clocked, linking, processes}
+use Rattle.sv_ast.specs.Processes.{Process, combinational, clocked, linking}
 use Rattle.sv_flat.specs.Design.{SignalForm, TypedTree, FlatStatement, assign, ProcessKind}
 use Rattle.sv_flat.specs.Design.{continuous, port_in, port_out, combinational as combinational_kind}
 use Rattle.sv_flat.specs.Design.{clocked as clocked_kind, release, ProcessForm, FlatDesign}
@@ -26,18 +26,17 @@ use Rattle.sv_walk.specs.Targets.{target_steps, targets_steps, pieces_of, assign
 use Rattle.sv_walk.specs.Statements.{statement_walk}
 use Rattle.sv_walk.specs.Links.{port_number, port_width, port_value, whole_assignment}
 use Rattle.sv_walk.proofs.WalkLemmas.{parts_done}
-use Rattle.sv_width.specs.Agreement.{HaveLengths, IsLength, NumbersHaveLengths}
+use Rattle.sv_width.specs.Agreement.{HaveLengths, HaveSignals, IsLength, NumbersHaveLengths}
 use Rattle.sv_width.proofs.Sound.{both_pass}
 use Rattle.sv_width.specs.WrittenLengths.{StatementHasLengths}
 use Rattle.sv_flatten.proofs.PartsLists.{zip_right, contains_get, get_contains}
 use Rattle.sv_flatten.proofs.PartsNamed.{IsNamed, to_filter_map}
 use Rattle.sv_flatten.proofs.PartsGrown.{KindFits, IsBody, IsLink, IsFlat, IsNoLink, IsNumberOf}
 use Rattle.sv_flatten.proofs.PartsGrown.{clock_of, signal_is}
-use Rattle.sv_flatten.proofs.PartsTexts.{SideBySide, sources_of, edges_of}
+use Rattle.sv_flatten.proofs.PartsTexts.{MadeBeside, made_of, sources_of, edges_of}
 use Rattle.sv_flatten.proofs.JoinedLinks.{IsInput, IsOutput, link_is, port_is_signal}
 use Rattle.sv_flatten.proofs.JoinedLinks.{outer_numbered}
-use Rattle.sv_flatten.proofs.JoinedClocks.{number_below}
-use Rattle.sv_flatten.proofs.JoinedRuns.{have_signals}
+use Rattle.sv_flatten.proofs.FormsBeside.{below_size, names_listed}
 use Rattle.sv_width.proofs.SoundStatements.{expression_sound, pieces_whole, sound_of}
 use Rattle.sv_flatten.proofs.SoundLabels.{all_from}
 
@@ -72,14 +71,17 @@ whole_sound signals p kind k width value there is some formed fits =
     )
 
 module _ (text : TextTree) (top : Option (List ℕ)) (design : FlatDesign)
-    (side : SideBySide text top design)
+    (side : MadeBeside text top design)
     (part_lengths : (p : Part) → Contains (parts text top) p → HaveLengths p.scope)
-    (process_lengths : (q : Process) → Contains (processes text top) q → ProcessHasLengths q) where
+    (process_lengths : (q : Process) → Contains (made_of text top) q → ProcessHasLengths q) where
   abbrev sources : List PartSignal
   sources = sources_of text top
 
   abbrev Named : Part → Names → Type 0
   Named p names = IsNamed sources (parts text top) p names
+
+  have_signals : (p : Part) (names : Names) → Named p names → HaveSignals names design.signals
+  have_signals = names_listed side.tables sources (parts text top) design.signals side.forms
 
   name_lengths : (p : Part) (names : Names) → Named p names → HaveLengths names.scope
   name_lengths p names named = subst HaveLengths (sym named.scope) (part_lengths p named.member)
@@ -89,7 +91,7 @@ module _ (text : TextTree) (top : Option (List ℕ)) (design : FlatDesign)
       → StatementHasLengths s → statement_sound design.signals f.body ≡ true
   body_sound p s f b numbers =
       sound_of b.names b.named.declared (name_lengths p b.names b.named) design.signals
-      (have_signals text top design side p b.names b.named) s f.body b.shaped numbers b.walked
+      (have_signals p b.names b.named) s f.body b.shaped numbers b.walked
 
   -- what an `assign` runs is one assignment to whole signals
   whole_body : (p : Part) (names : Names) → Named p names →
@@ -107,7 +109,7 @@ module _ (text : TextTree) (top : Option (List ℕ)) (design : FlatDesign)
       subst (λ x. is_one_assignment design.signals x ≡ true) is
       (and_from blocking _ both.0
       (pieces_whole names named.declared (name_lengths p names named) design.signals
-      (have_signals text top design side p names named) ts targets.0 both.1))
+      (have_signals p names named) ts targets.0 both.1))
 
   module _ (p : Part) (f : ProcessForm) where
     continuous_sound : (s : StatementTree) (names : Names) → Named p names
@@ -146,7 +148,7 @@ module _ (text : TextTree) (top : Option (List ℕ)) (design : FlatDesign)
       let path = zip_right (IsNumberOf side.tables sources (parts text top)) (edges_of text top)
       (filter_map clock_of design.processes)
       side.clocks place.0 k place.1 in
-      lt-ltb k (length design.signals) (number_below text top design side path.0 k path.2)
+      lt-ltb k (length design.signals) (below_size side.tables sources (parts text top) design.signals side.forms path.0 k path.2)
 
   clocked_sound : (k : ProcessKind) (body : FlatStatement) → is_clocked k ≡ true
       → ((c : ℕ) → Rattle.sv_flatten.proofs.PartsGrown.kind_clock k ≡ Some c
@@ -174,7 +176,7 @@ module _ (text : TextTree) (top : Option (List ℕ)) (design : FlatDesign)
         let inner = link.inner in
         let b = signal_is side.tables sources (parts text top) (inner.scope l.port.name)
         (port_is_signal side.tables sources (parts text top) l f link) in
-        let there = have_signals text top design side l.inner inner link.inner_named l.port.name b.0
+        let there = have_signals l.inner inner link.inner_named l.port.name b.0
         b.1 b.2 in
         let width : port_bits ≡ b.0 = ap width_of link.stands ∙ ap width_of b.2 in (
           subst (λ k. is_number design.signals k ≡ true) (sym link.number) there.0,
@@ -188,7 +190,7 @@ module _ (text : TextTree) (top : Option (List ℕ)) (design : FlatDesign)
         let there = port_there in
         let value = expression_sound link.outer link.outer_named.declared
         (name_lengths l.outer link.outer link.outer_named) design.signals
-        (have_signals text top design side l.outer link.outer link.outer_named) l.expression
+        (have_signals l.outer link.outer link.outer_named) l.expression
         numbers.1 numbers.0 port_bits there.2.1 i.value i.typed in
         let body = whole_sound design.signals (place_of l.expression) port_in port port_bits i.value
         there.0 there.1 there.2.0 value.0 value.1 in
@@ -201,7 +203,7 @@ module _ (text : TextTree) (top : Option (List ℕ)) (design : FlatDesign)
         let outer = link.outer in
         let b = signal_is side.tables sources (parts text top) (outer.scope o.name)
         (outer_numbered side.tables sources (parts text top) l f link o.name o.whole).0 in
-        let net = have_signals text top design side l.outer outer link.outer_named o.name b.0
+        let net = have_signals l.outer outer link.outer_named o.name b.0
         b.1 b.2 in
         let width : width_of (outer.scope o.name) ≡ b.0 = ap width_of b.2 in
         let long = link.outer_named.widths o.name b.0 b.1 b.2 in
@@ -226,7 +228,7 @@ module _ (text : TextTree) (top : Option (List ℕ)) (design : FlatDesign)
     link_sound numbers = ⊎_elim (λ i. input_sound numbers i.1) (λ o. output_sound o.1)
         (link_is side.tables sources (parts text top) l f link)
 
-  flat_sound : (q : Process) (f : ProcessForm) → Contains (processes text top) q
+  flat_sound : (q : Process) (f : ProcessForm) → Contains (made_of text top) q
       → Contains design.processes f
       → IsFlat side.tables sources (parts text top) q f → process_sound design f ≡ true
   flat_sound (combinational p s) f at listed is =
@@ -240,6 +242,6 @@ module _ (text : TextTree) (top : Option (List ℕ)) (design : FlatDesign)
   pub processes_sound : list_all (process_sound design) design.processes ≡ true
   processes_sound = all_from (process_sound design) design.processes (λ f at.
       let place = contains_get design.processes f at in
-      let q = zip_right (IsFlat side.tables sources (parts text top)) (processes text top)
+      let q = zip_right (IsFlat side.tables sources (parts text top)) (made_of text top)
       design.processes side.bodies place.0 f place.1 in
-      flat_sound q.0 f (get_contains (processes text top) place.0 q.0 q.1) at q.2)
+      flat_sound q.0 f (get_contains (made_of text top) place.0 q.0 q.1) at q.2)

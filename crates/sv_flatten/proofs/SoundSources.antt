@@ -1,11 +1,10 @@
--- The numbers that are written in the processes of a text have lengths where those of its modules
+-- The numbers that are written in the processes that the walk of a text makes have lengths where those of its modules
 -- have, and the expressions of its links are shaped.
 use Rattle.std.proofs.Common.{◌≡◌, ℕ, zero, suc, true, List, [], ◌∷◌, ◌++◌, map, Option, Some, None}
-use Rattle.std.proofs.Common.{refl, ap, subst, ⊎_elim}
+use Rattle.std.proofs.Common.{ap, subst, ⊎_elim}
 use Rattle.std.specs.Prelude.{◌&&◌, zip, Contains, IsTrue, option_map, option_to_list}
 use Rattle.std.specs.List.{list_all}
 use Rattle.std.specs.Option.{option_map_or}
-use Rattle.std.specs.Str.{bytes_eq}
 use Rattle.std.proofs.lemmas.Bool.{and_parts}
 use Rattle.sv_system.proofs.Lists.{Contains-head, Contains-later, Contains-cases, Contains-nil}
 use Rattle.sv_system.proofs.Lists.{Contains-from_map}
@@ -17,24 +16,21 @@ use Rattle.sv_ast.specs.Shape.{is_shaped_expression, is_shaped_item, is_shaped_p
 use Rattle.sv_ast.specs.Shape.{are_header_parameters, are_ports, is_shaped_declaration}
 use Rattle.sv_ast.specs.Shape.{is_shaped_link, are_shaped_links, are_shaped_overrides}
 use Rattle.sv_ast.specs.Shape.{is_shaped_module}
-use Rattle.sv_ast.specs.Instances.{module_named, port_named, linked_ports, settings}
-use Rattle.sv_ast.specs.Parts.{Part, part_with, within, child, PortLink, port_link, links_to}
+use Rattle.sv_ast.specs.Instances.{port_named, linked_ports}
+use Rattle.sv_ast.specs.Parts.{Part, child, PortLink, port_link, links_to}
 use Rattle.sv_ast.specs.Processes.{Process, combinational, clocked, linking, combinational_body}
-use Rattle.sv_ast.specs.Processes.{clocked_body, own_processes, item_processes, processes_from}
+use Rattle.sv_ast.specs.Processes.{clocked_body, own_processes}
 use Rattle.sv_flat.proofs.Depths.{from_all}
 use Rattle.sv_width.specs.Agreement.{NumbersHaveLengths}
 use Rattle.sv_width.specs.WrittenLengths.{ValueHasLengths, LinksHaveLengths, ItemHasLengths}
 use Rattle.sv_width.specs.WrittenLengths.{ModuleHasLengths}
-use Rattle.sv_flatten.proofs.PartsLists.{contains_right, contains_either, get_contains}
-use Rattle.sv_flatten.proofs.PartsNamed.{from_filter_map, found_place}
+use Rattle.sv_flatten.proofs.PartsLists.{contains_right, contains_either}
+use Rattle.sv_flatten.proofs.PartsNamed.{from_filter_map}
+use Rattle.sv_flatten.proofs.PartsGrown.{item_made, made_from}
+use Rattle.sv_flatten.proofs.PartsMade.{mapped_from, child_listed}
 use Rattle.sv_flatten.proofs.PartsPaths.{from_flat_map}
 use Rattle.sv_flatten.proofs.JoinedSources.{from_some_list, from_option}
 use Rattle.sv_flatten.proofs.SoundProcesses.{ProcessHasLengths}
-
-mapped_from : {X Y : Type 0} (f : X → Y) (o : Option X) (y : Y) → option_map f o ≡ Some y →
-    (x : X) × (o ≡ Some x) × (f x ≡ y)
-mapped_from f (Some x) y h = (x, refl, cc h)
-mapped_from f None y h = absurd (cc h)
 
 zip_second : {X Y : Type 0} (xs : List X) (ys : List Y) (a : X) (b : Y) →
     Contains {X = X × Y} (zip xs ys) (a, b) → Contains ys b
@@ -88,20 +84,6 @@ module _ (modules : List ModuleTree) (shaped : (m : ModuleTree) → Contains mod
     long m listed item (contains_right (map parameter_item m.parameters ++ map declared m.ports)
         m.items item at),
   )
-
-  pub named_listed : (n : List ℕ) (m : ModuleTree) → module_named modules n ≡ Some m →
-      Contains modules m
-  named_listed n m e =
-      let place = found_place (λ (x : ModuleTree). bytes_eq n x.name) modules m e in
-      get_contains modules place.0 m place.2
-
-  child_listed : (p c : Part) (i : InstanceTree) → child modules p i ≡ Some c →
-      Contains modules c.definition
-  child_listed p c i e =
-      let m = mapped_from (λ (m : ModuleTree).
-      part_with (within p i.name) (settings p.scope m i.overrides) m)
-      (module_named modules i.master) c e in
-      subst (λ (q : Part). Contains modules q.definition) m.2 (named_listed i.master m.0 m.1)
 
   link_long : (p c : Part) (i : InstanceTree) → IsGood (instance_item i) → (l : PortLink)
       → Contains (links_to p c i) l
@@ -177,33 +159,33 @@ module _ (modules : List ModuleTree) (shaped : (m : ModuleTree) → Contains mod
       (map (clocked p) (option_to_list (clocked_body item))) q at)
 
   pub processes_long : (n : ℕ) (p : Part) → Contains modules p.definition → (q : Process)
-      → Contains (processes_from n modules p) q
+      → Contains (made_from n modules p) q
       → ProcessHasLengths q
-  unfolding processes_from
+  unfolding made_from
   processes_long zero p listed q at = absurd (Contains-nil q at)
   processes_long (suc n) p listed q at =
-      let found = from_flat_map (item_processes (processes_from n modules) modules p)
+      let found = from_flat_map (item_made (made_from n modules) modules p)
       p.definition.items q at in
       by_item found.0 (item_good p.definition listed found.0 found.1) found.2
       (λ c at_c inside. processes_long n c at_c q inside)
     where
       by_item : (item : ItemTree) → IsGood item
-          → Contains (item_processes (processes_from n modules) modules p item) q
-          → ((c : Part) → Contains modules c.definition → Contains (processes_from n modules c) q
+          → Contains (item_made (made_from n modules) modules p item) q
+          → ((c : Part) → Contains modules c.definition → Contains (made_from n modules c) q
           → ProcessHasLengths q)
           → ProcessHasLengths q
       by_item (instance_item i) good inside rest =
-          let c = from_option (λ r. map linking (links_to p r i) ++ processes_from n modules r)
+          let c = from_option (λ r. map linking (links_to p r i) ++ made_from n modules r)
           (child modules p i) q inside in
           ⊎_elim
           (λ mine. let k = Contains-from_map linking (links_to p c.0 i) q mine in
           subst ProcessHasLengths k.2 (link_long p c.0 i good k.0 k.1))
-          (λ later. rest c.0 (child_listed p c.0 i c.1) later)
-          (contains_either (map linking (links_to p c.0 i)) (processes_from n modules c.0) q c.2)
+          (λ later. rest c.0 (child_listed modules p c.0 i c.1) later)
+          (contains_either (map linking (links_to p c.0 i)) (made_from n modules c.0) q c.2)
       by_item (declared d) good inside rest = own_long p (declared d) good q inside
       by_item (continuous ts place e) good inside rest =
           own_long p (continuous ts place e) good q inside
-      by_item (released t e to) good inside rest = own_long p (released t e to) good q inside
+      by_item (released t e to) good inside rest = absurd (Contains-nil q inside)
       by_item (always_item place clock s) good inside rest =
           own_long p (always_item place clock s) good q inside
       by_item (parameter_item x) good inside rest = absurd (Contains-nil q inside)

@@ -17,7 +17,6 @@ use Rattle.sv_walk.specs.LabelSteps.{Tables}
 use Rattle.sv_walk.specs.Texts.{flat_of}
 use Rattle.sv_walk.proofs.WalkLemmas.{parts_done}
 use Rattle.sv_flatten.specs.FlattenedTexts.{CanBeFlattened}
-use Rattle.sv_flatten.proofs.PartsShapes.{flattened}
 use Rattle.sv_flatten.proofs.PartsDeclared.{same_ok}
 use Rattle.sv_flatten.proofs.PartsTexts.{SideBySide, side_by_side}
 use Rattle.sv_flatten.proofs.JoinedLattice.{IsPointNumber, order_of, number_at, one_point}
@@ -133,4 +132,4 @@ pub all_tables : (text : TextTree) (top : Option (List ℕ)) (design : FlatDesig
     → CanBeFlattened text → flat_of text top ≡ Some design
     → AllZip (IsTableOf text) text.maps design.maps
 all_tables text top design can flat =
-    tables_beside text top design (side_by_side text top (flattened text can) design flat)
+    tables_beside text top design (side_by_side text top can design flat)

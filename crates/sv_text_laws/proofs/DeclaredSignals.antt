@@ -33,7 +33,6 @@ use Rattle.sv_walk.specs.InstanceSteps.{Built}
 use Rattle.sv_walk.specs.Texts.{module_names, top_walk, tables_of, design_of, walk_of, flat_of}
 use Rattle.sv_walk.proofs.WalkLemmas.{parts_done, asked_true, found_some}
 use Rattle.sv_flatten.specs.FlattenedTexts.{CanBeFlattened}
-use Rattle.sv_flatten.proofs.PartsShapes.{flattened}
 use Rattle.sv_flatten.proofs.PartsDeclared.{same_ok}
 use Rattle.sv_flatten.proofs.PartsNamed.{IsNamed}
 use Rattle.sv_flatten.proofs.PartsGrown.{LabelFound, IsForm, number_of_name}
@@ -210,7 +209,7 @@ pub all_declared : (text : TextTree) (top : Option (List ℕ)) (design : FlatDes
     → CanBeFlattened text → flat_of text top ≡ Some design
     → AllZip (IsDeclared text (text_signals text top)) (text_signals text top) design.signals
 all_declared text top design can flat =
-    let side = side_by_side text top (flattened text can) design flat in
+    let side = side_by_side text top can design flat in
     zip_declared text top design side (text_signals text top) design.signals side.forms
     (design_plain text top design flat)
 
@@ -218,4 +217,4 @@ pub same_points : (text : TextTree) (top : Option (List ℕ)) (design : FlatDesi
     → CanBeFlattened text → flat_of text top ≡ Some design
     → design.points ≡ points text
 same_points text top design can flat =
-    design_points text top design (side_by_side text top (flattened text can) design flat)
+    design_points text top design (side_by_side text top can design flat)

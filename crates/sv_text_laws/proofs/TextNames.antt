@@ -36,7 +36,6 @@ use Rattle.sv_flatten.proofs.JoinedWhole.{flattened_joined}
 use Rattle.sv_flatten.proofs.PartsBindings.{same_name, name_itself}
 use Rattle.sv_flatten.proofs.PartsLists.{get_contains, zip_left}
 use Rattle.sv_flatten.proofs.PartsMaps.{same_some}
-use Rattle.sv_flatten.proofs.PartsShapes.{flattened}
 use Rattle.sv_flatten.proofs.PartsTexts.{SideBySide, side_by_side}
 use Rattle.sv_trace.specs.Forms.{name_in}
 use Rattle.sv_simulate.specs.Simulated.{level_asked}
@@ -64,7 +63,7 @@ module _ (text : TextTree) (asked : Option (List ℕ)) (design : FlatDesign)
     (can : CanBeFlattened text) (flat : flat_of text asked ≡ Some design)
     (admitted : IsAdmitted design) where
   abbrev side : SideBySide text asked design
-  side = side_by_side text asked (flattened text can) design flat
+  side = side_by_side text asked can design flat
 
   abbrev pub joined : Joined (flat_system design) (text_system text asked)
   joined = flattened_joined text asked design can flat admitted

@@ -1,7 +1,7 @@
 use Rattle.std.proofs.Common.{sym, ◌∙◌}
 use Rattle.sv_ast.specs.Views.{text_tree}
 use Rattle.std.specs.Option.{option_copied}
-use Rattle.sv_cli.proofs.TreeAnswers.{flat_found, flat_refused, releases_nothing}
+use Rattle.sv_cli.proofs.TreeAnswers.{flat_found, flat_refused}
 use Rattle.sv_cli.proofs.designs.flat_of_tree.Goals as goal
 
 pub returns-clause-found : goal.returns-clause-found
@@ -15,6 +15,4 @@ returns-clause-broken c =
     (sym c.has_unbuilt_item.ensures ∙ c.if-has_unbuilt_item.false) c.elaborate.ensures.broken
 
 pub returns-clause-sound : goal.returns-clause-sound
-returns-clause-sound c =
-    c.elaborate.ensures.sound (releases_nothing (text_tree c.args.text.now)
-    (sym c.has_unbuilt_item.ensures ∙ c.if-has_unbuilt_item.false))
+returns-clause-sound c = c.elaborate.ensures.sound

@@ -133,6 +133,7 @@ def words_and_faults():
     wrong = "`check` does not take these words; `secv check --help` shows those that it takes"
     for words, kind, said in [([], "no-command", "no command is given" + USAGE),
                               (["chekc", "f"], "unknown-command", "there is no command chekc; `secv --help` shows all"),
+                              (["a\x1b[2Jb\n"], "unknown-command", "there is no command a\\u{1b}[2Jb\\n; `secv --help` shows all"),
                               (["--help", "more"], "unknown-command", "there is no command --help; `secv --help` shows all"),
                               (["check"], "words", wrong), (["check", "--f"], "words", wrong), (["check", "f", "g"], "words", wrong),
                               (["check", "f", "--top"], "words", wrong), (["check", "--top", "a", "f", "--top", "b"], "words", wrong),
@@ -147,8 +148,13 @@ def words_and_faults():
             answer = run(["check", path])
             compare(name, (answer.stdout, answer.returncode), (b"", 4))
             compare(f"{name} is explained", answer.stderr.decode(), f"secv: {path}: {cause}\n")
-        answer = run(["check", os.path.join(folder, "no\nne.v")])
-        compare("a name with a line feed is escaped", answer.stderr.decode(), f"secv: {folder}/no\\nne.v: No such file or directory (os error 2)\n")
+        for name, escaped in [("no\nne.v", "no\\nne.v"), ("no\x1b[2Jne\r\x7f.v", "no\\u{1b}[2Jne\\r\\u{7f}.v")]:
+            answer = run(["check", os.path.join(folder, name)])
+            compare("a name with control characters is escaped", answer.stderr.decode(), f"secv: {folder}/{escaped}: No such file or directory (os error 2)\n")
+            with open(os.path.join(folder, name), "wb"):
+                pass
+            answer = run(["check", os.path.join(folder, name)])
+            compare("so it is of a broken rule", answer.stderr.decode(), f"secv: {folder}/{escaped}:1:1: {SAID[201]}; docs/language.md says more\n")
         other = os.path.join(folder, "other.v")
         with open(other, "w", encoding="ascii") as file:
             file.write("module m(input [7:0] a, output y); assign y = a == 3; endmodule\n")
@@ -156,6 +162,12 @@ def words_and_faults():
         compare("a text that is not built", (answer.stdout, answer.returncode), (b"refused 199 not-built 1:1\n", 1))
         compare("it is explained", answer.stderr.decode(),
                 "secv: only modules of one-bit signals are decided so far; docs/language.md says which\n")
+        with open(other, "w", encoding="ascii") as file:
+            file.write("module m(input a, output y); invariant a; assign y = a; endmodule\n")
+        for word in ("list", "sim"):
+            answer = run([word, other])
+            compare(f"an invariant, {word}", (answer.stdout, answer.stderr, answer.returncode),
+                    (b"refused 199 not-built 1:1\n", b"secv: memories, invariants and released values are not built; docs/language.md says more\n", 1))
         for text, wanted in SYNTAX:
             with open(other, "wb") as file:
                 file.write(text)
@@ -176,12 +188,14 @@ def words_and_faults():
         compare(f"a closed output is explained, {words}", said, True)
     for words, wanted in [(["check", "examples/leak.v"], (b"refused flow 1 y from k\nin k 0\n", 1)), (["check"], (b"usage words\n", 2)),
                           (["check", "examples/unknown_value.v"], (b"refused 104 unsupported 3:34 four-state\n", 1)),
-                          (["check", "none.v"], (b"", 4))]:
-        answer = subprocess.run([SECV, *words], cwd=TOP, stdout=subprocess.PIPE, stderr=None, preexec_fn=lambda: os.close(2))
+                          (["check", "none.v"], (b"", 4)), ([b"\xff"], (b"usage words\n", 2)), (["sim", "examples/owner.v"], (b"refused stimulus input 1 header\n", 1))]:
+        answer = subprocess.run([SECV, *words], cwd=TOP, input=b"", stdout=subprocess.PIPE, stderr=None, preexec_fn=lambda: os.close(2))
         compare(f"a closed standard error, {words}", (answer.stdout, answer.returncode), wanted)
         with open("/dev/full", "wb") as full:
-            answer = subprocess.run([SECV, *words], cwd=TOP, stdout=subprocess.PIPE, stderr=full)
-        compare(f"a full standard error, {words}", (answer.stdout, answer.returncode), wanted)
+            answer = subprocess.run([SECV, *words], cwd=TOP, input=b"", stdout=subprocess.PIPE, stderr=full)
+            compare(f"a full standard error, {words}", (answer.stdout, answer.returncode), wanted)
+            answer = subprocess.run([SECV, *words], cwd=TOP, input=b"", stdout=full, stderr=full)
+            compare(f"both full, {words}", answer.returncode, 5 if wanted[0] else wanted[1])
 
 
 def lists():
@@ -218,6 +232,12 @@ def simulations():
             # A broken rule has a line for a person too.
             told = (answer.stdout, answer.stderr == b"", answer.returncode)
             compare(f"sim {words} {given!r}", told, (wanted.encode(), "no-top" not in wanted, status))
+        back = os.path.join(folder, "back.v")
+        with open(back, "w", encoding="ascii") as file:
+            file.write("module m(input a, output y); wire q; assign y = ~q; assign q = ~a; endmodule\n")
+        for number, rounds in (("0", "2"), ("1", "1")):
+            answer = run(["sim", back, "--order", number], given=b"inputs a\n0\n")
+            compare(f"order {number}", (answer.stdout.decode(), answer.returncode), (f"0 a=0 y=0 q=1\nrounds {rounds}\n", 0))
         with open("/dev/full", "wb") as full:
             compare("sim to a full device", run(["sim", path], stdout=full, given=stimulus.encode()).returncode, 5)
         answer = run(["sim", path], before=lambda: os.close(0))

@@ -1,6 +1,7 @@
 #!/usr/bin/env python3
-"""Checks each rule of elaboration through ./secv by other texts than those of docs/language.md. In a text `@@` marks the place that is
-told; what has no such mark is told at 1:1. The last line is 'N passed, M failed'.
+"""Checks each rule of elaboration and of admission through ./secv by other texts than those of docs/language.md, those of admission at
+bits, parts, joins and instances. In a text `@@` marks the place that is told; what has no such mark is told at 1:1. A text that breaks no
+rule and is not of the first form is 199. The last line is 'N passed, M failed'.
 """
 import os
 import subprocess
@@ -9,10 +10,11 @@ import tempfile
 
 TOP = os.path.dirname(os.path.dirname(os.path.abspath(__file__)))
 SECV = os.path.join(TOP, "secv")
-NAMES = {301: "lattice-size", 302: "lattice-name", 303: "circle", 304: "no-join", 305: "no-meet", 306: "map-name", 307: "map-row",
+NAMES = {199: "not-built", 301: "lattice-size", 302: "lattice-name", 303: "circle", 304: "no-join", 305: "no-meet", 306: "map-name", 307: "map-row",
          308: "map-hole", 310: "no-top", 311: "unknown-module", 312: "twice", 313: "port", 314: "recursive", 316: "parameter",
          401: "unknown-name", 402: "too-wide", 403: "bad-select", 404: "not-constant", 405: "zero-divisor", 406: "division",
-         407: "unsized-part", 408: "bad-count", 409: "bad-range", 410: "label"}
+         407: "unsized-part", 408: "bad-count", 409: "bad-range", 410: "label", 601: "wrong-assign", 602: "clock", 603: "drivers",
+         604: "undriven", 605: "latch", 606: "phase", 607: "loop"}
 SUM = "module s #(parameter P = 1, Q = 2) (input [3:0] i, output [3:0] o);\n  localparam R = 3;\n  assign o = i + P + Q + R;\nendmodule\n"
 USE = "module t(input [3:0] a, output [3:0] y);\n"
 V = "module m(input a, input [3:0] v, output [7:0] y);\n  "
@@ -55,6 +57,52 @@ TEXTS = [
     (410, "module m(input a, input {@@Q} b); wire {R} c = nope; endmodule", "", "Q"),
     (410, "labelmap D [0:0] 0: L; default: H; endlabelmap\nmodule m(input {@@E(nope)} a); endmodule", "", "E"),
 ]
+FLIP = "module s(input k, input e, output reg r); always @(posedge k) r <= e; endmodule\n"
+Q = "module m(input clk, input a, b, output reg q, output w);\n  "
+S = "module m(input [1:0] s, input signed [1:0] t, output reg [3:0] y);\n  @@always @* "
+T = "module m(input a, b, output reg y, output reg t, output reg [3:0] v);\n  always @* begin "
+ADMISSION = [
+    (601, Q + "assign w = a; always @* begin @@q <= a; end\n" + END, "", "q"),
+    (601, Q + "assign {w, @@q} = {a, b};\n" + END, "", "q"),
+    (601, Q + "assign {w, @@w} = {a, b};\n" + END, "", "w"),
+    (601, Q + "reg [3:0] r; assign w = a; always @* begin q = 0; {r[2:0], @@r[3:2]} = {a, b}; end\n" + END, "", "r"),
+    (601, Q + "reg [3:0] r; assign w = a; always @(posedge clk) begin q <= 0; {r[0], @@r[0]} <= {a, b}; end\n" + END, "", "r"),
+    (601, "module s(output o); assign o = 0; endmodule module m(output reg q); s u(@@q); endmodule", "", "q"),
+    (602, "module m(input @@c, input [1:0] d, output reg q); always @(posedge c) q <= d[c]; endmodule", "", "c"),
+    (602, "labelmap D [0:0] 0: L; default: H; endlabelmap\nmodule m(input @@c, input {D(c)} d, output reg q); always @(posedge c) q <= d; endmodule\n",
+     "", "c"),
+    (602, FLIP.replace("input k", "input @@k") + "module m(input [1:0] c, input d, output q); s u(c[0], d, q); endmodule", "", "u.k"),
+    (602, FLIP.replace("input e", "input @@e") + "module m(input c, d, output q); s u(c, c, q); endmodule", "", "u.e"),
+    (602, "module m(input c, @@d, output reg q, r); always @(posedge c) q <= 0; always @(posedge d) r <= 0; endmodule", "", "d"),
+    (603, Q + "reg [1:0] r; assign w = 0; always @* q = 0; always @* r[0] = a; @@always @* r[1] = b;\n" + END, "", "r"),
+    (603, Q + "wire [1:0] c; assign {c, w} = 0; assign @@w = a;\n" + END, "", "w"),
+    (603, "module s(output o, p); assign o = 1; assign p = 0; endmodule module m(output y); s u(y, @@y); endmodule", "", "y"),
+    (603, "module s(input i); assign @@i = 1; endmodule module m(input a); s u(a); endmodule", "", "u.i"),
+    (604, "module s(input @@i); endmodule module m(input a); s u(a), v(.i()); endmodule", "", "v.i"),
+    (604, "module m(output reg @@y); always @* ; endmodule", "", "y"),
+    (605, Q + "assign w = 0; always @* q = 0; reg [3:0] r; @@always @* begin r[1:0] = a; r[3] = b; end\n" + END, "", "r"),
+    (605, Q + "assign w = 0; always @* q = 0; reg [3:0] r; @@always @* if (a) r = 0; else begin r[3:1] = b; r[1] = a; end\n" + END, "", "r"),
+    (605, Q + "assign w = 0; reg [1:0] r; @@always @* {q, r[0]} = a;\n" + END, "", "r"),
+    (605, S + "case (s) 3: y = 0; 2: y = 1; 1: y = 2; 4: y = 3; endcase\n" + END, "", "y"),
+    (605, S + "case (s + 1'b1) 0: y = 0; 1: y = 1; 2: y = 2; 3: y = 3; endcase\n" + END, "", "y"),
+    (606, T + "t = 0; v[1:0] = a; y = @@v[2]; v[3:2] = b; end\n" + END, "", "v"),
+    (606, T + "t = 0; v[1:0] = a; y = @@v; v[3:2] = b; end\n" + END, "", "v"),
+    (606, T + "t = 0; v = 0; y = @@v[a]; v[3] = b; end\n" + END, "", "v"),
+    (606, T + "y = 0; {t, v} = {@@v, t}; end\n" + END, "", "v"),
+    (606, T + "v = 0; y = 0; t = a; case (@@t) 0: y = a; default: t = b; endcase end\n" + END, "", "t"),
+    (606, "module s(output reg o); always @* o = @@o; endmodule module m(output y, z); s u(y), v(z); endmodule", "", "u.o"),
+    (607, "module m(output @@p, q, r); assign p = r; assign q = p; assign r = q; endmodule", "", "p r q"),
+    (607, "module m(output [1:0] @@y); assign y = {y[0], 1'b1}; endmodule", "", "y"),
+    (607, "module m(input a, output p, @@q); assign {p, q} = {q, a}; endmodule", "", "q"),
+    (607, "module t; wire @@w; s u(w, w); endmodule module s(input i, output o); assign o = i; endmodule", "", "w u.o u.i"),
+    (607, T.replace(" v)", " @@v)") + "y = 0; t = 0; v = 0; {v[0], v[1]} = {v[2], v[3]}; end\n" + END, "", "v"),
+    (199, Q + "reg [3:0] r; assign w = a; always @* begin q = 0; {r[1:0], r[3:2]} = {a, b}; end\n" + END, "", ""),
+    (199, Q + "reg [3:0] r; assign w = a; always @(posedge clk) begin q <= 0; r[0] <= a; r[0] <= b; end\n" + END, "", ""),
+    (199, FLIP + "module m(input c, d, output q, z); s u(c, d, q), v((c), q, z); endmodule", "", ""),
+    (199, Q + "assign w = 0; always @* q = 0; reg [3:0] r; always @* if (a) r = 0; else begin r[3:1] = b; r[0] = a; end\n" + END, "", ""),
+    (199, S.replace("@@", "") + "case (t) 0: y = 0; 1: y = 1; -2: y = 2; -1: y = 3; endcase\n" + END, "", ""),
+    (199, S.replace("@@", "") + "case ({s[1], s[0]}) 0: y = 0; 1: y = 1; 2: y = 2; 3: y = 3; endcase\n" + END, "", ""),
+]
 passed = failed = 0
 
 
@@ -81,7 +129,7 @@ def main():
     # the first run builds the program, which takes more than a run may
     subprocess.run([SECV, "--version"], stdout=subprocess.DEVNULL, check=True)
     with tempfile.TemporaryDirectory() as folder:
-        for row in TEXTS:
+        for row in TEXTS + ADMISSION:
             check(*row, folder)
     print(f"{passed} passed, {failed} failed")
     sys.exit(1 if failed else 0)

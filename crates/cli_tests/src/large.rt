@@ -4,8 +4,8 @@ use std::test::Fail;
 use sv_cli::{Outcome, run};
 use sv_io::{MemCabinet, RepeatSource, TallySink};
 
-// Three inverters, in the reverse of the order in which the value passes them.
-const INVERTERS: &str = "module m(input a, output y);
+/// Three inverters, in the reverse of the order in which the value passes them.
+pub const INVERTERS: &str = "module m(input a, output y);
   wire p, q;
   assign y = ~q;
   assign q = ~p;

@@ -3,6 +3,10 @@
 #![tactic(auto)]
 
 #[cfg(test)]
+mod calls;
+#[cfg(test)]
 mod large;
+#[cfg(test)]
+mod simulations;
 #[cfg(test)]
 mod tests;

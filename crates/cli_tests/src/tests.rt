@@ -1,9 +1,7 @@
 // Whole outputs of `run` on worked examples.
-use std::alloc::{AllocError, Global};
+use crate::calls::{Failing, NONE, called};
 use std::test::Fail;
 use sv_ast::{Item, Stmt, Text};
-use sv_cli::run;
-use sv_io::{MemCabinet, MemSink, MemSource};
 use sv_parse::read_text;
 
 const GATE: &str = "module m(input a, input b, output y); assign y = a & b; endmodule\n";
@@ -54,44 +52,6 @@ const STIMULUS: &str = "start q 9\ninputs en d\n1 3\n0 F\n1 0\n";
 const TRACE: &str = "0 en=1 d=3 q=9 s=0 n=a\n1 en=0 d=f q=a s=3 n=b\n2 en=1 d=0 q=a s=c n=b\n";
 
 const PUBLIC_TRACE: &str = "0 en=1 q=9 n=a\n1 en=0 q=a n=b\n2 en=1 q=a n=b\n";
-
-// The numbers, from 1, of the calls that fail.
-#[derive(Clone, Copy)]
-struct Failing<'a> {
-    fetches: &'a [u32],
-    takes: &'a [u32],
-    puts: &'a [u32],
-}
-
-const NONE: Failing<'static> = Failing {
-    fetches: &[],
-    takes: &[],
-    puts: &[],
-};
-
-// The status and all that was written for words that one blank parts, where `f` holds the text and
-// the input gives the stimulus, a byte a take.
-fn called(
-    alloc: Global,
-    words: &str,
-    text: &[u8],
-    stimulus: &str,
-    failing: Failing<'_>,
-) -> Result<(u8, Vec<u8>), AllocError> {
-    let mut list = Vec::new(alloc);
-    for word in words.split(' ') {
-        if !word.is_empty() {
-            list.push(String::from_str(alloc, word)?)?;
-        }
-    }
-    let mut cabinet = MemCabinet::new(alloc, Vec::from_slice(alloc, failing.fetches)?);
-    cabinet.hold("f", text)?;
-    let bytes = Vec::from_slice(alloc, stimulus.as_bytes())?;
-    let mut input = MemSource::new(bytes, Vec::from_slice(alloc, failing.takes)?, 1);
-    let mut out = MemSink::new(alloc, Vec::from_slice(alloc, failing.puts)?, 1);
-    let outcome = run(alloc, &list, &mut cabinet, &mut input, &mut out);
-    Ok((outcome.status(), Vec::from_slice(alloc, out.bytes())?))
-}
 
 #[test]
 fn every_row_has_its_whole_output(rt: HostRuntime) -> Result<(), Fail> {

@@ -1,5 +1,5 @@
 // The texts that the program writes.
-ghost use Rattle.std.specs.Prelude.{◌≡◌, ◌++◌, ◌∷◌, IfOk, OnOk, codes, decimal, false, length};
+ghost use Rattle.std.specs.Prelude.{◌≡◌, ◌++◌, IfOk, OnOk, codes, decimal, false, length};
 ghost use Rattle.std.specs.Fmt.{digits};
 ghost use Rattle.sv_cli.specs.Text.{usage_name, usage_text, accepted_text, names_text};
 ghost use Rattle.sv_cli.specs.Text.{refusal_text, limit_text, value_lines, flow_text};

@@ -218,7 +218,7 @@ def simulations():
     """The examples of docs/formats.md, what stops a simulation, and what a user sees of it line by line."""
     with open(os.path.join(TOP, "docs", "formats.md"), encoding="utf-8") as file:
         text = file.read().partition("\n# Stimulus and trace\n")[2]
-    design, stimulus, trace, public, refused = re.findall(r"^```(?:verilog)?\n(.*?)^```$", text, re.M | re.S)
+    design, stimulus, trace, public, nested, started, counted, refused = re.findall(r"^```(?:verilog)?\n(.*?)^```$", text, re.M | re.S)
     wrong = stimulus.replace("0 F", "0 10")
     with tempfile.TemporaryDirectory() as folder:
         path = os.path.join(folder, "text.v")
@@ -238,6 +238,11 @@ def simulations():
         for number, rounds in (("0", "2"), ("1", "1")):
             answer = run(["sim", back, "--order", number], given=b"inputs a\n0\n")
             compare(f"order {number}", (answer.stdout.decode(), answer.returncode), (f"0 a=0 y=0 q=1\nrounds {rounds}\n", 0))
+        other = os.path.join(folder, "other.v")
+        with open(other, "w", encoding="ascii") as file:
+            file.write(nested)
+        answer = run(["sim", other], given=started.encode())
+        compare("sim of two instances", (answer.stdout, answer.stderr, answer.returncode), (counted.encode(), b"", 0))
         with open("/dev/full", "wb") as full:
             compare("sim to a full device", run(["sim", path], stdout=full, given=stimulus.encode()).returncode, 5)
         answer = run(["sim", path], before=lambda: os.close(0))

@@ -343,7 +343,7 @@ IsAnswer words text stimulus answer printed =
     (answer ≡ misused kind) × (printed ≡ usage_text kind))
 
 -- The text means exactly one module. Any two of its traces that look alike to a level have equal
--- views for it at every cycle, and each start and each list of inputs has exactly one trace.
+-- views for it at every cycle; each start and list of inputs that fit have exactly one trace.
 pub record KeepsSecrets (text : List ℕ) : Type 0 where
   pub tree : ModuleTree
   pub means : Means text tree

@@ -2,14 +2,13 @@
 -- them.
 use Rattle.std.proofs.Common.{◌≡◌, ℕ, ◌<◌, ◌^◌, Bool, true, false, cond, not, ◌&&◌, List, [], ◌∷◌}
 use Rattle.std.proofs.Common.{◌++◌, length, map, flat_map, codes, refl, sym, ap, ◌∙◌, subst}
-use Rattle.std.proofs.Common.{lt-ltb, ltb-true, arith}
-use Rattle.std.specs.Prelude.{All, Contains, IsTrue, IsFalse, filter}
+use Rattle.std.proofs.Common.{ltb-true, arith}
+use Rattle.std.specs.Prelude.{All, Contains, IsTrue, filter}
 use Rattle.std.specs.List.{range_with_len}
 use Rattle.std.proofs.lemmas.Bool.{false≢true}
-use Rattle.std.proofs.lemmas.List.{length-map}
 use Rattle.std.proofs.lemmas.List.Elements.{All-head, All-tail, All-cons, All-weaker}
 use Rattle.sv_lattice.specs.declared.points.Point.{Point}
-use Rattle.sv_system.specs.System.{System, Environment, IsTrace, KindFits, SameSignals, SameTraces}
+use Rattle.sv_system.specs.System.{System, Environment, IsTrace, KindFits}
 use Rattle.sv_system.proofs.Pointwise.{each}
 use Rattle.sv_flat.specs.Admission.{IsAdmitted}
 use Rattle.sv_flat.specs.Assigned.{assigns}
@@ -19,18 +18,17 @@ use Rattle.sv_flat.specs.FlatSystem.{flat_system}
 use Rattle.sv_flat.specs.Processes.{is_clocked, is_top_input, is_register}
 use Rattle.sv_flat.specs.SignalLists.{inputs, registers}
 use Rattle.sv_flat.specs.Soundness.{sound}
-use Rattle.sv_flat.specs.Values.{signal_width}
 use Rattle.sv_flat.proofs.AdmittedFacts.{assigned_is_signal, body_is_sound, clocked_is_process}
 use Rattle.sv_flat.proofs.Depths.{first_of, second_of}
 use Rattle.sv_flat.proofs.LeastSets.{from_some, in_those}
 use Rattle.sv_sim.specs.Given.{FitListed, given}
 use Rattle.sv_sim.proofs.OneDesign.{register_no_clock}
 use Rattle.sv_trace.specs.Forms.{StimForm, form_of, name_in}
-use Rattle.sv_trace.specs.Stimulus.{LinesRead, read_front, read_whole, start_of, cycles_of}
+use Rattle.sv_trace.specs.Stimulus.{start_of, cycles_of}
 use Rattle.sv_trace.specs.Stimulus.{is_start}
 use Rattle.sv_trace.specs.Reading.{FitWidths}
 use Rattle.sv_trace.proofs.ReaderFacts.{start_fits, cycle_fits}
-use Rattle.sv_simulate.specs.Traces.{inputs_in, registers_in, header_in, register_in, form_in}
+use Rattle.sv_simulate.specs.Traces.{inputs_in, registers_in, register_in, form_in}
 use Rattle.sv_simulate.specs.Traces.{IsTraceFrom}
 use Rattle.sv_simulate.proofs.GivenFacts.{own_values, filter_apart, input_listed, given_to_fits}
 use Rattle.sv_simulate.proofs.ReadFits.{FitForm}

@@ -1,5 +1,5 @@
 -- What follows from how far a simulation has come, at each end of the loop over the pieces.
-use Rattle.std.proofs.Common.{◌≡◌, ℕ, ◌+◌, ◌<◌, ◌≤◌, ◌^◌, Bool, true, false, List, [], ◌∷◌, ◌++◌}
+use Rattle.std.proofs.Common.{◌≡◌, ℕ, ◌+◌, ◌<◌, ◌≤◌, ◌^◌, Bool, true, false, List, [], ◌++◌}
 use Rattle.std.proofs.Common.{length, take, drop, refl, sym, ap, ◌∙◌, subst, Option, Some, None}
 use Rattle.std.proofs.Common.{arith}
 use Rattle.std.proofs.Common.{append-nil, append_assoc, length-append, ◌⊎◌, ⊎_elim}

@@ -1,8 +1,8 @@
 -- Each stimulus of an admitted design has one text and one ending.
-use Rattle.std.proofs.Common.{◌≡◌, ℕ, ◌+◌, ◌<◌, Bool, true, false, cond, List, [], ◌∷◌, ◌++◌}
-use Rattle.std.proofs.Common.{length, map, flat_map, take, codes, decimal, refl, sym, ap, ap₂, ◌∙◌}
+use Rattle.std.proofs.Common.{◌≡◌, ℕ, ◌+◌, Bool, true, false, cond, List, ◌++◌}
+use Rattle.std.proofs.Common.{map, flat_map, take, codes, decimal, refl, sym, ap, ◌∙◌}
 use Rattle.std.proofs.Common.{subst, Option, Some, None}
-use Rattle.std.specs.Prelude.{All, Contains, IsTrue}
+use Rattle.std.specs.Prelude.{Contains, IsTrue}
 use Rattle.std.proofs.lemmas.List.Elements.{All-contains}
 use Rattle.sv_lattice.specs.declared.points.Point.{Point}
 use Rattle.sv_system.specs.System.{System, Environment, IsTrace, SameSignals, SameTraces}
@@ -23,7 +23,7 @@ use Rattle.sv_simulate.specs.declared.endings.Ending.{Ending}
 use Rattle.sv_simulate.specs.declared.endings.Ending.TheVariants as ending
 use Rattle.sv_simulate.specs.Runs.{lines_of}
 use Rattle.sv_simulate.specs.Simulated.{largest_stimulus, is_within, read_of, ending_of, last_line}
-use Rattle.sv_simulate.specs.Simulated.{IsSimulation, RunsInOrder, AreRounds, IsSimulatedAt}
+use Rattle.sv_simulate.specs.Simulated.{IsSimulation, AreRounds, IsSimulatedAt}
 use Rattle.sv_simulate.specs.Simulated.{level_asked, HasOneText}
 use Rattle.sv_simulate.specs.Traces.{form_in, IsTraceFrom, line_in, pair_in, shown_in}
 use Rattle.sv_simulate.proofs.DesignForms.{form_is_plain, form_is, inputs_listed, registers_listed}

@@ -1,18 +1,15 @@
 -- What a simulation has written, when it has come so far.
-use Rattle.std.proofs.Common.{◌≡◌, ℕ, ◌+◌, ◌*◌, ◌<◌, ◌≤◌, Bool, true, false, List, [], ◌∷◌, ◌++◌}
-use Rattle.std.proofs.Common.{length, map, take, refl, sym, ap, ◌∙◌, subst, Option, Some, None}
+use Rattle.std.proofs.Common.{◌≡◌, ℕ, ◌+◌, ◌*◌, ◌≤◌, Bool, true, false, List, [], ◌∷◌, ◌++◌}
+use Rattle.std.proofs.Common.{length, map, refl, sym, ap, ◌∙◌, subst, Option, Some, None}
 use Rattle.std.proofs.Common.{arith}
 use Rattle.std.proofs.Common.{append-nil}
-use Rattle.std.specs.Prelude.{IsTrue, sum, vec_len, IfSome}
+use Rattle.std.specs.Prelude.{sum, IfSome}
 use Rattle.std.specs.Global.{Vec}
-use Rattle.sv_io.specs.Sink.{WritesFront}
 use Rattle.sv_io.proofs.Writing.{writes_front_whole}
-use Rattle.sv_lattice.specs.declared.points.Point.{Point}
-use Rattle.sv_system.specs.System.{System, Environment, IsTrace}
+use Rattle.sv_system.specs.System.{Environment, IsTrace}
 use Rattle.sv_flat.specs.Design.{FlatDesign}
 use Rattle.sv_flat.specs.FlatSystem.{flat_system}
 use Rattle.sv_flat.specs.SignalLists.{inputs, registers}
-use Rattle.sv_design.specs.Designs.{IsDesign}
 use Rattle.sv_sim.specs.Given.{given}
 use Rattle.sv_trace.specs.Forms.{StimForm, form_of}
 use Rattle.sv_trace.specs.Reading.{HaveRead}
@@ -22,15 +19,15 @@ use Rattle.sv_simulate.specs.declared.runners.Runner.{Runner}
 use Rattle.sv_simulate.specs.declared.runners.Runner.TheVariants as runner
 use Rattle.sv_simulate.specs.declared.simulations.Simulation.{Simulation}
 use Rattle.sv_simulate.specs.Fronts.{WritesFrontAt, WritesAllAt}
-use Rattle.sv_simulate.specs.Progress.{flat_of, IsSimulating, HaveBeenRun, HasRunCycles, HasCome}
-use Rattle.sv_simulate.specs.Progress.{HasEnded, HasFailed, HasReached}
+use Rattle.sv_simulate.specs.Progress.{flat_of, IsSimulating, HasRunCycles, HasCome}
+use Rattle.sv_simulate.specs.Progress.{HasFailed, HasReached}
 use Rattle.sv_simulate.specs.Runners.{values_in, order_in, rounds_in}
 use Rattle.sv_simulate.specs.Runs.{HaveRunInOrder, lines_of, PutsFront}
 use Rattle.sv_simulate.specs.Simulated.{is_within, read_of, ending_of, last_line}
 use Rattle.sv_simulate.specs.Simulated.{RunsInOrder, AreRounds, IsSimulatedAt}
 use Rattle.sv_simulate.proofs.DesignForms.{form_is_plain, from_given, start_fit, cycles_fit}
 use Rattle.sv_simulate.proofs.Fronts.{begins_text_of}
-use Rattle.sv_simulate.proofs.OneText.{simulation, fits_read}
+use Rattle.sv_simulate.proofs.OneText.{simulation}
 use Rattle.sv_simulate.proofs.ReadFits.{front_fits}
 use Rattle.sv_simulate.proofs.ReadFronts.{Grows}
 

@@ -1,6 +1,6 @@
 -- What right lines say fits the form: the starting values and the values of each cycle.
 use Rattle.std.proofs.Common.{◌≡◌, ℕ, zero, suc, ◌+◌, ◌<◌, ◌≤◌, ◌^◌, Bool, true, false, cond, ◌&&◌}
-use Rattle.std.proofs.Common.{List, [], ◌∷◌, ◌++◌, length, map, get_or, set, refl, sym, ap, ◌∙◌}
+use Rattle.std.proofs.Common.{List, [], ◌∷◌, ◌++◌, length, map, get_or, set, refl, sym, ◌∙◌}
 use Rattle.std.proofs.Common.{subst, arith, ⊎_elim, ◌⊎◌, Option, Some, None, ltb-true, nat_lt}
 use Rattle.std.proofs.Common.{nat_le}
 use Rattle.std.proofs.Common.{get_or-set_same, get_or-set_other}
@@ -21,12 +21,12 @@ use Rattle.sv_trace.specs.declared.forms.Register.{Register}
 use Rattle.sv_trace.specs.Forms.{StimForm}
 use Rattle.sv_trace.specs.Reading.{Said, IsSaid, HaveRead, FitWidths, widths_of}
 use Rattle.sv_trace.specs.Steps.{cycle_fault, early_fault}
-use Rattle.sv_trace.specs.Stimulus.{LinesRead, line_fault, read_next, read_after, is_start}
+use Rattle.sv_trace.specs.Stimulus.{line_fault, read_next, read_after, is_start}
 use Rattle.sv_trace.specs.Stimulus.{start_name, start_digits, start_fault, place_of, starts_at}
 use Rattle.sv_trace.specs.Stimulus.{is_value, width_at, are_values, words, start_of, cycles_of}
 use Rattle.sv_trace.specs.Stimulus.{read_front, read_whole, lines_if, parts}
 use Rattle.sv_trace.proofs.ReaderFacts.{new_fits}
-use Rattle.sv_trace.proofs.SaidFacts.{cycle_fault_is, header_is_right, early_fault_is}
+use Rattle.sv_trace.proofs.SaidFacts.{cycle_fault_is, early_fault_is}
 use Rattle.sv_trace.proofs.SaidFacts.{after_header, after_cycle, after_start}
 use Rattle.sv_trace.proofs.Texts.{long_is_wrong}
 use Rattle.sv_simulate.proofs.ReadFronts.{ended_right}

@@ -2,11 +2,11 @@
 use Rattle.std.proofs.Common.{◌≡◌, ℕ, ◌+◌, ◌<◌, ◌^◌, List, [], ◌∷◌, ◌++◌, length, map, refl, sym}
 use Rattle.std.proofs.Common.{ap}
 use Rattle.std.proofs.Common.{◌∙◌, subst, arith, Option, append_assoc, suc, Bool, ⊎_elim}
-use Rattle.std.specs.Prelude.{All, Contains, IsTrue, filter}
-use Rattle.std.proofs.lemmas.List.Elements.{All-head, All-tail, All-cons, All-contains}
+use Rattle.std.specs.Prelude.{All, Contains, IsTrue}
+use Rattle.std.proofs.lemmas.List.Elements.{All-cons, All-contains}
 use Rattle.sv_system.specs.System.{System, Environment, Settled, IsTrace, Fits, SameSignals}
 use Rattle.sv_system.specs.System.{SameTraces, KindFits, HasOneTrace}
-use Rattle.sv_system.proofs.Lists.{Contains-head, Contains-later, Contains-cases, Contains-nil}
+use Rattle.sv_system.proofs.Lists.{Contains-cases, Contains-nil}
 use Rattle.sv_system.proofs.Pointwise.{each, fits_at}
 use Rattle.sv_simulate.specs.Traces.{inputs_in, registers_in, IsTraceFrom, line_in, lines_from}
 

@@ -7,7 +7,6 @@ pub mod FineStatements
 pub mod FineTexts
 pub mod TextLaws
 mod SameSimulations
-mod DesignForms
 mod TextNames
 pub mod TextSimulations
 mod TypedSizes

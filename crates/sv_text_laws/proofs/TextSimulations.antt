@@ -19,12 +19,12 @@ use Rattle.sv_simulate.specs.declared.endings.Ending.{Ending}
 use Rattle.sv_simulate.specs.Simulated.{level_asked, IsSimulatedAt, IsSimulated, WritesFrontFor}
 use Rattle.sv_simulate.specs.Simulated.{WritesAllCycles, HasOneText}
 use Rattle.sv_simulate.specs.Traces.{IsTraceFrom}
+use Rattle.sv_simulate.proofs.DesignForms.{form_is}
 use Rattle.sv_text_laws.specs.Signals.{dotted}
 use Rattle.sv_text_laws.specs.SimulatedTexts.{level_asked_of, IsTextSimulatedAt, IsTextSimulated}
 use Rattle.sv_text_laws.specs.SimulatedTexts.{WritesTextFront, text_form, WritesTextCycles}
 use Rattle.sv_text_laws.specs.SimulatedTexts.{IsWrittenAlike, HasOneWrittenText}
 use Rattle.sv_text_laws.proofs.CheckedDesigns.{admitted_checked}
-use Rattle.sv_text_laws.proofs.DesignForms.{design_form}
 use Rattle.sv_text_laws.proofs.SameSimulations.{forms_same, trace_from_over, trace_from_back}
 use Rattle.sv_text_laws.proofs.SameSimulations.{lines_over, lines_back}
 use Rattle.sv_text_laws.proofs.SameSimulations.{simulation_over, simulation_back}
@@ -115,7 +115,7 @@ module _ (text : TextTree) (asked : Option (List ℕ)) (design : FlatDesign)
 
   same_form : form_of design ≡ text_form text asked
   same_form =
-      design_form design joined.first_kinds
+      sym (form_is design (admitted_checked text asked design can flat admitted).is_sound admitted)
       ∙ sym (forms_same (flat_system design) (text_system text asked) joined
       (name_in design.signals) dotted same_names)
 

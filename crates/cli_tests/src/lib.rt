@@ -7,6 +7,8 @@ mod calls;
 #[cfg(test)]
 mod large;
 #[cfg(test)]
+mod late_fault;
+#[cfg(test)]
 mod simulations;
 #[cfg(test)]
 mod tests;

@@ -294,7 +294,8 @@ pub record Simulates (words : List (List ℕ)) (text : List ℕ) (level : Option
   pub stands : StandsFor top text design
   pub admitted : IsAdmitted design
 
--- what was accepted is the lines of all cycles that these first bytes of a stimulus let read
+-- These first bytes of a stimulus show no ending yet, and what was accepted is the lines of all
+-- cycles that they let read.
 pub record WritesCycles (words : List (List ℕ)) (text stimulus old new : List ℕ) : Type 0 where
   pub level : Option (List ℕ)
   pub design : FlatDesign

@@ -137,8 +137,8 @@ pub fn run<C: Cabinet, S: Source, K: Sink>(
         × (Rose (C.fetch_faults cabinet.old (file_of (words_of words.now)))
         (C.fetch_faults cabinet.new (file_of (words_of words.now)))
         ⊎ Rose (S.faults input.old) (S.faults input.new)) }
-    // It is the input's where FILE was read. Then the words are `sim`, the text breaks no rule, and
-    // the lines of all cycles that the bytes taken let read were accepted.
+    // It is the input's where FILE was read. Then the words are `sim`, the text breaks no rule, the
+    // bytes taken show no ending yet, and the lines of all cycles that they let read were accepted.
     ensures prompt { result ≡ Outcome.ReadFault → (text : List ℕ) →
         Reads (words_of words.now) text (C.exchanges cabinet.old) (C.exchanges cabinet.new) →
         (stimulus : List ℕ)

@@ -426,8 +426,10 @@ module _ (tells : Bool) (g0 g1 l0 l1 taken : List ℕ) (left : ℕ) (before acce
 
   pub all_taken : 0 < left → WritesAllAt (flat_of s) s.level taken before accepted
   all_taken some =
+      let few : length taken ≤ largest_stimulus = omega (arith, way.count) in
+      let come = come_within taken before accepted s few way.come in
       come_all taken before accepted s way.made
-      (come_within taken before accepted s (omega (arith, way.count)) way.come)
+      (none_wrong (read_front s.reader.form taken) (sym come.fed.read.fault ∙ way.right)) few come
 
   -- too many bytes
   pub large_ends : left ≡ 0 → EndsWith tells g0 g1 l0 l1 ending.TooLarge before accepted s

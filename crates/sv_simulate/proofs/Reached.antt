@@ -23,7 +23,7 @@ use Rattle.sv_simulate.specs.Progress.{flat_of, IsSimulating, HasRunCycles, HasC
 use Rattle.sv_simulate.specs.Progress.{HasFailed, HasReached}
 use Rattle.sv_simulate.specs.Runners.{values_in, order_in, rounds_in}
 use Rattle.sv_simulate.specs.Runs.{HaveRunInOrder, lines_of, PutsFront}
-use Rattle.sv_simulate.specs.Simulated.{is_within, read_of, ending_of, last_line}
+use Rattle.sv_simulate.specs.Simulated.{largest_stimulus, is_within, read_of, ending_of, last_line}
 use Rattle.sv_simulate.specs.Simulated.{RunsInOrder, AreRounds, IsSimulatedAt}
 use Rattle.sv_simulate.proofs.DesignForms.{form_is_plain, from_given, start_fit, cycles_fit}
 use Rattle.sv_simulate.proofs.Fronts.{begins_text_of}
@@ -229,10 +229,11 @@ come_failed bytes before accepted s come =
       run = run.is;
       front = writes_front_whole before (lines_of (flat_of s) s.level run.trace) accepted run.wrote;
     }
+    → (read_front s.reader.form bytes).wrong ≡ None → length bytes ≤ largest_stimulus
 
 pub come_all : (bytes before accepted : List ℕ) (s : Simulation) → IsSimulating s
     → HasCome bytes before accepted s → WritesAllAt (flat_of s) s.level bytes before accepted
-come_all bytes before accepted s made come =
+come_all bytes before accepted s made none few come =
     let flat : FlatDesign = flat_of s in
     let read : LinesRead = read_front s.reader.form bytes in
     let run = ran read.right come.taken before accepted s come.fed.read.lines come.all come.ran
@@ -244,6 +245,8 @@ come_all bytes before accepted s made come =
     let right : List (List ℕ) = (read_front (form_of flat) bytes).right in
     let fit = front_fits (form_of flat) (form_is_plain flat) bytes in
     let sound = made.admitted.is_sound in
+      right = subst (λ (f : StimForm). (read_front f bytes).wrong ≡ None) made.form none;
+      few = few;
     let admitted = made.admitted.is_admitted in
     record {
       trace = run.trace;

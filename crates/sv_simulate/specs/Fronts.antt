@@ -30,6 +30,8 @@ pub record WritesFrontAt (design : FlatDesign) (asked : Option (Option Point)) (
 -- `WritesAllCycles` with what is shown in place of the level's name
 pub record WritesAllAt (design : FlatDesign) (shown : Option Point) (bytes old new : List ℕ) :
     Type 0 where
+  pub right : (read_front (form_of design) bytes).wrong ≡ None
+  pub few : length bytes ≤ largest_stimulus
   pub trace : List (Environment ℕ)
   pub traces : IsTraceFrom (flat_system design)
       (start_of (form_of design) (read_front (form_of design) bytes).right)

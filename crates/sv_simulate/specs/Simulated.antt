@@ -1,5 +1,5 @@
 -- What `sim` writes of a design for a stimulus, and how that ends (this project's profile).
-use Rattle.std.specs.Prelude.{◌≡◌, ℕ, ◌+◌, Bool, true, false, nat_le, if◌then◌else◌, List, []}
+use Rattle.std.specs.Prelude.{◌≡◌, ℕ, ◌+◌, ◌≤◌, Bool, true, false, nat_le, if◌then◌else◌, List, []}
 use Rattle.std.specs.Prelude.{◌++◌, length, take, map, codes, decimal, Option, Some, None}
 use Rattle.std.specs.Prelude.{option_map, position}
 use Rattle.std.specs.Option.{option_map_or}
@@ -131,12 +131,15 @@ pub record WritesFrontFor (design : FlatDesign) (level : Option (List ℕ)) (ord
   pub is : IsSimulated design level order bytes ends printed
   pub front : WritesFront old printed new
 
--- what was accepted is the lines of all cycles that these first bytes of a stimulus let read
+-- These first bytes of a stimulus show no ending yet: no line of them is wrong, and they are within
+-- the limit. What was accepted is the lines of all cycles that they let read.
 pub record WritesAllCycles (design : FlatDesign) (level : Option (List ℕ))
     (bytes old new : List ℕ) : Type 0 where
   pub shown : Option Point
   pub asked : level_asked design level ≡ Some shown
   pub read : LinesRead
+  pub right : read.wrong ≡ None
+  pub few : length bytes ≤ largest_stimulus
   pub is_read : read ≡ read_front (form_of design) bytes
   pub trace : List (Environment ℕ)
   pub traces : IsTraceFrom (flat_system design) (start_of (form_of design) read.right)

@@ -65,7 +65,7 @@ pub fn simulate<S: Source, K: Sink>(
         IfOk result (λ ending. ending ≡ other) }
 
     // With a fault the output accepted a front of what is defined for the bytes that were taken;
-    // with one of the input, all lines of their cycles.
+    // with one of the input, which comes where they show no ending yet, all lines of their cycles.
     ensures front { OnErr result ((taken : List ℕ)
         × (S.given input.new ≡ S.given input.old ++ taken)
         × WritesFrontFor (design_of design.now) (option_copied level.entry) order taken

@@ -144,6 +144,8 @@ module _ (text : TextTree) (asked : Option (List ℕ)) (design : FlatDesign)
                   (trace_from_over (flat_system design) (text_system text asked) joined
                   (name_in design.signals) dotted same_names (start_of (form_of design) right)
                   (cycles_of right) is.trace traces);
+              right = is.right;
+              few = is.few;
               accepted =
                   is.accepted
                   ∙ ap (λ t. old ++ t)
@@ -176,6 +178,8 @@ module _ (text : TextTree) (asked : Option (List ℕ)) (design : FlatDesign)
                   (trace_from_back (flat_system design) (text_system text asked) joined
                   (name_in design.signals) dotted same_names (start_of (text_form text asked) right)
                   (cycles_of right) is.trace traces);
+              right = is.right;
+              few = is.few;
               accepted =
                   is.accepted
                   ∙ ap (λ t. old ++ t)

@@ -1,6 +1,7 @@
 -- What `sim` writes of a source text for a stimulus: the trace of the text's own cycle meaning
 -- (this project's profile).
-use Rattle.std.specs.Prelude.{◌≡◌, ℕ, List, ◌++◌, Option, Some, None, if◌then◌else◌, ◌↔◌}
+use Rattle.std.specs.Prelude.{◌≡◌, ℕ, ◌≤◌, List, ◌++◌, length, Option, Some, None}
+use Rattle.std.specs.Prelude.{if◌then◌else◌, ◌↔◌}
 use Rattle.std.specs.Str.{bytes_eq}
 use Rattle.sv_io.specs.Sink.{WritesFront}
 use Rattle.sv_system.specs.System.{Environment}
@@ -14,7 +15,7 @@ use Rattle.sv_trace.specs.Forms.{StimForm}
 use Rattle.sv_trace.specs.Stimulus.{LinesRead, read_front, start_of, cycles_of}
 use Rattle.sv_simulate.specs.declared.endings.Ending.{Ending}
 use Rattle.sv_simulate.specs.Simulated.{AreRounds, IsSimulation, IsLevelRefused, IsSimulated}
-use Rattle.sv_simulate.specs.Simulated.{WritesFrontFor, WritesAllCycles}
+use Rattle.sv_simulate.specs.Simulated.{WritesFrontFor, WritesAllCycles, largest_stimulus}
 use Rattle.sv_simulate.specs.Traces.{form_in, IsTraceFrom, lines_from}
 use Rattle.sv_text_laws.specs.Signals.{dotted}
 
@@ -57,7 +58,8 @@ pub record WritesTextFront (text : TextTree) (asked : Option (List ℕ)) (design
 abbrev pub text_form : TextTree → (asked : Option (List ℕ)) → StimForm
 text_form text asked = form_in dotted (text_system text asked)
 
--- what was accepted is the lines of all cycles that these first bytes of a stimulus let read
+-- These first bytes of a stimulus show no ending yet: no line of them is wrong, and they are within
+-- the limit. What was accepted is the lines of all cycles that they let read.
 pub record WritesTextCycles (text : TextTree) (asked level : Option (List ℕ))
     (bytes old new : List ℕ) : Type 0 where
   pub shown : Option (List ℕ)
@@ -65,6 +67,8 @@ pub record WritesTextCycles (text : TextTree) (asked level : Option (List ℕ))
   pub read : LinesRead
   pub is_read : read ≡ read_front (text_form text asked) bytes
   pub trace : List (Environment Path)
+  pub right : read.wrong ≡ None
+  pub few : length bytes ≤ largest_stimulus
   pub traces : IsTraceFrom (text_system text asked) (start_of (text_form text asked) read.right)
       (cycles_of read.right) trace
   pub accepted : new ≡ old ++ lines_from dotted (text_system text asked) shown 0 trace

@@ -6,8 +6,8 @@
 //!
 //! Promises that what is written is the trace of the stimulus, and then why it ends: by
 //! `specs/Simulated.antt` over a flat design, whose traces and lines stand in `Traces.antt` for
-//! every kind of signal name. `Runs.antt` is
-//! private: it has the words for how far a simulation has come.
+//! every kind of signal name. The other definitions are words for the code: `Runs.antt`,
+//! `Progress.antt`, `Fronts.antt` and `Runners.antt`.
 #![tactic(auto)]
 
 mod endings;

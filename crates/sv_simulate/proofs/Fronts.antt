@@ -21,7 +21,7 @@ use Rattle.sv_simulate.specs.Fronts.{WritesFrontAt}
 use Rattle.sv_simulate.specs.Runs.{lines_of}
 use Rattle.sv_simulate.specs.Simulated.{is_within, read_of, ending_of, last_line}
 use Rattle.sv_simulate.specs.Traces.{lines_from}
-use Rattle.sv_simulate.proofs.OneText.{one, lines_same, fits_read, traced, simulation, has_rounds}
+use Rattle.sv_simulate.proofs.OneText.{one, lines_same, fits_read, traced, simulated, has_rounds}
 use Rattle.sv_simulate.proofs.ReadFronts.{Grows, cycles_grow, start_stays}
 use Rattle.sv_simulate.proofs.SameTraces.{one_trace, trace_front, lines_append}
 
@@ -98,11 +98,8 @@ module _ (design : FlatDesign) (is_sound : IsTrue (sound design))
       record {
         ends = ends;
         printed = lines_of design level full.trace ++ last_line ends rounds.0;
-        is = (
-          rounds.0,
-          rounds.1,
-          simulation design is_sound admitted level rounds.0 bytes full.trace full.is,
-        );
+        is = simulated design is_sound admitted level order rounds.0 bytes full.trace full.is
+            rounds.1;
         front = subst (λ t. WritesFront before t accepted) text
             (writes_front_more before (lines_of design level trace)
             (later ++ last_line ends rounds.0) accepted front);

@@ -108,7 +108,7 @@ module _ (design : FlatDesign) (is_sound : IsTrue (sound design))
 
   -- ---- texts
 
-  pub simulation : (level : Option Point) (rounds : Option ℕ) (bytes : List ℕ)
+  simulation : (level : Option Point) (rounds : Option ℕ) (bytes : List ℕ)
       (trace : List (Environment ℕ))
       → IsTrace system (starts_at (read_of form bytes).right)
       (takes (cycles_of (read_of form bytes).right)) trace
@@ -157,7 +157,7 @@ module _ (design : FlatDesign) (is_sound : IsTrue (sound design))
       )
 
   pub has_rounds : (order : Option ℕ) (bytes : List ℕ)
-      → (rounds : Option ℕ) × AreRounds design order bytes rounds
+      → (rounds : Option ℕ) × AreRounds design order (read_of form bytes) rounds
   has_rounds None bytes = (None, refl)
   has_rounds (Some number) bytes =
       let right : List (List ℕ) = (read_of form bytes).right in
@@ -167,16 +167,34 @@ module _ (design : FlatDesign) (is_sound : IsTrue (sound design))
       (cycles_fit design is_sound admitted right fit) in
       (Some run.0, (run.0, refl, run.1))
 
-  one_rounds : (order : Option ℕ) (bytes : List ℕ) (rounds others : Option ℕ)
-      → AreRounds design order bytes rounds → AreRounds design order bytes others
+  one_rounds : (order : Option ℕ) (read : LinesRead) (rounds others : Option ℕ)
+      → AreRounds design order read rounds → AreRounds design order read others
       → others ≡ rounds
-  one_rounds None bytes rounds others a b = b ∙ sym a
-  one_rounds (Some number) bytes rounds others a b =
-      let right : List (List ℕ) = (read_of form bytes).right in
+  one_rounds None read rounds others a b = b ∙ sym a
+  one_rounds (Some number) read rounds others a b =
       b.1
-      ∙ ap Some (one_ordered_run design number (start_of form right) (cycles_of right) b.0 a.0 b.2
-      a.2)
+      ∙ ap Some (one_ordered_run design number (start_of form read.right) (cycles_of read.right)
+      b.0 a.0 b.2 a.2)
       ∙ sym a.1
+
+  -- a simulation with the rounds of its order
+  pub simulated : (level : Option Point) (order rounds : Option ℕ) (bytes : List ℕ)
+      (trace : List (Environment ℕ))
+      → IsTrace system (starts_at (read_of form bytes).right)
+      (takes (cycles_of (read_of form bytes).right)) trace
+      → AreRounds design order (read_of form bytes) rounds
+      → IsSimulatedAt design (Some level) order bytes
+      (ending_of (is_within bytes) (read_of form bytes))
+      (lines_of design level trace
+      ++ last_line (ending_of (is_within bytes) (read_of form bytes)) rounds)
+  simulated level order rounds bytes trace is counted =
+      let whole = simulation level rounds bytes trace is in
+      let same = form_is design is_sound admitted in (
+        rounds,
+        whole,
+        subst (λ (read : LinesRead). AreRounds design order read rounds)
+            (sym (whole.is_read ∙ ap (λ f. read_of f bytes) same)) counted,
+      )
 
   -- two texts for one stimulus
   pub one_at : (asked : Option (Option Point)) (order : Option ℕ) (bytes : List ℕ)
@@ -186,9 +204,11 @@ module _ (design : FlatDesign) (is_sound : IsTrue (sound design))
       → (other ≡ ends) × (others ≡ printed)
   one_at None order bytes ends other printed others a b = (b.0 ∙ sym a.0, b.1 ∙ sym a.1)
   one_at (Some level) order bytes ends other printed others a b =
-      one_simulation level a.0 bytes ends other printed others a.2
+      let reads : b.1.read ≡ a.1.read = b.1.is_read ∙ sym a.1.is_read in
+      let counted = subst (λ (read : LinesRead). AreRounds design order read b.0) reads b.2 in
+      one_simulation level a.0 bytes ends other printed others a.1
       (subst (λ rounds. IsSimulation name system level rounds bytes other others)
-      (one_rounds order bytes a.0 b.0 a.1 b.1) b.2)
+      (one_rounds order a.1.read a.0 b.0 a.2 counted) b.1)
 
   -- a stimulus has a text
   pub has_text : (asked : Option (Option Point)) (order : Option ℕ) (bytes : List ℕ)
@@ -200,7 +220,7 @@ module _ (design : FlatDesign) (is_sound : IsTrue (sound design))
       let ends : Ending = ending_of (is_within bytes) (read_of form bytes) in (
         ends,
         lines_of design level run.trace ++ last_line ends rounds.0,
-        (rounds.0, rounds.1, simulation level rounds.0 bytes run.trace run.is),
+        simulated level order rounds.0 bytes run.trace run.is rounds.1,
       )
 
 pub has_one_text : (design : FlatDesign) → IsDesign design → HasOneText design

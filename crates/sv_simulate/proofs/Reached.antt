@@ -27,7 +27,7 @@ use Rattle.sv_simulate.specs.Simulated.{largest_stimulus, is_within, read_of, en
 use Rattle.sv_simulate.specs.Simulated.{RunsInOrder, AreRounds, IsSimulatedAt}
 use Rattle.sv_simulate.proofs.DesignForms.{form_is_plain, from_given, start_fit, cycles_fit}
 use Rattle.sv_simulate.proofs.Fronts.{begins_text_of}
-use Rattle.sv_simulate.proofs.OneText.{simulation}
+use Rattle.sv_simulate.proofs.OneText.{simulated}
 use Rattle.sv_simulate.proofs.ReadFits.{front_fits}
 use Rattle.sv_simulate.proofs.ReadFronts.{Grows}
 
@@ -157,12 +157,11 @@ ran right taken before accepted s read all run put =
 
 -- ---- the whole text
 
-counted_of : (design : FlatDesign) (order : Option ℕ) (bytes : List ℕ) (rounds : Option ℕ)
-    → CountRounds design order (start_of (form_of design) (read_of (form_of design) bytes).right)
-    (cycles_of (read_of (form_of design) bytes).right) rounds
-    → AreRounds design order bytes rounds
-counted_of design None bytes rounds count = count
-counted_of design (Some number) bytes rounds count = count
+counted_of : (design : FlatDesign) (order : Option ℕ) (read : LinesRead) (rounds : Option ℕ)
+    → CountRounds design order (start_of (form_of design) read.right) (cycles_of read.right) rounds
+    → AreRounds design order read rounds
+counted_of design None read rounds count = count
+counted_of design (Some number) read rounds count = count
 
 pub record Wrote (bytes : List ℕ) (ends : Ending) (before accepted : List ℕ) (s : Simulation) :
     Type 0 where
@@ -194,12 +193,11 @@ reached_wrote bytes ends before accepted s reached =
       text = text;
       wrote = run.wrote;
       is = subst (λ (e : Ending). IsSimulatedAt flat (Some s.level) (order_in s.runner) bytes e
-          (text ++ last_line e (rounds_in s.runner))) end (
-            rounds_in s.runner,
-            counted_of flat (order_in s.runner) bytes (rounds_in s.runner) count,
-            simulation flat admitted.is_sound admitted.is_admitted s.level (rounds_in s.runner)
-                bytes run.trace is,
-          );
+          (text ++ last_line e (rounds_in s.runner))) end
+          (simulated flat admitted.is_sound admitted.is_admitted s.level (order_in s.runner)
+          (rounds_in s.runner) bytes run.trace is
+          (counted_of flat (order_in s.runner) (read_of (form_of flat) bytes) (rounds_in s.runner)
+          count));
     }
 
 -- ---- fronts
@@ -229,9 +227,9 @@ come_failed bytes before accepted s come =
       run = run.is;
       front = writes_front_whole before (lines_of (flat_of s) s.level run.trace) accepted run.wrote;
     }
-    → (read_front s.reader.form bytes).wrong ≡ None → length bytes ≤ largest_stimulus
 
 pub come_all : (bytes before accepted : List ℕ) (s : Simulation) → IsSimulating s
+    → (read_front s.reader.form bytes).wrong ≡ None → length bytes ≤ largest_stimulus
     → HasCome bytes before accepted s → WritesAllAt (flat_of s) s.level bytes before accepted
 come_all bytes before accepted s made none few come =
     let flat : FlatDesign = flat_of s in
@@ -245,10 +243,10 @@ come_all bytes before accepted s made none few come =
     let right : List (List ℕ) = (read_front (form_of flat) bytes).right in
     let fit = front_fits (form_of flat) (form_is_plain flat) bytes in
     let sound = made.admitted.is_sound in
-      right = subst (λ (f : StimForm). (read_front f bytes).wrong ≡ None) made.form none;
-      few = few;
     let admitted = made.admitted.is_admitted in
     record {
+      right = subst (λ (f : StimForm). (read_front f bytes).wrong ≡ None) made.form none;
+      few = few;
       trace = run.trace;
       traces = from_given flat sound admitted (start_of (form_of flat) right) (cycles_of right)
           run.trace (start_fit flat sound admitted right fit)

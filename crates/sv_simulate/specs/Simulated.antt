@@ -83,15 +83,12 @@ pub record RunsInOrder (design : FlatDesign) (number : ℕ) (start : List ℕ)
   pub runs : OrderedRun design number (given (registers design) start)
       (map (given (inputs design)) cycles) environments rounds
 
--- how many rounds the order asked for takes, over the cycles that are read of these bytes
-abbrev pub AreRounds : FlatDesign → (order : Option ℕ) → (bytes : List ℕ) →
-    (rounds : Option ℕ) → Type 0
-AreRounds design None bytes rounds = rounds ≡ None
-AreRounds design (Some number) bytes rounds =
-    let form = form_of design in
-    let right = (read_of form bytes).right in
+-- how many rounds the order asked for takes, over the cycles that were read
+abbrev pub AreRounds : FlatDesign → (order : Option ℕ) → LinesRead → (rounds : Option ℕ) → Type 0
+AreRounds design None read rounds = rounds ≡ None
+AreRounds design (Some number) read rounds =
     (count : ℕ) × (rounds ≡ Some count)
-    × RunsInOrder design number (start_of form right) (cycles_of right) count
+    × RunsInOrder design number (start_of (form_of design) read.right) (cycles_of read.right) count
 
 -- ---- what is asked for
 
@@ -113,8 +110,10 @@ abbrev pub IsSimulatedAt : FlatDesign → Option (Option Point) → (order : Opt
     (bytes : List ℕ) → Ending → (printed : List ℕ) → Type 0
 IsSimulatedAt design None order bytes ends printed = IsLevelRefused ends printed
 IsSimulatedAt design (Some level) order bytes ends printed =
-    (rounds : Option ℕ) × AreRounds design order bytes rounds
-    × IsSimulation (name_in design.signals) (flat_system design) level rounds bytes ends printed
+    (rounds : Option ℕ)
+    × (is : IsSimulation (name_in design.signals) (flat_system design) level rounds bytes ends
+    printed)
+    × AreRounds design order is.read rounds
 
 abbrev pub IsSimulated : FlatDesign → (level : Option (List ℕ)) → (order : Option ℕ) →
     (bytes : List ℕ) → Ending → (printed : List ℕ) → Type 0
@@ -138,9 +137,9 @@ pub record WritesAllCycles (design : FlatDesign) (level : Option (List ℕ))
   pub shown : Option Point
   pub asked : level_asked design level ≡ Some shown
   pub read : LinesRead
+  pub is_read : read ≡ read_front (form_of design) bytes
   pub right : read.wrong ≡ None
   pub few : length bytes ≤ largest_stimulus
-  pub is_read : read ≡ read_front (form_of design) bytes
   pub trace : List (Environment ℕ)
   pub traces : IsTraceFrom (flat_system design) (start_of (form_of design) read.right)
       (cycles_of read.right) trace

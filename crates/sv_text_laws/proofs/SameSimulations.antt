@@ -285,6 +285,11 @@ module _ {Signal Point Other OtherPoint : Type 0} (first : System Signal Point)
                 (sym (lines_over traces.inputs is.trace traces.state traces.follows 0));
           }
 
+      pub reads_over : (is : IsSimulation name first level rounds bytes ends printed)
+          → (simulation_over is).read ≡ is.read
+      unfolding simulation_over
+      reads_over is = refl
+
       pub simulation_back : IsSimulation other_name second other rounds bytes ends printed
           → IsSimulation name first level rounds bytes ends printed
       simulation_back is =
@@ -305,3 +310,8 @@ module _ {Signal Point Other OtherPoint : Type 0} (first : System Signal Point)
                 ∙ ap (λ t. t ++ last_line ends rounds)
                 (sym (lines_back traces.inputs is.trace traces.state traces.follows 0));
           }
+
+      pub reads_back : (is : IsSimulation other_name second other rounds bytes ends printed)
+          → (simulation_back is).read ≡ is.read
+      unfolding simulation_back
+      reads_back is = refl

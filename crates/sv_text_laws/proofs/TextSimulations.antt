@@ -14,10 +14,10 @@ use Rattle.sv_walk.specs.Texts.{flat_of}
 use Rattle.sv_design.specs.Designs.{IsDesign}
 use Rattle.sv_flatten.specs.FlattenedTexts.{CanBeFlattened}
 use Rattle.sv_trace.specs.Forms.{form_of, name_in}
-use Rattle.sv_trace.specs.Stimulus.{read_front, start_of, cycles_of}
+use Rattle.sv_trace.specs.Stimulus.{LinesRead, read_front, start_of, cycles_of}
 use Rattle.sv_simulate.specs.declared.endings.Ending.{Ending}
 use Rattle.sv_simulate.specs.Simulated.{level_asked, IsSimulatedAt, IsSimulated, WritesFrontFor}
-use Rattle.sv_simulate.specs.Simulated.{WritesAllCycles, HasOneText}
+use Rattle.sv_simulate.specs.Simulated.{WritesAllCycles, HasOneText, AreRounds}
 use Rattle.sv_simulate.specs.Traces.{IsTraceFrom}
 use Rattle.sv_simulate.proofs.DesignForms.{form_is}
 use Rattle.sv_text_laws.specs.Signals.{dotted}
@@ -28,6 +28,7 @@ use Rattle.sv_text_laws.proofs.CheckedDesigns.{admitted_checked}
 use Rattle.sv_text_laws.proofs.SameSimulations.{forms_same, trace_from_over, trace_from_back}
 use Rattle.sv_text_laws.proofs.SameSimulations.{lines_over, lines_back}
 use Rattle.sv_text_laws.proofs.SameSimulations.{simulation_over, simulation_back}
+use Rattle.sv_text_laws.proofs.SameSimulations.{reads_over, reads_back}
 use Rattle.sv_text_laws.proofs.TextNames as names
 
 module _ (text : TextTree) (asked : Option (List ℕ)) (design : FlatDesign)
@@ -57,9 +58,12 @@ module _ (text : TextTree) (asked : Option (List ℕ)) (design : FlatDesign)
     at_over None None alike is = is
     at_over (Some level) (Some other) alike is = (
       is.0,
-      is.1,
       simulation_over (flat_system design) (text_system text asked) joined
-          (name_in design.signals) dotted same_names level other alike is.0 bytes ends printed is.2,
+          (name_in design.signals) dotted same_names level other alike is.0 bytes ends printed is.1,
+      subst (λ (read : LinesRead). AreRounds design order read is.0)
+          (sym (reads_over (flat_system design) (text_system text asked) joined
+          (name_in design.signals) dotted same_names level other alike is.0 bytes ends printed is.1))
+          is.2,
     )
     at_over None (Some other) alike is = absurd alike
     at_over (Some level) None alike is = absurd alike
@@ -71,9 +75,12 @@ module _ (text : TextTree) (asked : Option (List ℕ)) (design : FlatDesign)
     at_back None None alike is = is
     at_back (Some level) (Some other) alike is = (
       is.0,
-      is.1,
       simulation_back (flat_system design) (text_system text asked) joined
-          (name_in design.signals) dotted same_names level other alike is.0 bytes ends printed is.2,
+          (name_in design.signals) dotted same_names level other alike is.0 bytes ends printed is.1,
+      subst (λ (read : LinesRead). AreRounds design order read is.0)
+          (sym (reads_back (flat_system design) (text_system text asked) joined
+          (name_in design.signals) dotted same_names level other alike is.0 bytes ends printed is.1))
+          is.2,
     )
     at_back None (Some other) alike is = absurd alike
     at_back (Some level) None alike is = absurd alike
@@ -137,6 +144,8 @@ module _ (text : TextTree) (asked : Option (List ℕ)) (design : FlatDesign)
               is_shown = e;
               read = is.read;
               is_read = is.is_read ∙ ap (λ form. read_front form bytes) same_form;
+              right = is.right;
+              few = is.few;
               trace = map (renamed joined.from) is.trace;
               traces =
                   subst (λ form. IsTraceFrom (text_system text asked) (start_of form right)
@@ -144,8 +153,6 @@ module _ (text : TextTree) (asked : Option (List ℕ)) (design : FlatDesign)
                   (trace_from_over (flat_system design) (text_system text asked) joined
                   (name_in design.signals) dotted same_names (start_of (form_of design) right)
                   (cycles_of right) is.trace traces);
-              right = is.right;
-              few = is.few;
               accepted =
                   is.accepted
                   ∙ ap (λ t. old ++ t)
@@ -171,6 +178,8 @@ module _ (text : TextTree) (asked : Option (List ℕ)) (design : FlatDesign)
               asked = e;
               read = is.read;
               is_read = is.is_read ∙ ap (λ form. read_front form bytes) (sym same_form);
+              right = is.right;
+              few = is.few;
               trace = map (renamed joined.to) is.trace;
               traces =
                   subst (λ form. IsTraceFrom (flat_system design) (start_of form right)
@@ -178,8 +187,6 @@ module _ (text : TextTree) (asked : Option (List ℕ)) (design : FlatDesign)
                   (trace_from_back (flat_system design) (text_system text asked) joined
                   (name_in design.signals) dotted same_names (start_of (text_form text asked) right)
                   (cycles_of right) is.trace traces);
-              right = is.right;
-              few = is.few;
               accepted =
                   is.accepted
                   ∙ ap (λ t. old ++ t)

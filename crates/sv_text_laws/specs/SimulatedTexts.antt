@@ -34,8 +34,9 @@ abbrev pub IsTextSimulatedAt : TextTree → (asked : Option (List ℕ)) → Flat
     (printed : List ℕ) → Type 0
 IsTextSimulatedAt text asked design None order bytes ends printed = IsLevelRefused ends printed
 IsTextSimulatedAt text asked design (Some level) order bytes ends printed =
-    (rounds : Option ℕ) × AreRounds design order bytes rounds
-    × IsSimulation dotted (text_system text asked) level rounds bytes ends printed
+    (rounds : Option ℕ)
+    × (is : IsSimulation dotted (text_system text asked) level rounds bytes ends printed)
+    × AreRounds design order is.read rounds
 
 -- What is written of a text for these bytes, with this level and order, and how that ends.
 abbrev pub IsTextSimulated : TextTree → (asked : Option (List ℕ)) → FlatDesign →
@@ -66,9 +67,9 @@ pub record WritesTextCycles (text : TextTree) (asked level : Option (List ℕ))
   pub is_shown : level_asked_of text level ≡ Some shown
   pub read : LinesRead
   pub is_read : read ≡ read_front (text_form text asked) bytes
-  pub trace : List (Environment Path)
   pub right : read.wrong ≡ None
   pub few : length bytes ≤ largest_stimulus
+  pub trace : List (Environment Path)
   pub traces : IsTraceFrom (text_system text asked) (start_of (text_form text asked) read.right)
       (cycles_of read.right) trace
   pub accepted : new ≡ old ++ lines_from dotted (text_system text asked) shown 0 trace

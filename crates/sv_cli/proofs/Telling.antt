@@ -1,7 +1,8 @@
 -- From what is prepared and done to what is answered to the words.
 use Rattle.std.proofs.Common.{◌≡◌, ℕ, List, [], ◌∷◌, ◌++◌, Option, Some, None, sym, ◌∙◌, ap}
 use Rattle.std.proofs.Common.{refl, subst, inl, inr, ◌⊎◌}
-use Rattle.std.specs.Prelude.{IfSome, IfNone, IfOk, Result, Ok, Err, MatchOption, option_map, ⊤}
+use Rattle.std.specs.Prelude.{IfSome, IfNone, IsSome, IfOk, Result, Ok, Err, MatchOption}
+use Rattle.std.specs.Prelude.{option_map, ⊤}
 use Rattle.std.proofs.lemmas.List.{append-nil, append_cancel_left}
 use Rattle.std.specs.Option.{option_map_or}
 use Rattle.sv_flat.specs.Design.{FlatDesign}
@@ -18,9 +19,10 @@ use Rattle.sv_cli.specs.Text.{usage_text}
 use Rattle.sv_cli.specs.Answer.{Answer, answer_of, done, misused, ReadsFile, Reads}
 use Rattle.sv_cli.specs.Answer.{IsVerdict, IsAnswerBy, IsAnswer}
 use Rattle.sv_cli.specs.Answer.{IsAccepted, AreCircles, KeepsSecrets, Simulates, WritesCycles}
+use Rattle.sv_cli.specs.Answer.{MayTake}
 use Rattle.sv_cli.specs.Prepared.{IsPerformed, IsSimulationWith, IsOtherOrWith, PreparesFor}
 use Rattle.sv_cli.specs.Prepared.{PreparesWords}
-use Rattle.sv_simulate.specs.Simulated.{WritesAllCycles}
+use Rattle.sv_simulate.specs.Simulated.{level_asked, WritesAllCycles}
 use Rattle.sv_cli.proofs.Deciding.{keeps_secrets}
 use Rattle.sv_cli.proofs.Preparing.{words_prepared}
 use Rattle.sv_cli.proofs.Simulating.{cycles_told}
@@ -194,22 +196,21 @@ module _ (words : List (List ℕ)) (before after : List Exchange) where
       (found : (text : List ℕ) × Reads words text before after
       × PreparesWords words text prepared) (Same : Type 0) where
     -- the input is as it was, or something is simulated
-    pub left_told : Same ⊎ IsSimulationWith (λ level design. ⊤) prepared
-        → Same ⊎ ((t : List ℕ) × (level : Option (List ℕ)) × (design : FlatDesign) × IsRead t
-        × Simulates words t level design)
-    left_told (inl same) = inl same
-    left_told (inr is) =
-        let s = simulation_of found.0 prepared (λ level design. ⊤) found.2.simulates is in
-        inr (found.0, s.0, s.1, found.1, s.2)
-
-    pub untouched_told : (Holds : Option (List ℕ) → FlatDesign → Type 0)
-        → Same ⊎ IsSimulationWith Holds prepared
-        → Same ⊎ ((t : List ℕ) × (level : Option (List ℕ)) × (design : FlatDesign) × IsRead t
-        × Simulates words t level design × Holds level design)
-    untouched_told Holds (inl same) = inl same
-    untouched_told Holds (inr is) =
-        let s = simulation_of found.0 prepared Holds found.2.simulates is in
-        inr (found.0, s.0, s.1, found.1, s.2, s.3)
+    pub unchanged_told : Same
+        ⊎ IsSimulationWith (λ level design. IsSome (level_asked design level)) prepared
+        → Same ⊎ MayTake words before after
+    unchanged_told (inl same) = inl same
+    unchanged_told (inr is) =
+        let s = simulation_of found.0 prepared
+        (λ level design. IsSome (level_asked design level)) found.2.simulates is in
+        inr (record {
+          text = found.0;
+          level = s.0;
+          design = s.1;
+          reads = found.1;
+          simulates = s.2;
+          shown = s.3;
+        })
 
   -- ---- what an answer to the words says
 

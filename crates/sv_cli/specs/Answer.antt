@@ -1,7 +1,7 @@
 -- What the program answers, and when.
 use Rattle.std.specs.Prelude.{◌≡◌, ℕ, ◌+◌, ◌<◌, ◌≤◌, ◌⊎◌, ◌++◌, ◌∷◌, Bool, true, false, not, IsTrue}
 use Rattle.std.specs.Prelude.{IsFalse, List, [], length, take, slice_get, Option, Some, None}
-use Rattle.std.specs.Prelude.{MatchOption}
+use Rattle.std.specs.Prelude.{IsSome, MatchOption}
 use Rattle.std.specs.List.{list_all, list_any, find}
 use Rattle.sv_num.specs.declared.faults.Place.{Place}
 use Rattle.sv_system.specs.System.{Noninterferent, HasOneTrace}
@@ -25,6 +25,7 @@ use Rattle.sv_words.specs.Words.{Request, check, list, sim, request_of, usage_of
 use Rattle.sv_words.specs.declared.command.UsageKind.{UsageKind}
 use Rattle.sv_simulate.specs.declared.endings.Ending.{Ending}
 use Rattle.sv_simulate.specs.declared.endings.Ending.TheVariants as endings
+use Rattle.sv_simulate.specs.Simulated.{level_asked}
 use Rattle.sv_text_laws.specs.SimulatedTexts.{IsTextSimulated, WritesTextCycles}
 use Rattle.sv_cli.specs.declared.outcome.Valuation.{Valuation}
 use Rattle.sv_cli.specs.declared.outcome.StimSource.{StimSource}
@@ -333,6 +334,15 @@ ReadsFile file text old new =
 abbrev pub Reads : List (List ℕ) → List ℕ → List Exchange → List Exchange → Type 0
 Reads words text old new =
     MatchOption (usage_of words) (ReadsFile (file_of words) text old new) (λ kind. new ≡ old)
+
+-- A text was read that `sim` may simulate for these words; the level is a point if one is named.
+pub record MayTake (words : List (List ℕ)) (old new : List Exchange) : Type 0 where
+  pub text : List ℕ
+  pub level : Option (List ℕ)
+  pub design : FlatDesign
+  pub reads : Reads words text old new
+  pub simulates : Simulates words text level design
+  pub shown : IsSome (level_asked design level)
 
 -- What the program answers to these words, the text that it reads and the stimulus that it takes,
 -- and what it prints.

@@ -32,7 +32,7 @@ pub fn simulation<S: Source, K: Sink>(
         × WritesAllCycles (design_of design.now) (option_copied level.entry) stimulus
         (K.accepted out.old) (K.accepted out.new) }
     ensures write_fault { result ≡ Outcome.WriteFault → Rose (K.faults out.old) (K.faults out.new) }
-    ensures untouched { (S.given input.new ≡ S.given input.old)
+    ensures untouched { (input.new ≡ input.old)
         ⊎ IsSome (level_asked (design_of design.now) (option_copied level.entry)) }
     ensures most { (stimulus : List ℕ) → S.given input.new ≡ S.given input.old ++ stimulus →
         length stimulus ≤ largest_stimulus + 1 }

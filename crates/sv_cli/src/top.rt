@@ -1,8 +1,7 @@
 // The top call.
 ghost use Rattle.std.specs.Prelude.{◌≡◌, ◌∷◌, ◌++◌, ◌+◌, ◌≤◌, ◌⊎◌, ℕ, List, [], IsTrue, None, Some};
 ghost use Rattle.std.specs.Prelude.{Err, IfOk, IfErr, IfSome, IfNone, IsSome, IsErrOf, MatchOption};
-ghost use Rattle.std.specs.Prelude.{Option, length, map, take, vec_len, ⊤};
-ghost use Rattle.sv_flat.specs.Design.{FlatDesign};
+ghost use Rattle.std.specs.Prelude.{length, map, take, vec_len, ⊤};
 ghost use Rattle.sv_flat.specs.Views.{design_of};
 ghost use Rattle.sv_io.specs.Cabinet.{bytes_under, IfLong};
 ghost use Rattle.sv_io.specs.Count.{Rose};
@@ -16,7 +15,7 @@ ghost use Rattle.sv_words.specs.declared.command.CommandName.{CommandName};
 ghost use Rattle.sv_cli.specs.Command.{command_of, file_of, file_in};
 ghost use Rattle.sv_cli.specs.Answer.{Answer, answer_of, done, misused, largest_file};
 ghost use Rattle.sv_cli.specs.Answer.{ReadsFile, Reads};
-ghost use Rattle.sv_cli.specs.Answer.{IsAnswer, AreCircles, KeepsSecrets, Simulates, WritesCycles};
+ghost use Rattle.sv_cli.specs.Answer.{IsAnswer, AreCircles, KeepsSecrets, WritesCycles, MayTake};
 ghost use Rattle.sv_cli.specs.Prepared.{HasLines, IsReady, IsPerformed, Performs, IsSimulationWith};
 ghost use Rattle.sv_cli.specs.Prepared.{PreparesFor, PreparesWords};
 
@@ -150,21 +149,10 @@ pub fn run<C: Cabinet, S: Source, K: Sink>(
 
     ensures cabinet_unchanged { (name : List ℕ) →
         C.held cabinet.new name ≡ C.held cabinet.old name }
-    // The input is left as it was, but by `sim` of a text that breaks no rule; and nothing is taken
-    // from it where the level is no point.
-    ensures input_left { (S.left input.new ≡ S.left input.old)
-        ⊎ ((text : List ℕ) × (level : Option (List ℕ)) × (design : FlatDesign)
-        × Reads (words_of words.now) text (C.exchanges cabinet.old) (C.exchanges cabinet.new)
-        × Simulates (words_of words.now) text level design) }
-    ensures input_untouched { (S.given input.new ≡ S.given input.old)
-        ⊎ ((text : List ℕ) × (level : Option (List ℕ)) × (design : FlatDesign)
-        × Reads (words_of words.now) text (C.exchanges cabinet.old) (C.exchanges cabinet.new)
-        × Simulates (words_of words.now) text level design
-        × IsSome (level_asked design level)) }
-    ensures input_faults { (S.faults input.new ≡ S.faults input.old)
-        ⊎ ((text : List ℕ) × (level : Option (List ℕ)) × (design : FlatDesign)
-        × Reads (words_of words.now) text (C.exchanges cabinet.old) (C.exchanges cabinet.new)
-        × Simulates (words_of words.now) text level design) }
+    // The input is left as it was, but by `sim` of a text that breaks no rule, at a level that is a
+    // point if one is named.
+    ensures input_unchanged { (input.new ≡ input.old)
+        ⊎ MayTake (words_of words.now) (C.exchanges cabinet.old) (C.exchanges cabinet.new) }
     ensures most { (stimulus : List ℕ) → S.given input.new ≡ S.given input.old ++ stimulus →
         length stimulus ≤ largest_stimulus + 1 }
 {
@@ -300,12 +288,8 @@ fn perform<S: Source, K: Sink>(
         × IsSimulationWith (λ level design.
         WritesAllCycles design level stimulus (K.accepted out.old) (K.accepted out.new)) prepared }
     ensures write_fault { result ≡ Outcome.WriteFault → Rose (K.faults out.old) (K.faults out.new) }
-    ensures input_left { (S.left input.new ≡ S.left input.old)
-        ⊎ IsSimulationWith (λ level design. ⊤) prepared }
-    ensures input_untouched { (S.given input.new ≡ S.given input.old)
+    ensures input_unchanged { (input.new ≡ input.old)
         ⊎ IsSimulationWith (λ level design. IsSome (level_asked design level)) prepared }
-    ensures input_faults { (S.faults input.new ≡ S.faults input.old)
-        ⊎ IsSimulationWith (λ level design. ⊤) prepared }
     ensures most { (stimulus : List ℕ) → S.given input.new ≡ S.given input.old ++ stimulus →
         length stimulus ≤ largest_stimulus + 1 }
 {

@@ -237,7 +237,7 @@ module _ (design : FlatDesign) (level : Option (List ℕ)) (shown : Option Point
       subst (λ (bytes : List ℕ). length bytes ≤ largest_stimulus + 1)
       (append_cancel_left given_old runs.taken taken (sym runs.given ∙ given)) runs.few
 
-  pub run_touched : level_asked design level ≡ None → given_new ≡ given_old
+  pub run_touched : {Untouched : Type 0} → level_asked design level ≡ None → Untouched
   run_touched none =
       let no : Some shown ≡ None = sym asked ∙ none in absurd (cc)
 

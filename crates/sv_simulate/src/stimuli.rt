@@ -81,7 +81,7 @@ pub fn simulate<S: Source, K: Sink>(
     ensures most { (taken : List ℕ) → S.given input.new ≡ S.given input.old ++ taken →
         length taken ≤ largest_stimulus + 1 }
     ensures untouched { level_asked (design_of design.now) (option_copied level.entry) ≡ None →
-        S.given input.new ≡ S.given input.old }
+        input.new ≡ input.old }
     ensures read_fault { result ≡ Err SimFault.Read →
         Rose (S.faults input.old) (S.faults input.new) }
     ensures write_fault { result ≡ Err SimFault.Write →

@@ -1,5 +1,5 @@
-use Rattle.std.proofs.Common.{◌≡◌, ℕ, List, ◌++◌, map, Some, ◌⊎◌, inl, inr, refl, sym, subst}
-use Rattle.std.specs.Prelude.{IsSome, Option, option_map, string_bytes, ⊤}
+use Rattle.std.proofs.Common.{◌≡◌, ℕ, List, ◌++◌, map, Some, ◌⊎◌, refl, sym, subst}
+use Rattle.std.specs.Prelude.{IsSome, Option, option_map, string_bytes}
 use Rattle.std.specs.Option.{option_copied}
 use Rattle.sv_flat.specs.Views.{design_of}
 use Rattle.sv_obl.specs.ListLines.{lines_from}
@@ -81,22 +81,12 @@ returns-in-Simulation-clause-read_fault g c failed =
           c.as_deref.ensures.value fault.3),
     )
 
-pub returns-in-Simulation-clause-input_left : goal.returns-in-Simulation-clause-input_left
-returns-in-Simulation-clause-input_left g c =
-    inr (subst (IsSimulationWith (λ level design. ⊤)) (sym c.in-Simulation.is) tt)
-
-pub returns-in-Simulation-clause-input_untouched :
-    goal.returns-in-Simulation-clause-input_untouched
-returns-in-Simulation-clause-input_untouched g c =
-    subst (λ (p : Prepared).
-    (g.S.Source.given c.simulation.new.input ≡ g.S.Source.given c.args.input.now)
+pub returns-in-Simulation-clause-input_unchanged :
+    goal.returns-in-Simulation-clause-input_unchanged
+returns-in-Simulation-clause-input_unchanged g c =
+    subst (λ (p : Prepared). (c.simulation.new.input ≡ c.args.input.now)
     ⊎ IsSimulationWith (λ level design. IsSome (level_asked design level)) p)
     (sym c.in-Simulation.is)
-    (subst (λ (l : Option (List ℕ)).
-    (g.S.Source.given c.simulation.new.input ≡ g.S.Source.given c.args.input.now)
+    (subst (λ (l : Option (List ℕ)). (c.simulation.new.input ≡ c.args.input.now)
     ⊎ IsSome (level_asked (design_of c.in-Simulation.design) l)) c.as_deref.ensures.value
     c.simulation.ensures.untouched)
-
-pub returns-in-Simulation-clause-input_faults : goal.returns-in-Simulation-clause-input_faults
-returns-in-Simulation-clause-input_faults g c =
-    inr (subst (IsSimulationWith (λ level design. ⊤)) (sym c.in-Simulation.is) tt)

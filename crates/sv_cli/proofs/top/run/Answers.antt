@@ -1,7 +1,6 @@
 use Rattle.std.proofs.Common.{◌≡◌, ℕ, List, ◌++◌, None, inl, inr, refl}
-use Rattle.std.specs.Prelude.{IsSome, Result, Ok, Err, ⊤}
+use Rattle.std.specs.Prelude.{Result, Ok, Err, ⊤}
 use Rattle.sv_io.specs.Sink.{WritesFront}
-use Rattle.sv_simulate.specs.Simulated.{level_asked}
 use Rattle.sv_words.specs.Words.{words_of}
 use Rattle.sv_cli.specs.declared.outcome.Outcome.{Outcome}
 use Rattle.sv_cli.specs.declared.outcome.Outcome.TheVariants.{OutOfMemory}
@@ -10,7 +9,7 @@ use Rattle.sv_cli.specs.declared.top.NoReport.{NoReport}
 use Rattle.sv_cli.specs.declared.top.NoReport.TheVariants as unprepared
 use Rattle.sv_cli.specs.Answer.{answer_of}
 use Rattle.sv_cli.proofs.Telling.{answer_told, whole_told, only_told, front_told}
-use Rattle.sv_cli.proofs.Telling.{whole_front_told, read_silent, left_told, untouched_told}
+use Rattle.sv_cli.proofs.Telling.{whole_front_told, read_silent, unchanged_told}
 use Rattle.sv_cli.proofs.Telling.{usage_told, secrets_told, fetch_told, failed_fetch}
 use Rattle.sv_cli.proofs.Telling.{nothing_read, fault_told, prompt_told}
 use Rattle.sv_cli.proofs.Sending.{few_taken}
@@ -148,29 +147,12 @@ returns-in-Ok-clause-prompt g c failed text reads =
           fault.3 text reads,
     )
 
-pub returns-in-Ok-clause-input_left : goal.returns-in-Ok-clause-input_left
-returns-in-Ok-clause-input_left g c =
-    left_told (words_of c.args.words.now) (g.C.Cabinet.exchanges c.args.cabinet.now)
+pub returns-in-Ok-clause-input_unchanged : goal.returns-in-Ok-clause-input_unchanged
+returns-in-Ok-clause-input_unchanged g c =
+    unchanged_told (words_of c.args.words.now) (g.C.Cabinet.exchanges c.args.cabinet.now)
     (g.C.Cabinet.exchanges c.prepare.new.cabinet)
-    c.in-Ok.prepared c.in-Ok.ensures.prepared
-    (g.S.Source.left c.perform.new.input ≡ g.S.Source.left c.args.input.now)
-    c.perform.ensures.input_left
-
-pub returns-in-Ok-clause-input_untouched : goal.returns-in-Ok-clause-input_untouched
-returns-in-Ok-clause-input_untouched g c =
-    untouched_told (words_of c.args.words.now) (g.C.Cabinet.exchanges c.args.cabinet.now)
-    (g.C.Cabinet.exchanges c.prepare.new.cabinet)
-    c.in-Ok.prepared c.in-Ok.ensures.prepared
-    (g.S.Source.given c.perform.new.input ≡ g.S.Source.given c.args.input.now)
-    (λ level design. IsSome (level_asked design level)) c.perform.ensures.input_untouched
-
-pub returns-in-Ok-clause-input_faults : goal.returns-in-Ok-clause-input_faults
-returns-in-Ok-clause-input_faults g c =
-    left_told (words_of c.args.words.now) (g.C.Cabinet.exchanges c.args.cabinet.now)
-    (g.C.Cabinet.exchanges c.prepare.new.cabinet)
-    c.in-Ok.prepared c.in-Ok.ensures.prepared
-    (g.S.Source.faults c.perform.new.input ≡ g.S.Source.faults c.args.input.now)
-    c.perform.ensures.input_faults
+    c.in-Ok.prepared c.in-Ok.ensures.prepared (c.perform.new.input ≡ c.args.input.now)
+    c.perform.ensures.input_unchanged
 
 pub returns-in-Err-Unread-clause-one_fetch : goal.returns-in-Err-Unread-clause-one_fetch
 returns-in-Err-Unread-clause-one_fetch g c =

@@ -117,6 +117,8 @@ def shown_in_readme():
             compare(f"README: secv {words}", (answer.stdout, answer.returncode), (wanted.encode(), status_of(wanted.encode())))
             shown += 1
     compare("README shows commands", shown > 0, True)
+    kit = subprocess.run(["rt", "version"], stdout=subprocess.PIPE, check=False).stdout.decode().strip()
+    compare("README names the kit", f"prints `{kit}`" in text.replace("\n", " "), True)
 
 
 def words_and_faults():

@@ -24,7 +24,8 @@ returns-then-is_empty-clause-reads g c bytes before way =
     eqb-true (length c.args.piece.now) 0 (sym c.if-is_empty.ensures) in
     piece_ends bytes c.args.piece.now c.args.left before (g.K.Sink.accepted c.args.out.now)
     (g.K.Sink.accepted c.end.new.out) c.args.simulation.now c.end.new.self way
-    c.in_ok-ending.ending c.requires.some none c.in_ok-ending.ensures.made c.in_ok-ending.ensures.ended
+    c.in_ok-ending.ending c.requires.some none c.in_ok-ending.ensures.made
+    c.in_ok-ending.ensures.ended
 
 pub read-requires-clause-room : goal.read-requires-clause-room
 read-requires-clause-room g c =

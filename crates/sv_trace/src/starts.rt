@@ -19,7 +19,7 @@ pub(crate) fn start_rest(line: &[u8]) -> Option<&[u8]>
     line.strip_prefix(b"start ")
 }
 
-/// The name up to the next blank, and what follows that blank.
+// The name up to the next blank, and what follows that blank.
 fn name_and_digits(rest: &[u8]) -> (&[u8], &[u8])
     ensures name { result.0.now ≡ before_first is_blank rest.now }
     ensures digits { result.1.now ≡ after_first is_blank rest.now }

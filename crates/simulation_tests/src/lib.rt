@@ -1,5 +1,5 @@
-//! Tests of the simulators through their public calls, on designs of texts. They stand in a crate of
-//! their own, since a crate with tests is proved twice.
+//! Tests of the simulators through their public calls, on designs of texts. They stand in a crate
+//! of their own, since a crate with tests is proved twice.
 #![tactic(auto)]
 
 #[cfg(test)]

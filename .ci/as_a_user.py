@@ -132,14 +132,15 @@ def words_and_faults():
     for word in ("check", "list"):
         answer = run([word, "--help"])
         compare(f"{word} --help", (answer.stdout.count(f"Usage: secv {word} [OPTIONS] <FILE>\n".encode()), answer.stderr, answer.returncode), (1, b"", 0))
-    wrong = "`check` does not take these words; `secv check --help` shows those that it takes"
+    wrong = "`check` does not take these words; usage: secv check FILE [--top MODULE] (`secv check --help` says more)"
     for words, kind, said in [([], "no-command", "no command is given" + USAGE),
                               (["chekc", "f"], "unknown-command", "there is no command chekc; `secv --help` shows all"),
                               (["a\x1b[2Jb\n"], "unknown-command", "there is no command a\\u{1b}[2Jb\\n; `secv --help` shows all"),
                               (["--help", "more"], "unknown-command", "there is no command --help; `secv --help` shows all"),
                               (["check"], "words", wrong), (["check", "--f"], "words", wrong), (["check", "f", "g"], "words", wrong),
                               (["check", "f", "--top"], "words", wrong), (["check", "--top", "a", "f", "--top", "b"], "words", wrong),
-                              (["check", "f", "--help"], "words", wrong), (["check", "-h"], "words", wrong), (["sim", "f", "--order", "18446744073709551616"], "words", wrong.replace("check", "sim")),
+                              (["check", "f", "--help"], "words", wrong), (["check", "-h"], "words", wrong), (["sim", "f", "--order", "18446744073709551616"], "words",
+                               wrong.replace("check", "sim").replace("FILE ", "FILE [--level POINT] [--order NUMBER] ")),
                               (["list"], "words", wrong.replace("check", "list")), ([b"\xff"], "words", "an argument is not UTF-8" + USAGE)]:
         answer = run(words)
         compare(f"words {words}", (answer.stdout, answer.returncode), (f"usage {kind}\n".encode(), 2))

@@ -161,6 +161,15 @@ fn explain_rule(rt: &HostRuntime, words: &[String], refusal: &Refusal) {
     let _ = eprintln!(rt; "secv: {name}:{line}:{column}: {fault}; docs/language.md says more");
 }
 
+// The words that a command takes behind its name.
+fn usage_of(command: &str) -> &'static str {
+    if command == "sim" {
+        "FILE [--level POINT] [--order NUMBER] [--top MODULE]"
+    } else {
+        "FILE [--top MODULE]"
+    }
+}
+
 fn explain_usage(rt: &HostRuntime, words: &[String], kind: UsageKind) {
     match (kind, words) {
         (UsageKind::UnknownCommand, [word, ..]) => {
@@ -172,10 +181,11 @@ fn explain_usage(rt: &HostRuntime, words: &[String], kind: UsageKind) {
         }
         (UsageKind::Words, [word, ..]) => {
             let command = word.as_str().escape_debug();
+            let usage = usage_of(word.as_str());
             // not used: where this cannot be written, the status tells of it
             let _ = eprintln!(rt;
-                "secv: `{command}` does not take these words; `secv {command} --help` shows those \
-                 that it takes"
+                "secv: `{command}` does not take these words; usage: secv {command} {usage} \
+                 (`secv {command} --help` says more)"
             );
         }
         _ => explain_words(rt, "no command is given"),

@@ -10,14 +10,15 @@ use Rattle.sv_trace.specs.declared.faults.StimKind.TheVariants.{TooLong, Header}
 use Rattle.sv_trace.specs.declared.faults.StimFault.{StimFault}
 use Rattle.sv_trace.specs.declared.faults.StimFault.TheVariants.{Line, OutOfMemory}
 use Rattle.sv_trace.specs.Forms.{StimForm}
-use Rattle.sv_trace.specs.Reading.{Said, HaveRead, Lacks, IsCut, text_of}
-use Rattle.sv_trace.specs.Steps.{LineRead, Stands, Stops, StopsUnlessFull, IsTooLong, EndsWell}
+use Rattle.sv_trace.specs.Reading.{Said, HaveRead, HaveReadFront, Lacks, IsCut, text_of}
+use Rattle.sv_trace.specs.Steps.{LineRead, Stands, Stops, StopsWith, IsTooLong, EndsWell}
 use Rattle.sv_trace.specs.Steps.{PieceRead}
 use Rattle.sv_trace.specs.Steps.{EndRead}
 use Rattle.sv_trace.specs.Stimulus.{LinesRead, read_front, read_whole, ended, fault_of}
 use Rattle.sv_trace.proofs.Texts.{read_more, one_right, cut_line, cut_rest, cut_then, kept_lacks}
 use Rattle.sv_trace.proofs.Texts.{front_stops, front_overflows, long_is_wrong, whole_empty}
 use Rattle.sv_trace.proofs.Texts.{whole_more, whole_stops, ended_with, ended_without}
+use Rattle.sv_trace.proofs.Texts.{front_begins, whole_begins}
 
 -- a right line was read
 pub stands_on : (form : StimForm) (bytes : List ℕ) (taken : List (List ℕ)) (old new : Said)
@@ -49,26 +50,41 @@ from_kept bytes whole right kept line after cut w =
     w ∙ cut_then bytes right kept (line ++ 10 ∷ after) cut
     ∙ ap (λ b. text_of right ++ b) (sym (append_assoc kept line (10 ∷ after)))
 
+-- memory ran out in the line behind what stands
+runs_out : (form : StimForm) (bytes more whole : List ℕ) (taken : List (List ℕ)) (old new : Said)
+    (kept : List ℕ) → (s : Stands form bytes taken old kept) → whole ≡ bytes ++ more
+    → HaveRead form s.right taken new
+    → HaveReadFront form (read_front form whole).right taken new
+runs_out form bytes more whole taken old new kept s w lines =
+    let rest = front_begins form bytes more s.right kept s.cut s.good in
+    record {
+      front = s.right;
+      later = rest.0;
+      is = ap (λ b. (read_front form b).right) w ∙ rest.1;
+      lines = lines;
+    }
+
 -- a wrong line was read
 pub stops_at : (form : StimForm) (bytes whole : List ℕ) (taken : List (List ℕ)) (old new : Said)
     (kept line after : List ℕ) (fault : StimFault) → (s : Stands form bytes taken old kept)
     → Lacks 10 line → whole ≡ bytes ++ (line ++ 10 ∷ after)
     → LineRead form s.right taken (kept ++ line) (Err fault) new
-    → StopsUnlessFull (read_front form whole) form taken new fault
+    → StopsWith (read_front form whole) form taken new fault
 stops_at form bytes whole taken old new kept line after (Line number kind) s lacks w read =
     stopped (read_front form whole) form s.right taken new number kind
     (ap (read_front form) (from_kept bytes whole s.right kept line after s.cut w)
     ∙ front_stops form s.right (kept ++ line) after kind s.cut.each
     (kept_lacks bytes s.right kept line s.cut lacks) s.good read.0.1)
     read.0.0 read.1
-stops_at form bytes whole taken old new kept line after OutOfMemory s lacks w read = tt
+stops_at form bytes whole taken old new kept line after OutOfMemory s lacks w read =
+    runs_out form bytes (line ++ 10 ∷ after) whole taken old new kept s w read.1
 
 -- a line got too long
 pub stops_long : (form : StimForm) (bytes whole : List ℕ) (taken : List (List ℕ)) (said : Said)
     (kept line after : List ℕ) (fault : StimFault) → (s : Stands form bytes taken said kept)
     → Lacks 10 line → whole ≡ bytes ++ (line ++ 10 ∷ after)
     → IsTooLong said.line (length kept + length line) fault
-    → StopsUnlessFull (read_front form whole) form taken said fault
+    → StopsWith (read_front form whole) form taken said fault
 stops_long form bytes whole taken said kept line after (Line number kind) s lacks w long =
     subst (λ k. Stops (read_front form whole) form taken said (Line number k)) (sym long.1)
     (stopped (read_front form whole) form s.right taken said number TooLong
@@ -77,14 +93,15 @@ stops_long form bytes whole taken said kept line after (Line number kind) s lack
     (kept_lacks bytes s.right kept line s.cut lacks) s.good
     (long_is_wrong form s.right (kept ++ line) (omega (arith, long.2, length-append kept line))))
     (long.0 ∙ s.lines.line) s.lines)
-stops_long form bytes whole taken said kept line after OutOfMemory s lacks w long = tt
+stops_long form bytes whole taken said kept line after OutOfMemory s lacks w long =
+    runs_out form bytes (line ++ 10 ∷ after) whole taken said said kept s w s.lines
 
 -- the rest got too long
 pub stops_over : (form : StimForm) (bytes whole : List ℕ) (taken : List (List ℕ)) (said : Said)
     (kept line : List ℕ) (fault : StimFault) → (s : Stands form bytes taken said kept)
     → Lacks 10 line → whole ≡ bytes ++ line
     → IsTooLong said.line (length kept + length line) fault
-    → StopsUnlessFull (read_front form whole) form taken said fault
+    → StopsWith (read_front form whole) form taken said fault
 stops_over form bytes whole taken said kept line (Line number kind) s lacks w long =
     subst (λ k. Stops (read_front form whole) form taken said (Line number k)) (sym long.1)
     (stopped (read_front form whole) form s.right taken said number TooLong
@@ -93,7 +110,8 @@ stops_over form bytes whole taken said kept line (Line number kind) s lacks w lo
     (kept_lacks bytes s.right kept line s.cut lacks) s.good
     (omega (arith, long.2, length-append kept line)))
     (long.0 ∙ s.lines.line) s.lines)
-stops_over form bytes whole taken said kept line OutOfMemory s lacks w long = tt
+stops_over form bytes whole taken said kept line OutOfMemory s lacks w long =
+    runs_out form bytes line whole taken said said kept s w s.lines
 
 -- the rest was kept
 pub stands_still : (form : StimForm) (bytes : List ℕ) (taken : List (List ℕ)) (said : Said)
@@ -166,7 +184,9 @@ pub last_stops : (form : StimForm) (bytes : List ℕ) (taken : List (List ℕ)) 
 last_stops form bytes taken old new kept (Line number kind) s more read =
     stopped (read_whole form bytes) form s.right taken new number kind
     (whole_stops form bytes s.right kept kind s.cut more s.good read.0.1) read.0.0 read.1
-last_stops form bytes taken old new kept OutOfMemory s more read = tt
+last_stops form bytes taken old new kept OutOfMemory s more read =
+    let rest = whole_begins form bytes s.right kept s.cut s.good in
+    record { front = s.right; later = rest.0; is = rest.1; lines = read.1 }
 
 -- ---- with any answer
 

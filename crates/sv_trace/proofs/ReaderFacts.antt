@@ -18,8 +18,8 @@ use Rattle.sv_trace.specs.declared.faults.StimFault.{StimFault}
 use Rattle.sv_trace.specs.declared.faults.StimFault.TheVariants.{Line, OutOfMemory}
 use Rattle.sv_trace.specs.declared.forms.Register.{Register}
 use Rattle.sv_trace.specs.Forms.{StimForm, form_of, register_in}
-use Rattle.sv_trace.specs.Reading.{Said, Reading, HaveRead, HasRead, HasFed, IsCut, UnlessFull}
-use Rattle.sv_trace.specs.Reading.{answer_of, FitWidths, widths_of, text_of}
+use Rattle.sv_trace.specs.Reading.{Said, Reading, HaveRead, HaveReadFront, HasRead, HasFed, IsCut}
+use Rattle.sv_trace.specs.Reading.{UnlessFull, IfFull, answer_of, FitWidths, widths_of, text_of}
 use Rattle.sv_trace.specs.Steps.{Stands, Stops, PieceRead, EndRead}
 use Rattle.sv_trace.specs.Stimulus.{LinesRead, read_front, read_whole, fault_of}
 use Rattle.sv_trace.proofs.Texts.{front_is, front_reads}
@@ -166,6 +166,54 @@ end_still old (Line number kind) is = λ bytes taken fed.
     (sym (whole_stays old.form bytes kind (wrong_of read number kind (sym fed.read.fault ∙ is))))
     fed.read
 end_still old OutOfMemory is = tt
+
+-- ---- where memory ran out
+
+-- what was read has a wrong line or none
+never_full : (read : LinesRead) → fault_of read ≡ Some OutOfMemory → ⊥
+never_full read e = go read.right read.wrong e
+  where
+    go : (right : List (List ℕ)) (o : Option StimKind)
+        → fault_of (record { right = right; wrong = o }) ≡ Some OutOfMemory → ⊥
+    go right None w = cc
+    go right (Some kind) w = cc
+
+-- a reader without memory has not read what was fed
+pub full_still : (old : Reading) (fault : StimFault) (P : List ℕ → List (List ℕ) → Type 0)
+    → old.fault ≡ Some fault
+    → IfFull (Err fault) ((bytes : List ℕ) (taken : List (List ℕ)) → HasFed bytes taken old
+    → P bytes taken)
+full_still old (Line number kind) P is = tt
+full_still old OutOfMemory P is = λ bytes taken fed.
+    absurd (never_full (read_front old.form bytes) (sym fed.read.fault ∙ is))
+
+module _ (form : StimForm) (old_said new_said : Said) (old_rest new_rest : List ℕ) (old : Reading)
+    (is : old ≡ record {
+      form = form;
+      said = old_said;
+      rest = old_rest;
+      fault = None;
+      finished = false;
+    }) where
+  pub piece_full : (piece : List ℕ) (r : Result (Unit {0}) StimFault)
+      → ((bytes : List ℕ) (taken : List (List ℕ)) → Stands form bytes taken old_said old_rest
+      → PieceRead form (bytes ++ piece) taken r new_said new_rest)
+      → IfFull r ((bytes : List ℕ) (taken : List (List ℕ)) → HasFed bytes taken old
+      → HaveReadFront form (read_front form (bytes ++ piece)).right taken new_said)
+  piece_full piece (Ok done) reads = tt
+  piece_full piece (Err (Line number kind)) reads = tt
+  piece_full piece (Err OutOfMemory) reads = λ bytes taken fed.
+      reads bytes taken (stands_from bytes taken _ (subst (HasFed bytes taken) is fed) refl)
+
+  pub end_full : (r : Result (Unit {0}) StimFault)
+      → ((bytes : List ℕ) (taken : List (List ℕ)) → Stands form bytes taken old_said old_rest
+      → EndRead form bytes taken r new_said)
+      → IfFull r ((bytes : List ℕ) (taken : List (List ℕ)) → HasFed bytes taken old
+      → HaveReadFront form (read_whole form bytes).right taken new_said)
+  end_full (Ok done) reads = tt
+  end_full (Err (Line number kind)) reads = tt
+  end_full (Err OutOfMemory) reads = λ bytes taken fed.
+      reads bytes taken (stands_from bytes taken _ (subst (HasFed bytes taken) is fed) refl)
 
 pub answered : (r : Result (Unit {0}) StimFault) → r ≡ answer_of (result_err r)
 answered (Ok done) = refl

@@ -2,6 +2,7 @@
 use Rattle.std.proofs.Common.{◌≡◌, ℕ, ◌+◌, ◌<◌, ◌≤◌, Bool, true, false, cond, ◌&&◌}
 use Rattle.std.proofs.Common.{◌||◌, ◌==◌, List, [], ◌∷◌, ◌++◌, length, map, take, drop, get_or, set}
 use Rattle.std.proofs.Common.{refl, sym, ap, ◌∙◌, arith, subst, Option, Some, None, append_assoc}
+use Rattle.std.proofs.Common.{append-nil}
 use Rattle.std.proofs.Common.{⊎_elim, nat_lt, replicate, get_or-set_same, get_or-set_other, ◌⊎◌}
 use Rattle.std.specs.Prelude.{All, Result, Ok, Err, OnOk, OnErr, IfErr}
 use Rattle.std.specs.List.{list_any, prefix_len, fold}
@@ -23,7 +24,7 @@ use Rattle.sv_trace.specs.declared.faults.StimKind.TheVariants.{TooLong, Header,
 use Rattle.sv_trace.specs.declared.forms.Register.{Register}
 use Rattle.sv_trace.specs.Forms.{StimForm}
 use Rattle.sv_trace.specs.declared.faults.StimFault.{StimFault}
-use Rattle.sv_trace.specs.Reading.{Said, HaveRead}
+use Rattle.sv_trace.specs.Reading.{Said, HaveRead, KeepsCycles}
 use Rattle.sv_trace.specs.Steps.{cycle_fault, early_fault, IsPut, IsFaultAt, LineRead}
 use Rattle.sv_trace.specs.Stimulus.{line_fault, has_header, is_start, starts_at, start_name}
 use Rattle.sv_trace.specs.Stimulus.{start_digits, start_fault, place_of, start_lines, started}
@@ -444,3 +445,33 @@ all_pushed f P xs ys x all one e =
     subst (All P) (sym (ap (map f) e ∙ map-append f xs (x ∷ [])))
     (All-append P (map f xs) (f x ∷ []) all
     (All-cons P (f x) [] one (λ k d h. absurd (omega arith))))
+
+-- ---- cycles that were not taken
+
+pub keeps_all : (said : Said) → KeepsCycles said said
+keeps_all said = ([], sym (append-nil said.cycles))
+
+pub keeps_more : (old mid new : Said) → KeepsCycles old mid → KeepsCycles mid new
+    → KeepsCycles old new
+keeps_more old mid new first second = (
+  first.0 ++ second.0,
+  second.1 ∙ ap (λ cycles. cycles ++ second.0) first.1
+      ∙ append_assoc old.cycles first.0 second.0,
+)
+
+pub cycle_keeps : (r : Result (Unit {0}) StimFault) (old new : Said) (values : List ℕ) (line : ℕ)
+    → OnOk r (new ≡ record old { cycles = old.cycles ++ values ∷ []; line = line })
+    → OnErr r (new ≡ old) → KeepsCycles old new
+cycle_keeps (Ok done) old new values line pushed same =
+    (values ∷ [], ap (λ (said : Said). said.cycles) pushed)
+cycle_keeps (Err fault) old new values line pushed same =
+    subst (KeepsCycles old) (sym same) (keeps_all old)
+
+pub start_keeps : (registers : List Register) (line : List ℕ) (r : Result (Unit {0}) StimFault)
+    (old new : Said) → OnOk r (IsPut registers line old new) → OnErr r (new ≡ old)
+    → KeepsCycles old new
+start_keeps registers line (Ok done) old new put same =
+    subst (λ cycles. (more : List (List ℕ)) × (cycles ≡ old.cycles ++ more))
+    (sym (ap (λ (said : Said). said.cycles) put.said)) (keeps_all old)
+start_keeps registers line (Err fault) old new put same =
+    subst (KeepsCycles old) (sym same) (keeps_all old)

@@ -2,7 +2,7 @@
 use Rattle.std.proofs.Common.{◌≡◌, ℕ, ◌+◌, ◌<◌, ◌≤◌, Bool, true, false, cond, not, ◌==◌, nat_lt}
 use Rattle.std.proofs.Common.{List, [], ◌∷◌, ◌++◌, length, refl, sym, ap, ◌∙◌, arith}
 use Rattle.std.proofs.Common.{Option, Some, None, append_assoc, append-nil}
-use Rattle.std.specs.Prelude.{All}
+use Rattle.std.specs.Prelude.{All, ◌&&◌, is_none}
 use Rattle.std.proofs.lemmas.Bool.{lt-ltb, le-ltb}
 use Rattle.std.proofs.lemmas.List.Concat.{flat_map-append}
 use Rattle.std.proofs.lemmas.List.Elements.{All-head, All-tail, All-cons, All-append}
@@ -258,3 +258,66 @@ pub kept_lacks : (bytes : List ℕ) (right : List (List ℕ)) (kept more : List 
     → IsCut bytes right kept → Lacks 10 more → Lacks 10 (kept ++ more)
 kept_lacks bytes right kept more cut lacks =
     All-append (λ b. (b == 10) ≡ false) kept more cut.last lacks
+
+-- ---- right lines come first in what is read
+
+lines_begin : (form : StimForm) (before lines : List (List ℕ))
+    → (later : List (List ℕ)) × ((read_after form before lines).right ≡ before ++ later)
+lines_begin form before [] = ([], sym (append-nil before))
+lines_begin form before (x ∷ xs) =
+    go (line_fault form before x) (lines_begin form (before ++ x ∷ []) xs)
+  where
+    go : (o : Option StimKind)
+        → (later : List (List ℕ))
+        × ((read_after form (before ++ x ∷ []) xs).right ≡ before ++ x ∷ [] ++ later)
+        → (later : List (List ℕ))
+        × ((read_next o before (read_after form (before ++ x ∷ []) xs)).right ≡ before ++ later)
+    go None rest = (x ∷ rest.0, rest.1 ∙ append_assoc before (x ∷ []) rest.0)
+    go (Some kind) rest = ([], sym (append-nil before))
+
+right_begin : (form : StimForm) (right lines : List (List ℕ))
+    → read_after form [] right ≡ record { right = right; wrong = None }
+    → (later : List (List ℕ)) × ((read_after form [] (right ++ lines)).right ≡ right ++ later)
+right_begin form right lines good =
+    let rest = lines_begin form right lines in (
+      rest.0,
+      ap (λ (r : LinesRead). r.right) (read_more form [] right lines right good) ∙ rest.1,
+    )
+
+-- bytes that hold right lines so far, and more of them
+pub front_begins : (form : StimForm) (bytes more : List ℕ) (right : List (List ℕ)) (kept : List ℕ)
+    → IsCut bytes right kept
+    → read_after form [] right ≡ record { right = right; wrong = None }
+    → (later : List (List ℕ)) × ((read_front form (bytes ++ more)).right ≡ right ++ later)
+front_begins form bytes more right kept cut good =
+    let first = first_part (λ byte. byte == 10) (kept ++ more) in
+    let lines : read_front form (bytes ++ more)
+    ≡ read_after form [] (right ++ lines_if long (first.0 ∷ first.1)) =
+    ap (λ ps. read_after form [] (lines_if long ps))
+    (ap parts (cut_then bytes right kept more cut)
+    ∙ parts_text right (kept ++ more) cut.each ∙ ap (λ ps. right ++ ps) first.2)
+    ∙ ap (read_after form []) (lines_more long right first.0 first.1) in
+    let rest = right_begin form right (lines_if long (first.0 ∷ first.1)) good in
+    (rest.0, ap (λ (r : LinesRead). r.right) lines ∙ rest.1)
+
+ended_right : (form : StimForm) (read : LinesRead) → (ended form read).right ≡ read.right
+ended_right form read = go (is_none read.wrong && not (has_header form read.right))
+  where
+    go : (lacks : Bool)
+        → (cond lacks (record { right = read.right; wrong = Some Header }) read).right ≡ read.right
+    go true = refl
+    go false = refl
+
+-- bytes that hold right lines so far, as a whole text
+pub whole_begins : (form : StimForm) (bytes : List ℕ) (right : List (List ℕ)) (kept : List ℕ)
+    → IsCut bytes right kept
+    → read_after form [] right ≡ record { right = right; wrong = None }
+    → (later : List (List ℕ)) × ((read_whole form bytes).right ≡ right ++ later)
+whole_begins form bytes right kept cut good =
+    let last = lines_if some (kept ∷ []) in
+    let rest = right_begin form right last good in (
+      rest.0,
+      ap (λ (r : LinesRead). r.right)
+          (whole_lines form bytes right kept (right ++ last) cut (lines_more some right kept []))
+          ∙ ended_right form (read_after form [] (right ++ last)) ∙ rest.1,
+    )

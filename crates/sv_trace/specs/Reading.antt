@@ -76,6 +76,18 @@ pub record HaveRead (form : StimForm) (right taken : List (List ℕ)) (said : Sa
   pub cycles : taken ++ said.cycles ≡ cycles_of right
   pub line : said.line ≡ length right + 1
 
+-- a front of these right lines was read, and these cycles were taken of it
+pub record HaveReadFront (form : StimForm) (right taken : List (List ℕ)) (said : Said) :
+    Type 0 where
+  pub front : List (List ℕ)
+  pub later : List (List ℕ)
+  pub is : right ≡ front ++ later
+  pub lines : HaveRead form front taken said
+
+-- the cycles that were not taken stay, and more may stand behind them
+abbrev pub KeepsCycles : (old new : Said) → Type 0
+KeepsCycles old new = (more : List (List ℕ)) × (new.cycles ≡ old.cycles ++ more)
+
 -- the reader has the start, the cycles and the fault of what was read
 pub record HasRead (read : LinesRead) (taken : List (List ℕ)) (reading : Reading) : Type 0 where
   pub lines : HaveRead reading.form read.right taken reading.said
@@ -112,6 +124,12 @@ abbrev pub UnlessFull : Result (Unit {0}) StimFault → Type 0 → Type 0
 UnlessFull (Ok done) P = P
 UnlessFull (Err (Line number kind)) P = P
 UnlessFull (Err OutOfMemory) P = Unit {0}
+
+-- a fact that holds where memory ran out
+abbrev pub IfFull : Result (Unit {0}) StimFault → Type 0 → Type 0
+IfFull (Ok done) P = Unit {0}
+IfFull (Err (Line number kind)) P = Unit {0}
+IfFull (Err OutOfMemory) P = P
 
 -- the start and the cycles are those of a text that is right
 pub record IsStim (form : StimForm) (read : LinesRead) (start : List ℕ) (cycles : List (List ℕ)) :

@@ -11,7 +11,7 @@ use Rattle.sv_trace.specs.declared.faults.StimFault.{StimFault}
 use Rattle.sv_trace.specs.declared.faults.StimFault.TheVariants.{Line, OutOfMemory}
 use Rattle.sv_trace.specs.declared.forms.Register.{Register}
 use Rattle.sv_trace.specs.Forms.{StimForm}
-use Rattle.sv_trace.specs.Reading.{Said, HaveRead, IsCut}
+use Rattle.sv_trace.specs.Reading.{Said, HaveRead, HaveReadFront, IsCut}
 use Rattle.sv_trace.specs.Stimulus.{is_blank, line_fault, LinesRead, read_after, read_front}
 use Rattle.sv_trace.specs.Stimulus.{fault_of, read_whole, words, are_values, is_start, start_name}
 use Rattle.sv_trace.specs.Stimulus.{start_digits, start_fault, place_of}
@@ -78,11 +78,10 @@ pub record Stops (read : LinesRead) (form : StimForm) (taken : List (List ℕ)) 
   pub is : fault_of read ≡ Some fault
   pub lines : HaveRead form read.right taken said
 
-abbrev pub StopsUnlessFull : LinesRead → StimForm → (taken : List (List ℕ)) → Said → StimFault →
-    Type 0
-StopsUnlessFull read form taken said (Line number kind) =
-    Stops read form taken said (Line number kind)
-StopsUnlessFull read form taken said OutOfMemory = Unit {0}
+-- bytes were read up to a fault of theirs, or until memory ran out
+abbrev pub StopsWith : LinesRead → StimForm → (taken : List (List ℕ)) → Said → StimFault → Type 0
+StopsWith read form taken said (Line number kind) = Stops read form taken said (Line number kind)
+StopsWith read form taken said OutOfMemory = HaveReadFront form read.right taken said
 
 -- what is kept of a line and more of it were read as a line, or not
 abbrev pub LineEnded : StimForm → (bytes line : List ℕ) → (taken : List (List ℕ)) →
@@ -91,14 +90,14 @@ LineEnded form bytes line taken (Ok done) said kept =
     Stands form (bytes ++ (line ++ 10 ∷ [])) taken said kept
 LineEnded form bytes line taken (Err fault) said kept =
     (after : List ℕ) →
-    StopsUnlessFull (read_front form (bytes ++ (line ++ 10 ∷ after))) form taken said fault
+    StopsWith (read_front form (bytes ++ (line ++ 10 ∷ after))) form taken said fault
 
 -- a piece was read, and with it these bytes
 abbrev pub PieceRead : StimForm → (bytes : List ℕ) → (taken : List (List ℕ)) →
     Result (Unit {0}) StimFault → Said → (kept : List ℕ) → Type 0
 PieceRead form bytes taken (Ok done) said kept = Stands form bytes taken said kept
 PieceRead form bytes taken (Err fault) said kept =
-    StopsUnlessFull (read_front form bytes) form taken said fault
+    StopsWith (read_front form bytes) form taken said fault
 
 -- the end of a text was read
 pub record EndsWell (form : StimForm) (bytes : List ℕ) (taken : List (List ℕ)) (said : Said) :
@@ -110,4 +109,4 @@ abbrev pub EndRead : StimForm → (bytes : List ℕ) → (taken : List (List ℕ
     Result (Unit {0}) StimFault → Said → Type 0
 EndRead form bytes taken (Ok done) said = EndsWell form bytes taken said
 EndRead form bytes taken (Err fault) said =
-    StopsUnlessFull (read_whole form bytes) form taken said fault
+    StopsWith (read_whole form bytes) form taken said fault

@@ -1,7 +1,7 @@
 // Lines out of pieces.
 ghost use Rattle.std.specs.Prelude.{◌≡◌, ℕ, ◌+◌, ◌^◌, ◌<◌, ◌≤◌, List, ◌++◌, length, OnOk, Ok, Err};
 ghost use Rattle.std.specs.Prelude.{OnErr, IfErr, IsTrue, if◌then◌else◌};
-ghost use Rattle.sv_trace.specs.Reading.{said_of, IsSaid, Lacks};
+ghost use Rattle.sv_trace.specs.Reading.{said_of, IsSaid, Lacks, KeepsCycles};
 ghost use Rattle.sv_trace.specs.Steps.{IsTooLong, Stands, LineEnded, PieceRead, EndRead};
 
 use crate::faults::{StimFault, StimKind};
@@ -30,6 +30,7 @@ pub(crate) fn read_piece(
     ensures short { length kept.new.items ≤ 1048576 }
     ensures start { IsTrue state.old.begun →
         (state.new.start.items ≡ state.old.start.items) × IsTrue state.new.begun }
+    ensures cycles { KeepsCycles (said_of state.old) (said_of state.new) }
     ensures read { (bytes : List ℕ) (taken : List (List ℕ)) →
         Stands form.now bytes taken (said_of state.old) kept.old.items →
         PieceRead form.now (bytes ++ piece.now) taken result (said_of state.new) kept.new.items }
@@ -62,6 +63,7 @@ fn end_line(
     ensures short { length kept.new.items ≤ 1048576 }
     ensures start { IsTrue state.old.begun →
         (state.new.start.items ≡ state.old.start.items) × IsTrue state.new.begun }
+    ensures cycles { KeepsCycles (said_of state.old) (said_of state.new) }
     ensures read { (bytes : List ℕ) (taken : List (List ℕ)) →
         Stands form.now bytes taken (said_of state.old) kept.old.items →
         LineEnded form.now bytes line.now taken result (said_of state.new) kept.new.items }
@@ -98,6 +100,9 @@ pub(crate) fn read_end(
     requires short { length kept.now ≤ 1048576 }
     ensures said { IsSaid form.now (said_of state.new) }
     ensures line { state.new.line ≤ state.old.line + length kept.now }
+    ensures start { IsTrue state.old.begun →
+        (state.new.start.items ≡ state.old.start.items) × IsTrue state.new.begun }
+    ensures cycles { KeepsCycles (said_of state.old) (said_of state.new) }
     ensures read { (bytes : List ℕ) (taken : List (List ℕ)) →
         Stands form.now bytes taken (said_of state.old) kept.now →
         EndRead form.now bytes taken result (said_of state.new) }

@@ -8,8 +8,9 @@ ghost use Rattle.sv_flat.specs.SignalLists.{registers, inputs};
 ghost use Rattle.sv_flat.specs.Views.{design_of};
 ghost use Rattle.sv_sim.specs.Given.{FitListed};
 ghost use Rattle.sv_trace.specs.Forms.{form_of};
-ghost use Rattle.sv_trace.specs.Reading.{HasFed, HasRead, answer_of, UnlessFull};
-ghost use Rattle.sv_trace.specs.Stimulus.{is_start, read_whole, LinesRead};
+ghost use Rattle.sv_trace.specs.Reading.{HasFed, HasRead, HaveReadFront, answer_of, UnlessFull};
+ghost use Rattle.sv_trace.specs.Reading.{IfFull, KeepsCycles};
+ghost use Rattle.sv_trace.specs.Stimulus.{is_start, read_front, read_whole, LinesRead};
 
 use crate::faults::StimFault;
 use crate::forms::Form;
@@ -96,13 +97,20 @@ impl StimReader {
 
     /// Reads the next piece of the text. A line is read in the piece that brings its line feed, and
     /// a line that is too long in the piece that brings its byte 1,048,577. After a fault every
-    /// later answer is that fault, and the cycles of earlier lines can still be taken.
+    /// later answer is that fault, and the cycles of the lines before it can still be taken. Where
+    /// memory runs out these are the cycles of some of the right lines, from the first one on, and
+    /// no cycle that could be taken before is lost.
     pub fn feed(&mut self, piece: &[u8]) -> Result<(), StimFault>
         requires open { IsFalse self.old.finished }
-        requires room { self.old.said.line + length self.old.rest + length piece.now < 2 ^ 64 }
+        requires room { self.old.fault ≡ None →
+            self.old.said.line + length self.old.rest + length piece.now < 2 ^ 64 }
         ensures answer { result ≡ answer_of self.new.fault }
         ensures read { UnlessFull result ((bytes : List ℕ) (taken : List (List ℕ)) →
             HasFed bytes taken self.old → HasFed (bytes ++ piece.now) taken self.new) }
+        ensures full { IfFull result ((bytes : List ℕ) (taken : List (List ℕ)) →
+            HasFed bytes taken self.old → HaveReadFront self.new.form
+            (read_front self.new.form (bytes ++ piece.now)).right taken self.new.said) }
+        ensures kept { KeepsCycles self.old.said self.new.said }
         ensures stays { IsSome self.old.fault → self.new ≡ self.old }
         ensures start { IsTrue self.old.said.begun →
             (self.new.said.start ≡ self.old.said.start) × IsTrue self.new.said.begun }
@@ -124,15 +132,22 @@ impl StimReader {
     }
 
     /// Reads the end of the text: a last line without a line feed if it is not empty, and whether
-    /// the header is there. After a fault every later answer is that fault, and the cycles of
-    /// earlier lines can still be taken.
+    /// the header is there. After a fault every later answer is that fault, and the cycles of the
+    /// lines before it can still be taken. Where memory runs out these are the cycles of some of
+    /// the right lines, from the first one on, and no cycle that could be taken before is lost.
     pub fn finish(&mut self) -> Result<(), StimFault>
         requires open { IsFalse self.old.finished }
         ensures answer { result ≡ answer_of self.new.fault }
         ensures read { UnlessFull result ((bytes : List ℕ) (taken : List (List ℕ)) →
             HasFed bytes taken self.old →
             HasRead (read_whole self.new.form bytes) taken self.new) }
+        ensures full { IfFull result ((bytes : List ℕ) (taken : List (List ℕ)) →
+            HasFed bytes taken self.old → HaveReadFront self.new.form
+            (read_whole self.new.form bytes).right taken self.new.said) }
+        ensures kept { KeepsCycles self.old.said self.new.said }
         ensures stays { IsSome self.old.fault → self.new ≡ self.old }
+        ensures start { IsTrue self.old.said.begun →
+            (self.new.said.start ≡ self.old.said.start) × IsTrue self.new.said.begun }
         ensures form { self.new.form ≡ self.old.form }
         ensures finished { self.new.finished ≡ is_ok result }
     {

@@ -2,7 +2,7 @@
 ghost use Rattle.std.specs.Prelude.{◌≡◌, ℕ, ◌+◌, ◌^◌, ◌<◌, ◌≤◌, false, List, [], ◌∷◌, ◌++◌, map};
 ghost use Rattle.std.specs.Prelude.{length, slice_index_or, OnErr, OnOk, IfErr, IsTrue};
 ghost use Rattle.std.specs.Str.Parse.{digits_value};
-ghost use Rattle.sv_trace.specs.Reading.{said_of, IsSaid, HaveRead};
+ghost use Rattle.sv_trace.specs.Reading.{said_of, IsSaid, HaveRead, KeepsCycles};
 ghost use Rattle.sv_trace.specs.Steps.{LineRead, IsFaultAt, IsPut, cycle_fault, early_fault};
 ghost use Rattle.sv_trace.specs.Stimulus.{words};
 
@@ -39,6 +39,7 @@ pub(crate) fn read_line(
     ensures same { OnErr result (state.new.line ≡ state.old.line) }
     ensures start { IsTrue state.old.begun →
         (state.new.start.items ≡ state.old.start.items) × IsTrue state.new.begun }
+    ensures cycles { KeepsCycles (said_of state.old) (said_of state.new) }
     ensures read { (right taken : List (List ℕ)) →
         HaveRead form.now right taken (said_of state.old) →
         LineRead form.now right taken line.now result (said_of state.new) }

@@ -3,7 +3,11 @@ use Rattle.std.specs.Prelude.{Ok, Err}
 use Rattle.sv_trace.specs.Reading.{said_of}
 use Rattle.sv_trace.specs.Steps.{LineRead, LineEnded, Stands}
 use Rattle.sv_trace.proofs.PieceFacts.{at_err, stops_long, stops_at, stands_on}
+use Rattle.sv_trace.proofs.SaidFacts.{keeps_all}
 use Rattle.sv_trace.proofs.pieces.end_line.Goals as goal
+
+pub returns-in_err-keep-clause-cycles : goal.returns-in_err-keep-clause-cycles
+returns-in_err-keep-clause-cycles c = keeps_all (said_of c.args.state.now)
 
 pub returns-in_err-keep-clause-read : goal.returns-in_err-keep-clause-read
 returns-in_err-keep-clause-read c =

@@ -3,7 +3,11 @@ use Rattle.std.proofs.lemmas.Bool.{eqb-true, eqb-false}
 use Rattle.sv_trace.specs.Reading.{said_of}
 use Rattle.sv_trace.specs.Steps.{EndRead}
 use Rattle.sv_trace.proofs.PieceFacts.{at_err, empty_ends, last_ends, last_stops}
+use Rattle.sv_trace.proofs.SaidFacts.{keeps_all}
 use Rattle.sv_trace.proofs.pieces.read_end.Goals as goal
+
+pub returns-then-is_empty-clause-cycles : goal.returns-then-is_empty-clause-cycles
+returns-then-is_empty-clause-cycles c = keeps_all (said_of c.args.state.now)
 
 pub returns-then-is_empty-clause-read : goal.returns-then-is_empty-clause-read
 returns-then-is_empty-clause-read c =

@@ -2,10 +2,26 @@ use Rattle.std.proofs.Common.{rules, [], ◌∷◌, ◌++◌, sym, ap, ◌∙◌
 use Rattle.std.proofs.Common.{arith}
 use Rattle.std.proofs.lemmas.List.{length-append}
 use Rattle.sv_trace.specs.Reading.{said_of, Lacks}
-use Rattle.sv_trace.specs.Steps.{PieceRead, Stands, StopsUnlessFull}
+use Rattle.sv_trace.specs.Steps.{PieceRead, Stands, StopsWith}
 use Rattle.sv_trace.specs.Stimulus.{read_front}
 use Rattle.sv_trace.proofs.PieceFacts.{at_err, rest_read}
+use Rattle.sv_trace.proofs.SaidFacts.{keeps_all, keeps_more}
 use Rattle.sv_trace.proofs.pieces.read_piece.Goals as goal
+
+pub lines-init : goal.lines-init
+lines-init c = record {
+  said = search rules;
+  room = search rules;
+  short = search rules;
+  begun = search rules;
+  cycles = keeps_all (said_of c.args.state.now);
+  read = search rules;
+}
+
+pub returns-in_err-end_line-clause-cycles : goal.returns-in_err-end_line-clause-cycles
+returns-in_err-end_line-clause-cycles c =
+    keeps_more (said_of c.args.state.now) (said_of c.lines.state) (said_of c.end_line.new.state)
+    c.lines.invariant.cycles c.end_line.ensures.cycles
 
 pub returns-in_err-end_line-clause-read : goal.returns-in_err-end_line-clause-read
 returns-in_err-end_line-clause-read c =
@@ -18,7 +34,7 @@ returns-in_err-end_line-clause-read c =
     λ bytes taken s.
     at_err c.from_residual.result fault c.from_residual.ensures.1
     (λ r. PieceRead form (bytes ++ c.args.piece.now) taken r new c.end_line.new.kept.items)
-    (subst (λ b. StopsUnlessFull (read_front form b) form taken new fault)
+    (subst (λ b. StopsWith (read_front form b) form taken new fault)
     (append_assoc bytes done (line ++ 10 ∷ after)
     ∙ ap (λ b. bytes ++ b) (ap (λ b. done ++ b) (sym c.in-Some.ensures.parts)
     ∙ sym c.lines.invariant.read.1))
@@ -47,6 +63,8 @@ lines-preserved c =
           let was = c.lines.invariant.begun begun in
           let now = c.end_line.ensures.start was.1 in
           (now.0 ∙ was.0, now.1);
+      cycles = keeps_more (said_of c.args.state.now) (said_of c.lines.state) new
+          c.lines.invariant.cycles c.end_line.ensures.cycles;
       read = (
         done ++ (line ++ 10 ∷ []),
         c.lines.invariant.read.1 ∙ ap (λ b. done ++ b) c.in-Some.ensures.parts

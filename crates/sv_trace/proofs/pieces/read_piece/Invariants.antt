@@ -1,5 +1,5 @@
 use Rattle.std.proofs.Common.{◌≡◌, true, ℕ, ◌+◌, ◌^◌, ◌<◌, ◌≤◌, List, ◌++◌, length}
-use Rattle.sv_trace.specs.Reading.{said_of, IsSaid}
+use Rattle.sv_trace.specs.Reading.{said_of, IsSaid, KeepsCycles}
 use Rattle.sv_trace.specs.Steps.{Stands}
 use Rattle.sv_trace.proofs.pieces.read_piece.Given as goal
 
@@ -10,6 +10,7 @@ invariant-lines l = record {
   short : length l.kept.items ≤ 1048576;
   begun : l.initial.state.begun ≡ true →
       (l.state.start.items ≡ l.initial.state.start.items) × (l.state.begun ≡ true);
+  cycles : KeepsCycles (said_of l.initial.state) (said_of l.state);
   read : (done : List ℕ) × (l.piece ≡ done ++ l.left)
       × ((bytes : List ℕ) (taken : List (List ℕ)) →
       Stands l.form bytes taken (said_of l.initial.state) l.initial.kept.items →

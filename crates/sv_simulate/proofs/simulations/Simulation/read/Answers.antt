@@ -9,6 +9,9 @@ use Rattle.sv_simulate.proofs.ProgressFacts.{failed_now, same_then, made_reader,
 use Rattle.sv_simulate.proofs.StepFacts.{unless_full, room_of, front_room}
 use Rattle.sv_simulate.proofs.simulations.Simulation.read.Goals as goal
 
+pub feed-requires-clause-room : goal.feed-requires-clause-room
+feed-requires-clause-room g c = λ none. c.requires.room
+
 pub returns-in_err-found-clause-made : goal.returns-in_err-found-clause-made
 returns-in_err-found-clause-made g c =
     made_reader c.args.self.now _ c.requires.made refl c.feed.ensures.form

@@ -4,6 +4,7 @@ pub mod LeakFacts
 pub mod OneFinding
 pub mod PairFacts
 pub mod RunFacts
+pub mod RunTraces
 pub mod SightFacts
 pub mod StimFacts
 pub mod TraceFacts

@@ -27,10 +27,10 @@ use Rattle.sv_sim.proofs.OneDesign.{design_ordered}
 use Rattle.sv_tworun.specs.declared.compared.Compared.{Compared}
 use Rattle.sv_tworun.specs.declared.compared.Compared.TheVariants.{Equal, InputsDiffer}
 use Rattle.sv_tworun.specs.declared.compared.Compared.TheVariants.{ViewsDiffer, LengthsDiffer}
-use Rattle.sv_tworun.specs.Comparisons.{IsFirstApart, is_given, SameViews}
-use Rattle.sv_tworun.specs.Comparisons.{IsFound, IsComparison}
+use Rattle.sv_tworun.specs.Comparisons.{IsFirstApart, is_given, SameViews, IsFound}
 use Rattle.sv_tworun.specs.Forms.{Run, IsTraceOf}
 use Rattle.sv_tworun.specs.Sights.{IsDifference}
+use Rattle.sv_tworun.proofs.RunTraces.{IsFoundOfAll}
 use Rattle.sv_tworun.proofs.TraceFacts.{same_start, trace_length, ahead, agrees, one_more}
 use Rattle.sv_tworun.proofs.TraceFacts.{seen_alike, same_more}
 
@@ -178,7 +178,7 @@ module _ (design : FlatDesign) (is : IsDesign design) where
         → AreAlike design level first second k → HasInCycle design first k values
         → HasInCycle design second k others
         → IsDifference (flat_system design) level k (by_number values) (by_number others) found
-        → IsComparison design level first second found
+        → IsFoundOfAll design level first second found
     found_there k values others (InputsDiffer at signal) alike in_first in_second shown one other
         of_first of_second =
         let here = in_first one of_first in
@@ -247,7 +247,7 @@ module _ (design : FlatDesign) where
   -- where no cycle shows one the lengths tell
   pub found_equal : (level : Point) (first second : Run) (k : ℕ)
       → AreAlike design level first second k → length first.cycles ≡ k
-      → length second.cycles ≡ k → IsComparison design level first second (Equal k)
+      → length second.cycles ≡ k → IsFoundOfAll design level first second (Equal k)
   found_equal level first second k alike one_long other_long one other of_first of_second = (
     as_many first one of_first ∙ one_long,
     as_many second other of_second ∙ other_long,
@@ -258,7 +258,7 @@ module _ (design : FlatDesign) where
       → AreAlike design level first second k
       → (length first.cycles ≡ length second.cycles → ⊥)
       → k ≡ min (length first.cycles) (length second.cycles)
-      → IsComparison design level first second (LengthsDiffer k)
+      → IsFoundOfAll design level first second (LengthsDiffer k)
   found_shorter level first second k alike differ is_shorter one other of_first of_second = (
     (λ same. differ (sym (as_many first one of_first) ∙ same ∙ as_many second other of_second)),
     is_shorter

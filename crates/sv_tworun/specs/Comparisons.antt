@@ -70,12 +70,14 @@ IsFound system level first second (LengthsDiffer cycles) =
     ¬ (length first ≡ length second) × (cycles ≡ min (length first) (length second))
     × SameViews system level cycles first second
 
--- it is what the comparison of the traces of both runs finds
-abbrev pub IsComparison : FlatDesign → (level : Point) → (first second : Run) → Compared →
-    Type 0
-IsComparison design level first second found =
-    (one other : List (Environment ℕ)) → IsTraceOf design first one → IsTraceOf design second other
-    → IsFound (flat_system design) level one other found
+-- both runs have traces, and it is what the comparison of these finds
+pub record IsComparison (design : FlatDesign) (level : Point) (first second : Run)
+    (found : Compared) : Type 0 where
+  pub one : List (Environment ℕ)
+  pub other : List (Environment ℕ)
+  pub of_first : IsTraceOf design first one
+  pub of_second : IsTraceOf design second other
+  pub finds : IsFound (flat_system design) level one other found
 
 -- it does not find that what is given looks alike and the views do not
 abbrev pub FindsNoLeak : Compared → Type 0

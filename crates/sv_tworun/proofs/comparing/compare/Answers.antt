@@ -5,12 +5,14 @@ use Rattle.sv_flat.specs.ByNumber.{by_number}
 use Rattle.sv_flat.specs.FlatSystem.{flat_system}
 use Rattle.sv_flat.specs.SignalLists.{registers}
 use Rattle.sv_flat.specs.Views.{design_of}
+use Rattle.sv_tworun.specs.declared.compared.Compared.TheVariants.{Equal, LengthsDiffer}
 use Rattle.sv_sim.specs.Given.{with_given}
 use Rattle.sv_tworun.specs.Forms.{run_of}
 use Rattle.sv_tworun.specs.Sights.{IsDifference}
 use Rattle.sv_tworun.proofs.LeakFacts.{no_leak}
 use Rattle.sv_tworun.proofs.RunFacts.{AreAlike, begins, still_alike, found_there, found_equal}
 use Rattle.sv_tworun.proofs.RunFacts.{found_shorter}
+use Rattle.sv_tworun.proofs.RunTraces.{compared}
 use Rattle.sv_tworun.proofs.StimFacts.{shorter, length_of, cycle_fits, stim_in_cycle, stim_goes_on}
 use Rattle.sv_tworun.proofs.comparing.compare.Goals as goal
 
@@ -36,7 +38,10 @@ pub returns-then-len-clause-comparison : goal.returns-then-len-clause-comparison
 returns-then-len-clause-comparison c =
     let least = shorter c.args.a.now c.args.b.now c.len.result c.len-2.result c.min-count.result
     c.len.ensures c.len-2.ensures c.min-count.ensures in
-    found_shorter (design_of c.args.design.now) c.args.level (run_of c.args.a.now)
+    compared (design_of c.args.design.now) c.signals.ensures.design c.args.level
+    (run_of c.args.a.now) (run_of c.args.b.now) (LengthsDiffer c.min-count.result)
+    c.requires.first c.requires.second
+    (found_shorter (design_of c.args.design.now) c.args.level (run_of c.args.a.now)
     (run_of c.args.b.now) c.min-count.result
     (subst (AreAlike (design_of c.args.design.now) c.args.level (run_of c.args.a.now)
     (run_of c.args.b.now))
@@ -44,7 +49,7 @@ returns-then-len-clause-comparison c =
     c.loop-cycle.invariant.alike)
     (λ same. c.if-len.true (sym (length_of c.args.a.now c.len-3.result c.len-3.ensures) ∙ same
     ∙ length_of c.args.b.now c.len-4.result c.len-4.ensures))
-    least
+    least)
 
 pub returns-clause-comparison : goal.returns-clause-comparison
 returns-clause-comparison c =
@@ -53,14 +58,17 @@ returns-clause-comparison c =
     let one_long = length_of c.args.a.now c.len-3.result c.len-3.ensures in
     let other_long = length_of c.args.b.now c.len-4.result c.len-4.ensures in
     let same = c.if-len.false in
-    found_equal (design_of c.args.design.now) c.args.level (run_of c.args.a.now)
+    compared (design_of c.args.design.now) c.signals.ensures.design c.args.level
+    (run_of c.args.a.now) (run_of c.args.b.now) (Equal c.min-count.result) c.requires.first
+    c.requires.second
+    (found_equal (design_of c.args.design.now) c.args.level (run_of c.args.a.now)
     (run_of c.args.b.now) c.min-count.result
     (subst (AreAlike (design_of c.args.design.now) c.args.level (run_of c.args.a.now)
     (run_of c.args.b.now))
     (let test = c.loop-cycle-test.false in let end = c.loop-cycle.auto.cycle-end in omega arith)
     c.loop-cycle.invariant.alike)
     (omega (arith, least, one_long, other_long, same))
-    (omega (arith, least, one_long, other_long, same))
+    (omega (arith, least, one_long, other_long, same)))
 
 pub loop-cycle-init : goal.loop-cycle-init
 loop-cycle-init c =
@@ -97,7 +105,9 @@ returns-in-Some-clause-comparison c =
     let other = c.settle-in-loop-cycle.new.self.values in
     let least = shorter c.args.a.now c.args.b.now c.len.result c.len-2.result c.min-count.result
     c.len.ensures c.len-2.ensures c.min-count.ensures in
-    found_there (design_of flat) is c.args.level (run_of c.args.a.now) (run_of c.args.b.now) k
+    compared (design_of flat) is c.args.level (run_of c.args.a.now) (run_of c.args.b.now)
+    c.in-Some.difference c.requires.first c.requires.second
+    (found_there (design_of flat) is c.args.level (run_of c.args.a.now) (run_of c.args.b.now) k
     one other c.in-Some.difference c.loop-cycle.invariant.alike
     (stim_in_cycle flat c.loop-cycle.one.design c.loop-cycle.invariant.one_design is c.args.a.now k
     c.index.result.now c.deref-in-loop-cycle.result.now c.loop-cycle.one.values one
@@ -113,13 +123,12 @@ returns-in-Some-clause-comparison c =
     c.in-Some.difference) c.values-in-loop-cycle.ensures.values
     (subst (λ vs. IsDifference system c.args.level k (by_number vs)
     (by_number c.values-in-loop-cycle.result.now) c.in-Some.difference) c.values.ensures.values
-    c.in-Some.ensures.found))
+    c.in-Some.ensures.found)))
 
 pub returns-in-Some-clause-no_leak : goal.returns-in-Some-clause-no_leak
 returns-in-Some-clause-no_leak c checked valid =
     no_leak (design_of c.args.design.now) checked valid c.args.level (run_of c.args.a.now)
-    (run_of c.args.b.now) c.requires.first c.requires.second c.in-Some.difference
-    (returns-in-Some-clause-comparison c)
+    (run_of c.args.b.now) c.in-Some.difference (returns-in-Some-clause-comparison c)
 
 pub loop-cycle-preserved : goal.loop-cycle-preserved
 loop-cycle-preserved c =

@@ -1,9 +1,13 @@
 -- Whole stimuli, as a reader reads them.
 use Rattle.std.proofs.Common.{◌≡◌, ℕ, List, [], ◌∷◌, ◌++◌, map, refl, sym, ap, ◌∙◌, subst, Option}
-use Rattle.std.proofs.Common.{Some, None}
+use Rattle.std.proofs.Common.{Some, None, All}
 use Rattle.std.specs.Prelude.{Result, Ok, Err, IfErr}
 use Rattle.std.specs.Result.{IsErrAnd}
 use Rattle.std.proofs.lemmas.List.{map-append}
+use Rattle.std.proofs.lemmas.List.Elements.{All-nil, All-push}
+use Rattle.sv_flat.specs.Design.{FlatDesign}
+use Rattle.sv_flat.specs.SignalLists.{inputs}
+use Rattle.sv_sim.specs.Given.{FitListed}
 use Rattle.sv_trace.specs.declared.faults.StimFault.{StimFault}
 use Rattle.sv_trace.specs.declared.faults.StimFault.TheVariants.{Line, OutOfMemory}
 use Rattle.sv_trace.specs.Forms.{StimForm}
@@ -56,6 +60,20 @@ pub one_taken : {X : Type 0} (f : X → List ℕ) (read : LinesRead) (xs ys : Li
     → HasRead read (map f ys) r
 one_taken f read xs ys x r has e =
     subst (λ taken. HasRead read taken r) (sym (ap (map f) e ∙ map-append f xs (x ∷ []))) has
+
+-- the values of a cycle fit the inputs of a design
+abbrev pub fit_inputs : FlatDesign → List ℕ → Type 0
+fit_inputs design values = FitListed design.signals (inputs design) values
+
+pub none_fit : {X : Type 0} (f : X → List ℕ) (P : List ℕ → Type 0) (xs : List X) → xs ≡ []
+    → All P (map f xs)
+none_fit f P xs none = subst (λ ys. All P (map f ys)) (sym none) (All-nil P)
+
+pub one_fits : {X : Type 0} (f : X → List ℕ) (P : List ℕ → Type 0) (xs ys : List X) (x : X)
+    → All P (map f xs) → P (f x) → ys ≡ xs ++ x ∷ [] → All P (map f ys)
+one_fits f P xs ys x each fits e =
+    subst (All P) (sym (ap (map f) e ∙ map-append f xs (x ∷ [])))
+    (All-push P (map f xs) (f x) each fits)
 
 pub passed : {T : Type 0} (P : StimFault → Type 0) (r : Result T StimFault) (x : StimFault)
     → IsErrAnd r (λ y. y ≡ x) → P x → IfErr r P

@@ -6,7 +6,7 @@
 //! however its bytes are cut, the start, the cycles and the fault are those of the whole text
 //! (`HasFed` and `HasRead` of `specs/Reading.antt`), and it keeps only the rest of the current line
 //! and the cycles that were not taken. A fault is answered from then on. [`read_stim`] reads a
-//! whole text.
+//! whole text. The values of either fit the design, as `sv_sim` asks.
 //!
 //! [`trace_line`] gives the line of a cycle, with a level the view of that level
 //! (`specs/Traces.antt`).

@@ -209,7 +209,9 @@ impl StimReader {
 
     // The registers' starting values.
     pub(crate) fn into_start(self) -> Vec<u64>
-        ensures { result.items ≡ self.said.start }
+        ensures start { result.items ≡ self.said.start }
+        ensures fits { (design : FlatDesign) → self.form ≡ form_of design →
+            FitListed design.signals (registers design) result.items }
     {
         let StimReader {
             alloc: _,

@@ -4,6 +4,7 @@ use Rattle.sv_trace.specs.Forms.{form_of}
 use Rattle.sv_trace.specs.Reading.{Reading, HasRead, IsFaultOf}
 use Rattle.sv_trace.specs.Stimulus.{read_whole}
 use Rattle.sv_trace.proofs.StimFacts.{passed, feed_fault, finish_fault, answered_none, one_taken}
+use Rattle.sv_trace.proofs.StimFacts.{fit_inputs, none_fit, one_fits}
 use Rattle.sv_trace.proofs.stim.read_stim.Goals as goal
 
 pub returns-in_err-feed-clause-fault : goal.returns-in_err-feed-clause-fault
@@ -44,6 +45,8 @@ cycles-init c =
           (subst (λ f. HasRead (read_whole f bytes) [] new) form
           (c.in_ok-finish.ensures.read bytes []
           (c.in_ok-feed.ensures.read [] [] c.in_ok-reader.ensures.fed)));
+      fits = none_fit (λ v. v.items) (fit_inputs (design_of c.args.design.now))
+          c.new-cycles.result.items c.new-cycles.ensures.items;
     }
 
 pub cycles-preserved : goal.cycles-preserved
@@ -56,5 +59,9 @@ cycles-preserved c =
           c.in-Some.cycle c.next_cycle.new.self
           (c.in-Some.ensures.read read (map (λ v. v.items) c.cycles.cycles.items)
           c.cycles.invariant.read)
+          c.in_ok-push.ensures.items;
+      fits = one_fits (λ v. v.items) (fit_inputs (design_of c.args.design.now))
+          c.cycles.cycles.items c.push.new.self.items c.in-Some.cycle c.cycles.invariant.fits
+          (c.in-Some.ensures.fits (design_of c.args.design.now) c.cycles.invariant.form)
           c.in_ok-push.ensures.items;
     }

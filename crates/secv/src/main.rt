@@ -1,22 +1,21 @@
 //! The program `secv`: the real files and streams, and one call of `run`.
 //!
-//! Takes the words of the system, and gives the exit status of the outcome; promises that it is
-//! that of an outcome that `run` may give over these files (`specs/Ends.antt`). `main` itself has
-//! no contract.
+//! `main` makes the files, the input and the output, and takes the words of the system. `answer`
+//! gives the exit status: of a text about the program, or of the outcome of `run` over these three.
+//! What a status says of what passed through them stands in `specs/Ends.antt`. `main` itself has no
+//! contract.
 #![tactic(auto)]
 
-ghost use Rattle.std.specs.Prelude.{◌≡◌, ◌⊎◌};
 ghost use Rattle.sv_words.specs.Words.{words_of};
-ghost use Rattle.secv.specs.Ends.{IsShown, IsHelp, Ends};
+ghost use Rattle.secv.specs.Ends.{IsShown, Prints, Ends, traffic};
 
 mod messages;
 
 use messages::{explain, explain_output, explain_words};
-use std::io::{self, ErrorKind};
+use std::io::{self, ErrorKind, Stdin, Stdout};
 use std::process::ExitCode;
-use std::rt::Files;
 use sv_cli::run;
-use sv_io::{FileCabinet, StdSink, StdSource, put_all};
+use sv_io::{FileCabinet, PutFault, StdSink, StdSource, put_all};
 use sv_words::{CommandName, help_asked, help_text};
 
 const HELP: &str =
@@ -47,11 +46,14 @@ const WRITE_FAULT: u8 = 5;
 const OUT_OF_MEMORY: u8 = 6;
 
 fn main(rt: HostRuntime) -> ExitCode {
+    let mut cabinet = FileCabinet::new(&rt);
+    let mut input = StdSource::new(rt.stdin());
+    let mut out = StdSink::new(rt.stdout());
     let status = match words_of(&rt) {
-        Ok(words) => answer(&rt, &words),
+        Ok(words) => answer(&rt, &words, &mut cabinet, &mut input, &mut out),
         Err(error) if error.kind() == ErrorKind::InvalidData => {
             explain_words(&rt, "an argument is not UTF-8");
-            print(&rt, "usage words\n", WRONG_WORDS)
+            print(&rt, &mut out, "usage words\n", WRONG_WORDS)
         }
         Err(_) => OUT_OF_MEMORY,
     };
@@ -65,58 +67,65 @@ fn words_of(rt: &HostRuntime) -> io::Result<Vec<String>> {
 }
 
 // The exit status for these words.
-fn answer(rt: &HostRuntime, words: &[String]) -> u8
-    ensures shown { IsShown (words_of words.now) → (result ≡ 0) ⊎ (result ≡ 5) }
-    ensures help { IsHelp (words_of words.now) → (result ≡ 0) ⊎ (result ≡ 5) ⊎ (result ≡ 6) }
-    ensures ends { (IsShown (words_of words.now) → ⊥) → (IsHelp (words_of words.now) → ⊥) →
-        Ends (words_of words.now) result }
+fn answer(
+    rt: &HostRuntime,
+    words: &[String],
+    cabinet: &mut FileCabinet<&HostRuntime>,
+    input: &mut StdSource<Stdin>,
+    out: &mut StdSink<Stdout>,
+) -> u8
+    ensures shown { IsShown (words_of words.now) → Prints 0 out.old out.new result }
+    ensures ends { (IsShown (words_of words.now) → ⊥) →
+        Ends (words_of words.now) (traffic cabinet.old input.old out.old)
+        (traffic cabinet.new input.new out.new) result }
 {
     match words {
-        [word] if word.as_str() == "--help" => print(rt, HELP, DONE),
-        [word] if word.as_str() == "-h" => print(rt, HELP, DONE),
-        [word] if word.as_str() == "--version" => print(rt, VERSION, DONE),
+        [word] if word.as_str() == "--help" => print(rt, out, HELP, DONE),
+        [word] if word.as_str() == "-h" => print(rt, out, HELP, DONE),
+        [word] if word.as_str() == "--version" => print(rt, out, VERSION, DONE),
         words => match help_asked(words) {
-            Some(name) => print_help(rt, name),
-            None => command(rt, words),
+            Some(name) => print_help(rt, out, name),
+            None => command(rt, words, cabinet, input, out),
         },
     }
 }
 
 // The help of a command.
-fn print_help(rt: &HostRuntime, name: CommandName) -> u8
-    ensures { (result ≡ 0) ⊎ (result ≡ 5) ⊎ (result ≡ 6) }
+fn print_help(rt: &HostRuntime, out: &mut StdSink<Stdout>, name: CommandName) -> u8
+    ensures { Prints 0 out.old out.new result }
 {
     match help_text(rt.alloc(), name) {
-        Ok(text) => print(rt, text.as_str(), DONE),
+        Ok(text) => print(rt, out, text.as_str(), DONE),
         Err(_) => OUT_OF_MEMORY,
     }
 }
 
-// The status, or that of a write fault.
-fn print(rt: &HostRuntime, text: &str, status: u8) -> u8
-    ensures { (result ≡ status) ⊎ (result ≡ 5) }
+// The status, or that of a write fault or of want of memory.
+fn print(rt: &HostRuntime, out: &mut StdSink<Stdout>, text: &str, status: u8) -> u8
+    ensures { Prints status out.old out.new result }
 {
-    let mut out = StdSink::new(rt.stdout());
-    match put_all(&mut out, text.as_bytes()) {
+    match put_all(out, text.as_bytes()) {
         Ok(()) => status,
-        Err(_) => {
+        Err(PutFault::Failed) => {
             explain_output(rt, out.last_error());
             WRITE_FAULT
         }
+        Err(PutFault::OutOfMemory) => OUT_OF_MEMORY,
     }
 }
 
-// The status of what `run` answers over the real files and streams.
-fn command(rt: &HostRuntime, words: &[String]) -> u8
-    ensures { Ends (words_of words.now) result }
+// The status of what `run` answers.
+fn command(
+    rt: &HostRuntime,
+    words: &[String],
+    cabinet: &mut FileCabinet<&HostRuntime>,
+    input: &mut StdSource<Stdin>,
+    out: &mut StdSink<Stdout>,
+) -> u8
+    ensures { Ends (words_of words.now) (traffic cabinet.old input.old out.old)
+        (traffic cabinet.new input.new out.new) result }
 {
-    let Ok(files) = rt.clone() else {
-        return OUT_OF_MEMORY;
-    };
-    let mut cabinet = FileCabinet::new(files);
-    let mut input = StdSource::new(rt.stdin());
-    let mut out = StdSink::new(rt.stdout());
-    let outcome = run(rt.alloc(), words, &mut cabinet, &mut input, &mut out);
+    let outcome = run(rt.alloc(), words, cabinet, input, out);
     explain(rt, words, &outcome, cabinet.last_error(), out.last_error());
     outcome.status()
 }

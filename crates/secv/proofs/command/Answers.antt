@@ -1,15 +1,21 @@
-use Rattle.sv_io.specs.System.{file_exchanges, sink_accepted, source_given}
-use Rattle.sv_words.specs.Words.{words_of}
-use Rattle.secv.proofs.Ended.{ended}
+use Rattle.secv.proofs.Untouched.{nothing_taken}
 use Rattle.secv.proofs.command.Goals as goal
 
 pub returns : goal.returns
-returns c =
-    ended (words_of c.args.words.now) c.status.result c.run-outcome.result
-    (file_exchanges c.new-cabinet.result) (file_exchanges c.run-outcome.new.cabinet)
-    (sink_accepted c.new-out.result) (sink_accepted c.run-outcome.new.out)
-    (source_given c.new-input.result) (source_given c.run-outcome.new.input)
-    c.new-cabinet.ensures.no_exchange c.new-out.ensures.none_accepted c.new-input.ensures.none_given
-    c.status.ensures
-    c.run-outcome.ensures.answer c.run-outcome.ensures.noninterference
-    c.run-outcome.ensures.usage
+returns c = record {
+  outcome = c.run-outcome.result;
+  is = c.status.ensures;
+  noninterference = c.run-outcome.ensures.noninterference;
+  answer = c.run-outcome.ensures.answer;
+  only = c.run-outcome.ensures.only;
+  front = c.run-outcome.ensures.front;
+  silent = c.run-outcome.ensures.silent;
+  one_fetch = c.run-outcome.ensures.one_fetch;
+  usage = c.run-outcome.ensures.usage;
+  read_fault = c.run-outcome.ensures.read_fault;
+  prompt = c.run-outcome.ensures.prompt;
+  write_fault = c.run-outcome.ensures.write_fault;
+  input_unchanged =
+      nothing_taken c.args.input.now c.run-outcome.new.input
+      c.run-outcome.ensures.input_unchanged;
+}

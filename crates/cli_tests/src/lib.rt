@@ -7,8 +7,6 @@ mod calls;
 #[cfg(test)]
 mod large;
 #[cfg(test)]
-mod late_fault;
-#[cfg(test)]
 mod simulations;
 #[cfg(test)]
 mod tests;

@@ -122,12 +122,13 @@ fn every_order_has_the_same_trace(rt: HostRuntime) -> Result<(), Fail> {
     Ok(())
 }
 
-// The source gives a byte a take. One take fails behind the line of cycle 0, and the other behind a
-// line that is wrong.
+// The source gives a byte a take. The takes that fail come behind the line of cycle 0, before the
+// last byte of a wrong line, and behind it, where the wrong line is told.
 #[test]
 fn a_source_that_fails_has_what_was_read(rt: HostRuntime) -> Result<(), Fail> {
     let rows = [
         ([12], TURNED, 4, "0 a=0 y=1 p=1 q=0\n"),
+        ([13], "inputs a\n0\nx\n", 4, "0 a=0 y=1 p=1 q=0\n"),
         (
             [14],
             "inputs a\n0\nx\n",

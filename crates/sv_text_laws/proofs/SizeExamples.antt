@@ -8,8 +8,8 @@ use Rattle.sv_walk.specs.Names.{Names, names_of}
 use Rattle.sv_walk.specs.TypedExpressions.{typed_of, typed_parts}
 use Rattle.sv_walk.proofs.Computing.{computing}
 use Rattle.sv_walk.proofs.SmallTexts.{name, decimal, op, bit, part, joined, times}
-use Rattle.sv_text_laws.specs.Sizes.{source_nodes, all_source_nodes, typed_nodes, inner_nodes}
-use Rattle.sv_text_laws.specs.Sizes.{all_typed_nodes}
+use Rattle.sv_obl.specs.Nodes.{nodes_in}
+use Rattle.sv_text_laws.specs.Sizes.{source_nodes, all_source_nodes}
 
 -- one signal of eight bits
 abbrev signals : Names
@@ -17,7 +17,7 @@ signals = names_of 0 ((codes "a", signal 8 false) ∷ [])
 
 -- the typed form where 8 bits without sign are wanted
 abbrev typed_size : ExpressionTree → ℕ
-typed_size e = typed_nodes (typed_of signals e 8 false)
+typed_size e = nodes_in (typed_of signals e 8 false)
 
 -- a + 1: the sum and its operands
 abbrev sum : ExpressionTree
@@ -28,7 +28,7 @@ unfolding source_nodes
 a_sum_has_three = refl
 
 pub typed_sums_have_three : typed_size sum ≡ 3
-unfolding computing typed_nodes inner_nodes
+unfolding computing
 typed_sums_have_three = refl
 
 -- {a[a + 1], {2{a}}}
@@ -42,7 +42,7 @@ parts_have_eight = refl
 
 -- the count is a number there
 pub typed_parts_have_seven : typed_size parts_of_a ≡ 7
-unfolding computing typed_parts typed_nodes inner_nodes all_typed_nodes
+unfolding computing typed_parts
 typed_parts_have_seven = refl
 
 -- a[6 / 2:0]
@@ -55,10 +55,10 @@ a_part_counts_its_bounds = refl
 
 -- its bounds are numbers there
 pub a_typed_part_has_one : typed_size low_part ≡ 1
-unfolding computing typed_nodes inner_nodes
+unfolding computing
 a_typed_part_has_one = refl
 
 -- 6 / 2 stands as its value
 pub a_typed_quotient_has_one : typed_size (op binop.Div 3 (decimal 6 1) (decimal 2 5)) ≡ 1
-unfolding computing typed_nodes inner_nodes
+unfolding computing
 a_typed_quotient_has_one = refl

@@ -14,26 +14,24 @@ use Rattle.sv_walk.specs.TypedExpressions.{is_division, named_node, typed_of, ty
 use Rattle.sv_walk.specs.TypedExpressions.{left_length, right_length, left_sign, right_sign}
 use Rattle.sv_width.proofs.SameValue.{either, typed_reduction, typed_unary, typed_division}
 use Rattle.sv_width.proofs.SameValue.{typed_binary}
-use Rattle.sv_text_laws.specs.Sizes.{source_nodes, all_source_nodes, typed_nodes, inner_nodes}
-use Rattle.sv_text_laws.specs.Sizes.{all_typed_nodes}
+use Rattle.sv_obl.specs.Nodes.{nodes_in, nodes_in_parts}
+use Rattle.sv_text_laws.specs.Sizes.{source_nodes, all_source_nodes}
 
-same_size : {t u : TypedTree} {limit : ℕ} → t ≡ u → typed_nodes u ≤ limit → typed_nodes t ≤ limit
-same_size {limit = limit} is h = subst (λ (x : TypedTree). typed_nodes x ≤ limit) (sym is) h
+same_size : {t u : TypedTree} {limit : ℕ} → t ≡ u → nodes_in u ≤ limit → nodes_in t ≤ limit
+same_size {limit = limit} is h = subst (λ (x : TypedTree). nodes_in x ≤ limit) (sym is) h
 
 module _ (names : Names) where
   named_small : (b : Option Binding) (k : ℕ) (p : Place) (n : ℕ) (s : Bool) →
-      typed_nodes (typed n s (named_node b k p n s)) ≤ 1
-  unfolding typed_nodes inner_nodes
+      nodes_in (typed n s (named_node b k p n s)) ≤ 1
   named_small (Some (parameter v)) k p n s = omega arith
   named_small (Some (signal width signed)) k p n s = omega arith
   named_small None k p n s = omega arith
 
   mutual
-    unfolding typed_of typed_parts typed_nodes inner_nodes all_typed_nodes source_nodes
-        all_source_nodes
+    unfolding typed_of typed_parts source_nodes all_source_nodes
 
     pub typed_no_larger : (e : ExpressionTree) (n : ℕ) (s : Bool) →
-        typed_nodes (typed_of names e n s) ≤ source_nodes e
+        nodes_in (typed_of names e n s) ≤ source_nodes e
     typed_no_larger (literal l p) n s = omega arith
     typed_no_larger (named m p) n s = named_small (names.scope m) (names.number m) p n s
     typed_no_larger (bit_of m p i) n s =
@@ -64,7 +62,7 @@ module _ (names : Names) where
     typed_no_larger (replication p k es) n s = let h = parts_no_larger es in omega arith
 
     parts_no_larger : (es : ExpressionTrees) →
-        all_typed_nodes (typed_parts names es) ≤ all_source_nodes es
+        nodes_in_parts (typed_parts names es) ≤ all_source_nodes es
     parts_no_larger no_expressions = omega arith
     parts_no_larger (more_expressions e es) =
         let h = typed_no_larger e (length_of names.scope e) (sign_of names.scope e) in

@@ -62,7 +62,8 @@ module _ (text : TextTree) (asked : Option (List ℕ)) (design : FlatDesign)
           (name_in design.signals) dotted same_names level other alike is.0 bytes ends printed is.1,
       subst (λ (read : LinesRead). AreRounds design order read is.0)
           (sym (reads_over (flat_system design) (text_system text asked) joined
-          (name_in design.signals) dotted same_names level other alike is.0 bytes ends printed is.1))
+          (name_in design.signals) dotted same_names level other alike is.0 bytes ends printed
+          is.1))
           is.2,
     )
     at_over None (Some other) alike is = absurd alike
@@ -79,7 +80,8 @@ module _ (text : TextTree) (asked : Option (List ℕ)) (design : FlatDesign)
           (name_in design.signals) dotted same_names level other alike is.0 bytes ends printed is.1,
       subst (λ (read : LinesRead). AreRounds design order read is.0)
           (sym (reads_back (flat_system design) (text_system text asked) joined
-          (name_in design.signals) dotted same_names level other alike is.0 bytes ends printed is.1))
+          (name_in design.signals) dotted same_names level other alike is.0 bytes ends printed
+          is.1))
           is.2,
     )
     at_back None (Some other) alike is = absurd alike

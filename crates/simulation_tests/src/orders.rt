@@ -1,6 +1,9 @@
 // Designs run in any order of their processes.
+ghost use Rattle.std.specs.Prelude.{◌≡◌};
+
+use crate::given::fit_seen;
 use crate::texts::design;
-use std::alloc::Global;
+use std::alloc::{AllocError, Global};
 use std::process::Abort;
 use std::test::Fail;
 use sv_design::Design;
@@ -19,16 +22,30 @@ const REVERSED: &str = "module m(input a, output y);\n  \
     assign p = ~a;\n\
     endmodule\n";
 
-// Two registers of which each reads the other, and a signal that is the second one.
-const EXCHANGE: &str = "module m(input clk, output y);\n  \
-    reg a, b;\n  \
-    assign y = b;\n  \
-    always @(posedge clk) a <= ~b;\n  \
+// Two registers that exchange their values.
+const EXCHANGE: &str = "module m(input clk, output reg a, output reg b);\n  \
+    always @(posedge clk) a <= b;\n  \
     always @(posedge clk) b <= a;\n\
     endmodule\n";
 
-// How many rounds an order number takes for inputs of 0 and then of 1.
-fn rounds_of(rt: &impl Abort, alloc: Global, design: &Design, number: u64) -> Result<u32, Fail> {
+// The values of all signals that are no clocks, in order.
+fn values(alloc: Global, design: &Design, event: &Event) -> Result<Vec<u64>, AllocError>
+    requires { event.now.design ≡ design.now }
+{
+    let mut values = Vec::new(alloc);
+    for s in design.seen() {
+        values.push(event.value(*s))?;
+    }
+    Ok(values)
+}
+
+// How many rounds an order number takes for inputs of 0 and then of 1, and the values after each.
+fn run_of(
+    rt: &impl Abort,
+    alloc: Global,
+    design: &Design,
+    number: u64,
+) -> Result<(u32, Vec<u64>), Fail> {
     let sim = Sim::new(alloc, design)?;
     assert!(rt;
         sim.fits(&[], &[0]) && sim.fits(&[], &[1]),
@@ -37,10 +54,13 @@ fn rounds_of(rt: &impl Abort, alloc: Global, design: &Design, number: u64) -> Re
     let mut event = Event::new(alloc, design)?;
     event.set_inputs(&[0]);
     let first = event.rounds(number);
+    let mut all = values(alloc, design, &event)?;
     assert!(rt; event.is_order(&[]), "no process is clocked");
     event.tick(&[]);
     event.set_inputs(&[1]);
-    Ok(first.saturating_add(event.rounds(number.wrapping_add(1))))
+    let second = event.rounds(number.wrapping_add(1));
+    all.extend_from_slice(values(alloc, design, &event)?.as_slice())?;
+    Ok((first.saturating_add(second), all))
 }
 
 #[test]
@@ -48,7 +68,9 @@ fn counts_rounds_of_drawn_orders(rt: HostRuntime) -> Result<(), Fail> {
     let design = design(&rt, rt.alloc(), REVERSED)?;
     // counted by a separate program from what the draws are said to be
     for (number, wanted) in [(1, 4), (2, 3), (3, 5), (4, 5), (5, 3), (10, 3)] {
-        assert_eq!(rt; rounds_of(&rt, rt.alloc(), &design, number)?, wanted);
+        let (rounds, values) = run_of(&rt, rt.alloc(), &design, number)?;
+        assert_eq!(rt; rounds, wanted);
+        assert_eq!(rt; values.as_slice(), [0, 1, 1, 0, 1, 0, 0, 1].as_slice());
     }
     Ok(())
 }
@@ -59,38 +81,45 @@ fn counts_rounds_from_zeros(rt: HostRuntime) -> Result<(), Fail> {
     for (number, wanted) in [(0, 2), (1, 1)] {
         let mut event = Event::new(rt.alloc(), &design)?;
         assert_eq!(rt; event.rounds(number), wanted);
+        let values = values(rt.alloc(), &design, &event)?;
+        assert_eq!(rt; values.as_slice(), [0, 0, 1].as_slice());
     }
     Ok(())
 }
 
 #[test]
-fn rests_by_one_order_alone(rt: HostRuntime) -> Result<(), Fail> {
+fn runs_schedules(rt: HostRuntime) -> Result<(), Fail> {
     let design = design(&rt, rt.alloc(), BACKWARD)?;
     assert!(rt; design.combs() == 2, "each signal has its process");
-    let mut event = Event::new(rt.alloc(), &design)?;
-    event.run_one(0);
-    event.run_one(1);
-    assert!(rt; !event.quiet(), "y read q too early");
-    event.run_one(0);
-    assert!(rt; event.quiet(), "y read q");
+    let mut forward = Event::new(rt.alloc(), &design)?;
+    forward.run_schedule(&[0, 1]);
+    let early = values(rt.alloc(), &design, &forward)?;
+    assert_eq!(rt; early.as_slice(), [0, 1, 1].as_slice());
+    assert!(rt; !forward.quiet(), "y read q too early");
+    forward.run_one(0);
+    assert!(rt; forward.quiet(), "y read q");
+    let mut backward = Event::new(rt.alloc(), &design)?;
+    backward.run_schedule(&[1, 0]);
+    let settled = values(rt.alloc(), &design, &backward)?;
+    assert_eq!(rt; settled.as_slice(), [0, 0, 1].as_slice());
+    assert!(rt; backward.quiet(), "y read q");
     Ok(())
 }
 
 #[test]
 fn ticks_in_any_order(rt: HostRuntime) -> Result<(), Fail> {
     let design = design(&rt, rt.alloc(), EXCHANGE)?;
+    assert!(rt; fit_seen(&design, &[1, 0]), "the values fit");
     for order in [[0, 1], [1, 0]] {
         let mut event = Event::new(rt.alloc(), &design)?;
+        event.put_values(&[1, 0]);
         assert!(rt; event.is_order(&order), "each clocked process once");
         assert!(rt; !event.is_order(&[0, 0]), "one twice");
         assert!(rt; !event.is_order(&[0]), "one left out");
         assert!(rt; !event.is_order(&[0, 1, 2]), "one that is none");
         event.tick(&order);
-        // b has the old a, so y is still what b is
-        assert!(rt;
-            event.quiet(),
-            "the second register read the first one's old value"
-        );
+        let values = values(rt.alloc(), &design, &event)?;
+        assert_eq!(rt; values.as_slice(), [0, 1].as_slice());
     }
     Ok(())
 }

@@ -1,7 +1,7 @@
 -- What the searches for the first signal that differs say of the views of a cycle.
 use Rattle.std.proofs.Common.{◌≡◌, ℕ, ◌<◌, Bool, true, false, not, ◌&&◌, ◌||◌, ◌==◌, List, length}
-use Rattle.std.proofs.Common.{get_or, Option, ⊎_elim, refl, sym, ap, subst, ◌∙◌}
-use Rattle.std.specs.Prelude.{IsTrue, IsFalse, Contains, All, find}
+use Rattle.std.proofs.Common.{get_or, Option, Some, None, ⊎_elim, refl, sym, ap, subst, ◌∙◌}
+use Rattle.std.specs.Prelude.{IsTrue, IsFalse, Contains, All, find, MatchOption}
 use Rattle.std.proofs.lemmas.Bool.{false≢true, eqb-true}
 use Rattle.std.proofs.lemmas.List.{length-map, get_or-map}
 use Rattle.std.proofs.lemmas.List.Elements.{All-get_or}
@@ -20,10 +20,11 @@ use Rattle.sv_flat.proofs.Depths.{second_of}
 use Rattle.sv_flat.proofs.LeastSets.{or_cases, those_below, those_pass}
 use Rattle.sv_flat.proofs.SameRuns.{none_found}
 use Rattle.sv_design.specs.Designs.{IsDesign}
-use Rattle.sv_design.specs.Numbers.{numbers}
+use Rattle.sv_design.specs.Numbers.{numbers, number_if_any}
 use Rattle.sv_sim.proofs.OneDesign.{register_no_clock}
 use Rattle.sv_tworun.specs.Comparisons.{IsFirstApart, is_given, InputsApart}
-use Rattle.sv_tworun.specs.Sights.{differs, IsFirst, FindsFirst, lower_of}
+use Rattle.sv_tworun.specs.Sights.{differs, IsFirst, FindsFirst, lower_of, shown_by}
+use Rattle.sv_tworun.specs.Sights.{IsDifference}
 use Rattle.sv_tworun.proofs.ApartFacts.{first_found, passes_alike, lower_found, first_apart}
 use Rattle.sv_tworun.proofs.ApartFacts.{none_apart}
 
@@ -125,14 +126,14 @@ module _ (flat : Flat) where
         (second_of (cycle == 0) (system.is_register s) register)))
         (or_cases (system.is_input s) ((cycle == 0) && system.is_register s) given)
 
-    pub given_apart : (cycle s : ℕ)
+    given_apart : (cycle s : ℕ)
         → IsFirst count (λ t. is_given system cycle t && differs system level e f t) s
         → InputsApart system level cycle s e f
     given_apart cycle s first =
         first_apart system level count unclocked signals_are (is_given system cycle)
         (given_unclocked cycle) e f s first
 
-    pub given_alike : (cycle : ℕ)
+    given_alike : (cycle : ℕ)
         → ((s : ℕ) → s < count → IsFalse (is_given system cycle s && differs system level e f s))
         → seen (is_given system cycle) system level e ≡ seen (is_given system cycle) system level f
     given_alike cycle none =
@@ -148,7 +149,7 @@ module _ (flat : Flat) where
         (those_pass (length (design_of flat).signals) unclocked s at))
         (λ s at visible. refl)
 
-    pub views_apart : (s : ℕ)
+    views_apart : (s : ℕ)
         → IsFirst count (λ t. unclocked t && differs system level e f t) s
         → IsFirstApart (view system level e) (view system level f) s
     views_apart s first =
@@ -157,10 +158,23 @@ module _ (flat : Flat) where
         (first_apart system level count unclocked signals_are unclocked (λ t here. here) e f s
         first))
 
-    pub views_alike :
+    views_alike :
         ((s : ℕ) → s < count → IsFalse (unclocked s && differs system level e f s))
         → view system level e ≡ view system level f
     views_alike none =
         sym (all_seen e)
         ∙ none_apart system level count unclocked signals_are unclocked (λ t here. here) e f none
         ∙ all_seen f
+
+    pub shown_is : (cycle : ℕ) (given found : Option SigId)
+        → FindsFirst count (λ s. is_given system cycle s && differs system level e f s)
+        (number_if_any given)
+        → FindsFirst count (λ s. unclocked s && differs system level e f s) (number_if_any found)
+        → MatchOption (shown_by cycle given found) (view system level e ≡ view system level f)
+        (IsDifference system level cycle e f)
+    shown_is cycle (Some s) found of_given of_all = (refl, given_apart cycle s.0 of_given)
+    shown_is cycle None (Some s) of_given of_all = (
+      refl,
+      record { alike = given_alike cycle of_given; first = views_apart s.0 of_all },
+    )
+    shown_is cycle None None of_given of_all = views_alike of_all

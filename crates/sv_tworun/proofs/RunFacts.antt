@@ -1,8 +1,9 @@
 -- Two runs of an admitted design, side by side.
-use Rattle.std.proofs.Common.{◌≡◌, ℕ, suc, ◌<◌, min, Bool, true, ◌&&◌, not, List}
+use Rattle.std.proofs.Common.{◌≡◌, ℕ, suc, ◌<◌, ◌==◌, min, Bool, true, false, ◌&&◌, not, List}
 use Rattle.std.proofs.Common.{map, drop, length, Some, option_map, sym, ap, ap₂, subst, ◌∙◌}
-use Rattle.std.proofs.Common.{ltb-true, lt-ltb}
+use Rattle.std.proofs.Common.{ltb-true, lt-ltb, refl, arith}
 use Rattle.std.specs.Prelude.{IsTrue, Contains, slice_get}
+use Rattle.std.proofs.lemmas.Bool.{false≢true, eqb-true, eq-eqb}
 use Rattle.std.proofs.lemmas.List.{length-map}
 use Rattle.std.proofs.lemmas.Option.{slice_get-map}
 use Rattle.sv_system.specs.System.{Environment, IsTrace, seen, view}
@@ -245,7 +246,7 @@ module _ (design : FlatDesign) where
       ∙ length-map run.cycles (given (inputs design))
 
   -- where no cycle shows one the lengths tell
-  pub found_equal : (level : Point) (first second : Run) (k : ℕ)
+  found_equal : (level : Point) (first second : Run) (k : ℕ)
       → AreAlike design level first second k → length first.cycles ≡ k
       → length second.cycles ≡ k → IsFoundOfAll design level first second (Equal k)
   found_equal level first second k alike one_long other_long one other of_first of_second = (
@@ -254,7 +255,7 @@ module _ (design : FlatDesign) where
     alike one other of_first of_second,
   )
 
-  pub found_shorter : (level : Point) (first second : Run) (k : ℕ)
+  found_shorter : (level : Point) (first second : Run) (k : ℕ)
       → AreAlike design level first second k
       → (length first.cycles ≡ length second.cycles → ⊥)
       → k ≡ min (length first.cycles) (length second.cycles)
@@ -265,3 +266,25 @@ module _ (design : FlatDesign) where
         ∙ sym (ap₂ (λ m n. min m n) (as_many first one of_first) (as_many second other of_second)),
     alike one other of_first of_second,
   )
+
+  pub found_at_end : (level : Point) (first second : Run) (m n : ℕ) (found : Compared)
+      → AreAlike design level first second (min m n) → length first.cycles ≡ m
+      → length second.cycles ≡ n → (m ≡ n → found ≡ Equal m)
+      → ((m ≡ n → ⊥) → found ≡ LengthsDiffer (min m n))
+      → IsFoundOfAll design level first second found
+  found_at_end level first second m n found alike one_long other_long equal shorter =
+      go (m == n) refl
+    where
+      go : (b : Bool) → (m == n) ≡ b → IsFoundOfAll design level first second found
+      go true is =
+          let same = eqb-true m n is in
+          subst (λ f. IsFoundOfAll design level first second f) (sym (equal same))
+          (found_equal level first second m
+          (subst (AreAlike design level first second) (omega (arith, same)) alike) one_long
+          (other_long ∙ sym same))
+      go false is =
+          let differ : m ≡ n → ⊥ = λ same. false≢true (sym is ∙ eq-eqb m n same) in
+          subst (λ f. IsFoundOfAll design level first second f) (sym (shorter differ))
+          (found_shorter level first second (min m n) alike
+          (λ same. differ (sym one_long ∙ same ∙ other_long))
+          (ap₂ (λ i j. min i j) (sym one_long) (sym other_long)))

@@ -22,13 +22,11 @@ use Rattle.sv_tworun.proofs.RunFacts.{HasReached, HasInCycle, in_cycle, goes_on}
 -- ---- lengths
 
 -- the lower of the numbers of cycles
-pub shorter : (a b : Stim) (m n count : ℕ) → m ≡ a.cycles.len → n ≡ b.cycles.len
-    → count ≡ min m n
+pub shorter : (a b : Stim) (count : ℕ) → count ≡ min (length a.cycles.items) (length b.cycles.items)
     → count ≡ min (length (run_of a).cycles) (length (run_of b).cycles)
-shorter a b m n count one other is =
+shorter a b count is =
     is
-    ∙ ap₂ (λ x y. min x y) (one ∙ a.cycles.ok.0 ∙ sym (length-map a.cycles.items _))
-    (other ∙ b.cycles.ok.0 ∙ sym (length-map b.cycles.items _))
+    ∙ ap₂ (λ m n. min m n) (sym (length-map a.cycles.items _)) (sym (length-map b.cycles.items _))
 
 pub length_of : (stim : Stim) (n : ℕ) → n ≡ stim.cycles.len → length (run_of stim).cycles ≡ n
 length_of stim n is = length-map stim.cycles.items _ ∙ sym (is ∙ stim.cycles.ok.0)

@@ -1,10 +1,11 @@
 -- Words for the search for the first signal that tells two views apart. What it means is said in
 -- Comparisons.antt.
 use Rattle.std.specs.Prelude.{◌≡◌, ℕ, ◌<◌, Bool, cond, not, nat_eq, min, IsTrue, IsFalse}
-use Rattle.std.specs.Prelude.{Option, Some, None, MatchOption}
+use Rattle.std.specs.Prelude.{Option, Some, None, option_map, MatchOption}
 use Rattle.std.specs.Option.{option_eq}
 use Rattle.sv_system.specs.System.{System, Environment}
 use Rattle.sv_lattice.specs.declared.points.Point.{Point}
+use Rattle.sv_flat.specs.declared.signals.SigId.{SigId}
 use Rattle.sv_tworun.specs.declared.compared.Compared.{Compared}
 use Rattle.sv_tworun.specs.declared.compared.Compared.TheVariants.{InputsDiffer, ViewsDiffer}
 use Rattle.sv_tworun.specs.Comparisons.{InputsApart, ViewsApart}
@@ -35,6 +36,11 @@ abbrev pub lower_of : Option ℕ → Option ℕ → Option ℕ
 lower_of None other = other
 lower_of (Some a) None = Some a
 lower_of (Some a) (Some b) = Some (min a b)
+
+-- what a cycle shows, by the first signal that tells apart what is given, and the views
+abbrev pub shown_by : (cycle : ℕ) → (given seen : Option SigId) → Option Compared
+shown_by cycle (Some signal) seen = Some (InputsDiffer cycle signal)
+shown_by cycle None seen = option_map (λ signal. ViewsDiffer cycle signal) seen
 
 -- it is the difference that a cycle with these environments shows
 abbrev pub IsDifference : System ℕ Point → (level : Point) → (cycle : ℕ) → Environment ℕ →

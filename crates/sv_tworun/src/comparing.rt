@@ -1,8 +1,9 @@
 // Two runs side by side.
-ghost use Rattle.std.specs.Prelude.{[], ◌<◌, length, IfOk};
+ghost use Rattle.std.specs.Prelude.{◌≡◌, [], ◌<◌, min, length, IfOk};
 ghost use Rattle.sv_flat.specs.Views.{design_of};
 ghost use Rattle.sv_obl.specs.Noninterference.{IsChecked};
 ghost use Rattle.sv_obl.specs.Validity.{AllValid};
+ghost use Rattle.sv_tworun.specs.declared.compared.Compared.TheVariants.{Equal, LengthsDiffer};
 ghost use Rattle.sv_tworun.specs.Comparisons.{IsComparison, FindsNoLeak};
 ghost use Rattle.sv_tworun.specs.Forms.{run_of, FitsRun};
 
@@ -18,7 +19,8 @@ use sv_trace::Stim;
 /// sees two things, and the signal that shows it; where there is none, whether one run is longer.
 /// It fails where memory runs out.
 ///
-/// Where one stimulus has no cycle, the registers are not compared.
+/// Where one stimulus has no cycle, the registers are not compared. Stimuli that `read_stim` of
+/// `sv_trace` reads for this design fit it, as is asked of both.
 pub fn compare(
     alloc: Global,
     design: &Design,
@@ -40,7 +42,7 @@ pub fn compare(
     let mut other = Sim::new(alloc, design)?;
     one.load(&a.start);
     other.load(&b.start);
-    let count = a.cycles.len().min(b.cycles.len());
+    let count = common_cycles(a, b);
     for cycle in 0..count {
         one.settle(&a.cycles[cycle]);
         other.settle(&b.cycles[cycle]);
@@ -51,8 +53,23 @@ pub fn compare(
         one.tick();
         other.tick();
     }
-    if a.cycles.len() != b.cycles.len() {
-        return Ok(Compared::LengthsDiffer(count as u64));
+    Ok(at_the_end(a.cycles.len() as u64, b.cycles.len() as u64))
+}
+
+// How many cycles both stimuli have.
+fn common_cycles(a: &Stim, b: &Stim) -> usize
+    ensures { result ≡ min (length a.now.cycles.items) (length b.now.cycles.items) }
+{
+    a.cycles.len().min(b.cycles.len())
+}
+
+// What is found of runs of so many cycles that show no difference in those that both have.
+fn at_the_end(first: u64, second: u64) -> Compared
+    ensures equal { first ≡ second → result ≡ Equal first }
+    ensures shorter { ¬ (first ≡ second) → result ≡ LengthsDiffer (min first second) }
+{
+    if first != second {
+        return Compared::LengthsDiffer(first.min(second));
     }
-    Ok(Compared::Equal(count as u64))
+    Compared::Equal(first)
 }

@@ -8,7 +8,7 @@ ghost use Rattle.sv_flat.specs.Views.{design_of};
 ghost use Rattle.sv_design.specs.Designs.{IsDesign};
 ghost use Rattle.sv_design.specs.Numbers.{number_if_any};
 ghost use Rattle.sv_tworun.specs.Comparisons.{is_given};
-ghost use Rattle.sv_tworun.specs.Sights.{differs, FindsFirst, lower_of, IsDifference};
+ghost use Rattle.sv_tworun.specs.Sights.{differs, FindsFirst, lower_of, shown_by, IsDifference};
 
 use crate::compared::Compared;
 use crate::sights::first_apart;
@@ -83,9 +83,17 @@ pub(crate) fn difference(
         (IsDifference system level cycle (by_number first.now) (by_number second.now)) }
     ensures design { IsDesign (design_of design.now) }
 {
-    if let Some(signal) = given_apart(design, level, cycle, first, second) {
-        return Some(Compared::InputsDiffer(cycle, signal));
+    let given = given_apart(design, level, cycle, first, second);
+    shown(cycle, given, seen_apart(design, level, first, second))
+}
+
+// What a cycle shows, by the first signal that tells apart what was given, and the views.
+fn shown(cycle: u64, given: Option<SigId>, seen: Option<SigId>) -> Option<Compared>
+    ensures { result ≡ shown_by cycle given seen }
+{
+    match (given, seen) {
+        (Some(signal), _) => Some(Compared::InputsDiffer(cycle, signal)),
+        (None, Some(signal)) => Some(Compared::ViewsDiffer(cycle, signal)),
+        (None, None) => None,
     }
-    let signal = seen_apart(design, level, first, second)?;
-    Some(Compared::ViewsDiffer(cycle, signal))
 }

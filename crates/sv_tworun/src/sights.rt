@@ -26,6 +26,18 @@ pub(crate) fn sight(design: &Design, level: Point, signal: SigId, values: &[u64]
     None
 }
 
+// Whether the level does not see the same of the signal in both.
+fn is_apart(design: &Design, level: Point, signal: SigId, first: &[u64], second: &[u64]) -> bool
+    requires level { level.0 < length design.now.lattice }
+    requires signal { signal.0 < length design.now.signals.items }
+    requires first { FitSignals (design_of design.now).signals first.now }
+    requires second { FitSignals (design_of design.now).signals second.now }
+    ensures { result ≡ differs (flat_system (design_of design.now)) level
+        (by_number first.now) (by_number second.now) signal.0 }
+{
+    sight(design, level, signal, first) != sight(design, level, signal, second)
+}
+
 /// The first of the listed signals of which the level does not see the same in both.
 pub(crate) fn first_apart(
     design: &Design,
@@ -42,8 +54,7 @@ pub(crate) fn first_apart(
         (by_number first.now) (by_number second.now)) (numbers listed.now) }
 {
     for signal in listed {
-        let one = sight(design, level, *signal, first);
-        if one != sight(design, level, *signal, second) {
+        if is_apart(design, level, *signal, first, second) {
             return Some(*signal);
         }
     }

@@ -12,6 +12,7 @@ pub struct View {
 }
 
 /// Whether the views are equal: the same signals with the same values.
+#[tactic(auto, using(crate::proofs::PairFacts::same_views))]
 pub fn same_view(a: &View, b: &View) -> bool
     ensures { IsTrue result ↔ (view_form a.now ≡ view_form b.now) }
 {

@@ -5,21 +5,19 @@ use Rattle.sv_flat.specs.ByNumber.{by_number}
 use Rattle.sv_flat.specs.FlatSystem.{flat_system}
 use Rattle.sv_flat.specs.SignalLists.{registers}
 use Rattle.sv_flat.specs.Views.{design_of}
-use Rattle.sv_tworun.specs.declared.compared.Compared.TheVariants.{Equal, LengthsDiffer}
 use Rattle.sv_sim.specs.Given.{with_given}
 use Rattle.sv_tworun.specs.Forms.{run_of}
 use Rattle.sv_tworun.specs.Sights.{IsDifference}
 use Rattle.sv_tworun.proofs.LeakFacts.{no_leak}
-use Rattle.sv_tworun.proofs.RunFacts.{AreAlike, begins, still_alike, found_there, found_equal}
-use Rattle.sv_tworun.proofs.RunFacts.{found_shorter}
+use Rattle.sv_tworun.proofs.RunFacts.{AreAlike, begins, still_alike, found_there, found_at_end}
 use Rattle.sv_tworun.proofs.RunTraces.{compared}
 use Rattle.sv_tworun.proofs.StimFacts.{shorter, length_of, cycle_fits, stim_in_cycle, stim_goes_on}
 use Rattle.sv_tworun.proofs.comparing.compare.Goals as goal
 
 pub settle-requires : goal.settle-requires
 settle-requires c =
-    let least = shorter c.args.a.now c.args.b.now c.len.result c.len-2.result c.min-count.result
-    c.len.ensures c.len-2.ensures c.min-count.ensures in
+    let least = shorter c.args.a.now c.args.b.now c.common_cycles-count.result
+    c.common_cycles-count.ensures in
     cycle_fits c.args.design.now c.loop-cycle.one.design c.loop-cycle.invariant.one_design
     c.args.a.now c.requires.first c.loop-cycle.cycle c.index.result.now
     c.deref-in-loop-cycle.result.now (let test = c.loop-cycle-test.true in omega (arith, least))
@@ -27,48 +25,35 @@ settle-requires c =
 
 pub settle-requires-in-loop-cycle : goal.settle-requires-in-loop-cycle
 settle-requires-in-loop-cycle c =
-    let least = shorter c.args.a.now c.args.b.now c.len.result c.len-2.result c.min-count.result
-    c.len.ensures c.len-2.ensures c.min-count.ensures in
+    let least = shorter c.args.a.now c.args.b.now c.common_cycles-count.result
+    c.common_cycles-count.ensures in
     cycle_fits c.args.design.now c.loop-cycle.other.design c.loop-cycle.invariant.other_design
     c.args.b.now c.requires.second c.loop-cycle.cycle c.index-in-loop-cycle.result.now
     c.deref-in-loop-cycle-2.result.now (let test = c.loop-cycle-test.true in omega (arith, least))
     c.index-in-loop-cycle.ensures c.deref-in-loop-cycle-2.ensures.value
 
-pub returns-then-len-clause-comparison : goal.returns-then-len-clause-comparison
-returns-then-len-clause-comparison c =
-    let least = shorter c.args.a.now c.args.b.now c.len.result c.len-2.result c.min-count.result
-    c.len.ensures c.len-2.ensures c.min-count.ensures in
-    compared (design_of c.args.design.now) c.signals.ensures.design c.args.level
-    (run_of c.args.a.now) (run_of c.args.b.now) (LengthsDiffer c.min-count.result)
-    c.requires.first c.requires.second
-    (found_shorter (design_of c.args.design.now) c.args.level (run_of c.args.a.now)
-    (run_of c.args.b.now) c.min-count.result
-    (subst (AreAlike (design_of c.args.design.now) c.args.level (run_of c.args.a.now)
-    (run_of c.args.b.now))
-    (let test = c.loop-cycle-test.false in let end = c.loop-cycle.auto.cycle-end in omega arith)
-    c.loop-cycle.invariant.alike)
-    (λ same. c.if-len.true (sym (length_of c.args.a.now c.len-3.result c.len-3.ensures) ∙ same
-    ∙ length_of c.args.b.now c.len-4.result c.len-4.ensures))
-    least)
-
 pub returns-clause-comparison : goal.returns-clause-comparison
 returns-clause-comparison c =
-    let least = shorter c.args.a.now c.args.b.now c.len.result c.len-2.result c.min-count.result
-    c.len.ensures c.len-2.ensures c.min-count.ensures in
-    let one_long = length_of c.args.a.now c.len-3.result c.len-3.ensures in
-    let other_long = length_of c.args.b.now c.len-4.result c.len-4.ensures in
-    let same = c.if-len.false in
+    let least = c.common_cycles-count.ensures in
+    let one_long = length_of c.args.a.now c.len.result c.len.ensures in
+    let other_long = length_of c.args.b.now c.len-2.result c.len-2.ensures in
     compared (design_of c.args.design.now) c.signals.ensures.design c.args.level
-    (run_of c.args.a.now) (run_of c.args.b.now) (Equal c.min-count.result) c.requires.first
+    (run_of c.args.a.now) (run_of c.args.b.now) c.at_the_end.result c.requires.first
     c.requires.second
-    (found_equal (design_of c.args.design.now) c.args.level (run_of c.args.a.now)
-    (run_of c.args.b.now) c.min-count.result
+    (found_at_end (design_of c.args.design.now) c.args.level (run_of c.args.a.now)
+    (run_of c.args.b.now) c.len.result c.len-2.result c.at_the_end.result
     (subst (AreAlike (design_of c.args.design.now) c.args.level (run_of c.args.a.now)
     (run_of c.args.b.now))
-    (let test = c.loop-cycle-test.false in let end = c.loop-cycle.auto.cycle-end in omega arith)
+    (let test = c.loop-cycle-test.false in let end = c.loop-cycle.auto.cycle-end in
+    let one = c.len.ensures ∙ c.args.a.now.cycles.ok.0 in
+    let other = c.len-2.ensures ∙ c.args.b.now.cycles.ok.0 in omega (arith, least, one, other))
     c.loop-cycle.invariant.alike)
-    (omega (arith, least, one_long, other_long, same))
-    (omega (arith, least, one_long, other_long, same)))
+    one_long other_long c.at_the_end.ensures.equal c.at_the_end.ensures.shorter)
+
+pub returns-clause-no_leak : goal.returns-clause-no_leak
+returns-clause-no_leak c checked valid =
+    no_leak (design_of c.args.design.now) checked valid c.args.level (run_of c.args.a.now)
+    (run_of c.args.b.now) c.at_the_end.result (returns-clause-comparison c)
 
 pub loop-cycle-init : goal.loop-cycle-init
 loop-cycle-init c =
@@ -103,8 +88,8 @@ returns-in-Some-clause-comparison c =
     let k = c.loop-cycle.cycle in
     let one = c.settle.new.self.values in
     let other = c.settle-in-loop-cycle.new.self.values in
-    let least = shorter c.args.a.now c.args.b.now c.len.result c.len-2.result c.min-count.result
-    c.len.ensures c.len-2.ensures c.min-count.ensures in
+    let least = shorter c.args.a.now c.args.b.now c.common_cycles-count.result
+    c.common_cycles-count.ensures in
     compared (design_of flat) is c.args.level (run_of c.args.a.now) (run_of c.args.b.now)
     c.in-Some.difference c.requires.first c.requires.second
     (found_there (design_of flat) is c.args.level (run_of c.args.a.now) (run_of c.args.b.now) k
@@ -141,8 +126,8 @@ loop-cycle-preserved c =
     let one_same = c.settle.ensures.design ∙ c.loop-cycle.invariant.one_design in
     let other_same = c.settle-in-loop-cycle.ensures.design
     ∙ c.loop-cycle.invariant.other_design in
-    let least = shorter c.args.a.now c.args.b.now c.len.result c.len-2.result c.min-count.result
-    c.len.ensures c.len-2.ensures c.min-count.ensures in
+    let least = shorter c.args.a.now c.args.b.now c.common_cycles-count.result
+    c.common_cycles-count.ensures in
     record {
       one_design = c.tick.ensures.design ∙ one_same;
       other_design = c.tick-in-loop-cycle.ensures.design ∙ other_same;

@@ -1,5 +1,5 @@
 -- Where all obligations of a design are valid, its runs show no difference of views.
-use Rattle.std.proofs.Common.{◌≡◌, ℕ, ◌&&◌, ◌==◌, map, ap, ap₂}
+use Rattle.std.proofs.Common.{◌&&◌, ◌==◌, map, ap, ap₂}
 use Rattle.std.specs.Prelude.{[]}
 use Rattle.std.proofs.lemmas.Bool.{or_left, or_right, eq-eqb}
 use Rattle.sv_lattice.specs.declared.points.Point.{Point}

@@ -37,7 +37,7 @@ returns-clause-comparison c =
     let least = c.common_cycles-count.ensures in
     let one_long = length_of c.args.a.now c.len.result c.len.ensures in
     let other_long = length_of c.args.b.now c.len-2.result c.len-2.ensures in
-    compared (design_of c.args.design.now) c.signals.ensures.design c.args.level
+    compared (design_of c.args.design.now) c.signals-signals.ensures.design c.args.level
     (run_of c.args.a.now) (run_of c.args.b.now) c.at_the_end.result c.requires.first
     c.requires.second
     (found_at_end (design_of c.args.design.now) c.args.level (run_of c.args.a.now)

@@ -65,3 +65,8 @@ cycles-preserved c =
           (c.in-Some.ensures.fits (design_of c.args.design.now) c.cycles.invariant.form)
           c.in_ok-push.ensures.items;
     }
+
+pub returns-clause-start : goal.returns-clause-start
+returns-clause-start c =
+    c.into_start.ensures.fits (design_of c.args.design.now)
+    (ap (λ (r : Reading). r.form) c.next_cycle.ensures.same ∙ c.cycles.invariant.form)

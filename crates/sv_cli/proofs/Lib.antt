@@ -14,6 +14,7 @@ pub mod TreeAnswers
 pub mod Limits
 pub mod Lines
 mod ListVerdicts
+mod OneListing
 pub mod Listed
 pub mod Simulating
 pub mod Preparing

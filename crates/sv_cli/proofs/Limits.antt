@@ -1,15 +1,13 @@
 -- What the limits on obligations say of a design.
-use Rattle.std.proofs.Common.{◌≡◌, ℕ, zero, suc, ◌+◌, ◌<◌, ◌≤◌, Bool, true, false, cond, nat_lt}
-use Rattle.std.proofs.Common.{List, [], ◌∷◌, length, flat_map, Option, Some, None, refl, sym}
-use Rattle.std.proofs.Common.{subst, arith, ltb-false, length-append}
+use Rattle.std.proofs.Common.{◌≡◌, ℕ, zero, suc, ◌+◌, ◌<◌, Bool, true, false, cond, nat_lt}
+use Rattle.std.proofs.Common.{length, flat_map, Option, Some, None, sym, subst, arith}
 use Rattle.std.specs.List.{list_any, range_with_len}
 use Rattle.sv_flat.specs.Design.{FlatDesign}
 use Rattle.sv_flat.specs.Processes.{signal_numbers}
 use Rattle.sv_obl.specs.Limits.{Excess, many_paths, large_path, many_obligations, target_paths}
 use Rattle.sv_obl.specs.Limits.{first_excess, excess}
-use Rattle.sv_obl.specs.Obligations.{target_obligations, selector_obligations, obligations}
+use Rattle.sv_obl.specs.Obligations.{selector_obligations}
 use Rattle.sv_obl.specs.Paths.{Path}
-use Rattle.sv_obl.proofs.TargetFacts.{obligation_count}
 
 -- the target that is told, if one is, is among so many
 abbrev pub IsBelow : ℕ → Excess → Type 0
@@ -28,12 +26,6 @@ below_either : (n : ℕ) (b : Bool) (d e : Excess) (rest : Option Excess) → Is
     → (rest ≡ Some e → IsBelow n e) → cond b (Some d) rest ≡ Some e → IsBelow n e
 below_either n true d e rest first later h = subst (IsBelow n) (some_is d e h) first
 below_either n false d e rest first later h = later h
-
--- where none is told the first limit is not passed, and none is told of the rest
-rest_none : (b : Bool) (d : Excess) (rest : Option Excess) → cond b (Some d) rest ≡ None
-    → (b ≡ false) × (rest ≡ None)
-rest_none true d rest h = absurd (no_some d h)
-rest_none false d rest h = (refl, h)
 
 module _ (design : FlatDesign) where
   abbrev large : ℕ → Bool
@@ -70,32 +62,3 @@ module _ (design : FlatDesign) where
     where
       plain : (n : ℕ) → 0 + n ≡ n
       plain n = omega arith
-
-  few_from : (total : ℕ) (targets : List ℕ) → first_excess design total targets ≡ None
-      → total + length (flat_map (target_obligations [] design) targets) + selectors ≤ 65536
-  few_from total [] h =
-      let few = ltb-false 65536 (total + selectors)
-      (rest_none (nat_lt 65536 (total + selectors)) many_obligations None h).0 in
-      omega arith
-  few_from total (s ∷ targets) h =
-      let first = rest_none (nat_lt 4096 (count s)) (many_paths s) _ h in
-      let second = rest_none (large s) (large_path s) _ first.1 in
-      let third = rest_none (nat_lt 65536 (total + count s)) many_obligations _ second.1 in
-      let few = few_from (total + count s) targets third.1 in
-      let all : length (flat_map (target_obligations [] design) (s ∷ targets))
-      ≡ length (target_obligations [] design s)
-      + length (flat_map (target_obligations [] design) targets) =
-      length-append (target_obligations [] design s)
-      (flat_map (target_obligations [] design) targets) in
-      let own : length (target_obligations [] design s) ≡ count s = obligation_count design s in
-      omega arith
-
-  -- a design that passes no limit has few obligations
-  pub few_obligations : excess design ≡ None → length (obligations [] design) ≤ 65536
-  few_obligations h =
-      let few = few_from 0 (signal_numbers design) h in
-      let all : length (obligations [] design)
-      ≡ length (flat_map (target_obligations [] design) (signal_numbers design)) + selectors =
-      length-append (flat_map (target_obligations [] design) (signal_numbers design))
-      (flat_map (selector_obligations [] design) (signal_numbers design)) in
-      omega arith

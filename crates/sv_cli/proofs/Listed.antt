@@ -5,25 +5,14 @@ use Rattle.std.specs.declared.alloc.AllocError.{AllocError}
 use Rattle.sv_flat.specs.declared.designs.Flat.{Flat}
 use Rattle.sv_flat.specs.Design.{FlatDesign}
 use Rattle.sv_flat.specs.Views.{signal_form, design_of}
-use Rattle.sv_obl.specs.declared.queries.Query.{Query}
 use Rattle.sv_obl.specs.Limits.{Excess, excess}
-use Rattle.sv_obl.specs.Obligations.{obligations}
-use Rattle.sv_obl.specs.Views.{obligation_of}
 use Rattle.sv_obl.proofs.TargetFacts.{length_mapped}
 use Rattle.sv_cli.specs.declared.report.Report.{Report}
 use Rattle.sv_cli.specs.Text.{limit_text}
 use Rattle.sv_cli.specs.Answer.{answer_of, limit_passed, limit_number, limit_names}
 use Rattle.sv_cli.specs.Prepared.{TellsLimit}
 use Rattle.sv_cli.proofs.Congruence.{two}
-use Rattle.sv_cli.proofs.Limits.{IsBelow, told_below, few_obligations}
-
--- a design that passes no limit has few lines
-pub few_lines : (design : FlatDesign) (queries : List Query)
-    → map obligation_of queries ≡ obligations [] design → excess design ≡ None
-    → length queries ≤ 65536
-few_lines design queries listed none =
-    subst (λ n. n ≤ 65536) (sym (ap length listed) ∙ length_mapped obligation_of queries)
-    (few_obligations design none)
+use Rattle.sv_cli.proofs.Limits.{IsBelow, told_below}
 
 -- a target that is told with a limit is a signal of the design
 pub name_below : (flat : Flat) (passed : Excess) → excess (design_of flat) ≡ Some passed

@@ -10,9 +10,8 @@ use Rattle.sv_flat.specs.declared.designs.Flat.{Flat}
 use Rattle.sv_flat.specs.Admission.{IsAdmitted}
 use Rattle.sv_flat.specs.Design.{FlatDesign}
 use Rattle.sv_flat.specs.Views.{design_of}
-use Rattle.sv_obl.specs.ListLines.{lines_from}
-use Rattle.sv_obl.specs.Obligations.{Obligation, obligations}
-use Rattle.sv_obl.specs.Views.{obligation_of}
+use Rattle.sv_obl.specs.Limits.{excess}
+use Rattle.sv_obl.specs.ListLines.{list_text}
 use Rattle.sv_words.specs.Words.{Request, check, list, sim, request_of, usage_of}
 use Rattle.sv_words.specs.declared.command.UsageKind.{UsageKind}
 use Rattle.sv_simulate.specs.Simulated.{IsSimulated}
@@ -26,7 +25,7 @@ use Rattle.sv_cli.specs.Answer.{misused, largest_file, StandsFor, BreaksFirst, P
 use Rattle.sv_cli.specs.Answer.{limit_number, limit_names, IsVerdict, IsListing, IsSimulation}
 use Rattle.sv_cli.specs.Answer.{Simulates, IsAnswerBy, IsAnswer, AreCircles}
 use Rattle.sv_cli.specs.Report.{Decides}
-use Rattle.sv_cli.specs.Prepared.{HasLines, IsPerformed, IsOtherOrWith, Prepares, PreparesFor}
+use Rattle.sv_cli.specs.Prepared.{IsPerformed, IsOtherOrWith, Prepares, PreparesFor}
 use Rattle.sv_cli.specs.Prepared.{PreparesWords, TellsLimit, ListsDesign}
 use Rattle.sv_cli.proofs.Congruence.{two}
 use Rattle.sv_cli.proofs.ListVerdicts.{listing_is_one}
@@ -177,20 +176,16 @@ module _ (file : List ℕ) (top : Option (List ℕ)) (text : List ℕ) where
       listed_prepared : (prepared : Prepared) → ListsDesign (design_of design) prepared
           → PreparesFor (list file top) text prepared
       listed_prepared (Whole report) told = limit_prepared report told
-      listed_prepared (Lines listed queries) told =
-          let printed =
-          lines_from (design_of listed).signals 1 (map obligation_of queries.items) in
+      listed_prepared (Lines listed) told =
+          let printed = list_text (design_of listed) in
           let is : IsListing top text done printed = record {
             within = within;
             passes = passes;
-            few = told.2;
-            prints =
-                two (λ (d : FlatDesign) (os : List Obligation). lines_from d.signals 1 os)
-                (design_of listed) (design_of design) (map obligation_of queries.items)
-                (obligations [] (design_of design)) told.0 told.1;
+            few = told.1;
+            prints = ap list_text told.0;
           } in
           record {
-            ready = told.3;
+            ready = ap excess told.0 ∙ told.1;
             simulates = tt;
             stands = λ s a others performed.
                 subst (λ (b : Answer). IsListing top text b others) (sym performed.0)

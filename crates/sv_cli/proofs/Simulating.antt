@@ -36,7 +36,7 @@ pub cycles_told : (words : List (List ℕ)) (text stimulus old new : List ℕ) (
     → IsSimulationWith (λ level design. WritesAllCycles design level stimulus old new) prepared
     → WritesCycles words text stimulus old new
 cycles_told words text stimulus old new (Whole report) may is = absurd is
-cycles_told words text stimulus old new (Lines design queries) may is = absurd is
+cycles_told words text stimulus old new (Lines design) may is = absurd is
 cycles_told words text stimulus old new (Simulation design level order) may is = record {
   level = _;
   design = _;

@@ -189,7 +189,7 @@ module _ (words : List (List ℕ)) (before after : List Exchange) where
       → (level : Option (List ℕ)) × (design : FlatDesign) × Simulates words text level design
       × Holds level design
   simulation_of text (Whole report) Holds may is = absurd is
-  simulation_of text (Lines design queries) Holds may is = absurd is
+  simulation_of text (Lines design) Holds may is = absurd is
   simulation_of text (Simulation design level order) Holds may is = (_, _, may, is)
 
   module _ (prepared : Prepared)

@@ -1,16 +1,11 @@
 -- What is prepared of a text before the stimulus is taken, as the code holds it.
-use Rattle.std.specs.Prelude.{◌≡◌, ◌≤◌, ◌⊎◌, ℕ, List, [], Option, Some, None, All, IsSome, length}
-use Rattle.std.specs.Prelude.{map, option_map, string_bytes, ⊤, ◌++◌, Bool, IsTrue, IfSome, IfNone}
+use Rattle.std.specs.Prelude.{◌≡◌, ◌⊎◌, ℕ, List, Option, Some, None, IsSome, option_map}
+use Rattle.std.specs.Prelude.{string_bytes, ⊤, ◌++◌, Bool, IsTrue, IfSome, IfNone}
 use Rattle.sv_io.specs.Sink.{WritesFront}
-use Rattle.sv_flat.specs.declared.designs.Flat.{Flat}
 use Rattle.sv_flat.specs.Design.{FlatDesign}
 use Rattle.sv_flat.specs.Views.{design_of}
-use Rattle.sv_obl.specs.declared.queries.Query.{Query}
-use Rattle.sv_obl.specs.DesignQueries.{IsQueryOf, IsPlaced}
 use Rattle.sv_obl.specs.Limits.{Excess, excess}
-use Rattle.sv_obl.specs.ListLines.{lines_from}
-use Rattle.sv_obl.specs.Obligations.{obligations}
-use Rattle.sv_obl.specs.Views.{obligation_of}
+use Rattle.sv_obl.specs.ListLines.{list_text}
 use Rattle.sv_words.specs.Words.{Request, request_of, usage_of}
 use Rattle.sv_simulate.specs.declared.endings.Ending.{Ending}
 use Rattle.sv_simulate.specs.Simulated.{IsSimulated}
@@ -21,15 +16,15 @@ use Rattle.sv_cli.specs.Text.{limit_text}
 use Rattle.sv_cli.specs.Answer.{Answer, answer_of, answer_by, done, limit_passed, limit_number}
 use Rattle.sv_cli.specs.Answer.{limit_names, AreCircles, IsAnswerBy, IsAnswer, Simulates}
 
--- each line can be made, and its number fits
-pub record HasLines (design : Flat) (queries : List Query) : Type 0 where
-  pub asked : All (IsQueryOf (design_of design)) (map obligation_of queries)
-  pub placed : All IsPlaced (map obligation_of queries)
-  pub few : length queries ≤ 65536
+-- what was accepted grew by all of the text but what is left
+pub record LeavesOf (old text left new : List ℕ) : Type 0 where
+  pub front : List ℕ
+  pub whole : text ≡ front ++ left
+  pub accepted : new ≡ old ++ front
 
 abbrev pub IsReady : Prepared → Type 0
 IsReady (Whole report) = IsSome (answer_of report.outcome)
-IsReady (Lines design queries) = HasLines design queries.items
+IsReady (Lines design) = excess (design_of design) ≡ None
 IsReady (Simulation design level order) = ⊤
 
 -- what is answered of a design that is simulated, and what is printed
@@ -43,9 +38,8 @@ EndsAs design level order stimulus answer printed =
 abbrev pub IsPerformed : Prepared → (stimulus : List ℕ) → Answer → (printed : List ℕ) → Type 0
 IsPerformed (Whole report) stimulus answer printed =
     (answer_of report.outcome ≡ Some answer) × (printed ≡ report.text.items)
-IsPerformed (Lines design queries) stimulus answer printed =
-    (answer ≡ done) × (printed ≡
-    lines_from (design_of design).signals 1 (map obligation_of queries.items))
+IsPerformed (Lines design) stimulus answer printed =
+    (answer ≡ done) × (printed ≡ list_text (design_of design))
 IsPerformed (Simulation design level order) stimulus answer printed =
     EndsAs (design_of design) (option_map string_bytes level) order stimulus answer printed
 
@@ -70,14 +64,14 @@ pub record Performs (Is : (stimulus : List ℕ) → Answer → (printed : List �
 -- it is a simulation, of whose level and design this holds
 abbrev pub IsSimulationWith : (Option (List ℕ) → FlatDesign → Type 0) → Prepared → Type 0
 IsSimulationWith Holds (Whole report) = ⊥
-IsSimulationWith Holds (Lines design queries) = ⊥
+IsSimulationWith Holds (Lines design) = ⊥
 IsSimulationWith Holds (Simulation design level order) =
     Holds (option_map string_bytes level) (design_of design)
 
 -- of a simulation, if it is one, this holds
 abbrev pub IsOtherOrWith : (Option (List ℕ) → FlatDesign → Type 0) → Prepared → Type 0
 IsOtherOrWith Holds (Whole report) = ⊤
-IsOtherOrWith Holds (Lines design queries) = ⊤
+IsOtherOrWith Holds (Lines design) = ⊤
 IsOtherOrWith Holds (Simulation design level order) =
     Holds (option_map string_bytes level) (design_of design)
 
@@ -117,7 +111,5 @@ pub record TellsLimit (design : FlatDesign) (report : Report) : Type 0 where
 -- what is prepared of an admitted design to list its obligations
 abbrev pub ListsDesign : FlatDesign → Prepared → Type 0
 ListsDesign design (Whole report) = TellsLimit design report
-ListsDesign design (Lines listed queries) =
-    (design_of listed ≡ design) × (map obligation_of queries.items ≡ obligations [] design)
-    × (excess design ≡ None) × HasLines listed queries.items
+ListsDesign design (Lines listed) = (design_of listed ≡ design) × (excess design ≡ None)
 ListsDesign design (Simulation simulated level order) = ⊥

@@ -1,15 +1,14 @@
 // What `list` writes: the line of each obligation, or why there are none.
 ghost use Rattle.std.specs.Prelude.{◌≡◌, ◌≤◌, ◌<◌, ◌++◌, ◌∷◌, [], IfOk, IsErrOf, OnOk, OnErr};
-ghost use Rattle.std.specs.Prelude.{length, map};
+ghost use Rattle.std.specs.Prelude.{◌+◌, None, length};
 ghost use Rattle.sv_flat.specs.Views.{design_of};
 ghost use Rattle.sv_io.specs.Count.{Rose};
 ghost use Rattle.sv_io.specs.Sink.{WritesFront};
 ghost use Rattle.sv_obl.specs.Answers.{Told};
-ghost use Rattle.sv_obl.specs.DesignQueries.{IsQueryOf, IsPlaced};
 ghost use Rattle.sv_obl.specs.Limits.{excess};
-ghost use Rattle.sv_obl.specs.ListLines.{name_of, lines_from, list_line as line_of};
-ghost use Rattle.sv_obl.specs.Views.{obligation_of};
-ghost use Rattle.sv_cli.specs.Prepared.{HasLines, ListsDesign, TellsLimit};
+ghost use Rattle.sv_obl.specs.ListLines.{name_of, list_text};
+ghost use Rattle.sv_obl.specs.ListParts.{IsAt, lines_left};
+ghost use Rattle.sv_cli.specs.Prepared.{LeavesOf, ListsDesign, TellsLimit};
 
 use crate::prepared::Prepared;
 use crate::report::{Report, report_of_limit};
@@ -18,14 +17,14 @@ use sv_design::Design;
 use sv_flat::SigId;
 use sv_io::{PutFault, Sink, put_all};
 use sv_num::Name;
-use sv_obl::{OblFault, Query, list_line, obligations};
+use sv_obl::{Listing, OblFault, check_limits};
 
 /// What is prepared of an admitted design to list its obligations.
 pub fn lines_of_design(alloc: Global, design: Design) -> Result<Prepared, AllocError>
     ensures { IfOk result (ListsDesign (design_of design)) }
 {
-    match obligations(alloc, &design) {
-        Ok(queries) => Ok(Prepared::Lines(design, queries)),
+    match check_limits(alloc, &design) {
+        Ok(()) => Ok(Prepared::Lines(design)),
         Err(fault) => Ok(Prepared::Whole(report_of_fault(alloc, &design, fault)?)),
     }
 }
@@ -53,50 +52,96 @@ fn name_alone(alloc: Global, design: &Design, signal: SigId) -> Result<Vec<Name>
     Ok(vec![in alloc; name]?)
 }
 
-/// Puts the line of each obligation of the design, as it is made. Refused, the front of all lines
-/// was accepted.
-pub fn put_lines<K: Sink>(
-    alloc: Global,
-    out: &mut K,
-    design: &Design,
-    queries: &[Query],
-) -> Result<(), PutFault>
-    requires { HasLines design.now queries.now }
-    ensures whole { OnOk result (K.accepted out.new ≡ K.accepted out.old
-        ++ lines_from (design_of design.now).signals 1 (map obligation_of queries.now)) }
+/// Puts the lines of the obligations of a design that passes no limit, each target's as they are
+/// made. Refused, the front of all lines was accepted.
+pub fn put_lines<K: Sink>(alloc: Global, out: &mut K, design: &Design) -> Result<(), PutFault>
+    requires { excess (design_of design.now) ≡ None }
+    ensures whole { OnOk result
+        (K.accepted out.new ≡ K.accepted out.old ++ list_text (design_of design.now)) }
     ensures refused { OnErr result
-        (WritesFront (K.accepted out.old)
-        (lines_from (design_of design.now).signals 1 (map obligation_of queries.now))
-        (K.accepted out.new)) }
+        (WritesFront (K.accepted out.old) (list_text (design_of design.now)) (K.accepted out.new)) }
     ensures failed { IsErrOf result PutFault.Failed → Rose (K.faults out.old) (K.faults out.new) }
 {
-    for i in 0..queries.len() {
-        put_line(alloc, out, design, i as u32 + 1, &queries[i])?;
+    match Listing::new(alloc, design) {
+        Ok(mut listing) => {
+            put_targets(alloc, out, design, &mut listing)?;
+            put_selectors(alloc, out, design, &listing)
+        }
+        Err(_) => Err(PutFault::OutOfMemory),
     }
-    Ok(())
 }
 
-// Puts the line of one obligation.
-fn put_line<K: Sink>(
+// Puts the lines of all targets.
+fn put_targets<K: Sink>(
     alloc: Global,
     out: &mut K,
     design: &Design,
-    number: u32,
-    query: &Query,
+    listing: &mut Listing,
 ) -> Result<(), PutFault>
-    requires query { IsQueryOf (design_of design.now) (obligation_of query.now) }
-    requires placed { IsPlaced (obligation_of query.now) }
-    ensures whole { OnOk result (K.accepted out.new ≡ K.accepted out.old
-        ++ line_of (design_of design.now).signals number (obligation_of query.now)) }
+    requires at { IsAt (design_of design.now) 0 listing.old }
+    ensures whole { OnOk result
+        (LeavesOf (K.accepted out.old) (lines_left (design_of design.now) 0)
+        (lines_left (design_of design.now) (length design.now.signals.items))
+        (K.accepted out.new)) }
+    ensures next { OnOk result
+        (IsAt (design_of design.now) (length design.now.signals.items) listing.new) }
     ensures refused { OnErr result
-        (WritesFront (K.accepted out.old)
-        (line_of (design_of design.now).signals number (obligation_of query.now))
+        (WritesFront (K.accepted out.old) (lines_left (design_of design.now) 0)
         (K.accepted out.new)) }
     ensures failed { IsErrOf result PutFault.Failed → Rose (K.faults out.old) (K.faults out.new) }
     ensures counts { K.faults out.old ≤ K.faults out.new }
 {
-    match list_line(alloc, design, number, query) {
-        Ok(line) => put_all(out, &line),
+    for s in 0..design.signals().len() {
+        put_target(alloc, out, design, listing, SigId(s as u32))?;
+    }
+    Ok(())
+}
+
+// Puts the lines of the target that comes next.
+fn put_target<K: Sink>(
+    alloc: Global,
+    out: &mut K,
+    design: &Design,
+    listing: &mut Listing,
+    target: SigId,
+) -> Result<(), PutFault>
+    requires known { target.0 < length design.now.signals.items }
+    requires at { IsAt (design_of design.now) target.0 listing.old }
+    ensures whole { OnOk result
+        (LeavesOf (K.accepted out.old) (lines_left (design_of design.now) target.0)
+        (lines_left (design_of design.now) (target.0 + 1)) (K.accepted out.new)) }
+    ensures next { OnOk result (IsAt (design_of design.now) (target.0 + 1) listing.new) }
+    ensures refused { OnErr result
+        (WritesFront (K.accepted out.old) (lines_left (design_of design.now) target.0)
+        (K.accepted out.new)) }
+    ensures failed { IsErrOf result PutFault.Failed → Rose (K.faults out.old) (K.faults out.new) }
+    ensures counts { K.faults out.old ≤ K.faults out.new }
+{
+    match listing.target_lines(alloc, design, target) {
+        Ok(part) => put_all(out, &part),
+        Err(_) => Err(PutFault::OutOfMemory),
+    }
+}
+
+// Puts the lines of selectors, behind those of all targets.
+fn put_selectors<K: Sink>(
+    alloc: Global,
+    out: &mut K,
+    design: &Design,
+    listing: &Listing,
+) -> Result<(), PutFault>
+    requires at { IsAt (design_of design.now) (length design.now.signals.items) listing.now }
+    ensures whole { OnOk result (K.accepted out.new ≡ K.accepted out.old
+        ++ lines_left (design_of design.now) (length design.now.signals.items)) }
+    ensures refused { OnErr result
+        (WritesFront (K.accepted out.old)
+        (lines_left (design_of design.now) (length design.now.signals.items))
+        (K.accepted out.new)) }
+    ensures failed { IsErrOf result PutFault.Failed → Rose (K.faults out.old) (K.faults out.new) }
+    ensures counts { K.faults out.old ≤ K.faults out.new }
+{
+    match listing.selector_lines(alloc, design) {
+        Ok(part) => put_all(out, &part),
         Err(_) => Err(PutFault::OutOfMemory),
     }
 }

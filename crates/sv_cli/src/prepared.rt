@@ -14,7 +14,6 @@ use crate::report::{Report, report_of_large_file, report_of_refusal, report_on_f
 use std::alloc::{AllocError, Global};
 use sv_design::Design;
 use sv_num::Fault;
-use sv_obl::Query;
 use sv_words::Command;
 
 /// What is to be done once the text is read.
@@ -22,8 +21,8 @@ use sv_words::Command;
 pub enum Prepared {
     /// To write what is answered.
     Whole(Report),
-    /// To write the line of each obligation of the design.
-    Lines(Design, Vec<Query>),
+    /// To write the line of each obligation of the design, which passes no limit.
+    Lines(Design),
     /// To simulate the design, with the level and the order that are asked for.
     Simulation(Design, Option<String>, Option<u64>),
 }

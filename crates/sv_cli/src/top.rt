@@ -7,8 +7,8 @@ ghost use Rattle.sv_io.specs.Cabinet.{bytes_under, IfLong};
 ghost use Rattle.sv_io.specs.Count.{Rose};
 ghost use Rattle.sv_io.specs.Exchange.{Fetched, nothing, fetched, fetched_of, whole};
 ghost use Rattle.sv_io.specs.Sink.{WritesFront};
-ghost use Rattle.sv_obl.specs.ListLines.{lines_from};
-ghost use Rattle.sv_obl.specs.Views.{obligation_of};
+ghost use Rattle.sv_obl.specs.Limits.{excess};
+ghost use Rattle.sv_obl.specs.ListLines.{list_text};
 ghost use Rattle.sv_simulate.specs.Simulated.{largest_stimulus, level_asked, WritesAllCycles};
 ghost use Rattle.sv_words.specs.Words.{words_of, usage_of, plain};
 ghost use Rattle.sv_words.specs.declared.command.CommandName.{CommandName};
@@ -16,7 +16,7 @@ ghost use Rattle.sv_cli.specs.Command.{command_of, file_of, file_in};
 ghost use Rattle.sv_cli.specs.Answer.{Answer, answer_of, done, misused, largest_file};
 ghost use Rattle.sv_cli.specs.Answer.{ReadsFile, Reads};
 ghost use Rattle.sv_cli.specs.Answer.{IsAnswer, AreCircles, KeepsSecrets, WritesCycles, MayTake};
-ghost use Rattle.sv_cli.specs.Prepared.{HasLines, IsReady, IsPerformed, Performs, IsSimulationWith};
+ghost use Rattle.sv_cli.specs.Prepared.{IsReady, IsPerformed, Performs, IsSimulationWith};
 ghost use Rattle.sv_cli.specs.Prepared.{PreparesFor, PreparesWords};
 
 use crate::listing::put_lines;
@@ -27,7 +27,6 @@ use crate::simulation::simulation;
 use std::alloc::{AllocError, Global};
 use sv_design::Design;
 use sv_io::{Cabinet, FetchFault, PutFault, Sink, Source, put_all};
-use sv_obl::Query;
 use sv_words::{Command, WordFault, read_words};
 
 // The bytes of the largest source file.
@@ -295,7 +294,7 @@ fn perform<S: Source, K: Sink>(
 {
     match prepared {
         Prepared::Whole(report) => send(out, report),
-        Prepared::Lines(design, queries) => send_lines(alloc, out, &design, &queries),
+        Prepared::Lines(design) => send_lines(alloc, out, &design),
         Prepared::Simulation(design, level, order) => {
             simulation(alloc, &design, level.as_deref(), order, input, out)
         }
@@ -320,21 +319,19 @@ fn send<K: Sink>(out: &mut K, report: Report) -> Outcome
     }
 }
 
-// Writes the line of each obligation of a design, as it is made.
-fn send_lines<K: Sink>(alloc: Global, out: &mut K, design: &Design, queries: &[Query]) -> Outcome
-    requires { HasLines design.now queries.now }
+// Writes the lines of the obligations of a design, each target's as they are made.
+fn send_lines<K: Sink>(alloc: Global, out: &mut K, design: &Design) -> Outcome
+    requires { excess (design_of design.now) ≡ None }
     ensures answered { IfSome (answer_of result) (λ a. a ≡ done) }
     ensures whole { IfSome (answer_of result)
-        (λ _. K.accepted out.new ≡ K.accepted out.old
-        ++ lines_from (design_of design.now).signals 1 (map obligation_of queries.now)) }
+        (λ _. K.accepted out.new ≡ K.accepted out.old ++ list_text (design_of design.now)) }
     ensures front { IfNone (answer_of result)
-        (WritesFront (K.accepted out.old)
-        (lines_from (design_of design.now).signals 1 (map obligation_of queries.now))
+        (WritesFront (K.accepted out.old) (list_text (design_of design.now))
         (K.accepted out.new)) }
     ensures no_read { result ≡ Outcome.ReadFault → ⊥ }
     ensures write_fault { result ≡ Outcome.WriteFault → Rose (K.faults out.old) (K.faults out.new) }
 {
-    match put_lines(alloc, out, design, queries) {
+    match put_lines(alloc, out, design) {
         Ok(()) => Outcome::Done,
         Err(PutFault::Failed) => Outcome::WriteFault,
         Err(PutFault::OutOfMemory) => Outcome::OutOfMemory,

@@ -35,4 +35,5 @@ pub mod TreeFacts
 pub mod WalkFacts
 pub mod Watched
 pub mod WholeExample
+pub mod WrittenFacts
 pub mod Unchanged

@@ -121,7 +121,7 @@ module _ (design : FlatDesign) where
     pub rest : first_excess design (length queries) (range_with_len i (n - i)) ≡ excess design
     pub few : length queries ≤ 65536
 
-  range_at : (i : ℕ) → i < n →
+  pub range_at : (i : ℕ) → i < n →
       range_with_len i (n - i) ≡ i ∷ range_with_len (i + 1) (n - (i + 1))
   range_at i inside =
       let same : n - i ≡ suc (n - (i + 1)) = omega arith in

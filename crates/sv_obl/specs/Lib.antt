@@ -4,6 +4,7 @@ pub mod DesignQueries
 pub mod Exchange
 pub mod Limits
 pub mod ListLines
+pub mod ListParts
 pub mod Nodes
 pub mod Noninterference
 pub mod Obligations
@@ -15,3 +16,4 @@ pub mod Trails
 pub mod Validity
 pub mod Wanted
 pub mod Views
+pub mod Written

@@ -4,25 +4,31 @@
 //! An obligation is a path through the process of a target, with the signals that it reads.
 //! `specs/Paths.antt` says which paths a target has, `specs/Wanted.antt` what is put in on the way,
 //! `specs/Obligations.antt` which obligations a design has, `specs/Limits.antt` how many it may
-//! have, `specs/Validity.antt` when one is valid, and `specs/ListLines.antt` how `secv list` prints
-//! them. The laws say what valid obligations mean.
+//! have, `specs/Validity.antt` when one is valid, `specs/ListLines.antt` how `secv list` prints them,
+//! and `specs/ListParts.antt` what of it is left after some targets. The laws say what valid obligations mean.
 //!
 //! `obligations` takes an admitted design and gives exactly the list of the definition in its
 //! order, or the first limit that the design passes; `specs/DesignQueries.antt` says what makes an
-//! obligation one of the design's, as each of them is. Inside, `specs/Routes.antt` tells paths as
-//! they are where no read is an earlier one, `specs/Shorts.antt` statements in short, each part with
-//! what it assigns, `specs/Cuts.antt` what of such a statement is walked for a target,
-//! `specs/Trails.antt` ties routes to what is walked, and `specs/Answers.antt` the walk through all
-//! targets to the limits; those five are private.
+//! obligation one of the design's, as each of them is. `check_limits` tells that limit alone, and
+//! `Listing` gives the lines of `secv list` part by part, with no more in memory than the paths of
+//! one target and their lines. Inside, `specs/Routes.antt` tells paths as they are where no read is
+//! an earlier one, `specs/Shorts.antt` statements in short, each part with what it assigns,
+//! `specs/Cuts.antt` what of such a statement is walked for a target, `specs/Trails.antt` ties
+//! routes to what is walked, `specs/Answers.antt` the walk through all targets to the limits, and
+//! `specs/Written.antt` lines to what is written; those six are private.
 #![tactic(auto)]
 
 mod cuts;
 mod faults;
 mod frames;
 mod laws;
+mod limits;
 mod list_lines;
+mod list_parts;
+mod list_texts;
 mod listing;
 mod nodes;
+mod path_lines;
 mod path_queries;
 mod pieces;
 mod queries;
@@ -41,7 +47,9 @@ pub use laws::{
     taken_path_gives_value, valid_designs_are_noninterferent,
     valid_obligations_mean_noninterference,
 };
+pub use limits::check_limits;
 pub use list_lines::list_line;
+pub use list_parts::Listing;
 pub use listing::obligations;
 pub use queries::{Goal, Query, Step};
 pub use std::alloc::AllocError as OutOfMemory;

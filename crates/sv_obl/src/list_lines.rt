@@ -1,6 +1,6 @@
 // The lines of `secv list`.
 ghost use Rattle.std.specs.Prelude.{◌≡◌, ℕ, ◌<◌, ◌∷◌, [], ◌++◌, map, length, All, codes, decimal};
-ghost use Rattle.std.specs.Prelude.{IfOk, OnOk};
+ghost use Rattle.std.specs.Prelude.{IfOk, OnOk, if◌then◌else◌};
 ghost use Rattle.sv_flat.specs.ByNumber.{signal_forms};
 ghost use Rattle.sv_flat.specs.Views.{design_of};
 ghost use Rattle.sv_obl.specs.DesignQueries.{IsQueryOf, IsPlaced};
@@ -31,10 +31,25 @@ pub fn list_line(
         line.items ≡ line_of (design_of design.now).signals number (obligation_of query.now)) }
 {
     let mut line = Vec::new(alloc);
-    push_number(&mut line, number)?;
-    push_goal(&mut line, design.signals(), query)?;
-    line.push(b'\n')?;
+    push_line(&mut line, design.signals(), number, query)?;
     Ok(line)
+}
+
+/// Adds the line of an obligation, with its number.
+pub fn push_line(
+    text: &mut Vec<u8>,
+    signals: &[Signal],
+    number: u32,
+    query: &Query,
+) -> Result<(), AllocError>
+    requires among { IsAmong (length signals.now) (obligation_of query.now) }
+    ensures { OnOk result (text.new.items ≡ text.old.items
+        ++ line_of (signal_forms signals.now) number (obligation_of query.now)) }
+{
+    push_number(text, number)?;
+    push_goal(text, signals, query)?;
+    text.push(b'\n')?;
+    Ok(())
 }
 
 // What stands after the number.
@@ -100,7 +115,8 @@ fn push_selector(
     push_reads(line, signals, query.reads.as_slice())
 }
 
-fn frame_bytes(frame: Frame) -> &'static [u8]
+/// The word of a frame.
+pub fn frame_bytes(frame: Frame) -> &'static [u8]
     ensures { result.now ≡ frame_word frame }
 {
     match frame {
@@ -109,7 +125,8 @@ fn frame_bytes(frame: Frame) -> &'static [u8]
     }
 }
 
-fn push_number(line: &mut Vec<u8>, number: u32) -> Result<(), AllocError>
+/// Adds a number in decimal digits.
+pub fn push_number(line: &mut Vec<u8>, number: u32) -> Result<(), AllocError>
     ensures { OnOk result (line.new.items ≡ line.old.items ++ decimal number) }
 {
     let mut buffer = Buffer::new();
@@ -117,8 +134,8 @@ fn push_number(line: &mut Vec<u8>, number: u32) -> Result<(), AllocError>
     Ok(())
 }
 
-// A blank and a word.
-fn push_word(line: &mut Vec<u8>, word: &[u8]) -> Result<(), AllocError>
+/// Adds a blank and a word.
+pub fn push_word(line: &mut Vec<u8>, word: &[u8]) -> Result<(), AllocError>
     ensures { OnOk result (line.new.items ≡ line.old.items ++ codes " " ++ word.now) }
 {
     line.push(b' ')?;
@@ -126,7 +143,8 @@ fn push_word(line: &mut Vec<u8>, word: &[u8]) -> Result<(), AllocError>
     Ok(())
 }
 
-fn push_name(line: &mut Vec<u8>, signals: &[Signal], signal: SigId) -> Result<(), AllocError>
+/// Adds the name of a signal.
+pub fn push_name(line: &mut Vec<u8>, signals: &[Signal], signal: SigId) -> Result<(), AllocError>
     requires known { signal.0 < length signals.now }
     ensures { OnOk result
         (line.new.items ≡ line.old.items ++ codes " "
@@ -144,14 +162,22 @@ fn push_place(line: &mut Vec<u8>, place: Place) -> Result<(), AllocError>
     Ok(())
 }
 
+/// Adds a condition: whether it holds, and its place.
+pub fn push_turn(line: &mut Vec<u8>, truth: bool, place: Place) -> Result<(), AllocError>
+    ensures { OnOk result (line.new.items ≡ line.old.items
+        ++ codes " " ++ ((if truth then codes "+" else codes "-") ++ place_text place)) }
+{
+    let sign: &[u8] = if truth { b"+" } else { b"-" };
+    push_word(line, sign)?;
+    push_place(line, place)?;
+    Ok(())
+}
+
 fn push_step(line: &mut Vec<u8>, step: &Step) -> Result<(), AllocError>
     ensures { OnOk result
         (line.new.items ≡ line.old.items ++ codes " " ++ step_word (step_form step.now)) }
 {
-    let sign: &[u8] = if step.truth { b"+" } else { b"-" };
-    push_word(line, sign)?;
-    push_place(line, step.place)?;
-    Ok(())
+    push_turn(line, step.truth, step.place)
 }
 
 fn push_steps(line: &mut Vec<u8>, steps: &[Step]) -> Result<(), AllocError>
@@ -164,7 +190,8 @@ fn push_steps(line: &mut Vec<u8>, steps: &[Step]) -> Result<(), AllocError>
     Ok(())
 }
 
-fn push_right(line: &mut Vec<u8>, right: Option<Place>) -> Result<(), AllocError>
+/// Adds where the path ends in an assignment, or that the target is held.
+pub fn push_right(line: &mut Vec<u8>, right: Option<Place>) -> Result<(), AllocError>
     ensures { OnOk result (line.new.items ≡ line.old.items ++ codes " " ++ right_word right) }
 {
     match right {
@@ -177,9 +204,9 @@ fn push_right(line: &mut Vec<u8>, right: Option<Place>) -> Result<(), AllocError
     Ok(())
 }
 
-// The word `reads` and the names.
+/// Adds the word `reads` and the names.
 #[tactic(auto, using(crate::proofs::ListLineFacts::known_at))]
-fn push_reads(line: &mut Vec<u8>, signals: &[Signal], reads: &[SigId]) -> Result<(), AllocError>
+pub fn push_reads(line: &mut Vec<u8>, signals: &[Signal], reads: &[SigId]) -> Result<(), AllocError>
     requires known { All (λ s. s < length signals.now) (map number_of reads.now) }
     ensures { OnOk result (line.new.items ≡ line.old.items
         ++ blanked (codes "reads" ∷ map (name_of (signal_forms signals.now))

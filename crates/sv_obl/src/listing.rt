@@ -17,8 +17,8 @@ use std::alloc::{AllocError, Global};
 use sv_design::Design;
 use sv_flat::SigId;
 
-// How many signals the design has.
-fn count_of(design: &Design) -> u32
+/// How many signals the design has.
+pub fn count_of(design: &Design) -> u32
     ensures count { result ≡ length design.now.signals.items }
     ensures design { IsDesign (design_of design.now) }
 {
@@ -37,8 +37,8 @@ fn list_targets(alloc: Global, design: &Design) -> Result<Vec<Query>, OblFault>
     Ok(queries)
 }
 
-// Adds the obligations of all selectors.
-fn add_all_selectors(
+/// Adds the obligations of all selectors; an error where memory runs out.
+pub fn add_all_selectors(
     alloc: Global,
     design: &Design,
     queries: &mut Vec<Query>,

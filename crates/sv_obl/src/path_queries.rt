@@ -15,7 +15,8 @@ use std::alloc::{AllocError, Global};
 use sv_flat::{ProcKind, Process, SigId};
 use sv_num::Place;
 
-fn is_clocked(kind: ProcKind) -> bool
+/// Whether a process of this kind is clocked.
+pub fn is_clocked(kind: ProcKind) -> bool
     ensures { result ≡ is_clocked (process_kind kind) }
 {
     matches!(kind, ProcKind::Clocked(_))
@@ -27,7 +28,8 @@ fn is_link(kind: ProcKind) -> bool
     matches!(kind, ProcKind::PortIn | ProcKind::PortOut)
 }
 
-fn frame_of(kind: ProcKind) -> Frame
+/// The frame in which a process of this kind drives its targets.
+pub fn frame_of(kind: ProcKind) -> Frame
     ensures { result ≡ frame_of (process_kind kind) }
 {
     match kind {
@@ -36,8 +38,8 @@ fn frame_of(kind: ProcKind) -> Frame
     }
 }
 
-// The place of a link is that of its expression.
-fn place_of(process: &Process, place: Option<Place>) -> Option<Place>
+/// The place where a path through the process ends; that of a link is its expression's.
+pub fn place_of(process: &Process, place: Option<Place>) -> Option<Place>
     ensures { result ≡
         (if is_link (process_kind process.now.kind) then Some process.now.place else place) }
 {

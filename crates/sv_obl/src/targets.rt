@@ -44,8 +44,9 @@ fn paths_of<'a>(
     }
 }
 
-// The same, where the other limits are kept too after so many obligations.
-fn paths_within<'a>(
+/// The paths of the target through the process, where they keep all limits after so many
+/// obligations.
+pub fn paths_within<'a>(
     alloc: Global,
     signals: &[Signal],
     short: &Short<'a>,

@@ -1,10 +1,8 @@
-use Rattle.std.proofs.Common.{◌≡◌, ℕ, List, ◌++◌, map, Some, ◌⊎◌, refl, sym, subst}
+use Rattle.std.proofs.Common.{◌≡◌, ℕ, List, ◌++◌, Some, ◌⊎◌, refl, sym, subst}
 use Rattle.std.specs.Prelude.{IsSome, Option, option_map, string_bytes}
 use Rattle.std.specs.Option.{option_copied}
 use Rattle.sv_flat.specs.Views.{design_of}
-use Rattle.sv_obl.specs.ListLines.{lines_from}
-use Rattle.sv_obl.specs.Views.{obligation_of}
-use Rattle.sv_obl.specs.declared.queries.Query.{Query}
+use Rattle.sv_obl.specs.ListLines.{list_text}
 use Rattle.sv_simulate.specs.Simulated.{level_asked, WritesAllCycles}
 use Rattle.sv_cli.specs.declared.prepared.Prepared.{Prepared}
 use Rattle.sv_cli.specs.Answer.{Answer, answer_of, done}
@@ -32,21 +30,15 @@ returns-in-Whole-clause-most g c = few_taken (g.S.Source.given c.args.input.now)
 
 pub returns-in-Lines-clause-performed : goal.returns-in-Lines-clause-performed
 returns-in-Lines-clause-performed g c =
-    let signals = (design_of c.in-Lines.design).signals in
     let given = g.S.Source.given c.args.input.now in
     let left = g.S.Source.left c.args.input.now in
     let old = g.K.Sink.accepted c.args.out.now in
     let new = g.K.Sink.accepted c.send_lines.new.out in
     subst (λ (p : Prepared). Performs (IsPerformed p) (λ (s : List ℕ). given ≡ given ++ s)
     g.S.Source.tells left old new (answer_of c.send_lines.result)) (sym c.in-Lines.is)
-    (subst (λ (queries : List Query). Performs (λ (s : List ℕ) (a : Answer) (p : List ℕ).
-    (a ≡ done) × (p ≡ lines_from signals 1 (map obligation_of queries)))
-    (λ (s : List ℕ). given ≡ given ++ s) g.S.Source.tells left old new
-    (answer_of c.send_lines.result)) c.deref.ensures.value
-    (sent (λ (a : Answer). a ≡ done) given
-    (lines_from signals 1 (map obligation_of c.deref.result.now)) left old new g.S.Source.tells
-    done refl (one_equal done) (answer_of c.send_lines.result) c.send_lines.ensures.answered
-    c.send_lines.ensures.whole c.send_lines.ensures.front))
+    (sent (λ (a : Answer). a ≡ done) given (list_text (design_of c.in-Lines.design)) left old new
+    g.S.Source.tells done refl (one_equal done) (answer_of c.send_lines.result)
+    c.send_lines.ensures.answered c.send_lines.ensures.whole c.send_lines.ensures.front)
 
 pub returns-in-Lines-clause-most : goal.returns-in-Lines-clause-most
 returns-in-Lines-clause-most g c = few_taken (g.S.Source.given c.args.input.now)

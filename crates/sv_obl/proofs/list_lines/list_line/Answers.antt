@@ -5,8 +5,8 @@ use Rattle.sv_obl.proofs.DesignQueryFacts.{query_among}
 use Rattle.sv_obl.proofs.TargetFacts.{length_mapped}
 use Rattle.sv_obl.proofs.list_lines.list_line.Goals as goal
 
-pub push_goal-requires : goal.push_goal-requires
-push_goal-requires c =
+pub push_line-requires : goal.push_line-requires
+push_line-requires c =
     let flat = c.args.design.now in
     let o = obligation_of c.args.query.now in
     record {

@@ -1,0 +1,335 @@
+-- Lines of obligations, one after the other.
+use Rattle.std.proofs.Common.{◌≡◌, ℕ, zero, suc, ◌+◌, ◌-◌, ◌<◌, ◌≤◌, List, [], ◌∷◌, ◌++◌, length}
+use Rattle.std.proofs.Common.{map, flat_map, take, get_or, All, Some, None, Result, Ok, Err}
+use Rattle.std.proofs.Common.{refl, sym, ap, subst, ◌∙◌, arith, append_assoc, append-nil}
+use Rattle.std.proofs.Common.{length-append, IsErrAnd, Bool, true, false, cond, nat_lt, ltb-false}
+use Rattle.std.specs.Prelude.{IsTrue}
+use Rattle.std.specs.List.{range_with_len, list_any, position}
+use Rattle.std.proofs.lemmas.List.{map-append, take_more}
+use Rattle.std.proofs.lemmas.List.Elements.{All-head, All-tail}
+use Rattle.std.proofs.lemmas.List.Quantifiers.{position-Some}
+use Rattle.sv_flat.specs.Admission.{IsAdmitted}
+use Rattle.sv_flat.specs.Design.{SignalForm, ProcessForm, FlatDesign}
+use Rattle.sv_flat.specs.Processes.{is_clocked, signal_numbers}
+use Rattle.sv_flat.specs.Sets.{holds, those}
+use Rattle.sv_flat.specs.Soundness.{sound}
+use Rattle.sv_flat.proofs.LeastSets.{those_below}
+use Rattle.sv_flat.proofs.Members.{Contains-right}
+use Rattle.sv_obl.specs.declared.faults.OblFault.{OblFault}
+use Rattle.sv_obl.specs.declared.list_texts.Lines.{Lines}
+use Rattle.sv_obl.specs.declared.trails.Trail.{Trail}
+use Rattle.sv_obl.specs.Answers.{is_large, target_excess, Told, excess_at}
+use Rattle.sv_obl.specs.DesignQueries.{IsQueryOf}
+use Rattle.sv_obl.specs.Limits.{Excess, many_paths, large_path, many_obligations}
+use Rattle.sv_obl.specs.Limits.{first_excess, excess, target_paths}
+use Rattle.sv_obl.specs.ListLines.{list_line, lines_from, list_text}
+use Rattle.sv_obl.specs.Obligations.{Obligation, target_obligations, selector_obligations}
+use Rattle.sv_obl.specs.Obligations.{obligations}
+use Rattle.sv_obl.specs.Routes.{Route, names_on, route_obligation}
+use Rattle.sv_obl.specs.Trails.{route_of, routes_of}
+use Rattle.sv_obl.specs.Views.{IsAmong}
+use Rattle.sv_obl.specs.ListParts.{obligations_before, obligations_from, lines_left, AreCounted}
+use Rattle.sv_obl.specs.Written.{Writes, CountsTargets}
+use Rattle.sv_obl.proofs.DesignQueryFacts.{all_are, query_among}
+use Rattle.sv_obl.proofs.PathLists.{all_contained, contained_all}
+use Rattle.sv_obl.proofs.TargetFacts.{length_mapped, obligation_count}
+use Rattle.sv_obl.proofs.TargetWalks.{next_number, range_at, none_at, told_at}
+
+-- ---- places
+
+-- what holds of all plain forms holds of each
+form_of : {X Y : Type 0} (P : Y → Type 0) (f : X → Y) (xs : List X) (i : ℕ) (d : X)
+    → All P (map f xs) → i < length xs → P (f (get_or xs i d))
+form_of P f [] i d all inside = absurd (omega arith)
+form_of P f (x ∷ xs) zero d all inside = All-head P (f x) (map f xs) all
+form_of P f (x ∷ xs) (suc i) d all inside =
+    form_of P f xs i d (All-tail P (f x) (map f xs) all) (omega arith)
+
+pub formed_at : {X Y : Type 0} (P : Y → Type 0) (f : X → Y) (xs : List X) (i : ℕ) (x : X)
+    → All P (map f xs) → i < length xs → x ≡ get_or xs i x → P (f x)
+formed_at P f xs i x all inside is =
+    subst (λ y. P (f y)) (sym is) (form_of P f xs i x all inside)
+
+-- one more of them
+pub formed_more : {X Y : Type 0} (f : X → Y) (xs : List X) (i : ℕ) (x : X)
+    → i < length xs → x ≡ get_or xs i x → map f (take (i + 1) xs) ≡ map f (take i xs) ++ f x ∷ []
+formed_more f xs i x inside is =
+    ap (map f) (take_more xs i x inside)
+    ∙ map-append f (take i xs) (get_or xs i x ∷ [])
+    ∙ ap (λ y. map f (take i xs) ++ f y ∷ []) (sym is)
+
+pub routes_more : (become : Route → Obligation) (trails : List Trail) (i : ℕ) (x : Trail)
+    → i < length trails → x ≡ get_or trails i x
+    → map become (routes_of (take (i + 1) trails))
+    ≡ map become (routes_of (take i trails)) ++ become (route_of x) ∷ []
+routes_more become trails i x inside is =
+    ap (map become) (formed_more route_of trails i x inside is)
+    ∙ map-append become (routes_of (take i trails)) (route_of x ∷ [])
+
+-- those before a place are as many as its number
+count_before : {X : Type 0} (xs : List X) (i : ℕ) → i < length xs → length (take i xs) ≡ i
+count_before [] i inside = absurd (omega arith)
+count_before (x ∷ xs) zero inside = refl
+count_before (x ∷ xs) (suc i) inside = ap suc (count_before xs i (omega arith))
+
+-- ---- lines
+
+module _ (signals : List SignalForm) where
+  pub lines_append : (n : ℕ) (os ps : List Obligation)
+      → lines_from signals n (os ++ ps)
+      ≡ lines_from signals n os ++ lines_from signals (n + length os) ps
+  lines_append n [] ps = ap (λ k. lines_from signals k ps) (plain n)
+    where
+      plain : (n : ℕ) → n ≡ n + 0
+      plain n = omega arith
+  lines_append n (o ∷ os) ps =
+      ap (λ x. list_line signals n o ++ x) (lines_append (n + 1) os ps)
+      ∙ sym (append_assoc (list_line signals n o) (lines_from signals (n + 1) os)
+      (lines_from signals (n + 1 + length os) ps))
+      ∙ ap (λ k. (list_line signals n o ++ lines_from signals (n + 1) os)
+      ++ lines_from signals k ps) (next n (length os))
+    where
+      next : (n k : ℕ) → n + 1 + k ≡ n + suc k
+      next n k = omega arith
+
+  pub none_written : (lines : Lines) → Writes signals [] lines lines
+  none_written lines =
+      record { text = sym (append-nil lines.text.items); count = plain lines.count }
+    where
+      plain : (n : ℕ) → n ≡ n + 0
+      plain n = omega arith
+
+  pub then_written : (os ps : List Obligation) (a b c : Lines) → Writes signals os a b
+      → Writes signals ps b c → Writes signals (os ++ ps) a c
+  then_written os ps a b c first second =
+      let start = a.text.items in
+      let lines = lines_from signals (a.count + 1) os in
+      record {
+        text =
+            second.text
+            ∙ ap (λ k. b.text.items ++ lines_from signals (k + 1) ps) first.count
+            ∙ ap (λ x. x ++ lines_from signals (a.count + length os + 1) ps) first.text
+            ∙ append_assoc start lines (lines_from signals (a.count + length os + 1) ps)
+            ∙ ap (λ k. start ++ (lines ++ lines_from signals k ps)) (turned a.count (length os))
+            ∙ ap (λ x. start ++ x) (sym (lines_append (a.count + 1) os ps));
+        count =
+            second.count
+            ∙ ap (λ k. k + length ps) first.count
+            ∙ grouped a.count (length os) (length ps)
+            ∙ ap (λ k. a.count + k) (sym (length-append os ps));
+      }
+    where
+      turned : (n k : ℕ) → n + k + 1 ≡ n + 1 + k
+      turned n k = omega arith
+
+      grouped : (n k m : ℕ) → n + k + m ≡ n + (k + m)
+      grouped n k m = omega arith
+
+  -- one more line
+  pub one_written : (os more : List Obligation) (o : Obligation) (a b c : Lines)
+      → more ≡ os ++ o ∷ [] → Writes signals os a b → Writes signals (o ∷ []) b c
+      → Writes signals more a c
+  one_written os more o a b c is first second =
+      subst (λ xs. Writes signals xs a c) (sym is) (then_written os (o ∷ []) a b c first second)
+
+  -- so far there are fewer than with all
+  pub fewer : {X : Type 0} (f : X → Obligation) (xs : List X) (i most : ℕ) (a b : Lines)
+      → i < length xs → a.count + length xs ≤ most
+      → Writes signals (map f (take i xs)) a b → b.count < most
+  fewer f xs i most a b inside few w =
+      let counted = w.count in
+      let formed = length_mapped f (take i xs) in
+      let before = count_before xs i inside in
+      omega arith
+
+  pub fewer_routes : (become : Route → Obligation) (trails : List Trail) (i most : ℕ)
+      (a b : Lines) → i < length trails → a.count + length trails ≤ most
+      → Writes signals (map become (routes_of (take i trails))) a b → b.count < most
+  fewer_routes become trails i most a b inside few w =
+      let counted = w.count in
+      let mapped = length_mapped become (routes_of (take i trails)) in
+      let formed = length_mapped route_of (take i trails) in
+      let before = count_before trails i inside in
+      omega arith
+
+-- ---- obligations
+
+-- the obligation of a route is among the signals
+pub route_among : (n : ℕ) (p : ProcessForm) (s : ℕ) (route : Route) → s < n
+    → IsAmong n (route_obligation n p s route)
+route_among n p s route inside = record {
+  reads = contained_all (λ t. t < n)
+      (those n (holds (names_on (is_clocked p.kind) s route)))
+      (λ t at. those_below n (holds (names_on (is_clocked p.kind) s route)) t at);
+  goal = inside;
+}
+
+module _ (design : FlatDesign) where
+  abbrev targets : List Obligation
+  targets = flat_map (target_obligations [] design) (signal_numbers design)
+
+  abbrev pub selectors : List Obligation
+  selectors = flat_map (selector_obligations [] design) (signal_numbers design)
+
+  pub selectors_among : IsTrue (sound design) → IsAdmitted design
+      → All (IsAmong (length design.signals)) selectors
+  selectors_among is_sound admitted =
+      contained_all (IsAmong (length design.signals)) selectors (λ o at.
+      query_among design o (all_contained (IsQueryOf design) (obligations [] design)
+      (all_are design is_sound admitted) o (Contains-right targets selectors o at)))
+
+  -- ---- the walk
+
+  next_before : (i : ℕ) → obligations_before design (i + 1)
+      ≡ obligations_before design i ++ target_obligations [] design i
+  next_before i = sym (next_number (target_obligations [] design) []
+      (obligations_before design i)
+      (obligations_before design i ++ target_obligations [] design i) i refl refl)
+
+  whole : (n : ℕ) → n - 0 ≡ n
+  whole n = omega arith
+
+  nothing_left : (n : ℕ) → 0 ≡ n - n
+  nothing_left n = omega arith
+
+  pub none_counted : AreCounted design 0 0
+  none_counted = record {
+    count = refl;
+    rest = ap (λ k. first_excess design 0 (range_with_len 0 k)) (whole (length design.signals));
+    few = omega arith;
+  }
+
+  pub more_counted : (i total more : ℕ) → i < length design.signals
+      → AreCounted design i total → excess_at design total i ≡ None
+      → more ≡ total + length (target_obligations [] design i)
+      → AreCounted design (i + 1) more
+  more_counted i total more inside so none counted =
+      let rest = range_with_len (i + 1) (length design.signals - (i + 1)) in
+      let by = none_at design total i rest none in
+      let here = target_obligations [] design i in
+      let many : more ≡ total + length (target_paths design i) =
+      counted ∙ ap (λ k. total + k) (obligation_count design i) in
+      record {
+        count =
+            counted
+            ∙ ap (λ k. k + length here) so.count
+            ∙ sym (length-append (obligations_before design i) here)
+            ∙ ap length (sym (next_before i));
+        rest =
+            ap (λ k. first_excess design k rest) many
+            ∙ sym by.1
+            ∙ ap (first_excess design total) (sym (range_at design i inside))
+            ∙ so.rest;
+        few = subst (λ k. k ≤ 65536) (sym many) by.0;
+      }
+
+  pub told_counted : (i total : ℕ) → i < length design.signals
+      → AreCounted design i total → (fault : OblFault)
+      → Told (excess_at design total i) fault → Told (excess design) fault
+  told_counted i total inside so fault h =
+      subst (λ e. Told e fault)
+      (ap (first_excess design total) (sym (range_at design i inside)) ∙ so.rest)
+      (told_at design total i (range_with_len (i + 1) (length design.signals - (i + 1)))
+      fault h)
+
+  pub fails_counted : (fault : OblFault) (result : Result ℕ OblFault)
+      → IsErrAnd result (λ y. y ≡ fault) → Told (excess design) fault
+      → CountsTargets design result
+  fails_counted fault (Ok total) same h = elim same [ ]
+  fails_counted fault (Err y) same h = subst (Told (excess design)) (sym same) h
+
+  -- where selectors pass no limit after the targets, the design passes none
+  pub all_counted : (total : ℕ) → AreCounted design (length design.signals) total
+      → first_excess design total [] ≡ excess design
+  all_counted total so =
+      ap (λ n. first_excess design total (range_with_len (length design.signals) n))
+      (nothing_left (length design.signals)) ∙ so.rest
+
+  -- ---- the parts
+
+  -- all lines are left before the first target
+  pub all_left : lines_left design 0 ≡ list_text design
+  all_left =
+      ap (λ k. lines_from design.signals 1
+      (flat_map (target_obligations [] design) (range_with_len 0 k) ++ selectors))
+      (whole (length design.signals))
+
+  -- those of a target come before those that are left after it
+  pub target_left : (i total : ℕ) (text : List ℕ) → i < length design.signals
+      → AreCounted design i total
+      → text ≡ lines_from design.signals (total + 1) (target_obligations [] design i)
+      → lines_left design i ≡ text ++ lines_left design (i + 1)
+  target_left i total text inside so written =
+      let here = target_obligations [] design i in
+      let before = obligations_before design i in
+      let after = range_with_len (i + 1) (length design.signals - (i + 1)) in
+      let rest = obligations_from design (i + 1) in
+      let all : obligations_from design i ≡ here ++ rest =
+      ap (λ ks. flat_map (target_obligations [] design) ks ++ selectors) (range_at design i inside)
+      ∙ append_assoc here (flat_map (target_obligations [] design) after) selectors in
+      let many : length before + 1 + length here ≡ length (obligations_before design (i + 1)) + 1 =
+      turned (length before) (length here)
+      ∙ ap (λ k. k + 1) (sym (length-append before here) ∙ ap length (sym (next_before i))) in
+      ap (lines_from design.signals (length before + 1)) all
+      ∙ lines_append design.signals (length before + 1) here rest
+      ∙ ap (λ k. lines_from design.signals (length before + 1) here
+      ++ lines_from design.signals k rest) many
+      ∙ ap (λ k. lines_from design.signals (k + 1) here ++ lines_left design (i + 1))
+      (sym so.count)
+      ∙ ap (λ x. x ++ lines_left design (i + 1)) (sym written)
+    where
+      turned : (n k : ℕ) → n + 1 + k ≡ n + k + 1
+      turned n k = omega arith
+
+  -- those of selectors are left after all targets
+  pub selectors_left : (total : ℕ) (text : List ℕ)
+      → AreCounted design (length design.signals) total
+      → text ≡ lines_from design.signals (total + 1) selectors
+      → text ≡ lines_left design (length design.signals)
+  selectors_left total text so written =
+      let n = length design.signals in
+      written
+      ∙ ap (λ k. lines_from design.signals (k + 1) selectors) so.count
+      ∙ ap (λ k. lines_from design.signals (length (obligations_before design n) + 1)
+      (flat_map (target_obligations [] design) (range_with_len n k) ++ selectors))
+      (nothing_left n)
+
+-- ---- the process that drives a target
+
+element_at : {X : Type 0} (xs : List X) (k : ℕ) → k < length xs → (x : X) × (get_or xs k x ≡ x)
+element_at [] k inside = absurd (omega arith)
+element_at (x ∷ xs) zero inside = (x, refl)
+element_at (x ∷ xs) (suc k) inside = element_at xs k (omega arith)
+
+pub found_at : {X : Type 0} (test : X → Bool) (xs : List X) (k : ℕ) → position test xs ≡ Some k
+    → (x : X) × (get_or xs k x ≡ x)
+found_at test [] k h = absurd cc
+found_at test (x ∷ xs) k h = element_at (x ∷ xs) k (position-Some test (x ∷ xs) k x h).0
+
+-- ---- limits
+
+-- where no limit is passed, the last is not
+third_is_false : (a b c : Bool) (x y z : Excess)
+    → cond a (Some x) (cond b (Some y) (cond c (Some z) None)) ≡ None → c ≡ false
+third_is_false true b c x y z h = absurd (no_some x h)
+  where
+    no_some : (x : Excess) → Some x ≡ None → ⊥
+    no_some x e = cc
+third_is_false false true c x y z h = absurd (no_some y h)
+  where
+    no_some : (x : Excess) → Some x ≡ None → ⊥
+    no_some x e = cc
+third_is_false false false true x y z h = absurd (no_some z h)
+  where
+    no_some : (x : Excess) → Some x ≡ None → ⊥
+    no_some x e = cc
+third_is_false false false false x y z h = refl
+
+pub few_routes : (s total : ℕ) (routes : List Route) (trails : List Trail)
+    → target_excess s total routes ≡ None → routes_of trails ≡ routes
+    → total + length trails ≤ 65536
+few_routes s total routes trails none are =
+    let few = ltb-false 65536 (total + length routes)
+    (third_is_false (nat_lt 4096 (length routes)) (list_any is_large routes)
+    (nat_lt 65536 (total + length routes)) (many_paths s) (large_path s) many_obligations none) in
+    subst (λ n. total + n ≤ 65536) (sym (ap length are) ∙ length_mapped route_of trails) few

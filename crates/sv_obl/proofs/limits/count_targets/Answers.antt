@@ -29,7 +29,7 @@ loop-s-preserved c =
     (c.count_of-s-end.ensures.count
     ∙ sym (length_mapped signal_form c.args.design.now.signals.items))
     c.loop-s-test.true in
-    more_counted design c.loop-s.s c.loop-s.total c.in_ok-count_target.total-1 inside
+    more_counted design c.loop-s.s c.loop-s.total _ inside
     c.loop-s.invariant c.in_ok-count_target.ensures.excess c.in_ok-count_target.ensures.count
 
 pub count_target-requires-clause-shorts : goal.count_target-requires-clause-shorts

@@ -269,7 +269,7 @@ module _ (words : List (List ℕ)) where
       → request_of ws ≡ Some request → Simulates ws text level design) prepared
       → IsOtherOrWith (Simulates words text) prepared
   may_simulate (Whole report) text request none asked may = tt
-  may_simulate (Lines design queries) text request none asked may = tt
+  may_simulate (Lines design) text request none asked may = tt
   may_simulate (Simulation design level order) text request none asked may = may words none asked
 
   pub words_prepared : (text : List ℕ) (request : Request) (prepared : Prepared)

@@ -97,3 +97,12 @@ one_turn line turns i x inside is =
     ∙ ap (λ y. line ++ blanked (turn_words (y ∷ drop (suc k) turns))) is
     ∙ ap (λ ts. line ++ blanked (turn_words ts)) (sym (drop-cons turns k x below))
     ∙ ap (λ n. line ++ blanked (turn_words (drop n turns))) here
+
+-- ---- lines
+
+-- the pieces of a line, one after the other
+pub whole_line : (text number words end : List ℕ)
+    → text ++ number ++ words ++ end ≡ text ++ (number ++ words ++ end)
+whole_line text number words end =
+    ap (λ x. x ++ end) (append_assoc text number words)
+    ∙ append_assoc text (number ++ words) end

@@ -3,7 +3,7 @@ use Rattle.std.proofs.Common.{◌≡◌, ℕ, zero, suc, ◌+◌, ◌-◌, ◌<�
 use Rattle.std.proofs.Common.{map, flat_map, take, get_or, All, Some, None, Result, Ok, Err}
 use Rattle.std.proofs.Common.{refl, sym, ap, subst, ◌∙◌, arith, append_assoc, append-nil}
 use Rattle.std.proofs.Common.{length-append, IsErrAnd, Bool, true, false, cond, nat_lt, ltb-false}
-use Rattle.std.specs.Prelude.{IsTrue}
+use Rattle.std.specs.Prelude.{IsTrue, IfErr}
 use Rattle.std.specs.List.{range_with_len, list_any, position}
 use Rattle.std.proofs.lemmas.List.{map-append, take_more}
 use Rattle.std.proofs.lemmas.List.Elements.{All-head, All-tail}
@@ -237,6 +237,12 @@ module _ (design : FlatDesign) where
       → CountsTargets design result
   fails_counted fault (Ok total) same h = elim same [ ]
   fails_counted fault (Err y) same h = subst (Told (excess design)) (sym same) h
+
+  pub tells_error : {T : Type 0} (fault : OblFault) (result : Result T OblFault)
+      → IsErrAnd result (λ y. y ≡ fault) → Told (excess design) fault
+      → IfErr result (Told (excess design))
+  tells_error fault (Ok x) same h = tt
+  tells_error fault (Err y) same h = subst (Told (excess design)) (sym same) h
 
   -- where selectors pass no limit after the targets, the design passes none
   pub all_counted : (total : ℕ) → AreCounted design (length design.signals) total

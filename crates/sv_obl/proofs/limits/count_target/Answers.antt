@@ -1,5 +1,5 @@
 use Rattle.std.proofs.Common.{◌≡◌, ◌<◌, ◌+◌, List, length, map, get_or, Some, sym, ap, subst}
-use Rattle.std.proofs.Common.{◌∙◌, lt-ltb, ℕ, arith}
+use Rattle.std.proofs.Common.{◌∙◌, lt-ltb, ℕ, arith, rules}
 use Rattle.std.specs.Prelude.{IfOk, IsTrue}
 use Rattle.sv_flat.specs.Assigned.{assigns}
 use Rattle.sv_flat.specs.ByNumber.{signal_forms}
@@ -26,6 +26,18 @@ bounds-shorts-place c =
     let found = found_at (λ (q : ProcessForm). assigns q.body s) (processes_of design)
     c.in-Some.place driven in
     inside_shorts design s c.in-Some.place found.0 c.args.shorts.now c.requires.shorts driven
+
+pub offset_bounds-shorts-place : goal.offset_bounds-shorts-place
+offset_bounds-shorts-place c =
+    let design = design_of c.args.design.now in
+    let s = c.args.target.0 in
+    let driven : driver_of design s ≡ Some c.in-Some.place =
+    sym c.driver.ensures.driver ∙ c.in-Some.is in
+    let found = found_at (λ (q : ProcessForm). assigns q.body s) (processes_of design)
+    c.in-Some.place driven in
+    let inside : c.in-Some.place < length c.args.shorts.now =
+    inside_shorts design s c.in-Some.place found.0 c.args.shorts.now c.requires.shorts driven in
+    search (rules, inside)
 
 pub count_through-requires-clause-marked : goal.count_through-requires-clause-marked
 count_through-requires-clause-marked c =

@@ -8,18 +8,18 @@ use Rattle.sv_obl.proofs.limits.count_targets.Goals as goal
 pub loop-s-init : goal.loop-s-init
 loop-s-init c = none_counted (design_of c.args.design.now)
 
-pub returns-in_err-count_target : goal.returns-in_err-count_target
-returns-in_err-count_target c =
+pub returns-in_err-total : goal.returns-in_err-total
+returns-in_err-total c =
     let design = design_of c.args.design.now in
     let inside : c.loop-s.s < length design.signals =
     subst (λ k. c.loop-s.s < k)
     (c.count_of-s-end.ensures.count
     ∙ sym (length_mapped signal_form c.args.design.now.signals.items))
     c.loop-s-test.true in
-    fails_counted design c.in_err-count_target.field-0.0
-    c.from_residual-in_err-count_target.result c.from_residual-in_err-count_target.ensures.1
+    fails_counted design c.in_err-total.field-0.0
+    c.from_residual-in_err-total.result c.from_residual-in_err-total.ensures.1
     (told_counted design c.loop-s.s c.loop-s.total inside c.loop-s.invariant
-    c.in_err-count_target.field-0.0 c.in_err-count_target.ensures.excess)
+    c.in_err-total.field-0.0 c.in_err-total.ensures.excess)
 
 pub loop-s-preserved : goal.loop-s-preserved
 loop-s-preserved c =
@@ -30,7 +30,7 @@ loop-s-preserved c =
     ∙ sym (length_mapped signal_form c.args.design.now.signals.items))
     c.loop-s-test.true in
     more_counted design c.loop-s.s c.loop-s.total _ inside
-    c.loop-s.invariant c.in_ok-count_target.ensures.excess c.in_ok-count_target.ensures.count
+    c.loop-s.invariant c.in_ok-total.ensures.excess c.in_ok-total.ensures.count
 
 pub count_target-requires-clause-shorts : goal.count_target-requires-clause-shorts
 count_target-requires-clause-shorts c =

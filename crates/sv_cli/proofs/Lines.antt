@@ -1,7 +1,22 @@
 -- Parts of a text that are put one after the other.
 use Rattle.std.proofs.Common.{◌≡◌, ℕ, List, [], ◌++◌, refl, sym, ap, ◌∙◌, append-nil, append_assoc}
+use Rattle.std.specs.Prelude.{Result, Ok, Err, OnOk, OnErr}
 use Rattle.sv_io.specs.Sink.{WritesFront}
 use Rattle.sv_cli.specs.Prepared.{LeavesOf}
+
+-- what follows of a success or an error follows of an answer that is one
+pub on_success : {T E : Type 0} (r : Result T E) (P Q : Type 0) → (P → Q) → OnOk r P → OnOk r Q
+on_success (Ok x) P Q f p = f p
+on_success (Err e) P Q f p = tt
+
+pub on_failure : {T E : Type 0} (r : Result T E) (P Q : Type 0) → (P → Q) → OnErr r P → OnErr r Q
+on_failure (Ok x) P Q f p = tt
+on_failure (Err e) P Q f p = f p
+
+-- what holds anyway holds of an error
+pub on_error : {T E : Type 0} {P : Type 0} (r : Result T E) → P → OnErr r P
+on_error (Ok x) p = tt
+on_error (Err e) p = p
 
 -- all of a text is left before it is put
 pub none_put : (old text : List ℕ) → LeavesOf old text text old

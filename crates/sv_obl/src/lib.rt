@@ -4,8 +4,9 @@
 //! An obligation is a path through the process of a target, with the signals that it reads.
 //! `specs/Paths.antt` says which paths a target has, `specs/Wanted.antt` what is put in on the way,
 //! `specs/Obligations.antt` which obligations a design has, `specs/Limits.antt` how many it may
-//! have, `specs/Validity.antt` when one is valid, `specs/ListLines.antt` how `secv list` prints them,
-//! and `specs/ListParts.antt` what of it is left after some targets. The laws say what valid obligations mean.
+//! have, `specs/Validity.antt` when one is valid, `specs/ListLines.antt` how `secv list` prints
+//! them, and `specs/ListParts.antt` what is left to print after some targets. The laws say what
+//! valid obligations mean.
 //!
 //! `obligations` takes an admitted design and gives exactly the list of the definition in its
 //! order, or the first limit that the design passes; `specs/DesignQueries.antt` says what makes an

@@ -1,6 +1,6 @@
-// Lines of obligations, one after the other: those of the paths of a target, and those of selectors.
-ghost use Rattle.std.specs.Prelude.{◌≡◌, ℕ, ◌+◌, ◌<◌, ◌≤◌, [], ◌∷◌, map, flat_map, length, All, OnOk};
-ghost use Rattle.std.specs.Prelude.{Contains};
+// Lines of obligations, one after the other: those of the paths of a target, and of selectors.
+ghost use Rattle.std.specs.Prelude.{◌≡◌, ℕ, ◌+◌, ◌<◌, ◌≤◌, [], ◌∷◌, map, flat_map, length, All};
+ghost use Rattle.std.specs.Prelude.{OnOk, Contains};
 ghost use Rattle.sv_flat.specs.ByNumber.{signal_forms};
 ghost use Rattle.sv_flat.specs.Clocks.{processes_of};
 ghost use Rattle.sv_flat.specs.Processes.{is_clocked, signal_numbers};

@@ -1,7 +1,7 @@
 use Rattle.std.proofs.Common.{◌+◌, arith}
 use Rattle.sv_flat.specs.Views.{design_of}
 use Rattle.sv_obl.specs.ListParts.{lines_left}
-use Rattle.sv_cli.proofs.Lines.{none_put, then_put, front_after}
+use Rattle.sv_cli.proofs.Lines.{none_put, then_put, front_after, on_error}
 use Rattle.sv_cli.proofs.listing.put_targets.Goals as goal
 
 pub loop-s-init : goal.loop-s-init
@@ -25,3 +25,11 @@ loop-s-preserved g c =
           (g.K.Sink.accepted c.put_target.new.out) c.loop-s.invariant.put
           c.in_ok-put_target.ensures.whole;
     }
+
+pub returns-in_err-put_target-clause-refused : goal.returns-in_err-put_target-clause-refused
+returns-in_err-put_target-clause-refused g c =
+    let left = lines_left (design_of c.args.design.now) in
+    on_error c.from_residual.result
+    (front_after (g.K.Sink.accepted c.args.out.now) (left 0) (left c.loop-s.s)
+    (g.K.Sink.accepted c.loop-s.out) (g.K.Sink.accepted c.put_target.new.out)
+    c.loop-s.invariant.put c.in_err-put_target.ensures.refused)

@@ -1,6 +1,6 @@
 -- What the limits on obligations say of a design.
 use Rattle.std.proofs.Common.{◌≡◌, ℕ, zero, suc, ◌+◌, ◌<◌, Bool, true, false, cond, nat_lt}
-use Rattle.std.proofs.Common.{length, flat_map, Option, Some, None, sym, subst, arith}
+use Rattle.std.proofs.Common.{[], length, flat_map, Option, Some, None, sym, subst, arith}
 use Rattle.std.specs.List.{list_any, range_with_len}
 use Rattle.sv_flat.specs.Design.{FlatDesign}
 use Rattle.sv_flat.specs.Processes.{signal_numbers}

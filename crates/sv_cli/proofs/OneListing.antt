@@ -64,5 +64,5 @@ module _ (top : Option (List ℕ)) (text : List ℕ) where
       ((other ≡ answer) × (others ≡ printed)) ⊎ AreCircles other answer)
   one_listing =
       let verdict = one_verdict top text in
-      let v = by_verdict verdict.0 verdict.1 verdict.2.0 in
+      let v = by_verdict verdict.0 verdict.1 verdict.2 in
       (v.0, v.1, v.2, listing_is_one top text v.0 v.1 v.2)

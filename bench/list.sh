@@ -3,7 +3,7 @@
 # of 4,095 targets of one block, and 65,536 obligations of 16 targets whose paths have over a hundred conditions each. Prints a table
 # of obligations, bytes printed, times and greatest memory, with the ratio of each time to the one before (asked: at most 2.3); then
 # the greatest ratio of the last two times, the greatest time (asked: below 2 seconds) and the greatest memory (asked: below 300 MB).
-# Memory is the greatest resident size that GNU time tells (`/usr/bin/time`).
+# Memory is the greatest resident size that GNU time tells (`/usr/bin/time`). The variable SECV may name another program to measure.
 set -eu
 if ! [ -x /usr/bin/time ]; then
     echo "list.sh: GNU time is missing; on Debian and Ubuntu it is the package 'time'" >&2
@@ -12,12 +12,13 @@ fi
 top=$(CDPATH='' cd -- "$(dirname -- "$0")/.." && pwd -P)
 work=$(mktemp -d)
 trap 'rm -rf "$work"' EXIT
-"$top/secv" --version >/dev/null
-python3 - "$top" "$work" <<'PY'
+if [ -z "${SECV:-}" ]; then
+    "$top/secv" --version >/dev/null
+fi
+python3 - "${SECV:-$top/crates/secv/out/secv}" "$work" <<'PY'
 import os, re, subprocess, sys, time
 
-top, work = sys.argv[1], sys.argv[2]
-secv = os.path.join(top, "crates", "secv", "out", "secv")
+secv, work = sys.argv[1], sys.argv[2]
 
 
 def tree(level, depth, leaf):

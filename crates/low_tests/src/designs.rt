@@ -132,7 +132,7 @@ fn shifts_with_the_sign(rt: HostRuntime) -> Result<(), Fail> {
     Ok(())
 }
 
-// `{8'sh80} >>> 1` at 8 bits: a concatenation has no sign.
+// `{8'sh80} >>> 1` at 8 bits: a concatenation is unsigned.
 #[test]
 fn joins_without_sign(rt: HostRuntime) -> Result<(), Fail> {
     let mut parts = Vec::new(rt.alloc());

@@ -11,7 +11,7 @@ mod unary_cases;
 use binary_cases::BINARY_CASES;
 use unary_cases::UNARY_CASES;
 
-// The value of a width and sign, which has to fit.
+// The value of a width and signedness, which has to fit.
 fn bits(rt: &impl Abort, width: u8, signed: bool, value: u64) -> Bits
     ensures width { width_of result ≡ width }
     ensures signed { is_signed result ≡ signed }

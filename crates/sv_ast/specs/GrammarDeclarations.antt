@@ -57,7 +57,7 @@ abbrev pub IsParameter : Limits → ParameterTree → Form
 IsParameter l q =
     a_word (parameter_word q.local) ⨾ IsParameterType l q.signed q.span ⨾ IsNamedParameter l q
 
--- a parameter without the word takes word, sign and range of the one before it
+-- a parameter without the word takes word, signedness and range of the one before it
 abbrev pub IsLaterParameter : Limits → ParameterTree → ParameterTree → Form
 IsLaterParameter l before q =
     given ((q.local ≡ before.local) × (q.signed ≡ before.signed)
@@ -76,7 +76,7 @@ AreHeaderParameters l =
 
 -- ---- ports and signals
 
--- the declarations have one kind, sign, range and label
+-- the declarations have one kind, signedness, range and label
 abbrev pub AreAlike : DeclarationTree → DeclarationTree → Type 0
 AreAlike d e = (e.kind ≡ d.kind) × (e.signed ≡ d.signed) × (e.span ≡ d.span) × (e.label ≡ d.label)
 
@@ -92,7 +92,7 @@ IsNamedPort d = given (d.value ≡ None) (name_at d.name d.place)
 abbrev pub IsPort : Limits → DeclarationTree → Form
 IsPort l d = IsPortKind d.kind ⨾ IsTyped l d ⨾ IsNamedPort d
 
--- a name alone takes kind, sign, range and label of the port before it
+-- a name alone takes kind, signedness, range and label of the port before it
 abbrev pub ArePorts : Limits → List DeclarationTree → Form
 ArePorts l = listed (IsPort l) (λ before d. IsPort l d or given (AreAlike before d) (IsNamedPort d))
 
@@ -112,7 +112,7 @@ IsNamedSignal l d = name_at d.name d.place ⨾ IsSignalValue l d.kind d.value
 abbrev pub IsSignal : Limits → DeclarationTree → Form
 IsSignal l d = IsSignalKind d.kind ⨾ IsTyped l d ⨾ IsNamedSignal l d
 
--- a later name takes kind, sign, range and label of the one before it
+-- a later name takes kind, signedness, range and label of the one before it
 abbrev pub AreSignals : Limits → List DeclarationTree → Form
 AreSignals l = listed (IsSignal l) (λ before d. given (AreAlike before d) (IsNamedSignal l d))
 

@@ -6,7 +6,7 @@ use Rattle.std.specs.List.{list_any}
 use Rattle.std.specs.Str.{bytes_eq}
 use Rattle.sv_num.specs.declared.faults.Place.{Place}
 use Rattle.sv_num.specs.Vectors.{is_true}
-use Rattle.sv_system.specs.System.{put, last_update}
+use Rattle.sv_system.specs.System.{Environment, put, last_update}
 use Rattle.sv_ast.specs.Scopes.{Scope}
 use Rattle.sv_ast.specs.Tree.{ExpressionTree, named, bit_of, part_of, Selection, whole, bit_at}
 use Rattle.sv_ast.specs.Tree.{part_from, TargetTree, StatementTree, null, assignment, block}
@@ -16,7 +16,7 @@ use Rattle.sv_ast.specs.Values.{length_of, sign_of, value, own_value, bound_of, 
 
 -- the values of an instance's signals, and the updates that are pending, the oldest first
 pub record Running : Type 0 where
-  pub environment : List ℕ → ℕ
+  pub environment : Environment (List ℕ)
   pub updates : List (List ℕ × ℕ)
 
 -- the value that a name will have after the updates so far
@@ -106,12 +106,12 @@ arms_sign scope (more_arms p items body arms) = items_sign scope items && arms_s
 abbrev pub case_length : Scope → (selector : ExpressionTree) → ArmTrees → ℕ
 case_length scope e arms = max (length_of scope e) (arms_length scope arms)
 
--- the common sign
+-- the common signedness
 abbrev pub case_sign : Scope → (selector : ExpressionTree) → ArmTrees → Bool
 case_sign scope e arms = sign_of scope e && arms_sign scope arms
 
--- whether an item has the selector's value at the common length and sign
-abbrev pub has_item : Scope → (environment : List ℕ → ℕ) → (length : ℕ) → (signed : Bool)
+-- whether an item has the selector's value at the common length and signedness
+abbrev pub has_item : Scope → (environment : Environment (List ℕ)) → (length : ℕ) → (signed : Bool)
     → (selector : ℕ) → List ExpressionTree → Bool
 has_item scope environment n s v items =
     list_any (λ (item : ExpressionTree). value scope environment item n s == v) items

@@ -1,13 +1,13 @@
 -- What the names of a module stand for inside one instance of it (IEEE 1364-2005, clause 12.7).
 use Rattle.std.specs.Prelude.{ℕ, Bool, false, List, Option, Some, None}
 
--- a value at its length and sign
+-- a value at its length and signedness
 pub record Number : Type 0 where
   pub width : ℕ
   pub signed : Bool
   pub value : ℕ
 
--- a name stands for a parameter with its value, or for a signal with its length and sign
+-- a name stands for a parameter with its value, or for a signal with its length and signedness
 pub data Binding : Type 0 where
   parameter : Number → Binding
   signal : (width : ℕ) → (signed : Bool) → Binding

@@ -7,6 +7,7 @@ use Rattle.std.specs.List.{list_all}
 use Rattle.std.specs.Option.{option_map_or}
 use Rattle.std.specs.Str.{bytes_eq}
 use Rattle.sv_num.specs.Vectors.{as_number}
+use Rattle.sv_system.specs.System.{Environment}
 use Rattle.sv_ast.specs.Reach.{Leads, holds, reached}
 use Rattle.sv_ast.specs.Tree.{LabelTree, point_label, table_label, PlacedName, PairTree}
 use Rattle.sv_ast.specs.Tree.{LatticeTree, KeyTree, RowTree, MapTree, TextTree}
@@ -70,7 +71,7 @@ abbrev pub is_natural : ℤ → (v : ℕ) → Bool
 is_natural (pos k) v = k == v
 is_natural (negsuc k) v = false
 
--- whether a value has the given key, read by its own sign
+-- whether a value has the given key, read by its own signedness
 abbrev pub is_key : KeyTree → (v : ℕ) → Bool
 is_key key v = is_natural (as_number key.value.width key.value.signed key.value.value) v
 
@@ -94,7 +95,7 @@ map_named text n = find (λ (m : MapTree). bytes_eq n m.name) text.maps
 
 -- the point of a label where the signals of its instance have the given values: the declared one,
 -- or the map's row at the values of its selectors. A signal without a label has the least point.
-abbrev pub label_point : TextTree → (values : List ℕ → ℕ) → Option LabelTree → List ℕ
+abbrev pub label_point : TextTree → (values : Environment (List ℕ)) → Option LabelTree → List ℕ
 label_point text values None = least text
 label_point text values (Some (point_label p place)) = p
 label_point text values (Some (table_label m first second place)) =

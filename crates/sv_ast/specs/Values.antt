@@ -1,6 +1,6 @@
--- Length, sign and value of source expressions (IEEE 1364-2005, clauses 5.4 and 5.5). A length and
--- a sign are pushed down to an operand or are its own; a value is a whole number, taken modulo
--- 2^length.
+-- Length, signedness and value of source expressions (IEEE 1364-2005, clauses 5.4 and 5.5). A
+-- length and a signedness are pushed down to an operand or are its own; a value is a whole number,
+-- taken modulo 2^length.
 use Rattle.std.specs.Prelude.{ℕ, zero, suc, max, ◌+◌, ◌-◌, ◌*◌, ◌/◌, ◌%◌, ◌^◌, Bool, false, ◌&&◌}
 use Rattle.std.specs.Prelude.{nat_lt, if◌then◌else◌, List, ℤ, pos, negsuc}
 use Rattle.sv_num.specs.declared.operators.BinOp.{BinOp}
@@ -10,6 +10,7 @@ use Rattle.sv_num.specs.Vectors.{as_number, reduced, is_true}
 use Rattle.sv_num.specs.Parts.{extended, span_of, bits_between, bit_or_zero, repeated}
 use Rattle.sv_num.specs.UnaryValues.{gives_one_bit, unary_value}
 use Rattle.sv_num.specs.BinaryValues.{class_of, binary_value}
+use Rattle.sv_system.specs.System.{Environment}
 use Rattle.sv_ast.specs.Scopes.{Scope, Number, width_of, is_signed, value_of}
 use Rattle.sv_ast.specs.Tree.{ExpressionTree, ExpressionTrees, literal, named, bit_of, part_of}
 use Rattle.sv_ast.specs.Tree.{unary, binary, choice, join, replication, no_expressions}
@@ -20,7 +21,7 @@ abbrev pub natural : ℤ → ℕ
 natural (pos n) = n
 natural (negsuc n) = 0
 
--- a value at its own length and sign, as a whole number
+-- a value at its own length and signedness, as a whole number
 abbrev pub at_own : (length : ℕ) → (signed : Bool) → (value : ℕ → Bool → ℕ) → ℤ
 at_own n s v = as_number n s (v n s)
 
@@ -34,7 +35,7 @@ nowhere n = 0
 
 -- Operators.
 
--- the sign of a binary operator's result, from its operands' (clause 5.5.1)
+-- the signedness of a binary operator's result, from its operands' (clause 5.5.1)
 abbrev pub binary_sign : OpClass → (left right : Bool) → Bool
 binary_sign Context left right = left && right
 binary_sign Compare left right = false
@@ -48,26 +49,26 @@ binary_length Compare left right = 1
 binary_length Logical left right = 1
 binary_length Shift left right = left
 
--- an operand: its own length and sign, and its value at each length and sign
+-- an operand: its own length and signedness, and its value at each length and signedness
 pub record Operand : Type 0 where
   pub length : ℕ
   pub signed : Bool
   pub value : ℕ → Bool → ℕ
 
--- the operand of this length, sign and value
+-- the operand of this length, signedness and value
 abbrev pub operand : (length : ℕ) → (signed : Bool) → (value : ℕ → Bool → ℕ) → Operand
 operand n s v = record { length = n; signed = s; value = v }
 
--- an operand's value at its own length and sign
+-- an operand's value at its own length and signedness
 abbrev pub alone : Operand → ℕ
 alone a = a.value a.length a.signed
 
--- a binary operator's result where a length and a sign are pushed down to both operands
+-- a binary operator's result where a length and a signedness are pushed down to both operands
 abbrev pub pushed_result : BinOp → (length : ℕ) → (signed : Bool) → (left right : Operand) → ℕ
 pushed_result op n s a b = binary_value op n s (a.value n s) (b.value n s)
 
--- a binary operator's result at a length and sign (clauses 5.4.1 and 5.5.2): they are pushed down
--- to both operands, or to the left one of a shift; the operands of a comparison have a type in
+-- a binary operator's result at a length and signedness (clauses 5.4.1 and 5.5.2): they are pushed
+-- down to both operands, or to the left one of a shift; the operands of a comparison have a type in
 -- common, all others their own
 abbrev pub binary_result : BinOp → OpClass → (length : ℕ) → (signed : Bool)
     → (left right : Operand) → ℕ
@@ -79,8 +80,8 @@ binary_result op Shift n s a b = binary_value op n s (a.value n s) (alone b)
 
 -- Expressions.
 
--- an expression's sign (clause 5.5.1): signed only if all its pushed operands are; selects, joins
--- and comparisons are not
+-- an expression's signedness (clause 5.5.1): signed only if all its pushed operands are; selects,
+-- joins and comparisons are not
 unfoldable pub sign_of : Scope → ExpressionTree → Bool
 sign_of scope (literal l p) = l.signed
 sign_of scope (named n p) = is_signed (scope n)
@@ -115,8 +116,8 @@ unfoldable mutual
   joined_length scope no_expressions = 0
   joined_length scope (more_expressions e es) = length_of scope e + joined_length scope es
 
-  -- the value at a length and sign, where the signals have the given values
-  pub value : Scope → (environment : List ℕ → ℕ) → ExpressionTree
+  -- the value at a length and signedness, where the signals have the given values
+  pub value : Scope → (environment : Environment (List ℕ)) → ExpressionTree
       → (length : ℕ) → (signed : Bool) → ℕ
   value scope environment (literal l p) n s = extended s l.width n l.value
   value scope environment (named m p) n s =
@@ -145,17 +146,17 @@ unfoldable mutual
       (joined_length scope es) (joined_value scope environment es)
 
   -- the parts at their own lengths one behind the other, the first the highest (clause 5.1.14)
-  pub joined_value : Scope → (environment : List ℕ → ℕ) → ExpressionTrees → ℕ
+  pub joined_value : Scope → (environment : Environment (List ℕ)) → ExpressionTrees → ℕ
   joined_value scope environment no_expressions = 0
   joined_value scope environment (more_expressions e es) =
       value scope environment e (length_of scope e) (sign_of scope e) * 2 ^ joined_length scope es
       + joined_value scope environment es
 
--- the value at its own length and sign
-abbrev pub own_value : Scope → (environment : List ℕ → ℕ) → ExpressionTree → ℕ
+-- the value at its own length and signedness
+abbrev pub own_value : Scope → (environment : Environment (List ℕ)) → ExpressionTree → ℕ
 own_value scope environment e = value scope environment e (length_of scope e) (sign_of scope e)
 
--- a constant: its value at its own length and sign, which no signal changes
+-- a constant: its value at its own length and signedness, which no signal changes
 abbrev pub constant_of : Scope → ExpressionTree → Number
 constant_of scope e = record {
   width = length_of scope e;
@@ -163,7 +164,7 @@ constant_of scope e = record {
   value = own_value scope nowhere e;
 }
 
--- a constant as a whole number, read by its own sign
+-- a constant as a whole number, read by its own signedness
 abbrev pub whole_number : Scope → ExpressionTree → ℤ
 whole_number scope e = at_own (length_of scope e) (sign_of scope e) (value scope nowhere e)
 
@@ -172,7 +173,8 @@ abbrev pub bound_of : Scope → ExpressionTree → ℕ
 bound_of scope e = natural (whole_number scope e)
 
 -- the value of a right side for targets of so many bits in all (clauses 5.4.1 and 5.5.3): taken at
--- the larger of both lengths and with its own sign, then cut
-abbrev pub assigned_value : Scope → (environment : List ℕ → ℕ) → (width : ℕ) → ExpressionTree → ℕ
+-- the larger of both lengths and with its own signedness, then cut
+abbrev pub assigned_value : Scope → (environment : Environment (List ℕ)) → (width : ℕ)
+    → ExpressionTree → ℕ
 assigned_value scope environment width e =
     value scope environment e (max (length_of scope e) width) (sign_of scope e) % 2 ^ width

@@ -1,4 +1,4 @@
-// The items of a case, at the length and sign that they have in common with its selector.
+// The items of a case, at the length and signedness that they have in common with its selector.
 ghost use Rattle.std.specs.Prelude.{◌≡◌, ◌≤◌, ◌&&◌, ◌++◌, max, Ok, true, IfOk, IfErr, IsTrue};
 ghost use Rattle.std.specs.Prelude.{MatchOption};
 ghost use Rattle.std.specs.List.{list_all};
@@ -20,7 +20,7 @@ use sv_flat::FExpr;
 use sv_num::{Fault, OutOfMemory};
 use sv_width::{Operand, Scope};
 
-/// A length of 1 to 64 bits and a sign, at which the selector and all items of a case stand.
+/// A length of 1 to 64 bits and a signedness, at which the selector and all items of a case stand.
 #[derive(Clone, Copy, Debug)]
 pub(crate) struct CaseType {
     pub(crate) width: u8,

@@ -45,7 +45,7 @@ fn final_value(alloc: Global, site: &Site, scope: &Scope, param: &Param) -> Resu
     }
 }
 
-// The low bits of a value at another length, where the new ones are as its own sign says.
+// The low bits of a value at another length, where the new ones are as its own signedness says.
 fn at_length(value: Bits, width: u8) -> u64
     requires some { 1 ≤ width }
     requires few { width ≤ 64 }
@@ -58,7 +58,8 @@ fn at_length(value: Bits, width: u8) -> u64
     }
 }
 
-// The value of a parameter of this sign: with a range as an assignment to it gives, else as it is.
+// The value of a parameter of this signedness: with a range as an assignment to it gives, else as
+// it is.
 fn in_range(value: Bits, width: Option<u8>, signed: bool) -> Bits
     requires some { 1 ≤ unwrap_or width 1 }
     requires few { unwrap_or width 1 ≤ 64 }

@@ -13,9 +13,9 @@
 //!
 //! Private to the crate, for the contracts of its parts: `BitSets`, `ClockTables`, `Depths`,
 //! `DriverTables`, `Feeds`, `Graphs`, `Links`, `Marks`, `Nests`, `Orders`, `Phases`, `Queues`,
-//! `ReadForms`, `Scopes`, `Searches`, `Selectors`, `Tops`, `WrongAssigns`. `components` and `nests`
-//! promise no more than to end safely: what circles there are is the same by any order that they
-//! find, and only the time to find the first one is not.
+//! `ReadForms`, `Refusals`, `Scopes`, `Searches`, `Selectors`, `Tops`, `WrongAssigns`. `components`
+//! and `nests` promise no more than to end safely: what circles there are is the same by any order
+//! that they find, and only the time to find the first one is not.
 #![tactic(auto)]
 
 mod admit;

@@ -77,7 +77,7 @@ fn is_below_zero(number: u64, length: u8, signed: bool) -> bool
     signed && number >> (length - 1) == 1
 }
 
-// The bit at a constant index of a length and sign.
+// The bit at a constant index of a length and signedness.
 fn one_bit(signal: SigId, place: Place, number: u64, length: u8, signed: bool) -> Read
     requires some { 1 ≤ length }
     requires few { length ≤ 64 }

@@ -11,9 +11,10 @@
 //! in it are built, each as that part of the walk ends. Expressions, statements and declarations
 //! are the work of `sv_width`, `sv_body` and `sv_declare`.
 //!
-//! Of its own definitions callers read `specs/Modules.antt` alone. The others say what the steps of
-//! the code have in hand: `specs/Earliest.antt` of names of points, `specs/MapParts.antt` of label
-//! maps, `specs/Nests.antt` and `specs/Instances.antt` of instances.
+//! Of its own definitions callers read `specs/Modules.antt` alone. The others are private: they say
+//! what the steps of the code have in hand, `specs/Earliest.antt` of names of points,
+//! `specs/MapParts.antt` of label maps, `specs/Nests.antt` and `specs/Instances.antt` of instances;
+//! the meaning stands in `sv_walk`.
 #![tactic(auto)]
 
 mod built;

@@ -15,7 +15,7 @@ use Rattle.sv_first_ast.specs.declared.module.DeclKind.{DeclKind}
 use Rattle.sv_first_ast.specs.declared.module.DeclKind.TheVariants as kind
 use Rattle.sv_first_ast.specs.declared.module.Point.{Point}
 use Rattle.sv_first_ast.specs.declared.module.Point.TheVariants.{Low, High}
-use Rattle.sv_system.specs.System.{System, put}
+use Rattle.sv_system.specs.System.{System, Environment, put}
 use Rattle.sv_first_ast.specs.Names.{holds}
 use Rattle.sv_first_ast.specs.Tree.{ExpressionTree, named, unary, binary, StatementTree, assignment}
 use Rattle.sv_first_ast.specs.Tree.{ItemTree, declared, continuous, clocked, ModuleTree}
@@ -36,7 +36,7 @@ binary_value _ x y = 0
 
 -- The value of an expression of one bit (clause 5): the operator is applied to its operands'
 -- values, and the result is taken modulo 2^1.
-abbrev pub value : ExpressionTree → (List ℕ → ℕ) → ℕ
+abbrev pub value : ExpressionTree → Environment (List ℕ) → ℕ
 value (named n) environment = environment n % 2 ^ 1
 value (unary op e) environment = unary_value op (value e environment) % 2 ^ 1
 value (binary op a b) environment =
@@ -44,7 +44,8 @@ value (binary op a b) environment =
 
 -- A run of a statement (clauses 6 and 9.2) on an environment and the updates so far: a blocking
 -- assignment changes the environment, a nonblocking one adds its target and value to the updates.
-abbrev pub run : StatementTree → (List ℕ → ℕ) × List (List ℕ × ℕ) → (List ℕ → ℕ) × List (List ℕ × ℕ)
+abbrev pub run : StatementTree → Environment (List ℕ) × List (List ℕ × ℕ)
+    → Environment (List ℕ) × List (List ℕ × ℕ)
 run (assignment target true e) s = (put bytes_eq target (value e s.0) s.0, s.1)
 run (assignment target false e) s = (s.0, s.1 ++ (target, value e s.0) ∷ [])
 
@@ -115,7 +116,7 @@ flows High Low = false
 flows High High = true
 
 -- all updates of the clocked processes, each run on the environment with no updates pending
-abbrev pub updates : ModuleTree → (List ℕ → ℕ) → List (List ℕ × ℕ)
+abbrev pub updates : ModuleTree → Environment (List ℕ) → List (List ℕ × ℕ)
 updates m environment =
     flat_map (λ (p : Process).
     (run p.body (environment, [])).1) (filter (λ (p : Process). is_some p.clock) (processes m))

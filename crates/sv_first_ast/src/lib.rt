@@ -1,9 +1,10 @@
 //! The trees of source texts, and what they mean.
 //!
 //! A contract sees a tree by its plain form, as `module_tree` of `specs/Tree.antt` gives it. What a
-//! text means as a design is a cycle system (`specs/Meaning.antt`); which texts are read so far is
-//! said in `specs/Form.antt` and `specs/Spelling.antt`. What follows for them is stated in
-//! `src/laws.rt`: one trace, noninterference, and that zeros show a leak.
+//! text means as a design is a cycle system (`specs/Meaning.antt`, over `Lattice.antt`), and what
+//! has to hold of it is said in `Obligations.antt`; which texts are read so far is said in
+//! `Form.antt`, over `Names.antt`, and in `Spelling.antt`. What follows for them is stated in
+//! `src/laws.rt`: one trace, noninterference, and that zeros show a leak. None is private.
 #![tactic(auto)]
 
 mod expression;

@@ -32,7 +32,7 @@ pub(crate) fn bits_between(value: u64, high: u8, low: u8) -> u64
     low_bits(shifted(value, u64::from(low)), high - low + 1)
 }
 
-// Whether a value of a length and sign is below 0.
+// Whether a value of a length and signedness is below 0.
 fn is_negative(value: u64, length: u8, signed: bool) -> bool
     requires some { 1 ≤ length }
     requires few { length ≤ 64 }
@@ -42,7 +42,8 @@ fn is_negative(value: u64, length: u8, signed: bool) -> bool
     signed && value >> (length - 1) == 1
 }
 
-/// The bit of a value of some width that an index of a length and sign names, and 0 outside of it.
+/// The bit of a value of some width that an index of a length and signedness names, and 0 outside
+/// of it.
 pub(crate) fn bit_by_index(value: u64, width: u8, index: u64, length: u8, signed: bool) -> u64
     requires some { 1 ≤ length }
     requires few { length ≤ 64 }

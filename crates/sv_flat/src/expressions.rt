@@ -6,8 +6,8 @@ use crate::signals::SigId;
 use std::alloc::{AllocError, Global};
 use sv_num::{BinOp, Place, UnOp};
 
-/// An expression with the length in bits and the sign that its context gives it (IEEE 1364-2005,
-/// clauses 5.4 and 5.5).
+/// An expression with the length in bits and the signedness that its context gives it (IEEE
+/// 1364-2005, clauses 5.4 and 5.5).
 #[derive(Debug, Drop)]
 #[cycle(expressions)]
 pub struct FExpr {
@@ -39,7 +39,7 @@ pub enum FNode {
     Join(Vec<FExpr>),
     /// A concatenation repeated so many times.
     Repeat(u32, Vec<FExpr>),
-    /// The expression's value cut to the signal's width and read with the signal's sign.
+    /// The expression's value cut to the signal's width and read with the signal's signedness.
     Held(SigId, Box<FExpr>),
     /// One bit of such a value; the index comes last.
     HeldBit(SigId, Place, Box<FExpr>, Box<FExpr>),

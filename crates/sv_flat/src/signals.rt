@@ -29,7 +29,7 @@ pub enum SigKind {
     OutputReg,
 }
 
-/// A signal: its name from the top module on, 1 to 64 bits, its sign, and the place of its
+/// A signal: its name from the top module on, 1 to 64 bits, its signedness, and the place of its
 /// declaration.
 #[derive(Debug, Drop)]
 pub struct Signal {

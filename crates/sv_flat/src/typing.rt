@@ -1,5 +1,5 @@
-// The forms that typed expressions have: lengths and signs as IEEE 1364-2005, clauses 5.4 and 5.5,
-// give them.
+// The forms that typed expressions have: lengths and signedness as IEEE 1364-2005, clauses 5.4
+// and 5.5, give them.
 ghost use Rattle.std.specs.Prelude.{◌≡◌, ◌*◌, ◌^◌, ◌<◌, ◌≤◌, ◌&&◌, nat_le, nat_lt, length};
 ghost use Rattle.std.specs.Prelude.{MatchOption};
 ghost use Rattle.sv_num.specs.UnaryValues.{gives_one_bit};
@@ -18,7 +18,7 @@ use crate::values::width_of_signal;
 use sv_num::{BinOp, OpClass, UnOp};
 
 /// Whether the expression has a value: every length is 1 to 64, every operand has the length and
-/// sign that its operator gives it, every signal is one of these, every part lies inside its
+/// signedness that its operator gives it, every signal is one of these, every part lies inside its
 /// signal, every number, name, select and concatenation has room in its length, every count is 1 to
 /// 64, and nothing is divided.
 // The calls go as deep as the tree.

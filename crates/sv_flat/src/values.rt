@@ -13,7 +13,7 @@ use crate::expressions::{FExpr, FNode};
 use crate::signals::{SigId, Signal};
 use sv_num::{Bits, apply_binary, apply_unary};
 
-/// The value of a well formed expression, at its own length and read without sign (IEEE 1364-2005,
+/// The value of a well formed expression, at its own length and read unsigned (IEEE 1364-2005,
 /// clause 5), where each signal has the value of its number.
 // The calls go as deep as the tree.
 #[cycle(expression_values)]
@@ -111,7 +111,7 @@ fn typed_value(expr: &FExpr, signals: &[Signal], values: &[u64]) -> Bits
     Bits::of_type(expr.width, expr.signed, value_of(expr, signals, values))
 }
 
-// The bit of a value of some width that the index names by its own sign, and 0 outside of it.
+// The bit of a value of some width that the index names by its own signedness, and 0 outside of it.
 #[cycle(expression_values)]
 fn indexed(value: u64, width: u8, index: &FExpr, signals: &[Signal], values: &[u64]) -> u64
     requires formed { IsTrue (well_formed (signal_forms signals.now) (typed_tree index.now)) }

@@ -228,7 +228,8 @@ module _ (text : TextTree) (top : Option (List ℕ)) (design : FlatDesign)
         ap (λ b. cond b (Some (source_link_in l))
         (option_map (source_link_out l) (whole_signal l.outer.scope l.expression))) kind
         ∙ ap (option_map (source_link_out l)) whole in
-        let numbers = outer_numbered side.tables sources (parts text top) l f link n output.whole in (
+        let numbers =
+        outer_numbered side.tables sources (parts text top) l f link n output.whole in (
           source_link_out l n,
           change,
           put_runs f at (source_link_out l n) (within l.outer n)

@@ -331,11 +331,12 @@ module _ (tables : Tables) (sources : List PartSignal) (everything : List Part)
           flattened.1,
       nothing_free taken,
     )
-    item_grown taken built next (always_item p (Some clock) s) h many listed flattened stands all = (
-      clocked_grown tables sources everything here names named p clock s built next h flattened.0
-          flattened.1,
-      nothing_free taken,
-    )
+    item_grown taken built next (always_item p (Some clock) s) h many listed flattened stands
+        all = (
+          clocked_grown tables sources everything here names named p clock s built next h
+              flattened.0 flattened.1,
+          nothing_free taken,
+        )
     item_grown taken built next (invariant_item p e) h many listed flattened stands all =
         (same_built built next h, nothing_free taken)
     item_grown taken built next (instance_item i) h many listed flattened stands all =

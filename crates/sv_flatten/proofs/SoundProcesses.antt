@@ -148,7 +148,8 @@ module _ (text : TextTree) (top : Option (List ℕ)) (design : FlatDesign)
       let path = zip_right (IsNumberOf side.tables sources (parts text top)) (edges_of text top)
       (filter_map clock_of design.processes)
       side.clocks place.0 k place.1 in
-      lt-ltb k (length design.signals) (below_size side.tables sources (parts text top) design.signals side.forms path.0 k path.2)
+      lt-ltb k (length design.signals)
+      (below_size side.tables sources (parts text top) design.signals side.forms path.0 k path.2)
 
   clocked_sound : (k : ProcessKind) (body : FlatStatement) → is_clocked k ≡ true
       → ((c : ℕ) → Rattle.sv_flatten.proofs.PartsGrown.kind_clock k ≡ Some c

@@ -1,5 +1,5 @@
--- The numbers that are written in the processes that the walk of a text makes have lengths where those of its modules
--- have, and the expressions of its links are shaped.
+-- The numbers that are written in the processes that the walk of a text makes have lengths where
+-- those of its modules have, and the expressions of its links are shaped.
 use Rattle.std.proofs.Common.{◌≡◌, ℕ, zero, suc, true, List, [], ◌∷◌, ◌++◌, map, Option, Some, None}
 use Rattle.std.proofs.Common.{ap, subst, ⊎_elim}
 use Rattle.std.specs.Prelude.{◌&&◌, zip, Contains, IsTrue, option_map, option_to_list}

@@ -10,7 +10,7 @@ use Rattle.sv_walk.specs.Names.{Names}
 use Rattle.sv_width.specs.Agreement.{HaveValues}
 
 -- each signal's value fits its length
-abbrev pub ValuesFit : Scope → (environment : List ℕ → ℕ) → Type 0
+abbrev pub ValuesFit : Scope → (environment : Environment (List ℕ)) → Type 0
 ValuesFit scope environment = (n : List ℕ) (width : ℕ) (signed : Bool)
     → scope n ≡ Some (signal width signed) → environment n < 2 ^ width
 

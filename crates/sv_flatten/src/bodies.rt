@@ -29,7 +29,7 @@ ghost use Rattle.sv_flatten.specs.SameStates.{AreSame};
 /// The value of a source expression fits each length from its own one on (IEEE 1364-2005, clause
 /// 5.4).
 pub fn values_fit_their_lengths()
-    ensures { (scope : Scope) (environment : List ℕ → ℕ) (e : ExpressionTree)
+    ensures { (scope : Scope) (environment : Environment (List ℕ)) (e : ExpressionTree)
         → (n : ℕ) (signed : Bool) → length_of scope e ≤ n
         → value scope environment e n signed < 2 ^ n }
 {}
@@ -70,7 +70,8 @@ pub fn input_links_assign_their_ports()
         → (input_link outer ports d e).end ≡ Ok process
         → 1 ≤ port_width ports d
         → signal_width signals (port_number ports d.name) ≡ port_width ports d
-        → (by_name : List ℕ → ℕ) (by_number : Environment ℕ) → HaveValues outer by_name by_number
+        → (by_name : Environment (List ℕ)) (by_number : Environment ℕ)
+        → HaveValues outer by_name by_number
         → run_alone signals process.body by_number
         ≡ put ◌==◌ (port_number ports d.name)
         (assigned_value outer.scope by_name (port_width ports d) e) by_number }
@@ -85,7 +86,8 @@ pub fn output_links_assign_their_signals()
         → (output_link outer ports d e).end ≡ Ok process
         → inner.scope d.name ≡ Some (signal (port_width ports d) d.signed)
         → inner.number d.name ≡ port_number ports d.name
-        → (by_name : List ℕ → ℕ) (by_number : Environment ℕ) → HaveValues inner by_name by_number
+        → (by_name : Environment (List ℕ)) (by_number : Environment ℕ)
+        → HaveValues inner by_name by_number
         → (n : List ℕ) × (whole_signal outer.scope e ≡ Some n)
         × (run_alone signals process.body by_number
         ≡ put ◌==◌ (outer.number n)

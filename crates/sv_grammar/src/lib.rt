@@ -3,8 +3,9 @@
 //!
 //! What tokens mean, and where they break which rule of 201 to 204, is said in `sv_ast`:
 //! `specs/GrammarRules.antt` and the other files of the grammar. Here stands a machine on a stack
-//! of symbols (`specs/Symbols.antt`, `specs/Machine.antt` and the tables beside them); that it
-//! follows the grammar exactly is proved. What reads tokens says by `specs/Reads.antt` how far it
+//! of symbols (`specs/Symbols.antt` and `Machine.antt`, over `ExpressionTable.antt`,
+//! `StatementTable.antt` and `ModuleTable.antt`), which tells a broken rule as `Verdict.antt` says;
+//! that it follows the grammar exactly is proved. What reads tokens says by `Reads.antt` how far it
 //! has followed the machine.
 //!
 //! The files in `specs/` say how reading goes; what it means stands in `sv_ast`.

@@ -11,7 +11,7 @@ use crate::operators::BinOp;
 use crate::vectors::Bits;
 
 /// The value that a binary operator gives. Both operands of an operator other than a shift, `&&`
-/// and `||` have one width and sign, and a divisor is not 0.
+/// and `||` have one width and signedness, and a divisor is not 0.
 pub fn apply_binary(op: BinOp, a: Bits, b: Bits) -> Bits
     requires types { HaveOneType (class_of op) a b }
     requires divisor { HasDivisor op b }
@@ -119,8 +119,8 @@ fn shifted_left(a: Bits, amount: u64) -> u64
     }
 }
 
-// The bits that come in are copies of the sign: those of a negative number are shifted while they
-// are inverted.
+// The bits that come in are copies of the top bit: those of a negative number are shifted while
+// they are inverted.
 fn shifted_with_sign(a: Bits, amount: u64) -> u64
     ensures value { result ≡ reduced (width_of a) (int_shr (number_of a) amount) }
     ensures low { result < 2 ^ width_of a }

@@ -1,11 +1,11 @@
-//! The base of every layer: places in a text, names, refusals, and values of a length and sign with
-//! their operators.
+//! The base of every layer: places in a text, names, refusals, and values of a length and
+//! signedness with their operators.
 //!
-//! Takes bytes for names, and a length, a sign and a number for values. Gives names that own their
-//! bytes and compare by them, and what each operator makes of values; promises that this is the
-//! value of the standard at every length and sign up to 64 bits, and that the two tables of
-//! operators are whole. A contract sees a [`Name`] as the list of its bytes, and everything else
-//! here as its fields.
+//! Takes bytes for names, and a length, a signedness and a number for values. Gives names that own
+//! their bytes and compare by them, and what each operator makes of values; promises that this is
+//! the value of the standard at every length up to 64 bits, signed and unsigned, and that the two
+//! tables of operators are whole. A contract sees a [`Name`] as the list of its bytes, and
+//! everything else here as its fields.
 //!
 //! `specs/Vectors.antt` says what values are, `Parts.antt` what their parts and extensions are,
 //! `BinaryValues.antt` and `UnaryValues.antt` what the operators give, over whole numbers,

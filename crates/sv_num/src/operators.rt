@@ -46,11 +46,11 @@ pub enum UnOp {
 /// How the operands and the result of a binary operator are sized.
 #[derive(Clone, Copy, Debug, PartialEq, Eq)]
 pub enum OpClass {
-    /// Both operands and the result have one length and sign, which the context gives.
+    /// Both operands and the result have one length and signedness, which the context gives.
     Context,
-    /// Both operands have one length and sign, and the result is one bit without sign.
+    /// Both operands have one length and signedness, and the result is one unsigned bit.
     Compare,
-    /// Each operand has a type of its own, and the result is one bit without sign.
+    /// Each operand has a type of its own, and the result is one unsigned bit.
     Logical,
     /// The result has the type of the left operand, and the right one has a type of its own.
     Shift,

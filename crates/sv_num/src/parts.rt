@@ -34,7 +34,7 @@ fn widened(a: Bits, width: u8) -> u64
     }
 }
 
-/// The bits from `low` to `high`, both counted from 0 and both in it, without sign.
+/// The bits from `low` to `high`, both counted from 0 and both in it, unsigned.
 pub fn slice(a: Bits, high: u8, low: u8) -> Bits
     requires order { low ≤ high }
     requires inside { high < width_of a }
@@ -46,7 +46,7 @@ pub fn slice(a: Bits, high: u8, low: u8) -> Bits
     Bits::of_type(width, false, low_bits(a.value() >> low, width))
 }
 
-/// The bits of `a` above those of `b`, without sign.
+/// The bits of `a` above those of `b`, unsigned.
 pub fn concat(a: Bits, b: Bits) -> Bits
     requires { width_of a + width_of b ≤ 64 }
     ensures width { width_of result ≡ width_of a + width_of b }

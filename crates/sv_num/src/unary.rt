@@ -7,7 +7,7 @@ use crate::low_bits::{inverted, low_bits, negated};
 use crate::operators::UnOp;
 use crate::vectors::Bits;
 
-/// The value that a unary operator gives. `!` and the reductions give one bit without sign, the
+/// The value that a unary operator gives. `!` and the reductions give one unsigned bit, the
 /// other operators a value of the operand's type.
 pub fn apply_unary(op: UnOp, a: Bits) -> Bits
     ensures width { width_of result ≡ (if gives_one_bit op then 1 else width_of a) }

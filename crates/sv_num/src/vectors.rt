@@ -1,10 +1,10 @@
-// Values of a length and sign.
+// Values of a length and signedness.
 ghost use Rattle.std.specs.Prelude.{◌≡◌, ◌↔◌, ◌^◌, ◌<◌, ◌≤◌, IsSome, IfSome, unsigned_abs, false};
 
 use crate::low_bits::{low_bits, negated};
 
-/// A value of 1 to 64 bits, with the sign of its type. A value is kept without sign, below 2 to the
-/// width.
+/// A value of 1 to 64 bits, signed or unsigned. It is kept as its bits read unsigned, below 2 to
+/// the width.
 #[derive(Clone, Copy, Debug, PartialEq, Eq)]
 pub struct Bits {
     width: u8,
@@ -17,8 +17,8 @@ impl Bits {
     ghost use Rattle.sv_num.specs.Vectors.{width_of, is_signed, value_of, is_negative, number_of};
     ghost use Rattle.sv_num.specs.Vectors.{truth};
 
-    /// The value of a width and sign. None unless the width is 1 to 64 and the value is below 2 to
-    /// the width.
+    /// The value of a width, signed or unsigned. None unless the width is 1 to 64 and the value is
+    /// below 2 to the width.
     pub fn new(width: u8, signed: bool, value: u64) -> Option<Bits>
         ensures fits { IsSome result ↔ ((1 ≤ width) × (width ≤ 64) × (value < 2 ^ width)) }
         ensures width { IfSome result (λ bits. width_of bits ≡ width) }
@@ -50,7 +50,7 @@ impl Bits {
         self.signed
     }
 
-    /// The value, read without sign.
+    /// The value, read unsigned.
     pub fn value(&self) -> u64
         ensures value { result ≡ value_of self.now }
         ensures range { result < 2 ^ width_of self.now }
@@ -58,7 +58,7 @@ impl Bits {
         self.value
     }
 
-    /// The value of a width and sign, where the caller knows that it fits.
+    /// The value of a width, signed or unsigned, where the caller knows that it fits.
     pub fn of_type(width: u8, signed: bool, value: u64) -> Bits
         requires some { 1 ≤ width }
         requires few { width ≤ 64 }
@@ -84,7 +84,7 @@ impl Bits {
         Bits::of_type(self.width, self.signed, value)
     }
 
-    /// One bit without sign.
+    /// One unsigned bit.
     pub(crate) fn flag(test: bool) -> Bits
         ensures width { width_of result ≡ 1 }
         ensures signed { is_signed result ≡ false }
@@ -100,7 +100,7 @@ impl Bits {
         self.signed && self.value >> (self.width - 1) == 1
     }
 
-    /// The number without its sign.
+    /// The magnitude of the number.
     pub(crate) fn magnitude(self) -> u64
         ensures size { result ≡ unsigned_abs (number_of self) }
         ensures range { result < 2 ^ width_of self }

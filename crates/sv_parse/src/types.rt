@@ -1,5 +1,5 @@
-// The types of declarations: signs, ranges and labels (IEEE 1364-2005, clause 4; labels are those
-// of SecVerilog, ASPLOS 2015).
+// The types of declarations: signedness, ranges and labels (IEEE 1364-2005, clause 4; labels are
+// those of SecVerilog, ASPLOS 2015).
 ghost use Rattle.std.specs.Prelude.{◌≡◌, ◌<◌, ◌≤◌, ℕ, List, [], ◌∷◌, length, IfOk, IfErr};
 ghost use Rattle.std.specs.Option.{option_map};
 ghost use Rattle.sv_token.specs.Lexemes.{placed_tokens};
@@ -192,7 +192,7 @@ pub fn read_label<'a>(
     }
 }
 
-/// What the names of one declaration share: sign, range and label.
+/// What the names of one declaration share: signedness, range and label.
 #[derive(Drop)]
 pub struct SignalType {
     pub signed: bool,

@@ -15,10 +15,10 @@ Puts {Signal} same d process =
 -- each process is that of a driver, and each driver has a process
 pub record OneTarget {Signal Point : Type 0} (system : System Signal Point) (same : Signal →
     Signal → Bool) (drivers : List (Driver Signal)) : Type 0 where
-  pub driver_of : (process : (Signal → ℕ) → (Signal → ℕ)) → Contains system.processes process →
-      (d : Driver Signal) × Contains drivers d × Puts same d process
+  pub driver_of : (process : Environment Signal → Environment Signal) →
+      Contains system.processes process → (d : Driver Signal) × Contains drivers d × Puts same d process
   pub process_of : (d : Driver Signal) → Contains drivers d →
-      (process : (Signal → ℕ) → (Signal → ℕ)) × Contains system.processes process
+      (process : Environment Signal → Environment Signal) × Contains system.processes process
       × Puts same d process
 
 module _ {Signal Point : Type 0} (system : System Signal Point) (same : Signal → Signal →
@@ -29,14 +29,14 @@ module _ {Signal Point : Type 0} (system : System Signal Point) (same : Signal �
       Contains drivers d → e d.target ≡ d.value e
   one_still_targets e still d among =
       let found = facts.process_of d among in
-      sym (All-contains (λ (process : (Signal → ℕ) → (Signal → ℕ)).
+      sym (All-contains (λ (process : Environment Signal → Environment Signal).
       (s : Signal) → process e s ≡ e s) system.processes found.0 still found.1 d.target)
       ∙ found.2 e d.target ∙ put_at same same_is is_same d.target (d.value e) e
 
   pub one_targets_still : (e : Environment Signal) →
       ((d : Driver Signal) → Contains drivers d → e d.target ≡ d.value e) → IsStill system e
   one_targets_still e targets =
-      All-weaker (Contains system.processes) (λ (process : (Signal → ℕ) → (Signal → ℕ)).
+      All-weaker (Contains system.processes) (λ (process : Environment Signal → Environment Signal).
       (s : Signal) → process e s ≡ e s)
       (λ process listed s. let found = facts.driver_of process listed in
       found.2 e s ∙ put_same same same_is is_same found.0.target s (found.0.value e) e

@@ -100,7 +100,7 @@ module _ {Signal : Type 0} (same : Signal → Signal → Bool) (same_is : (s t :
     pub final_target : run same (before ++ d ∷ after) start d.target ≡
         d.value (run same before start)
     final_target =
-        ap (λ (e : Signal → ℕ). e d.target) (run-append same before (d ∷ after) start)
+        ap (λ (e : Environment Signal). e d.target) (run-append same before (d ∷ after) start)
         ∙ run_leaves after (put same d.target (d.value (run same before start))
         (run same before start)) d.target
         (parts_apart (d.target ∷ []) (targets after)
@@ -111,6 +111,6 @@ module _ {Signal : Type 0} (same : Signal → Signal → Bool) (same_is : (s t :
     pub final_earlier : (s : Signal) → Contains (targets before) s →
         run same (before ++ d ∷ after) start s ≡ run same before start s
     final_earlier s at =
-        ap (λ (e : Signal → ℕ). e s) (run-append same before (d ∷ after) start)
+        ap (λ (e : Environment Signal). e s) (run-append same before (d ∷ after) start)
         ∙ run_leaves (d ∷ after) (run same before start) s
         (parts_apart (targets before) (targets (d ∷ after)) cut_distinct s at)

@@ -21,7 +21,8 @@ HaveSignals names signals =
     → IsTrue (is_signal signals (names.number n)) × (signal_width signals (names.number n) ≡ width)
 
 -- the signal that a name stands for has the same value by its name and by its number
-abbrev pub HaveValues : Names → (by_name : List ℕ → ℕ) → (by_number : Environment ℕ) → Type 0
+abbrev pub HaveValues : Names → (by_name : Environment (List ℕ)) → (by_number : Environment ℕ)
+    → Type 0
 HaveValues names by_name by_number =
     (n : List ℕ) (width : ℕ) (signed : Bool) → names.scope n ≡ Some (signal width signed)
     → by_number (names.number n) ≡ by_name n

@@ -1,5 +1,5 @@
-// The second walk over an expression: rule 405, and the typed form, at the lengths and signs that
-// are pushed down.
+// The second walk over an expression: rule 405, and the typed form, at the lengths and signedness
+// that are pushed down.
 ghost use Rattle.std.specs.Prelude.{◌≡◌, ℕ, ◌≤◌, max, List, Ok, IfOk, OnOk, IfErr, IsTrue};
 ghost use Rattle.sv_system.specs.System.{Environment};
 ghost use Rattle.sv_ast.specs.Shape.{is_shaped_expression};
@@ -40,7 +40,7 @@ pub fn typed(alloc: Global, expr: &Expr, scope: &Scope, target_width: u8) -> Res
         (signals : List SignalForm) → HaveSignals (names_of scope.now) signals
         → IsTrue (well_formed signals (typed_tree f))) }
     ensures means { IfOk result (λ f.
-        (signals : List SignalForm) (by_name : List ℕ → ℕ) (by_number : Environment ℕ)
+        (signals : List SignalForm) (by_name : Environment (List ℕ)) (by_number : Environment ℕ)
         → HaveSignals (names_of scope.now) signals
         → HaveValues (names_of scope.now) by_name by_number
         → value signals by_number (typed_tree f) ≡

@@ -8,6 +8,7 @@ use crate::command::CommandName;
 use clap::{Arg, ArgAction, value_parser};
 use std::alloc::{AllocError, Global};
 
+/// The command of a word.
 pub fn command_named(word: &str) -> Option<CommandName>
     ensures { result ≡ command_named word.now }
 {
@@ -22,6 +23,7 @@ pub fn command_named(word: &str) -> Option<CommandName>
     }
 }
 
+/// The words of a command, as a command of `clap`.
 pub fn line_of<'a>(alloc: Global, name: CommandName) -> Result<clap::Command<'a>, AllocError>
     ensures { IfOk result (λ line. app_of line ≡ line_of name) }
 {

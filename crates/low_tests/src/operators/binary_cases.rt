@@ -1,7 +1,7 @@
 // What binary operators give at the edges of some widths, worked out with whole numbers outside
 // this program.
 
-/// Width, sign, both operands, and the value of each operator of the binary table in order.
+/// Width, signedness, both operands, and the value of each operator of the binary table in order.
 pub const BINARY_CASES: [(u8, bool, u64, u64, [u64; 22]); 34] = [
     (
         1,

@@ -1,7 +1,7 @@
 // What unary operators give at the edges of some widths, worked out with whole numbers outside this
 // program.
 
-/// Width, sign, the operand, and the value of each operator of the unary table in order.
+/// Width, signedness, the operand, and the value of each operator of the unary table in order.
 pub const UNARY_CASES: [(u8, bool, u64, [u64; 11]); 31] = [
     (
         1,

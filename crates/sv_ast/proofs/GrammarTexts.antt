@@ -246,14 +246,14 @@ releases_and_invariants = refl
 pub nearest_if_and_left_nesting :
     text_of
     (codes
-    "module m; always @* if (a) if (b) y = 1; else y = 2; else y = 3; assign d = 7 - 2 - 1; endmodule")
+    "module m; always @* if (a) if (b) y = 1; else y = 2; else y = 3; assign d = 7-2-1; endmodule")
     ≡ Some (module_m [] []
     (always_item (at 11) None
     (if_else (at 21) (a 25)
     (if_else (at 28) (b 32) (sets (codes "y") 35 (number 1 39)) (sets (codes "y") 47 (number 2 51)))
     (sets (codes "y") 59 (number 3 63)))
     ∷ continuous (target (codes "d") 73 whole ∷ []) (at 73)
-    (binary binop.Sub (at 83) (binary binop.Sub (at 79) (number 7 77) (number 2 81)) (number 1 85))
+    (binary binop.Sub (at 80) (binary binop.Sub (at 78) (number 7 77) (number 2 79)) (number 1 81))
     ∷ []))
 unfolding read
 nearest_if_and_left_nesting = refl
@@ -277,11 +277,9 @@ lattices = refl
 abbrev key : ℕ → ℕ → KeyTree
 key v n = record { value = plain v; place = at n }
 
--- a map with two ranges, and labels by one and by two signals
 pub maps_of_two_ranges :
     text_of
-    (codes
-    "labelmap T [0:0] [1:0] 0, 2: L; default: H; endlabelmap module m; wire {T(p, q)} a; wire {U(p)} b; endmodule")
+    (codes "labelmap T [0:0] [1:0] 0, 2: L; default: H; endlabelmap module m; endmodule")
     ≡ Some (record {
       lattice = None;
       maps = record {
@@ -297,27 +295,33 @@ pub maps_of_two_ranges :
         place = at 64;
         parameters = [];
         ports = [];
-        items =
-            declared (record {
-              kind = kinds.Wire;
-              signed = false;
-              span = None;
-              label = Some (table_label (codes "T") (codes "p") (Some (codes "q")) (at 73));
-              name = codes "a";
-              place = at 82;
-              value = None;
-            })
-            ∷ declared (record {
-              kind = kinds.Wire;
-              signed = false;
-              span = None;
-              label = Some (table_label (codes "U") (codes "p") None (at 91));
-              name = codes "b";
-              place = at 97;
-              value = None;
-            })
-            ∷ [];
+        items = [];
       } ∷ [];
     })
 unfolding read
 maps_of_two_ranges = refl
+
+-- labels by two signals and by one
+pub labels_by_signals : text_of (codes "module m; wire {T(p, q)} a; wire {U(p)} b; endmodule")
+    ≡ Some (module_m [] []
+    (declared (record {
+      kind = kinds.Wire;
+      signed = false;
+      span = None;
+      label = Some (table_label (codes "T") (codes "p") (Some (codes "q")) (at 17));
+      name = codes "a";
+      place = at 26;
+      value = None;
+    })
+    ∷ declared (record {
+      kind = kinds.Wire;
+      signed = false;
+      span = None;
+      label = Some (table_label (codes "U") (codes "p") None (at 35));
+      name = codes "b";
+      place = at 41;
+      value = None;
+    })
+    ∷ []))
+unfolding read
+labels_by_signals = refl

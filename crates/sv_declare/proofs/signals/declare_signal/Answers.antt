@@ -27,8 +27,10 @@ use Rattle.sv_declare.proofs.NameLemmas.{width_is}
 use Rattle.sv_declare.proofs.StepLemmas.{signal_range_stops, signal_twice, signal_over}
 use Rattle.sv_declare.proofs.StepLemmas.{signal_found}
 use Rattle.sv_declare.proofs.signals.declare_signal.Goals as goal
-use Rattle.sv_declare.proofs.signals.declare_signal.Goals.{else-number-ge-MOST_SIGNALS-via-then-number-ge-MOST_SIGNALS+else-is_none}
-use Rattle.sv_declare.proofs.signals.declare_signal.Goals.{else-number-ge-MOST_SIGNALS-via-else-number-ge-MOST_SIGNALS}
+use Rattle.sv_declare.proofs.signals.declare_signal.Goals.{
+  else-number-ge-MOST_SIGNALS-via-then-number-ge-MOST_SIGNALS+else-is_none,
+  else-number-ge-MOST_SIGNALS-via-else-number-ge-MOST_SIGNALS,
+}
 
 pub returns-in_err-optional_width-clause-stopped : goal.returns-in_err-optional_width-clause-stopped
 returns-in_err-optional_width-clause-stopped c =

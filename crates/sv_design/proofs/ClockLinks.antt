@@ -16,9 +16,9 @@ use Rattle.sv_flat.specs.Soundness.{kind_sound, process_sound}
 use Rattle.sv_flat.specs.Views.{flat_statements, chain_of}
 use Rattle.sv_flat.proofs.LeastSets.{some_from, from_some}
 use Rattle.sv_flat.proofs.Depths.{first_of, second_of, from_all}
-use Rattle.sv_design.specs.DriverTables.{AreClocks, AreTargets}
+use Rattle.sv_design.specs.DriverTables.{AreClocks}
 use Rattle.sv_design.proofs.BitFacts.{same_answer}
-use Rattle.sv_design.proofs.Sound.{piece_is_signal, targets_of}
+use Rattle.sv_design.proofs.Sound.{piece_is_signal}
 
 module _ (design : FlatDesign) (table : List Bool) (are : AreClocks design table) where
   pub at_table : (s : ℕ) → s < length design.signals → get_or table s false ≡ is_clock design s
@@ -113,13 +113,3 @@ module _ (design : FlatDesign) (p : ProcessForm) (sound : IsTrue (process_sound 
       (list_all (piece_fits design.signals value) pieces) body_sound)
       ∙ ap (λ z. list_any (assigns z) (clocks design)) (sym same)
       ∙ ap (λ t. t && list_any (assigns p.body) (clocks design)) (sym (sym is ∙ e))
-
-  pub link_targets : {place : _} {blocking : Bool} (pieces : List PieceForm) (value : TypedTree)
-      → p.body ≡ assign pieces place blocking value
-      → AreTargets (length design.signals) pieces
-  link_targets pieces value same =
-      let body_sound = subst (λ z. IsTrue (statement_sound design.signals z)) same
-      (second_of (kind_sound design p.kind p.body) (statement_sound design.signals p.body) sound) in
-      targets_of (length design.signals) design.signals value pieces refl
-      (second_of (well_formed design.signals value)
-      (list_all (piece_fits design.signals value) pieces) body_sound)

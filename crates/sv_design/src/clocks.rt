@@ -1,5 +1,5 @@
 // Clocks, and rule 602.
-ghost use Rattle.std.specs.Prelude.{◌≡◌, ◌<◌, length, slice_index_or, false, IsTrue, IfOk};
+ghost use Rattle.std.specs.Prelude.{◌≡◌, ◌<◌, length, IsTrue, IfOk};
 ghost use Rattle.std.specs.List.{list_any};
 ghost use Rattle.sv_flat.specs.Clocks.{has_edge, is_edge, is_clock_link, is_port_in};
 ghost use Rattle.sv_flat.specs.Design.{PieceForm};
@@ -7,13 +7,13 @@ ghost use Rattle.sv_flat.specs.Processes.{is_top_kind, signals_that};
 ghost use Rattle.sv_flat.specs.Soundness.{sound, process_sound};
 ghost use Rattle.sv_flat.specs.Views.{design_of, process_form, process_kind};
 ghost use Rattle.sv_design.specs.BitSets.{piece_forms};
-ghost use Rattle.sv_design.specs.DriverTables.{AreClocks, AreTargets};
-ghost use Rattle.sv_design.specs.Marks.{Marks, HasClockBelow};
+ghost use Rattle.sv_design.specs.DriverTables.{AreClocks};
+ghost use Rattle.sv_design.specs.Marks.{Marks, is_marked, HasClockBelow};
 ghost use Rattle.sv_design.specs.Numbers.{numbers};
 
 use crate::links::clock_graph;
 use crate::lists::listed;
-use crate::marks::{mark, unmarked};
+use crate::marks::{has_mark, mark, unmarked};
 use crate::searches::search_from;
 use std::alloc::{AllocError, Global};
 use sv_flat::{FStmt, Flat, Piece, ProcKind, Process, SigId, SigKind};
@@ -27,16 +27,10 @@ pub fn is_top(kind: SigKind) -> bool
 
 // Whether some piece is one of a signal that the table has.
 fn is_any(pieces: &[Piece], table: &[bool]) -> bool
-    requires { AreTargets (length table.now) (piece_forms pieces.now) }
     ensures { result ≡ list_any (λ (p : PieceForm).
-        slice_index_or table.now p.signal false) (piece_forms pieces.now) }
+        is_marked table.now p.signal) (piece_forms pieces.now) }
 {
-    for piece in pieces {
-        if table[piece.signal.0 as usize] {
-            return true;
-        }
-    }
-    false
+    pieces.iter().any(|piece| has_mark(table, piece.signal))
 }
 
 // Whether the process is a link to an input port.

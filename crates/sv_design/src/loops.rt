@@ -14,6 +14,7 @@ ghost use Rattle.sv_design.specs.Searches.{found_by, LeadsDown, IsWayBack};
 
 use crate::begins::begin_table;
 use crate::found::{Found, first_of, is_before};
+use crate::marks::has_mark;
 use crate::orders::Reads;
 use crate::searches::{Search, search_from};
 use std::alloc::{AllocError, Global};
@@ -61,13 +62,6 @@ fn circle_from(alloc: Global, reads: &Reads, first: SigId) -> Result<Option<Vec<
         }
     }
     Ok(None)
-}
-
-// Whether a table has the signal.
-fn has_mark(table: &[bool], signal: SigId) -> bool
-    ensures { result ≡ is_marked table.now signal.0 }
-{
-    table.get(signal.0 as usize).copied().unwrap_or(false)
 }
 
 // Whether the signal is combinational and a circle can begin at it.

@@ -7,7 +7,7 @@ ghost use Rattle.sv_flat.specs.Views.{design_of, typed_tree, flat_statement, fla
 ghost use Rattle.sv_flat.specs.Views.{chain_of};
 ghost use Rattle.sv_design.specs.BitSets.{piece_forms};
 ghost use Rattle.sv_design.specs.DriverTables.{AreTargets, IsSoundOver, assigned_in};
-ghost use Rattle.sv_design.specs.Marks.{Marks, reads_in};
+ghost use Rattle.sv_design.specs.Marks.{Marks, is_marked, reads_in};
 ghost use Rattle.sv_design.specs.ReadForms.{AreZeros};
 
 use crate::names::names_in;
@@ -19,6 +19,13 @@ pub fn unmarked(alloc: Global, flat: &Flat) -> Result<Vec<bool>, AllocError>
     ensures { IfOk result (λ table. table.items ≡ replicate (length flat.now.signals.items) false) }
 {
     vec![in alloc; false; flat.signals.len()]
+}
+
+/// Whether a table has the signal.
+pub fn has_mark(table: &[bool], signal: SigId) -> bool
+    ensures { result ≡ is_marked table.now signal.0 }
+{
+    table.get(signal.0 as usize).copied().unwrap_or(false)
 }
 
 /// Marks a signal.

@@ -1,31 +1,22 @@
-use Rattle.std.proofs.Common.{◌≡◌, ◌+◌, Bool, true, false, ◌||◌, length, get_or, drop, refl, sym}
-use Rattle.std.proofs.Common.{ap, ◌∙◌}
+use Rattle.std.proofs.Common.{◌≡◌, ◌||◌, Bool, false, List, [], ◌∷◌, get_or, refl, ap, ◌∙◌, rules}
+use Rattle.std.proofs.Common.{tests}
 use Rattle.std.specs.List.{list_any}
-use Rattle.std.proofs.lemmas.Bool.{false≢true}
+use Rattle.std.proofs.lemmas.Iterator.{YieldsList-from_slice}
+use Rattle.std.proofs.lemmas.Iterator.Search.{any_from_yields_List}
+use Rattle.sv_flat.specs.declared.statements.Piece.{Piece}
 use Rattle.sv_flat.specs.Design.{PieceForm}
 use Rattle.sv_flat.specs.Views.{piece_form}
 use Rattle.sv_design.specs.BitSets.{piece_forms}
-use Rattle.sv_design.proofs.Sound.{no_piece, piece_at, targets_first, targets_rest}
 use Rattle.sv_design.proofs.clocks.is_any.Goals as goal
 
-pub bounds-table-piece : goal.bounds-table-piece
-bounds-table-piece c =
-    targets_first (length c.args.table.now) c.args.pieces.now c.loop-piece.piece-index no_piece
-    c.loop-piece-test.true c.loop-piece.invariant.0
+any_formed : (test : PieceForm → Bool) (pieces : List Piece)
+    → list_any (λ (p : Piece). test (piece_form p)) pieces ≡ list_any test (piece_forms pieces)
+any_formed test [] = refl
+any_formed test (p ∷ pieces) = ap (λ b. test (piece_form p) || b) (any_formed test pieces)
 
-any_rest : (b rest : Bool) → b ≡ false → (b || rest) ≡ rest
-any_rest true rest e = absurd (false≢true (sym e))
-any_rest false rest e = refl
-
-pub loop-piece-preserved : goal.loop-piece-preserved
-loop-piece-preserved c =
+pub returns : goal.returns
+returns c =
     let test = λ (p : PieceForm). get_or c.args.table.now p.signal false in
-    let pieces = c.args.pieces.now in
-    let i = c.loop-piece.piece-index in (
-      targets_rest (length c.args.table.now) pieces i no_piece c.loop-piece-test.true
-          c.loop-piece.invariant.0,
-      c.loop-piece.invariant.1
-          ∙ ap (list_any test) (piece_at pieces i no_piece c.loop-piece-test.true)
-          ∙ any_rest (test (piece_form (get_or pieces i no_piece)))
-          (list_any test (piece_forms (drop (i + 1) pieces))) c.if-table-piece.false,
-    )
+    any_from_yields_List (λ (p : Piece). test (piece_form p)) _ _ c.any.result c.any.ensures.ran
+    (YieldsList-from_slice c.args.pieces.now cc) (λ x b q k. search (rules, tests))
+    ∙ any_formed test c.args.pieces.now

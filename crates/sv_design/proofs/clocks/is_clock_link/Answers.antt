@@ -1,29 +1,11 @@
-use Rattle.std.proofs.Common.{◌≡◌, true, false, length, get_or, refl, sym, ap, subst, ◌∙◌, rules}
-use Rattle.std.proofs.lemmas.List.FromFn.{length-map-range_with_len}
+use Rattle.std.proofs.Common.{◌≡◌, true, false, get_or, refl, ap, ◌∙◌, rules}
 use Rattle.std.specs.List.{list_any}
-use Rattle.sv_flat.specs.Clocks.{is_clock}
 use Rattle.sv_flat.specs.Design.{PieceForm, assign}
 use Rattle.sv_flat.specs.Views.{design_of, process_form, typed_tree, flat_statement}
 use Rattle.sv_design.specs.BitSets.{piece_forms}
-use Rattle.sv_design.specs.DriverTables.{AreTargets}
-use Rattle.sv_design.proofs.ClockLinks.{not_block, is_link, link_targets}
+use Rattle.sv_design.proofs.ClockLinks.{not_block, is_link}
 use Rattle.sv_design.proofs.Sound.{block_is}
 use Rattle.sv_design.proofs.clocks.is_clock_link.Goals as goal
-
-pub is_any-requires : goal.is_any-requires
-is_any-requires c =
-    let design = design_of c.args.flat.now in
-    let p = process_form c.args.process.now in
-    let is : p.body ≡ assign (piece_forms c.in-Assign.pieces.items) c.in-Assign.place
-    c.in-Assign.blocking (typed_tree c.in-Assign.value) =
-    ap flat_statement c.in-Assign.is in
-    let size : length c.args.clocks.now ≡ length design.signals =
-    ap length c.requires.clocks
-    ∙ length-map-range_with_len (is_clock design) 0 (length design.signals) in
-    subst (λ ps. AreTargets (length c.args.clocks.now) (piece_forms ps)) (sym c.deref.ensures.value)
-    (subst (λ n. AreTargets n (piece_forms c.in-Assign.pieces.items)) (sym size)
-    (link_targets design p c.requires.sound (piece_forms c.in-Assign.pieces.items)
-    (typed_tree c.in-Assign.value) is))
 
 pub returns-in-Assign : goal.returns-in-Assign
 returns-in-Assign c =

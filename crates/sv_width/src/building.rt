@@ -318,10 +318,5 @@ fn sized_parts(alloc: Global, parts: &[Expr]) -> Result<(), Fault>
 fn some_named(operands: &[Measured]) -> bool
     ensures { result ≡ some_named (parts_of (measured_trees operands.now)) }
 {
-    for operand in operands {
-        if operand.own().names_signal {
-            return true;
-        }
-    }
-    false
+    operands.iter().any(|operand| operand.names_some_signal())
 }

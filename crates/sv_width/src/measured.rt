@@ -58,6 +58,13 @@ impl Measured {
     {
         self.own().of_type
     }
+
+    /// Whether a signal is named in the expression.
+    pub(crate) fn names_some_signal(&self) -> bool
+        ensures { result ≡ (own_form (measured_tree self.now)).names_signal }
+    {
+        self.own().names_signal
+    }
 }
 
 /// A number of the text, or a parameter's value.

@@ -19,9 +19,9 @@ pub fn written_numbers_have_lengths()
 
 /// The flat design that a text stands for is sound: each point has a name, each signal 1 to 64 bits
 /// and a label that is there, each expression the lengths and signedness of IEEE 1364-2005, clauses
-/// 5.4 and 5.5, and each assignment bits inside its signals. The text has the shape that the grammar
-/// gives, and its written numbers have 1 to 64 bits and fit them. A value that it releases has no
-/// process in the design.
+/// 5.4 and 5.5, and each assignment bits inside its signals. The text has the shape that the
+/// grammar gives, and its written numbers have 1 to 64 bits and fit them. A value that it releases
+/// has no process in the design.
 pub fn texts_stand_for_sound_designs()
     ensures { (text : TextTree) (top : Option (List ℕ)) (design : FlatDesign)
         → IsTrue (is_shaped text) → EachItem ItemNumbersFit text → TextHasLengths text

@@ -9,7 +9,7 @@ use Rattle.sv_ast.specs.declared.declarations.DeclKind.TheVariants as kind
 use Rattle.sv_ast.specs.Tree.{ExpressionTree, unary, part_of, named_overrides, ordered_overrides}
 use Rattle.sv_ast.specs.Tree.{named_links, ordered_links, point_label, table_label, if_only}
 use Rattle.sv_ast.specs.Tree.{case_of, no_arms, declared, ItemTree, ModuleTree, TextTree}
-use Rattle.sv_ast.specs.Values.{value, sign_of}
+use Rattle.sv_ast.specs.Values.{value, signed_of}
 use Rattle.sv_ast.specs.Runs.{run}
 use Rattle.sv_ast.specs.Parts.{Path, parts_from}
 use Rattle.sv_ast.specs.Processes.{processes_from}
@@ -46,7 +46,7 @@ sums = text_of (module_with "m" []
 
 pub the_length_of_the_target : after_all (system sums None) (paths_are (("a", 255) ∷ ("b", 1) ∷ []))
     ≡ 255 ∷ 1 ∷ 256 ∷ 0 ∷ []
-unfolding system parts_from processes_from run value sign_of
+unfolding system parts_from processes_from run value signed_of
 the_length_of_the_target = refl
 
 pub signals_in_order : (system sums None).signals ≡ paths "a b s h"
@@ -54,7 +54,7 @@ unfolding system parts_from
 signals_in_order = refl
 
 pub widths_in_order : map (system sums None).width (system sums None).signals ≡ 8 ∷ 8 ∷ 9 ∷ 8 ∷ []
-unfolding system parts_from value sign_of
+unfolding system parts_from value signed_of
 widths_in_order = refl
 
 pub inputs_of_the_top : filter (system sums None).is_input (system sums None).signals ≡ paths "a b"
@@ -75,12 +75,12 @@ nested = text_of (module_with "m" []
 
 pub both_are_one : after_all (system nested None) (paths_are (("a", 1) ∷ ("b", 1) ∷ []))
     ≡ 1 ∷ 1 ∷ 1 ∷ 4 ∷ []
-unfolding system parts_from processes_from run value sign_of
+unfolding system parts_from processes_from run value signed_of
 both_are_one = refl
 
 pub the_first_is_one : after_all (system nested None) (paths_are (("a", 1) ∷ []))
     ≡ 1 ∷ 0 ∷ 2 ∷ 4 ∷ []
-unfolding system parts_from processes_from run value sign_of
+unfolding system parts_from processes_from run value signed_of
 the_first_is_one = refl
 
 -- `reg` alone makes no register
@@ -90,7 +90,7 @@ no_register = refl
 
 pub the_second_is_one : after_all (system nested None) (paths_are (("b", 1) ∷ []))
     ≡ 0 ∷ 1 ∷ 3 ∷ 4 ∷ []
-unfolding system parts_from processes_from run value sign_of
+unfolding system parts_from processes_from run value signed_of
 the_second_is_one = refl
 
 -- A complete case.
@@ -107,7 +107,7 @@ turned = text_of (module_with "m" [] (input (bits 2) "s" ∷ output_reg (bits 2)
 pub complete_case : map (λ s. after_all (system turned None) (paths_are (("s", s) ∷ [])))
     (0 ∷ 1 ∷ 2 ∷ 3 ∷ [])
     ≡ (0 ∷ 3 ∷ []) ∷ (1 ∷ 2 ∷ []) ∷ (2 ∷ 1 ∷ []) ∷ (3 ∷ 0 ∷ []) ∷ []
-unfolding system parts_from processes_from run value sign_of
+unfolding system parts_from processes_from run value signed_of
 complete_case = refl
 
 -- Two instances with their own parameters and registers.
@@ -141,7 +141,7 @@ signals_of_instances = refl
 
 pub widths_of_instances : map (system two_counters None).width (system two_counters None).signals
     ≡ 1 ∷ 4 ∷ 8 ∷ 1 ∷ 4 ∷ 1 ∷ 8 ∷ []
-unfolding system parts_from value sign_of
+unfolding system parts_from value signed_of
 widths_of_instances = refl
 
 -- inputs of instances are no inputs of the design
@@ -166,15 +166,15 @@ both_full en = paths_are (("en", en) ∷ ("u.en", en) ∷ ("v.en", en) ∷ ("u.q
 pub links_carry_values :
     after_all (system two_counters None) (paths_are (("en", 1) ∷ ("u.q", 15) ∷ ("v.q", 15) ∷ []))
     ≡ 1 ∷ 15 ∷ 15 ∷ 1 ∷ 15 ∷ 1 ∷ 15 ∷ []
-unfolding system parts_from processes_from run value sign_of
+unfolding system parts_from processes_from run value signed_of
 links_carry_values = refl
 
 pub each_counts_at_its_width : stepped (system two_counters None) (both_full 1) ≡ 0 ∷ 16 ∷ []
-unfolding system parts_from processes_from run value sign_of
+unfolding system parts_from processes_from run value signed_of
 each_counts_at_its_width = refl
 
 pub registers_keep_their_values : stepped (system two_counters None) (both_full 0) ≡ 15 ∷ 15 ∷ []
-unfolding system parts_from processes_from run value sign_of
+unfolding system parts_from processes_from run value signed_of
 registers_keep_their_values = refl
 
 -- under the module asked for
@@ -195,7 +195,7 @@ literals = text_of (module_with "m" []
 
 pub literals_are_sized : after_all (system literals None) (paths_are [])
     ≡ 0xff ∷ 0xffffffffffffffff ∷ 1 ∷ 1 ∷ []
-unfolding system parts_from processes_from run value sign_of
+unfolding system parts_from processes_from run value signed_of
 literals_are_sized = refl
 
 -- Joins and parts on the left: {c, s} = a + b, and p from the low half of a and the high half of b.
@@ -216,7 +216,7 @@ pieces_on_the_left = text_of (module_with "m" []
 pub a_carry_and_two_halves :
     after_all (system pieces_on_the_left None) (paths_are (("a", 15) ∷ ("b", 1) ∷ []))
     ≡ 15 ∷ 1 ∷ 0 ∷ 1 ∷ 3 ∷ []
-unfolding system parts_from processes_from run value sign_of
+unfolding system parts_from processes_from run value signed_of
 a_carry_and_two_halves = refl
 
 -- Earlier values: t = h; z = t; t = a; y = t;
@@ -232,7 +232,7 @@ earlier_values = text_of (module_with "m" []
 
 pub each_read_in_its_place : after_all (system earlier_values None) (paths_are (("h", 1) ∷ []))
     ≡ 0 ∷ 1 ∷ 0 ∷ 1 ∷ 0 ∷ []
-unfolding system parts_from processes_from run value sign_of
+unfolding system parts_from processes_from run value signed_of
 each_read_in_its_place = refl
 
 -- Labels: {Dom(p)} q and {Two(p, q)} d.
@@ -337,7 +337,7 @@ pub order_of_the_walk :
     changed_in_order (system three_instances None)
     (paths_are (("a", 1) ∷ ("y", 1) ∷ ("x", 1) ∷ ("z", 1) ∷ []))
     ≡ paths "u.i z u.m u.o v.i y v.m v.o w.i x w.m w.o"
-unfolding system parts_from processes_from run value sign_of
+unfolding system parts_from processes_from run value signed_of
 order_of_the_walk = refl
 
 -- module t(input clk, input d, output y, output z); reg q; assign y = q;
@@ -356,5 +356,5 @@ pub order_of_items :
     changed_in_order (system items_between None)
     (paths_are (("d", 1) ∷ ("y", 1) ∷ ("z", 1) ∷ ("u.i", 1) ∷ ("u.m", 1) ∷ ("u.o", 0) ∷ []))
     ≡ paths "y u.i z u.m w"
-unfolding system parts_from processes_from run value sign_of
+unfolding system parts_from processes_from run value signed_of
 order_of_items = refl

@@ -5,7 +5,7 @@ use Rattle.sv_num.specs.declared.operators.BinOp.TheVariants as binop
 use Rattle.sv_ast.specs.Scopes.{Scope, Binding, parameter, signal}
 use Rattle.sv_ast.specs.Tree.{ExpressionTree, parameter_item, ModuleTree, ParameterTree}
 use Rattle.sv_ast.specs.Tree.{named_overrides, ordered_overrides, named_links, ordered_links}
-use Rattle.sv_ast.specs.Values.{value, sign_of}
+use Rattle.sv_ast.specs.Values.{value, signed_of}
 use Rattle.sv_ast.specs.Instances.{entry, module_named, top_module, masters, open_parameters}
 use Rattle.sv_ast.specs.Instances.{settings, span_width, parameter_value, bindings, scope_of}
 use Rattle.sv_ast.specs.Instances.{linked_ports, whole_name, whole_signal}
@@ -83,7 +83,7 @@ body_parameters_without_a_header_are_open = refl
 pub defaults : bindings [] p
     ≡ (codes "W", plain 2) ∷ (codes "D", plain 4) ∷ (codes "a", signal 4 false)
     ∷ (codes "b", signal 1 false) ∷ (codes "B", plain 7) ∷ (codes "C", plain 5) ∷ []
-unfolding value sign_of
+unfolding value signed_of
 defaults = refl
 
 -- #(.W(4)): what depends on W follows
@@ -91,7 +91,7 @@ pub an_override_by_name :
     bindings (settings no_scope p (named_overrides (sets "W" (decimal_of 4) ∷ []))) p
     ≡ (codes "W", plain 4) ∷ (codes "D", plain 8) ∷ (codes "a", signal 8 false)
     ∷ (codes "b", signal 1 false) ∷ (codes "B", plain 7) ∷ (codes "C", plain 9) ∷ []
-unfolding value sign_of
+unfolding value signed_of
 an_override_by_name = refl
 
 -- #(4, 3): the second is D
@@ -99,7 +99,7 @@ pub overrides_by_order :
     scope_of (settings no_scope p (ordered_overrides (decimal_of 4 ∷ decimal_of 3 ∷ []))) p
     (codes "a")
     ≡ Some (signal 3 false)
-unfolding value sign_of
+unfolding value signed_of
 overrides_by_order = refl
 
 -- an override is a constant of the outer module: W is 2 inside, and 5 outside
@@ -107,11 +107,11 @@ pub an_override_is_taken_outside :
     scope_of (settings (λ n. Some (plain 5)) p (named_overrides (sets "D" (name "W") ∷ []))) p
     (codes "D")
     ≡ Some (plain 5)
-unfolding value sign_of
+unfolding value signed_of
 an_override_is_taken_outside = refl
 
 pub no_binding_of_another_name : scope_of [] p (codes "c") ≡ None
-unfolding value sign_of
+unfolding value signed_of
 no_binding_of_another_name = refl
 
 -- 4'hf + 4'h1
@@ -122,27 +122,27 @@ sum_of_four_bits = op binop.Add (sized_of 4 false 15) (sized_of 4 false 1)
 pub converted_after_its_value : parameter_value [] no_scope
     (parameter_with false false (bits 8) "U" sum_of_four_bits)
     ≡ record { width = 8; signed = false; value = 0 }
-unfolding value sign_of
+unfolding value signed_of
 converted_after_its_value = refl
 
 pub without_a_range_as_it_is : parameter_value [] no_scope
     (parameter_with false false None "U" (sized_of 4 false 15))
     ≡ record { width = 4; signed = false; value = 15 }
-unfolding value sign_of
+unfolding value signed_of
 without_a_range_as_it_is = refl
 
 -- parameter [7:0] S = 4'shf is ff: the sign of the value fills
 pub the_sign_of_the_value_fills : parameter_value [] no_scope
     (parameter_with false false (bits 8) "S" (sized_of 4 true 15))
     ≡ record { width = 8; signed = false; value = 255 }
-unfolding value sign_of
+unfolding value signed_of
 the_sign_of_the_value_fills = refl
 
 -- parameter signed [7:0] S = 4'hf is f
 pub the_sign_of_the_range_does_not_fill : parameter_value [] no_scope
     (parameter_with false true (bits 8) "S" (sized_of 4 false 15))
     ≡ record { width = 8; signed = true; value = 15 }
-unfolding value sign_of
+unfolding value signed_of
 the_sign_of_the_range_does_not_fill = refl
 
 -- an overridden parameter keeps its range: parameter [1:0] R with 7
@@ -150,11 +150,11 @@ pub an_override_is_converted : parameter_value
     ((codes "R", record { width = 32; signed = true; value = 7 }) ∷ []) no_scope
     (parameter_with false false (bits 2) "R" (decimal_of 0))
     ≡ record { width = 2; signed = false; value = 3 }
-unfolding value sign_of
+unfolding value signed_of
 an_override_is_converted = refl
 
 pub eight_bits : span_width no_scope (bits 8) ≡ 8
-unfolding value sign_of
+unfolding value signed_of
 eight_bits = refl
 
 pub one_bit_without_a_range : span_width no_scope None ≡ 1
@@ -162,7 +162,7 @@ one_bit_without_a_range = refl
 
 -- the least range
 pub one_bit_of_a_range : span_width no_scope (bits 1) ≡ 1
-unfolding value sign_of
+unfolding value signed_of
 one_bit_of_a_range = refl
 
 pub a_link_by_name :
@@ -211,13 +211,13 @@ masters_of_g = refl
 
 -- of the names of p, a is a signal and W a parameter
 pub a_whole_signal : whole_signal (scope_of [] p) (name "a") ≡ Some (codes "a")
-unfolding value sign_of
+unfolding value signed_of
 a_whole_signal = refl
 
 pub a_parameter_is_no_signal : whole_signal (scope_of [] p) (name "W") ≡ None
-unfolding value sign_of
+unfolding value signed_of
 a_parameter_is_no_signal = refl
 
 pub an_unknown_name_is_no_signal : whole_signal (scope_of [] p) (name "x") ≡ None
-unfolding value sign_of
+unfolding value signed_of
 an_unknown_name_is_no_signal = refl

@@ -7,7 +7,7 @@ use Rattle.sv_ast.specs.declared.declarations.DeclKind.TheVariants as kind
 use Rattle.sv_ast.specs.Tree.{ExpressionTree, DeclarationTree, unary, named_overrides, named_links}
 use Rattle.sv_ast.specs.Tree.{ordered_links, null, declared, released, invariant_item, ModuleTree}
 use Rattle.sv_ast.specs.Tree.{ItemTree, TextTree, StatementTree}
-use Rattle.sv_ast.specs.Values.{value, sign_of}
+use Rattle.sv_ast.specs.Values.{value, signed_of}
 use Rattle.sv_ast.specs.Runs.{run}
 use Rattle.sv_ast.specs.Parts.{Path, same_path, Part, part_with, parts_from, parts, children}
 use Rattle.sv_ast.specs.Parts.{PortLink, port_path, linked_path, links_of, signals_of, signal_path}
@@ -162,25 +162,25 @@ copies = gets "q" (name "d")
 pub its_own_signal_changes :
     changed_by second_leaf copies (paths_are (("b.u.d", 1) ∷ [])) (path "b.u.q")
     ≡ 1
-unfolding run value sign_of
+unfolding run value signed_of
 its_own_signal_changes = refl
 
 pub another_instance_is_not_read :
     changed_by second_leaf copies (paths_are (("a.u.d", 1) ∷ [])) (path "b.u.q")
     ≡ 0
-unfolding run value sign_of
+unfolding run value signed_of
 another_instance_is_not_read = refl
 
 pub another_instance_does_not_change :
     changed_by second_leaf copies (paths_are (("b.u.d", 1) ∷ [])) (path "a.u.q")
     ≡ 0
-unfolding run value sign_of
+unfolding run value signed_of
 another_instance_does_not_change = refl
 
 pub an_update_of_its_own_signal :
     updates_by second_leaf (gets_later "q" (name "d")) (paths_are (("b.u.d", 1) ∷ []))
     ≡ (path "b.u.q", 1) ∷ []
-unfolding run value sign_of
+unfolding run value signed_of
 an_update_of_its_own_signal = refl
 
 pub updates_in_order :
@@ -188,12 +188,12 @@ pub updates_in_order :
     (begin_end (gets_later "q" (decimal_of 0) ∷ gets_later "q" (decimal_of 1) ∷ []))
     (paths_are [])
     ≡ (path "b.u.q", 0) ∷ (path "b.u.q", 1) ∷ []
-unfolding run value sign_of
+unfolding run value signed_of
 updates_in_order = refl
 
 pub no_updates_of_a_blocking_assignment :
     updates_by second_leaf copies (paths_are (("b.u.d", 1) ∷ [])) ≡ []
-unfolding run value sign_of
+unfolding run value signed_of
 no_updates_of_a_blocking_assignment = refl
 
 -- Items.
@@ -247,34 +247,34 @@ pub a_sum_keeps_its_carry :
     link_in (port_with (input (bits 8) "i") (op binop.Add (name "x") (name "y")))
     (paths_are (("x", 15) ∷ ("y", 15) ∷ [])) (path "u.i")
     ≡ 30
-unfolding value sign_of
+unfolding value signed_of
 a_sum_keeps_its_carry = refl
 
 pub an_input_is_cut :
     link_in (port_with (input (bits 2) "i") (name "x")) (paths_are (("x", 14) ∷ [])) (path "u.i")
     ≡ 2
-unfolding value sign_of
+unfolding value signed_of
 an_input_is_cut = refl
 
 pub an_output_without_a_sign :
     link_out (port_with (output (bits 4) "o") (name "n")) (codes "n") (paths_are (("u.o", 8) ∷ []))
     (path "n")
     ≡ 0x08
-unfolding value sign_of
+unfolding value signed_of
 an_output_without_a_sign = refl
 
 pub an_output_with_a_sign :
     link_out (port_with (declaration_with kind.OutputWire true (bits 4) None "o") (name "n"))
     (codes "n") (paths_are (("u.o", 8) ∷ [])) (path "n")
     ≡ 0xf8
-unfolding value sign_of
+unfolding value signed_of
 an_output_with_a_sign = refl
 
 pub an_output_is_cut :
     link_out (port_with (output (bits 4) "o") (name "m")) (codes "m") (paths_are (("u.o", 14) ∷ []))
     (path "m")
     ≡ 2
-unfolding value sign_of
+unfolding value signed_of
 an_output_is_cut = refl
 
 pub an_output_to_an_expression_is_no_process :

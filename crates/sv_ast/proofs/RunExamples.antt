@@ -7,10 +7,10 @@ use Rattle.sv_num.specs.declared.operators.BinOp.TheVariants as binop
 use Rattle.sv_ast.specs.Scopes.{Scope}
 use Rattle.sv_ast.specs.Tree.{ExpressionTree, StatementTree, null, if_only, case_of, ArmTrees}
 use Rattle.sv_ast.specs.Tree.{no_arms}
-use Rattle.sv_ast.specs.Values.{value, sign_of}
+use Rattle.sv_ast.specs.Values.{value, signed_of}
 use Rattle.sv_system.specs.System.{last_update}
 use Rattle.sv_ast.specs.Runs.{target_width, targets_width, pieces, with_bits, case_length}
-use Rattle.sv_ast.specs.Runs.{case_sign, run, assigned}
+use Rattle.sv_ast.specs.Runs.{case_signed, run, assigned}
 use Rattle.sv_ast.proofs.SmallTrees.{somewhere, decimal_of, sized_of, name, op, to, to_bit, to_part}
 use Rattle.sv_ast.proofs.SmallTrees.{puts, posts, begin_end, either, arm, signals_are, values_are}
 use Rattle.sv_ast.proofs.SmallTrees.{gets, gets_later, names}
@@ -35,15 +35,15 @@ nested = either (name "a") (either (name "b") (gets "y" (decimal_of 1)) (gets "y
     (gets "y" (decimal_of 3))
 
 pub both_hold : after bits_and_y (("a", 1) ∷ ("b", 1) ∷ []) nested "y" ≡ 1
-unfolding run value sign_of
+unfolding run value signed_of
 both_hold = refl
 
 pub the_nearest_else : after bits_and_y (("a", 1) ∷ ("b", 0) ∷ []) nested "y" ≡ 2
-unfolding run value sign_of
+unfolding run value signed_of
 the_nearest_else = refl
 
 pub the_outer_else : after bits_and_y (("a", 0) ∷ ("b", 1) ∷ []) nested "y" ≡ 3
-unfolding run value sign_of
+unfolding run value signed_of
 the_outer_else = refl
 
 -- an `if` without `else`, whose condition is 0
@@ -51,7 +51,7 @@ pub nothing_else :
     after bits_and_y (("a", 0) ∷ ("y", 2) ∷ [])
     (if_only somewhere (name "a") (gets "y" (decimal_of 1))) "y"
     ≡ 2
-unfolding run value sign_of
+unfolding run value signed_of
 nothing_else = refl
 
 pub nothing_is_done : after bits_and_y (("y", 2) ∷ []) null "y" ≡ 2
@@ -63,19 +63,19 @@ pub one_after_the_other :
     after bits_and_y [] (begin_end
     (gets "y" (decimal_of 1) ∷ gets "b" (name "y") ∷ gets "y" (decimal_of 2) ∷ [])) "b"
     ≡ 1
-unfolding run value sign_of
+unfolding run value signed_of
 one_after_the_other = refl
 
 -- y <= 1; b <= y; with y at 2: b gets 0, the low bit of the old value
 pub updates_wait : left bits_and_y (("y", 2) ∷ [])
     (begin_end (gets_later "y" (decimal_of 1) ∷ gets_later "b" (name "y") ∷ []))
     ≡ (codes "y", 1) ∷ (codes "b", 0) ∷ []
-unfolding run value sign_of
+unfolding run value signed_of
 updates_wait = refl
 
 pub the_environment_waits : after bits_and_y (("y", 2) ∷ []) (gets_later "y" (decimal_of 1)) "y"
     ≡ 2
-unfolding run value sign_of
+unfolding run value signed_of
 the_environment_waits = refl
 
 -- Cases: case (s) 0: y = 3; 1: y = 2; 2: y = 1; 3: y = 0; endcase
@@ -95,7 +95,7 @@ turned = case_of somewhere (name "s")
 pub complete_case : map (λ s.
     after s_and_y (("s", s) ∷ ("y", 9) ∷ []) turned "y") (0 ∷ 1 ∷ 2 ∷ 3 ∷ [])
     ≡ 3 ∷ 2 ∷ 1 ∷ 0 ∷ []
-unfolding run value sign_of
+unfolding run value signed_of
 complete_case = refl
 
 -- 1, 2: y = 5; default y = 6; 2, 3: y = 7; with the default in the middle; of two arms with 2 the
@@ -108,7 +108,7 @@ with_default = case_of somewhere (name "s")
 pub first_arm_or_default :
     map (λ s. after s_and_y (("s", s) ∷ ("y", 9) ∷ []) with_default "y") (0 ∷ 1 ∷ 2 ∷ 3 ∷ [])
     ≡ 6 ∷ 5 ∷ 5 ∷ 7 ∷ []
-unfolding run value sign_of
+unfolding run value signed_of
 first_arm_or_default = refl
 
 -- without a default nothing is done where no item is equal
@@ -116,7 +116,7 @@ pub no_arm :
     after s_and_y (("s", 3) ∷ ("y", 9) ∷ [])
     (case_of somewhere (name "s") (arm (decimal_of 1 ∷ []) (gives_y 5) no_arms)) "y"
     ≡ 9
-unfolding run value sign_of
+unfolding run value signed_of
 no_arm = refl
 
 -- case (s + 1'b1) 0: y = 1; 4: y = 2; with items of 32 bits the sum does not wrap, with items of 2
@@ -127,13 +127,13 @@ wraps zero four = case_of somewhere (op binop.Add (name "s") (sized_of 1 false 1
 
 pub sized_to_the_longest : after s_and_y (("s", 3) ∷ []) (wraps (decimal_of 0) (decimal_of 4)) "y"
     ≡ 2
-unfolding run value sign_of
+unfolding run value signed_of
 sized_to_the_longest = refl
 
 pub sized_to_two_bits :
     after s_and_y (("s", 3) ∷ []) (wraps (sized_of 2 false 0) (sized_of 1 false 1)) "y"
     ≡ 1
-unfolding run value sign_of
+unfolding run value signed_of
 sized_to_two_bits = refl
 
 -- case (2'sb11) 4'sb1111: y = 1; default: y = 2; one unsigned item more and nothing is signed
@@ -142,11 +142,11 @@ signed_selector more = case_of somewhere (sized_of 2 true 3)
     (arm (sized_of 4 true 15 ∷ more) (gives_y 1) (arm [] (gives_y 2) no_arms))
 
 pub signed_if_all_are : after s_and_y [] (signed_selector []) "y" ≡ 1
-unfolding run value sign_of
+unfolding run value signed_of
 signed_if_all_are = refl
 
 pub unsigned_if_one_is : after s_and_y [] (signed_selector (sized_of 4 false 0 ∷ [])) "y" ≡ 2
-unfolding run value sign_of
+unfolding run value signed_of
 unsigned_if_one_is = refl
 
 abbrev two_and_four_bits : ArmTrees
@@ -154,19 +154,19 @@ two_and_four_bits =
     arm (sized_of 2 true 3 ∷ []) null (arm [] null (arm (sized_of 4 true 15 ∷ []) null no_arms))
 
 pub the_longest_item : case_length s_and_y (name "s") two_and_four_bits ≡ 4
-unfolding value sign_of
+unfolding value signed_of
 the_longest_item = refl
 
 pub the_selector_may_be_longest : case_length s_and_y (decimal_of 1) two_and_four_bits ≡ 32
-unfolding value sign_of
+unfolding value signed_of
 the_selector_may_be_longest = refl
 
-pub signed_with_all_items : case_sign s_and_y (sized_of 2 true 3) two_and_four_bits ≡ true
-unfolding value sign_of
+pub signed_with_all_items : case_signed s_and_y (sized_of 2 true 3) two_and_four_bits ≡ true
+unfolding value signed_of
 signed_with_all_items = refl
 
-pub unsigned_by_the_selector : case_sign s_and_y (name "s") two_and_four_bits ≡ false
-unfolding value sign_of
+pub unsigned_by_the_selector : case_signed s_and_y (name "s") two_and_four_bits ≡ false
+unfolding value signed_of
 unsigned_by_the_selector = refl
 
 -- Pieces: {c, s} = a + b;
@@ -178,21 +178,21 @@ abbrev carry_and_sum : StatementTree
 carry_and_sum = puts (to "c" ∷ to "s" ∷ []) (op binop.Add (name "a") (name "b"))
 
 pub the_last_target_is_lowest : after sum_scope (("a", 15) ∷ ("b", 2) ∷ []) carry_and_sum "s" ≡ 1
-unfolding run value sign_of
+unfolding run value signed_of
 the_last_target_is_lowest = refl
 
 pub the_first_target_is_highest : after sum_scope (("a", 15) ∷ ("b", 2) ∷ []) carry_and_sum "c" ≡ 1
-unfolding run value sign_of
+unfolding run value signed_of
 the_first_target_is_highest = refl
 
 -- {s[3:1], c} of 'b1010: s gets 101 above its own lowest bit, and c the last bit
 pub pieces_of_four_bits : pieces sum_scope (to_part "s" 3 1 ∷ to "c" ∷ []) 10
     ≡ (to_part "s" 3 1, 5) ∷ (to "c", 0) ∷ []
-unfolding value sign_of
+unfolding value signed_of
 pieces_of_four_bits = refl
 
 pub five_bits : targets_width sum_scope (to "s" ∷ to_bit "p" 3 ∷ []) ≡ 5
-unfolding value sign_of
+unfolding value signed_of
 five_bits = refl
 
 pub a_whole_target : target_width sum_scope (to "s") ≡ 4
@@ -204,7 +204,7 @@ unfolding value
 a_bit = refl
 
 pub three_bits : target_width sum_scope (to_part "s" 3 1) ≡ 3
-unfolding value sign_of
+unfolding value signed_of
 three_bits = refl
 
 -- p[1:0] = a[1:0]; p[3:2] = b[3:2]; as numbers that are known
@@ -213,22 +213,22 @@ pub parts_are_put_beside_each_other :
     (begin_end (puts (to_part "p" 1 0 ∷ []) (decimal_of 3)
     ∷ puts (to_part "p" 3 2 ∷ []) (decimal_of 0) ∷ [])) "p"
     ≡ 3
-unfolding run value sign_of
+unfolding run value signed_of
 parts_are_put_beside_each_other = refl
 
 pub other_bits_stay : after sum_scope (("p", 9) ∷ []) (puts (to_bit "p" 1 ∷ []) (decimal_of 1)) "p"
     ≡ 11
-unfolding run value sign_of
+unfolding run value signed_of
 other_bits_stay = refl
 
 -- {c, s} of 'b10110, and one target alone
 pub pieces_of_five_bits : pieces sum_scope (to "c" ∷ to "s" ∷ []) 22 ≡
     (to "c", 1) ∷ (to "s", 6) ∷ []
-unfolding value sign_of
+unfolding value signed_of
 pieces_of_five_bits = refl
 
 pub one_piece : pieces sum_scope (to "s" ∷ []) 9 ≡ (to "s", 9) ∷ []
-unfolding value sign_of
+unfolding value signed_of
 one_piece = refl
 
 pub bits_in_the_middle : with_bits 4 8 0xabcd 0x12 ≡ 0xa12d
@@ -245,7 +245,7 @@ highest_bits = refl
 pub two_pieces_of_one_signal :
     left sum_scope [] (posts (to_part "p" 1 0 ∷ to_part "p" 3 2 ∷ []) (decimal_of 7))
     ≡ (codes "p", 1) ∷ (codes "p", 13) ∷ []
-unfolding run value sign_of
+unfolding run value signed_of
 two_pieces_of_one_signal = refl
 
 -- p[0] <= 1; p[1] <= 1; where p is 8: the second keeps the pending bit of the first
@@ -254,7 +254,7 @@ pub pending_bits_are_kept :
     (begin_end (posts (to_bit "p" 0 ∷ []) (decimal_of 1) ∷
     posts (to_bit "p" 1 ∷ []) (decimal_of 1) ∷ []))
     ≡ (codes "p", 9) ∷ (codes "p", 11) ∷ []
-unfolding run value sign_of
+unfolding run value signed_of
 pending_bits_are_kept = refl
 
 pub assigned_names : assigned (either (name "a") carry_and_sum (gets_later "p" (decimal_of 0))) ≡

@@ -15,7 +15,7 @@ use Rattle.sv_ast.specs.Tree.{case_of, StatementTrees, no_statements, more_state
 use Rattle.sv_ast.specs.Tree.{no_arms, more_arms}
 use Rattle.sv_ast.specs.Values.{value, own_value, assigned_value}
 use Rattle.sv_ast.specs.Runs.{Running, pieces, targets_width, assign_piece, has_item, case_length}
-use Rattle.sv_ast.specs.Runs.{case_sign, run, run_each, run_arms, run_default, assigned}
+use Rattle.sv_ast.specs.Runs.{case_signed, run, run_each, run_arms, run_default, assigned}
 use Rattle.sv_ast.specs.Runs.{assigned_in, assigned_by}
 
 abbrev name_of : TargetTree → List ℕ
@@ -68,8 +68,8 @@ module _ (scope : Scope) where
         (λ no'. run_keeps second r n (λ at.
         outside (Contains-append_right (assigned first) (assigned second) n at)))
     run_keeps (case_of p e arms) r n outside =
-        run_arms_keeps (case_length scope e arms) (case_sign scope e arms)
-        (value scope r.environment e (case_length scope e arms) (case_sign scope e arms)) arms
+        run_arms_keeps (case_length scope e arms) (case_signed scope e arms)
+        (value scope r.environment e (case_length scope e arms) (case_signed scope e arms)) arms
         (run_default scope arms r) r n
         outside (run_default_keeps arms r n outside)
 
@@ -174,8 +174,8 @@ module _ (scope : Scope) where
         (Contains-append_right (assigned first) (assigned second)) r.updates _
         (run_adds second r))
     run_adds (case_of p e arms) r =
-        run_arms_adds (case_length scope e arms) (case_sign scope e arms)
-        (value scope r.environment e (case_length scope e arms) (case_sign scope e arms)) arms
+        run_arms_adds (case_length scope e arms) (case_signed scope e arms)
+        (value scope r.environment e (case_length scope e arms) (case_signed scope e arms)) arms
         (run_default scope arms r) r
         (assigned_by arms) (λ n at. at) (run_default_adds arms r)
 

@@ -12,7 +12,7 @@ use Rattle.sv_ast.specs.Tree.{ExpressionTree, named, bit_of, part_of, Selection,
 use Rattle.sv_ast.specs.Tree.{part_from, TargetTree, StatementTree, null, assignment, block}
 use Rattle.sv_ast.specs.Tree.{if_only, if_else, case_of, StatementTrees, no_statements}
 use Rattle.sv_ast.specs.Tree.{more_statements, ArmTrees, no_arms, more_arms}
-use Rattle.sv_ast.specs.Values.{length_of, sign_of, value, own_value, bound_of, assigned_value}
+use Rattle.sv_ast.specs.Values.{length_of, signed_of, value, own_value, bound_of, assigned_value}
 
 -- the values of an instance's signals, and the updates that are pending, the oldest first
 pub record Running : Type 0 where
@@ -87,9 +87,9 @@ items_length scope [] = 0
 items_length scope (e ∷ es) = max (length_of scope e) (items_length scope es)
 
 -- whether all items are signed
-abbrev pub items_sign : Scope → List ExpressionTree → Bool
-items_sign scope [] = true
-items_sign scope (e ∷ es) = sign_of scope e && items_sign scope es
+abbrev pub items_signed : Scope → List ExpressionTree → Bool
+items_signed scope [] = true
+items_signed scope (e ∷ es) = signed_of scope e && items_signed scope es
 
 -- the greatest length of the items of all arms
 abbrev pub arms_length : Scope → ArmTrees → ℕ
@@ -98,17 +98,17 @@ arms_length scope (more_arms p items body arms) =
     max (items_length scope items) (arms_length scope arms)
 
 -- whether all items of all arms are signed
-abbrev pub arms_sign : Scope → ArmTrees → Bool
-arms_sign scope no_arms = true
-arms_sign scope (more_arms p items body arms) = items_sign scope items && arms_sign scope arms
+abbrev pub arms_signed : Scope → ArmTrees → Bool
+arms_signed scope no_arms = true
+arms_signed scope (more_arms p items body arms) = items_signed scope items && arms_signed scope arms
 
 -- the common length
 abbrev pub case_length : Scope → (selector : ExpressionTree) → ArmTrees → ℕ
 case_length scope e arms = max (length_of scope e) (arms_length scope arms)
 
 -- the common signedness
-abbrev pub case_sign : Scope → (selector : ExpressionTree) → ArmTrees → Bool
-case_sign scope e arms = sign_of scope e && arms_sign scope arms
+abbrev pub case_signed : Scope → (selector : ExpressionTree) → ArmTrees → Bool
+case_signed scope e arms = signed_of scope e && arms_signed scope arms
 
 -- whether an item has the selector's value at the common length and signedness
 abbrev pub has_item : Scope → (environment : Environment (List ℕ)) → (length : ℕ) → (signed : Bool)
@@ -127,8 +127,8 @@ unfoldable mutual
   run scope (if_else p c first second) r =
       if is_true (own_value scope r.environment c) then run scope first r else run scope second r
   run scope (case_of p e arms) r = run_arms scope
-      (case_length scope e arms) (case_sign scope e arms)
-      (value scope r.environment e (case_length scope e arms) (case_sign scope e arms))
+      (case_length scope e arms) (case_signed scope e arms)
+      (value scope r.environment e (case_length scope e arms) (case_signed scope e arms))
       arms (run_default scope arms r) r
 
   -- one after the other

@@ -36,11 +36,11 @@ nowhere n = 0
 -- Operators.
 
 -- the signedness of a binary operator's result, from its operands' (clause 5.5.1)
-abbrev pub binary_sign : OpClass → (left right : Bool) → Bool
-binary_sign Context left right = left && right
-binary_sign Compare left right = false
-binary_sign Logical left right = false
-binary_sign Shift left right = left
+abbrev pub binary_signed : OpClass → (left right : Bool) → Bool
+binary_signed Context left right = left && right
+binary_signed Compare left right = false
+binary_signed Logical left right = false
+binary_signed Shift left right = left
 
 -- the own length of a binary operator's result, from its operands' (clause 5.4.1)
 abbrev pub binary_length : OpClass → (left right : ℕ) → ℕ
@@ -82,16 +82,17 @@ binary_result op Shift n s a b = binary_value op n s (a.value n s) (alone b)
 
 -- an expression's signedness (clause 5.5.1): signed only if all its pushed operands are; selects,
 -- joins and comparisons are not
-unfoldable pub sign_of : Scope → ExpressionTree → Bool
-sign_of scope (literal l p) = l.signed
-sign_of scope (named n p) = is_signed (scope n)
-sign_of scope (bit_of n p i) = false
-sign_of scope (part_of n p h l) = false
-sign_of scope (unary op p e) = if gives_one_bit op then false else sign_of scope e
-sign_of scope (binary op p a b) = binary_sign (class_of op) (sign_of scope a) (sign_of scope b)
-sign_of scope (choice p c a b) = sign_of scope a && sign_of scope b
-sign_of scope (join p es) = false
-sign_of scope (replication p k es) = false
+unfoldable pub signed_of : Scope → ExpressionTree → Bool
+signed_of scope (literal l p) = l.signed
+signed_of scope (named n p) = is_signed (scope n)
+signed_of scope (bit_of n p i) = false
+signed_of scope (part_of n p h l) = false
+signed_of scope (unary op p e) = if gives_one_bit op then false else signed_of scope e
+signed_of scope (binary op p a b) = binary_signed (class_of op) (signed_of scope a)
+    (signed_of scope b)
+signed_of scope (choice p c a b) = signed_of scope a && signed_of scope b
+signed_of scope (join p es) = false
+signed_of scope (replication p k es) = false
 
 unfoldable mutual
   -- an expression's own length (clause 5.4.1)
@@ -100,15 +101,15 @@ unfoldable mutual
   length_of scope (named n p) = width_of (scope n)
   length_of scope (bit_of n p i) = 1
   length_of scope (part_of n p h l) = span_of
-      (bound_at_own (length_of scope h) (sign_of scope h) (value scope nowhere h))
-      (bound_at_own (length_of scope l) (sign_of scope l) (value scope nowhere l))
+      (bound_at_own (length_of scope h) (signed_of scope h) (value scope nowhere h))
+      (bound_at_own (length_of scope l) (signed_of scope l) (value scope nowhere l))
   length_of scope (unary op p e) = if gives_one_bit op then 1 else length_of scope e
   length_of scope (binary op p a b) =
       binary_length (class_of op) (length_of scope a) (length_of scope b)
   length_of scope (choice p c a b) = max (length_of scope a) (length_of scope b)
   length_of scope (join p es) = joined_length scope es
   length_of scope (replication p k es) =
-      bound_at_own (length_of scope k) (sign_of scope k) (value scope nowhere k)
+      bound_at_own (length_of scope k) (signed_of scope k) (value scope nowhere k)
       * joined_length scope es
 
   -- the sum of the own lengths
@@ -123,50 +124,50 @@ unfoldable mutual
   value scope environment (named m p) n s =
       extended s (width_of (scope m)) n (value_of (scope m) (environment m))
   value scope environment (bit_of m p i) n s = bit_or_zero (width_of (scope m)) (environment m)
-      (at_own (length_of scope i) (sign_of scope i) (value scope environment i))
+      (at_own (length_of scope i) (signed_of scope i) (value scope environment i))
   value scope environment (part_of m p h l) n s = bits_between
-      (bound_at_own (length_of scope h) (sign_of scope h) (value scope nowhere h))
-      (bound_at_own (length_of scope l) (sign_of scope l) (value scope nowhere l))
+      (bound_at_own (length_of scope h) (signed_of scope h) (value scope nowhere h))
+      (bound_at_own (length_of scope l) (signed_of scope l) (value scope nowhere l))
       (environment m)
   value scope environment (unary op p e) n s =
       if gives_one_bit op
-      then unary_value op (length_of scope e) (sign_of scope e)
-      (value scope environment e (length_of scope e) (sign_of scope e))
+      then unary_value op (length_of scope e) (signed_of scope e)
+      (value scope environment e (length_of scope e) (signed_of scope e))
       else unary_value op n s (value scope environment e n s)
   value scope environment (binary op p a b) n s = binary_result op (class_of op) n s
-      (operand (length_of scope a) (sign_of scope a) (value scope environment a))
-      (operand (length_of scope b) (sign_of scope b) (value scope environment b))
+      (operand (length_of scope a) (signed_of scope a) (value scope environment a))
+      (operand (length_of scope b) (signed_of scope b) (value scope environment b))
   value scope environment (choice p c a b) n s =
-      if is_true (value scope environment c (length_of scope c) (sign_of scope c))
+      if is_true (value scope environment c (length_of scope c) (signed_of scope c))
       then value scope environment a n s
       else value scope environment b n s
   value scope environment (join p es) n s = joined_value scope environment es
   value scope environment (replication p k es) n s = repeated
-      (bound_at_own (length_of scope k) (sign_of scope k) (value scope nowhere k))
+      (bound_at_own (length_of scope k) (signed_of scope k) (value scope nowhere k))
       (joined_length scope es) (joined_value scope environment es)
 
   -- the parts at their own lengths one behind the other, the first the highest (clause 5.1.14)
   pub joined_value : Scope → (environment : Environment (List ℕ)) → ExpressionTrees → ℕ
   joined_value scope environment no_expressions = 0
   joined_value scope environment (more_expressions e es) =
-      value scope environment e (length_of scope e) (sign_of scope e) * 2 ^ joined_length scope es
+      value scope environment e (length_of scope e) (signed_of scope e) * 2 ^ joined_length scope es
       + joined_value scope environment es
 
 -- the value at its own length and signedness
 abbrev pub own_value : Scope → (environment : Environment (List ℕ)) → ExpressionTree → ℕ
-own_value scope environment e = value scope environment e (length_of scope e) (sign_of scope e)
+own_value scope environment e = value scope environment e (length_of scope e) (signed_of scope e)
 
 -- a constant: its value at its own length and signedness, which no signal changes
 abbrev pub constant_of : Scope → ExpressionTree → Number
 constant_of scope e = record {
   width = length_of scope e;
-  signed = sign_of scope e;
+  signed = signed_of scope e;
   value = own_value scope nowhere e;
 }
 
 -- a constant as a whole number, read by its own signedness
 abbrev pub whole_number : Scope → ExpressionTree → ℤ
-whole_number scope e = at_own (length_of scope e) (sign_of scope e) (value scope nowhere e)
+whole_number scope e = at_own (length_of scope e) (signed_of scope e) (value scope nowhere e)
 
 -- a constant as a count or a bound
 abbrev pub bound_of : Scope → ExpressionTree → ℕ
@@ -177,4 +178,4 @@ bound_of scope e = natural (whole_number scope e)
 abbrev pub assigned_value : Scope → (environment : Environment (List ℕ)) → (width : ℕ)
     → ExpressionTree → ℕ
 assigned_value scope environment width e =
-    value scope environment e (max (length_of scope e) width) (sign_of scope e) % 2 ^ width
+    value scope environment e (max (length_of scope e) width) (signed_of scope e) % 2 ^ width

@@ -3,29 +3,30 @@ use Rattle.std.proofs.Common.{◌≡◌, ℕ, max, Bool, true, false, List, [], 
 use Rattle.std.proofs.Common.{◌∙◌, arith}
 use Rattle.std.specs.Prelude.{◌&&◌, Ok, Err}
 use Rattle.sv_ast.specs.Tree.{ExpressionTree, ArmTrees, no_arms, more_arms}
-use Rattle.sv_ast.specs.Values.{sign_of}
+use Rattle.sv_ast.specs.Values.{signed_of}
 use Rattle.sv_walk.specs.Walks.{Step, done, value_or}
 use Rattle.sv_walk.specs.Names.{Names}
 use Rattle.sv_walk.specs.ExpressionSteps.{asked}
-use Rattle.sv_walk.specs.CaseChains.{item_length, item_sign, items_length, items_sign, arms_length}
-use Rattle.sv_walk.specs.CaseChains.{arms_sign, arm_items}
+use Rattle.sv_walk.specs.CaseChains.{item_length, item_signed, items_length, items_signed}
+use Rattle.sv_walk.specs.CaseChains.{arms_length}
+use Rattle.sv_walk.specs.CaseChains.{arms_signed, arm_items}
 use Rattle.sv_walk.proofs.WalkLemmas.{end_after, end_broken}
 
 -- ---- one item
 
 pub passed_sign : (names : Names) (e : ExpressionTree) → (asked names true e).end ≡ Ok tt
-    → item_sign names e ≡ sign_of names.scope e
-unfolding item_sign
+    → item_signed names e ≡ signed_of names.scope e
+unfolding item_signed
 passed_sign names e h =
     ap (λ r. value_or r true) (end_after (asked names true e) (λ _.
-    done (sign_of names.scope e)) tt h)
+    done (signed_of names.scope e)) tt h)
 
 pub broken_sign : (names : Names) (e : ExpressionTree) (s : Step) → (asked names true e).end ≡ Err s
-    → item_sign names e ≡ true
-unfolding item_sign
+    → item_signed names e ≡ true
+unfolding item_signed
 broken_sign names e s h =
     ap (λ r. value_or r true) (end_broken (asked names true e) (λ _.
-    done (sign_of names.scope e)) s h)
+    done (signed_of names.scope e)) s h)
 
 -- ---- the items of all arms
 
@@ -44,11 +45,11 @@ and_assoc true b c = refl
 and_assoc false b c = refl
 
 pub items_sign_both : (names : Names) (es fs : List ExpressionTree)
-    → items_sign names (es ++ fs) ≡ (items_sign names es && items_sign names fs)
+    → items_signed names (es ++ fs) ≡ (items_signed names es && items_signed names fs)
 items_sign_both names [] fs = refl
 items_sign_both names (e ∷ es) fs =
-    ap (λ b. item_sign names e && b) (items_sign_both names es fs)
-    ∙ sym (and_assoc (item_sign names e) (items_sign names es) (items_sign names fs))
+    ap (λ b. item_signed names e && b) (items_sign_both names es fs)
+    ∙ sym (and_assoc (item_signed names e) (items_signed names es) (items_signed names fs))
 
 pub arms_length_items : (names : Names) (arms : ArmTrees) →
     arms_length names arms ≡ items_length names (arm_items arms)
@@ -58,8 +59,8 @@ arms_length_items names (more_arms p items body arms) =
     ∙ sym (items_length_both names items (arm_items arms))
 
 pub arms_sign_items : (names : Names) (arms : ArmTrees) →
-    arms_sign names arms ≡ items_sign names (arm_items arms)
+    arms_signed names arms ≡ items_signed names (arm_items arms)
 arms_sign_items names no_arms = refl
 arms_sign_items names (more_arms p items body arms) =
-    ap (λ b. items_sign names items && b) (arms_sign_items names arms)
+    ap (λ b. items_signed names items && b) (arms_sign_items names arms)
     ∙ sym (items_sign_both names items (arm_items arms))

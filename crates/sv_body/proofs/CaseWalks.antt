@@ -12,20 +12,20 @@ use Rattle.sv_ast.specs.Shape.{is_shaped_expression, is_shaped_statement, has_ar
 use Rattle.sv_ast.specs.Shape.{are_shaped_arms}
 use Rattle.sv_ast.specs.Tree.{ExpressionTree, StatementTree, if_only, if_else, case_of, ArmTrees}
 use Rattle.sv_ast.specs.Tree.{no_arms, more_arms}
-use Rattle.sv_ast.specs.Values.{length_of, sign_of}
+use Rattle.sv_ast.specs.Values.{length_of, signed_of}
 use Rattle.sv_ast.specs.Views.{expression_trees}
 use Rattle.sv_flat.specs.Design.{TypedTree, FlatStatement, nothing, branch}
 use Rattle.sv_walk.specs.Walks.{done}
 use Rattle.sv_walk.specs.Names.{Names}
 use Rattle.sv_walk.specs.TypedExpressions.{typed_of}
 use Rattle.sv_walk.specs.ExpressionSteps.{asked, divisors, typed_walk, expression_walk}
-use Rattle.sv_walk.specs.CaseChains.{FlatArm, arm_items, items_length, items_sign, common_length}
-use Rattle.sv_walk.specs.CaseChains.{common_sign, case_chain, default_of, is_complete}
+use Rattle.sv_walk.specs.CaseChains.{FlatArm, arm_items, items_length, items_signed, common_length}
+use Rattle.sv_walk.specs.CaseChains.{common_signed, case_chain, default_of, is_complete}
 use Rattle.sv_walk.specs.Statements.{items_walk, statement_walk, statements_walk, arms_walk}
 use Rattle.sv_walk.proofs.WalkLemmas.{end_after, parts_done}
 use Rattle.sv_width.specs.declared.measured.Measured.{Measured}
 use Rattle.sv_width.specs.Answers.{IsBreach}
-use Rattle.sv_width.specs.Operands.{IsOperandOf, own_width, own_sign}
+use Rattle.sv_width.specs.Operands.{IsOperandOf, own_width, own_signed}
 use Rattle.sv_width.proofs.Measures.{breach_first, breach_after, passes_on}
 use Rattle.sv_body.specs.declared.cases.Item.{Item}
 use Rattle.sv_body.specs.Cases.{item_trees, AreItems, greatest, all_signed, ArePassed}
@@ -106,24 +106,24 @@ module _ (names : Names) (e : ExpressionTree) (o : Measured) (is : IsOperandOf n
       (greatest_is names items each ∙ ap (items_length names) all
       ∙ sym (arms_length_items names arms))
 
-  pub common_signed : (own_sign o && all_signed items) ≡ common_sign names e arms
-  common_signed =
+  pub common_is_signed : (own_signed o && all_signed items) ≡ common_signed names e arms
+  common_is_signed =
       ap (λ b. b && all_signed items) is.2
-      ∙ ap (λ b. sign_of names.scope e && b)
-      (all_signed_is names items each ∙ ap (items_sign names) all
+      ∙ ap (λ b. signed_of names.scope e && b)
+      (all_signed_is names items each ∙ ap (items_signed names) all
       ∙ sym (arms_sign_items names arms))
 
 -- ---- the walk of a case, at a length and sign that are the common ones
 
 module _ (names : Names) (p : Place) (e : ExpressionTree) (arms : ArmTrees) (n : ℕ) (s : Bool)
-    (length_is : n ≡ common_length names e arms) (sign_is : s ≡ common_sign names e arms) where
-  typed_same : (typed_walk names e (common_length names e arms) (common_sign names e arms)).end ≡
+    (length_is : n ≡ common_length names e arms) (sign_is : s ≡ common_signed names e arms) where
+  typed_same : (typed_walk names e (common_length names e arms) (common_signed names e arms)).end ≡
       (typed_walk names e n s).end
   typed_same =
       sym (ap (λ k. (typed_walk names e k s).end) length_is
       ∙ ap (λ b. (typed_walk names e (common_length names e arms) b).end) sign_is)
 
-  arms_same : (arms_walk names (common_length names e arms) (common_sign names e arms) arms).end ≡
+  arms_same : (arms_walk names (common_length names e arms) (common_signed names e arms) arms).end ≡
       (arms_walk names n s arms).end
   arms_same =
       sym (ap (λ k. (arms_walk names k s arms).end) length_is
@@ -133,7 +133,8 @@ module _ (names : Names) (p : Place) (e : ExpressionTree) (arms : ArmTrees) (n :
       IsBreach (statement_walk names (case_of p e arms)).end f
   unfolding statement_walk statements_walk arms_walk typed_walk
   case_unasked f h =
-      breach_first (typed_walk names e (common_length names e arms) (common_sign names e arms)) _ f
+      breach_first (typed_walk names e (common_length names e arms)
+      (common_signed names e arms)) _ f
       (breach_first (asked names false e) _ f h)
 
   typed_divided : (f : Fault) → (asked names false e).end ≡ Ok tt
@@ -149,7 +150,8 @@ module _ (names : Names) (p : Place) (e : ExpressionTree) (arms : ArmTrees) (n :
       → IsBreach (statement_walk names (case_of p e arms)).end f
   unfolding statement_walk statements_walk arms_walk
   case_undivided f first h =
-      breach_first (typed_walk names e (common_length names e arms) (common_sign names e arms)) _ f
+      breach_first (typed_walk names e (common_length names e arms)
+      (common_signed names e arms)) _ f
       (subst (λ r. IsBreach r f) (sym typed_same) (typed_divided f first h))
 
   pub selector_found : (asked names false e).end ≡ Ok tt → (divisors names.scope e n s).end ≡ Ok tt
@@ -165,9 +167,10 @@ module _ (names : Names) (p : Place) (e : ExpressionTree) (arms : ArmTrees) (n :
       → IsBreach (statement_walk names (case_of p e arms)).end f
   unfolding statement_walk statements_walk arms_walk
   case_unarmed f v first h =
-      breach_after (typed_walk names e (common_length names e arms) (common_sign names e arms)) _ v
+      breach_after (typed_walk names e (common_length names e arms)
+      (common_signed names e arms)) _ v
       f (typed_same ∙ first)
-      (breach_first (arms_walk names (common_length names e arms) (common_sign names e arms)
+      (breach_first (arms_walk names (common_length names e arms) (common_signed names e arms)
       arms) _ f
       (subst (λ r. IsBreach r f) (sym arms_same) h))
 
@@ -178,9 +181,9 @@ module _ (names : Names) (p : Place) (e : ExpressionTree) (arms : ArmTrees) (n :
       (filter (λ (arm : FlatArm). not (is_empty arm.items)) flat) (default_of flat))
   unfolding statement_walk statements_walk arms_walk
   case_found v flat first second =
-      end_after (typed_walk names e (common_length names e arms) (common_sign names e arms)) _ v
+      end_after (typed_walk names e (common_length names e arms) (common_signed names e arms)) _ v
       (typed_same ∙ first)
-      ∙ end_after (arms_walk names (common_length names e arms) (common_sign names e arms) arms) _
+      ∙ end_after (arms_walk names (common_length names e arms) (common_signed names e arms) arms) _
       flat (arms_same ∙ second)
       ∙ sym (ap (λ k. Ok (case_chain v (is_complete names.scope e (arm_items arms) k s)
       (filter (λ (arm : FlatArm). not (is_empty arm.items)) flat) (default_of flat))) length_is

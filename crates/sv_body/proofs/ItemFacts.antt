@@ -6,9 +6,9 @@ use Rattle.std.specs.Option.{option_map_or}
 use Rattle.sv_ast.specs.Tree.{ExpressionTree}
 use Rattle.sv_walk.specs.Names.{Names}
 use Rattle.sv_walk.specs.ExpressionSteps.{asked}
-use Rattle.sv_walk.specs.CaseChains.{item_length, item_sign, items_length, items_sign}
+use Rattle.sv_walk.specs.CaseChains.{item_length, item_signed, items_length, items_signed}
 use Rattle.sv_width.specs.declared.measured.Measured.{Measured}
-use Rattle.sv_width.specs.Operands.{IsOperandOf, own_width, own_sign}
+use Rattle.sv_width.specs.Operands.{IsOperandOf, own_width, own_signed}
 use Rattle.sv_body.specs.declared.cases.Item.{Item}
 use Rattle.sv_body.specs.Cases.{item_tree, item_trees, IsBroken, IsItem, AreItems, greatest}
 use Rattle.sv_body.specs.Cases.{all_signed}
@@ -25,7 +25,7 @@ operand_length names e (Some o) h = h.1 ∙ sym (passed_length names e h.0)
 
 operand_sign : (names : Names) (e : ExpressionTree) (o : Option Measured)
     → MatchOption o (IsBroken (asked names true e).end) (IsOperandOf names true e)
-    → option_map_or own_sign o true ≡ item_sign names e
+    → option_map_or own_signed o true ≡ item_signed names e
 operand_sign names e None h = sym (broken_sign names e h.0 h.1)
 operand_sign names e (Some o) h = h.2 ∙ sym (passed_sign names e h.0)
 
@@ -37,11 +37,11 @@ greatest_is names (i ∷ items) h =
     ∙ ap (λ k. max (item_length names (item_tree i)) k) (greatest_is names items h.1)
 
 pub all_signed_is : (names : Names) (items : List Item) → AreItems names items
-    → all_signed items ≡ items_sign names (item_trees items)
+    → all_signed items ≡ items_signed names (item_trees items)
 all_signed_is names [] h = refl
 all_signed_is names (i ∷ items) h =
     ap (λ b. b && all_signed items) (operand_sign names (item_tree i) i.operand h.0)
-    ∙ ap (λ b. item_sign names (item_tree i) && b) (all_signed_is names items h.1)
+    ∙ ap (λ b. item_signed names (item_tree i) && b) (all_signed_is names items h.1)
 
 -- ---- lists of items
 

@@ -12,7 +12,7 @@ use Rattle.sv_flat.specs.Design.{TypedTree}
 use Rattle.sv_walk.specs.Names.{Names}
 use Rattle.sv_walk.specs.TypedExpressions.{typed_of}
 use Rattle.sv_walk.specs.ExpressionSteps.{asked, divisors}
-use Rattle.sv_width.specs.Operands.{IsOperandOf, own_width, own_sign}
+use Rattle.sv_width.specs.Operands.{IsOperandOf, own_width, own_signed}
 use Rattle.sv_body.specs.declared.cases.Item.{Item}
 
 -- the expression that an item is
@@ -70,7 +70,7 @@ own_length i = option_map_or own_width i.operand 0
 
 -- whether it is signed by itself; one that breaks a rule changes no sign
 abbrev pub is_signed : Item → Bool
-is_signed i = option_map_or own_sign i.operand true
+is_signed i = option_map_or own_signed i.operand true
 
 -- the greatest of the own lengths
 abbrev pub greatest : List Item → ℕ

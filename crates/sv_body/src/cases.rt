@@ -9,7 +9,7 @@ ghost use Rattle.sv_walk.specs.CaseChains.{arm_items};
 ghost use Rattle.sv_walk.specs.ExpressionSteps.{asked, divisors};
 ghost use Rattle.sv_walk.specs.Statements.{items_walk};
 ghost use Rattle.sv_width.specs.Answers.{IsBreach};
-ghost use Rattle.sv_width.specs.Operands.{own_width, own_sign, IsOperandOf, IsTypedAt};
+ghost use Rattle.sv_width.specs.Operands.{own_width, own_signed, IsOperandOf, IsTypedAt};
 ghost use Rattle.sv_width.specs.Scopes.{names_of};
 ghost use Rattle.sv_body.specs.Cases.{item_tree, item_trees, IsBroken, IsItem, AreItems};
 ghost use Rattle.sv_body.specs.Cases.{own_length, greatest, all_signed, item_steps, IsTypedItem};
@@ -115,7 +115,7 @@ impl Item<'_> {
 /// The greatest of the lengths of a selector and of items, signed where all of them are.
 pub(crate) fn common_type(selector: &Operand, items: &[Item]) -> CaseType
     ensures width { result.width ≡ max (own_width selector.now) (greatest items.now) }
-    ensures signed { result.signed ≡ (own_sign selector.now && all_signed items.now) }
+    ensures signed { result.signed ≡ (own_signed selector.now && all_signed items.now) }
 {
     let mut width = selector.width();
     let mut signed = selector.signed();

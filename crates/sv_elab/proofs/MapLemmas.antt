@@ -13,7 +13,7 @@ use Rattle.sv_num.proofs.NumberLemmas.{number_at, wider_above, wider_below}
 use Rattle.sv_token.specs.Lexemes.{literal_of}
 use Rattle.sv_token.specs.declared.tokens.Lit.{Lit}
 use Rattle.sv_ast.specs.Tree.{literal, KeyTree, RowTree, MapTree}
-use Rattle.sv_ast.specs.Values.{value, length_of, sign_of, whole_number}
+use Rattle.sv_ast.specs.Values.{value, length_of, signed_of, whole_number}
 use Rattle.sv_lattice.specs.declared.points.Point.{Point}
 use Rattle.sv_walk.specs.Walks.{Step, ask, found, ◌>>=◌}
 use Rattle.sv_walk.specs.Rules.{map_row}
@@ -37,7 +37,7 @@ own_value_kept n v s low = by (is_negative n s v)
 
 pub plain_number : (l : Lit) (p : Place) →
     whole_number no_names (literal (literal_of l) p) ≡ number_of l.bits
-unfolding value length_of sign_of
+unfolding value length_of signed_of
 plain_number l p =
     ap (λ v. as_number l.bits.width l.bits.signed v)
     (own_value_kept l.bits.width l.bits.value l.bits.signed l.bits.in_range.2)

@@ -24,7 +24,7 @@ use Rattle.sv_flat.specs.Assigned.{assigns}
 use Rattle.sv_walk.specs.Names.{Names}
 use Rattle.sv_walk.specs.ExpressionSteps.{typed_walk, expression_walk}
 use Rattle.sv_walk.specs.Targets.{pieces_of, targets_steps, assignment_walk}
-use Rattle.sv_walk.specs.CaseChains.{FlatArm, arm_items, common_length, common_sign, arm_branch}
+use Rattle.sv_walk.specs.CaseChains.{FlatArm, arm_items, common_length, common_signed, arm_branch}
 use Rattle.sv_walk.specs.CaseChains.{chain, closed_chain, default_of, case_chain, is_complete}
 use Rattle.sv_walk.specs.Statements.{statement_walk, statements_walk, arms_walk}
 use Rattle.sv_walk.proofs.WalkLemmas.{parts_done}
@@ -188,7 +188,7 @@ module _ (names : Names) where
         (assigned_same a second.0 second.1 inner.1 k) (assigned_same b third.0 third.1 outer.1 k)
     assigned_same (case_of p e arms) f h shape k =
         let n : ℕ = common_length names e arms in
-        let s : Bool = common_sign names e arms in
+        let s : Bool = common_signed names e arms in
         let outer = and_parts (is_shaped_expression e && has_arm arms
         && nat_le (default_count arms) 1) (are_shaped_arms arms) shape in
         let inner = and_parts (is_shaped_expression e && has_arm arms)
@@ -306,11 +306,11 @@ module _ (names : Names) where
         (assigned_are_signals b third.0 third.1) n at
     assigned_are_signals (case_of p e arms) f h n at =
         let first = parts_done
-        (typed_walk names e (common_length names e arms) (common_sign names e arms)) _ f h in
+        (typed_walk names e (common_length names e arms) (common_signed names e arms)) _ f h in
         let second = parts_done
-        (arms_walk names (common_length names e arms) (common_sign names e arms) arms) _ f
+        (arms_walk names (common_length names e arms) (common_signed names e arms) arms) _ f
         first.2 in
-        assigned_by_signals (common_length names e arms) (common_sign names e arms) arms second.0
+        assigned_by_signals (common_length names e arms) (common_signed names e arms) arms second.0
         second.1 n at
 
     assigned_in_signals : (ss : StatementTrees) (f : FlatStatement) →

@@ -9,7 +9,7 @@ use Rattle.sv_num.specs.Parts.{replaced_bits}
 use Rattle.sv_system.specs.System.{Environment, last_update}
 use Rattle.sv_ast.specs.Scopes.{width_of}
 use Rattle.sv_ast.specs.Tree.{ExpressionTree, TargetTree}
-use Rattle.sv_ast.specs.Values.{length_of, sign_of, value as source_value}
+use Rattle.sv_ast.specs.Values.{length_of, signed_of, value as source_value}
 use Rattle.sv_ast.specs.Runs.{Running, pending, target_width, targets_width, pieces}
 use Rattle.sv_ast.specs.Runs.{with_piece as with_source_piece, assign_piece}
 use Rattle.sv_ast.specs.Runs.{assign as source_assign}
@@ -62,10 +62,10 @@ module _ (names : Names) (signals : List SignalForm) (declared : AllDeclared nam
       → (expression_walk names e width).end ≡ Ok t
       → value signals by_num t ≡
       source_value names.scope by_name e (max (length_of names.scope e) width)
-      (sign_of names.scope e)
+      (signed_of names.scope e)
   unfolding expression_walk
   right_same e width t h =
-      typed_same e (max (length_of names.scope e) width) (sign_of names.scope e) t h
+      typed_same e (max (length_of names.scope e) width) (signed_of names.scope e) t h
 
 -- ---- pieces
 
@@ -195,7 +195,7 @@ module _ (names : Names) (signals : List SignalForm) (numbering : IsNumbering na
   assigned_same ts p blocking e right targets walked flat source before =
       let width : ℕ = targets_width names.scope ts in
       let whole : ℕ = source_value names.scope source.environment e
-      (max (length_of names.scope e) width) (sign_of names.scope e) in
+      (max (length_of names.scope e) width) (signed_of names.scope e) in
       let is : value signals flat.0 right ≡ whole =
       right_same names signals numbering.declared numbering.listed source.environment flat.0
       before.values e width right walked in

@@ -9,10 +9,10 @@ use Rattle.sv_num.specs.declared.operators.BinOp.TheVariants.{LogicOr}
 use Rattle.sv_num.specs.Vectors.{truth, is_true}
 use Rattle.sv_system.specs.System.{Environment}
 use Rattle.sv_ast.specs.Tree.{ExpressionTree, StatementTree, ArmTrees, no_arms, more_arms}
-use Rattle.sv_ast.specs.Values.{length_of, sign_of, value as source_value}
+use Rattle.sv_ast.specs.Values.{length_of, signed_of, value as source_value}
 use Rattle.sv_ast.specs.Runs.{has_item, items_length as source_items_length}
-use Rattle.sv_ast.specs.Runs.{items_sign as source_items_sign, arms_length as source_arms_length}
-use Rattle.sv_ast.specs.Runs.{arms_sign as source_arms_sign}
+use Rattle.sv_ast.specs.Runs.{items_signed as source_items_sign, arms_length as source_arms_length}
+use Rattle.sv_ast.specs.Runs.{arms_signed as source_arms_sign}
 use Rattle.sv_flat.specs.Design.{SignalForm, TypedTree, typed, binary as binary_node, FlatStatement}
 use Rattle.sv_flat.specs.Design.{nothing}
 use Rattle.sv_flat.specs.Values.{value}
@@ -21,8 +21,8 @@ use Rattle.sv_walk.specs.Walks.{value_or, done}
 use Rattle.sv_walk.specs.Names.{Names}
 use Rattle.sv_walk.specs.TypedExpressions.{typed_of}
 use Rattle.sv_walk.specs.ExpressionSteps.{asked, divisors}
-use Rattle.sv_walk.specs.CaseChains.{FlatArm, arm_items, item_length, item_sign, items_length}
-use Rattle.sv_walk.specs.CaseChains.{items_sign, arms_length, arms_sign, equals, or_equals}
+use Rattle.sv_walk.specs.CaseChains.{FlatArm, arm_items, item_length, item_signed, items_length}
+use Rattle.sv_walk.specs.CaseChains.{items_signed, arms_length, arms_signed, equals, or_equals}
 use Rattle.sv_walk.specs.CaseChains.{arm_branch, chain, closed_chain}
 use Rattle.sv_walk.specs.Statements.{items_walk, statement_walk, arms_walk}
 use Rattle.sv_walk.proofs.WalkLemmas.{parts_done, end_after}
@@ -111,29 +111,29 @@ module _ (names : Names) where
       done (length_of names.scope e)) tt h)
 
   item_sign_same : (e : ExpressionTree) → (asked names true e).end ≡ Ok tt →
-      item_sign names e ≡ sign_of names.scope e
-  unfolding item_sign
+      item_signed names e ≡ signed_of names.scope e
+  unfolding item_signed
   item_sign_same e h =
       ap (λ r. value_or r true) (end_after (asked names true e) (λ _.
-      done (sign_of names.scope e)) tt h)
+      done (signed_of names.scope e)) tt h)
 
   items_type : (es : List ExpressionTree) → ItemsPass names es
       → (items_length names es ≡ source_items_length names.scope es)
-      × (items_sign names es ≡ source_items_sign names.scope es)
+      × (items_signed names es ≡ source_items_sign names.scope es)
   items_type [] pass = (refl, refl)
   items_type (e ∷ es) pass =
       let rest = items_type es pass.1 in (
         ap (λ k. max k (items_length names es)) (item_length_same e pass.0)
             ∙ ap (λ k. max (length_of names.scope e) k) rest.0,
-        ap (λ b. b && items_sign names es) (item_sign_same e pass.0)
-            ∙ ap (λ b. sign_of names.scope e && b) rest.1,
+        ap (λ b. b && items_signed names es) (item_sign_same e pass.0)
+            ∙ ap (λ b. signed_of names.scope e && b) rest.1,
       )
 
   -- of arms that break no rule
   pub arms_type : (n : ℕ) (s : Bool) (arms : ArmTrees) (flat : List FlatArm)
       → (arms_walk names n s arms).end ≡ Ok flat
       → (arms_length names arms ≡ source_arms_length names.scope arms)
-      × (arms_sign names arms ≡ source_arms_sign names.scope arms)
+      × (arms_signed names arms ≡ source_arms_sign names.scope arms)
   arms_type n s no_arms flat h = (refl, refl)
   arms_type n s (more_arms p items body arms) flat h =
       let found = arm_found names n s p items body arms flat h in
@@ -141,7 +141,7 @@ module _ (names : Names) where
       let rest = arms_type n s arms found.rest found.rest_is in (
         ap (λ k. max k (arms_length names arms)) first.0
             ∙ ap (λ k. max (source_items_length names.scope items) k) rest.0,
-        ap (λ b. b && arms_sign names arms) first.1
+        ap (λ b. b && arms_signed names arms) first.1
             ∙ ap (λ b. source_items_sign names.scope items && b) rest.1,
       )
 

@@ -8,7 +8,7 @@ use Rattle.sv_ast.specs.Scopes.{Binding, signal, parameter, width_of, value_of}
 use Rattle.sv_ast.specs.Tree.{ExpressionTree, ExpressionTrees, literal, named, bit_of, part_of}
 use Rattle.sv_ast.specs.Tree.{unary, binary, choice, join, replication, no_expressions}
 use Rattle.sv_ast.specs.Tree.{more_expressions}
-use Rattle.sv_ast.specs.Values.{nowhere, length_of, sign_of, value}
+use Rattle.sv_ast.specs.Values.{nowhere, length_of, signed_of, value}
 use Rattle.sv_ast.specs.Instances.{is_signal}
 use Rattle.sv_ast.specs.Runs.{has_item}
 use Rattle.sv_num.specs.Parts.{extended}
@@ -96,7 +96,7 @@ module _ (names : Names) (declared : AllDeclared names) (environment : List ℕ 
 
   pub complete_has_item : (e : ExpressionTree) (items : List ExpressionTree) (n : ℕ) (s : Bool)
       → NumbersFit e
-      → (s ≡ true → sign_of names.scope e ≡ true) → length_of names.scope e ≤ n
+      → (s ≡ true → signed_of names.scope e ≡ true) → length_of names.scope e ≤ n
       → ItemsPass names items
       → is_complete names.scope e items n s ≡ true
       → has_item names.scope environment n s (value names.scope environment e n s) items ≡ true

@@ -12,7 +12,7 @@ use Rattle.sv_num.specs.UnaryValues.{gives_one_bit}
 use Rattle.sv_ast.specs.Scopes.{Binding, parameter, signal, width_of}
 use Rattle.sv_ast.specs.Tree.{ExpressionTree, literal, named, bit_of, part_of}
 use Rattle.sv_ast.specs.Tree.{unary, binary, choice, join, replication}
-use Rattle.sv_ast.specs.Values.{length_of, sign_of}
+use Rattle.sv_ast.specs.Values.{length_of, signed_of}
 use Rattle.sv_ast.specs.Instances.{is_signal, whole_signal}
 use Rattle.sv_ast.specs.ClockPaths.{is_input_kind}
 use Rattle.sv_ast.specs.Parts.{Part, PartSignal, within, PortLink, port_path}
@@ -146,11 +146,11 @@ module _ (tables : Tables) (sources : List PartSignal) (everything : List Part) 
       → (expression_walk link.outer l.expression width).end ≡ Ok value
       → ((asked link.outer false l.expression).end ≡ Ok tt)
       × (typed_of link.outer l.expression (max (length_of link.outer.scope l.expression) width)
-      (sign_of link.outer.scope l.expression) ≡ value)
+      (signed_of link.outer.scope l.expression) ≡ value)
   unfolding expression_walk typed_walk
   typed_passes width value h =
       let k = max (length_of link.outer.scope l.expression) width in
-      let s = sign_of link.outer.scope l.expression in
+      let s = signed_of link.outer.scope l.expression in
       let first = parts_done (asked link.outer false l.expression) _ value h in
       let second = parts_done (divisors link.outer.scope l.expression k s) _ value first.2 in
       (first.1, same_ok (typed_of link.outer l.expression k s) value second.2)
@@ -179,7 +179,7 @@ module _ (tables : Tables) (sources : List PartSignal) (everything : List Part) 
             ∙ ap (option_map (λ s. (port_number link.ports l.port.name, s)))
             (whole_typed link.outer link.outer_named.declared l.expression
             (max (length_of link.outer.scope l.expression) width)
-            (sign_of link.outer.scope l.expression) passes.0)
+            (signed_of link.outer.scope l.expression) passes.0)
             ∙ mapped_twice (λ s. (port_number link.ports l.port.name, s)) link.outer.number
             (whole_signal link.outer.scope l.expression)
             ∙ ap (λ k. option_map (λ n.

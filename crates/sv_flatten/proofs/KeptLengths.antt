@@ -19,7 +19,7 @@ use Rattle.sv_num.proofs.NumberLemmas.{shift_above}
 use Rattle.sv_ast.specs.Scopes.{Scope, width_of, value_of}
 use Rattle.sv_ast.specs.Tree.{ExpressionTree, literal, named, bit_of, part_of, unary, binary}
 use Rattle.sv_ast.specs.Tree.{choice, join, replication}
-use Rattle.sv_ast.specs.Values.{length_of, joined_length, sign_of, value, joined_value}
+use Rattle.sv_ast.specs.Values.{length_of, joined_length, signed_of, value, joined_value}
 use Rattle.sv_walk.specs.CaseChains.{keeps_operand, keeps_length, has_few_values}
 use Rattle.sv_width.proofs.Low.{bit_low}
 use Rattle.sv_flatten.specs.Numbers.{NumbersFit}
@@ -87,7 +87,7 @@ module _ (scope : Scope) (environment : List ℕ → ℕ)
   -- what the lemma says of an expression
   abbrev Keeps : ExpressionTree → Bool → ℕ → ℕ → Type 0
   Keeps e s m n =
-      keeps_length s e ≡ true → (s ≡ true → sign_of scope e ≡ true) → length_of scope e ≤ m
+      keeps_length s e ≡ true → (s ≡ true → signed_of scope e ≡ true) → length_of scope e ≤ m
       → value scope environment e n s ≡ extended s m n (value scope environment e m s)
 
   pair_kept : (f : ℕ → ℕ → ℕ) (s : Bool) (m n x y a b : ℕ) → x ≡ extended s m n a
@@ -108,14 +108,15 @@ module _ (scope : Scope) (environment : List ℕ → ℕ)
     both op = binary op p a b
 
     binary_kept : (op : BinOp) (s : Bool) → Keeps a s m n → Keeps b s m n → Keeps (both op) s m n
-    unfolding keeps_length value joined_value length_of joined_length sign_of
+    unfolding keeps_length value joined_value length_of joined_length signed_of
     binary_kept And s first second keeps signs fits =
         let kept = and_parts (keeps_length s a) (keeps_length s b) keeps in
         let left : length_of scope a ≤ m = omega arith in
         let right : length_of scope b ≤ m = omega arith in
         pair_kept bit_and s m n _ _ _ _
-        (first kept.0 (λ h. (both_signed (sign_of scope a) (sign_of scope b) (signs h)).0) left)
-        (second kept.1 (λ h. (both_signed (sign_of scope a) (sign_of scope b) (signs h)).1) right)
+        (first kept.0 (λ h. (both_signed (signed_of scope a) (signed_of scope b) (signs h)).0) left)
+        (second kept.1 (λ h. (both_signed (signed_of scope a) (signed_of scope b)
+        (signs h)).1) right)
         (extended_and s m n _ _ wider (value_low scope environment a m s left)
         (value_low scope environment b m s right))
     binary_kept Or s first second keeps signs fits =
@@ -123,8 +124,9 @@ module _ (scope : Scope) (environment : List ℕ → ℕ)
         let left : length_of scope a ≤ m = omega arith in
         let right : length_of scope b ≤ m = omega arith in
         pair_kept bit_or s m n _ _ _ _
-        (first kept.0 (λ h. (both_signed (sign_of scope a) (sign_of scope b) (signs h)).0) left)
-        (second kept.1 (λ h. (both_signed (sign_of scope a) (sign_of scope b) (signs h)).1) right)
+        (first kept.0 (λ h. (both_signed (signed_of scope a) (signed_of scope b) (signs h)).0) left)
+        (second kept.1 (λ h. (both_signed (signed_of scope a) (signed_of scope b)
+        (signs h)).1) right)
         (extended_or s m n _ _ wider (value_low scope environment a m s left)
         (value_low scope environment b m s right))
     binary_kept Xor s first second keeps signs fits =
@@ -132,8 +134,9 @@ module _ (scope : Scope) (environment : List ℕ → ℕ)
         let left : length_of scope a ≤ m = omega arith in
         let right : length_of scope b ≤ m = omega arith in
         pair_kept bit_xor s m n _ _ _ _
-        (first kept.0 (λ h. (both_signed (sign_of scope a) (sign_of scope b) (signs h)).0) left)
-        (second kept.1 (λ h. (both_signed (sign_of scope a) (sign_of scope b) (signs h)).1) right)
+        (first kept.0 (λ h. (both_signed (signed_of scope a) (signed_of scope b) (signs h)).0) left)
+        (second kept.1 (λ h. (both_signed (signed_of scope a) (signed_of scope b)
+        (signs h)).1) right)
         (extended_xor s m n _ _ wider (value_low scope environment a m s left)
         (value_low scope environment b m s right))
     binary_kept Shr true first second keeps signs fits = absurd (cc keeps)
@@ -166,7 +169,7 @@ module _ (scope : Scope) (environment : List ℕ → ℕ)
     binary_kept SignShl s first second keeps signs fits = absurd (cc keeps)
 
   pub kept : (e : ExpressionTree) (s : Bool) (m n : ℕ) → NumbersFit e → m ≤ n → Keeps e s m n
-  unfolding keeps_length value joined_value length_of joined_length sign_of
+  unfolding keeps_length value joined_value length_of joined_length signed_of
   kept (literal l p) s m n numbers wider keeps signs fits =
       extended_twice s l.width m n l.value fits wider numbers
   kept (named v p) s m n numbers wider keeps signs fits =
@@ -177,7 +180,7 @@ module _ (scope : Scope) (environment : List ℕ → ℕ)
   kept (part_of v p h l) s m n numbers wider keeps signs fits =
       flat_kept (part_of v p h l) s m n signs fits wider
   kept (unary op p e) s m n numbers wider keeps signs fits =
-      unary_kept op (length_of scope e) m n (sign_of scope e) s (keeps_length s e)
+      unary_kept op (length_of scope e) m n (signed_of scope e) s (keeps_length s e)
       (value scope environment e) keeps signs fits wider
       (λ more. kept e s m n numbers wider more)
   kept (binary op p a b) s m n numbers wider keeps signs fits =
@@ -185,12 +188,12 @@ module _ (scope : Scope) (environment : List ℕ → ℕ)
       keeps signs fits
   kept (choice p c a b) s m n numbers wider keeps signs fits =
       let both_keep = and_parts (keeps_length s a) (keeps_length s b) keeps in
-      choice_kept (is_true (value scope environment c (length_of scope c) (sign_of scope c))) s m
+      choice_kept (is_true (value scope environment c (length_of scope c) (signed_of scope c))) s m
       n _ _ _ _
       (kept a s m n numbers.1 wider both_keep.0 (λ h.
-      (both_signed (sign_of scope a) (sign_of scope b) (signs h)).0) (omega arith))
+      (both_signed (signed_of scope a) (signed_of scope b) (signs h)).0) (omega arith))
       (kept b s m n numbers.2 wider both_keep.1 (λ h.
-      (both_signed (sign_of scope a) (sign_of scope b) (signs h)).1) (omega arith))
+      (both_signed (signed_of scope a) (signed_of scope b) (signs h)).1) (omega arith))
   kept (join p es) s m n numbers wider keeps signs fits =
       flat_kept (join p es) s m n signs fits wider
   kept (replication p k es) s m n numbers wider keeps signs fits =
@@ -198,7 +201,7 @@ module _ (scope : Scope) (environment : List ℕ → ℕ)
 
   -- a selector with few values has them also at the common length
   pub kept_value : (e : ExpressionTree) (n : ℕ) (s : Bool) → NumbersFit e
-      → (s ≡ true → sign_of scope e ≡ true)
+      → (s ≡ true → signed_of scope e ≡ true)
       → length_of scope e ≤ n → has_few_values scope e n s ≡ true
       → value scope environment e n s ≡
       extended s (length_of scope e) n (value scope environment e (length_of scope e) s)

@@ -7,7 +7,7 @@ use Rattle.sv_num.specs.Parts.{extended, replaced_bits}
 use Rattle.sv_system.specs.System.{Environment, put}
 use Rattle.sv_ast.specs.Scopes.{Scope, Binding, signal, width_of, is_signed, value_of}
 use Rattle.sv_ast.specs.Tree.{ExpressionTree, named, whole, TargetTree, DeclarationTree}
-use Rattle.sv_ast.specs.Values.{length_of, joined_length, sign_of, value as source_value}
+use Rattle.sv_ast.specs.Values.{length_of, joined_length, signed_of, value as source_value}
 use Rattle.sv_ast.specs.Values.{joined_value, assigned_value}
 use Rattle.sv_ast.specs.Instances.{is_signal, whole_name, whole_signal}
 use Rattle.sv_ast.specs.Runs.{Running, targets_width, run as source_run}
@@ -96,8 +96,8 @@ port_same : (signals : List SignalForm) (inner : Names) → HaveSignals inner si
     → value signals by_num (port_value ports d width p)
     ≡ source_value inner.scope by_name (named d.name d.place)
     (max (length_of inner.scope (named d.name d.place)) width)
-    (sign_of inner.scope (named d.name d.place))
-unfolding length_of joined_length sign_of source_value joined_value
+    (signed_of inner.scope (named d.name d.place))
+unfolding length_of joined_length signed_of source_value joined_value
 port_same signals inner listed ports d width p port_is number_is by_name by_num values =
     let own : ℕ = port_width ports d in
     let k : ℕ = port_number ports d.name in

@@ -12,9 +12,9 @@ use Rattle.sv_system.proofs.Lists.{Contains-nil}
 use Rattle.sv_ast.specs.Tree.{ExpressionTree, StatementTree, null, assignment, block, if_only}
 use Rattle.sv_ast.specs.Tree.{if_else, case_of, StatementTrees, no_statements, more_statements}
 use Rattle.sv_ast.specs.Tree.{ArmTrees, no_arms, more_arms}
-use Rattle.sv_ast.specs.Values.{length_of, sign_of, value as source_value, own_value}
+use Rattle.sv_ast.specs.Values.{length_of, signed_of, value as source_value, own_value}
 use Rattle.sv_ast.specs.Instances.{is_empty}
-use Rattle.sv_ast.specs.Runs.{Running, has_item, case_sign, run as source_run, run_each, run_arms}
+use Rattle.sv_ast.specs.Runs.{Running, has_item, case_signed, run as source_run, run_each, run_arms}
 use Rattle.sv_ast.specs.Runs.{run_default}
 use Rattle.sv_flat.specs.Design.{SignalForm, TypedTree, FlatStatement, nothing, after, branch}
 use Rattle.sv_flat.specs.Values.{value}
@@ -22,7 +22,7 @@ use Rattle.sv_flat.specs.Runs.{Updates, run, run_alone, updates_of}
 use Rattle.sv_walk.specs.Names.{Names}
 use Rattle.sv_walk.specs.TypedExpressions.{typed_of}
 use Rattle.sv_walk.specs.ExpressionSteps.{typed_walk, expression_walk}
-use Rattle.sv_walk.specs.CaseChains.{FlatArm, arm_items, arms_sign, common_length, common_sign}
+use Rattle.sv_walk.specs.CaseChains.{FlatArm, arm_items, arms_signed, common_length, common_signed}
 use Rattle.sv_walk.specs.CaseChains.{arm_branch, chain, default_of, case_chain, is_complete}
 use Rattle.sv_walk.specs.Statements.{statement_walk, statements_walk, arms_walk}
 use Rattle.sv_walk.proofs.WalkLemmas.{parts_done}
@@ -52,7 +52,7 @@ module _ (names : Names) (signals : List SignalForm) (numbering : IsNumbering na
     condition_same c t h =
         right_same names signals numbering.declared numbering.listed source.environment flat.0
         before.values c 0 t h
-        ∙ ap (λ n. source_value names.scope source.environment c n (sign_of names.scope c))
+        ∙ ap (λ n. source_value names.scope source.environment c n (signed_of names.scope c))
         (with_none (length_of names.scope c))
 
     abbrev IsAfter : FlatStatement → Running → Type 0
@@ -149,7 +149,7 @@ module _ (names : Names) (signals : List SignalForm) (numbering : IsNumbering na
     length = common_length names e arms
 
     abbrev sign : Bool
-    sign = common_sign names e arms
+    sign = common_signed names e arms
 
     abbrev chosen : ℕ
     chosen = source_value names.scope source.environment e length sign
@@ -174,7 +174,7 @@ module _ (names : Names) (signals : List SignalForm) (numbering : IsNumbering na
           ∙ complete_has_item names numbering.declared source.environment
           (bound_fits names signals numbering source.environment before.fits) e (arm_items arms)
           length sign numbers
-          (λ signed. (and_parts (sign_of names.scope e) (arms_sign names arms) signed).0)
+          (λ signed. (and_parts (signed_of names.scope e) (arms_signed names arms) signed).0)
           (omega arith) (arms_pass names length sign arms found walked) complete
 
       chosen_same : (complete : Bool)
@@ -204,13 +204,13 @@ module _ (names : Names) (signals : List SignalForm) (numbering : IsNumbering na
           (default_of found) in
           let type = arms_type names length sign arms found walked in
           subst (λ k. AreSame names (run signals f flat)
-          (run_arms names.scope k (case_sign names.scope e arms)
-          (source_value names.scope source.environment e k (case_sign names.scope e arms)) arms
+          (run_arms names.scope k (case_signed names.scope e arms)
+          (source_value names.scope source.environment e k (case_signed names.scope e arms)) arms
           default source))
           (ap (λ k. max (length_of names.scope e) k) type.0)
           (subst (λ b. AreSame names (run signals f flat) (run_arms names.scope length b
           (source_value names.scope source.environment e length b) arms default source))
-          (ap (λ b. sign_of names.scope e && b) type.1)
+          (ap (λ b. signed_of names.scope e && b) type.1)
           (chosen_same (is_complete names.scope e (arm_items arms) length sign) refl
           (default_of found) d))
 
@@ -250,7 +250,7 @@ module _ (names : Names) (signals : List SignalForm) (numbering : IsNumbering na
         (statement_same b third.0 third.1 fit.1 flat source before))
     statement_same (case_of p e arms) f h fit flat source before =
         let n : ℕ = common_length names e arms in
-        let s : Bool = common_sign names e arms in
+        let s : Bool = common_signed names e arms in
         let first = parts_done (typed_walk names e n s) _ f h in
         let second = parts_done (arms_walk names n s arms) _ f first.2 in
         let v : ℕ = source_value names.scope source.environment e n s in

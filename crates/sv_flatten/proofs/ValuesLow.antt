@@ -21,7 +21,7 @@ use Rattle.sv_ast.specs.Tree.{ExpressionTree, ExpressionTrees, literal, named, b
 use Rattle.sv_ast.specs.Tree.{unary, binary, choice, join, replication, no_expressions}
 use Rattle.sv_ast.specs.Tree.{more_expressions, SpanTree}
 use Rattle.sv_ast.specs.Values.{nowhere, natural, Operand, operand, binary_length, binary_result}
-use Rattle.sv_ast.specs.Values.{length_of, joined_length, sign_of, value, joined_value, at_own}
+use Rattle.sv_ast.specs.Values.{length_of, joined_length, signed_of, value, joined_value, at_own}
 use Rattle.sv_ast.specs.Values.{whole_number, constant_of}
 use Rattle.sv_ast.specs.Instances.{in_range}
 use Rattle.sv_width.proofs.WellFormed.{reduced_low}
@@ -100,7 +100,7 @@ module _ (scope : Scope) (environment : List ℕ → ℕ) where
     value_low (named m p) n s fits = reduced_low n _
     value_low (bit_of m p i) n s fits =
         one_low n _ fits (bit_or_zero_low (width_of (scope m)) (environment m)
-        (at_own (length_of scope i) (sign_of scope i) (value scope environment i)))
+        (at_own (length_of scope i) (signed_of scope i) (value scope environment i)))
     value_low (part_of m p h l) n s fits =
         let more : 2 ^ length_of scope (part_of m p h l) ≤ 2 ^ n = pow_mono fits in
         omega (
@@ -110,17 +110,17 @@ module _ (scope : Scope) (environment : List ℕ → ℕ) where
               (2 ^ length_of scope (part_of m p h l)) (pow_pos _),
         )
     value_low (unary op p e) n s fits =
-        unary_result_low op (gives_one_bit op) refl (length_of scope e) n (sign_of scope e) s _ _
+        unary_result_low op (gives_one_bit op) refl (length_of scope e) n (signed_of scope e) s _ _
         fits (λ less. value_low e n s less)
     value_low (binary op p a b) n s fits =
         binary_result_low op n s
-        (operand (length_of scope a) (sign_of scope a) (value scope environment a))
-        (operand (length_of scope b) (sign_of scope b) (value scope environment b)) fits
+        (operand (length_of scope a) (signed_of scope a) (value scope environment a))
+        (operand (length_of scope b) (signed_of scope b) (value scope environment b)) fits
         (λ less. value_low a n s less) (λ less. value_low b n s less)
     value_low (choice p c a b) n s fits =
         let left : length_of scope a ≤ n = omega arith in
         let right : length_of scope b ≤ n = omega arith in
-        chosen_low (is_true (value scope environment c (length_of scope c) (sign_of scope c))) _
+        chosen_low (is_true (value scope environment c (length_of scope c) (signed_of scope c))) _
         _ (2 ^ n)
         (value_low a n s left) (value_low b n s right)
     value_low (join p es) n s fits =
@@ -135,16 +135,16 @@ module _ (scope : Scope) (environment : List ℕ → ℕ) where
         joined_value scope environment es < 2 ^ joined_length scope es
     parts_low no_expressions = pow_pos 0
     parts_low (more_expressions e es) =
-        joined_low (value scope environment e (length_of scope e) (sign_of scope e))
+        joined_low (value scope environment e (length_of scope e) (signed_of scope e))
         (joined_value scope environment es)
         (length_of scope e) (joined_length scope es)
-        (value_low e (length_of scope e) (sign_of scope e) (omega arith)) (parts_low es)
+        (value_low e (length_of scope e) (signed_of scope e) (omega arith)) (parts_low es)
 
 -- a constant fits its length
 pub constant_fits : (scope : Scope) (e : ExpressionTree) →
     (constant_of scope e).value < 2 ^ (constant_of scope e).width
 constant_fits scope e =
-    value_low scope nowhere e (length_of scope e) (sign_of scope e) (omega arith)
+    value_low scope nowhere e (length_of scope e) (signed_of scope e) (omega arith)
 
 -- and so does a parameter in its range
 pub in_range_fits : (scope : Scope) (signed : Bool) (span : Option SpanTree) (final : Number)

@@ -5,7 +5,7 @@ use Rattle.sv_lattice.specs.declared.labels.Label.TheVariants as label
 use Rattle.sv_ast.specs.Meaning.{system}
 use Rattle.sv_ast.specs.Tree.{TextTree}
 use Rattle.sv_ast.specs.Parts.{Part, part_with, parts_from, signal_path}
-use Rattle.sv_ast.specs.Values.{length_of, sign_of, value}
+use Rattle.sv_ast.specs.Values.{length_of, signed_of, value}
 use Rattle.sv_flat.specs.declared.signals.SigKind.TheVariants as kinds
 use Rattle.sv_walk.proofs.SmallTexts.{decimal, input, output, wire, no_overrides}
 use Rattle.sv_walk.proofs.SmallTexts.{no_links, stands, module_of, text_of, map_tree, span, row}
@@ -58,7 +58,7 @@ pub a_point_has_its_number :
 a_point_has_its_number = refl
 
 pub four_bits : selector_width (span (decimal 3 1) (decimal 0 3)) ≡ 4
-unfolding length_of sign_of value
+unfolding length_of signed_of value
 four_bits = refl
 
 pub a_point_is_shown : level_asked_of small (Some (codes "H")) ≡ Some (Some (codes "H"))

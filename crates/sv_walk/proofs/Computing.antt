@@ -1,11 +1,11 @@
 -- The definitions of the walk, to be computed with: `unfolding computing` opens them all.
-use Rattle.sv_ast.specs.Values.{value, sign_of}
+use Rattle.sv_ast.specs.Values.{value, signed_of}
 use Rattle.sv_walk.specs.Walks.{each}
 use Rattle.sv_walk.specs.TypedExpressions.{names_signal, typed_of}
 use Rattle.sv_walk.specs.ExpressionSteps.{sized_parts, typed_walk, expression_walk, constant_walk}
 use Rattle.sv_walk.specs.ExpressionSteps.{divisors, asked}
 use Rattle.sv_walk.specs.Targets.{selection_steps, target_steps, targets_steps, assignment_walk}
-use Rattle.sv_walk.specs.CaseChains.{item_length, item_sign, keeps_length, is_complete}
+use Rattle.sv_walk.specs.CaseChains.{item_length, item_signed, keeps_length, is_complete}
 use Rattle.sv_walk.specs.Statements.{items_walk, statement_walk}
 use Rattle.sv_walk.specs.Declarations.{range_steps, final_walk, parameter_walk, signal_walk}
 use Rattle.sv_walk.specs.Declarations.{declaration_walk, declarations_walk, declared_until}
@@ -22,9 +22,10 @@ use Rattle.sv_walk.specs.InstanceSteps.{site_walk}
 use Rattle.sv_walk.specs.Texts.{module_names, top_walk, walk_of}
 
 unfoldable pub computing : Unit {0}
-unfolding value sign_of each names_signal typed_of sized_parts typed_walk expression_walk
+unfolding value signed_of each names_signal typed_of sized_parts typed_walk expression_walk
     constant_walk
-    divisors asked selection_steps target_steps targets_steps assignment_walk item_length item_sign
+    divisors asked selection_steps target_steps targets_steps assignment_walk item_length
+    item_signed
     keeps_length is_complete items_walk statement_walk range_steps final_walk parameter_walk
     signal_walk
     declaration_walk declarations_walk declared_until answered pair_steps order_steps checked_order

@@ -18,7 +18,7 @@ use Rattle.sv_ast.specs.Tree.{ExpressionTree, literal, named, bit_of, part_of, u
 use Rattle.sv_ast.specs.Tree.{choice, join, replication, ArmTrees, no_arms, more_arms}
 use Rattle.sv_ast.specs.Instances.{is_empty}
 use Rattle.sv_num.specs.Parts.{extended}
-use Rattle.sv_ast.specs.Values.{nowhere, length_of, sign_of, value}
+use Rattle.sv_ast.specs.Values.{nowhere, length_of, signed_of, value}
 use Rattle.sv_flat.specs.Design.{TypedTree, typed, binary as binary_node, FlatStatement, nothing}
 use Rattle.sv_flat.specs.Design.{branch}
 use Rattle.sv_walk.specs.Walks.{value_or, ◌>>=◌, done}
@@ -36,8 +36,9 @@ arm_items (more_arms p items body arms) = items ++ arm_items arms
 unfoldable pub item_length : Names → ExpressionTree → ℕ
 item_length names e = value_or ((asked names true e >>= λ _. done (length_of names.scope e)).end) 0
 
-unfoldable pub item_sign : Names → ExpressionTree → Bool
-item_sign names e = value_or ((asked names true e >>= λ _. done (sign_of names.scope e)).end) true
+unfoldable pub item_signed : Names → ExpressionTree → Bool
+item_signed names e = value_or ((asked names true e >>= λ _. done
+    (signed_of names.scope e)).end) true
 
 -- the greatest length of some items
 abbrev pub items_length : Names → List ExpressionTree → ℕ
@@ -45,25 +46,25 @@ items_length names [] = 0
 items_length names (e ∷ es) = max (item_length names e) (items_length names es)
 
 -- signed only if all of them are
-abbrev pub items_sign : Names → List ExpressionTree → Bool
-items_sign names [] = true
-items_sign names (e ∷ es) = item_sign names e && items_sign names es
+abbrev pub items_signed : Names → List ExpressionTree → Bool
+items_signed names [] = true
+items_signed names (e ∷ es) = item_signed names e && items_signed names es
 
 abbrev pub arms_length : Names → ArmTrees → ℕ
 arms_length names no_arms = 0
 arms_length names (more_arms p items body arms) =
     max (items_length names items) (arms_length names arms)
 
-abbrev pub arms_sign : Names → ArmTrees → Bool
-arms_sign names no_arms = true
-arms_sign names (more_arms p items body arms) = items_sign names items && arms_sign names arms
+abbrev pub arms_signed : Names → ArmTrees → Bool
+arms_signed names no_arms = true
+arms_signed names (more_arms p items body arms) = items_signed names items && arms_signed names arms
 
 -- selector and items stand at the greatest of their lengths, and are signed only if all are
 abbrev pub common_length : Names → (selector : ExpressionTree) → ArmTrees → ℕ
 common_length names e arms = max (length_of names.scope e) (arms_length names arms)
 
-abbrev pub common_sign : Names → (selector : ExpressionTree) → ArmTrees → Bool
-common_sign names e arms = sign_of names.scope e && arms_sign names arms
+abbrev pub common_signed : Names → (selector : ExpressionTree) → ArmTrees → Bool
+common_signed names e arms = signed_of names.scope e && arms_signed names arms
 
 -- an arm with its items and its statement in typed form
 pub record FlatArm : Type 0 where

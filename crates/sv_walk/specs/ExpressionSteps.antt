@@ -10,7 +10,7 @@ use Rattle.sv_ast.specs.Scopes.{Scope, Number, width_of}
 use Rattle.sv_ast.specs.Tree.{ExpressionTree, ExpressionTrees, literal, named, bit_of, part_of}
 use Rattle.sv_ast.specs.Tree.{unary, binary, choice, join, replication, no_expressions}
 use Rattle.sv_ast.specs.Tree.{more_expressions}
-use Rattle.sv_ast.specs.Values.{nowhere, length_of, joined_length, sign_of, value, whole_number}
+use Rattle.sv_ast.specs.Values.{nowhere, length_of, joined_length, signed_of, value, whole_number}
 use Rattle.sv_ast.specs.Values.{constant_of}
 use Rattle.sv_flat.specs.Design.{TypedTree}
 use Rattle.sv_walk.specs.Walks.{Walk, Steps, done, ask, ◌>>=◌}
@@ -18,7 +18,7 @@ use Rattle.sv_walk.specs.Rules.{unknown_name, too_wide, bad_select, not_constant
 use Rattle.sv_walk.specs.Rules.{division, unsized_part, bad_count}
 use Rattle.sv_walk.specs.Names.{Names, is_parameter, in_reach, means_signal, place_of}
 use Rattle.sv_walk.specs.TypedExpressions.{is_division, names_signal, left_length, right_length}
-use Rattle.sv_walk.specs.TypedExpressions.{left_sign, right_sign, typed_of}
+use Rattle.sv_walk.specs.TypedExpressions.{left_signed, right_signed, typed_of}
 
 unfoldable mutual
   -- the second walk, at a length and sign: no constant divisor is 0
@@ -26,27 +26,27 @@ unfoldable mutual
   divisors scope (literal l p) n s = done tt
   divisors scope (named m p) n s = done tt
   divisors scope (bit_of m p i) n s = elim (names_signal scope i) [
-    | true ↦ divisors scope i (length_of scope i) (sign_of scope i)
+    | true ↦ divisors scope i (length_of scope i) (signed_of scope i)
     | false ↦ done tt
   ]
   divisors scope (part_of m p h l) n s = done tt
   divisors scope (unary op p e) n s = elim (gives_one_bit op) [
-    | true ↦ divisors scope e (length_of scope e) (sign_of scope e)
+    | true ↦ divisors scope e (length_of scope e) (signed_of scope e)
     | false ↦ divisors scope e n s
   ]
   divisors scope (binary op p a b) n s = do
     _ ← divisors scope a
         (left_length (class_of op) n (length_of scope a) (length_of scope b))
-        (left_sign (class_of op) s (sign_of scope a) (sign_of scope b))
+        (left_signed (class_of op) s (signed_of scope a) (signed_of scope b))
     _ ← divisors scope b
         (right_length (class_of op) n (length_of scope a) (length_of scope b))
-        (right_sign (class_of op) s (sign_of scope a) (sign_of scope b))
+        (right_signed (class_of op) s (signed_of scope a) (signed_of scope b))
     elim (is_division op) [
       | true ↦ ask (not (value scope nowhere b n s == 0)) (zero_divisor (place_of b))
       | false ↦ done tt
     ]
   divisors scope (choice p c a b) n s = do
-    _ ← divisors scope c (length_of scope c) (sign_of scope c)
+    _ ← divisors scope c (length_of scope c) (signed_of scope c)
     _ ← divisors scope a n s
     divisors scope b n s
   divisors scope (join p es) n s = part_divisors scope es
@@ -55,12 +55,12 @@ unfoldable mutual
   pub part_divisors : Scope → ExpressionTrees → Steps
   part_divisors scope no_expressions = done tt
   part_divisors scope (more_expressions e es) = do
-    _ ← divisors scope e (length_of scope e) (sign_of scope e)
+    _ ← divisors scope e (length_of scope e) (signed_of scope e)
     part_divisors scope es
 
 -- the second walk of an expression of its own
 abbrev pub own_divisors : Scope → ExpressionTree → Steps
-own_divisors scope e = divisors scope e (length_of scope e) (sign_of scope e)
+own_divisors scope e = divisors scope e (length_of scope e) (signed_of scope e)
 
 -- whether a whole number is a natural one from 0 to below the limit
 abbrev pub is_below : (limit : ℕ) → ℤ → Bool
@@ -158,7 +158,7 @@ typed_walk names e n s = do
 -- both lengths; for no target, at its own
 unfoldable pub expression_walk : Names → ExpressionTree → (width : ℕ) → Walk TypedTree
 expression_walk names e width =
-    typed_walk names e (max (length_of names.scope e) width) (sign_of names.scope e)
+    typed_walk names e (max (length_of names.scope e) width) (signed_of names.scope e)
 
 -- a constant: its value at its own length and sign
 unfoldable pub constant_walk : Names → ExpressionTree → Walk Number

@@ -11,7 +11,7 @@ use Rattle.sv_walk.specs.Names.{Names}
 use Rattle.sv_walk.specs.TypedExpressions.{typed_of}
 use Rattle.sv_walk.specs.ExpressionSteps.{asked, divisors, typed_walk, expression_walk}
 use Rattle.sv_walk.specs.Targets.{assignment_walk}
-use Rattle.sv_walk.specs.CaseChains.{FlatArm, arm_items, common_length, common_sign, case_chain}
+use Rattle.sv_walk.specs.CaseChains.{FlatArm, arm_items, common_length, common_signed, case_chain}
 use Rattle.sv_walk.specs.CaseChains.{default_of, is_complete}
 
 -- the items of an arm, each a constant at the common length and sign
@@ -40,7 +40,7 @@ unfoldable mutual
     done (branch p condition first second)
   statement_walk names (case_of p selector arms) = do
     let n = common_length names selector arms
-    let s = common_sign names selector arms
+    let s = common_signed names selector arms
     typed_selector ← typed_walk names selector n s
     flat ← arms_walk names n s arms
     done (case_chain typed_selector (is_complete names.scope selector (arm_items arms) n s)

@@ -14,7 +14,7 @@ use Rattle.sv_ast.specs.Tree.{ExpressionTree, ExpressionTrees, literal, named, b
 use Rattle.sv_ast.specs.Tree.{unary, binary, choice, join, replication, no_expressions}
 use Rattle.sv_ast.specs.Tree.{more_expressions}
 use Rattle.sv_num.specs.Parts.{extended}
-use Rattle.sv_ast.specs.Values.{natural, nowhere, length_of, sign_of, value, whole_number}
+use Rattle.sv_ast.specs.Values.{natural, nowhere, length_of, signed_of, value, whole_number}
 use Rattle.sv_flat.specs.Design.{TypedTree, NodeTree, TypedTrees, no_parts, more_parts}
 use Rattle.sv_flat.specs.Design.{typed, constant, read, read_bit, read_part, unary as unary_node}
 use Rattle.sv_flat.specs.Design.{binary as binary_node, choice as choice_node, join as join_node}
@@ -62,17 +62,17 @@ right_length Logical n a b = b
 right_length Shift n a b = b
 
 -- likewise the sign
-abbrev pub left_sign : OpClass → (pushed own_left own_right : Bool) → Bool
-left_sign Context s a b = s
-left_sign Compare s a b = a && b
-left_sign Logical s a b = a
-left_sign Shift s a b = s
+abbrev pub left_signed : OpClass → (pushed own_left own_right : Bool) → Bool
+left_signed Context s a b = s
+left_signed Compare s a b = a && b
+left_signed Logical s a b = a
+left_signed Shift s a b = s
 
-abbrev pub right_sign : OpClass → (pushed own_left own_right : Bool) → Bool
-right_sign Context s a b = s
-right_sign Compare s a b = a && b
-right_sign Logical s a b = b
-right_sign Shift s a b = b
+abbrev pub right_signed : OpClass → (pushed own_left own_right : Bool) → Bool
+right_signed Context s a b = s
+right_signed Compare s a b = a && b
+right_signed Logical s a b = b
+right_signed Shift s a b = b
 
 -- the typed form of a name: a parameter stands as its value
 abbrev pub named_node : Option Binding → (number : ℕ) → Place → (length : ℕ) → (signed : Bool) →
@@ -89,13 +89,13 @@ unfoldable mutual
   typed_of names (named m p) n s = typed n s (named_node (names.scope m) (names.number m) p n s)
   typed_of names (bit_of m p i) n s = typed n s
       (read_bit (names.number m) p
-      (typed_of names i (length_of names.scope i) (sign_of names.scope i)))
+      (typed_of names i (length_of names.scope i) (signed_of names.scope i)))
   typed_of names (part_of m p h l) n s = typed n s
       (read_part (names.number m) p (natural (whole_number names.scope h))
       (natural (whole_number names.scope l)))
   typed_of names (unary op p e) n s = elim (gives_one_bit op) [
     | true ↦ typed n s (unary_node op
-        (typed_of names e (length_of names.scope e) (sign_of names.scope e)))
+        (typed_of names e (length_of names.scope e) (signed_of names.scope e)))
     | false ↦ typed n s (unary_node op (typed_of names e n s))
   ]
   typed_of names (binary op p a b) n s = elim (is_division op) [
@@ -103,13 +103,13 @@ unfoldable mutual
     | false ↦ typed n s (binary_node op
         (typed_of names a
         (left_length (class_of op) n (length_of names.scope a) (length_of names.scope b))
-        (left_sign (class_of op) s (sign_of names.scope a) (sign_of names.scope b)))
+        (left_signed (class_of op) s (signed_of names.scope a) (signed_of names.scope b)))
         (typed_of names b
         (right_length (class_of op) n (length_of names.scope a) (length_of names.scope b))
-        (right_sign (class_of op) s (sign_of names.scope a) (sign_of names.scope b))))
+        (right_signed (class_of op) s (signed_of names.scope a) (signed_of names.scope b))))
   ]
   typed_of names (choice p c a b) n s = typed n s (choice_node p
-      (typed_of names c (length_of names.scope c) (sign_of names.scope c)) (typed_of names a n s)
+      (typed_of names c (length_of names.scope c) (signed_of names.scope c)) (typed_of names a n s)
       (typed_of names b n s))
   typed_of names (join p es) n s = typed n s (join_node (typed_parts names es))
   typed_of names (replication p k es) n s = typed n s
@@ -119,5 +119,5 @@ unfoldable mutual
   pub typed_parts : Names → ExpressionTrees → TypedTrees
   typed_parts names no_expressions = no_parts
   typed_parts names (more_expressions e es) =
-      more_parts (typed_of names e (length_of names.scope e) (sign_of names.scope e))
+      more_parts (typed_of names e (length_of names.scope e) (signed_of names.scope e))
       (typed_parts names es)

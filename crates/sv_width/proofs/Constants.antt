@@ -18,10 +18,10 @@ use Rattle.sv_ast.specs.Tree.{unary, binary, choice, join, replication, no_expre
 use Rattle.sv_ast.specs.Tree.{more_expressions}
 use Rattle.sv_ast.specs.Shape.{is_shaped_expression, are_shaped_parts, has_part}
 use Rattle.sv_ast.specs.Values.{natural, nowhere, operand, length_of, joined_length}
-use Rattle.sv_ast.specs.Values.{sign_of, value, joined_value, whole_number}
+use Rattle.sv_ast.specs.Values.{signed_of, value, joined_value, whole_number}
 use Rattle.sv_num.specs.Parts.{extended, bit_or_zero, repeated}
 use Rattle.sv_walk.specs.Names.{Names}
-use Rattle.sv_walk.specs.TypedExpressions.{left_length, left_sign, right_length, right_sign}
+use Rattle.sv_walk.specs.TypedExpressions.{left_length, left_signed, right_length, right_signed}
 use Rattle.sv_width.specs.Agreement.{HaveLengths, IsLength, NumbersHaveLengths}
 use Rattle.sv_width.specs.Agreement.{PartsHaveLengths}
 use Rattle.sv_width.specs.Measured.{OwnForm, MeasuredTree, own_form, own_of}
@@ -76,7 +76,7 @@ module _ (names : Names) (lengths : HaveLengths names.scope) where
     value_low c known (unary op p e) q shape numbers n s fits is =
         let own = own_length names lengths c known e q shape numbers in
         let L : ℕ = length_of names.scope e in
-        let S : Bool = sign_of names.scope e in
+        let S : Bool = signed_of names.scope e in
         either (gives_one_bit op)
         (λ h. subst (λ (b : Bool).
         (if b then unary_value op L S (value names.scope nowhere e L S)
@@ -94,11 +94,11 @@ module _ (names : Names) (lengths : HaveLengths names.scope) where
         (own_length names lengths c known a q.0 shapes.0 numbers.0)
         (own_length names lengths c known b q.1 shapes.1 numbers.1) is fits in
         subst (λ x. x < 2 ^ n)
-        (result_at op n s (operand (length_of names.scope a) (sign_of names.scope a)
+        (result_at op n s (operand (length_of names.scope a) (signed_of names.scope a)
         (value names.scope nowhere a))
-        (operand (length_of names.scope b) (sign_of names.scope b) (value names.scope nowhere b)))
+        (operand (length_of names.scope b) (signed_of names.scope b) (value names.scope nowhere b)))
         (binary_low op n s (length_of names.scope a) (length_of names.scope b)
-        (sign_of names.scope a) (sign_of names.scope b) _ _ is.0
+        (signed_of names.scope a) (signed_of names.scope b) _ _ is.0
         (value_low c known a q.0 shapes.0 numbers.0 _ _ stand.1 stand.0)
         (value_low c known b q.1 shapes.1 numbers.1 _ _ stand.3 stand.2))
     value_low c known (choice p d a b) q shape numbers n s fits is =
@@ -108,7 +108,7 @@ module _ (names : Names) (lengths : HaveLengths names.scope) where
         let left : length_of names.scope a ≤ n = omega arith in
         let right : length_of names.scope b ≤ n = omega arith in
         chosen_low (is_true (value names.scope nowhere d (length_of names.scope d)
-        (sign_of names.scope d))) _ _ (2 ^ n)
+        (signed_of names.scope d))) _ _ (2 ^ n)
         (value_low c known a q.1 inner.1 numbers.1 n s left is)
         (value_low c known b q.2 outer.1 numbers.2 n s right is)
     value_low c known (join p es) q shape numbers n s fits is =
@@ -131,11 +131,11 @@ module _ (names : Names) (lengths : HaveLengths names.scope) where
     parts_low c known (more_expressions e es) q shape numbers =
         let shapes = and_parts (is_shaped_expression e) (are_shaped_parts es) shape in
         let own = own_length names lengths c known e q.0 shapes.0 numbers.0 in
-        joined_low (value names.scope nowhere e (length_of names.scope e) (sign_of names.scope e))
+        joined_low (value names.scope nowhere e (length_of names.scope e) (signed_of names.scope e))
         (joined_value names.scope nowhere es)
         (length_of names.scope e) (joined_length names.scope es)
         (value_low c known e q.0 shapes.0 numbers.0 (length_of names.scope e)
-        (sign_of names.scope e) (omega arith) own)
+        (signed_of names.scope e) (omega arith) own)
         (parts_low c known es q.1 shapes.1 numbers.1)
 
 -- ---- what is measured of an expression
@@ -251,7 +251,7 @@ module _ (names : Names) (lengths : HaveLengths names.scope) where
     folded_same c known (unary op p e) q shape numbers n s fits is =
         let own = own_length names lengths c known e q shape numbers in
         let L : ℕ = length_of names.scope e in
-        let S : Bool = sign_of names.scope e in
+        let S : Bool = signed_of names.scope e in
         let M : MeasuredTree = measured_of names e in
         either (gives_one_bit op)
         (λ h. ap (λ (b : Bool).
@@ -278,29 +278,29 @@ module _ (names : Names) (lengths : HaveLengths names.scope) where
         let B : MeasuredTree = measured_of names b in
         let la : ℕ = length_of names.scope a in
         let lb : ℕ = length_of names.scope b in
-        let sa : Bool = sign_of names.scope a in
-        let sb : Bool = sign_of names.scope b in
+        let sa : Bool = signed_of names.scope a in
+        let sb : Bool = signed_of names.scope b in
         let LL : ℕ = left_length (class_of op) n la lb in
-        let LS : Bool = left_sign (class_of op) s sa sb in
+        let LS : Bool = left_signed (class_of op) s sa sb in
         let RL : ℕ = right_length (class_of op) n la lb in
-        let RS : Bool = right_sign (class_of op) s sa sb in
+        let RS : Bool = right_signed (class_of op) s sa sb in
         let stand = operand_lengths (class_of op) n la lb
         (own_length names lengths c known a q.0 shapes.0 numbers.0)
         (own_length names lengths c known b q.1 shapes.1 numbers.1) is fits in
         ap (λ (o : OwnForm).
         binary_value op (left_length (class_of op) n o.width (own_form B).width)
-        (left_sign (class_of op) s o.signed (own_form B).signed)
+        (left_signed (class_of op) s o.signed (own_form B).signed)
         (folded_of A (left_length (class_of op) n o.width (own_form B).width)
-        (left_sign (class_of op) s o.signed (own_form B).signed))
+        (left_signed (class_of op) s o.signed (own_form B).signed))
         (folded_of B (right_length (class_of op) n o.width (own_form B).width)
-        (right_sign (class_of op) s o.signed (own_form B).signed))) (own_measured names a)
+        (right_signed (class_of op) s o.signed (own_form B).signed))) (own_measured names a)
         ∙ ap (λ (o : OwnForm).
         binary_value op (left_length (class_of op) n la o.width)
-        (left_sign (class_of op) s sa o.signed)
+        (left_signed (class_of op) s sa o.signed)
         (folded_of A (left_length (class_of op) n la o.width)
-        (left_sign (class_of op) s sa o.signed))
+        (left_signed (class_of op) s sa o.signed))
         (folded_of B (right_length (class_of op) n la o.width)
-        (right_sign (class_of op) s sa o.signed))) (own_measured names b)
+        (right_signed (class_of op) s sa o.signed))) (own_measured names b)
         ∙ ap (λ x. binary_value op LL LS x (folded_of B RL RS))
         (folded_same c known a q.0 shapes.0 numbers.0 LL LS stand.1 stand.0)
         ∙ ap (λ x. binary_value op LL LS (value names.scope nowhere a LL LS) x)
@@ -320,13 +320,13 @@ module _ (names : Names) (lengths : HaveLengths names.scope) where
         (ap (λ (o : OwnForm).
         folded_of (measured_of names d) o.width o.signed) (own_measured names d)
         ∙ folded_same c known d q.0 inner.0 numbers.0 (length_of names.scope d)
-        (sign_of names.scope d) (omega arith) own)
+        (signed_of names.scope d) (omega arith) own)
         ∙ ap (λ x. if is_true
-        (value names.scope nowhere d (length_of names.scope d) (sign_of names.scope d))
+        (value names.scope nowhere d (length_of names.scope d) (signed_of names.scope d))
         then x else B)
         (folded_same c known a q.1 inner.1 numbers.1 n s left is)
         ∙ ap (λ x. if is_true
-        (value names.scope nowhere d (length_of names.scope d) (sign_of names.scope d))
+        (value names.scope nowhere d (length_of names.scope d) (signed_of names.scope d))
         then value names.scope nowhere a n s else x)
         (folded_same c known b q.2 outer.1 numbers.2 n s right is)
     folded_same c known (join p es) q shape numbers n s fits is =
@@ -370,7 +370,7 @@ module _ (names : Names) (lengths : HaveLengths names.scope) where
         let shapes = and_parts (is_shaped_expression e) (are_shaped_parts es) shape in
         let own = own_length names lengths c known e q.0 shapes.0 numbers.0 in
         let L : ℕ = length_of names.scope e in
-        let X : ℕ = value names.scope nowhere e L (sign_of names.scope e) in
+        let X : ℕ = value names.scope nowhere e L (signed_of names.scope e) in
         let J : ℕ = joined_length names.scope es in
         let R : ℕ = joined_value names.scope nowhere es in
         ap (λ (o : OwnForm).
@@ -378,7 +378,7 @@ module _ (names : Names) (lengths : HaveLengths names.scope) where
         (behind n v o.width (folded_of (measured_of names e) o.width o.signed)))
         (own_measured names e)
         ∙ ap (λ x. joined_from (measured_parts names es) n (behind n v L x))
-        (folded_same c known e q.0 shapes.0 numbers.0 L (sign_of names.scope e) (omega arith) own)
+        (folded_same c known e q.0 shapes.0 numbers.0 L (signed_of names.scope e) (omega arith) own)
         ∙ joined_same c known es q.1 shapes.1 numbers.1 n (behind n v L X)
         (mod_below (v * 2 ^ L + X) (2 ^ n) (pow_pos n))
         ∙ cut_first (v * 2 ^ L + X) (2 ^ J) R (2 ^ n)

@@ -13,7 +13,7 @@ use Rattle.sv_ast.specs.Scopes.{Number, Binding, width_of as binding_width}
 use Rattle.sv_num.specs.declared.faults.Place.{Place}
 use Rattle.sv_ast.specs.Tree.{ExpressionTree, ExpressionTrees, replication}
 use Rattle.sv_ast.specs.Shape.{is_shaped_expression, has_part, are_shaped_parts}
-use Rattle.sv_ast.specs.Values.{nowhere, length_of, sign_of, value, constant_of}
+use Rattle.sv_ast.specs.Values.{nowhere, length_of, signed_of, value, constant_of}
 use Rattle.sv_ast.specs.Views.{expression_tree, expression_trees, parts_of, row_parts}
 use Rattle.sv_system.specs.System.{Environment}
 use Rattle.sv_flat.specs.Design.{SignalForm, TypedTree, typed}
@@ -140,7 +140,7 @@ module _ (names : Names) (lengths : HaveLengths names.scope) (c : Bool) (known :
   pub own_divisors_at : (n : ℕ) (s : Bool) → n ≡ (own_form t).width → s ≡ (own_form t).signed
       → (divisors_of t n s).end ≡ (own_divisors names.scope e).end
   own_divisors_at n s same_n same_s =
-      divisors_at n (length_of names.scope e) s (sign_of names.scope e) (omega arith) own
+      divisors_at n (length_of names.scope e) s (signed_of names.scope e) (omega arith) own
       (same_n ∙ ap (λ (o : OwnForm). o.width) own_is) (same_s
       ∙ ap (λ (o : OwnForm). o.signed) own_is)
 
@@ -169,15 +169,15 @@ module _ (names : Names) (lengths : HaveLengths names.scope) (c : Bool) (known :
       → number_of bits ≡ constant_of names.scope e
   value_at_own n s bits same_n same_s folded =
       let N : n ≡ length_of names.scope e = same_n ∙ ap (λ (o : OwnForm). o.width) own_is in
-      let S : s ≡ sign_of names.scope e = same_s ∙ ap (λ (o : OwnForm). o.signed) own_is in
-      let V = value_at n (length_of names.scope e) s (sign_of names.scope e) (omega arith)
+      let S : s ≡ signed_of names.scope e = same_s ∙ ap (λ (o : OwnForm). o.signed) own_is in
+      let V = value_at n (length_of names.scope e) s (signed_of names.scope e) (omega arith)
       own N S in
       ap (λ x. record { width = x; signed = is_signed bits; value = value_of bits }) (folded.1 ∙ N)
       ∙ ap (λ x. record { width = length_of names.scope e; signed = x; value = value_of bits })
       (folded.2 ∙ S)
       ∙ ap (λ x. record {
         width = length_of names.scope e;
-        signed = sign_of names.scope e;
+        signed = signed_of names.scope e;
         value = x;
       }) (folded.3 ∙ V)
 
@@ -190,24 +190,24 @@ module _ (names : Names) (lengths : HaveLengths names.scope) (c : Bool) (known :
   pub same_length : (width n : ℕ) → n ≡ max (own_form t).width width → n ≡ pushed_length width
   same_length width n same_n = same_n ∙ ap (λ (o : OwnForm). max o.width width) own_is
 
-  pub same_sign : (s : Bool) → s ≡ (own_form t).signed → s ≡ sign_of names.scope e
+  pub same_sign : (s : Bool) → s ≡ (own_form t).signed → s ≡ signed_of names.scope e
   same_sign s same_s = same_s ∙ ap (λ (o : OwnForm). o.signed) own_is
 
   pub pushed_divisors : (width n : ℕ) (s : Bool) → width ≤ 64 → n ≡ max (own_form t).width width
       → s ≡ (own_form t).signed
       → (divisors_of t n s).end ≡
-      (divisors names.scope e (pushed_length width) (sign_of names.scope e)).end
+      (divisors names.scope e (pushed_length width) (signed_of names.scope e)).end
   pushed_divisors width n s few same_n same_s =
-      divisors_at n (pushed_length width) s (sign_of names.scope e) (omega arith)
+      divisors_at n (pushed_length width) s (signed_of names.scope e) (omega arith)
       (pushed_long width few)
       (same_length width n same_n) (same_sign s same_s)
 
   pub pushed_form : (width n : ℕ) (s : Bool) (f : FExpr) → width ≤ 64
       → n ≡ max (own_form t).width width → s ≡ (own_form t).signed
       → IsPushed t n s f → typed_tree f ≡
-      typed_of names e (pushed_length width) (sign_of names.scope e)
+      typed_of names e (pushed_length width) (signed_of names.scope e)
   pushed_form width n s f few same_n same_s pushed =
-      form_at n (pushed_length width) s (sign_of names.scope e) f (omega arith)
+      form_at n (pushed_length width) s (signed_of names.scope e) f (omega arith)
       (pushed_long width few)
       (same_length width n same_n) (same_sign s same_s) pushed
 
@@ -221,7 +221,7 @@ module _ (names : Names) (lengths : HaveLengths names.scope) (c : Bool) (known :
       IsTrue (well_formed signals x)) (sym (pushed_form width n s f few same_n same_s pushed))
       (typed_formed names declared lengths signals has_signals c e (passed_sound names c e passes)
       shape numbers
-      (pushed_length width) (sign_of names.scope e) (omega arith) (pushed_long width few))
+      (pushed_length width) (signed_of names.scope e) (omega arith) (pushed_long width few))
 
   pub means_at : (declared : AllDeclared names) (signals : List SignalForm)
       (has_signals : HaveSignals names signals)
@@ -229,14 +229,14 @@ module _ (names : Names) (lengths : HaveLengths names.scope) (c : Bool) (known :
       → (width n : ℕ) (s : Bool) (f : FExpr) → width ≤ 64 → n ≡ max (own_form t).width width
       → s ≡ (own_form t).signed
       → IsPushed t n s f → flat_value signals by_number (typed_tree f) ≡
-      value names.scope by_name e (pushed_length width) (sign_of names.scope e)
+      value names.scope by_name e (pushed_length width) (signed_of names.scope e)
   means_at declared signals has_signals by_name by_number has_values width n s f few same_n same_s
       pushed =
       ap (λ (x : TypedTree).
       flat_value signals by_number x) (pushed_form width n s f few same_n same_s pushed)
       ∙ same_value names declared signals has_signals by_name by_number has_values c e
       (passed_sound names c e passes)
-      (pushed_length width) (sign_of names.scope e)
+      (pushed_length width) (signed_of names.scope e)
 
 -- ---- the whole walks
 
@@ -252,7 +252,7 @@ module _ (names : Names) (lengths : HaveLengths names.scope) (known : KnownIn na
   typed_found passes t is width n s f few same_n same_s pushed =
       passes_on (asked names false e) _ _ passes
       (passes_on (divisors names.scope e (max (length_of names.scope e) width)
-      (sign_of names.scope e)) _ _
+      (signed_of names.scope e)) _ _
       (sym (pushed_divisors names lengths false known e shape numbers passes t is width n s few
       same_n same_s) ∙ pushed.0)
       (ap (λ (x : TypedTree).
@@ -273,7 +273,7 @@ module _ (names : Names) (lengths : HaveLengths names.scope) (known : KnownIn na
   typed_divided passes t is width n s f few same_n same_s h =
       breach_after (asked names false e) _ tt f passes
       (breach_first (divisors names.scope e (max (length_of names.scope e) width)
-      (sign_of names.scope e)) _ f
+      (signed_of names.scope e)) _ f
       (subst (λ r. IsBreach r f)
       (pushed_divisors names lengths false known e shape numbers passes t is width n s few
       same_n same_s) h))

@@ -23,8 +23,8 @@ use Rattle.sv_num.proofs.NumberLemmas.{word_low}
 use Rattle.sv_ast.specs.Values.{natural}
 use Rattle.sv_walk.specs.Walks.{Step}
 use Rattle.sv_walk.specs.ExpressionSteps.{is_count}
-use Rattle.sv_walk.specs.TypedExpressions.{is_division, left_length, left_sign, right_length}
-use Rattle.sv_walk.specs.TypedExpressions.{right_sign}
+use Rattle.sv_walk.specs.TypedExpressions.{is_division, left_length, left_signed, right_length}
+use Rattle.sv_walk.specs.TypedExpressions.{right_signed}
 use Rattle.sv_width.specs.Answers.{IsBreach}
 use Rattle.sv_width.specs.Measured.{OwnForm, MeasuredTree, MeasuredTrees}
 use Rattle.sv_width.specs.Measured as measured
@@ -79,15 +79,15 @@ capped_times n (suc k) w v few =
 
 pub one_type : (op : BinOp) (n la lb : ℕ) (s sa sb : Bool) (left right : Bits)
     → width_of left ≡ left_length (class_of op) n la lb
-    → is_signed left ≡ left_sign (class_of op) s sa sb
+    → is_signed left ≡ left_signed (class_of op) s sa sb
     → width_of right ≡ right_length (class_of op) n la lb
-    → is_signed right ≡ right_sign (class_of op) s sa sb
+    → is_signed right ≡ right_signed (class_of op) s sa sb
     → HaveOneType (class_of op) left right
 one_type op n la lb s sa sb left right p q u v = by (class_of op) p q u v
   where
     by : (c : OpClass) → width_of left ≡ left_length c n la lb
-        → is_signed left ≡ left_sign c s sa sb
-        → width_of right ≡ right_length c n la lb → is_signed right ≡ right_sign c s sa sb
+        → is_signed left ≡ left_signed c s sa sb
+        → width_of right ≡ right_length c n la lb → is_signed right ≡ right_signed c s sa sb
         → HaveOneType c left right
     by Context p q u v = (p ∙ sym u, q ∙ sym v)
     by Compare p q u v = (p ∙ sym u, q ∙ sym v)

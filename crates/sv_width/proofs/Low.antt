@@ -15,7 +15,7 @@ use Rattle.sv_num.specs.declared.operators.UnOp.TheVariants as unop
 use Rattle.sv_num.specs.Vectors.{truth}
 use Rattle.sv_num.specs.UnaryValues.{gives_one_bit, unary_value}
 use Rattle.sv_num.specs.BinaryValues.{class_of, binary_value}
-use Rattle.sv_walk.specs.TypedExpressions.{left_length, right_length, left_sign}
+use Rattle.sv_walk.specs.TypedExpressions.{left_length, right_length, left_signed}
 use Rattle.sv_width.proofs.WellFormed.{reduced_low}
 
 pub one_low : (n x : ℕ) → 1 ≤ n → x < 2 → x < 2 ^ n
@@ -67,7 +67,7 @@ unary_low unop.Xnor h n s x low = absurd (cc h)
 -- what a binary operator gives fits the pushed length
 pub binary_low : (op : BinOp) (n : ℕ) (s : Bool) (la lb : ℕ) (sa sb : Bool) (x y : ℕ) → 1 ≤ n
     → x < 2 ^ left_length (class_of op) n la lb → y < 2 ^ right_length (class_of op) n la lb
-    → binary_value op (left_length (class_of op) n la lb) (left_sign (class_of op) s sa sb) x
+    → binary_value op (left_length (class_of op) n la lb) (left_signed (class_of op) s sa sb) x
     y < 2 ^ n
 binary_low Mul n s la lb sa sb x y some p q = reduced_low n _
 binary_low Div n s la lb sa sb x y some p q = reduced_low n _

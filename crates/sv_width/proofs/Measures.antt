@@ -14,8 +14,8 @@ use Rattle.sv_ast.specs.Scopes.{Binding, parameter, signal, width_of}
 use Rattle.sv_ast.specs.Tree.{ExpressionTree, ExpressionTrees, literal, named, bit_of, part_of}
 use Rattle.sv_ast.specs.Tree.{unary, binary, choice, join, replication, no_expressions}
 use Rattle.sv_ast.specs.Tree.{more_expressions}
-use Rattle.sv_ast.specs.Values.{natural, binary_length, binary_sign, length_of, joined_length}
-use Rattle.sv_ast.specs.Values.{sign_of, whole_number}
+use Rattle.sv_ast.specs.Values.{natural, binary_length, binary_signed, length_of, joined_length}
+use Rattle.sv_ast.specs.Values.{signed_of, whole_number}
 use Rattle.sv_num.specs.Parts.{span_of}
 use Rattle.sv_ast.specs.Instances.{is_signal}
 use Rattle.sv_walk.specs.Walks.{Step, Walk, Steps, done, ask, then_walk, ◌>>=◌}
@@ -115,7 +115,7 @@ module _ (names : Names) (c : Bool) where
   pub unary_measured : (op : UnOp) (p : Place) (e : ExpressionTree) (t u : MeasuredTree)
       → t ≡ measured_of names e
       → u ≡ measured.unary (unary_own op t) op t → u ≡ measured_of names (unary op p e)
-  unfolding measured_of measured_parts length_of joined_length sign_of names_signal
+  unfolding measured_of measured_parts length_of joined_length signed_of names_signal
       some_names_signal
   unary_measured op p e t u is made =
       made ∙ ap (λ x. measured.unary (unary_own op x) op x) is
@@ -129,7 +129,7 @@ module _ (names : Names) (c : Bool) where
       → t ≡ measured_of names a → u ≡ measured_of names b
       → v ≡ measured.binary (binary_own op t u) op (place_of b) t u
       → v ≡ measured_of names (binary op p a b)
-  unfolding measured_of measured_parts length_of joined_length sign_of names_signal
+  unfolding measured_of measured_parts length_of joined_length signed_of names_signal
       some_names_signal
   binary_measured op p a b t u v left right made =
       made ∙ ap (λ x. measured.binary (binary_own op x u) op (place_of b) x u) left
@@ -137,12 +137,12 @@ module _ (names : Names) (c : Bool) where
       (measured_of names a) x) right
       ∙ ap (λ (o : OwnForm). measured.binary (record {
         width = binary_length (class_of op) o.width (own_form (measured_of names b)).width;
-        signed = binary_sign (class_of op) o.signed (own_form (measured_of names b)).signed;
+        signed = binary_signed (class_of op) o.signed (own_form (measured_of names b)).signed;
         names_signal = o.names_signal || (own_form (measured_of names b)).names_signal;
       }) op (place_of b) (measured_of names a) (measured_of names b)) (own_measured names a)
       ∙ ap (λ (o : OwnForm). measured.binary (record {
         width = binary_length (class_of op) (length_of names.scope a) o.width;
-        signed = binary_sign (class_of op) (sign_of names.scope a) o.signed;
+        signed = binary_signed (class_of op) (signed_of names.scope a) o.signed;
         names_signal = names_signal names.scope a || o.names_signal;
       }) op (place_of b) (measured_of names a) (measured_of names b)) (own_measured names b)
 
@@ -170,7 +170,7 @@ module _ (names : Names) (c : Bool) where
       → q ≡ measured_of names d → t ≡ measured_of names a
       → u ≡ measured_of names b → v ≡ measured.choice (choice_own q t u) p q t u
       → v ≡ measured_of names (choice p d a b)
-  unfolding measured_of measured_parts length_of joined_length sign_of names_signal
+  unfolding measured_of measured_parts length_of joined_length signed_of names_signal
       some_names_signal
   choice_measured p d a b q t u v cond left right made =
       made ∙ ap (λ x. measured.choice (choice_own x t u) p x t u) cond
@@ -194,7 +194,7 @@ module _ (names : Names) (c : Bool) where
       }) p (measured_of names d) (measured_of names a) (measured_of names b)) (own_measured names a)
       ∙ ap (λ (o : OwnForm). measured.choice (record {
         width = max (length_of names.scope a) o.width;
-        signed = sign_of names.scope a && o.signed;
+        signed = signed_of names.scope a && o.signed;
         names_signal = names_signal names.scope d || names_signal names.scope a || o.names_signal;
       }) p (measured_of names d) (measured_of names a) (measured_of names b)) (own_measured names b)
 
@@ -210,7 +210,7 @@ module _ (names : Names) (c : Bool) where
   pub join_measured : (p : Place) (es : ExpressionTrees) (ts : MeasuredTrees) (v : MeasuredTree)
       → ts ≡ measured_parts names es
       → v ≡ measured.join (join_own (joined_width ts) ts) ts → v ≡ measured_of names (join p es)
-  unfolding measured_of measured_parts length_of joined_length sign_of names_signal
+  unfolding measured_of measured_parts length_of joined_length signed_of names_signal
       some_names_signal
   join_measured p es ts v is made =
       made ∙ ap (λ x. measured.join (join_own (joined_width x) x) x) is
@@ -244,7 +244,7 @@ module _ (names : Names) (c : Bool) where
       → ts ≡ measured_parts names es
       → v ≡ measured.replication (join_own (natural count * joined_width ts) ts) (natural count) ts
       → v ≡ measured_of names (replication p k es)
-  unfolding measured_of measured_parts length_of joined_length sign_of names_signal
+  unfolding measured_of measured_parts length_of joined_length signed_of names_signal
       some_names_signal
   replication_measured p k es count ts v fixed counted is made =
       made ∙ ap (λ (z : ℤ).
@@ -298,7 +298,7 @@ module _ (names : Names) (c : Bool) where
       → is_signal (names.scope n) ≡ true → t ≡ measured_of names i
       → u ≡ measured.read_bit (record { width = 1; signed = false; names_signal = true })
       (names.number n) p t → u ≡ measured_of names (bit_of n p i)
-  unfolding measured_of measured_parts length_of joined_length sign_of names_signal
+  unfolding measured_of measured_parts length_of joined_length signed_of names_signal
       some_names_signal
   bit_measured n p i t u there is made =
       made ∙ ap (λ x. measured.read_bit (record { width = 1; signed = false; names_signal = true })
@@ -319,7 +319,7 @@ module _ (names : Names) (c : Bool) where
         names_signal = true;
       }) (names.number n) p (natural high) (natural low)
       → u ≡ measured_of names (part_of n p h l)
-  unfolding measured_of measured_parts length_of joined_length sign_of names_signal
+  unfolding measured_of measured_parts length_of joined_length signed_of names_signal
       some_names_signal
   part_measured n p h l high low u there is_high is_low made =
       made

@@ -6,7 +6,7 @@ use Rattle.sv_num.specs.declared.faults.Place.{Place}
 use Rattle.sv_ast.specs.Scopes.{Number, Binding, parameter, signal, width_of, is_signed}
 use Rattle.sv_ast.specs.Tree.{named}
 use Rattle.sv_ast.specs.Instances.{is_signal}
-use Rattle.sv_ast.specs.Values.{length_of, joined_length, sign_of}
+use Rattle.sv_ast.specs.Values.{length_of, joined_length, signed_of}
 use Rattle.sv_walk.specs.Walks.{Steps, ask, ◌>>=◌}
 use Rattle.sv_walk.specs.Rules.{unknown_name, not_constant}
 use Rattle.sv_walk.specs.Names.{Names, is_bound, is_parameter}
@@ -118,7 +118,7 @@ module _ (names : Names) (n : List ℕ) (p : Place) where
   pub parameter_measured : (v : Number) → names.scope n ≡ Some (parameter v)
       → measured.value (record { width = v.width; signed = v.signed; names_signal = false }) v.width
       v.value ≡ measured_of names (named n p)
-  unfolding measured_of measured_parts length_of joined_length sign_of names_signal
+  unfolding measured_of measured_parts length_of joined_length signed_of names_signal
       some_names_signal
   parameter_measured v h = sym (ap (λ (b : Option Binding).
       measured_name (record {
@@ -130,7 +130,7 @@ module _ (names : Names) (n : List ℕ) (p : Place) where
   pub signal_measured : (w : ℕ) (s : Bool) → names.scope n ≡ Some (signal w s)
       → measured.read (record { width = w; signed = s; names_signal = true }) (names.number n) p ≡
       measured_of names (named n p)
-  unfolding measured_of measured_parts length_of joined_length sign_of names_signal
+  unfolding measured_of measured_parts length_of joined_length signed_of names_signal
       some_names_signal
   signal_measured w s h = sym (ap (λ (b : Option Binding).
       measured_name (record {

@@ -19,7 +19,7 @@ use Rattle.sv_ast.specs.Tree.{ExpressionTree, ExpressionTrees, literal, named, b
 use Rattle.sv_ast.specs.Tree.{unary, binary, choice, join, replication, no_expressions}
 use Rattle.sv_ast.specs.Tree.{more_expressions}
 use Rattle.sv_ast.specs.Values.{nowhere, natural, operand, Operand, binary_result, length_of}
-use Rattle.sv_ast.specs.Values.{joined_length, sign_of, value, joined_value, at_own, whole_number}
+use Rattle.sv_ast.specs.Values.{joined_length, signed_of, value, joined_value, at_own, whole_number}
 use Rattle.sv_num.specs.Parts.{extended, bit_or_zero, bits_between, repeated}
 use Rattle.sv_ast.specs.Instances.{is_signal}
 use Rattle.sv_flat.specs.Design.{SignalForm, TypedTree, typed, binary as binary_node}
@@ -28,7 +28,7 @@ use Rattle.sv_flat.specs.Values.{signal_width, expression_width, expression_sign
 use Rattle.sv_flat.specs.Values.{value as flat_value, joined, number_of}
 use Rattle.sv_walk.specs.Names.{Names, is_bound, in_reach, means_signal}
 use Rattle.sv_walk.specs.TypedExpressions.{is_division, names_signal, some_names_signal}
-use Rattle.sv_walk.specs.TypedExpressions.{left_length, left_sign, right_length, right_sign}
+use Rattle.sv_walk.specs.TypedExpressions.{left_length, left_signed, right_length, right_signed}
 use Rattle.sv_walk.specs.TypedExpressions.{named_node, typed_of, typed_parts}
 use Rattle.sv_width.specs.Agreement.{AllDeclared, HaveSignals, HaveValues}
 use Rattle.sv_width.proofs.Sound.{Sound, SoundParts}
@@ -40,7 +40,7 @@ either false f g = g refl
 -- ---- the length and sign of a typed form are those that are pushed
 
 abbrev own_typed : Names → ExpressionTree → TypedTree
-own_typed names e = typed_of names e (length_of names.scope e) (sign_of names.scope e)
+own_typed names e = typed_of names e (length_of names.scope e) (signed_of names.scope e)
 
 -- what the typed forms of operators are
 module _ (names : Names) (p : Place) (n : ℕ) (s : Bool) where
@@ -69,10 +69,10 @@ module _ (names : Names) (p : Place) (n : ℕ) (s : Bool) where
   operated_form op a b = typed n s (binary_node op
       (typed_of names a
       (left_length (class_of op) n (length_of names.scope a) (length_of names.scope b))
-      (left_sign (class_of op) s (sign_of names.scope a) (sign_of names.scope b)))
+      (left_signed (class_of op) s (signed_of names.scope a) (signed_of names.scope b)))
       (typed_of names b
       (right_length (class_of op) n (length_of names.scope a) (length_of names.scope b))
-      (right_sign (class_of op) s (sign_of names.scope a) (sign_of names.scope b))))
+      (right_signed (class_of op) s (signed_of names.scope a) (signed_of names.scope b))))
 
   pub typed_division : (op : BinOp) (a b : ExpressionTree) → is_division op ≡ true
       → typed_of names (binary op p a b) n s ≡ divided_form op a b
@@ -121,7 +121,7 @@ unfolding typed_of typed_parts length_of joined_length
 parts_width_of names no_expressions = refl
 parts_width_of names (more_expressions e es) =
     ap (λ x. x + parts_width (typed_parts names es))
-    (type_of_typed names e (length_of names.scope e) (sign_of names.scope e)).0
+    (type_of_typed names e (length_of names.scope e) (signed_of names.scope e)).0
     ∙ ap (λ x. length_of names.scope e + x) (parts_width_of names es)
 
 -- ---- operators
@@ -134,11 +134,11 @@ number_of_typed signals by_number (typed n s node) = refl
 -- an operator's result, where each operand stands at the length and sign that its class gives it
 pub result_at : (op : BinOp) (n : ℕ) (s : Bool) (a b : Operand)
     → binary_value op (left_length (class_of op) n a.length b.length)
-    (left_sign (class_of op) s a.signed b.signed)
+    (left_signed (class_of op) s a.signed b.signed)
     (a.value (left_length (class_of op) n a.length b.length)
-    (left_sign (class_of op) s a.signed b.signed))
+    (left_signed (class_of op) s a.signed b.signed))
     (b.value (right_length (class_of op) n a.length b.length)
-    (right_sign (class_of op) s a.signed b.signed))
+    (right_signed (class_of op) s a.signed b.signed))
     ≡ binary_result op (class_of op) n s a b
 result_at Mul n s a b = refl
 result_at Div n s a b = refl
@@ -170,9 +170,9 @@ pub same_result : (op : BinOp) (n : ℕ) (s : Bool) (la lb : ℕ) (sa sb : Bool)
     ≡ binary_result op (class_of op) n s (operand la sa v) (operand lb sb w)
 same_result op n s la lb sa sb f g v w p q =
     let LL : ℕ = left_length (class_of op) n la lb in
-    let LS : Bool = left_sign (class_of op) s sa sb in
+    let LS : Bool = left_signed (class_of op) s sa sb in
     let RL : ℕ = right_length (class_of op) n la lb in
-    let RS : Bool = right_sign (class_of op) s sa sb in
+    let RS : Bool = right_signed (class_of op) s sa sb in
     sym (result_at op n s (operand la sa f) (operand lb sb g))
     ∙ ap (λ x. binary_value op LL LS x (g RL RS)) (p LL LS)
     ∙ ap (λ x. binary_value op LL LS (v LL LS) x) (q RL RS)
@@ -236,18 +236,18 @@ module _ (names : Names) (declared : AllDeclared names) where
         (names_signal names.scope lo) h).0))
     constant_value env c (unary op p e) q h n s =
         ap (λ x. if gives_one_bit op
-        then unary_value op (length_of names.scope e) (sign_of names.scope e) x
+        then unary_value op (length_of names.scope e) (signed_of names.scope e) x
         else unary_value op n s (value names.scope env e n s))
-        (constant_value env c e q h (length_of names.scope e) (sign_of names.scope e))
+        (constant_value env c e q h (length_of names.scope e) (signed_of names.scope e))
         ∙ ap (λ x. if gives_one_bit op
-        then unary_value op (length_of names.scope e) (sign_of names.scope e)
-        (value names.scope nowhere e (length_of names.scope e) (sign_of names.scope e))
+        then unary_value op (length_of names.scope e) (signed_of names.scope e)
+        (value names.scope nowhere e (length_of names.scope e) (signed_of names.scope e))
         else unary_value op n s x)
         (constant_value env c e q h n s)
     constant_value env c (binary op p a b) q h n s =
         let parts = or_parts (names_signal names.scope a) (names_signal names.scope b) h in
         same_result op n s (length_of names.scope a) (length_of names.scope b)
-        (sign_of names.scope a) (sign_of names.scope b)
+        (signed_of names.scope a) (signed_of names.scope b)
         (value names.scope env a) (value names.scope env b) (value names.scope nowhere a)
         (value names.scope nowhere b)
         (constant_value env c a q.0 parts.0) (constant_value env c b q.1 parts.1)
@@ -256,13 +256,13 @@ module _ (names : Names) (declared : AllDeclared names) where
         (names_signal names.scope b) h in
         let inner = or_parts (names_signal names.scope d) (names_signal names.scope a) outer.0 in
         ap (λ x. if is_true x then value names.scope env a n s else value names.scope env b n s)
-        (constant_value env c d q.0 inner.0 (length_of names.scope d) (sign_of names.scope d))
+        (constant_value env c d q.0 inner.0 (length_of names.scope d) (signed_of names.scope d))
         ∙ ap (λ x. if is_true
-        (value names.scope nowhere d (length_of names.scope d) (sign_of names.scope d)) then x
+        (value names.scope nowhere d (length_of names.scope d) (signed_of names.scope d)) then x
         else value names.scope env b n s)
         (constant_value env c a q.1 inner.1 n s)
         ∙ ap (λ x. if is_true
-        (value names.scope nowhere d (length_of names.scope d) (sign_of names.scope d))
+        (value names.scope nowhere d (length_of names.scope d) (signed_of names.scope d))
         then value names.scope nowhere a n s else x)
         (constant_value env c b q.2 outer.1 n s)
     constant_value env c (join p es) q h n s = constant_parts env c es q.0 h
@@ -279,8 +279,9 @@ module _ (names : Names) (declared : AllDeclared names) where
     constant_parts env c (more_expressions e es) q h =
         let parts = or_parts (names_signal names.scope e) (some_names_signal names.scope es) h in
         ap (λ x. x * 2 ^ joined_length names.scope es + joined_value names.scope env es)
-        (constant_value env c e q.0 parts.0 (length_of names.scope e) (sign_of names.scope e))
-        ∙ ap (λ x. value names.scope nowhere e (length_of names.scope e) (sign_of names.scope e) * 2
+        (constant_value env c e q.0 parts.0 (length_of names.scope e) (signed_of names.scope e))
+        ∙ ap (λ x. value names.scope nowhere e (length_of names.scope e)
+        (signed_of names.scope e) * 2
         ^ joined_length names.scope es + x)
         (constant_parts env c es q.1 parts.1)
 
@@ -309,7 +310,7 @@ module _ (names : Names) (declared : AllDeclared names) where
     signal_there m None is h = absurd (cc h)
 
     abbrev typed_own : ExpressionTree → TypedTree
-    typed_own e = typed_of names e (length_of names.scope e) (sign_of names.scope e)
+    typed_own e = typed_of names e (length_of names.scope e) (signed_of names.scope e)
 
     operand_same : (op : UnOp) (e : ExpressionTree)
         → ((m : ℕ) (t : Bool)
@@ -334,7 +335,7 @@ module _ (names : Names) (declared : AllDeclared names) where
     unfolding value joined_value
     unary_same op p e n s same =
         let L : ℕ = length_of names.scope e in
-        let S : Bool = sign_of names.scope e in
+        let S : Bool = signed_of names.scope e in
         either (gives_one_bit op)
         (λ h. ap (λ t. flat_value signals by_number t) (typed_reduction names p n s op e h)
         ∙ operand_same op e same L S
@@ -385,23 +386,23 @@ module _ (names : Names) (declared : AllDeclared names) where
         (λ h. ap (λ t. flat_value signals by_number t) (typed_binary names p n s op a b h)
         ∙ operands_same op a b n s same_a same_b
         (left_length (class_of op) n (length_of names.scope a) (length_of names.scope b))
-        (left_sign (class_of op) s (sign_of names.scope a) (sign_of names.scope b))
+        (left_signed (class_of op) s (signed_of names.scope a) (signed_of names.scope b))
         (right_length (class_of op) n (length_of names.scope a) (length_of names.scope b))
-        (right_sign (class_of op) s (sign_of names.scope a) (sign_of names.scope b))
-        ∙ result_at op n s (operand (length_of names.scope a) (sign_of names.scope a)
+        (right_signed (class_of op) s (signed_of names.scope a) (signed_of names.scope b))
+        ∙ result_at op n s (operand (length_of names.scope a) (signed_of names.scope a)
         (value names.scope by_name a))
-        (operand (length_of names.scope b) (sign_of names.scope b) (value names.scope by_name b)))
+        (operand (length_of names.scope b) (signed_of names.scope b) (value names.scope by_name b)))
 
     bit_same : (m : List ℕ) (p : Place) (i : ExpressionTree) → is_signal (names.scope m) ≡ true
         → flat_value signals by_number (typed_own i) ≡
-        value names.scope by_name i (length_of names.scope i) (sign_of names.scope i)
+        value names.scope by_name i (length_of names.scope i) (signed_of names.scope i)
         → bit_or_zero (signal_width signals (names.number m)) (by_number (names.number m))
         (number_of signals by_number (typed_own i))
         ≡ bit_or_zero (width_of (names.scope m)) (by_name m)
-        (at_own (length_of names.scope i) (sign_of names.scope i) (value names.scope by_name i))
+        (at_own (length_of names.scope i) (signed_of names.scope i) (value names.scope by_name i))
     bit_same m p i there same =
         let own : ℕ = length_of names.scope i in
-        let sign : Bool = sign_of names.scope i in
+        let sign : Bool = signed_of names.scope i in
         let known = signal_there m (names.scope m) refl there in
         let index : number_of signals by_number (typed_own i) ≡
         as_number own sign (value names.scope by_name i own sign) =
@@ -427,8 +428,8 @@ module _ (names : Names) (declared : AllDeclared names) where
           named_value m p n s (names.scope m) refl (reached names m (declared m) q.0)
       same_value c (bit_of m p i) q n s =
           bit_same m p i (meant names m (declared m) q.0) (either (names_signal names.scope i)
-          (λ h. same_value false i (q.2 h) (length_of names.scope i) (sign_of names.scope i))
-          (λ h. same_value true i (q.3 h).0 (length_of names.scope i) (sign_of names.scope i)))
+          (λ h. same_value false i (q.2 h) (length_of names.scope i) (signed_of names.scope i))
+          (λ h. same_value true i (q.3 h).0 (length_of names.scope i) (signed_of names.scope i)))
       same_value c (part_of m p h l) q n s =
           ap (λ x. bits_between (natural (whole_number names.scope h))
           (natural (whole_number names.scope l)) x)
@@ -439,13 +440,13 @@ module _ (names : Names) (declared : AllDeclared names) where
       same_value c (choice p d a b) q n s =
           ap (λ x. if is_true x then flat_value signals by_number (typed_of names a n s)
           else flat_value signals by_number (typed_of names b n s))
-          (same_value c d q.0 (length_of names.scope d) (sign_of names.scope d))
+          (same_value c d q.0 (length_of names.scope d) (signed_of names.scope d))
           ∙ ap (λ x. if is_true
-          (value names.scope by_name d (length_of names.scope d) (sign_of names.scope d)) then x
+          (value names.scope by_name d (length_of names.scope d) (signed_of names.scope d)) then x
           else flat_value signals by_number (typed_of names b n s))
           (same_value c a q.1 n s)
           ∙ ap (λ x. if is_true
-          (value names.scope by_name d (length_of names.scope d) (sign_of names.scope d))
+          (value names.scope by_name d (length_of names.scope d) (signed_of names.scope d))
           then value names.scope by_name a n s else x)
           (same_value c b q.2 n s)
       same_value c (join p es) q n s = same_parts c es q.0
@@ -461,10 +462,10 @@ module _ (names : Names) (declared : AllDeclared names) where
       same_parts c (more_expressions e es) q =
           ap (λ x. x * 2 ^ parts_width (typed_parts names es) + joined signals by_number
           (typed_parts names es))
-          (same_value c e q.0 (length_of names.scope e) (sign_of names.scope e))
+          (same_value c e q.0 (length_of names.scope e) (signed_of names.scope e))
           ∙ ap (λ x. value names.scope by_name e (length_of names.scope e)
-          (sign_of names.scope e) * 2 ^ x + joined signals by_number (typed_parts names es))
+          (signed_of names.scope e) * 2 ^ x + joined signals by_number (typed_parts names es))
           (parts_width_of names es)
           ∙ ap (λ x. value names.scope by_name e (length_of names.scope e)
-          (sign_of names.scope e) * 2 ^ joined_length names.scope es + x)
+          (signed_of names.scope e) * 2 ^ joined_length names.scope es + x)
           (same_parts c es q.1)

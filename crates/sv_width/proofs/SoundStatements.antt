@@ -19,7 +19,7 @@ use Rattle.sv_ast.specs.Runs.{selected, target_width, targets_width}
 use Rattle.sv_ast.specs.Shape.{is_shaped_expression, is_whole, is_whole_target, are_shaped_targets}
 use Rattle.sv_ast.specs.Shape.{is_shaped_statement, are_shaped_statements, has_arm, default_count}
 use Rattle.sv_ast.specs.Shape.{are_shaped_arms}
-use Rattle.sv_ast.specs.Values.{natural, length_of, joined_length, sign_of, whole_number}
+use Rattle.sv_ast.specs.Values.{natural, length_of, joined_length, signed_of, whole_number}
 use Rattle.sv_flat.specs.Design.{SignalForm, TypedTree, typed, binary, FlatStatement, nothing}
 use Rattle.sv_flat.specs.Design.{after, assign, branch}
 use Rattle.sv_flat.specs.Values.{signal_width, expression_width, expression_signed}
@@ -33,7 +33,7 @@ use Rattle.sv_walk.specs.ExpressionSteps.{expression_walk}
 use Rattle.sv_walk.specs.Targets.{highest, lowest, selection_steps, target_steps, targets_steps}
 use Rattle.sv_walk.specs.Targets.{pieces_of, assignment_walk}
 use Rattle.sv_walk.specs.CaseChains.{FlatArm, item_length, items_length, arms_length, arm_items}
-use Rattle.sv_walk.specs.CaseChains.{common_length, common_sign, equals, or_equals, arm_branch}
+use Rattle.sv_walk.specs.CaseChains.{common_length, common_signed, equals, or_equals, arm_branch}
 use Rattle.sv_walk.specs.CaseChains.{chain, closed_chain, default_of, case_chain, is_complete}
 use Rattle.sv_walk.specs.Statements.{items_walk, statement_walk, statements_walk, arms_walk}
 use Rattle.sv_walk.proofs.WalkLemmas.{end_after, end_broken, parts_done, asked_true}
@@ -175,7 +175,7 @@ module _ (names : Names) (declared : AllDeclared names) (lengths : HaveLengths n
       let first = parts_done (asked names false e) _ v h in
       let long = own false e first.1 shape numbers in
       let result = typed_at e shape numbers (max (length_of names.scope e) width)
-      (sign_of names.scope e)
+      (signed_of names.scope e)
       (omega (arith, long.0), omega (arith, long.1)) (λ _. omega arith) v h in
       (result.0, omega (arith, result.1))
 
@@ -462,7 +462,7 @@ module _ (names : Names) (declared : AllDeclared names) (lengths : HaveLengths n
         (nat_le (default_count arms) 1) outer.0 in
         let inner = and_parts (is_shaped_expression e) (has_arm arms) middle.0 in
         let n : ℕ = common_length names e arms in
-        let s : Bool = common_sign names e arms in
+        let s : Bool = common_signed names e arms in
         let first = parts_done (typed_walk names e n s) _ f h in
         let second = parts_done (arms_walk names n s arms) _ f first.2 in
         let long = selector_length e inner.0 numbers.0 arms (arms_few arms outer.1 numbers.1) s

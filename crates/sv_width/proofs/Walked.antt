@@ -18,15 +18,15 @@ use Rattle.sv_ast.specs.Tree.{ExpressionTree, ExpressionTrees, literal, named, b
 use Rattle.sv_ast.specs.Tree.{unary, binary, choice, join, replication, no_expressions}
 use Rattle.sv_ast.specs.Tree.{more_expressions}
 use Rattle.sv_ast.specs.Shape.{is_shaped_expression, are_shaped_parts, has_part}
-use Rattle.sv_ast.specs.Values.{nowhere, length_of, joined_length, sign_of, value}
+use Rattle.sv_ast.specs.Values.{nowhere, length_of, joined_length, signed_of, value}
 use Rattle.sv_ast.specs.Values.{natural, whole_number}
 use Rattle.sv_flat.specs.Design as flat
 use Rattle.sv_flat.specs.Design.{TypedTree, TypedTrees, NodeTree, typed}
 use Rattle.sv_walk.specs.Walks.{Step, Steps, done, ask, then_walk, ◌>>=◌}
 use Rattle.sv_walk.specs.Rules.{zero_divisor}
 use Rattle.sv_walk.specs.Names.{Names, place_of}
-use Rattle.sv_walk.specs.TypedExpressions.{is_division, names_signal, left_length, left_sign}
-use Rattle.sv_walk.specs.TypedExpressions.{right_length, right_sign, named_node, typed_of}
+use Rattle.sv_walk.specs.TypedExpressions.{is_division, names_signal, left_length, left_signed}
+use Rattle.sv_walk.specs.TypedExpressions.{right_length, right_signed, named_node, typed_of}
 use Rattle.sv_walk.specs.TypedExpressions.{typed_parts}
 use Rattle.sv_walk.specs.ExpressionSteps.{divisors, part_divisors}
 use Rattle.sv_width.specs.Agreement.{HaveLengths, IsLength, NumbersHaveLengths}
@@ -198,11 +198,11 @@ module _ (names : Names) (lengths : HaveLengths names.scope) where
         ∙ either (names_signal names.scope i)
         (λ h. typed_same false (λ e.
         known (open_place c q.1)) i (q.2 h) shape numbers (length_of names.scope i)
-        (sign_of names.scope i) (omega arith)
+        (signed_of names.scope i) (omega arith)
         (own_length names lengths false (λ e. known (open_place c q.1)) i (q.2 h) shape numbers))
         (λ h. typed_same true (λ e.
         absurd (cc e)) i (q.3 h).0 shape numbers (length_of names.scope i)
-        (sign_of names.scope i) (omega arith)
+        (signed_of names.scope i) (omega arith)
         (own_length names lengths true (λ e. absurd (cc e)) i (q.3 h).0 shape numbers)))
     typed_same c known (part_of m p h l) q shape numbers n s fits is = refl
     typed_same c known (unary op p e) q shape numbers n s fits is =
@@ -214,7 +214,7 @@ module _ (names : Names) (lengths : HaveLengths names.scope) where
         (ap (λ (o : OwnForm).
         typed o.width o.signed (node_of (measured_of names e) o.width o.signed))
         (own_measured names e)
-        ∙ typed_same c known e q shape numbers (length_of names.scope e) (sign_of names.scope e)
+        ∙ typed_same c known e q shape numbers (length_of names.scope e) (signed_of names.scope e)
         (omega arith) own)
         ∙ sym (typed_reduction names p n s op e h))
         (λ h. ap (λ x. typed n s x)
@@ -229,12 +229,12 @@ module _ (names : Names) (lengths : HaveLengths names.scope) where
         let B : MeasuredTree = measured_of names b in
         let la : ℕ = length_of names.scope a in
         let lb : ℕ = length_of names.scope b in
-        let sa : Bool = sign_of names.scope a in
-        let sb : Bool = sign_of names.scope b in
+        let sa : Bool = signed_of names.scope a in
+        let sb : Bool = signed_of names.scope b in
         let LL : ℕ = left_length (class_of op) n la lb in
-        let LS : Bool = left_sign (class_of op) s sa sb in
+        let LS : Bool = left_signed (class_of op) s sa sb in
         let RL : ℕ = right_length (class_of op) n la lb in
-        let RS : Bool = right_sign (class_of op) s sa sb in
+        let RS : Bool = right_signed (class_of op) s sa sb in
         let stand = operand_lengths (class_of op) n la lb
         (own_length names lengths c known a q.0 shapes.0 numbers.0)
         (own_length names lengths c known b q.1 shapes.1 numbers.1) is fits in
@@ -248,20 +248,20 @@ module _ (names : Names) (lengths : HaveLengths names.scope) where
         (node_binary (own_of names (binary op p a b)) n s op (place_of b) A B h)
         ∙ ap (λ (o : OwnForm). typed n s (flat.binary op
         (typed (left_length (class_of op) n o.width (own_form B).width)
-        (left_sign (class_of op) s o.signed (own_form B).signed)
+        (left_signed (class_of op) s o.signed (own_form B).signed)
         (node_of A (left_length (class_of op) n o.width (own_form B).width)
-        (left_sign (class_of op) s o.signed (own_form B).signed)))
+        (left_signed (class_of op) s o.signed (own_form B).signed)))
         (typed (right_length (class_of op) n o.width (own_form B).width)
-        (right_sign (class_of op) s o.signed (own_form B).signed)
+        (right_signed (class_of op) s o.signed (own_form B).signed)
         (node_of B (right_length (class_of op) n o.width (own_form B).width)
-        (right_sign (class_of op) s o.signed (own_form B).signed))))) (own_measured names a)
+        (right_signed (class_of op) s o.signed (own_form B).signed))))) (own_measured names a)
         ∙ ap (λ (o : OwnForm). typed n s (flat.binary op
-        (typed (left_length (class_of op) n la o.width) (left_sign (class_of op) s sa o.signed)
+        (typed (left_length (class_of op) n la o.width) (left_signed (class_of op) s sa o.signed)
         (node_of A (left_length (class_of op) n la o.width)
-        (left_sign (class_of op) s sa o.signed)))
-        (typed (right_length (class_of op) n la o.width) (right_sign (class_of op) s sa o.signed)
+        (left_signed (class_of op) s sa o.signed)))
+        (typed (right_length (class_of op) n la o.width) (right_signed (class_of op) s sa o.signed)
         (node_of B (right_length (class_of op) n la o.width)
-        (right_sign (class_of op) s sa o.signed))))) (own_measured names b)
+        (right_signed (class_of op) s sa o.signed))))) (own_measured names b)
         ∙ ap (λ t. typed n s (flat.binary op t (typed RL RS (node_of B RL RS))))
         (typed_same c known a q.0 shapes.0 numbers.0 LL LS stand.1 stand.0)
         ∙ ap (λ t. typed n s (flat.binary op (typed_of names a LL LS) t))
@@ -280,13 +280,13 @@ module _ (names : Names) (lengths : HaveLengths names.scope) where
         typed o.width o.signed (node_of (measured_of names d) o.width o.signed))
         (own_measured names d)
         ∙ typed_same c known d q.0 inner.0 numbers.0 (length_of names.scope d)
-        (sign_of names.scope d) (omega arith) own)
+        (signed_of names.scope d) (omega arith) own)
         ∙ ap (λ t. typed n s
-        (flat.choice p (typed_of names d (length_of names.scope d) (sign_of names.scope d)) t
+        (flat.choice p (typed_of names d (length_of names.scope d) (signed_of names.scope d)) t
         (typed n s (node_of (measured_of names b) n s))))
         (typed_same c known a q.1 inner.1 numbers.1 n s left is)
         ∙ ap (λ t. typed n s
-        (flat.choice p (typed_of names d (length_of names.scope d) (sign_of names.scope d))
+        (flat.choice p (typed_of names d (length_of names.scope d) (signed_of names.scope d))
         (typed_of names a n s) t))
         (typed_same c known b q.2 outer.1 numbers.2 n s right is)
     typed_same c known (join p es) q shape numbers n s fits is =
@@ -309,9 +309,9 @@ module _ (names : Names) (lengths : HaveLengths names.scope) where
         typed o.width o.signed (node_of (measured_of names e) o.width o.signed))
         (own_measured names e)
         ∙ typed_same c known e q.0 shapes.0 numbers.0 (length_of names.scope e)
-        (sign_of names.scope e) (omega arith) own)
+        (signed_of names.scope e) (omega arith) own)
         ∙ ap (λ t. flat.more_parts
-        (typed_of names e (length_of names.scope e) (sign_of names.scope e)) t)
+        (typed_of names e (length_of names.scope e) (signed_of names.scope e)) t)
         (parts_same c known es q.1 shapes.1 numbers.1)
 
   mutual
@@ -330,15 +330,15 @@ module _ (names : Names) (lengths : HaveLengths names.scope) where
         ap (λ (o : OwnForm). (divisors_of (measured_of names i) o.width o.signed).end)
         (own_measured names i)
         ∙ one_end (names_signal names.scope i)
-        (divisors_of (measured_of names i) (length_of names.scope i) (sign_of names.scope i))
-        (divisors names.scope i (length_of names.scope i) (sign_of names.scope i)) (done tt)
+        (divisors_of (measured_of names i) (length_of names.scope i) (signed_of names.scope i))
+        (divisors names.scope i (length_of names.scope i) (signed_of names.scope i)) (done tt)
         (λ h. divisors_same false (λ e.
         known (open_place c q.1)) i (q.2 h) shape numbers (length_of names.scope i)
-        (sign_of names.scope i) (omega arith)
+        (signed_of names.scope i) (omega arith)
         (own_length names lengths false (λ e. known (open_place c q.1)) i (q.2 h) shape numbers))
         (λ h. divisors_same true (λ e.
         absurd (cc e)) i (q.3 h).0 shape numbers (length_of names.scope i)
-        (sign_of names.scope i) (omega arith)
+        (signed_of names.scope i) (omega arith)
         (own_length names lengths true (λ e. absurd (cc e)) i (q.3 h).0 shape numbers)
         ∙ (q.3 h).1)
     divisors_same c known (part_of m p h l) q shape numbers n s fits is = refl
@@ -347,10 +347,11 @@ module _ (names : Names) (lengths : HaveLengths names.scope) where
         let M : MeasuredTree = measured_of names e in
         chosen_ends (gives_one_bit op) (divisors_of M (own_form M).width (own_form M).signed)
         (divisors_of M n s)
-        (divisors names.scope e (length_of names.scope e) (sign_of names.scope e))
+        (divisors names.scope e (length_of names.scope e) (signed_of names.scope e))
         (divisors names.scope e n s)
         (λ h. ap (λ (o : OwnForm). (divisors_of M o.width o.signed).end) (own_measured names e)
-        ∙ divisors_same c known e q shape numbers (length_of names.scope e) (sign_of names.scope e)
+        ∙ divisors_same c known e q shape numbers (length_of names.scope e)
+        (signed_of names.scope e)
         (omega arith) own)
         (λ h. divisors_same c known e q shape numbers n s
         (kept_length op (length_of names.scope e) n h fits) is)
@@ -360,28 +361,28 @@ module _ (names : Names) (lengths : HaveLengths names.scope) where
         let B : MeasuredTree = measured_of names b in
         let la : ℕ = length_of names.scope a in
         let lb : ℕ = length_of names.scope b in
-        let sa : Bool = sign_of names.scope a in
-        let sb : Bool = sign_of names.scope b in
+        let sa : Bool = signed_of names.scope a in
+        let sb : Bool = signed_of names.scope b in
         let LL : ℕ = left_length (class_of op) n la lb in
-        let LS : Bool = left_sign (class_of op) s sa sb in
+        let LS : Bool = left_signed (class_of op) s sa sb in
         let RL : ℕ = right_length (class_of op) n la lb in
-        let RS : Bool = right_sign (class_of op) s sa sb in
+        let RS : Bool = right_signed (class_of op) s sa sb in
         let lefts : left_at op n A B ≡ LL =
         ap (λ (o : OwnForm). left_length (class_of op) n o.width (own_form B).width)
         (own_measured names a)
         ∙ ap (λ (o : OwnForm). left_length (class_of op) n la o.width) (own_measured names b) in
         let left_signs : left_as op s A B ≡ LS =
-        ap (λ (o : OwnForm). left_sign (class_of op) s o.signed (own_form B).signed)
+        ap (λ (o : OwnForm). left_signed (class_of op) s o.signed (own_form B).signed)
         (own_measured names a)
-        ∙ ap (λ (o : OwnForm). left_sign (class_of op) s sa o.signed) (own_measured names b) in
+        ∙ ap (λ (o : OwnForm). left_signed (class_of op) s sa o.signed) (own_measured names b) in
         let rights : right_at op n A B ≡ RL =
         ap (λ (o : OwnForm). right_length (class_of op) n o.width (own_form B).width)
         (own_measured names a)
         ∙ ap (λ (o : OwnForm). right_length (class_of op) n la o.width) (own_measured names b) in
         let right_signs : right_as op s A B ≡ RS =
-        ap (λ (o : OwnForm). right_sign (class_of op) s o.signed (own_form B).signed)
+        ap (λ (o : OwnForm). right_signed (class_of op) s o.signed (own_form B).signed)
         (own_measured names a)
-        ∙ ap (λ (o : OwnForm). right_sign (class_of op) s sa o.signed) (own_measured names b) in
+        ∙ ap (λ (o : OwnForm). right_signed (class_of op) s sa o.signed) (own_measured names b) in
         let stand = operand_lengths (class_of op) n la lb
         (own_length names lengths c known a q.0 shapes.0 numbers.0)
         (own_length names lengths c known b q.1 shapes.1 numbers.1) is fits in
@@ -400,7 +401,7 @@ module _ (names : Names) (lengths : HaveLengths names.scope) where
         (λ h. ap (λ x. folded_of B x (right_as op s A B)) rights
         ∙ ap (λ x. folded_of B RL x) right_signs
         ∙ folded_same names lengths c known b q.1 shapes.1 numbers.1 RL RS stand.3 stand.2
-        ∙ ap (λ k. value names.scope nowhere b (right_length k n la lb) (right_sign k s sa sb))
+        ∙ ap (λ k. value names.scope nowhere b (right_length k n la lb) (right_signed k s sa sb))
         (division_class op h))))
     divisors_same c known (choice p d a b) q shape numbers n s fits is =
         let outer = and_parts (is_shaped_expression d && is_shaped_expression a)
@@ -411,10 +412,10 @@ module _ (names : Names) (lengths : HaveLengths names.scope) where
         let left : length_of names.scope a ≤ n = omega arith in
         let right : length_of names.scope b ≤ n = omega arith in
         ends_same (divisors_of D (own_form D).width (own_form D).signed)
-        (divisors names.scope d (length_of names.scope d) (sign_of names.scope d)) _ _
+        (divisors names.scope d (length_of names.scope d) (signed_of names.scope d)) _ _
         (ap (λ (o : OwnForm). (divisors_of D o.width o.signed).end) (own_measured names d)
         ∙ divisors_same c known d q.0 inner.0 numbers.0 (length_of names.scope d)
-        (sign_of names.scope d) (omega arith) own)
+        (signed_of names.scope d) (omega arith) own)
         (ends_same (divisors_of (measured_of names a) n s) (divisors names.scope a n s) _ _
         (divisors_same c known a q.1 inner.1 numbers.1 n s left is)
         (divisors_same c known b q.2 outer.1 numbers.2 n s right is))
@@ -434,8 +435,8 @@ module _ (names : Names) (lengths : HaveLengths names.scope) where
         let own = own_length names lengths c known e q.0 shapes.0 numbers.0 in
         let M : MeasuredTree = measured_of names e in
         ends_same (divisors_of M (own_form M).width (own_form M).signed)
-        (divisors names.scope e (length_of names.scope e) (sign_of names.scope e)) _ _
+        (divisors names.scope e (length_of names.scope e) (signed_of names.scope e)) _ _
         (ap (λ (o : OwnForm). (divisors_of M o.width o.signed).end) (own_measured names e)
         ∙ divisors_same c known e q.0 shapes.0 numbers.0 (length_of names.scope e)
-        (sign_of names.scope e) (omega arith) own)
+        (signed_of names.scope e) (omega arith) own)
         (part_divisors_same c known es q.1 shapes.1 numbers.1)

@@ -24,7 +24,8 @@ use Rattle.sv_ast.specs.Tree.{ExpressionTree, ExpressionTrees, literal, named, b
 use Rattle.sv_ast.specs.Tree.{unary, binary, choice, join, replication, no_expressions}
 use Rattle.sv_ast.specs.Tree.{more_expressions}
 use Rattle.sv_ast.specs.Shape.{is_shaped_expression, are_shaped_parts, has_part}
-use Rattle.sv_ast.specs.Values.{natural, nowhere, binary_length, length_of, joined_length, sign_of}
+use Rattle.sv_ast.specs.Values.{natural, nowhere, binary_length, length_of, joined_length}
+use Rattle.sv_ast.specs.Values.{signed_of}
 use Rattle.sv_ast.specs.Values.{value, joined_value, whole_number, operand}
 use Rattle.sv_ast.specs.Instances.{is_signal as names_a_signal}
 use Rattle.sv_flat.specs.Design.{SignalForm}
@@ -33,8 +34,8 @@ use Rattle.sv_flat.specs.Soundness.{is_one_to, is_signal, has_type}
 use Rattle.sv_flat.specs.Soundness.{binary_typed, is_division as is_flat_division, well_formed}
 use Rattle.sv_flat.specs.Soundness.{node_well_formed, parts_well_formed}
 use Rattle.sv_walk.specs.Names.{Names, is_bound}
-use Rattle.sv_walk.specs.TypedExpressions.{is_division, names_signal, left_length, left_sign}
-use Rattle.sv_walk.specs.TypedExpressions.{right_length, right_sign, named_node, typed_of}
+use Rattle.sv_walk.specs.TypedExpressions.{is_division, names_signal, left_length, left_signed}
+use Rattle.sv_walk.specs.TypedExpressions.{right_length, right_signed, named_node, typed_of}
 use Rattle.sv_walk.specs.TypedExpressions.{typed_parts}
 use Rattle.sv_width.specs.Agreement.{AllDeclared, HaveSignals, HaveLengths, IsLength}
 use Rattle.sv_width.specs.Agreement.{NumbersHaveLengths, PartsHaveLengths}
@@ -51,7 +52,7 @@ reduced_low n (negsuc a) = omega (arith, pow_pos n)
 -- the left operand of a division stands at the pushed length
 divided : (op : BinOp) → is_division op ≡ true
     → (n : ℕ) (s : Bool) (la lb : ℕ) (sa sb : Bool) (x y : ℕ)
-    → binary_value op (left_length (class_of op) n la lb) (left_sign (class_of op) s sa sb) x
+    → binary_value op (left_length (class_of op) n la lb) (left_signed (class_of op) s sa sb) x
     y < 2 ^ n
 divided Div h n s la lb sa sb x y = reduced_low n _
 divided Rem h n s la lb sa sb x y = reduced_low n _
@@ -81,14 +82,14 @@ quotient_low : (names : Names) (op : BinOp) (p : Place) (a b : ExpressionTree) (
 unfolding value joined_value
 quotient_low names op p a b n s is =
     subst (λ x. x < 2 ^ n)
-    (result_at op n s (operand (length_of names.scope a) (sign_of names.scope a)
+    (result_at op n s (operand (length_of names.scope a) (signed_of names.scope a)
     (value names.scope nowhere a))
-    (operand (length_of names.scope b) (sign_of names.scope b) (value names.scope nowhere b)))
+    (operand (length_of names.scope b) (signed_of names.scope b) (value names.scope nowhere b)))
     (divided op is n s _ _ _ _ _ _)
 
-own_sign : (s : Bool) → beq s s ≡ true
-own_sign true = refl
-own_sign false = refl
+own_signed : (s : Bool) → beq s s ≡ true
+own_signed true = refl
+own_signed false = refl
 
 -- a typed form has the pushed type
 pub pushed_type : (names : Names) (e : ExpressionTree) (n : ℕ) (s : Bool) →
@@ -98,7 +99,7 @@ pushed_type names e n s =
     and_from (expression_width (typed_of names e n s) == n)
     (beq (expression_signed (typed_of names e n s)) s)
     (eq-eqb (expression_width (typed_of names e n s)) n is.0)
-    (ap (λ t. beq t s) is.1 ∙ own_sign s)
+    (ap (λ t. beq t s) is.1 ∙ own_signed s)
 
 pub is_length_test : (n : ℕ) → IsLength n → is_one_to 64 n ≡ true
 is_length_test n h = and_from (nat_le 1 n) (nat_le n 64) (le-leb 1 n h.0) (le-leb n 64 h.1)
@@ -117,8 +118,8 @@ operand_lengths Shift n a b p q r h = (r, h, q, omega arith)
 -- the operands have the types that the operator gives them
 operands_typed : (names : Names) (c : OpClass) (n : ℕ) (s : Bool) (a b : ExpressionTree) (la lb : ℕ)
     (sa sb : Bool)
-    → binary_typed c n s (typed_of names a (left_length c n la lb) (left_sign c s sa sb))
-    (typed_of names b (right_length c n la lb) (right_sign c s sa sb)) ≡ true
+    → binary_typed c n s (typed_of names a (left_length c n la lb) (left_signed c s sa sb))
+    (typed_of names b (right_length c n la lb) (right_signed c s sa sb)) ≡ true
 operands_typed names Context n s a b la lb sa sb =
     and_from _ _ (pushed_type names a n s) (pushed_type names b n s)
 operands_typed names Compare n s a b la lb sa sb =
@@ -194,7 +195,7 @@ module _ (names : Names) (declared : AllDeclared names) (lengths : HaveLengths n
   unary_formed : (op : UnOp) (p : Place) (e : ExpressionTree) (n : ℕ) (s : Bool)
       → (gives_one_bit op ≡ true
       → well_formed signals
-      (typed_of names e (length_of names.scope e) (sign_of names.scope e)) ≡ true)
+      (typed_of names e (length_of names.scope e) (signed_of names.scope e)) ≡ true)
       → (gives_one_bit op ≡ false → well_formed signals (typed_of names e n s) ≡ true)
       → is_one_to 64 n ≡ true → well_formed signals (typed_of names (unary op p e) n s) ≡ true
   unary_formed op p e n s alone pushed one = either (gives_one_bit op)
@@ -207,10 +208,10 @@ module _ (names : Names) (declared : AllDeclared names) (lengths : HaveLengths n
   binary_formed : (op : BinOp) (p : Place) (a b : ExpressionTree) (n : ℕ) (s : Bool)
       → well_formed signals (typed_of names a
       (left_length (class_of op) n (length_of names.scope a) (length_of names.scope b))
-      (left_sign (class_of op) s (sign_of names.scope a) (sign_of names.scope b))) ≡ true
+      (left_signed (class_of op) s (signed_of names.scope a) (signed_of names.scope b))) ≡ true
       → well_formed signals (typed_of names b
       (right_length (class_of op) n (length_of names.scope a) (length_of names.scope b))
-      (right_sign (class_of op) s (sign_of names.scope a) (sign_of names.scope b))) ≡ true
+      (right_signed (class_of op) s (signed_of names.scope a) (signed_of names.scope b))) ≡ true
       → is_one_to 64 n ≡ true → well_formed signals (typed_of names (binary op p a b) n s) ≡ true
   binary_formed op p a b n s left right one = either (is_division op)
       (λ h. ap (λ t. well_formed signals t) (typed_division names p n s op a b h)
@@ -220,7 +221,7 @@ module _ (names : Names) (declared : AllDeclared names) (lengths : HaveLengths n
       (all_of_four (not (is_flat_division op)) _ _ _
       (ap not (same_divisions op ∙ h))
       (operands_typed names (class_of op) n s a b (length_of names.scope a)
-      (length_of names.scope b) (sign_of names.scope a) (sign_of names.scope b))
+      (length_of names.scope b) (signed_of names.scope a) (signed_of names.scope b))
       left right))
 
   -- at its own length and sign
@@ -228,10 +229,10 @@ module _ (names : Names) (declared : AllDeclared names) (lengths : HaveLengths n
       → NumbersHaveLengths e
       → ((n : ℕ) (s : Bool) → length_of names.scope e ≤ n → IsLength n
       → well_formed signals (typed_of names e n s) ≡ true)
-      → well_formed signals (typed_of names e (length_of names.scope e) (sign_of names.scope e)) ≡
+      → well_formed signals (typed_of names e (length_of names.scope e) (signed_of names.scope e)) ≡
       true
   alone c e q shape numbers formed =
-      formed (length_of names.scope e) (sign_of names.scope e) (omega arith)
+      formed (length_of names.scope e) (signed_of names.scope e) (omega arith)
       (own_length names lengths c (λ _. declared) e q shape numbers)
 
   mutual

@@ -9,7 +9,7 @@ use Rattle.sv_num.specs.declared.operators.BinOp.{BinOp}
 use Rattle.sv_ast.specs.Scopes.{Binding, parameter, signal}
 use Rattle.sv_ast.specs.Tree as source
 use Rattle.sv_ast.specs.Tree.{ExpressionTree, ExpressionTrees}
-use Rattle.sv_ast.specs.Values.{natural, length_of, sign_of, whole_number}
+use Rattle.sv_ast.specs.Values.{natural, length_of, signed_of, whole_number}
 use Rattle.sv_walk.specs.Names.{Names, place_of}
 use Rattle.sv_walk.specs.TypedExpressions.{names_signal}
 
@@ -51,7 +51,7 @@ own_form (replication own k es) = own
 abbrev pub own_of : Names → ExpressionTree → OwnForm
 own_of names e = record {
   width = length_of names.scope e;
-  signed = sign_of names.scope e;
+  signed = signed_of names.scope e;
   names_signal = names_signal names.scope e;
 }
 

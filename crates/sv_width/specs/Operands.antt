@@ -7,7 +7,7 @@ use Rattle.sv_num.specs.declared.vectors.Bits.{Bits}
 use Rattle.sv_num.specs.Vectors.{width_of, is_signed, value_of}
 use Rattle.sv_ast.specs.Tree.{ExpressionTree}
 use Rattle.sv_ast.specs.Shape.{is_shaped_expression}
-use Rattle.sv_ast.specs.Values.{nowhere, length_of, sign_of, value}
+use Rattle.sv_ast.specs.Values.{nowhere, length_of, signed_of, value}
 use Rattle.sv_flat.specs.Design.{TypedTree}
 use Rattle.sv_walk.specs.Names.{Names}
 use Rattle.sv_walk.specs.TypedExpressions.{typed_of}
@@ -20,8 +20,8 @@ use Rattle.sv_width.specs.Views.{measured_tree}
 abbrev pub own_width : Measured → ℕ
 own_width o = (own_form (measured_tree o)).width
 
-abbrev pub own_sign : Measured → Bool
-own_sign o = (own_form (measured_tree o)).signed
+abbrev pub own_signed : Measured → Bool
+own_signed o = (own_form (measured_tree o)).signed
 
 -- what an operand holds of a shaped expression, among names that are all declared
 abbrev pub Holds : Names → ExpressionTree → Measured → Type 0
@@ -33,7 +33,7 @@ Holds names e o = AllDeclared names × HaveLengths names.scope
 -- another one, with the expression's own length and sign
 abbrev pub IsOperandOf : Names → (constant : Bool) → ExpressionTree → Measured → Type 0
 IsOperandOf names constant e o = ((asked names constant e).end ≡ Ok tt)
-    × (own_width o ≡ length_of names.scope e) × (own_sign o ≡ sign_of names.scope e)
+    × (own_width o ≡ length_of names.scope e) × (own_signed o ≡ signed_of names.scope e)
     × Holds names e o
 
 -- the expression's typed form at a length and sign at which no divisor is 0

@@ -10,7 +10,7 @@ use Rattle.sv_num.specs.Vectors.{width_of, is_signed, value_of}
 use Rattle.sv_num.specs.UnaryValues.{gives_one_bit}
 use Rattle.sv_num.specs.BinaryValues.{class_of}
 use Rattle.sv_ast.specs.Tree.{ExpressionTree, ExpressionTrees}
-use Rattle.sv_ast.specs.Values.{natural, binary_length, binary_sign, constant_of, whole_number}
+use Rattle.sv_ast.specs.Values.{natural, binary_length, binary_signed, constant_of, whole_number}
 use Rattle.sv_flat.specs.Design.{typed}
 use Rattle.sv_flat.specs.declared.expressions.FExpr.{FExpr}
 use Rattle.sv_flat.specs.declared.expressions.FNode.{FNode}
@@ -91,7 +91,7 @@ unary_own op e = record {
 abbrev pub binary_own : BinOp → MeasuredTree → MeasuredTree → OwnForm
 binary_own op a b = record {
   width = binary_length (class_of op) (own_form a).width (own_form b).width;
-  signed = binary_sign (class_of op) (own_form a).signed (own_form b).signed;
+  signed = binary_signed (class_of op) (own_form a).signed (own_form b).signed;
   names_signal = (own_form a).names_signal || (own_form b).names_signal;
 }
 

@@ -12,8 +12,8 @@ use Rattle.sv_flat.specs.Design as flat
 use Rattle.sv_flat.specs.Design.{TypedTree, NodeTree, TypedTrees, typed}
 use Rattle.sv_walk.specs.Walks.{Steps, done, ask, ◌>>=◌}
 use Rattle.sv_walk.specs.Rules.{zero_divisor}
-use Rattle.sv_walk.specs.TypedExpressions.{is_division, left_length, right_length, left_sign}
-use Rattle.sv_walk.specs.TypedExpressions.{right_sign}
+use Rattle.sv_walk.specs.TypedExpressions.{is_division, left_length, right_length, left_signed}
+use Rattle.sv_walk.specs.TypedExpressions.{right_signed}
 use Rattle.sv_width.specs.Measured.{MeasuredTree, MeasuredTrees, value, read, read_bit}
 use Rattle.sv_width.specs.Measured.{read_part, unary, binary, choice, join, replication, no_parts}
 use Rattle.sv_width.specs.Measured.{more_parts, own_form}
@@ -23,13 +23,13 @@ abbrev pub left_at : BinOp → (n : ℕ) → MeasuredTree → MeasuredTree → �
 left_at op n a b = left_length (class_of op) n (own_form a).width (own_form b).width
 
 abbrev pub left_as : BinOp → (s : Bool) → MeasuredTree → MeasuredTree → Bool
-left_as op s a b = left_sign (class_of op) s (own_form a).signed (own_form b).signed
+left_as op s a b = left_signed (class_of op) s (own_form a).signed (own_form b).signed
 
 abbrev pub right_at : BinOp → (n : ℕ) → MeasuredTree → MeasuredTree → ℕ
 right_at op n a b = right_length (class_of op) n (own_form a).width (own_form b).width
 
 abbrev pub right_as : BinOp → (s : Bool) → MeasuredTree → MeasuredTree → Bool
-right_as op s a b = right_sign (class_of op) s (own_form a).signed (own_form b).signed
+right_as op s a b = right_signed (class_of op) s (own_form a).signed (own_form b).signed
 
 -- one value and behind it another one of some bits, modulo 2^n
 abbrev pub behind : (n value next_width next : ℕ) → ℕ

@@ -3,7 +3,8 @@ ghost use Rattle.std.specs.Prelude.{◌≡◌, ◌+◌, ◌*◌, ◌%◌, ◌^�
 ghost use Rattle.sv_num.specs.Vectors.{width_of, is_signed, value_of, as_number, reduced};
 ghost use Rattle.sv_width.specs.Answers.{IsBreach};
 ghost use Rattle.sv_num.specs.BinaryValues.{class_of, binary_value, HasDivisor};
-ghost use Rattle.sv_walk.specs.TypedExpressions.{left_length, left_sign, right_length, right_sign};
+ghost use Rattle.sv_walk.specs.TypedExpressions.{left_length, left_signed, right_length};
+ghost use Rattle.sv_walk.specs.TypedExpressions.{right_signed};
 ghost use Rattle.sv_width.specs.Outcomes.{IsFolded, zero_steps};
 ghost use Rattle.sv_width.specs.Pushed.{behind, behind_times, joined_width, joined_from};
 ghost use Rattle.sv_width.specs.Pushed.{divisors_of, divisors_in};
@@ -117,12 +118,12 @@ fn binary(
 ) -> Result<Bits, Fault>
     requires left { width_of left ≡
         left_length (class_of op) types.to.width types.a.width types.b.width }
-    requires left_sign { is_signed left ≡
-        left_sign (class_of op) types.to.signed types.a.signed types.b.signed }
+    requires left_signed { is_signed left ≡
+        left_signed (class_of op) types.to.signed types.a.signed types.b.signed }
     requires right { width_of right ≡
         right_length (class_of op) types.to.width types.a.width types.b.width }
-    requires right_sign { is_signed right ≡
-        right_sign (class_of op) types.to.signed types.a.signed types.b.signed }
+    requires right_signed { is_signed right ≡
+        right_signed (class_of op) types.to.signed types.a.signed types.b.signed }
     ensures asked { OnOk result ((zero_steps op place (value_of right)).end ≡ Ok tt) }
     ensures width { IfOk result (λ bits. width_of bits ≡ types.to.width) }
     ensures signed { IfOk result (λ bits. is_signed bits ≡ types.to.signed) }
@@ -143,12 +144,12 @@ fn applied(op: BinOp, left: Bits, right: Bits, types: Types) -> Bits
     requires divisor { HasDivisor op right }
     requires left { width_of left ≡
         left_length (class_of op) types.to.width types.a.width types.b.width }
-    requires left_sign { is_signed left ≡
-        left_sign (class_of op) types.to.signed types.a.signed types.b.signed }
+    requires left_signed { is_signed left ≡
+        left_signed (class_of op) types.to.signed types.a.signed types.b.signed }
     requires right { width_of right ≡
         right_length (class_of op) types.to.width types.a.width types.b.width }
-    requires right_sign { is_signed right ≡
-        right_sign (class_of op) types.to.signed types.a.signed types.b.signed }
+    requires right_signed { is_signed right ≡
+        right_signed (class_of op) types.to.signed types.a.signed types.b.signed }
     ensures width { width_of result ≡ types.to.width }
     ensures signed { is_signed result ≡ types.to.signed }
     ensures value { value_of result ≡

@@ -10,7 +10,7 @@ ghost use Rattle.sv_walk.specs.ExpressionSteps.{asked, divisors};
 ghost use Rattle.sv_walk.specs.Names.{Names};
 ghost use Rattle.sv_width.specs.Agreement.{HaveSignals};
 ghost use Rattle.sv_width.specs.Answers.{IsBreach};
-ghost use Rattle.sv_width.specs.Operands.{own_width, own_sign, IsOperandOf, IsTypedAt, IsValueAt};
+ghost use Rattle.sv_width.specs.Operands.{own_width, own_signed, IsOperandOf, IsTypedAt, IsValueAt};
 ghost use Rattle.sv_width.specs.Scopes.{Known, names_of};
 ghost use Rattle.sv_width.specs.Settings.{names_in, is_constant};
 
@@ -71,7 +71,7 @@ impl Operand {
 
     /// Whether the expression is signed by itself.
     pub fn signed(&self) -> bool
-        ensures { result ≡ own_sign self.now }
+        ensures { result ≡ own_signed self.now }
     {
         self.measured.own_type().signed
     }

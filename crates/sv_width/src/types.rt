@@ -3,9 +3,10 @@ ghost use Rattle.std.specs.Prelude.{◌≡◌, ◌≤◌, ◌&&◌, false, max};
 ghost use Rattle.sv_num.specs.Vectors.{width_of, is_signed, value_of};
 ghost use Rattle.sv_num.specs.BinaryValues.{class_of};
 ghost use Rattle.sv_num.specs.UnaryValues.{gives_one_bit};
-ghost use Rattle.sv_walk.specs.TypedExpressions.{is_division, left_length, left_sign, right_length};
-ghost use Rattle.sv_walk.specs.TypedExpressions.{right_sign};
-ghost use Rattle.sv_ast.specs.Values.{binary_length, binary_sign};
+ghost use Rattle.sv_walk.specs.TypedExpressions.{is_division, left_length, left_signed};
+ghost use Rattle.sv_walk.specs.TypedExpressions.{right_length};
+ghost use Rattle.sv_walk.specs.TypedExpressions.{right_signed};
+ghost use Rattle.sv_ast.specs.Values.{binary_length, binary_signed};
 
 use sv_num::{BinOp, Bits, OpClass, UnOp};
 
@@ -84,7 +85,7 @@ pub(crate) fn common(a: BitType, b: BitType) -> BitType
 /// The own type of a binary operator's result, from those of its operands.
 pub(crate) fn result_type(op: BinOp, a: BitType, b: BitType) -> BitType
     ensures width { result.width ≡ binary_length (class_of op) a.width b.width }
-    ensures signed { result.signed ≡ binary_sign (class_of op) a.signed b.signed }
+    ensures signed { result.signed ≡ binary_signed (class_of op) a.signed b.signed }
 {
     match class_of(op) {
         OpClass::Context => common(a, b),
@@ -97,7 +98,7 @@ pub(crate) fn result_type(op: BinOp, a: BitType, b: BitType) -> BitType
 /// ones.
 pub(crate) fn left_type(op: BinOp, pushed: BitType, a: BitType, b: BitType) -> BitType
     ensures width { result.width ≡ left_length (class_of op) pushed.width a.width b.width }
-    ensures signed { result.signed ≡ left_sign (class_of op) pushed.signed a.signed b.signed }
+    ensures signed { result.signed ≡ left_signed (class_of op) pushed.signed a.signed b.signed }
 {
     match class_of(op) {
         OpClass::Context | OpClass::Shift => pushed,
@@ -109,7 +110,7 @@ pub(crate) fn left_type(op: BinOp, pushed: BitType, a: BitType, b: BitType) -> B
 /// Likewise of its right operand.
 pub(crate) fn right_type(op: BinOp, pushed: BitType, a: BitType, b: BitType) -> BitType
     ensures width { result.width ≡ right_length (class_of op) pushed.width a.width b.width }
-    ensures signed { result.signed ≡ right_sign (class_of op) pushed.signed a.signed b.signed }
+    ensures signed { result.signed ≡ right_signed (class_of op) pushed.signed a.signed b.signed }
 {
     match class_of(op) {
         OpClass::Context => pushed,

@@ -3,7 +3,7 @@
 ghost use Rattle.std.specs.Prelude.{◌≡◌, ℕ, ◌≤◌, max, List, Ok, IfOk, OnOk, IfErr, IsTrue};
 ghost use Rattle.sv_system.specs.System.{Environment};
 ghost use Rattle.sv_ast.specs.Shape.{is_shaped_expression};
-ghost use Rattle.sv_ast.specs.Values.{length_of, sign_of, value as source_value};
+ghost use Rattle.sv_ast.specs.Values.{length_of, signed_of, value as source_value};
 ghost use Rattle.sv_ast.specs.Views.{expression_tree};
 ghost use Rattle.sv_flat.specs.Design.{SignalForm};
 ghost use Rattle.sv_flat.specs.Soundness.{well_formed};
@@ -46,7 +46,7 @@ pub fn typed(alloc: Global, expr: &Expr, scope: &Scope, target_width: u8) -> Res
         → value signals by_number (typed_tree f) ≡
         source_value (bindings_of scope.now) by_name (expression_tree expr.now)
         (max (length_of (bindings_of scope.now) (expression_tree expr.now)) target_width)
-        (sign_of (bindings_of scope.now) (expression_tree expr.now))) }
+        (signed_of (bindings_of scope.now) (expression_tree expr.now))) }
     ensures broken { IfErr result
         (IsBreach (expression_walk (names_of scope.now) (expression_tree expr.now)
         target_width).end) }

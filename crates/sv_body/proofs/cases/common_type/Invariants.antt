@@ -1,6 +1,6 @@
 use Rattle.std.proofs.Common.{◌≡◌, ◌≤◌, max, drop}
 use Rattle.std.specs.Prelude.{◌&&◌}
-use Rattle.sv_width.specs.Operands.{own_width, own_sign}
+use Rattle.sv_width.specs.Operands.{own_width, own_signed}
 use Rattle.sv_body.specs.Cases.{greatest, all_signed}
 use Rattle.sv_body.proofs.cases.common_type.Given as goal
 
@@ -10,7 +10,7 @@ invariant-loop-item l = record {
   width : max l.width (greatest (drop l.item-index l.items)) ≡
       max (own_width l.selector) (greatest l.items);
   signed : (l.signed && all_signed (drop l.item-index l.items)) ≡
-      (own_sign l.selector && all_signed l.items);
+      (own_signed l.selector && all_signed l.items);
   some : 1 ≤ l.width;
   few : l.width ≤ 64;
 }

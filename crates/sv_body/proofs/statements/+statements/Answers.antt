@@ -26,7 +26,7 @@ use Rattle.sv_walk.specs.CaseChains.{arm_items, case_chain, default_of, is_compl
 use Rattle.sv_walk.specs.Targets.{assignment_walk}
 use Rattle.sv_walk.specs.Statements.{items_walk, statement_walk, statements_walk, arms_walk}
 use Rattle.sv_width.specs.Answers.{IsBreach}
-use Rattle.sv_width.specs.Operands.{own_width, own_sign}
+use Rattle.sv_width.specs.Operands.{own_width, own_signed}
 use Rattle.sv_width.specs.Scopes.{names_of}
 use Rattle.sv_width.proofs.Breaches.{ok_weaker, err_weaker, breach_memory}
 use Rattle.sv_body.specs.declared.cases.Item.{Item}
@@ -39,7 +39,7 @@ use Rattle.sv_body.proofs.WalkFacts.{arm_found, arm_unasked, arm_unwalked, befor
 use Rattle.sv_body.proofs.WalkFacts.{block_push, statements_none, statements_more}
 use Rattle.sv_body.proofs.WalkFacts.{statements_broken}
 use Rattle.sv_body.proofs.CaseWalks.{trees_length, case_shape, own_items, passed_arms, common_width}
-use Rattle.sv_body.proofs.CaseWalks.{common_signed, case_unasked, case_undivided, selector_found}
+use Rattle.sv_body.proofs.CaseWalks.{common_is_signed, case_unasked, case_undivided, selector_found}
 use Rattle.sv_body.proofs.CaseWalks.{case_unarmed, case_found, if_unasked, if_unwalked, if_found}
 use Rattle.sv_body.proofs.CaseWalks.{else_unasked, else_unwalked, else_broken, else_found}
 use Rattle.sv_body.proofs.statements.+statements.Goals as goal
@@ -535,8 +535,8 @@ case-returns-in_err-typed_selector-clause-broken t c =
     ∙ ap (λ xs. max (own_width c.in_ok-operand.operand) (greatest xs)) c.deref.ensures.value
     ∙ common_width names e c.in_ok-operand.operand is items each arms all in
     let signed = c.common_type-to.ensures.signed
-    ∙ ap (λ xs. own_sign c.in_ok-operand.operand && all_signed xs) c.deref.ensures.value
-    ∙ common_signed names e c.in_ok-operand.operand is items each arms all in
+    ∙ ap (λ xs. own_signed c.in_ok-operand.operand && all_signed xs) c.deref.ensures.value
+    ∙ common_is_signed names e c.in_ok-operand.operand is items each arms all in
     let q = err_from_is_err_and c.from_residual-in_err-typed_selector.result
     c.from_residual-in_err-typed_selector.ensures.1 in
     rw (q.1, q.2)
@@ -558,8 +558,8 @@ case-returns-in_err-flats-clause-broken t c =
     ∙ ap (λ xs. max (own_width c.in_ok-operand.operand) (greatest xs)) c.deref.ensures.value
     ∙ common_width names e c.in_ok-operand.operand is items each arms all in
     let signed = c.common_type-to.ensures.signed
-    ∙ ap (λ xs. own_sign c.in_ok-operand.operand && all_signed xs) c.deref.ensures.value
-    ∙ common_signed names e c.in_ok-operand.operand is items each arms all in
+    ∙ ap (λ xs. own_signed c.in_ok-operand.operand && all_signed xs) c.deref.ensures.value
+    ∙ common_is_signed names e c.in_ok-operand.operand is items each arms all in
     let typed = c.in_ok-typed_selector.ensures.found names false e is in
     let q = err_from_is_err_and c.from_residual-in_err-flats.result
     c.from_residual-in_err-flats.ensures.1 in
@@ -609,8 +609,8 @@ case-returns-clause-found t c = λ p.
     ∙ ap (λ xs. max (own_width c.in_ok-operand.operand) (greatest xs)) c.deref.ensures.value
     ∙ common_width names e c.in_ok-operand.operand is items each arms all in
     let signed = c.common_type-to.ensures.signed
-    ∙ ap (λ xs. own_sign c.in_ok-operand.operand && all_signed xs) c.deref.ensures.value
-    ∙ common_signed names e c.in_ok-operand.operand is items each arms all in
+    ∙ ap (λ xs. own_signed c.in_ok-operand.operand && all_signed xs) c.deref.ensures.value
+    ∙ common_is_signed names e c.in_ok-operand.operand is items each arms all in
     let typed = c.in_ok-typed_selector.ensures.found names false e is in
     let value = c.deref-3.ensures.value in
     let trees = ap item_trees value ∙ all in

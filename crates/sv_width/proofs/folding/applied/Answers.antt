@@ -7,7 +7,7 @@ pub apply_binary-requires-clause-types : goal.apply_binary-requires-clause-types
 apply_binary-requires-clause-types c =
     one_type c.args.op c.args.types.to.width c.args.types.a.width c.args.types.b.width
     c.args.types.to.signed c.args.types.a.signed c.args.types.b.signed c.args.left c.args.right
-    c.requires.left c.requires.left_sign c.requires.right c.requires.right_sign
+    c.requires.left c.requires.left_signed c.requires.right c.requires.right_signed
 
 pub of_type-requires-clause-low : goal.of_type-requires-clause-low
 of_type-requires-clause-low c =
@@ -19,7 +19,7 @@ of_type-requires-clause-low c =
       c.value-value.ensures.value,
       c.apply_binary.ensures.value,
       c.requires.left,
-      c.requires.left_sign,
+      c.requires.left_signed,
     )
     (binary_low op n c.args.types.to.signed la lb c.args.types.a.signed c.args.types.b.signed
     c.args.left.value c.args.right.value

@@ -11,7 +11,7 @@ use Rattle.sv_ast.specs.declared.expressions.Expr.{Expr, the_lemmas}
 use Rattle.sv_ast.specs.declared.expressions.Expr.TheBlock.{hidden-the_row-Expr-0}
 use Rattle.sv_ast.specs.Scopes.{Number}
 use Rattle.sv_ast.specs.Tree.{ExpressionTree, ExpressionTrees, join, replication}
-use Rattle.sv_ast.specs.Values.{length_of, joined_length, sign_of}
+use Rattle.sv_ast.specs.Values.{length_of, joined_length, signed_of}
 use Rattle.sv_walk.specs.TypedExpressions.{names_signal, some_names_signal}
 use Rattle.sv_ast.specs.Shape.{is_shaped_expression, are_shaped_parts, has_part}
 use Rattle.sv_ast.specs.Views.{expression_tree, expression_trees, row_parts, parts_of}
@@ -84,7 +84,8 @@ steps_in s known e f is h =
     subst (λ (x : Setting). IsBreach (constant_steps (names_in x known) e).end f) is h
 
 pub measured-returns-in-Number-clause-found : goal.measured-returns-in-Number-clause-found
-unfolding asked asked_parts measured_of measured_parts length_of joined_length sign_of names_signal
+unfolding asked asked_parts measured_of measured_parts length_of joined_length signed_of
+    names_signal
     some_names_signal
 measured-returns-in-Number-clause-found t c =
     found_at (names_in c.args.setting c.args.scope.now) (is_constant c.args.setting) c.args.expr.now

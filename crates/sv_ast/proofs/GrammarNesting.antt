@@ -9,7 +9,7 @@ use Rattle.std.proofs.lemmas.List.{append_assoc}
 use Rattle.sv_num.specs.declared.operators.BinOp.{BinOp}
 use Rattle.sv_num.specs.declared.operators.BinOp.TheVariants.{Mul}
 use Rattle.sv_num.specs.declared.faults.Place.{Place}
-use Rattle.sv_ast.specs.GrammarGroups.{Written, binary, level_of, binding}
+use Rattle.sv_ast.specs.GrammarGroups.{Written, binary, precedence_of, binding}
 
 -- a place in two splits of a list: it is the same one, or one of them stands before the other
 abbrev pub Splits : {A : Type 0} → (before : List A) → A → (after front : List A) → A →
@@ -44,14 +44,15 @@ pieces w = operand w ∷ []
 -- operands of binary operators bind as they must
 abbrev pub IsNested : Written → Type 0
 IsNested (binary op p a b) =
-    IsTrue (nat_le (binding a) (level_of op) && nat_lt (binding b) (level_of op)) × IsNested a
+    IsTrue (nat_le (binding a) (precedence_of op) && nat_lt (binding b) (precedence_of op))
+    × IsNested a
     × IsNested b
 IsNested w = Unit {0}
 
 -- an operator of this level at most, or an operand
 abbrev pub is_at_most : ℕ → Piece → Bool
 is_at_most v (operand w) = true
-is_at_most v (operator op p) = nat_le (level_of op) v
+is_at_most v (operator op p) = nat_le (precedence_of op) v
 
 true_parts : (x y : Bool) → IsTrue (x && y) → IsTrue x × IsTrue y
 true_parts true y all = (refl, all)
@@ -90,18 +91,19 @@ all_behind test (x ∷ xs) y ys all =
 levels_of_pieces : (v : ℕ) (w : Written) → IsTrue (nat_le (binding w) v) → IsNested w →
     IsTrue (list_all (is_at_most v) (pieces w))
 levels_of_pieces v (binary op p a b) tight nested =
-    let parts = true_parts (nat_le (binding a) (level_of op)) (nat_lt (binding b) (level_of op))
+    let parts = true_parts (nat_le (binding a) (precedence_of op)) (nat_lt (binding b)
+    (precedence_of op))
     nested.0 in
     all_append (is_at_most v) (pieces a) (operator op p ∷ pieces b)
-    (levels_of_pieces v a (le_le (binding a) (level_of op) v parts.0 tight) nested.1)
-    (true_both (nat_le (level_of op) v) (list_all (is_at_most v) (pieces b)) tight
+    (levels_of_pieces v a (le_le (binding a) (precedence_of op) v parts.0 tight) nested.1)
+    (true_both (nat_le (precedence_of op) v) (list_all (is_at_most v) (pieces b)) tight
     (levels_of_pieces v b
-    (le_le (binding b) (level_of op) v (less_le (binding b) (level_of op) parts.1) tight)
+    (le_le (binding b) (precedence_of op) v (less_le (binding b) (precedence_of op) parts.1) tight)
     nested.2))
 levels_of_pieces v _ tight nested = refl
 
 -- every level counts from 1
-level_is_some : (op : BinOp) → IsTrue (nat_lt 0 (level_of op))
+level_is_some : (op : BinOp) → IsTrue (nat_lt 0 (precedence_of op))
 level_is_some Mul = refl
 level_is_some _ = refl
 
@@ -133,16 +135,18 @@ no_later : (op : BinOp) (p : Place) (a b : Written) (oq : BinOp) (q : Place) (c 
     → pieces c ≡ (pieces a ++ operator op p ∷ []) ++ us
     → pieces a ++ operator op p ∷ pieces b ≡ pieces c ++ operator oq q ∷ pieces d → ⊥
 no_later op p a b oq q c d nested nested_too us longer same =
-    let parts = true_parts (nat_le (binding a) (level_of op)) (nat_lt (binding b) (level_of op))
+    let parts = true_parts (nat_le (binding a) (precedence_of op)) (nat_lt (binding b)
+    (precedence_of op))
     nested.0 in
-    let parts_too = true_parts (nat_le (binding c) (level_of oq)) (nat_lt (binding d) (level_of oq))
+    let parts_too = true_parts (nat_le (binding c) (precedence_of oq)) (nat_lt (binding d)
+    (precedence_of oq))
     nested_too.0 in
     let row : pieces c ≡ pieces a ++ operator op p ∷ us =
     longer ∙ append_assoc (pieces a) (operator op p ∷ []) us in
-    let up : IsTrue (nat_le (level_of op) (level_of oq)) =
-    all_behind (is_at_most (level_of oq)) (pieces a) (operator op p) us
-    (subst (λ ys. IsTrue (list_all (is_at_most (level_of oq)) ys)) row
-    (levels_of_pieces (level_of oq) c parts_too.0 nested_too.1)) in
+    let up : IsTrue (nat_le (precedence_of op) (precedence_of oq)) =
+    all_behind (is_at_most (precedence_of oq)) (pieces a) (operator op p) us
+    (subst (λ ys. IsTrue (list_all (is_at_most (precedence_of oq)) ys)) row
+    (levels_of_pieces (precedence_of oq) c parts_too.0 nested_too.1)) in
     let rest : pieces a ++ operator op p ∷ pieces b ≡
     pieces a ++ operator op p ∷ (us ++ operator oq q ∷ pieces d) =
     same ∙ ap (λ ys. ys ++ operator oq q ∷ pieces d) row
@@ -151,11 +155,12 @@ no_later op p a b oq q c d nested nested_too us longer same =
     cancel (operator op p ∷ []) (pieces b) (us ++ operator oq q ∷ pieces d)
     (cancel (pieces a) (operator op p ∷ pieces b) (operator op p ∷ (us ++ operator oq q ∷ pieces d))
     rest) in
-    let down : IsTrue (nat_le (level_of oq) (level_of op - 1)) =
-    all_behind (is_at_most (level_of op - 1)) us (operator oq q) (pieces d)
-    (subst (λ ys. IsTrue (list_all (is_at_most (level_of op - 1)) ys)) right
-    (levels_of_pieces (level_of op - 1) b (below (binding b) (level_of op) parts.1) nested.2)) in
-    not_both (level_of oq) (level_of op) (level_is_some op) up down
+    let down : IsTrue (nat_le (precedence_of oq) (precedence_of op - 1)) =
+    all_behind (is_at_most (precedence_of op - 1)) us (operator oq q) (pieces d)
+    (subst (λ ys. IsTrue (list_all (is_at_most (precedence_of op - 1)) ys)) right
+    (levels_of_pieces (precedence_of op - 1) b (below (binding b)
+    (precedence_of op) parts.1) nested.2)) in
+    not_both (precedence_of oq) (precedence_of op) (level_is_some op) up down
 
 -- one nesting for a row
 pub one_nesting : (w v : Written) → IsNested w → IsNested v → pieces w ≡ pieces v → w ≡ v

@@ -14,7 +14,7 @@ use Rattle.sv_ast.specs.Tree.{ExpressionTree}
 use Rattle.sv_ast.specs.GrammarForms.{Form, ◌⨾◌, given, nothing, sign_at, a_sign, binary_at}
 use Rattle.sv_ast.specs.GrammarGroups.{Written, literal, named, bit_of, part_of, group, unary}
 use Rattle.sv_ast.specs.GrammarGroups.{binary, choice, join, replication, WrittenList, no_more}
-use Rattle.sv_ast.specs.GrammarGroups.{more, without_groups, level_of, binding}
+use Rattle.sv_ast.specs.GrammarGroups.{more, without_groups, precedence_of, binding}
 use Rattle.sv_ast.specs.GrammarExpressions.{Limits, IsWritten, IsExpression}
 use Rattle.sv_ast.proofs.GrammarNesting.{Piece, operand, operator, pieces, IsNested, one_nesting}
 use Rattle.sv_ast.proofs.GrammarOneToken.{one_sign, one_sign_at, one_binary, NextIs, is_no_bracket}
@@ -77,20 +77,20 @@ abbrev pub NoChoice : Written → Type 0
 NoChoice (choice p c a b) = ⊥
 NoChoice w = Unit {0}
 
-no_choice_at : (op : BinOp) → IsTrue (nat_le 11 (level_of op)) → ⊥
+no_choice_at : (op : BinOp) → IsTrue (nat_le 11 (precedence_of op)) → ⊥
 no_choice_at Mul loose = false≢true loose
 no_choice_at _ loose = false≢true loose
 
-no_choice_below : (op : BinOp) → IsTrue (nat_lt 11 (level_of op)) → ⊥
+no_choice_below : (op : BinOp) → IsTrue (nat_lt 11 (precedence_of op)) → ⊥
 no_choice_below Mul loose = false≢true loose
 no_choice_below _ loose = false≢true loose
 
-left_is_no_choice : (op : BinOp) (a : Written) → IsTrue (nat_le (binding a) (level_of op)) →
+left_is_no_choice : (op : BinOp) (a : Written) → IsTrue (nat_le (binding a) (precedence_of op)) →
     NoChoice a
 left_is_no_choice op (choice p c a b) loose = no_choice_at op loose
 left_is_no_choice op _ loose = tt
 
-right_is_no_choice : (op : BinOp) (a : Written) → IsTrue (nat_lt (binding a) (level_of op)) →
+right_is_no_choice : (op : BinOp) (a : Written) → IsTrue (nat_lt (binding a) (precedence_of op)) →
     NoChoice a
 right_is_no_choice op (choice p c a b) loose = no_choice_below op loose
 right_is_no_choice op _ loose = tt
@@ -106,8 +106,8 @@ true_parts false y all = absurd (false≢true all)
 in_row : (l : Limits) (n : ℕ) (w : Written) (ts r : List Placed) → NoChoice w →
     IsWritten l n w ts r → InRow l n (pieces w) ts r
 in_row l n (binary op p a b) ts r kind is =
-    let parts = true_parts (nat_le (binding a) (level_of op))
-    (nat_lt (binding b) (level_of op)) is.0 in
+    let parts = true_parts (nat_le (binding a) (precedence_of op))
+    (nat_lt (binding b) (precedence_of op)) is.0 in
     append_row l n (pieces a) (operator op p ∷ pieces b) ts is.1.0 r
     (in_row l n a ts is.1.0 (left_is_no_choice op a parts.0) is.1.1)
     (is.1.2.0, is.1.2.1, in_row l n b is.1.2.0 r (right_is_no_choice op b parts.1) is.1.2.2)

@@ -12,7 +12,7 @@ use Rattle.sv_token.specs.Lexemes.{Lexeme, identifier, numeral, sign, Literal, P
 use Rattle.sv_ast.specs.GrammarForms.{◌⨾◌, name_at, a_sign, in_brackets}
 use Rattle.sv_ast.specs.GrammarGroups.{Written, literal, named, bit_of, part_of, group, unary}
 use Rattle.sv_ast.specs.GrammarGroups.{binary, choice, join, replication, WrittenList, no_more}
-use Rattle.sv_ast.specs.GrammarGroups.{more, level_of, binding}
+use Rattle.sv_ast.specs.GrammarGroups.{more, precedence_of, binding}
 use Rattle.sv_ast.specs.GrammarExpressions.{Limits, IsWritten, AreWritten, AreMore}
 use Rattle.sv_ast.proofs.GrammarOneToken.{one_lexeme, one_sign, one_sign_at, one_name, one_number}
 use Rattle.sv_ast.proofs.GrammarOneToken.{one_unary, NextIs, is_no_bracket, ends_expression}
@@ -265,7 +265,7 @@ one_group e one l k n m v ts r s kind first second ends ends_too =
     operands_of_one_class l k n m (group e) v ts r s tt kind first second in
     absurd (grind arith)
 
-no_level_zero : (op : BinOp) → IsTrue (nat_eq (level_of op) 0) → ⊥
+no_level_zero : (op : BinOp) → IsTrue (nat_eq (precedence_of op) 0) → ⊥
 no_level_zero Mul zero = false≢true zero
 no_level_zero _ zero = false≢true zero
 

@@ -8,7 +8,7 @@ use Rattle.sv_token.specs.Lexemes.{Placed}
 use Rattle.sv_ast.specs.GrammarForms.{name_at}
 use Rattle.sv_ast.specs.GrammarGroups.{Written, literal, named, bit_of, part_of, group, unary}
 use Rattle.sv_ast.specs.GrammarGroups.{binary, choice, join, replication, no_more, more}
-use Rattle.sv_ast.specs.GrammarGroups.{without_groups, level_of, binding}
+use Rattle.sv_ast.specs.GrammarGroups.{without_groups, precedence_of, binding}
 use Rattle.sv_ast.specs.GrammarExpressions.{Limits, is_within, IsWritten, AreMore, read_tokens}
 use Rattle.sv_ast.specs.GrammarExpressions.{IsExpression}
 use Rattle.sv_ast.proofs.GrammarReads.{◌>>=◌, otherwise, check, Reads, read_sign, read_sign_at}
@@ -57,9 +57,10 @@ abbrev mutual
   read_further zero most l n ts a mid tight is = None
   read_further (suc k) most l n ts a mid tight is = otherwise (do
     op ← read_binary_at mid
-    loose ← check (nat_le (level_of op.0) most)
-    b ← read_within k (level_of op.0 - 1) l n op.2
-    nested ← check (nat_le (binding a) (level_of op.0) && nat_lt (binding b.0) (level_of op.0))
+    loose ← check (nat_le (precedence_of op.0) most)
+    b ← read_within k (precedence_of op.0 - 1) l n op.2
+    nested ← check (nat_le (binding a) (precedence_of op.0)
+    && nat_lt (binding b.0) (precedence_of op.0))
     read_further k most l n ts (binary op.0 op.1 a b.0) b.1 loose
         (nested, (mid, is, (op.2, op.3, b.3)))) (λ _. Some (a, mid, tight, is))
 

@@ -10,7 +10,7 @@ use Rattle.sv_ast.specs.GrammarForms.{a_sign, binary_at, unary_at, in_parenthese
 use Rattle.sv_ast.specs.GrammarForms.{in_braces}
 use Rattle.sv_ast.specs.GrammarGroups.{Written, literal, named, bit_of, part_of, group, unary}
 use Rattle.sv_ast.specs.GrammarGroups.{binary, choice, join, replication, WrittenList, no_more}
-use Rattle.sv_ast.specs.GrammarGroups.{more, without_groups, level_of, binding}
+use Rattle.sv_ast.specs.GrammarGroups.{more, without_groups, precedence_of, binding}
 
 -- how many levels may be open at once, how many tokens one expression and how many arms one case
 -- may have; and how many tokens at the end of the text were not read yet, so that no expression's
@@ -45,7 +45,8 @@ abbrev mutual
   IsWritten l n (unary op p e) =
       given (IsTrue (nat_eq (binding e) 0)) (deeper l n (unary_at op p ⨾ IsWritten l (n + 1) e))
   IsWritten l n (binary op p a b) =
-      given (IsTrue (nat_le (binding a) (level_of op) && nat_lt (binding b) (level_of op)))
+      given (IsTrue (nat_le (binding a) (precedence_of op)
+      && nat_lt (binding b) (precedence_of op)))
       (IsWritten l n a ⨾ binary_at op p ⨾ IsWritten l n b)
   IsWritten l n (choice p c a b) =
       given (IsTrue (nat_le (binding c) 10))

@@ -47,32 +47,32 @@ abbrev mutual
   all_without_groups no_more = tree.no_expressions
   all_without_groups (more e es) = tree.more_expressions (without_groups e) (all_without_groups es)
 
--- the level of a binary operator, the tightest first (clause 5.1)
-abbrev pub level_of : BinOp → ℕ
-level_of Mul = 1
-level_of Div = 1
-level_of Rem = 1
-level_of Add = 2
-level_of Sub = 2
-level_of Shl = 3
-level_of Shr = 3
-level_of SignShl = 3
-level_of SignShr = 3
-level_of Lt = 4
-level_of Le = 4
-level_of Gt = 4
-level_of Ge = 4
-level_of Eq = 5
-level_of Ne = 5
-level_of And = 6
-level_of Xor = 7
-level_of Xnor = 7
-level_of Or = 8
-level_of LogicAnd = 9
-level_of LogicOr = 10
+-- the precedence of a binary operator, the tightest first (clause 5.1)
+abbrev pub precedence_of : BinOp → ℕ
+precedence_of Mul = 1
+precedence_of Div = 1
+precedence_of Rem = 1
+precedence_of Add = 2
+precedence_of Sub = 2
+precedence_of Shl = 3
+precedence_of Shr = 3
+precedence_of SignShl = 3
+precedence_of SignShr = 3
+precedence_of Lt = 4
+precedence_of Le = 4
+precedence_of Gt = 4
+precedence_of Ge = 4
+precedence_of Eq = 5
+precedence_of Ne = 5
+precedence_of And = 6
+precedence_of Xor = 7
+precedence_of Xnor = 7
+precedence_of Or = 8
+precedence_of LogicAnd = 9
+precedence_of LogicOr = 10
 
 -- a choice binds loosest; what begins with a unary operator, and what has none outside, tightest
 abbrev pub binding : Written → ℕ
-binding (binary op p a b) = level_of op
+binding (binary op p a b) = precedence_of op
 binding (choice p c a b) = 11
 binding _ = 0

@@ -11,7 +11,7 @@ use Rattle.sv_token.specs.declared.signs.SignKind.TheVariants as signs
 use Rattle.sv_token.specs.Lexemes.{Lexeme, sign, Placed}
 use Rattle.sv_ast.specs.GrammarForms.{◌⨾◌, lexeme_at, binary_at}
 use Rattle.sv_ast.specs.GrammarGroups.{Written, literal, named, bit_of, part_of, group, unary}
-use Rattle.sv_ast.specs.GrammarGroups.{binary, choice, join, replication, level_of, binding}
+use Rattle.sv_ast.specs.GrammarGroups.{binary, choice, join, replication, precedence_of, binding}
 use Rattle.sv_ast.specs.GrammarExpressions.{Limits, IsWritten}
 use Rattle.sv_ast.proofs.GrammarOneOperand.{IsOperand}
 use Rattle.sv_grammar.proofs.ExpressionForms.{Next, ends_tail, ends_name, Ends, operand_is}
@@ -38,20 +38,20 @@ abbrev pub NoChoice : Written → Type 0
 NoChoice (choice p c a b) = ⊥
 NoChoice w = Unit {0}
 
-no_choice_at : (op : BinOp) → IsTrue (nat_le 11 (level_of op)) → ⊥
+no_choice_at : (op : BinOp) → IsTrue (nat_le 11 (precedence_of op)) → ⊥
 no_choice_at Mul loose = false≢true loose
 no_choice_at _ loose = false≢true loose
 
-no_choice_below : (op : BinOp) → IsTrue (nat_lt 11 (level_of op)) → ⊥
+no_choice_below : (op : BinOp) → IsTrue (nat_lt 11 (precedence_of op)) → ⊥
 no_choice_below Mul loose = false≢true loose
 no_choice_below _ loose = false≢true loose
 
-left_is_no_choice : (op : BinOp) (a : Written) → IsTrue (nat_le (binding a) (level_of op)) →
+left_is_no_choice : (op : BinOp) (a : Written) → IsTrue (nat_le (binding a) (precedence_of op)) →
     NoChoice a
 left_is_no_choice op (choice p c a b) loose = no_choice_at op loose
 left_is_no_choice op _ loose = tt
 
-right_is_no_choice : (op : BinOp) (a : Written) → IsTrue (nat_lt (binding a) (level_of op)) →
+right_is_no_choice : (op : BinOp) (a : Written) → IsTrue (nat_lt (binding a) (precedence_of op)) →
     NoChoice a
 right_is_no_choice op (choice p c a b) loose = no_choice_below op loose
 right_is_no_choice op _ loose = tt
@@ -60,7 +60,7 @@ tight_is_no_choice : (a : Written) → IsTrue (nat_le (binding a) 10) → NoChoi
 tight_is_no_choice (choice p c a b) loose = false≢true loose
 tight_is_no_choice _ loose = tt
 
-level_within : (op : BinOp) → IsTrue (nat_le (level_of op) 10)
+level_within : (op : BinOp) → IsTrue (nat_le (precedence_of op) 10)
 level_within Mul = refl
 level_within _ = refl
 
@@ -69,11 +69,11 @@ no_choice_is_tight (binary op p a b) kind = level_within op
 no_choice_is_tight (choice p c a b) kind = absurd kind
 no_choice_is_tight _ kind = refl
 
-level_is_some : (op : BinOp) → IsTrue (nat_lt 0 (level_of op))
+level_is_some : (op : BinOp) → IsTrue (nat_lt 0 (precedence_of op))
 level_is_some Mul = refl
 level_is_some _ = refl
 
-level_is_not_below : (op : BinOp) → IsTrue (nat_le 0 (level_of op))
+level_is_not_below : (op : BinOp) → IsTrue (nat_le 0 (precedence_of op))
 level_is_not_below Mul = refl
 level_is_not_below _ = refl
 
@@ -108,8 +108,8 @@ append_rows l n (k ∷ ks) more ts mid rest first second = (
 flat : (l : Limits) (n : ℕ) (w : Written) (ts rest : List Placed) → NoChoice w →
     IsWritten l n w ts rest → Ends w rest → Flat l n ts rest
 flat l n (binary op p a b) ts rest kind is ends =
-    let parts = true_parts (nat_le (binding a) (level_of op))
-    (nat_lt (binding b) (level_of op)) is.0 in
+    let parts = true_parts (nat_le (binding a) (precedence_of op))
+    (nat_lt (binding b) (precedence_of op)) is.0 in
     let operator = is.1.2.1 in
     let next : Next ends_name is.1.0 =
     next_at ends_name (sign (signs.Operator operator.0)) p is.1.0 is.1.2.0 operator.2 tt in
@@ -176,7 +176,7 @@ to_parts l n (replication p c es) ts rest is ends next =
 -- a further operator and operand behind an expression without choice
 abbrev pub insert : Written → BinOp → Place → Written → Written
 insert (binary oq q a b) op p x =
-    cond (nat_le (level_of oq) (level_of op)) (binary op p (binary oq q a b) x)
+    cond (nat_le (precedence_of oq) (precedence_of op)) (binary op p (binary oq q a b) x)
     (binary oq q a (insert b op p x))
 insert w op p x = binary op p w x
 
@@ -189,16 +189,16 @@ not_le : (a b : ℕ) → nat_le a b ≡ false → IsTrue (nat_lt b a)
 not_le a b above = grind arith
 
 operand_is_tight : (op : BinOp) (x : Written) → IsOperand x →
-    IsTrue (nat_lt (binding x) (level_of op))
+    IsTrue (nat_lt (binding x) (precedence_of op))
 operand_is_tight op (binary oq q a b) kind = absurd kind
 operand_is_tight op (choice p c a b) kind = absurd kind
 operand_is_tight op _ kind = level_is_some op
 
 insert_binds : (v : ℕ) (w : Written) (op : BinOp) (p : Place) (x : Written)
-    → IsTrue (nat_lt (binding w) v) → IsTrue (nat_lt (level_of op) v)
+    → IsTrue (nat_lt (binding w) v) → IsTrue (nat_lt (precedence_of op) v)
     → IsTrue (nat_lt (binding (insert w op p x)) v)
 insert_binds v (binary oq q a b) op p x first second =
-    by_order (nat_le (level_of oq) (level_of op)) (λ w.
+    by_order (nat_le (precedence_of oq) (precedence_of op)) (λ w.
     IsTrue (nat_lt (binding w) v)) (binary op p (binary oq q a b) x)
     (binary oq q a (insert b op p x))
     (λ _. second) (λ _. first)
@@ -210,13 +210,14 @@ Goes l n ts rest w = NoChoice w × IsWritten l n w ts rest × Ends w rest
 
 behind_operand : (l : Limits) (n : ℕ) (w : Written) (op : BinOp) (p : Place) (x : Written)
     (ts mid rest : List Placed)
-    → IsTrue (nat_le (binding w) (level_of op)) → IsWritten l n w ts mid
+    → IsTrue (nat_le (binding w) (precedence_of op)) → IsWritten l n w ts mid
     → (binary_at op p ⨾ operand_is l n x) mid rest → Goes l n ts rest (binary op p w x)
 behind_operand l n w op p x ts mid rest tight is behind =
     let right = behind.2 in (
       tt,
       (
-        true_both (nat_le (binding w) (level_of op)) (nat_lt (binding x) (level_of op)) tight
+        true_both (nat_le (binding w) (precedence_of op)) (nat_lt (binding x)
+        (precedence_of op)) tight
             (operand_is_tight op x right.0),
         (mid, is, (behind.0, behind.1, right.1)),
       ),
@@ -228,20 +229,20 @@ inserted : (l : Limits) (n : ℕ) (w : Written) (op : BinOp) (p : Place) (x : Wr
     → NoChoice w → IsWritten l n w ts mid → (binary_at op p ⨾ operand_is l n x) mid rest
     → Goes l n ts rest (insert w op p x)
 inserted l n (binary oq q a b) op p x ts mid rest kind is behind =
-    let parts = true_parts (nat_le (binding a) (level_of oq))
-    (nat_lt (binding b) (level_of oq)) is.0 in
+    let parts = true_parts (nat_le (binding a) (precedence_of oq))
+    (nat_lt (binding b) (precedence_of oq)) is.0 in
     let right = inserted l n b op p x is.1.2.0 mid rest (right_is_no_choice oq b parts.1) is.1.2.2
     behind in
-    by_order (nat_le (level_of oq) (level_of op)) (Goes l n ts rest)
+    by_order (nat_le (precedence_of oq) (precedence_of op)) (Goes l n ts rest)
     (binary op p (binary oq q a b) x) (binary oq q a (insert b op p x))
     (λ loose. behind_operand l n (binary oq q a b) op p x ts mid rest loose is behind)
     (λ tight. (
       tt,
       (
-        true_both (nat_le (binding a) (level_of oq))
-            (nat_lt (binding (insert b op p x)) (level_of oq)) parts.0
-            (insert_binds (level_of oq) b op p x parts.1
-            (not_le (level_of oq) (level_of op) tight)),
+        true_both (nat_le (binding a) (precedence_of oq))
+            (nat_lt (binding (insert b op p x)) (precedence_of oq)) parts.0
+            (insert_binds (precedence_of oq) b op p x parts.1
+            (not_le (precedence_of oq) (precedence_of op) tight)),
         (is.1.0, is.1.1, (is.1.2.0, is.1.2.1, right.1)),
       ),
       right.2,

@@ -10,7 +10,7 @@ use Rattle.sv_token.specs.Lexemes.{Lexeme, word, identifier, numeral, sign, Lite
 use Rattle.sv_token.specs.Words.{is_refused_word}
 use Rattle.sv_num.specs.declared.operators.UnOp.{UnOp}
 use Rattle.sv_ast.specs.GrammarForms.{binary_operator, unary_operator, a_sign}
-use Rattle.sv_ast.specs.GrammarGroups.{level_of}
+use Rattle.sv_ast.specs.GrammarGroups.{precedence_of}
 use Rattle.sv_ast.specs.GrammarRules.{all_limits}
 use Rattle.sv_grammar.specs.Symbols.{State, Inner, something, inner, takes_inner, stuck_inner}
 use Rattle.sv_grammar.specs.ExpressionTable.{inner_on}
@@ -82,23 +82,23 @@ IsNoUnary x =
 abbrev pub NextIsNoUnary : List Placed → Type 0
 NextIsNoUnary = NextIs IsNoUnary
 
--- no binary operator of the level
-abbrev pub IsNotOfLevel : ℕ → Lexeme → Type 0
-IsNotOfLevel level x =
+-- no binary operator of the precedence
+abbrev pub IsNotOfPrecedence : ℕ → Lexeme → Type 0
+IsNotOfPrecedence precedence x =
     (o : Operator) (op : BinOp) → x ≡ sign (signs.Operator o) → binary_operator o ≡ Some op →
-    level_of op ≡ level → ⊥
+    precedence_of op ≡ precedence → ⊥
 
-abbrev pub NextIsNotOfLevel : ℕ → List Placed → Type 0
-NextIsNotOfLevel level = NextIs (IsNotOfLevel level)
+abbrev pub NextIsNotOfPrecedence : ℕ → List Placed → Type 0
+NextIsNotOfPrecedence precedence = NextIs (IsNotOfPrecedence precedence)
 
--- if a binary operator, one that binds looser than the level
+-- if a binary operator, one that binds looser than the precedence
 abbrev pub IsLooser : ℕ → Lexeme → Type 0
-IsLooser level x =
+IsLooser precedence x =
     (o : Operator) (op : BinOp) → x ≡ sign (signs.Operator o) → binary_operator o ≡ Some op →
-    level < level_of op
+    precedence < precedence_of op
 
 abbrev pub NextIsLooser : ℕ → List Placed → Type 0
-NextIsLooser level = NextIs (IsLooser level)
+NextIsLooser precedence = NextIs (IsLooser precedence)
 
 -- ---- what comes next
 

@@ -17,7 +17,7 @@ use Rattle.std.proofs.lemmas.List.{length-map, map_push}
 use Rattle.sv_ast.specs.GrammarForms.{a_sign, number_at, name_at, sign_at, binary_at, unary_at}
 use Rattle.sv_ast.specs.GrammarGroups.{literal, named, bit_of, part_of, group, unary, binary}
 use Rattle.sv_ast.specs.GrammarGroups.{choice, join, replication, WrittenList, no_more, more}
-use Rattle.sv_ast.specs.GrammarGroups.{without_groups, all_without_groups, binding, level_of}
+use Rattle.sv_ast.specs.GrammarGroups.{without_groups, all_without_groups, binding, precedence_of}
 use Rattle.sv_ast.specs.GrammarExpressions.{AreMore, IsExpression}
 use Rattle.sv_ast.specs.GrammarRules.{all_limits}
 use Rattle.sv_read.specs.Reading.{IsChain, AreParts, AreLaterParts, IsBounded, IsRepeated}
@@ -154,18 +154,20 @@ looser n k m e ts rest le h = record {
 
 pub binary_is :
     (n k j : ℕ) (op : BinOp) (p : Place) (x y : ExpressionTree) (ts a b rest : List Placed) →
-    level_of op ≡ k → j + 1 ≡ k → IsChain n k x ts a → binary_at op p a b → IsChain n j y b rest →
+    precedence_of op ≡ k → j + 1 ≡ k → IsChain n k x ts a → binary_at op p a b → IsChain n j y b
+    rest →
     IsChain n k (tree.binary op p x y) ts rest
 binary_is n k j op p x y ts a b rest level below left sign right = record {
   written = binary op p left.written right.written;
   tree =
       ap (λ l. tree.binary op p l (without_groups right.written)) left.tree
       ∙ ap (tree.binary op p x) right.tree;
-  binds = at_level (level_of op) k level;
+  binds = at_level (precedence_of op) k level;
   is = (
     both_true
         (subst (λ (m : ℕ). IsTrue (nat_le (binding left.written) m)) (sym level) left.binds)
-        (tighter_bound (binding right.written) j (level_of op) right.binds (below ∙ sym level)),
+        (tighter_bound (binding right.written) j (precedence_of op) right.binds
+        (below ∙ sym level)),
     (a, left.is, (b, sign, right.is)),
   );
 }

@@ -10,7 +10,7 @@ use Rattle.sv_num.specs.declared.operators.BinOp.{BinOp}
 use Rattle.sv_num.specs.declared.faults.Place.{Place}
 use Rattle.sv_token.specs.Lexemes.{Placed}
 use Rattle.sv_ast.specs.GrammarForms.{binary_operator, binary_at, somewhere}
-use Rattle.sv_ast.specs.GrammarGroups.{level_of}
+use Rattle.sv_ast.specs.GrammarGroups.{precedence_of}
 
 looked_up : (n : ℕ) (row : BinRow) → slice_get BINARY n ≡ Some row →
     option_map (λ r. r.1) (slice_get binary_table n) ≡ Some row.op
@@ -27,19 +27,19 @@ row_operator o n row known found =
     ∙ looked_up n row found)
 
 levels : (n : ℕ) → option_map (λ (r : BinRow). r.level) (slice_get BINARY n) ≡
-    option_map (λ (r : BinRow). level_of r.op) (slice_get BINARY n)
+    option_map (λ (r : BinRow). precedence_of r.op) (slice_get BINARY n)
 levels n =
     sym (slice_get-map (λ (r : BinRow). r.level) BINARY n)
-    ∙ slice_get-map (λ (r : BinRow). level_of r.op) BINARY n
+    ∙ slice_get-map (λ (r : BinRow). precedence_of r.op) BINARY n
 
 pub row_level :
     (o : Operator) (n : ℕ) (row : BinRow) → o.binary ≡ Some n → slice_get BINARY n ≡ Some row →
-    Some row.level ≡ option_map level_of (binary_operator o)
+    Some row.level ≡ option_map precedence_of (binary_operator o)
 row_level o n row known found =
     sym (ap (option_map (λ (r : BinRow). r.level)) found)
     ∙ levels n
-    ∙ ap (option_map (λ (r : BinRow). level_of r.op)) found
-    ∙ ap (option_map level_of) (row_operator o n row known found)
+    ∙ ap (option_map (λ (r : BinRow). precedence_of r.op)) found
+    ∙ ap (option_map precedence_of) (row_operator o n row known found)
 
 pub operator_is : (found op : BinOp) (p : Place) (ts rest : List Placed) → found ≡ op →
     binary_at found p ts rest → somewhere (binary_at op) ts rest

@@ -15,7 +15,7 @@ use Rattle.sv_token.specs.Lexemes.{Lexeme, identifier, sign, Placed, placed_toke
 use Rattle.sv_token.specs.Words.{is_refused_word}
 use Rattle.sv_ast.specs.GrammarForms.{binary_operator, unary_operator, sign_at, a_sign, binary_at}
 use Rattle.sv_ast.specs.GrammarForms.{unary_at, name_at}
-use Rattle.sv_ast.specs.GrammarGroups.{level_of}
+use Rattle.sv_ast.specs.GrammarGroups.{precedence_of}
 use Rattle.sv_ast.specs.GrammarRules.{all_limits}
 use Rattle.sv_read.specs.declared.stop.Breach.TheVariants.{TooDeep, TooLong}
 use Rattle.sv_read.specs.declared.stop.Stop.{Stop}
@@ -31,7 +31,7 @@ use Rattle.sv_grammar.specs.Machine.{step, go_on, run}
 use Rattle.sv_grammar.specs.Reads.{Reads, Halts, NextIs, IsNot, NextIsNotSign, NextIsSign}
 use Rattle.sv_grammar.specs.Reads.{NextIsNoName, NextIsAnyName, NextIsNoNumber, NextIsNumber}
 use Rattle.sv_grammar.specs.Reads.{NextIsNoUnary, NextIsAnyOperator, NextIsNoOperator, NextIsLooser}
-use Rattle.sv_grammar.specs.Reads.{IsLooser, IsNotOfLevel, NextTakes, Closes}
+use Rattle.sv_grammar.specs.Reads.{IsLooser, IsNotOfPrecedence, NextTakes, Closes}
 use Rattle.sv_read.specs.Expectations.{HaltsAs, StopsAt}
 use Rattle.sv_grammar.proofs.ReadSteps.{reads_then, reads_before, takes_inside, inside_is_too_deep}
 use Rattle.sv_grammar.proofs.ReadSteps.{inside_is_too_long, skips_inside, is_stuck_inside}
@@ -173,17 +173,17 @@ brace_closes = record { taken = refl; other = brace_other; full = λ start. refl
 
 -- ---- operators
 
-pub other_level :
-    (op : BinOp) (p : Place) (found level : ℕ) (ts rest : List Placed) → found ≡ level_of op →
+pub other_precedence :
+    (op : BinOp) (p : Place) (found level : ℕ) (ts rest : List Placed) → found ≡ precedence_of op →
     (found ≡ level → ⊥) → binary_at op p ts rest →
-    NextIs (IsNotOfLevel level) ts
-other_level op p found level ts rest is differs (o, known, at) =
-    subst (λ us. NextIs (IsNotOfLevel level) us) (sym at)
+    NextIs (IsNotOfPrecedence level) ts
+other_precedence op p found level ts rest is differs (o, known, at) =
+    subst (λ us. NextIs (IsNotOfPrecedence level) us) (sym at)
     (λ o' op' same here level'.
     let same_operator : o ≡ o' = cc in
     let found_here : binary_operator o ≡ Some op' = ap binary_operator same_operator ∙ here in
     let same_op : op ≡ op' = cc in
-    differs (is ∙ ap level_of same_op ∙ level'))
+    differs (is ∙ ap precedence_of same_op ∙ level'))
 
 pub other_operator : (found op : BinOp) (p : Place) (ts rest : List Placed) → (found ≡ op → ⊥) →
     binary_at found p ts rest → NextIsNoOperator op ts
@@ -195,7 +195,7 @@ other_operator found op p ts rest differs (o, known, at) =
     let same_op : found ≡ op = cc in
     differs same_op)
 
-level_is_some : (op : BinOp) → 0 < level_of op
+level_is_some : (op : BinOp) → 0 < precedence_of op
 level_is_some ops.Mul = omega arith
 level_is_some ops.Div = omega arith
 level_is_some ops.Rem = omega arith
@@ -218,7 +218,7 @@ level_is_some ops.Or = omega arith
 level_is_some ops.LogicAnd = omega arith
 level_is_some ops.LogicOr = omega arith
 
-level_is_low : (op : BinOp) → level_of op ≤ 10
+level_is_low : (op : BinOp) → precedence_of op ≤ 10
 level_is_low ops.Mul = omega arith
 level_is_low ops.Div = omega arith
 level_is_low ops.Rem = omega arith
@@ -246,19 +246,19 @@ any_looser level [] is = tt
 any_looser level (t ∷ ts) is = λ o op same here. rw is (level_is_some op)
 
 pub looser_behind : (level : ℕ) (ts : List Placed) → 0 < level → NextIsLooser (level - 1) ts →
-    NextIs (IsNotOfLevel level) ts → NextIsLooser level ts
+    NextIs (IsNotOfPrecedence level) ts → NextIsLooser level ts
 looser_behind level [] some looser other = tt
 looser_behind level (t ∷ ts) some looser other = λ o op same here.
-    let less : level - 1 < level_of op = looser o op same here in
-    let differs : level_of op ≡ level → ⊥ = other o op same here in
+    let less : level - 1 < precedence_of op = looser o op same here in
+    let differs : precedence_of op ≡ level → ⊥ = other o op same here in
     grind arith
 
 no_tail : (n : ℕ) (o : Operator) (found : Option BinOp) → binary_operator o ≡ found →
     IsLooser 10 (sign (signs.Operator o)) → infix_tail n (binary_operator o) ≡ over_inner
 no_tail n o None is looser = ap (infix_tail n) is
 no_tail n o (Some op) is looser =
-    let less : 10 < level_of op = looser o op refl is in
-    let low : level_of op ≤ 10 = level_is_low op in
+    let less : 10 < precedence_of op = looser o op refl is in
+    let low : precedence_of op ≤ 10 = level_is_low op in
     absurd (omega arith)
 
 tail_is_over : (n : ℕ) (x : Lexeme) → IsLooser 10 x → IsNot (sign signs.Question) x →

@@ -15,7 +15,7 @@ ghost use Rattle.sv_read.specs.Reading.{IsChain, IsBounded, AreLaterParts, IsRep
 
 use crate::cursor::{behind, expect_sign, read_name, read_number, sign_at, stuck, unexpected};
 use crate::nodes::{binary, choice, join, repeat, selected, unary};
-use crate::operators::{LOOSEST, level_at, unary_at};
+use crate::operators::{LOOSEST, binary_of, unary_at};
 use crate::room::Room;
 use crate::stop::{Expected, Stop};
 use std::alloc::Global;
@@ -55,19 +55,19 @@ fn read_inner<'a>(
     Ok((choice(alloc, place, cond, yes, no)?, rest))
 }
 
-// Operands with operators between them that are no looser than the level. Each operand of an
-// operator of the level is a chain of tighter ones, so the calls go ten deep for a level of the
-// text, and never deeper for a longer chain.
+// Operands with operators between them that are no looser than the precedence. Each operand of an
+// operator of that precedence is a chain of tighter ones, so the calls go ten deep for a level of
+// the text, and never deeper for a longer chain.
 #[cycle(expression)]
 fn read_chain<'a>(
     alloc: Global,
     bytes: &[u8],
     room: Room,
-    level: u8,
+    precedence: u8,
     tokens: &'a [Token],
 ) -> Result<(Expr, &'a [Token]), Stop>
     ensures is { IfOk result (λ x.
-        IsChain room.levels level (expression_tree x.0) (placed_tokens bytes.now tokens.now)
+        IsChain room.levels precedence (expression_tree x.0) (placed_tokens bytes.now tokens.now)
         (placed_tokens bytes.now x.1.now)) }
     ensures shorter { IfOk result (λ x. length x.1.now < length tokens.now) }
     ensures counted { IfOk result (λ x. room.beyond ≤ length x.1.now) }
@@ -80,16 +80,16 @@ fn read_chain<'a>(
         IfErr result (λ e. HaltsAs
         (inner start (operand room.levels) ∷ inner start (tail room.levels) ∷ [])
         (placed_tokens bytes.now tokens.now) e) }
-    ensures looser { IfOk result (λ x. NextIsLooser level (placed_tokens bytes.now x.1.now)) }
+    ensures looser { IfOk result (λ x. NextIsLooser precedence (placed_tokens bytes.now x.1.now)) }
 {
-    if level == 0 {
+    if precedence == 0 {
         let (operand, rest) = read_operand(alloc, bytes, room, tokens)?;
         return Ok((operand, rest));
     }
-    let (mut left, mut rest) = read_chain(alloc, bytes, room, level - 1, tokens)?;
-    while let Some((op, place, after)) = level_at(level, rest) {
+    let (mut left, mut rest) = read_chain(alloc, bytes, room, precedence - 1, tokens)?;
+    while let Some((op, place, after)) = binary_of(precedence, rest) {
         room.count(rest)?;
-        let (right, more) = read_chain(alloc, bytes, room, level - 1, after)?;
+        let (right, more) = read_chain(alloc, bytes, room, precedence - 1, after)?;
         left = binary(alloc, op, place, left, right)?;
         rest = more;
     }

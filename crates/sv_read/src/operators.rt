@@ -4,14 +4,14 @@ ghost use Rattle.std.specs.Prelude.{option_map, option_copied, slice_get};
 ghost use Rattle.sv_token.specs.Lexemes.{placed_tokens};
 ghost use Rattle.sv_ast.specs.GrammarForms.{binary_operator, unary_operator, binary_at, unary_at};
 ghost use Rattle.sv_ast.specs.GrammarForms.{somewhere};
-ghost use Rattle.sv_ast.specs.GrammarGroups.{level_of};
-ghost use Rattle.sv_grammar.specs.Reads.{NextIsNoBinary, NextIsNoUnary, NextIsNotOfLevel};
+ghost use Rattle.sv_ast.specs.GrammarGroups.{precedence_of};
+ghost use Rattle.sv_grammar.specs.Reads.{NextIsNoBinary, NextIsNoUnary, NextIsNotOfPrecedence};
 ghost use Rattle.sv_grammar.specs.Reads.{NextIsNoOperator};
 
 use sv_num::{BINARY, BinOp, BinRow, Place, UNARY, UnOp};
 use sv_token::{Operator, SignKind, Token, TokenKind};
 
-/// The loosest level of a binary operator.
+/// The loosest precedence of a binary operator.
 pub const LOOSEST: u8 = 10;
 
 // The row of a binary operator.
@@ -29,9 +29,9 @@ pub fn binary_operator(operator: Operator) -> Option<BinOp>
     Some(row.op)
 }
 
-// The level of that operator.
-fn binary_level(operator: Operator) -> Option<u8>
-    ensures { result ≡ option_map level_of (binary_operator operator) }
+// The precedence of that operator.
+fn binary_precedence(operator: Operator) -> Option<u8>
+    ensures { result ≡ option_map precedence_of (binary_operator operator) }
 {
     let row = binary_row(operator.binary?)?;
     Some(row.level)
@@ -45,12 +45,12 @@ fn unary_operator(operator: Operator) -> Option<UnOp>
     Some(row.op)
 }
 
-/// The binary operator that comes, its level and its place, and the tokens behind it.
+/// The binary operator that comes, its precedence and its place, and the tokens behind it.
 pub fn binary_at(tokens: &[Token]) -> Option<(BinOp, u8, Place, &[Token])>
     ensures is { (bytes : List ℕ) →
         IfSome result (λ x. binary_at x.0 x.2 (placed_tokens bytes tokens.now)
         (placed_tokens bytes x.3.now)) }
-    ensures level { IfSome result (λ x. x.1 ≡ level_of x.0) }
+    ensures precedence { IfSome result (λ x. x.1 ≡ precedence_of x.0) }
     ensures one { IfSome result (λ x. length tokens.now ≡ length x.3.now + 1) }
     ensures none { (bytes : List ℕ) →
         IfNone result (NextIsNoBinary (placed_tokens bytes tokens.now)) }
@@ -59,8 +59,8 @@ pub fn binary_at(tokens: &[Token]) -> Option<(BinOp, u8, Place, &[Token])>
         [first, rest @ ..] => match first.kind {
             TokenKind::Sign(SignKind::Operator(operator)) => {
                 let op = binary_operator(operator)?;
-                let level = binary_level(operator)?;
-                Some((op, level, first.place, rest))
+                let precedence = binary_precedence(operator)?;
+                Some((op, precedence, first.place, rest))
             }
             _ => None,
         },
@@ -88,18 +88,18 @@ pub fn unary_at(tokens: &[Token]) -> Option<(UnOp, Place, &[Token])>
     }
 }
 
-/// The binary operator of this level that comes, its place, and the tokens behind it.
-pub fn level_at(level: u8, tokens: &[Token]) -> Option<(BinOp, Place, &[Token])>
+/// The binary operator of this precedence that comes, its place, and the tokens behind it.
+pub fn binary_of(precedence: u8, tokens: &[Token]) -> Option<(BinOp, Place, &[Token])>
     ensures is { (bytes : List ℕ) →
         IfSome result (λ x. binary_at x.0 x.1 (placed_tokens bytes tokens.now)
         (placed_tokens bytes x.2.now)) }
-    ensures level { IfSome result (λ x. level_of x.0 ≡ level) }
+    ensures precedence { IfSome result (λ x. precedence_of x.0 ≡ precedence) }
     ensures one { IfSome result (λ x. length tokens.now ≡ length x.2.now + 1) }
     ensures none { (bytes : List ℕ) →
-        IfNone result (NextIsNotOfLevel level (placed_tokens bytes tokens.now)) }
+        IfNone result (NextIsNotOfPrecedence precedence (placed_tokens bytes tokens.now)) }
 {
     let (op, found, place, rest) = binary_at(tokens)?;
-    if found == level {
+    if found == precedence {
         Some((op, place, rest))
     } else {
         None
@@ -123,6 +123,6 @@ pub fn operator_at(op: BinOp, tokens: &[Token]) -> Option<&[Token]>
     ensures none { (bytes : List ℕ) →
         IfNone result (NextIsNoOperator op (placed_tokens bytes tokens.now)) }
 {
-    let (found, _level, _place, rest) = binary_at(tokens)?;
+    let (found, _precedence, _place, rest) = binary_at(tokens)?;
     if is_same(found, op) { Some(rest) } else { None }
 }

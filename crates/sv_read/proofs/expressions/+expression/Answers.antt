@@ -111,14 +111,15 @@ read_repeated-returns-clause-is t c = (
   ),
 )
 
-pub read_chain-returns-then-level-eq0-clause-is : goal.read_chain-returns-then-level-eq0-clause-is
-read_chain-returns-then-level-eq0-clause-is t c =
-    looser c.args.room.levels 0 c.args.level _ _ _ (omega arith) c.in_ok-operand.ensures.is
+pub read_chain-returns-then-precedence-eq0-clause-is :
+    goal.read_chain-returns-then-precedence-eq0-clause-is
+read_chain-returns-then-precedence-eq0-clause-is t c =
+    looser c.args.room.levels 0 c.args.precedence _ _ _ (omega arith) c.in_ok-operand.ensures.is
 
 pub read_chain-loop-op-init : goal.read_chain-loop-op-init
 read_chain-loop-op-init t c = record {
   is =
-      looser c.args.room.levels (c.args.level - 1) c.args.level _ _ _ (omega arith)
+      looser c.args.room.levels (c.args.precedence - 1) c.args.precedence _ _ _ (omega arith)
       c.in_ok-left.ensures.is;
   shorter = c.in_ok-left.ensures.shorter;
   counted = c.in_ok-left.ensures.counted;
@@ -128,9 +129,9 @@ read_chain-loop-op-init t c = record {
 
 pub read_chain-loop-op-preserved : goal.read_chain-loop-op-preserved
 read_chain-loop-op-preserved t c = record {
-  is = tree_of c.args.room.levels c.args.level _ _ _ _ c.in_ok-left-2.ensures
-      (binary_is c.args.room.levels c.args.level (c.args.level - 1) _ _ _ _ _ _ _ _
-      c.in-Some.ensures.level (omega arith) c.loop-op.invariant.is
+  is = tree_of c.args.room.levels c.args.precedence _ _ _ _ c.in_ok-left-2.ensures
+      (binary_is c.args.room.levels c.args.precedence (c.args.precedence - 1) _ _ _ _ _ _ _ _
+      c.in-Some.ensures.precedence (omega arith) c.loop-op.invariant.is
       (c.in-Some.ensures.is c.args.bytes.now) c.in_ok-right.ensures.is);
   shorter =
       omega (
@@ -277,15 +278,16 @@ read_inner-returns-in_err-no-clause-halts t c = λ start same.
     (c.in_ok-rest.ensures.reads c.args.bytes.now start inner_colon same_inside colon_closes))
     (c.in_err-no.ensures.halts start same_inside))
 
-pub read_chain-returns-then-level-eq0-clause-reads :
-    goal.read_chain-returns-then-level-eq0-clause-reads
-read_chain-returns-then-level-eq0-clause-reads t c = λ start same.
+pub read_chain-returns-then-precedence-eq0-clause-reads :
+    goal.read_chain-returns-then-precedence-eq0-clause-reads
+read_chain-returns-then-precedence-eq0-clause-reads t c = λ start same.
     reads_before (inner start (operand c.args.room.levels) ∷ []) []
     (inner start (tail c.args.room.levels) ∷ []) _ _ (c.in_ok-operand.ensures.reads start same)
 
-pub read_chain-returns-then-level-eq0-clause-looser :
-    goal.read_chain-returns-then-level-eq0-clause-looser
-read_chain-returns-then-level-eq0-clause-looser t c = any_looser c.args.level _ c.if-level-eq0.true
+pub read_chain-returns-then-precedence-eq0-clause-looser :
+    goal.read_chain-returns-then-precedence-eq0-clause-looser
+read_chain-returns-then-precedence-eq0-clause-looser t c =
+    any_looser c.args.precedence _ c.if-precedence-eq0.true
 
 pub read_chain-returns-in_err-operand-clause-halts :
     goal.read_chain-returns-in_err-operand-clause-halts
@@ -315,7 +317,7 @@ read_chain-returns-in_err-right-clause-halts t c = λ start same.
 
 pub read_chain-returns-clause-looser : goal.read_chain-returns-clause-looser
 read_chain-returns-clause-looser t c =
-    looser_behind c.args.level _ (omega arith) c.loop-op.invariant.looser
+    looser_behind c.args.precedence _ (omega arith) c.loop-op.invariant.looser
     (c.in_default.ensures.none c.args.bytes.now)
 
 pub read_group-returns-in_err-rest-clause-halts : goal.read_group-returns-in_err-rest-clause-halts

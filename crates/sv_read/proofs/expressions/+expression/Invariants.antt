@@ -13,7 +13,7 @@ abbrev pub decreases-read_inner : goal.decreases-read_inner
 decreases-read_inner l = 32 * length l.tokens.now + 20
 
 abbrev pub decreases-read_chain : goal.decreases-read_chain
-decreases-read_chain l = 32 * length l.tokens.now + l.level + 2
+decreases-read_chain l = 32 * length l.tokens.now + l.precedence + 2
 
 abbrev pub decreases-read_operand : goal.decreases-read_operand
 decreases-read_operand l = 32 * length l.tokens.now + 1
@@ -44,7 +44,7 @@ decreases-read_chain-loop-op l = length l.rest
 
 abbrev pub invariant-read_chain-loop-op : goal.invariant-read_chain-loop-op
 invariant-read_chain-loop-op l = record {
-  is : IsChain l.room.levels l.level (expression_tree l.left) (placed_tokens l.bytes l.tokens)
+  is : IsChain l.room.levels l.precedence (expression_tree l.left) (placed_tokens l.bytes l.tokens)
       (placed_tokens l.bytes l.rest);
   shorter : length l.rest < length l.tokens;
   counted : l.room.beyond ≤ length l.rest;
@@ -52,7 +52,7 @@ invariant-read_chain-loop-op l = record {
       Reads (inner start (operand l.room.levels) ∷ inner start (tail l.room.levels) ∷ [])
       (inner start (tail l.room.levels) ∷ []) (placed_tokens l.bytes l.tokens)
       (placed_tokens l.bytes l.rest);
-  looser : NextIsLooser (l.level - 1) (placed_tokens l.bytes l.rest);
+  looser : NextIsLooser (l.precedence - 1) (placed_tokens l.bytes l.rest);
 }
 
 abbrev pub decreases-read_later_parts-loop-after : goal.decreases-read_later_parts-loop-after

@@ -1,6 +1,6 @@
 use Rattle.std.proofs.Common.{◌≡◌, Some, sym}
 use Rattle.sv_read.proofs.ReadingOperators.{row_level}
-use Rattle.sv_read.proofs.operators.binary_level.Goals as goal
+use Rattle.sv_read.proofs.operators.binary_precedence.Goals as goal
 
 pub returns : goal.returns
 returns c =

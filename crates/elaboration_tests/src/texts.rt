@@ -24,7 +24,7 @@ fn has_few(text: &Text) -> bool
 }
 
 // The flat design of a text.
-pub(crate) fn flat(
+pub fn flat(
     rt: &impl Abort,
     alloc: Global,
     source: &str,

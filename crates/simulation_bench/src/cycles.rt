@@ -8,7 +8,7 @@ use sv_sim::Sim;
 
 /// Runs the design for so many cycles, from registers that are 0 and over inputs that change, and
 /// gives the exclusive or of all values at all of them.
-pub(crate) fn run_cycles(alloc: Global, design: &Design, cycles: u32) -> Result<u64> {
+pub fn run_cycles(alloc: Global, design: &Design, cycles: u32) -> Result<u64> {
     let mut sim = Sim::new(alloc, design)?;
     let registers = vec![in alloc; 0; design.registers().len()]?;
     let mut inputs = vec![in alloc; 0; design.inputs().len()]?;

@@ -12,7 +12,7 @@ use sv_flat::{Flat, sound};
 use sv_parse::read_text;
 
 /// The flat design of the text that the input is.
-pub(crate) fn elaborated(rt: &impl Input, alloc: Global) -> Result<Flat>
+pub fn elaborated(rt: &impl Input, alloc: Global) -> Result<Flat>
     ensures { IfOk result (λ flat. IsTrue (is_sound (design_of flat))) }
 {
     let mut bytes: Vec<u8> = Vec::new(alloc);
@@ -36,7 +36,7 @@ pub(crate) fn elaborated(rt: &impl Input, alloc: Global) -> Result<Flat>
 }
 
 /// The design, admitted.
-pub(crate) fn admitted(alloc: Global, flat: Flat) -> Result<Design>
+pub fn admitted(alloc: Global, flat: Flat) -> Result<Design>
     requires { IsTrue (is_sound (design_of flat)) }
 {
     match Design::admit(alloc, flat) {

@@ -19,7 +19,7 @@ const NEAREST: &str = "module m(input a, input b, output reg [1:0] y, output [3:
     endmodule\n";
 
 // Two instances, each with its own parameter and its own register.
-pub(crate) const INSTANCES: &str = "module cnt #(parameter W = 2)\n  \
+pub const INSTANCES: &str = "module cnt #(parameter W = 2)\n  \
     (input clk, input en, output reg [W-1:0] q);\n  \
     always @(posedge clk) if (en) q <= q + 1;\n\
     endmodule\n\

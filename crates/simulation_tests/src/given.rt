@@ -9,7 +9,7 @@ use sv_design::Design;
 use sv_flat::SigId;
 
 /// Whether there is one value for each of these signals, in order, each of its signal's width.
-pub(crate) fn fit_seen(design: &Design, values: &[u64]) -> bool
+pub fn fit_seen(design: &Design, values: &[u64]) -> bool
     ensures { IsTrue result → let flat = design_of design.now in
         FitListed flat.signals (seen flat) values.now }
 {

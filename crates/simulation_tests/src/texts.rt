@@ -25,7 +25,7 @@ fn has_few(text: &Text) -> bool
 }
 
 // The admitted design of a text.
-pub(crate) fn design(rt: &impl Abort, alloc: Global, source: &str) -> Result<Design, Fail> {
+pub fn design(rt: &impl Abort, alloc: Global, source: &str) -> Result<Design, Fail> {
     let bytes = source.as_bytes();
     assert!(rt; bytes.len() < 1_000_000, "the text is short");
     let text = read_text(alloc, bytes)?;

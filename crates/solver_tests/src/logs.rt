@@ -13,7 +13,7 @@ fn clauses(alloc: Global, literals: &[&[i32]]) -> Result<Vec<Clause>, Fail> {
 }
 
 /// A step of these literals and this chain.
-pub(crate) fn step(alloc: Global, literals: &[i32], chain: &[u64]) -> Result<Derived, Fail> {
+pub fn step(alloc: Global, literals: &[i32], chain: &[u64]) -> Result<Derived, Fail> {
     Ok(Derived {
         clause: Clause::new(alloc, literals)?.ok_or("no clause")?,
         chain: chain.to_vec(alloc)?,

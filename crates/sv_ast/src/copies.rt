@@ -6,7 +6,7 @@ use std::alloc::{AllocError, Global};
 use sv_num::Name;
 
 /// What takes memory to copy. Two values with one plain form are equal.
-pub(crate) trait Copied: Sized + Drop {
+pub trait Copied: Sized + Drop {
     ghost Form: { Type 0 };
 
     ghost form: { Self → Form };

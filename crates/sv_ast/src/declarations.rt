@@ -280,14 +280,14 @@ impl Shaped for Memory {
 
 /// Whether they can be the parameters of a module's header (IEEE 1364-2005, annex A): none of them
 /// is local.
-pub(crate) fn are_header_params(params: &[Param]) -> bool
+pub fn are_header_params(params: &[Param]) -> bool
     ensures { result ≡ are_header_parameters (map parameter_tree params.now) }
 {
     params.iter().all(|param| !param.local)
 }
 
 /// Whether they can be the ports of a module: each is an input or an output, without a value.
-pub(crate) fn are_ports(decls: &[Decl]) -> bool
+pub fn are_ports(decls: &[Decl]) -> bool
     ensures { result ≡ are_ports (map declaration_tree decls.now) }
 {
     decls.iter().all(|decl| decl.is_port())

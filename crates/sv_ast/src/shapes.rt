@@ -4,7 +4,7 @@ ghost use Rattle.std.specs.List.{list_all};
 ghost use Rattle.std.specs.Option.{option_map, option_map_or};
 
 /// What the grammar restricts beyond its type.
-pub(crate) trait Shaped {
+pub trait Shaped {
     ghost Form: { Type 0 };
 
     ghost form: { Self → Form };

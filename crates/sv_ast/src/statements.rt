@@ -252,7 +252,7 @@ fn are_shaped_targets(targets: &Vec<Target>) -> bool
 
 /// Whether they can be the targets of an `assign`: there is one at least, and each is a whole
 /// signal.
-pub(crate) fn are_whole_targets(targets: &[Target]) -> bool
+pub fn are_whole_targets(targets: &[Target]) -> bool
     ensures { result ≡ are_whole_targets (map target_tree targets.now) }
 {
     !targets.is_empty() && are_whole(targets)

@@ -22,7 +22,7 @@ use sv_width::{Operand, Scope};
 
 /// A length of 1 to 64 bits and a signedness, at which the selector and all items of a case stand.
 #[derive(Clone, Copy, Debug)]
-pub(crate) struct CaseType {
+pub struct CaseType {
     pub(crate) width: u8,
     pub(crate) signed: bool,
     pub(crate) ghost in_range: { (1 ≤ width) × (width ≤ 64) },
@@ -30,7 +30,7 @@ pub(crate) struct CaseType {
 
 /// An item of a case, with its operand unless it breaks a rule of the first walk.
 #[derive(Debug, Drop)]
-pub(crate) struct Item<'a> {
+pub struct Item<'a> {
     pub(crate) expr: &'a Expr,
     pub(crate) operand: Option<Operand>,
 }
@@ -70,7 +70,7 @@ fn add_items<'a>(
 }
 
 /// The items of all arms, in textual order.
-pub(crate) fn items_of<'a>(
+pub fn items_of<'a>(
     alloc: Global,
     arms: &'a [Arm],
     scope: &Scope,
@@ -113,7 +113,7 @@ impl Item<'_> {
 }
 
 /// The greatest of the lengths of a selector and of items, signed where all of them are.
-pub(crate) fn common_type(selector: &Operand, items: &[Item]) -> CaseType
+pub fn common_type(selector: &Operand, items: &[Item]) -> CaseType
     ensures width { result.width ≡ max (own_width selector.now) (greatest items.now) }
     ensures signed { result.signed ≡ (own_signed selector.now && all_signed items.now) }
 {
@@ -156,7 +156,7 @@ fn typed_item(alloc: Global, item: &Item, to: CaseType, scope: &Scope) -> Result
 }
 
 /// The typed forms of some items of an arm.
-pub(crate) fn typed_items(
+pub fn typed_items(
     alloc: Global,
     items: &[Item],
     to: CaseType,

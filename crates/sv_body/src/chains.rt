@@ -15,14 +15,14 @@ use sv_num::{BinOp, OutOfMemory, Place};
 /// An arm of a case with its items and its statement in typed form, at the place of the arm. The
 /// arm without items is the default.
 #[derive(Debug, Drop)]
-pub(crate) struct FlatArm {
+pub struct FlatArm {
     pub(crate) place: Place,
     pub(crate) items: Vec<FExpr>,
     pub(crate) body: FStmt,
 }
 
 /// A statement that does nothing.
-pub(crate) fn nothing(alloc: Global) -> FStmt
+pub fn nothing(alloc: Global) -> FStmt
     ensures { flat_statement result ≡ nothing }
 {
     FStmt::Block(Vec::new(alloc))
@@ -129,7 +129,7 @@ fn take_last_resort(complete: bool, arms: &mut Vec<FlatArm>) -> Option<FlatArm>
 }
 
 /// The chain of a case, where `complete` says whether its items leave no value of the selector out.
-pub(crate) fn case_chain(
+pub fn case_chain(
     alloc: Global,
     selector: &FExpr,
     complete: bool,

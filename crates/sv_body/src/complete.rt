@@ -152,7 +152,7 @@ fn has_few_values(selector: &Expr, own: u8, to: CaseType) -> bool
 
 /// Whether the items of a case, which break no rule, leave no value of its selector of so many bits
 /// out: it has few, and they hold each of them.
-pub(crate) fn is_complete(
+pub fn is_complete(
     alloc: Global,
     selector: &Expr,
     own: u8,

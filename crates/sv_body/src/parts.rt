@@ -7,7 +7,7 @@ use sv_num::Place;
 /// The bits of a signal that a target has, from `high` down to `low`, with the place of the
 /// target's name.
 #[derive(Clone, Copy, Debug)]
-pub(crate) struct Part {
+pub struct Part {
     pub(crate) signal: SigId,
     pub(crate) place: Place,
     pub(crate) high: u8,

@@ -73,7 +73,7 @@ fn in_range(value: Bits, width: Option<u8>, signed: bool) -> Bits
 
 /// Declares a parameter. Its range is asked, then its default where the instance does not set it,
 /// and then rule 312; where one of them is broken, nothing is declared.
-pub(crate) fn declare_param(
+pub fn declare_param(
     alloc: Global,
     site: &Site,
     param: &Param,

@@ -51,7 +51,7 @@ fn range_width(alloc: Global, span: &Span, scope: &Scope) -> Result<u8, Fault>
 
 /// The width that a range gives, 1 to 64 bits, where there is a range. The rules of constants
 /// refuse its bounds, and rule 409 one that is not `[m:0]` with m from 0 to 63.
-pub(crate) fn optional_width(
+pub fn optional_width(
     alloc: Global,
     span: &Option<Span>,
     scope: &Scope,

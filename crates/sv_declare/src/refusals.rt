@@ -7,7 +7,7 @@ use std::alloc::Global;
 use sv_num::{Fault, Name, Place};
 
 /// The refusal by a rule at a place, with one name.
-pub(crate) fn refusal(alloc: Global, rule: u16, place: Place, name: &Name) -> Fault
+pub fn refusal(alloc: Global, rule: u16, place: Place, name: &Name) -> Fault
     ensures { IsRefusalBy (step rule place (name.now ∷ [])) result }
 {
     match name.alone(alloc) {
@@ -17,7 +17,7 @@ pub(crate) fn refusal(alloc: Global, rule: u16, place: Place, name: &Name) -> Fa
 }
 
 /// The refusal by a rule at a place, without names.
-pub(crate) fn nameless(alloc: Global, rule: u16, place: Place) -> Fault
+pub fn nameless(alloc: Global, rule: u16, place: Place) -> Fault
     ensures { IsRefusalBy (step rule place []) result }
 {
     Fault::broken(rule, place, Vec::new(alloc))

@@ -70,7 +70,7 @@ fn new_signal(
 
 /// Declares a signal, with the least point as its label. Its range is asked, then rule 312, and
 /// then rule 315; where one of them is broken, nothing is declared.
-pub(crate) fn declare_signal(
+pub fn declare_signal(
     alloc: Global,
     least: Point,
     site: &Site,

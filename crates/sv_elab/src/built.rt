@@ -6,7 +6,7 @@ use sv_flat::{Process, Signal};
 /// The signals and processes of the instances so far, in the order of the walk through them, and
 /// how many instances there are: at most 4,096 signals and 1,024 instances.
 #[derive(Drop)]
-pub(crate) struct Built {
+pub struct Built {
     pub(crate) signals: Vec<Signal>,
     pub(crate) processes: Vec<Process>,
     pub(crate) instances: u32,

@@ -41,7 +41,7 @@ const MOST_INSTANCES: u32 = 1024;
 /// An instance from inside: what its declarations stand for, and the names of the instances in it
 /// so far.
 #[derive(Drop)]
-pub(crate) struct Interior<'a> {
+pub struct Interior<'a> {
     scope: &'a Scope,
     instances: IndexSet<Name>,
 }
@@ -317,7 +317,7 @@ fn add_instance(
 }
 
 /// The signals and processes of the top and of all instances in it, in the order of the walk.
-pub(crate) fn top_instance(alloc: Global, shared: &Shared, master: &Module) -> Result<Built, Fault>
+pub fn top_instance(alloc: Global, shared: &Shared, master: &Module) -> Result<Built, Fault>
     requires ready { IsReady shared.now }
     requires shaped { IsTrue (is_shaped_module (module_tree master.now)) }
     ensures found { IfOk result (λ built.

@@ -30,7 +30,7 @@ use sv_width::{Scope, place_of, typed};
 /// The ports of an instance: how many signals stand before them, their module, the place of the
 /// first port of each name, and what the header's declarations say of the names.
 #[derive(Drop)]
-pub(crate) struct Ports<'a> {
+pub struct Ports<'a> {
     base: usize,
     master: &'a Module,
     places: IndexMap<Name, usize>,
@@ -286,7 +286,7 @@ fn add_ordered(
 /// others. The outer scope is that of the module around it, the inner one that of the declarations
 /// in its header, as far as they break no rule. Rule 313 refuses an unknown port, a port linked
 /// twice, more links than ports, and an output linked to another expression than a signal's name.
-pub(crate) fn add_links(
+pub fn add_links(
     alloc: Global,
     outer: &Scope,
     master: &Module,

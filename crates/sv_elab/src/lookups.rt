@@ -12,7 +12,7 @@ use sv_num::Name;
 use sv_width::{KnownSignal, Meaning, Scope};
 
 /// The length of what a name stands for, 0 where it stands for nothing.
-pub(crate) fn width_of(scope: &Scope, name: &Name) -> u8
+pub fn width_of(scope: &Scope, name: &Name) -> u8
     ensures width { result ≡ width_of (bindings_of scope.now name.now) }
     ensures few { result ≤ 64 }
 {
@@ -24,7 +24,7 @@ pub(crate) fn width_of(scope: &Scope, name: &Name) -> u8
 }
 
 /// The number of the signal that a name stands for, 0 where it stands for none.
-pub(crate) fn number_of(scope: &Scope, name: &Name) -> SigId
+pub fn number_of(scope: &Scope, name: &Name) -> SigId
     ensures { result.0 ≡ number_in scope.now name.now }
 {
     match scope.find(name) {
@@ -34,7 +34,7 @@ pub(crate) fn number_of(scope: &Scope, name: &Name) -> SigId
 }
 
 /// The signal that an expression names as a whole.
-pub(crate) fn whole_signal(scope: &Scope, expr: &Expr) -> Option<KnownSignal>
+pub fn whole_signal(scope: &Scope, expr: &Expr) -> Option<KnownSignal>
     ensures { MatchOption result
         (whole_signal (bindings_of scope.now) (expression_tree expr.now) ≡ None)
         (IsWholeSignal scope.now (expression_tree expr.now)) }

@@ -81,7 +81,7 @@ fn only_other<'a>(modules: &'a [Module], masters: &IndexSet<Name>) -> Option<&'a
 }
 
 /// The module of a name.
-pub(crate) fn module_named<'a>(
+pub fn module_named<'a>(
     modules: &'a [Module],
     names: &IndexSet<Name>,
     name: &Name,

@@ -12,7 +12,7 @@ use sv_num::{Name, OutOfMemory};
 /// The instances from the top down to one: their names without the top's, and the names of the
 /// modules of all of them.
 #[derive(Drop)]
-pub(crate) struct Nest {
+pub struct Nest {
     path: Vec<Name>,
     around: IndexSet<Name>,
 }

@@ -22,7 +22,7 @@ use sv_num::{Fault, Name, OutOfMemory, Place};
 use sv_width::{Meaning, Scope, typed};
 
 /// One blocking assignment of a value to a whole signal of so many bits, as a process.
-pub(crate) fn whole_assignment(
+pub fn whole_assignment(
     alloc: Global,
     place: Place,
     kind: ProcKind,
@@ -53,7 +53,7 @@ pub(crate) fn whole_assignment(
 }
 
 /// Adds the value of a `wire` as an assignment to it, if it has one.
-pub(crate) fn add_value(
+pub fn add_value(
     alloc: Global,
     decl: &Decl,
     scope: &Scope,
@@ -80,7 +80,7 @@ pub(crate) fn add_value(
 }
 
 /// Adds an `assign`, with the place of its first target.
-pub(crate) fn add_assign(
+pub fn add_assign(
     alloc: Global,
     targets: &[Target],
     place: Place,
@@ -127,7 +127,7 @@ fn always_kind(
 }
 
 /// Adds an `always` with the place of the word. Rule 401 refuses a clock that is no signal.
-pub(crate) fn add_always(
+pub fn add_always(
     alloc: Global,
     place: Place,
     clock: Option<&(Name, Place)>,

@@ -6,7 +6,7 @@ use sv_num::Name;
 /// The modules, points and maps of a text, and the names of its modules, each with the number of
 /// its module.
 #[derive(Clone, Copy)]
-pub(crate) struct Shared<'a> {
+pub struct Shared<'a> {
     pub(crate) tables: Tables<'a>,
     pub(crate) names: &'a IndexSet<Name>,
 }

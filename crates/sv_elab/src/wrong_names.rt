@@ -19,7 +19,7 @@ use sv_num::{Fault, Name, OutOfMemory, Place};
 
 /// A name that breaks rule 302, with its place.
 #[derive(Clone, Copy)]
-pub(crate) struct WrongName<'a> {
+pub struct WrongName<'a> {
     pub(crate) name: &'a Name,
     pub(crate) place: Place,
 }
@@ -52,7 +52,7 @@ fn earlier<'a>(
 }
 
 /// Puts a copy of the name last, and says whether it is new.
-pub(crate) fn add_name(
+pub fn add_name(
     alloc: Global,
     names: &mut IndexSet<Name>,
     name: &Name,
@@ -65,7 +65,7 @@ pub(crate) fn add_name(
 }
 
 /// The names of points, each once, and the first one that is declared twice.
-pub(crate) fn declared_names<'a>(
+pub fn declared_names<'a>(
     alloc: Global,
     points: &'a [(Name, Place)],
 ) -> Result<(IndexSet<Name>, Option<WrongName<'a>>), OutOfMemory>
@@ -85,7 +85,7 @@ pub(crate) fn declared_names<'a>(
 }
 
 /// The first wrong name, where one was found before, and the names of the pairs have to be points.
-pub(crate) fn with_pairs<'a>(
+pub fn with_pairs<'a>(
     names: &IndexSet<Name>,
     pairs: &'a [(Name, Place, Name, Place)],
     mut wrong: Option<WrongName<'a>>,
@@ -102,7 +102,7 @@ pub(crate) fn with_pairs<'a>(
 }
 
 /// The refusal by a rule that names one name.
-pub(crate) fn refusal(alloc: Global, rule: u16, place: Place, name: &Name) -> Fault
+pub fn refusal(alloc: Global, rule: u16, place: Place, name: &Name) -> Fault
     ensures { (end : Result (Unit {0}) Step) → end ≡ Err (step rule place (name.now ∷ [])) →
         IsBreach end result }
 {
@@ -114,7 +114,7 @@ pub(crate) fn refusal(alloc: Global, rule: u16, place: Place, name: &Name) -> Fa
 
 /// The names of the points of a lattice. Rule 302 refuses the first name, in the order of the text,
 /// that is declared twice or is in a pair but no point.
-pub(crate) fn distinct_names(alloc: Global, text: &LatticeText) -> Result<IndexSet<Name>, Fault>
+pub fn distinct_names(alloc: Global, text: &LatticeText) -> Result<IndexSet<Name>, Fault>
     ensures asked { OnOk result ((name_steps (lattice_tree text.now)).end ≡ Ok tt) }
     ensures names { IfOk result (λ names. names.keys ≡ point_names (lattice_tree text.now)) }
     ensures broken { IfErr result (IsBreach (name_steps (lattice_tree text.now)).end) }

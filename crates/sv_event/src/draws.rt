@@ -5,7 +5,7 @@ ghost use Rattle.sv_flat.specs.Schedules.{next_state, drawn, round};
 
 /// Makes the list the order of the next round, and gives the state that its draws made: the numbers
 /// in order, and then from the last entry down to the second each is exchanged with a drawn one.
-pub(crate) fn draw_round(order: &mut [usize], start: u64) -> u64
+pub fn draw_round(order: &mut [usize], start: u64) -> u64
     ensures order { order.new ≡ (round (length order.old) start).order }
     ensures state { result ≡ (round (length order.old) start).state }
 {

@@ -9,7 +9,7 @@ const BLOCK: usize = 4096;
 
 /// Whether the list has each number below the count once, and no other number. A call takes no
 /// memory, so each pass over the list looks for a block of the numbers.
-pub(crate) fn is_order(count: usize, order: &[usize]) -> bool
+pub fn is_order(count: usize, order: &[usize]) -> bool
     ensures { result ≡ (list_all (λ k. nat_lt k count) order.now
         && list_all (stands_once order.now) (range_with_len 0 count)) }
 {

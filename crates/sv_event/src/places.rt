@@ -8,7 +8,7 @@ use sv_design::Design;
 use sv_flat::{ProcKind, Process};
 
 /// The places of the clocked processes, or of the others, in order. It fails where memory runs out.
-pub(crate) fn places_of(
+pub fn places_of(
     alloc: Global,
     design: &Design,
     clocked: bool,

@@ -13,7 +13,7 @@ use sv_design::Design;
 
 /// Runs drawn rounds until the first after which no run would change a value, and gives how many it
 /// ran. After as many as there are combinational signals none would.
-pub(crate) fn run_rounds(
+pub fn run_rounds(
     design: &Design,
     combs: &[usize],
     number: u64,

@@ -10,7 +10,7 @@ use sv_design::Design;
 use sv_sim::run_at;
 
 /// Runs the combinational process with this number.
-pub(crate) fn run_numbered(design: &Design, combs: &[usize], process: usize, values: &mut [u64])
+pub fn run_numbered(design: &Design, combs: &[usize], process: usize, values: &mut [u64])
     requires combs { ArePlaces (design_of design.now) false combs.now }
     requires process { process < length combs.now }
     requires fit { FitSignals (design_of design.now).signals values.old }
@@ -23,7 +23,7 @@ pub(crate) fn run_numbered(design: &Design, combs: &[usize], process: usize, val
 }
 
 /// Runs the listed combinational processes, one after the other.
-pub(crate) fn run_all(design: &Design, combs: &[usize], schedule: &[usize], values: &mut [u64])
+pub fn run_all(design: &Design, combs: &[usize], schedule: &[usize], values: &mut [u64])
     requires combs { ArePlaces (design_of design.now) false combs.now }
     requires schedule { All (λ k. k < length combs.now) schedule.now }
     requires fit { FitSignals (design_of design.now).signals values.old }
@@ -38,7 +38,7 @@ pub(crate) fn run_all(design: &Design, combs: &[usize], schedule: &[usize], valu
 
 /// Whether no run of a combinational process would change a value. All of them run one after the
 /// other on other values: no later one takes back what one has changed, since no signal has two.
-pub(crate) fn is_quiet(design: &Design, combs: &[usize], values: &[u64], other: &mut [u64]) -> bool
+pub fn is_quiet(design: &Design, combs: &[usize], values: &[u64], other: &mut [u64]) -> bool
     requires combs { ArePlaces (design_of design.now) false combs.now }
     requires fit { FitSignals (design_of design.now).signals values.now }
     requires room { length other.old ≡ length values.now }

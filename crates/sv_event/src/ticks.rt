@@ -15,7 +15,7 @@ use sv_flat::update_body;
 
 /// Makes in the next values, which are the values, what the clocked processes update. They run in
 /// this order, all of them on the values before the edge (IEEE 1364-2005, clause 11).
-pub(crate) fn tick_all(
+pub fn tick_all(
     design: &Design,
     clocked: &[usize],
     order: &[usize],

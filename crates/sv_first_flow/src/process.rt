@@ -12,7 +12,7 @@ use sv_num::{Name, OutOfMemory};
 
 /// A process with one assignment, which `blocking` tells from a nonblocking one.
 #[derive(Clone, Copy)]
-pub(crate) struct Process<'a> {
+pub struct Process<'a> {
     pub(crate) clock: Option<&'a Name>,
     pub(crate) target: &'a Name,
     pub(crate) blocking: bool,
@@ -20,7 +20,7 @@ pub(crate) struct Process<'a> {
 }
 
 /// Whether the expression reads the name.
-pub(crate) fn is_read(value: &Expr, name: &Name) -> bool
+pub fn is_read(value: &Expr, name: &Name) -> bool
     ensures { result ≡ holds (reads (expression_tree value.now)) name.now }
 {
     match value {
@@ -59,7 +59,7 @@ fn process_of_item(item: &Item) -> Option<Process<'_>>
 }
 
 /// The processes of a module, in textual order.
-pub(crate) fn processes(alloc: Global, module: &Module) -> Result<Vec<Process<'_>>, OutOfMemory>
+pub fn processes(alloc: Global, module: &Module) -> Result<Vec<Process<'_>>, OutOfMemory>
     ensures { IfOk result
         (λ found. plain_processes found.items ≡ processes (module_tree «module».now)) }
 {

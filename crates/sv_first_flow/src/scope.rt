@@ -23,7 +23,7 @@ const MOST_NAMES: usize = 4096;
 
 /// A module whose declared names all differ.
 #[derive(Drop)]
-pub(crate) struct Scope<'a> {
+pub struct Scope<'a> {
     module: &'a Module,
     names: IndexSet<Name>,
     declarations: Vec<&'a Decl>,
@@ -65,7 +65,7 @@ fn declarations(alloc: Global, module: &Module) -> Result<Vec<&Decl>, OutOfMemor
 }
 
 /// Puts a copy of the name last, and says whether it is new.
-pub(crate) fn add_name(
+pub fn add_name(
     alloc: Global,
     names: &mut IndexSet<Name>,
     name: &Name,

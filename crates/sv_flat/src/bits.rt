@@ -6,14 +6,14 @@ ghost use Rattle.sv_num.specs.Parts.{extended, bits_between, bit_or_zero, replac
 use sv_num::{Bits, extend};
 
 /// A value shifted down; 0 where the amount is 64 or more.
-pub(crate) fn shifted(value: u64, amount: u64) -> u64
+pub fn shifted(value: u64, amount: u64) -> u64
     ensures { result ≡ value / 2 ^ amount }
 {
     if amount < 64 { value >> amount } else { 0 }
 }
 
 /// The lowest bits of a value.
-pub(crate) fn low_bits(value: u64, width: u8) -> u64
+pub fn low_bits(value: u64, width: u8) -> u64
     ensures { result ≡ value % 2 ^ width }
 {
     if width < 64 {
@@ -24,7 +24,7 @@ pub(crate) fn low_bits(value: u64, width: u8) -> u64
 }
 
 /// The bits of a value from `high` down to `low`.
-pub(crate) fn bits_between(value: u64, high: u8, low: u8) -> u64
+pub fn bits_between(value: u64, high: u8, low: u8) -> u64
     requires order { low ≤ high }
     requires few { high + 1 - low ≤ 64 }
     ensures { result ≡ bits_between high low value }
@@ -44,7 +44,7 @@ fn is_negative(value: u64, length: u8, signed: bool) -> bool
 
 /// The bit of a value of some width that an index of a length and signedness names, and 0 outside
 /// of it.
-pub(crate) fn bit_by_index(value: u64, width: u8, index: u64, length: u8, signed: bool) -> u64
+pub fn bit_by_index(value: u64, width: u8, index: u64, length: u8, signed: bool) -> u64
     requires some { 1 ≤ length }
     requires few { length ≤ 64 }
     requires low { index < 2 ^ length }
@@ -59,7 +59,7 @@ pub(crate) fn bit_by_index(value: u64, width: u8, index: u64, length: u8, signed
 }
 
 /// A value of some width in which the bits from `high` down to `low` are the low bits of a piece.
-pub(crate) fn replaced_bits(value: u64, width: u8, high: u8, low: u8, piece: u64) -> u64
+pub fn replaced_bits(value: u64, width: u8, high: u8, low: u8, piece: u64) -> u64
     requires order { low ≤ high }
     requires inside { high < width }
     requires few { width ≤ 64 }
@@ -73,7 +73,7 @@ pub(crate) fn replaced_bits(value: u64, width: u8, high: u8, low: u8, piece: u64
 
 /// A value of one width at another, no smaller one: the new bits are copies of the highest bit
 /// where the type is signed, and else 0.
-pub(crate) fn extended(value: u64, from: u8, to: u8, signed: bool) -> u64
+pub fn extended(value: u64, from: u8, to: u8, signed: bool) -> u64
     requires wider { from ≤ to }
     requires few { to ≤ 64 }
     requires low { value < 2 ^ from }
@@ -87,7 +87,7 @@ pub(crate) fn extended(value: u64, from: u8, to: u8, signed: bool) -> u64
 }
 
 /// One value above another of some width.
-pub(crate) fn beside(high: u64, low: u64, width: u8) -> u64
+pub fn beside(high: u64, low: u64, width: u8) -> u64
     requires { high * 2 ^ width + low < 2 ^ 64 }
     ensures { result ≡ high * 2 ^ width + low }
 {
@@ -99,7 +99,7 @@ pub(crate) fn beside(high: u64, low: u64, width: u8) -> u64
 }
 
 /// A value of some width, so many times one beside the other.
-pub(crate) fn repeated(count: u32, width: u8, value: u64) -> u64
+pub fn repeated(count: u32, width: u8, value: u64) -> u64
     requires few { count * width ≤ 64 }
     requires low { value < 2 ^ width }
     ensures value { result ≡ repeated count width value }

@@ -4,7 +4,7 @@ ghost use Rattle.std.specs.Prelude.{◌≡◌, List, map, IfOk};
 use std::alloc::{AllocError, Global};
 
 /// What takes memory to copy. Two values with one plain form are equal.
-pub(crate) trait Copied: Sized + Drop {
+pub trait Copied: Sized + Drop {
     ghost Form: { Type 0 };
 
     ghost form: { Self → Form };

@@ -121,7 +121,7 @@ fn fits(number: u64, width: u8) -> bool
 }
 
 /// Whether the number is that of one of the signals.
-pub(crate) fn is_signal(signal: SigId, signals: &[Signal]) -> bool
+pub fn is_signal(signal: SigId, signals: &[Signal]) -> bool
     ensures { result ≡ is_signal (signal_forms signals.now) signal.0 }
 {
     (signal.0 as usize) < signals.len()
@@ -146,7 +146,7 @@ fn reads_part(signal: SigId, width: u8, high: u8, low: u8, signals: &[Signal]) -
 
 /// Whether the bits from `high` down to `low` lie in a value of `length` bits and are at most as
 /// many as the width.
-pub(crate) fn is_part_of(length: u8, width: u8, high: u8, low: u8) -> bool
+pub fn is_part_of(length: u8, width: u8, high: u8, low: u8) -> bool
     ensures { result ≡ is_part_of length width high low }
 {
     low <= high && high < length && high + 1 - low <= width

@@ -176,7 +176,7 @@ fn width_and_value(signal: SigId, signals: &[Signal], values: &[u64]) -> (u8, u6
 }
 
 /// The width in bits, from 1 to 64, of one of the signals.
-pub(crate) fn width_of_signal(signal: SigId, signals: &[Signal]) -> u8
+pub fn width_of_signal(signal: SigId, signals: &[Signal]) -> u8
     requires { signal.0 < length signals.now }
     ensures { result ≡ signal_width (signal_forms signals.now) signal.0 }
 {

@@ -12,7 +12,7 @@ use sv_flat::{ProcKind, update_body};
 
 /// Makes in the next values, which are the values, what the clocked processes update. All of them
 /// run on the values before the edge (IEEE 1364-2005, clauses 9.2.2 and 11).
-pub(crate) fn clock_edge(design: &Design, values: &[u64], next: &mut [u64])
+pub fn clock_edge(design: &Design, values: &[u64], next: &mut [u64])
     requires fit { FitSignals (design_of design.now).signals values.now }
     requires same { next.old ≡ values.now }
     ensures fit { FitSignals (design_of design.now).signals next.new }

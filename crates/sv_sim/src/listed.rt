@@ -7,7 +7,7 @@ ghost use Rattle.sv_sim.specs.Given.{FitListed, with_given};
 use sv_flat::{SigId, Signal};
 
 /// Whether there is one value for each listed signal, and each has no more bits than its signal.
-pub(crate) fn fits(values: &[u64], listed: &[SigId], signals: &[Signal]) -> bool
+pub fn fits(values: &[u64], listed: &[SigId], signals: &[Signal]) -> bool
     requires { (k : ℕ) → k < length listed.now →
         slice_index (numbers listed.now) k < length signals.now }
     ensures { IsTrue result ↔

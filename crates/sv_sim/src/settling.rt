@@ -15,7 +15,7 @@ use sv_flat::{SigId, run_body};
 
 /// Runs the processes that assign the combinational signals, those of lower signals first: once all
 /// lower signals are settled, a run settles what it assigns.
-pub(crate) fn settle(design: &Design, values: &mut [u64])
+pub fn settle(design: &Design, values: &mut [u64])
     requires { FitSignals (design_of design.now).signals values.old }
     ensures fit { FitSignals (design_of design.now).signals values.new }
     ensures others { SameOthers (design_of design.now) (by_number values.new)

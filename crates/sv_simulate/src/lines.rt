@@ -15,7 +15,7 @@ use sv_trace::StimKind;
 const MOST_WAITING: usize = 65_536;
 
 /// Puts the lines that wait.
-pub(crate) fn put_waiting<K: Sink>(out: &mut K, waiting: &mut Vec<u8>) -> Result<(), SimFault>
+pub fn put_waiting<K: Sink>(out: &mut K, waiting: &mut Vec<u8>) -> Result<(), SimFault>
     ensures whole { OnOk result (K.accepted out.new ≡ K.accepted out.old ++ waiting.old.items) }
     ensures none { OnOk result (waiting.new.items ≡ []) }
     ensures refused { OnErr result
@@ -30,7 +30,7 @@ pub(crate) fn put_waiting<K: Sink>(out: &mut K, waiting: &mut Vec<u8>) -> Result
 }
 
 /// Puts a line behind the lines that wait, and puts them if they are many.
-pub(crate) fn put_line<K: Sink>(
+pub fn put_line<K: Sink>(
     out: &mut K,
     waiting: &mut Vec<u8>,
     line: &[u8],
@@ -51,7 +51,7 @@ pub(crate) fn put_line<K: Sink>(
 }
 
 /// What stands behind the trace.
-pub(crate) fn last_line(
+pub fn last_line(
     alloc: Global,
     ending: Ending,
     rounds: Option<u64>,

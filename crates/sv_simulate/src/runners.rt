@@ -22,7 +22,7 @@ use sv_sim::{Sim, put_listed};
 
 /// A design that runs cycle by cycle.
 #[derive(Drop)]
-pub(crate) enum Runner<'a> {
+pub enum Runner<'a> {
     /// Each cycle is settled by the computed order of the signals.
     Plain(Sim<'a>),
     /// Each cycle is settled by rounds in drawn orders of the processes.
@@ -32,7 +32,7 @@ pub(crate) enum Runner<'a> {
 /// A design that runs in drawn orders: the order number, both orders of its clocked processes, and
 /// the rounds so far.
 #[derive(Drop)]
-pub(crate) struct Drawn<'a> {
+pub struct Drawn<'a> {
     event: Event<'a>,
     number: u64,
     ascending: Vec<usize>,

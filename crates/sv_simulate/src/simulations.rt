@@ -27,7 +27,7 @@ use sv_trace::{StimFault, StimReader, trace_line};
 
 /// A stimulus that is read, and a design that runs its cycles.
 #[derive(Drop)]
-pub(crate) struct Simulation<'a> {
+pub struct Simulation<'a> {
     design: &'a Design,
     level: Option<Point>,
     reader: StimReader,

@@ -11,7 +11,7 @@ use crate::fields::{read_value, split_first};
 use std::alloc::{AllocError, Global};
 
 /// The values of a cycle, one for each width; None where the line is wrong.
-pub(crate) fn read_cycle(
+pub fn read_cycle(
     alloc: Global,
     widths: &[u8],
     line: &[u8],

@@ -10,7 +10,7 @@ use memchr::memchr;
 const MAX_DIGITS: usize = 16;
 
 /// The bytes before the first separator, and those after it.
-pub(crate) fn split_first(bytes: &[u8], separator: u8) -> Option<(&[u8], &[u8])>
+pub fn split_first(bytes: &[u8], separator: u8) -> Option<(&[u8], &[u8])>
     ensures parts { IfSome result (λ parts.
         bytes.now ≡ parts.0.now ++ separator ∷ parts.1.now) }
     ensures first { IfSome result (λ parts. Lacks separator parts.0.now) }
@@ -21,7 +21,7 @@ pub(crate) fn split_first(bytes: &[u8], separator: u8) -> Option<(&[u8], &[u8])>
 }
 
 /// The value that a word is, of so many bits.
-pub(crate) fn read_value(digits: &[u8], width: u8) -> Option<u64>
+pub fn read_value(digits: &[u8], width: u8) -> Option<u64>
     ensures found { is_some result ≡ is_value width digits.now }
     ensures value { IfSome result (λ value. value ≡ digits_value 16 digits.now) }
     ensures fits { IfSome result (λ value. value < 2 ^ width) }

@@ -16,14 +16,14 @@ use sv_num::Name;
 
 /// A register that may start, and its width in bits.
 #[derive(Debug, Drop)]
-pub(crate) struct Register {
+pub struct Register {
     pub name: Name,
     pub width: u8,
 }
 
 /// The line before the cycles, the widths of the inputs, and the registers.
 #[derive(Debug, Drop)]
-pub(crate) struct Form {
+pub struct Form {
     pub header: Vec<u8>,
     pub inputs: Vec<u8>,
     pub registers: Vec<Register>,

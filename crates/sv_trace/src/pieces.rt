@@ -15,7 +15,7 @@ const MAX_LINE: usize = 1_048_576;
 
 /// Reads the lines that end in a piece, the first of them with what is kept of it, and keeps the
 /// rest.
-pub(crate) fn read_piece(
+pub fn read_piece(
     alloc: Global,
     form: &Form,
     state: &mut State,
@@ -89,7 +89,7 @@ fn keep(kept: &mut Vec<u8>, bytes: &[u8], line: u64) -> Result<(), StimFault>
 }
 
 /// Reads what is kept as the last line, if it has a byte, and asks for the header.
-pub(crate) fn read_end(
+pub fn read_end(
     alloc: Global,
     form: &Form,
     state: &mut State,

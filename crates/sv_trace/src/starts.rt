@@ -12,7 +12,7 @@ use crate::fields::{read_value, split_first};
 use crate::forms::Register;
 
 /// What follows the word `start` and its blank.
-pub(crate) fn start_rest(line: &[u8]) -> Option<&[u8]>
+pub fn start_rest(line: &[u8]) -> Option<&[u8]>
     ensures { MatchOption result (is_start line.now ≡ false)
         (λ rest. (is_start line.now ≡ true) × (rest.now ≡ drop 6 line.now)) }
 {
@@ -40,13 +40,13 @@ fn place_of(registers: &[Register], name: &[u8]) -> Option<usize>
 
 /// A register by its place among the registers, and its starting value.
 #[derive(Clone, Copy, Debug)]
-pub(crate) struct Start {
+pub struct Start {
     pub place: usize,
     pub value: u64,
 }
 
 /// The start that follows the word `start`.
-pub(crate) fn read_start(
+pub fn read_start(
     registers: &[Register],
     given: &[bool],
     rest: &[u8],

@@ -16,7 +16,7 @@ use std::collections::VecDeque;
 /// What the lines so far say: whether the header was there, which registers were started and their
 /// values, the cycles, and the number of the next line.
 #[derive(Drop)]
-pub(crate) struct State {
+pub struct State {
     pub begun: bool,
     pub given: Vec<bool>,
     pub start: Vec<u64>,
@@ -25,7 +25,7 @@ pub(crate) struct State {
 }
 
 /// Reads a whole line.
-pub(crate) fn read_line(
+pub fn read_line(
     alloc: Global,
     form: &Form,
     state: &mut State,

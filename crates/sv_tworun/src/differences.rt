@@ -67,7 +67,7 @@ fn seen_apart(design: &Design, level: Point, first: &[u64], second: &[u64]) -> O
 }
 
 /// The difference that a cycle with these values shows, if it shows any.
-pub(crate) fn difference(
+pub fn difference(
     design: &Design,
     level: Point,
     cycle: u64,

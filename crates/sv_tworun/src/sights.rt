@@ -11,7 +11,7 @@ use sv_flat::SigId;
 use sv_lattice::{Point, label_at};
 
 /// The value of the signal, if the level sees it.
-pub(crate) fn sight(design: &Design, level: Point, signal: SigId, values: &[u64]) -> Option<u64>
+pub fn sight(design: &Design, level: Point, signal: SigId, values: &[u64]) -> Option<u64>
     requires level { level.0 < length design.now.lattice }
     requires signal { signal.0 < length design.now.signals.items }
     requires fit { FitSignals (design_of design.now).signals values.now }
@@ -39,7 +39,7 @@ fn is_apart(design: &Design, level: Point, signal: SigId, first: &[u64], second:
 }
 
 /// The first of the listed signals of which the level does not see the same in both.
-pub(crate) fn first_apart(
+pub fn first_apart(
     design: &Design,
     level: Point,
     listed: &[SigId],

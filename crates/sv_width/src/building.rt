@@ -29,7 +29,7 @@ use sv_ast::Expr;
 use sv_num::{BinOp, Bits, Fault, OutOfMemory, Place, UnOp};
 
 /// Where a constant stands inside an expression.
-pub(crate) fn inside(setting: Setting) -> Setting
+pub fn inside(setting: Setting) -> Setting
     ensures names { (known : Known) → names_in result known ≡ names_in setting known }
     ensures constant { is_constant result ≡ true }
 {
@@ -51,7 +51,7 @@ pub fn natural(bits: Bits) -> Option<u64>
 }
 
 /// Whether the number that a value stands for is one from 0 to below the limit.
-pub(crate) fn is_below(bits: Bits, limit: u8) -> bool
+pub fn is_below(bits: Bits, limit: u8) -> bool
     ensures { result ≡ is_below limit (number_of bits) }
 {
     match natural(bits) {
@@ -61,7 +61,7 @@ pub(crate) fn is_below(bits: Bits, limit: u8) -> bool
 }
 
 /// A bit of a signal, with its index.
-pub(crate) fn bit(
+pub fn bit(
     alloc: Global,
     known: KnownSignal,
     place: Place,
@@ -79,7 +79,7 @@ pub(crate) fn bit(
 }
 
 /// A part of a signal. Rule 403 refuses bounds outside of it or in the wrong order.
-pub(crate) fn part(
+pub fn part(
     alloc: Global,
     known: KnownSignal,
     place: Place,
@@ -140,7 +140,7 @@ fn bounds(width: u8, high: Bits, low: Bits) -> Option<(u8, u8)>
 }
 
 /// A unary operator with its operand.
-pub(crate) fn unary(alloc: Global, op: UnOp, operand: Measured) -> Result<Measured, OutOfMemory>
+pub fn unary(alloc: Global, op: UnOp, operand: Measured) -> Result<Measured, OutOfMemory>
     ensures found { IfOk result (λ m.
         measured_tree m ≡ measured.unary (unary_own op (measured_tree operand)) op
         (measured_tree operand)) }
@@ -160,7 +160,7 @@ pub(crate) fn unary(alloc: Global, op: UnOp, operand: Measured) -> Result<Measur
 
 /// A binary operator with its operands, the right one at the second place. Rule 406 refuses a
 /// division of what is not constant.
-pub(crate) fn binary(
+pub fn binary(
     alloc: Global,
     op: BinOp,
     place: Place,
@@ -195,7 +195,7 @@ pub(crate) fn binary(
 }
 
 /// A choice from its condition and both values.
-pub(crate) fn choice(
+pub fn choice(
     alloc: Global,
     place: Place,
     cond: Measured,
@@ -222,7 +222,7 @@ pub(crate) fn choice(
 
 /// A join of some parts, both as they stand in the text and measured. Rule 402 refuses a length
 /// above 64, rule 407 a part that is a number without a written length.
-pub(crate) fn join(
+pub fn join(
     alloc: Global,
     place: Place,
     parts: &[Expr],
@@ -257,7 +257,7 @@ pub(crate) fn join(
 
 /// A replication of some parts, with the place of its count. Rules 402 and 407 refuse as in a join,
 /// then rule 408 a count that is not 1 to 64.
-pub(crate) fn replication(
+pub fn replication(
     alloc: Global,
     place: Place,
     at: Place,

@@ -17,7 +17,7 @@ use std::alloc::Global;
 use sv_num::{BinOp, Bits, Fault, Place, apply_binary, apply_unary, extend};
 
 /// The value at another length: cut, or extended as the type's sign says.
-pub(crate) fn at_type(bits: Bits, to: BitType) -> Bits
+pub fn at_type(bits: Bits, to: BitType) -> Bits
     ensures width { width_of result ≡ to.width }
     ensures signed { is_signed result ≡ to.signed }
     ensures value { value_of result ≡
@@ -43,7 +43,7 @@ fn low_bits(number: u64, width: u8) -> u64
 /// divisor that is 0.
 #[tactic(auto, unfolding(crate::specs::Pushed::folded_of, crate::specs::Pushed::joined_from, crate::specs::Pushed::divisors_of, crate::specs::Pushed::divisors_in))]
 #[cycle(folding)]
-pub(crate) fn folded(alloc: Global, expr: &Measured, to: BitType) -> Result<Bits, Fault>
+pub fn folded(alloc: Global, expr: &Measured, to: BitType) -> Result<Bits, Fault>
     ensures found { IfOk result (IsFolded (measured_tree expr.now) to.width to.signed) }
     ensures broken { IfErr result
         (IsBreach (divisors_of (measured_tree expr.now) to.width to.signed).end) }
@@ -210,7 +210,7 @@ fn repeated(count: u8, value: u64, value_width: u8, width: u8) -> u64
 }
 
 /// The sum of the own lengths; 65 stands for every greater one.
-pub(crate) fn joined_width(parts: &[Measured]) -> u8
+pub fn joined_width(parts: &[Measured]) -> u8
     ensures { result ≡ min (joined_width (parts_of (measured_trees parts.now))) 65 }
 {
     let mut width: u8 = 0;

@@ -24,7 +24,7 @@ use sv_num::{Fault, Name, Place};
 
 /// Which names an expression may name.
 #[derive(Clone, Copy, Debug, PartialEq, Eq)]
-pub(crate) enum Setting {
+pub enum Setting {
     /// Signals and parameters.
     Open,
     /// Parameters alone.
@@ -34,7 +34,7 @@ pub(crate) enum Setting {
 }
 
 /// The refusal by a rule at a place, without names.
-pub(crate) fn refusal(alloc: Global, number: u16, place: Place) -> Fault
+pub fn refusal(alloc: Global, number: u16, place: Place) -> Fault
     ensures { (end : Result (Unit {0}) Step) → end ≡ Err (step number place []) →
         IsBreach end result }
 {
@@ -53,7 +53,7 @@ fn unknown(alloc: Global, name: &Name, place: Place) -> Fault
 }
 
 /// A whole name.
-pub(crate) fn named(
+pub fn named(
     alloc: Global,
     name: &Name,
     place: Place,
@@ -102,7 +102,7 @@ fn absent(alloc: Global, name: &Name, place: Place, scope: &Scope, setting: Sett
 }
 
 /// The signal of which a bit or a part is taken.
-pub(crate) fn selected(
+pub fn selected(
     alloc: Global,
     name: &Name,
     place: Place,
@@ -139,7 +139,7 @@ fn is_signal(name: &Name, scope: &Scope) -> bool
 /// Whether a signal is named. It looks no further than the first one.
 #[tactic(auto, unfolding(sv_walk::specs::TypedExpressions::names_signal, sv_walk::specs::TypedExpressions::some_names_signal))]
 #[cycle(naming)]
-pub(crate) fn names_signal(expr: &Expr, scope: &Scope) -> bool
+pub fn names_signal(expr: &Expr, scope: &Scope) -> bool
     ensures { result ≡ names_signal (bindings_of scope.now) (expression_tree expr.now) }
 {
     match expr {

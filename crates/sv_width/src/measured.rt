@@ -12,7 +12,7 @@ use sv_num::{BinOp, Bits, Place, UnOp};
 
 /// An expression's own length and sign, and whether it names a signal.
 #[derive(Clone, Copy, Debug, PartialEq, Eq)]
-pub(crate) struct Own {
+pub struct Own {
     pub(crate) of_type: BitType,
     pub(crate) names_signal: bool,
 }
@@ -20,7 +20,7 @@ pub(crate) struct Own {
 /// An expression that breaks no rule but perhaps 405, each operand with its own length and sign.
 /// Signals are numbers; parameters, bounds and counts are values.
 #[derive(Debug, Drop)]
-pub(crate) enum Measured {
+pub enum Measured {
     Number(Own, Bits),
     Signal(Own, SigId, Place),
     Bit(Own, SigId, Place, Box<Measured>),
@@ -68,7 +68,7 @@ impl Measured {
 }
 
 /// A number of the text, or a parameter's value.
-pub(crate) fn value(bits: Bits) -> Measured
+pub fn value(bits: Bits) -> Measured
     ensures { measured_tree result ≡
         measured.value (record {
           width = width_of bits;
@@ -85,7 +85,7 @@ pub(crate) fn value(bits: Bits) -> Measured
 }
 
 /// A whole signal.
-pub(crate) fn whole_signal(known: KnownSignal, place: Place) -> Measured
+pub fn whole_signal(known: KnownSignal, place: Place) -> Measured
     ensures { measured_tree result ≡
         measured.read (record { width = known.width; signed = known.signed; names_signal = true })
         known.signal.0 place }

@@ -27,7 +27,7 @@ use sv_num::{BinOp, Bits, Fault, Name, Place, UnOp};
 // As many calls stand inside each other as the expression has levels, so each kind of operator has
 // a function of its own, to keep the frame of this one small.
 #[cycle(measuring)]
-pub(crate) fn measured(
+pub fn measured(
     alloc: Global,
     expr: &Expr,
     scope: &Scope,
@@ -235,7 +235,7 @@ fn measured_replication(
 /// A constant at its own length and sign: a bound, an index or a count of an expression, or a whole
 /// constant.
 #[cycle(measuring)]
-pub(crate) fn measured_constant(
+pub fn measured_constant(
     alloc: Global,
     expr: &Expr,
     scope: &Scope,

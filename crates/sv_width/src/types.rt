@@ -12,14 +12,14 @@ use sv_num::{BinOp, Bits, OpClass, UnOp};
 
 /// A length of 1 to 64 bits, and a sign.
 #[derive(Clone, Copy, Debug, PartialEq, Eq)]
-pub(crate) struct BitType {
+pub struct BitType {
     pub(crate) width: u8,
     pub(crate) signed: bool,
     pub(crate) ghost in_range: { (1 ≤ width) × (width ≤ 64) },
 }
 
 /// One bit without sign.
-pub(crate) fn one_bit() -> BitType
+pub fn one_bit() -> BitType
     ensures width { result.width ≡ 1 }
     ensures signed { result.signed ≡ false }
 {
@@ -30,7 +30,7 @@ pub(crate) fn one_bit() -> BitType
 }
 
 /// The type of a value.
-pub(crate) fn type_of(bits: Bits) -> BitType
+pub fn type_of(bits: Bits) -> BitType
     ensures width { result.width ≡ width_of bits }
     ensures signed { result.signed ≡ is_signed bits }
 {
@@ -41,7 +41,7 @@ pub(crate) fn type_of(bits: Bits) -> BitType
 }
 
 /// How a binary operator sizes its operands.
-pub(crate) fn class_of(op: BinOp) -> OpClass
+pub fn class_of(op: BinOp) -> OpClass
     ensures { result ≡ class_of op }
 {
     match op {
@@ -54,14 +54,14 @@ pub(crate) fn class_of(op: BinOp) -> OpClass
 }
 
 /// Whether the operator is `/` or `%`.
-pub(crate) fn is_division(op: BinOp) -> bool
+pub fn is_division(op: BinOp) -> bool
     ensures { result ≡ is_division op }
 {
     matches!(op, BinOp::Div | BinOp::Rem)
 }
 
 /// Whether the operator is `!` or a reduction.
-pub(crate) fn gives_one_bit(op: UnOp) -> bool
+pub fn gives_one_bit(op: UnOp) -> bool
     ensures { result ≡ gives_one_bit op }
 {
     match op {
@@ -72,7 +72,7 @@ pub(crate) fn gives_one_bit(op: UnOp) -> bool
 }
 
 /// The greater length, signed where both are.
-pub(crate) fn common(a: BitType, b: BitType) -> BitType
+pub fn common(a: BitType, b: BitType) -> BitType
     ensures width { result.width ≡ max a.width b.width }
     ensures signed { result.signed ≡ (a.signed && b.signed) }
 {
@@ -83,7 +83,7 @@ pub(crate) fn common(a: BitType, b: BitType) -> BitType
 }
 
 /// The own type of a binary operator's result, from those of its operands.
-pub(crate) fn result_type(op: BinOp, a: BitType, b: BitType) -> BitType
+pub fn result_type(op: BinOp, a: BitType, b: BitType) -> BitType
     ensures width { result.width ≡ binary_length (class_of op) a.width b.width }
     ensures signed { result.signed ≡ binary_signed (class_of op) a.signed b.signed }
 {
@@ -96,7 +96,7 @@ pub(crate) fn result_type(op: BinOp, a: BitType, b: BitType) -> BitType
 
 /// The type at which a binary operator's left operand stands, from the pushed type and both own
 /// ones.
-pub(crate) fn left_type(op: BinOp, pushed: BitType, a: BitType, b: BitType) -> BitType
+pub fn left_type(op: BinOp, pushed: BitType, a: BitType, b: BitType) -> BitType
     ensures width { result.width ≡ left_length (class_of op) pushed.width a.width b.width }
     ensures signed { result.signed ≡ left_signed (class_of op) pushed.signed a.signed b.signed }
 {
@@ -108,7 +108,7 @@ pub(crate) fn left_type(op: BinOp, pushed: BitType, a: BitType, b: BitType) -> B
 }
 
 /// Likewise of its right operand.
-pub(crate) fn right_type(op: BinOp, pushed: BitType, a: BitType, b: BitType) -> BitType
+pub fn right_type(op: BinOp, pushed: BitType, a: BitType, b: BitType) -> BitType
     ensures width { result.width ≡ right_length (class_of op) pushed.width a.width b.width }
     ensures signed { result.signed ≡ right_signed (class_of op) pushed.signed a.signed b.signed }
 {

@@ -87,7 +87,7 @@ pub fn constant_in_reach(alloc: Global, expr: &Expr, scope: &Scope) -> Result<Bi
 /// The typed form at a type. Rule 405 refuses the first divisor that is 0.
 #[tactic(auto, unfolding(crate::specs::Pushed::node_of, crate::specs::Pushed::nodes_in, crate::specs::Pushed::divisors_of, crate::specs::Pushed::divisors_in))]
 #[cycle(typing)]
-pub(crate) fn pushed(alloc: Global, expr: &Measured, to: BitType) -> Result<FExpr, Fault>
+pub fn pushed(alloc: Global, expr: &Measured, to: BitType) -> Result<FExpr, Fault>
     ensures found { IfOk result (IsPushed (measured_tree expr.now) to.width to.signed) }
     ensures broken { IfErr result
         (IsBreach (divisors_of (measured_tree expr.now) to.width to.signed).end) }

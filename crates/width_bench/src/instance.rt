@@ -17,7 +17,7 @@ const NOWHERE: Place = Place { line: 1, column: 1 };
 
 /// Signals with their values, beside parameters.
 #[derive(Drop)]
-pub(crate) struct Instance {
+pub struct Instance {
     alloc: Global,
     scope: Scope,
     signals: Vec<Signal>,

@@ -4,14 +4,14 @@ use anyhow::{Context, Result, bail};
 
 /// A length and a sign.
 #[derive(Clone, Copy, PartialEq, Eq)]
-pub(crate) struct Kind {
+pub struct Kind {
     pub(crate) width: u8,
     pub(crate) signed: bool,
 }
 
 /// What a line says.
 #[derive(Drop)]
-pub(crate) enum Line<'a> {
+pub enum Line<'a> {
     /// `signal NAME LENGTH SIGN`
     Signal(&'a str, Kind),
     /// `parameter NAME LENGTH SIGN VALUE`
@@ -29,7 +29,7 @@ pub(crate) enum Line<'a> {
 }
 
 /// Reads a line.
-pub(crate) fn read_line(text: &str) -> Result<Line<'_>> {
+pub fn read_line(text: &str) -> Result<Line<'_>> {
     let (first, rest) = word(text)?;
     match first {
         "signal" => {

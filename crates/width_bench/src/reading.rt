@@ -11,7 +11,7 @@ use sv_read::expressions::read_expression;
 use sv_token::{Token, lex};
 
 /// The lines of the input.
-pub(crate) fn input_lines(rt: &impl Input, alloc: Global) -> Result<Vec<String>> {
+pub fn input_lines(rt: &impl Input, alloc: Global) -> Result<Vec<String>> {
     let mut lines: Vec<String> = Vec::new(alloc);
     for line in BufReader::new(alloc, rt.reader())?.lines(alloc) {
         let line = line?;
@@ -21,7 +21,7 @@ pub(crate) fn input_lines(rt: &impl Input, alloc: Global) -> Result<Vec<String>>
 }
 
 /// The expression that the text is.
-pub(crate) fn expression(alloc: Global, text: &str) -> Result<Expr>
+pub fn expression(alloc: Global, text: &str) -> Result<Expr>
     ensures { IfOk result (λ expr. IsTrue (is_shaped_expression (expression_tree expr))) }
 {
     let bytes = text.as_bytes();

@@ -10,7 +10,7 @@ use std::time::{CpuClock, Duration};
 
 /// Evaluates each expression of the lines so many times over changing values of the signals. It
 /// prints the exclusive or of all values and the microseconds.
-pub(crate) fn evaluate(
+pub fn evaluate(
     rt: &(impl Print + CpuClock),
     alloc: Global,
     lines: &[String],
@@ -26,7 +26,7 @@ pub(crate) fn evaluate(
 }
 
 /// Types each expression of the lines so many times, and prints the microseconds.
-pub(crate) fn type_again(
+pub fn type_again(
     rt: &(impl Print + CpuClock),
     alloc: Global,
     lines: &[String],

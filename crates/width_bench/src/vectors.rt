@@ -10,7 +10,7 @@ use sv_num::Bits;
 
 /// Tells how many values and rules of the lines agree and how many differ, and first each line
 /// whose one differs.
-pub(crate) fn compare(rt: &impl Print, alloc: Global, lines: &[String]) -> Result<()> {
+pub fn compare(rt: &impl Print, alloc: Global, lines: &[String]) -> Result<()> {
     let mut instance = Instance::new(alloc);
     let mut agree: u64 = 0;
     let mut differ: u64 = 0;

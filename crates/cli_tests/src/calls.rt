@@ -13,6 +13,7 @@ pub struct Failing<'a> {
     pub puts: &'a [u32],
 }
 
+/// No call fails.
 pub const NONE: Failing<'static> = Failing {
     fetches: &[],
     takes: &[],

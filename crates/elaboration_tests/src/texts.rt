@@ -23,7 +23,7 @@ fn has_few(text: &Text) -> bool
     few_pairs && text.maps.len() < 0x1_0000_0000
 }
 
-// The flat design of a text.
+/// The flat design of a text.
 pub fn flat(
     rt: &impl Abort,
     alloc: Global,

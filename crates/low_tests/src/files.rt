@@ -1,3 +1,4 @@
+// The outside in memory and over real files and streams.
 use std::alloc::Global;
 use std::io::{ErrorKind, Read, Write};
 use std::test::Fail;

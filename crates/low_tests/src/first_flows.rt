@@ -1,3 +1,4 @@
+// Findings of modules of the first form.
 use std::alloc::Global;
 use std::test::Fail;
 use sv_first_ast::{Decl, DeclKind, Expr, Item, Module, Point, Stmt};

@@ -1,3 +1,4 @@
+// Texts of the first form, read and refused.
 use std::alloc::{AllocError, Global};
 use std::test::Fail;
 use sv_first::read_module;

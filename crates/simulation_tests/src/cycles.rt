@@ -18,7 +18,7 @@ const NEAREST: &str = "module m(input a, input b, output reg [1:0] y, output [3:
     assign d = 7 - 2 - 1;\n\
     endmodule\n";
 
-// Two instances, each with its own parameter and its own register.
+/// Two instances, each with its own parameter and its own register.
 pub const INSTANCES: &str = "module cnt #(parameter W = 2)\n  \
     (input clk, input en, output reg [W-1:0] q);\n  \
     always @(posedge clk) if (en) q <= q + 1;\n\

@@ -24,7 +24,7 @@ fn has_few(text: &Text) -> bool
     few_pairs && text.maps.len() < 0x1_0000_0000
 }
 
-// The admitted design of a text.
+/// The admitted design of a text.
 pub fn design(rt: &impl Abort, alloc: Global, source: &str) -> Result<Design, Fail> {
     let bytes = source.as_bytes();
     assert!(rt; bytes.len() < 1_000_000, "the text is short");

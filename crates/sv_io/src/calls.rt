@@ -1,3 +1,4 @@
+// Calls numbered from 1, of which some fail.
 ghost use Rattle.std.specs.Prelude.{◌≡◌, ℕ, []};
 ghost use Rattle.sv_io.specs.Count.{one_more, is_failing};
 

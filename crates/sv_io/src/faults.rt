@@ -1,3 +1,4 @@
+// Why a call of the outside hands out or takes nothing.
 use thiserror::Error;
 
 /// A call failed, and the object's count of faults rose.

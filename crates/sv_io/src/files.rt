@@ -1,3 +1,4 @@
+// Files in memory: bytes and counts under names.
 ghost use Rattle.std.specs.Prelude.{◌≡◌, ◌≢◌, ℕ, ◌+◌, ◌<◌, ◌≤◌, List, take, length, min, Some};
 ghost use Rattle.std.specs.Prelude.{IfOk, OnOk, OnErr, IsErrOf, vec_len};
 ghost use Rattle.std.specs.Option.{option_copied};

@@ -1,3 +1,4 @@
+// A source and a sink for inputs and outputs that are too large to be kept.
 ghost use Rattle.std.specs.Prelude.{◌≡◌, ◌+◌, ◌≤◌, ◌<◌, ◌-◌, ◌∷◌, ◌++◌, true, [], take, drop};
 ghost use Rattle.std.specs.Prelude.{◌↔◌, length, min, vec_len, Ok, IfOk, IfSome, IfNone};
 ghost use Rattle.sv_io.specs.Repeated.{repeated};

@@ -1,3 +1,4 @@
+// A cabinet, a source and a sink in memory of which chosen calls fail.
 ghost use Rattle.std.specs.Prelude.{◌≡◌, ◌≢◌, ℕ, ◌+◌, ◌<◌, ◌≤◌, ◌↔◌, ◌⊎◌, Bool, true, IsTrue, []};
 ghost use Rattle.std.specs.Prelude.{List, ◌∷◌, ◌++◌, take, length, min, Option, None, Some, Ok};
 ghost use Rattle.std.specs.Prelude.{Err, IfOk, OnOk, OnErr, IsOk, IsErr, IsErrOf, vec_len};

@@ -1,3 +1,4 @@
+// A piece of bytes, copied.
 ghost use Rattle.std.specs.Prelude.{◌≡◌, ◌≤◌, length, take, min};
 
 /// Copies as many bytes as both have, and at most `most`, to the front of `buf`, and says how many.

@@ -1,3 +1,4 @@
+// A cabinet, a source and a sink over the real system.
 ghost use Rattle.std.specs.Prelude.{◌≡◌, ◌≢◌, ℕ, ◌+◌, ◌<◌, ◌≤◌, Bool, false, List, [], ◌∷◌, ◌++◌};
 ghost use Rattle.std.specs.Prelude.{take, None, Some, IfOk, OnOk, OnErr, IsErr, IsErrOf, IsTrue};
 ghost use Rattle.std.specs.Prelude.{length, vec_len};

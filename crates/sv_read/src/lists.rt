@@ -21,6 +21,7 @@ use sv_token::{SignKind, Token};
 
 /// A kind of list, by what stands before its first comma and behind each comma.
 pub trait Listed {
+    /// What an item of the list is read as.
     type Item: Drop;
 
     ghost Tree: { Type 0 };

@@ -207,7 +207,7 @@ impl StimReader {
         self.state.cycles.pop_front()
     }
 
-    // The registers' starting values.
+    /// The registers' starting values.
     pub(crate) fn into_start(self) -> Vec<u64>
         ensures start { result.items ≡ self.said.start }
         ensures fits { (design : FlatDesign) → self.form ≡ form_of design →

@@ -21,7 +21,7 @@ use Rattle.sv_ast.specs.ClockPaths.{is_input_kind}
 -- Between an instance and the whole design.
 
 -- the values of an instance's signals by name
-abbrev pub values_in : Part → Environment Path → List ℕ → ℕ
+abbrev pub values_in : Part → Environment Path → Environment (List ℕ)
 values_in p environment = λ n. environment (within p n)
 
 -- the name of a path in an instance; the signals of other instances have none there
@@ -31,7 +31,7 @@ name_in (i ∷ is) (n ∷ ns) = if bytes_eq i n then name_in is ns else None
 name_in _ _ = None
 
 -- the environment with the values of an instance's signals replaced
-abbrev pub with_values : Part → (List ℕ → ℕ) → Environment Path → Environment Path
+abbrev pub with_values : Part → Environment (List ℕ) → Environment Path → Environment Path
 with_values p values environment = λ path.
     option_map_or values (name_in p.path path) (environment path)
 

@@ -4,7 +4,7 @@ use Rattle.std.specs.Prelude.{◌≡◌, ℕ, Bool, false, cond, not, List, [], 
 use Rattle.std.specs.Prelude.{length, if◌then◌else◌}
 use Rattle.std.specs.List.{list_all, flat_map}
 use Rattle.std.specs.Str.{bytes_eq}
-use Rattle.sv_system.specs.System.{Settled}
+use Rattle.sv_system.specs.System.{Environment, Settled}
 use Rattle.sv_first_ast.specs.Names.{holds}
 use Rattle.sv_first_ast.specs.Tree.{ModuleTree}
 use Rattle.sv_first_ast.specs.Meaning.{Process, processes, signals, is_input, is_register, label_of}
@@ -49,8 +49,8 @@ beside (m ∷ names) (v ∷ values) n = cond (bytes_eq m n) v (beside names valu
 -- and in the one that follows with its next inputs, some read's label does not flow to the
 -- target's. A register's label is the one of the next cycle.
 pub record Falsifies (m : ModuleTree) (v : Values) (o : Obligation) : Type 0 where
-  pub now : List ℕ → ℕ
-  pub next : List ℕ → ℕ
+  pub now : Environment (List ℕ)
+  pub next : Environment (List ℕ)
   pub settled : Settled (system m) (beside (filter (is_register m) (signals m)) v.registers)
       (beside (filter (is_input m) (signals m)) v.inputs) now
   pub settled_next : Settled (system m) ((system m).next now)

@@ -16,7 +16,8 @@ Puts {Signal} same d process =
 pub record OneTarget {Signal Point : Type 0} (system : System Signal Point) (same : Signal →
     Signal → Bool) (drivers : List (Driver Signal)) : Type 0 where
   pub driver_of : (process : Environment Signal → Environment Signal) →
-      Contains system.processes process → (d : Driver Signal) × Contains drivers d × Puts same d process
+      Contains system.processes process →
+      (d : Driver Signal) × Contains drivers d × Puts same d process
   pub process_of : (d : Driver Signal) → Contains drivers d →
       (process : Environment Signal → Environment Signal) × Contains system.processes process
       × Puts same d process

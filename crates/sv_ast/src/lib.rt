@@ -6,12 +6,13 @@
 //! and the other functions of `Views.antt` give it.
 //!
 //! `Shape.antt` says which trees the grammar gives. What tokens mean, and where they break rules
-//! 201 to 204, is said in `GrammarRules.antt` over the other files of the grammar, and of bytes in
-//! `GrammarMeaning.antt`. What a text means as a cycle system is said in `Meaning.antt`, and with
-//! no value of a clock in `TextSystem.antt`; `Scopes.antt`, `Instances.antt`, `Parts.antt` and
-//! `ClockPaths.antt` say what stands in an instance, `Values.antt`, `Runs.antt` and
-//! `Processes.antt` what it does, `SourceLabels.antt` and `Reach.antt` what its labels are. None is
-//! private.
+//! 201 to 204, is said in `GrammarRules.antt` over `GrammarForms.antt`, `GrammarGroups.antt`,
+//! `GrammarExpressions.antt`, `GrammarStatements.antt`, `GrammarDeclarations.antt` and
+//! `GrammarModules.antt`, and of bytes in `GrammarMeaning.antt`. What a text means as a cycle
+//! system is said in `Meaning.antt`, and with no value of a clock in `TextSystem.antt`;
+//! `Scopes.antt`, `Instances.antt`, `Parts.antt` and `ClockPaths.antt` say what stands in an
+//! instance, `Values.antt`, `Runs.antt` and `Processes.antt` what it does, `SourceLabels.antt` and
+//! `Reach.antt` what its labels are. None is private.
 #![tactic(auto)]
 
 mod copies;

@@ -6,8 +6,8 @@
 //! 401 to 408 that is broken. A contract speaks of the walk of a statement, which
 //! `specs/Statements.antt`, `Targets.antt` and `CaseChains.antt` of `sv_walk` define.
 //!
-//! The files in `specs/` here are private: they say what the code holds on the way; the meaning
-//! stands in those of `sv_walk`.
+//! `Targets.antt`, `Cases.antt` and `Chains.antt` here are private: they say what the code holds on
+//! the way; the meaning stands in those of `sv_walk`.
 #![tactic(auto)]
 
 mod cases;

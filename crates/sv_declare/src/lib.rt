@@ -5,9 +5,10 @@
 //! found, or with the first rule that is broken (`sv_walk`, `specs/Declarations.antt`,
 //! `specs/LabelSteps.antt` and `specs/Overrides.antt`).
 //!
-//! `specs/Sites.antt` says what an instance and its declarations are as the walk has them, and
-//! `Steps.antt` how a call answers. `Ranges.antt`, `Selectors.antt` and `Overridden.antt` are
-//! private: they say how the code goes; the meaning stands in those files of `sv_walk`.
+//! `specs/Sites.antt` says what an instance and its declarations are as the walk has them,
+//! `Steps.antt` how a call answers, `Overridden.antt` what an instance sets. `Ranges.antt` and
+//! `Selectors.antt` are private: they say how the code goes; the meaning stands in those files of
+//! `sv_walk`.
 #![tactic(auto)]
 
 mod declarations;

@@ -4,8 +4,9 @@
 //! `specs/Spelling.antt` of `sv_first_ast`: exactly these are read, each as the one module that it
 //! means.
 //!
-//! Bytes become tokens (`lexer`), and tokens a tree, from left to right. The definitions in
-//! `specs/` say how the private functions do that, and are no part of what the crate promises.
+//! Bytes become tokens (`lexer`), and tokens a tree, from left to right. `Signs.antt`,
+//! `Identifiers.antt`, `Tokens.antt`, `Reading.antt`, `Values.antt` and `Items.antt` here are
+//! private: they say how that is done, and are no part of what the crate promises.
 #![tactic(auto)]
 
 mod declarations;

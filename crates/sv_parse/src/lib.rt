@@ -3,7 +3,9 @@
 //! `parse` promises the meaning in the words of `sv_ast` (`specs/GrammarRules.antt`: `TokensMean`,
 //! `BreaksGrammar`). Below it each function promises what those of `sv_read` do.
 //!
-//! The files in `specs/` say how reading goes; what it means stands in `sv_ast`.
+//! `specs/Faults.antt` says what the fault of a text says. `Reading.antt`,
+//! `ReadingDeclarations.antt`, `ReadingItems.antt` and `ReadingTexts.antt` say how reading goes,
+//! for this layer alone; what it means stands in `sv_ast`.
 #![tactic(auto)]
 
 mod declarations;

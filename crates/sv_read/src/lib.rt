@@ -9,7 +9,8 @@
 //! (`is`) or that it does not (`none`). The crates above read statements and modules by these
 //! functions.
 //!
-//! The files in `specs/` say how reading goes; what it means stands in `sv_ast`.
+//! `specs/Reading.antt` and `Expectations.antt` say how reading goes, for this layer alone; what it
+//! means stands in `sv_ast`.
 #![tactic(auto)]
 
 pub mod cursor;

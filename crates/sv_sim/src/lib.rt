@@ -7,9 +7,9 @@
 //! Promises that after `settle` the values are the one settled environment of the registers and
 //! the inputs, and that `tick` gives each register its next value, as `sv_system/specs/System.antt`
 //! says it of the system in `sv_flat/specs/FlatSystem.antt`; and that each fitting start and list
-//! of inputs of an admitted design has exactly one trace. `Simulations` says what a contract sees
-//! of a simulation, and `Given` how values are given to signals. `Settling` has the words for how
-//! settling goes; of them `process_at` stands in a public contract.
+//! of inputs of an admitted design has exactly one trace. `Simulations.antt` says what a contract
+//! sees of a simulation, and `Given.antt` how values are given to signals. `Settling.antt` is
+//! private, but for `process_at`, which `run_at` runs: it says how settling and the edge go.
 #![tactic(auto)]
 
 mod edges;

@@ -6,7 +6,7 @@
 //!
 //! Promises that what is written is the trace of the stimulus, and then why it ends: by
 //! `specs/Simulated.antt` over a flat design, whose traces and lines stand in `Traces.antt` for
-//! every kind of signal name. The other definitions are words for the code: `Runs.antt`,
+//! every kind of signal name. The other definitions are private, how the code goes: `Runs.antt`,
 //! `Progress.antt`, `Fronts.antt` and `Runners.antt`.
 #![tactic(auto)]
 

@@ -6,7 +6,7 @@
 //! describe a source text and a flat design each as a system, supply the facts on it, and get
 //! theorems back, which this file states. `specs/System.antt` has the sentences, `specs/Facts.antt`
 //! the facts for one system, `specs/Joining.antt` what it is that two systems do the same, and
-//! `specs/Schedules.antt` the orders in which processes may run.
+//! `specs/Schedules.antt` the orders in which processes may run. None is private.
 #![tactic(auto)]
 
 ghost use Rattle.sv_system.specs.System.{System, Noninterferent, HasOneTrace};

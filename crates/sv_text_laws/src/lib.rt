@@ -12,6 +12,7 @@
 //! Of the way from bytes to the flat design it says besides that bytes mean one text, that typed
 //! expressions are no larger than their sources (`specs/Sizes.antt`), and that the signals of the
 //! design and its label maps are those declared (`specs/Signals.antt`, `specs/LabelRows.antt`).
+//! None of these files is private.
 #![tactic(auto)]
 
 mod meanings;

@@ -7,8 +7,9 @@
 //!
 //! `specs/Tokens.antt` says what tokens a text has and where it breaks a rule, over `Bytes.antt`,
 //! `Fronts.antt`, `Gaps.antt`, `Words.antt`, `Numerals.antt` and `Signs.antt`; `Lexemes.antt` is
-//! how definitions see a token, and `Spans.antt` where tokens stand. `Lexed.antt` and `Views.antt`
-//! are private: they say how the code goes; the meaning stands in the files before.
+//! how definitions see a token, and `Spans.antt` where tokens stand. `Views.antt` says what a fault
+//! of `lex` says (`IsFaultOf`); the rest of it and `Lexed.antt` are private: they say how the code
+//! goes; the meaning stands in the files before.
 #![tactic(auto)]
 
 mod bytes;

@@ -2,8 +2,11 @@
 //! flat design that the tree stands for.
 //!
 //! This crate has definitions and a law on them, no program. `specs/Walks.antt` says what a walk
-//! is, `specs/Texts.antt` what the walk of a whole text is; the other files go down from there to
-//! declarations, statements and expressions.
+//! is, `Rules.antt` what a broken step tells, `Texts.antt` what the walk of a whole text is. Below
+//! it stand `Lattices.antt`, `LabelMaps.antt`, and `InstanceSteps.antt` with `Overrides.antt`,
+//! `Declarations.antt`, `LabelSteps.antt`, `Links.antt`, `Statements.antt`, `CaseChains.antt` and
+//! `Targets.antt`; `Names.antt` says what names stand for, `ExpressionSteps.antt` what an
+//! expression is asked, `TypedExpressions.antt` what it becomes. None is private.
 #![tactic(auto)]
 
 mod laws;

@@ -1,9 +1,9 @@
-//! Lengths, signs and values of source expressions (IEEE 1364-2005, clauses 5.4 and 5.5).
+//! Length, signedness and value of source expressions (IEEE 1364-2005, clauses 5.4 and 5.5).
 //!
 //! It takes an expression of the grammar's shape, and a `Scope` that says what each name stands
 //! for. `typed` gives the typed form for a place that gives a length, `constant` and
 //! `constant_in_reach` the value of a constant, and an `Operand` is typed or valued later, where
-//! its place gives length and sign. Each answers as the walk of an expression in
+//! its place gives length and signedness. Each answers as the walk of an expression in
 //! `specs/ExpressionSteps.antt` of `sv_walk` ends: with its result, with the first of the rules 401
 //! to 408 that is broken, or with want of memory. Typed forms are those of
 //! `specs/TypedExpressions.antt` there; they have the values of their sources, as
@@ -12,8 +12,9 @@
 //! `specs/Scopes.antt` says what a scope knows, `Answers.antt` what a call answers for a walk,
 //! `Operands.antt` what an operand is, `Agreement.antt` when signals and an environment are those
 //! of some names, and `WrittenLengths.antt` that written numbers have 1 to 64 bits.
-//! `Settings.antt`, `Measured.antt`, `Pushed.antt`, `Outcomes.antt` and `Views.antt` are private:
-//! they say how the code goes; the meaning stands in those files of `sv_walk`.
+//! `Settings.antt`, `Measured.antt`, `Pushed.antt`, `Outcomes.antt` and `Views.antt` are private,
+//! but for `whole_part` of `Outcomes.antt`, which `natural` gives: they say how the code goes; the
+//! meaning stands in those files of `sv_walk`.
 #![tactic(auto)]
 
 mod building;

@@ -60,7 +60,7 @@ ArePassed names n s (e ∷ es) = IsPassed names n s e × ArePassed names n s es
 abbrev pub values_of : Names → (length : ℕ) → (signed : Bool) → List ExpressionTree → List ℕ
 values_of names n s es = map (λ e. value names.scope nowhere e n s) es
 
--- whether one of some values is that of so many bits at a common length and sign
+-- whether one of some values is that of so many bits at a common length and signedness
 abbrev pub is_held : (own length : ℕ) → (signed : Bool) → (values : List ℕ) → ℕ → Bool
 is_held own n s values v = list_any (λ item. item == extended s own n v) values
 
@@ -68,7 +68,7 @@ is_held own n s values v = list_any (λ item. item == extended s own n v) values
 abbrev pub own_length : Item → ℕ
 own_length i = option_map_or own_width i.operand 0
 
--- whether it is signed by itself; one that breaks a rule changes no sign
+-- whether it is signed by itself; one that breaks a rule changes no signedness
 abbrev pub is_signed : Item → Bool
 is_signed i = option_map_or own_signed i.operand true
 

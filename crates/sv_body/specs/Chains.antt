@@ -43,7 +43,7 @@ abbrev pub otherwise_of : Option walk.FlatArm → FlatStatement
 otherwise_of None = nothing
 otherwise_of (Some arm) = arm.body
 
--- one arm: its items at the common length and sign, then its statement
+-- one arm: its items at the common length and signedness, then its statement
 unfoldable pub arm_walk : Names → (length : ℕ) → (signed : Bool) → ArmTree → Walk walk.FlatArm
 arm_walk names n s arm = do
   items ← items_walk names n s arm.items

@@ -49,7 +49,7 @@ HasWidths t r = (has_ranges t ≡ true) × (r.first ≡ first_width t) × (r.sec
 abbrev pub is_row_key : (first : ℕ) → (second : Option ℕ) → RowTree → Bool
 is_row_key first second row = is_key first row.first && is_second_key second row.second
 
--- the value is that of the bits, by their own sign, and fits the width
+-- the value is that of the bits, by their own signedness, and fits the width
 abbrev pub IsPart : (width : ℕ) → Bits → ℕ → Type 0
 IsPart width bits value = (number_of bits ≡ pos value) × (value < 2 ^ width)
 

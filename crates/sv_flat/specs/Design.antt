@@ -18,7 +18,7 @@ pub record SignalForm : Type 0 where
   pub place : Place
 
 mutual
-  -- an expression with the length and sign that its context gives it
+  -- an expression with the length and signedness that its context gives it
   pub data TypedTree : Type 0 where
     typed : (width : ℕ) → (signed : Bool) → NodeTree → TypedTree
 

@@ -1,5 +1,5 @@
--- What a flat design keeps to, whatever it says: lengths and signs as IEEE 1364-2005, clauses 5.4
--- and 5.5, give them, and numbers of signals, points and maps that exist.
+-- What a flat design keeps to, whatever it says: lengths and signedness as IEEE 1364-2005, clauses
+-- 5.4 and 5.5, give them, and numbers of signals, points and maps that exist.
 use Rattle.std.specs.Prelude.{ℕ, ◌+◌, ◌-◌, ◌*◌, ◌^◌, Bool, true, false, ◌==◌, ◌&&◌, ◌||◌, not}
 use Rattle.std.specs.Prelude.{nat_lt, nat_le, List, length, Option, Some, None}
 use Rattle.std.specs.Bool.{beq}
@@ -34,7 +34,7 @@ is_one_to most n = nat_le 1 n && nat_le n most
 abbrev pub is_signal : List SignalForm → ℕ → Bool
 is_signal signals s = nat_lt s (length signals)
 
--- an operand has the length and sign that are pushed down to it
+-- an operand has the length and signedness that are pushed down to it
 abbrev pub has_type : (width : ℕ) → (signed : Bool) → TypedTree → Bool
 has_type width signed e = (expression_width e == width) && beq (expression_signed e) signed
 
@@ -42,7 +42,7 @@ has_type width signed e = (expression_width e == width) && beq (expression_signe
 abbrev pub is_part_of : (n width high low : ℕ) → Bool
 is_part_of n width high low = nat_le low high && nat_lt high n && nat_le (high + 1 - low) width
 
--- the operand of `!` and of a reduction has a length and sign of its own
+-- the operand of `!` and of a reduction has a length and signedness of its own
 abbrev pub unary_typed : UnOp → (width : ℕ) → (signed : Bool) → TypedTree → Bool
 unary_typed op width signed e = gives_one_bit op || has_type width signed e
 

@@ -1,6 +1,6 @@
 -- What a typed expression gives in an environment (IEEE 1364-2005, clause 5). The environment gives
--- each signal, by its number, a value; every operand stands at the length and sign that clauses 5.4
--- and 5.5 give it.
+-- each signal, by its number, a value; every operand stands at the length and signedness that
+-- clauses 5.4 and 5.5 give it.
 use Rattle.std.specs.Prelude.{ℕ, ◌+◌, ◌*◌, ◌%◌, ◌^◌, Bool, false, List, [], if◌then◌else◌, ℤ}
 use Rattle.std.specs.Prelude.{slice_index_or}
 use Rattle.sv_num.specs.Vectors.{as_number, is_true}
@@ -46,10 +46,10 @@ parts_width (more_parts e es) = expression_width e + parts_width es
 
 -- ---- values
 
--- A comparison, a reduction, `!`, `&&` or `||` gives 0 or 1, and a bit, a part or a concatenation a
--- value without sign: at a greater length their new bits are 0.
+-- A comparison, a reduction, `!`, `&&` or `||` gives 0 or 1, and a bit, a part or a concatenation
+-- an unsigned value: at a greater length their new bits are 0.
 abbrev mutual
-  -- the value at the length and sign of the expression
+  -- the value at the length and signedness of the expression
   pub value : List SignalForm → Environment ℕ → TypedTree → ℕ
   value signals environment (typed width signed node) =
       node_value signals environment width signed node
@@ -94,7 +94,7 @@ abbrev mutual
   joined signals environment (more_parts e es) =
       value signals environment e * 2 ^ parts_width es + joined signals environment es
 
-  -- the number that an index stands for, by its own sign
+  -- the number that an index stands for, by its own signedness
   pub number_of : List SignalForm → Environment ℕ → TypedTree → ℤ
   number_of signals environment (typed width signed node) =
       as_number width signed (node_value signals environment width signed node)

@@ -38,7 +38,7 @@ class_of Or = Context
 class_of LogicAnd = Logical
 class_of LogicOr = Logical
 
--- both operands have one length and sign, but those of a shift, of `&&` and of `||`
+-- both operands have one length and signedness, but those of a shift, of `&&` and of `||`
 abbrev pub HaveOneType : OpClass → Bits → Bits → Type 0
 HaveOneType Context a b = (width_of a ≡ width_of b) × (is_signed a ≡ is_signed b)
 HaveOneType Compare a b = (width_of a ≡ width_of b) × (is_signed a ≡ is_signed b)
@@ -58,7 +58,7 @@ result_width Compare n = 1
 result_width Logical n = 1
 result_width Shift n = n
 
--- comparisons, `&&` and `||` are unsigned; other results have the sign of the left operand
+-- comparisons, `&&` and `||` are unsigned; other results have the signedness of the left operand
 abbrev pub result_signed : OpClass → Bool → Bool
 result_signed Context signed = signed
 result_signed Compare signed = false
@@ -66,8 +66,8 @@ result_signed Logical signed = false
 result_signed Shift signed = signed
 
 -- what an operator gives for the values a and b, where a has n bits and is signed or not. Division
--- truncates towards zero, a remainder has the sign of its first operand, `>>>` fills with the sign,
--- and the amount of a shift is read without sign
+-- truncates towards zero, a remainder has the sign of its first operand, `>>>` fills with the sign
+-- bit of a signed value, and the amount of a shift is read as unsigned
 abbrev pub binary_value : BinOp → ℕ → Bool → ℕ → ℕ → ℕ
 binary_value Mul n signed a b = reduced n (as_number n signed a *ℤ as_number n signed b)
 binary_value Div n signed a b = reduced n (int_div (as_number n signed a) (as_number n signed b))

@@ -5,7 +5,7 @@ use Rattle.sv_num.specs.declared.operators.UnOp.TheVariants.{Plus, Minus, LogicN
 use Rattle.sv_num.specs.declared.operators.UnOp.TheVariants.{Nand, Or, Nor, Xor, Xnor}
 use Rattle.sv_num.specs.Vectors.{as_number, reduced, truth, is_true}
 
--- whether the operator gives one bit without sign: `!` and the reductions do, the others keep the
+-- whether the operator gives one unsigned bit: `!` and the reductions do, the others keep the
 -- operand's type
 abbrev pub gives_one_bit : UnOp → Bool
 gives_one_bit Plus = false

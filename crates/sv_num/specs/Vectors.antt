@@ -1,4 +1,4 @@
--- Values of a length and sign, as IEEE 1364-2005, clauses 3 and 5, has them.
+-- Values of a length and signedness, as IEEE 1364-2005, clauses 3 and 5, has them.
 use Rattle.std.specs.Prelude.{ℕ, ◌-◌, ◌%◌, ◌^◌, Bool, true, false, ◌==◌, not, ◌&&◌, nat_le}
 use Rattle.std.specs.Prelude.{if◌then◌else◌, ℤ, pos, negsuc, ◌-ℤ◌}
 use Rattle.sv_num.specs.declared.vectors.Bits.{Bits}
@@ -11,7 +11,7 @@ width_of bits = bits.width
 abbrev pub is_signed : Bits → Bool
 is_signed bits = bits.signed
 
--- the value, read without a sign
+-- the value, read as unsigned
 abbrev pub value_of : Bits → ℕ
 value_of bits = bits.value
 

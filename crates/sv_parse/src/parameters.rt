@@ -33,7 +33,7 @@ use sv_read::lists::{Listed, read_list};
 use sv_read::stop::Stop;
 use sv_token::{SignKind, Token, WordKind};
 
-// The sign and the range of a parameter; without a range it has no sign.
+// The signedness and the range of a parameter; without a range it is unsigned.
 fn read_param_type<'a>(
     alloc: Global,
     bytes: &[u8],
@@ -116,7 +116,7 @@ fn read_typed_param<'a>(
     Ok((param, rest))
 }
 
-// A parameter with the word, sign and range of the one before it.
+// A parameter with the word, signedness and range of the one before it.
 fn read_param_alike<'a>(
     alloc: Global,
     bytes: &[u8],

@@ -1,4 +1,4 @@
--- What a signal of a flat design has from its declaration: name, length, sign and kind (IEEE
+-- What a signal of a flat design has from its declaration: name, length, signedness and kind (IEEE
 -- 1364-2005, clauses 4.2, 4.3, 12.3 and 12.5), and label (SecVerilog, ASPLOS 2015).
 use Rattle.std.specs.Prelude.{◌≡◌, ℕ, List, map, flat_map, Option, Some, None}
 use Rattle.std.specs.Prelude.{if◌then◌else◌}

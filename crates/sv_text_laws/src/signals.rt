@@ -10,11 +10,11 @@ ghost use Rattle.sv_text_laws.specs.LabelRows.{IsTableOf};
 ghost use Rattle.sv_text_laws.specs.Signals.{text_signals, IsDeclared};
 
 /// The signals of the flat design that a text stands for are those of the text's instances, in
-/// order, each with the name from the top module on, the length, sign, kind, label and place of its
-/// declaration (IEEE 1364-2005, clauses 4.2, 4.3, 12.3 and 12.5; labels after SecVerilog, ASPLOS
-/// 2015). Its points and the tables of its label maps are those of the text, in order. The text has
-/// the shape that the grammar gives, releases nothing, and writes numbers that have 1 to 64 bits
-/// and fit them.
+/// order, each with the name from the top module on, the length, signedness, kind, label and place
+/// of its declaration (IEEE 1364-2005, clauses 4.2, 4.3, 12.3 and 12.5; labels after SecVerilog,
+/// ASPLOS 2015). Its points and the tables of its label maps are those of the text, in order. The
+/// text has the shape that the grammar gives, releases nothing, and writes numbers that have 1 to
+/// 64 bits and fit them.
 pub fn flat_signals_are_those_declared()
     ensures signals { (text : TextTree) (asked : Option (List ℕ)) (design : FlatDesign)
         → CanBeFlattened text → flat_of text asked ≡ Some design

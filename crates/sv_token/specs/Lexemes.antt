@@ -9,8 +9,8 @@ use Rattle.sv_token.specs.declared.tokens.Token.{Token}
 use Rattle.sv_token.specs.declared.tokens.TokenKind.{TokenKind}
 use Rattle.sv_token.specs.declared.tokens.TokenKind.TheVariants as token_kind
 
--- a number of the text: its length in bits, its sign, its value below 2^width, and whether its
--- length is written
+-- a number of the text: its length in bits, its signedness, its value below 2^width, and whether
+-- its length is written
 pub record Literal : Type 0 where
   pub width : ℕ
   pub signed : Bool

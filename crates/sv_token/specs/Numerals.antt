@@ -78,7 +78,7 @@ base_of letter = option_map (λ row. row.1) (find (λ row. list_any (nat_eq lett
 abbrev pub says_signed : ℕ → Bool
 says_signed b = nat_eq b 115 || nat_eq b 83
 
--- the head of a based literal: its sign and its base, and the bytes behind them
+-- the head of a based literal: its signedness and its base, and the bytes behind them
 pub record Head : Type 0 where
   pub signed : Bool
   pub base : ℕ

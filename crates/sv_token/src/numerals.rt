@@ -121,7 +121,8 @@ fn decimal_at(bytes: &[u8], count: usize) -> Front
 
 // Based literals.
 
-// The head of a based literal: its sign and its base, and how many bytes it has behind the `'`.
+// The head of a based literal: its signedness and its base, and how many bytes it has behind the
+// `'`.
 #[derive(Clone, Copy)]
 struct Head {
     signed: bool,

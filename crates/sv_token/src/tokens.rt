@@ -4,8 +4,8 @@ use crate::keywords::WordKind;
 use crate::signs::SignKind;
 use sv_num::{Bits, Place};
 
-/// A number of the text (IEEE 1364-2005, clause 3.5): its value at its length and sign, and whether
-/// the length was written.
+/// A number of the text (IEEE 1364-2005, clause 3.5): its value at its length and signedness, and
+/// whether the length was written.
 #[derive(Clone, Copy, Debug, PartialEq, Eq)]
 pub struct Lit {
     pub bits: Bits,

@@ -31,7 +31,7 @@ abbrev pub is_second_range : Option SpanTree → Bool
 is_second_range None = true
 is_second_range (Some span) = is_map_range span
 
--- a part of a key as a whole number, by its own sign
+-- a part of a key as a whole number, by its own signedness
 abbrev pub key_number : KeyTree → ℤ
 key_number key = as_number key.value.width key.value.signed key.value.value
 

@@ -1,6 +1,6 @@
--- The typed form of a source expression: a length and a sign are pushed down to each operand or are
--- its own (IEEE 1364-2005, clauses 5.4 and 5.5). Names of signals are numbers; literals, parameters
--- and divisions stand as their values, other constant expressions as they are written.
+-- The typed form of a source expression: a length and a signedness are pushed down to each operand
+-- or are its own (IEEE 1364-2005, clauses 5.4 and 5.5). Names of signals are numbers; literals,
+-- parameters and divisions stand as their values, other constant expressions as they are written.
 use Rattle.std.specs.Prelude.{ℕ, max, Bool, true, false, ◌||◌, ◌&&◌, Option, Some, None}
 use Rattle.sv_num.specs.declared.faults.Place.{Place}
 use Rattle.sv_num.specs.declared.operators.BinOp.{BinOp}
@@ -61,7 +61,7 @@ right_length Compare n a b = max a b
 right_length Logical n a b = b
 right_length Shift n a b = b
 
--- likewise the sign
+-- likewise the signedness
 abbrev pub left_signed : OpClass → (pushed own_left own_right : Bool) → Bool
 left_signed Context s a b = s
 left_signed Compare s a b = a && b
@@ -82,8 +82,8 @@ named_node (Some (signal width signed)) k p n s = read k p
 named_node None k p n s = read k p
 
 unfoldable mutual
-  -- the typed form at a length and sign; a division stands as its value, since its operands are
-  -- constants
+  -- the typed form at a length and signedness; a division stands as its value, since its operands
+  -- are constants
   pub typed_of : Names → ExpressionTree → (length : ℕ) → (signed : Bool) → TypedTree
   typed_of names (literal l p) n s = typed n s (constant (extended s l.width n l.value))
   typed_of names (named m p) n s = typed n s (named_node (names.scope m) (names.number m) p n s)
@@ -115,7 +115,7 @@ unfoldable mutual
   typed_of names (replication p k es) n s = typed n s
       (replication_node (natural (whole_number names.scope k)) (typed_parts names es))
 
-  -- each part at its own length and sign
+  -- each part at its own length and signedness
   pub typed_parts : Names → ExpressionTrees → TypedTrees
   typed_parts names no_expressions = no_parts
   typed_parts names (more_expressions e es) =

@@ -39,7 +39,7 @@ pub fn inside(setting: Setting) -> Setting
     }
 }
 
-/// The whole number that a value stands for by its own sign; None where it is negative.
+/// The whole number that a value stands for by its own signedness; None where it is negative.
 pub fn natural(bits: Bits) -> Option<u64>
     ensures { result ≡ whole_part (number_of bits) }
 {

@@ -16,7 +16,7 @@ use crate::types::{BitType, gives_one_bit, is_division, left_type, right_type};
 use std::alloc::Global;
 use sv_num::{BinOp, Bits, Fault, Place, apply_binary, apply_unary, extend};
 
-/// The value at another length: cut, or extended as the type's sign says.
+/// The value at another length: cut, or extended as the type's signedness says.
 pub fn at_type(bits: Bits, to: BitType) -> Bits
     ensures width { width_of result ≡ to.width }
     ensures signed { is_signed result ≡ to.signed }

@@ -13,8 +13,8 @@ ghost use Rattle.sv_walk.specs.TypedExpressions.{typed_of};
 ghost use Rattle.sv_width.specs.Agreement.{AllDeclared, HaveSignals, HaveValues, HaveLengths};
 ghost use Rattle.sv_width.specs.Agreement.{IsLength, NumbersHaveLengths};
 
-/// The typed form of an expression that passes the first walk has, at each length and sign and in
-/// environments that agree, the value of its source.
+/// The typed form of an expression that passes the first walk has, at each length and signedness
+/// and in environments that agree, the value of its source.
 pub fn typed_means_its_source()
     ensures { (names : Names) (signals : List SignalForm) (by_name : List ℕ
         → ℕ) (by_number : Environment ℕ) (constant : Bool) (e : ExpressionTree)

@@ -4,7 +4,7 @@ ghost use Rattle.std.specs.Prelude.{◌≤◌};
 use sv_flat::SigId;
 use sv_num::Bits;
 
-/// A signal as an expression knows it: its number, its length of 1 to 64 bits, and its sign.
+/// A signal as an expression knows it: its number, its length of 1 to 64 bits, and its signedness.
 #[derive(Clone, Copy, Debug, PartialEq, Eq)]
 pub struct KnownSignal {
     pub signal: SigId,

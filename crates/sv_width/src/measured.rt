@@ -1,4 +1,4 @@
-// Expressions with their own lengths and signs.
+// Expressions with their own lengths and signedness.
 ghost use Rattle.std.specs.Prelude.{◌≡◌, true, false};
 ghost use Rattle.sv_num.specs.Vectors.{width_of, is_signed, value_of};
 ghost use Rattle.sv_width.specs.Measured as measured;
@@ -10,15 +10,15 @@ use crate::types::{BitType, type_of};
 use sv_flat::SigId;
 use sv_num::{BinOp, Bits, Place, UnOp};
 
-/// An expression's own length and sign, and whether it names a signal.
+/// An expression's own length and signedness, and whether it names a signal.
 #[derive(Clone, Copy, Debug, PartialEq, Eq)]
 pub struct Own {
     pub(crate) of_type: BitType,
     pub(crate) names_signal: bool,
 }
 
-/// An expression that breaks no rule but perhaps 405, each operand with its own length and sign.
-/// Signals are numbers; parameters, bounds and counts are values.
+/// An expression that breaks no rule but perhaps 405, each operand with its own length and
+/// signedness. Signals are numbers; parameters, bounds and counts are values.
 #[derive(Debug, Drop)]
 pub enum Measured {
     Number(Own, Bits),
@@ -51,7 +51,7 @@ impl Measured {
         }
     }
 
-    /// The expression's own length and sign.
+    /// The expression's own length and signedness.
     pub(crate) fn own_type(&self) -> BitType
         ensures width { result.width ≡ (own_form (measured_tree self.now)).width }
         ensures signed { result.signed ≡ (own_form (measured_tree self.now)).signed }

@@ -1,5 +1,5 @@
 // The first walk over an expression: rules 401 to 404 and 406 to 408, and every own length and
-// sign.
+// signedness.
 ghost use Rattle.std.specs.Prelude.{◌≡◌, Ok, IfOk, OnOk, IfErr, IsTrue};
 ghost use Rattle.sv_ast.specs.Shape.{is_shaped_expression, are_shaped_parts, has_part};
 ghost use Rattle.sv_ast.specs.Tree as tree;
@@ -22,8 +22,8 @@ use std::alloc::Global;
 use sv_ast::Expr;
 use sv_num::{BinOp, Bits, Fault, Name, Place, UnOp};
 
-/// The expression with each own length and sign, where it breaks none of these rules; else its
-/// first broken one.
+/// The expression with each own length and signedness, where it breaks none of these rules; else
+/// its first broken one.
 // As many calls stand inside each other as the expression has levels, so each kind of operator has
 // a function of its own, to keep the frame of this one small.
 #[cycle(measuring)]
@@ -232,8 +232,8 @@ fn measured_replication(
     replication(alloc, place, at, count, parts, operands)
 }
 
-/// A constant at its own length and sign: a bound, an index or a count of an expression, or a whole
-/// constant.
+/// A constant at its own length and signedness: a bound, an index or a count of an expression, or a
+/// whole constant.
 #[cycle(measuring)]
 pub fn measured_constant(
     alloc: Global,

@@ -1,4 +1,5 @@
-// Expressions whose first walk is done, to be typed where their place gives a length and a sign.
+// Expressions whose first walk is done, to be typed where their place gives a length and a
+// signedness.
 ghost use Rattle.std.specs.Prelude.{◌≡◌, ◌≤◌, Bool, List, IfOk, IfErr, IsTrue};
 ghost use Rattle.sv_ast.specs.Shape.{is_shaped_expression};
 ghost use Rattle.sv_ast.specs.Tree.{ExpressionTree};
@@ -28,7 +29,7 @@ use sv_flat::FExpr;
 use sv_num::{Bits, Fault};
 
 /// An expression that breaks none of the rules 401 to 404 and 406 to 408, to be typed at the length
-/// and sign that its place gives (IEEE 1364-2005, clauses 5.4 and 9.5).
+/// and signedness that its place gives (IEEE 1364-2005, clauses 5.4 and 9.5).
 #[derive(Debug, Drop)]
 pub struct Operand {
     measured: Measured,
@@ -76,8 +77,8 @@ impl Operand {
         self.measured.own_type().signed
     }
 
-    /// The typed form at a length, from the own one to 64 bits, and a sign. Rule 405 refuses the
-    /// first divisor that is 0.
+    /// The typed form at a length, from the own one to 64 bits, and a signedness. Rule 405 refuses
+    /// the first divisor that is 0.
     pub fn typed(&self, alloc: Global, width: u8, signed: bool) -> Result<FExpr, Fault>
         requires enough { own_width self.now ≤ width }
         requires few { width ≤ 64 }
@@ -94,8 +95,8 @@ impl Operand {
         pushed(alloc, &self.measured, self.at(width, signed))
     }
 
-    /// The value at a length, from the own one to 64 bits, and a sign, where each signal is 0; a
-    /// constant names none. Rule 405 refuses the first divisor that is 0.
+    /// The value at a length, from the own one to 64 bits, and a signedness, where each signal is
+    /// 0; a constant names none. Rule 405 refuses the first divisor that is 0.
     pub fn value(&self, alloc: Global, width: u8, signed: bool) -> Result<Bits, Fault>
         requires enough { own_width self.now ≤ width }
         requires few { width ≤ 64 }

@@ -53,9 +53,9 @@ impl Scope {
         self.add(name, Meaning::Param(value), place)
     }
 
-    /// Adds a signal of 1 to 64 bits with its number and its sign. Rule 312 refuses a name that
-    /// stands for something already, at the place; the scope is then, and where memory runs out, as
-    /// before.
+    /// Adds a signal of 1 to 64 bits with its number and its signedness. Rule 312 refuses a name
+    /// that stands for something already, at the place; the scope is then, and where memory runs
+    /// out, as before.
     pub fn add_signal(
         &mut self,
         name: Name,

@@ -1,4 +1,4 @@
-// Lengths and signs.
+// Lengths and signedness.
 ghost use Rattle.std.specs.Prelude.{◌≡◌, ◌≤◌, ◌&&◌, false, max};
 ghost use Rattle.sv_num.specs.Vectors.{width_of, is_signed, value_of};
 ghost use Rattle.sv_num.specs.BinaryValues.{class_of};
@@ -10,7 +10,7 @@ ghost use Rattle.sv_ast.specs.Values.{binary_length, binary_signed};
 
 use sv_num::{BinOp, Bits, OpClass, UnOp};
 
-/// A length of 1 to 64 bits, and a sign.
+/// A length of 1 to 64 bits, and a signedness.
 #[derive(Clone, Copy, Debug, PartialEq, Eq)]
 pub struct BitType {
     pub(crate) width: u8,
@@ -18,7 +18,7 @@ pub struct BitType {
     pub(crate) ghost in_range: { (1 ≤ width) × (width ≤ 64) },
 }
 
-/// One bit without sign.
+/// One unsigned bit.
 pub fn one_bit() -> BitType
     ensures width { result.width ≡ 1 }
     ensures signed { result.signed ≡ false }

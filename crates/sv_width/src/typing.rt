@@ -60,8 +60,8 @@ pub fn typed(alloc: Global, expr: &Expr, scope: &Scope, target_width: u8) -> Res
     pushed(alloc, &operand, to)
 }
 
-/// The value of a constant at its own length and sign, in a declaration: names of later ones are
-/// known as signals.
+/// The value of a constant at its own length and signedness, in a declaration: names of later ones
+/// are known as signals.
 pub fn constant(alloc: Global, expr: &Expr, scope: &Scope) -> Result<Bits, Fault>
     requires { IsTrue (is_shaped_expression (expression_tree expr.now)) }
     ensures found { IfOk result (λ bits.
@@ -73,7 +73,7 @@ pub fn constant(alloc: Global, expr: &Expr, scope: &Scope) -> Result<Bits, Fault
     measured_constant(alloc, expr, scope, Setting::Declaring)
 }
 
-/// The value of a constant at its own length and sign, where all declarations are made.
+/// The value of a constant at its own length and signedness, where all declarations are made.
 pub fn constant_in_reach(alloc: Global, expr: &Expr, scope: &Scope) -> Result<Bits, Fault>
     requires { IsTrue (is_shaped_expression (expression_tree expr.now)) }
     ensures found { IfOk result (λ bits.

@@ -35,7 +35,7 @@ IsOpenLabel (table_label m s t p) =
     ⨾ a_sign signs.CloseParenthesis
     ⨾ a_sign signs.CloseBrace
 
--- sign, range and label of a declaration
+-- signedness, range and label of a declaration
 abbrev pub IsTypedAs : Bool → Option SpanTree → Option LabelTree → Form
 IsTypedAs signed span label =
     flag words.Signed signed ⨾ perhaps (IsRange all_limits) span ⨾ perhaps IsLabel label

@@ -12,7 +12,7 @@ use Rattle.sv_parse.specs.declared.registers.RegLabel.TheVariants as reg_label
 abbrev pub table_end : List Outer
 table_end = plain_name ∷ perhaps_second_name ∷ behind_selector []
 
--- sign, range and label of a declaration
+-- signedness, range and label of a declaration
 abbrev pub name_type : List Outer
 name_type = perhaps_signed ∷ perhaps_range ∷ perhaps_label ∷ []
 

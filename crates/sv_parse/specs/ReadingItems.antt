@@ -29,7 +29,7 @@ use Rattle.sv_parse.specs.Reading.{IsTableEnd, IsTypeOf}
 abbrev pub IsWire : DeclarationTree → Form
 IsWire d = given (d.kind ≡ kinds.Wire) (IsSignal all_limits d)
 
--- a `wire` with sign, range and label of the one before it
+-- a `wire` with signedness, range and label of the one before it
 abbrev pub IsWireLike : DeclarationTree → DeclarationTree → Form
 IsWireLike before d =
     given ((d.kind ≡ kinds.Wire) × IsTypeOf before.signed before.span before.label d)

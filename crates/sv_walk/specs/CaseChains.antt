@@ -1,5 +1,5 @@
 -- A case as a chain of `if`: the first arm with an item equal to the selector is taken (IEEE
--- 1364-2005, clause 9.5). Selector and items stand at one length and sign.
+-- 1364-2005, clause 9.5). Selector and items stand at one length and signedness.
 use Rattle.std.specs.Prelude.{ℕ, max, ◌^◌, Bool, true, false, not, ◌&&◌, ◌||◌, ◌==◌, nat_le, List}
 use Rattle.std.specs.Prelude.{[], ◌∷◌, ◌++◌, Option, Some, None, map, if◌then◌else◌}
 use Rattle.std.specs.List.{list_all, list_any, range_with_len}
@@ -31,7 +31,7 @@ arm_items no_arms = []
 arm_items (more_arms p items body arms) = items ++ arm_items arms
 
 -- The common type of a case, worked out before its arms are walked: an item that breaks a rule has
--- no length, and changes no sign.
+-- no length, and changes no signedness.
 
 unfoldable pub item_length : Names → ExpressionTree → ℕ
 item_length names e = value_or ((asked names true e >>= λ _. done (length_of names.scope e)).end) 0
@@ -157,12 +157,12 @@ keeps_length signed (replication p k es) = true
 abbrev pub numbers_below : ℕ → List ℕ
 numbers_below n = range_with_len 0 n
 
--- whether the values have each value of so many bits, at a common length and sign
+-- whether the values have each value of so many bits, at a common length and signedness
 abbrev pub cover : (own length : ℕ) → (signed : Bool) → (values : List ℕ) → Bool
 cover own n s values =
     list_all (λ v. list_any (λ item. item == extended s own n v) values) (numbers_below (2 ^ own))
 
--- whether a selector has the values of at most 8 bits, also at the common length and sign
+-- whether a selector has the values of at most 8 bits, also at the common length and signedness
 abbrev pub has_few_values : Scope → (selector : ExpressionTree) → (length : ℕ) →
     (signed : Bool) → Bool
 has_few_values scope e n s =

@@ -1,6 +1,6 @@
 -- The rules that an expression is asked: 401 to 404 and 406 to 408 in a first walk, operands from
--- left to right before their operator, then 405 in a second one at the lengths and signs that are
--- pushed down (IEEE 1364-2005, clauses 5.1.14, 5.2.1, 5.4 and 5.5; the rules' order is this
+-- left to right before their operator, then 405 in a second one at the lengths and signedness that
+-- are pushed down (IEEE 1364-2005, clauses 5.1.14, 5.2.1, 5.4 and 5.5; the rules' order is this
 -- project's profile). Bounds, constant indices and counts are expressions of their own.
 use Rattle.std.specs.Prelude.{ℕ, max, Bool, true, false, not, ◌==◌, ◌||◌, ◌&&◌, nat_lt, nat_le, ℤ}
 use Rattle.std.specs.Prelude.{pos, negsuc}
@@ -21,7 +21,7 @@ use Rattle.sv_walk.specs.TypedExpressions.{is_division, names_signal, left_lengt
 use Rattle.sv_walk.specs.TypedExpressions.{left_signed, right_signed, typed_of}
 
 unfoldable mutual
-  -- the second walk, at a length and sign: no constant divisor is 0
+  -- the second walk, at a length and signedness: no constant divisor is 0
   pub divisors : Scope → ExpressionTree → (length : ℕ) → (signed : Bool) → Steps
   divisors scope (literal l p) n s = done tt
   divisors scope (named m p) n s = done tt
@@ -147,7 +147,7 @@ unfoldable mutual
     _ ← asked names constant e
     asked_parts names constant es
 
--- the typed form at a length and sign, where the expression breaks no rule
+-- the typed form at a length and signedness, where the expression breaks no rule
 unfoldable pub typed_walk : Names → ExpressionTree → (length : ℕ) → (signed : Bool) → Walk TypedTree
 typed_walk names e n s = do
   _ ← asked names false e
@@ -160,7 +160,7 @@ unfoldable pub expression_walk : Names → ExpressionTree → (width : ℕ) → 
 expression_walk names e width =
     typed_walk names e (max (length_of names.scope e) width) (signed_of names.scope e)
 
--- a constant: its value at its own length and sign
+-- a constant: its value at its own length and signedness
 unfoldable pub constant_walk : Names → ExpressionTree → Walk Number
 constant_walk names e = do
   _ ← asked names true e

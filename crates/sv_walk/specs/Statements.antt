@@ -14,7 +14,7 @@ use Rattle.sv_walk.specs.Targets.{assignment_walk}
 use Rattle.sv_walk.specs.CaseChains.{FlatArm, arm_items, common_length, common_signed, case_chain}
 use Rattle.sv_walk.specs.CaseChains.{default_of, is_complete}
 
--- the items of an arm, each a constant at the common length and sign
+-- the items of an arm, each a constant at the common length and signedness
 unfoldable pub items_walk : Names → (length : ℕ) → (signed : Bool) → List ExpressionTree
     → Walk (List TypedTree)
 items_walk names n s [] = done []
@@ -53,7 +53,7 @@ unfoldable mutual
     rest ← statements_walk names ss
     done (after first rest)
 
-  -- at the common length and sign of the case
+  -- at the common length and signedness of the case
   pub arms_walk : Names → (length : ℕ) → (signed : Bool) → ArmTrees → Walk (List FlatArm)
   arms_walk names n s no_arms = done []
   arms_walk names n s (more_arms p items body arms) = do

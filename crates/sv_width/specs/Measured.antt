@@ -1,6 +1,6 @@
 -- Private: how the code goes. A source expression after the first walk: each operand with its own
--- length and sign (IEEE 1364-2005, clauses 5.4 and 5.5), numbers for names of signals, values for
--- parameters, bounds and counts; the meaning stands in `asked` of
+-- length and signedness (IEEE 1364-2005, clauses 5.4 and 5.5), numbers for names of signals, values
+-- for parameters, bounds and counts; the meaning stands in `asked` of
 -- sv_walk/specs/ExpressionSteps.antt.
 use Rattle.std.specs.Prelude.{ℕ, Bool, Option, Some, None}
 use Rattle.sv_num.specs.declared.faults.Place.{Place}
@@ -13,7 +13,7 @@ use Rattle.sv_ast.specs.Values.{natural, length_of, signed_of, whole_number}
 use Rattle.sv_walk.specs.Names.{Names, place_of}
 use Rattle.sv_walk.specs.TypedExpressions.{names_signal}
 
--- an expression's own length and sign, and whether it names a signal
+-- an expression's own length and signedness, and whether it names a signal
 pub record OwnForm : Type 0 where
   pub width : ℕ
   pub signed : Bool

@@ -1,7 +1,7 @@
--- What an operand is of an expression: it has passed the first walk, and its own length and sign
--- are known (IEEE 1364-2005, clauses 5.4 and 5.5). The second walk asks it at the length and sign
--- that its place gives, as the selector and the items of a case get those of all of them (clause
--- 9.5).
+-- What an operand is of an expression: it has passed the first walk, and its own length and
+-- signedness are known (IEEE 1364-2005, clauses 5.4 and 5.5). The second walk asks it at the length
+-- and signedness that its place gives, as the selector and the items of a case get those of all of
+-- them (clause 9.5).
 use Rattle.std.specs.Prelude.{◌≡◌, ℕ, Bool, Ok, IsTrue}
 use Rattle.sv_num.specs.declared.vectors.Bits.{Bits}
 use Rattle.sv_num.specs.Vectors.{width_of, is_signed, value_of}
@@ -30,13 +30,13 @@ Holds names e o = AllDeclared names × HaveLengths names.scope
     × (measured_tree o ≡ measured_of names e)
 
 -- the operand of an expression that breaks no rule of the first walk, in a constant place or in
--- another one, with the expression's own length and sign
+-- another one, with the expression's own length and signedness
 abbrev pub IsOperandOf : Names → (constant : Bool) → ExpressionTree → Measured → Type 0
 IsOperandOf names constant e o = ((asked names constant e).end ≡ Ok tt)
     × (own_width o ≡ length_of names.scope e) × (own_signed o ≡ signed_of names.scope e)
     × Holds names e o
 
--- the expression's typed form at a length and sign at which no divisor is 0
+-- the expression's typed form at a length and signedness at which no divisor is 0
 abbrev pub IsTypedAt : Names → ExpressionTree → (length : ℕ) → (signed : Bool) → TypedTree → Type 0
 IsTypedAt names e n s f = ((divisors names.scope e n s).end ≡ Ok tt) × (f ≡ typed_of names e n s)
 

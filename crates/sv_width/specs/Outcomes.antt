@@ -37,12 +37,12 @@ AreMeasures names c es ms =
     ((asked_parts names c es).end ≡ Ok tt)
     × (parts_of (measured_trees ms) ≡ measured_parts names es)
 
--- a value that is worked out at a length and sign
+-- a value that is worked out at a length and signedness
 abbrev pub IsFolded : MeasuredTree → (n : ℕ) → (s : Bool) → Bits → Type 0
 IsFolded t n s bits = ((divisors_of t n s).end ≡ Ok tt)
     × (width_of bits ≡ n) × (is_signed bits ≡ s) × (value_of bits ≡ folded_of t n s)
 
--- a typed form at a length and sign
+-- a typed form at a length and signedness
 abbrev pub IsPushed : MeasuredTree → (n : ℕ) → (s : Bool) → FExpr → Type 0
 IsPushed t n s f = ((divisors_of t n s).end ≡ Ok tt) × (typed_tree f ≡ typed n s (node_of t n s))
 

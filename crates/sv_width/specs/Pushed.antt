@@ -1,6 +1,6 @@
--- Private: how the code goes. The second walk, over an expression whose own lengths and signs are
--- known: rule 405, values of constants, and typed forms (IEEE 1364-2005, clauses 5.4 and 5.5); the
--- meaning stands in `divisors` of sv_walk/specs/ExpressionSteps.antt, `typed_of` of
+-- Private: how the code goes. The second walk, over an expression whose own lengths and signedness
+-- are known: rule 405, values of constants, and typed forms (IEEE 1364-2005, clauses 5.4 and 5.5);
+-- the meaning stands in `divisors` of sv_walk/specs/ExpressionSteps.antt, `typed_of` of
 -- TypedExpressions.antt and `value` of sv_ast/specs/Values.antt.
 use Rattle.std.specs.Prelude.{ℕ, zero, suc, ◌+◌, ◌*◌, ◌%◌, ◌^◌, Bool, true, false, not, ◌==◌}
 use Rattle.std.specs.Prelude.{if◌then◌else◌}
@@ -45,7 +45,7 @@ joined_width no_parts = 0
 joined_width (more_parts e es) = (own_form e).width + joined_width es
 
 unfoldable mutual
-  -- the value at a length and sign, where each signal is 0
+  -- the value at a length and signedness, where each signal is 0
   pub folded_of : MeasuredTree → (n : ℕ) → (s : Bool) → ℕ
   folded_of (value own w v) n s = reduced n (as_number w s v)
   folded_of (read own k p) n s = 0
@@ -104,7 +104,7 @@ unfoldable mutual
     divisors_in es
 
 unfoldable mutual
-  -- the typed form at a length and sign
+  -- the typed form at a length and signedness
   pub node_of : MeasuredTree → (n : ℕ) → (s : Bool) → NodeTree
   node_of (value own w v) n s = flat.constant (reduced n (as_number w s v))
   node_of (read own k p) n s = flat.read k p

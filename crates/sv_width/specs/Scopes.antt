@@ -24,7 +24,7 @@ pub record Known : Type 0 where
   pub meanings : List (List ℕ × Meaning)
   pub announced : List (List ℕ)
 
--- a value at its length and sign
+-- a value at its length and signedness
 abbrev pub number_of : Bits → Number
 number_of bits = record { width = width_of bits; signed = is_signed bits; value = value_of bits }
 

@@ -2,7 +2,7 @@
 
 use anyhow::{Context, Result, bail};
 
-/// A length and a sign.
+/// A length and a signedness.
 #[derive(Clone, Copy, PartialEq, Eq)]
 pub struct Kind {
     pub(crate) width: u8,
@@ -73,7 +73,7 @@ fn word(text: &str) -> Result<(&str, &str)> {
     text.split_once(' ').context("a word is missing")
 }
 
-// A length and a sign, and what is behind them; nothing where the line ends there.
+// A length and a signedness, and what is behind them; nothing where the line ends there.
 fn read_kind(text: &str) -> Result<(Kind, &str)> {
     let (width, rest) = word(text)?;
     let (sign, rest) = rest.split_once(' ').unwrap_or((rest, ""));

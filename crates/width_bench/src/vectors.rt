@@ -80,7 +80,7 @@ fn constant(alloc: Global, instance: &Instance, text: &str) -> Result<Bits> {
     instance.constant(&expr)
 }
 
-// The value of a length and sign.
+// The value of a length and signedness.
 fn bits(kind: Kind, value: u64) -> Result<Bits> {
     Bits::new(kind.width, kind.signed, value).context("a value is too long")
 }

@@ -6,8 +6,8 @@
 //!
 //! Promises that what is written is the trace of the stimulus, and then why it ends: by
 //! `specs/Simulated.antt` over a flat design, whose traces and lines stand in `Traces.antt` for
-//! every kind of signal name. The other definitions are private, how the code goes: `Runs.antt`,
-//! `Progress.antt`, `Fronts.antt` and `Runners.antt`.
+//! every kind of signal name. `Runs.antt`, `Progress.antt`, `Fronts.antt` and `Runners.antt` are
+//! private, how the code goes, but for `fault_of_put` of `Runs.antt`: what a sink's fault becomes.
 #![tactic(auto)]
 
 mod endings;

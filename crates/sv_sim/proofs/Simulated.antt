@@ -180,6 +180,29 @@ given_simulation design test no_clocks listed values old new is_settled are befo
   still = λ settled. absurd (false≢true settled);
 }
 
+-- an input is a signal, and is listed
+input_inside : (design : FlatDesign) (s : ℕ) → IsTrue (is_top_input design s) →
+    s < length design.signals
+input_inside design s top = ⊎_elim
+    (λ below. ltb-true s (length design.signals) below)
+    (λ past. absurd (false≢true (ap (λ (z : SignalForm). is_top_kind z.kind)
+    (sym (get_or-eq_default design.signals (record {
+      name = [];
+      width = 0;
+      signed = false;
+      kind = Net;
+      label = Point (record { 0 = 0 });
+      place = record { line = 0; column = 0 };
+    }) (ltb-false s (length design.signals) past))) ∙ top)))
+    (either_way (nat_lt s (length design.signals)))
+
+pub input_listed : (design : FlatDesign) (s : ℕ)
+    → IsTrue (is_top_input design s && not (is_clock design s)) → Contains (inputs_of design) s
+input_listed design s input =
+    in_those (length design.signals) (λ z. is_top_input design z && not (is_clock design z)) s
+    (input_inside design s (first_of (is_top_input design s) (not (is_clock design s)) input))
+    input
+
 module _ (design : FlatDesign) (is_sound : IsTrue (sound design))
     (admitted : IsAdmitted design) where
   pub input_no_clock : (s : ℕ) → IsTrue (is_top_input design s && not (is_clock design s)) →
@@ -206,21 +229,6 @@ module _ (design : FlatDesign) (is_sound : IsTrue (sound design))
     still = λ settled. still;
   }
 
-  -- an input is a signal
-  input_inside : (s : ℕ) → IsTrue (is_top_input design s) → s < length design.signals
-  input_inside s top = ⊎_elim
-      (λ below. ltb-true s (length design.signals) below)
-      (λ past. absurd (false≢true (ap (λ (z : SignalForm). is_top_kind z.kind)
-      (sym (get_or-eq_default design.signals (record {
-        name = [];
-        width = 0;
-        signed = false;
-        kind = Net;
-        label = Point (record { 0 = 0 });
-        place = record { line = 0; column = 0 };
-      }) (ltb-false s (length design.signals) past))) ∙ top)))
-      (either_way (nat_lt s (length design.signals)))
-
   -- what settling reaches
   pub is_the_settled : (values mid new given_inputs : List ℕ)
       → FitSignals design.signals new
@@ -246,10 +254,7 @@ module _ (design : FlatDesign) (is_sound : IsTrue (sound design))
             others s (no_given design is_sound admitted s input)
             ∙ ap (λ e. e s) is
             ∙ listed_value (inputs_of design) given_inputs s (by_number values s) 0 count
-            (in_those (length design.signals) (λ z.
-            is_top_input design z && not (is_clock design z)) s
-            (input_inside s (first_of (is_top_input design s) (not (is_clock design s)) input))
-            input);
+            (input_listed design s input);
         fits = numbers_fit design new fit;
         still = still;
       }

@@ -2,7 +2,8 @@
 //!
 //! Takes a design of `sv_design`. Gives a simulation, which holds a value for each signal, and
 //! settles them, and makes the clock edge. Only `new` takes memory. For layers that hold values
-//! themselves it gives two steps of this: giving values to listed signals, and running one process.
+//! themselves it gives steps of this: giving values to listed signals, whether a value fits, running
+//! one process, and making what a clocked one updates.
 //!
 //! Promises that after `settle` the values are the one settled environment of the registers and
 //! the inputs, and that `tick` gives each register its next value, as `sv_system/specs/System.antt`
@@ -18,8 +19,9 @@ mod listed;
 mod settling;
 mod sim;
 
+pub use edges::update_at;
 pub use laws::admitted_designs_have_one_trace;
-pub use listed::put_listed;
+pub use listed::{has_room, put_listed};
 pub use settling::run_at;
 pub use sim::Sim;
 pub use std::alloc::AllocError as OutOfMemory;

@@ -25,8 +25,8 @@ pub fn fits(values: &[u64], listed: &[SigId], signals: &[Signal]) -> bool
     true
 }
 
-// Whether a value has no more bits than the width.
-fn has_room(value: u64, width: u8) -> bool
+/// Whether a value has no more bits than the width.
+pub fn has_room(value: u64, width: u8) -> bool
     ensures { IsTrue result ↔ (value < 2 ^ width) }
 {
     width >= 64 || value >> width == 0

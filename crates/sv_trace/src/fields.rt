@@ -1,10 +1,11 @@
 // The words of a line, and the values that stand in them.
-ghost use Rattle.std.specs.Prelude.{◌≡◌, ◌↔◌, ◌^◌, ◌<◌, ◌∷◌, ◌++◌, IfSome, IsNone, IsTrue, is_some};
+ghost use Rattle.std.specs.Prelude.{◌≡◌, ◌^◌, ◌<◌, ◌∷◌, ◌++◌, IfSome, IsNone, is_some};
 ghost use Rattle.std.specs.Str.Parse.{digits_value};
 ghost use Rattle.sv_trace.specs.Reading.{Lacks};
 ghost use Rattle.sv_trace.specs.Stimulus.{is_value};
 
 use memchr::memchr;
+use sv_sim::has_room;
 
 // The most digits of a value.
 const MAX_DIGITS: usize = 16;
@@ -43,11 +44,4 @@ pub fn read_value(digits: &[u8], width: u8) -> Option<u64>
         return None;
     }
     Some(value)
-}
-
-// Whether a value has no more bits than the width.
-fn has_room(value: u64, width: u8) -> bool
-    ensures { IsTrue result ↔ (value < 2 ^ width) }
-{
-    width >= 64 || value >> width == 0
 }

@@ -2,8 +2,8 @@
 //!
 //! Takes a design of `sv_design`. Gives a simulation, which holds a value for each signal, and
 //! settles them, and makes the clock edge. Only `new` takes memory. For layers that hold values
-//! themselves it gives steps of this: giving values to listed signals, whether a value fits, running
-//! one process, and making what a clocked one updates.
+//! themselves it gives steps of this: whether a value fits, giving values to listed signals, and
+//! what one process does, at once or at a clock edge.
 //!
 //! Promises that after `settle` the values are the one settled environment of the registers and
 //! the inputs, and that `tick` gives each register its next value, as `sv_system/specs/System.antt`

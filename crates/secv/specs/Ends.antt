@@ -21,7 +21,7 @@ use Rattle.sv_cli.specs.Answer.{KeepsSecrets, WritesCycles, MayTake}
 -- the words ask for the help of the program, for its version, or for the help of a command
 abbrev pub IsShown : List (List ℕ) → Type 0
 IsShown words =
-    ((words ≡ codes "--help" ∷ []) ⊎ (words ≡ codes "-h" ∷ []) ⊎ (words ≡ codes "--version" ∷ []))
+    ((words ≡ codes "--help" ∷ []) ⊎ (words ≡ codes "--version" ∷ []))
     ⊎ IsSome (help_asked words)
 
 -- the status is the one wanted; or 5, where the output failed, or 6, where memory ran out

@@ -27,7 +27,7 @@ usage:
   secv sim FILE [--level POINT] [--order NUMBER] [--top MODULE]
                                     simulate a design on the stimulus of standard input
   secv COMMAND --help               say more of one command
-  secv --help, -h                   print this text
+  secv --help                       print this text
   secv --version                    print the version
 
 exit status: 0 accepted, listed or simulated, 1 refused, 2 wrong words,
@@ -81,7 +81,6 @@ fn answer(
 {
     match words {
         [word] if word.as_str() == "--help" => print(rt, out, HELP, DONE),
-        [word] if word.as_str() == "-h" => print(rt, out, HELP, DONE),
         [word] if word.as_str() == "--version" => print(rt, out, VERSION, DONE),
         words => match help_asked(words) {
             Some(name) => print_help(rt, out, name),

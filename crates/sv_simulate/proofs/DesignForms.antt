@@ -23,6 +23,7 @@ use Rattle.sv_flat.proofs.Depths.{first_of, second_of}
 use Rattle.sv_flat.proofs.LeastSets.{from_some, in_those}
 use Rattle.sv_sim.specs.Given.{FitListed, given}
 use Rattle.sv_sim.proofs.OneDesign.{register_no_clock}
+use Rattle.sv_sim.proofs.Simulated.{input_listed}
 use Rattle.sv_trace.specs.Forms.{StimForm, form_of, name_in}
 use Rattle.sv_trace.specs.Stimulus.{start_of, cycles_of}
 use Rattle.sv_trace.specs.Stimulus.{is_start}
@@ -30,7 +31,7 @@ use Rattle.sv_trace.specs.Reading.{FitWidths}
 use Rattle.sv_trace.proofs.ReaderFacts.{start_fits, cycle_fits}
 use Rattle.sv_simulate.specs.Traces.{inputs_in, registers_in, register_in, form_in}
 use Rattle.sv_simulate.specs.Traces.{IsTraceFrom}
-use Rattle.sv_simulate.proofs.GivenFacts.{own_values, filter_apart, input_listed, given_to_fits}
+use Rattle.sv_simulate.proofs.GivenFacts.{own_values, filter_apart, given_to_fits}
 use Rattle.sv_simulate.proofs.ReadFits.{FitForm}
 
 -- ---- lists

@@ -2,29 +2,26 @@
 -- environment.
 use mathlib.Core.Path.{fun_ext}
 use Rattle.std.proofs.Common.{◌≡◌, ℕ, zero, suc, ◌+◌, ◌<◌, ◌≤◌, ◌^◌, Bool, true, false, cond, not}
-use Rattle.std.proofs.Common.{◌&&◌, ◌==◌, nat_lt, ltb-true, ltb-false, List, [], ◌∷◌, length, map}
+use Rattle.std.proofs.Common.{◌&&◌, ◌==◌, List, [], ◌∷◌, length, map}
 use Rattle.std.proofs.Common.{get_or}
 use Rattle.std.proofs.Common.{⊎_elim, refl, sym, ap, subst, ◌∙◌, arith, pow_pos}
 use Rattle.std.specs.Prelude.{Contains, IsTrue, filter, slice_index}
 use Rattle.std.specs.List.{range_with_len}
-use Rattle.std.proofs.Math.ListN.{get_or-eq_default}
 use Rattle.std.proofs.lemmas.Bool.{eqb-true, false≢true}
 use Rattle.std.proofs.lemmas.List.{length-map, get_or-map}
-use Rattle.sv_lattice.specs.declared.labels.Label.TheVariants.{Point}
 use Rattle.sv_system.specs.System.{Environment, put}
 use Rattle.sv_system.proofs.Lists.{Contains-nil, Contains-cases}
 use Rattle.sv_system.proofs.Pointwise.{either_way as contained_or_not}
 use Rattle.sv_flat.specs.Admission.{IsAdmitted}
 use Rattle.sv_flat.specs.Clocks.{is_clock}
 use Rattle.sv_flat.specs.Design.{SignalForm, FlatDesign}
-use Rattle.sv_flat.specs.Processes.{is_register, is_top_kind, is_top_input}
+use Rattle.sv_flat.specs.Processes.{is_register, is_top_input}
 use Rattle.sv_flat.specs.Schedules.{starting}
 use Rattle.sv_flat.specs.SignalLists.{seen, inputs, registers}
 use Rattle.sv_flat.specs.Soundness.{sound}
 use Rattle.sv_flat.specs.Values.{signal_width}
 use Rattle.sv_flat.specs.declared.signals.SigId.{SigId}
-use Rattle.sv_flat.specs.declared.signals.SigKind.TheVariants.{Net}
-use Rattle.sv_flat.proofs.Depths.{first_of, second_of}
+use Rattle.sv_flat.proofs.Depths.{second_of}
 use Rattle.sv_flat.proofs.LeastSets.{either_way, Contains-from_filter, in_those, those_below}
 use Rattle.sv_flat.proofs.LeastSets.{those_pass}
 use Rattle.sv_flat.proofs.SameRuns.{put_there}
@@ -32,7 +29,7 @@ use Rattle.sv_design.specs.Numbers.{numbers}
 use Rattle.sv_sim.specs.Given.{FitListed, with_given, given}
 use Rattle.sv_sim.proofs.GivenValues.{listed_value, other_value, listed_within}
 use Rattle.sv_sim.proofs.OneDesign.{register_no_clock}
-use Rattle.sv_sim.proofs.Simulated.{number_at}
+use Rattle.sv_sim.proofs.Simulated.{number_at, input_listed}
 use Rattle.sv_simulate.specs.Runners.{OthersAreZero, with_values}
 
 -- ---- lists of signals
@@ -123,25 +120,6 @@ module _ (design : FlatDesign) where
   abbrev is_input_of : ℕ → Bool
   is_input_of s = is_top_input design s && not (is_clock design s)
 
-  input_inside : (s : ℕ) → IsTrue (is_top_input design s) → s < length design.signals
-  input_inside s top = ⊎_elim
-      (λ below. ltb-true s (length design.signals) below)
-      (λ past. absurd (false≢true (ap (λ (z : SignalForm). is_top_kind z.kind)
-      (sym (get_or-eq_default design.signals (record {
-        name = [];
-        width = 0;
-        signed = false;
-        kind = Net;
-        label = Point (record { 0 = 0 });
-        place = record { line = 0; column = 0 };
-      }) (ltb-false s (length design.signals) past))) ∙ top)))
-      (either_way (nat_lt s (length design.signals)))
-
-  pub input_listed : (s : ℕ) → IsTrue (is_input_of s) → Contains (inputs design) s
-  input_listed s input =
-      in_those (length design.signals) is_input_of s
-      (input_inside s (first_of (is_top_input design s) (not (is_clock design s)) input)) input
-
   pub listed_input : (s : ℕ) → Contains (inputs design) s → IsTrue (is_input_of s)
   listed_input s at = those_pass (length design.signals) is_input_of s at
 
@@ -155,7 +133,7 @@ module _ (design : FlatDesign) where
       → (s : ℕ) → with_given (inputs design) values e s ≡ with_values design values e s
   input_given values e count s = ⊎_elim
       (λ input.
-      listed_value (inputs design) values s (e s) 0 count (input_listed s input)
+      listed_value (inputs design) values s (e s) 0 count (input_listed design s input)
       ∙ ap (λ b. cond b (given (inputs design) values s) (e s)) (sym input))
       (λ other.
       other_value (inputs design) values s (e s)

@@ -40,7 +40,7 @@ use Rattle.sv_event.specs.Rests.{AreNumbers, IsNumberedRound}
 use Rattle.sv_event.proofs.RoundFacts.{drawn_is_round}
 use Rattle.sv_simulate.specs.declared.runners.Drawn.{Drawn}
 use Rattle.sv_simulate.specs.Runners.{OthersAreZero, IsDrawn, with_values}
-use Rattle.sv_simulate.proofs.GivenFacts.{input_listed, input_seen, inputs_given}
+use Rattle.sv_simulate.proofs.GivenFacts.{input_seen, inputs_given}
 
 module _ (design : FlatDesign) (is_sound : IsTrue (sound design))
     (admitted : IsAdmitted design) where

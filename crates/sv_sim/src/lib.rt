@@ -10,7 +10,8 @@
 //! says it of the system in `sv_flat/specs/FlatSystem.antt`; and that each fitting start and list
 //! of inputs of an admitted design has exactly one trace. `Simulations.antt` says what a contract
 //! sees of a simulation, and `Given.antt` how values are given to signals. `Settling.antt` is
-//! private, but for `process_at`, which `run_at` runs: it says how settling and the edge go.
+//! private, but for `process_at`, the process of `run_at` and `update_at`: it says how settling and
+//! the edge go.
 #![tactic(auto)]
 
 mod edges;

@@ -60,7 +60,7 @@ abbrev mutual
     loose ← check (nat_le (precedence_of op.0) most)
     b ← read_within k (precedence_of op.0 - 1) l n op.2
     nested ← check (nat_le (binding a) (precedence_of op.0)
-    && nat_lt (binding b.0) (precedence_of op.0))
+        && nat_lt (binding b.0) (precedence_of op.0))
     read_further k most l n ts (binary op.0 op.1 a b.0) b.1 loose
         (nested, (mid, is, (op.2, op.3, b.3)))) (λ _. Some (a, mid, tight, is))
 

@@ -53,12 +53,7 @@ pub fn whole_assignment(
 }
 
 /// Adds the value of a `wire` as an assignment to it, if it has one.
-pub fn add_value(
-    alloc: Global,
-    decl: &Decl,
-    scope: &Scope,
-    built: &mut Built,
-) -> Result<(), Fault>
+pub fn add_value(alloc: Global, decl: &Decl, scope: &Scope, built: &mut Built) -> Result<(), Fault>
     requires shaped { IsTrue (is_shaped_declaration (declaration_tree decl.now)) }
     ensures found { OnOk result ((value_walk (names_of scope.now) (built_form built.old)
         (declaration_tree decl.now) (declaration_tree decl.now).value).end ≡

@@ -52,11 +52,7 @@ fn earlier<'a>(
 }
 
 /// Puts a copy of the name last, and says whether it is new.
-pub fn add_name(
-    alloc: Global,
-    names: &mut IndexSet<Name>,
-    name: &Name,
-) -> Result<bool, OutOfMemory>
+pub fn add_name(alloc: Global, names: &mut IndexSet<Name>, name: &Name) -> Result<bool, OutOfMemory>
     ensures new { IfOk result (λ new. new ≡ not (is_point names.old.keys name.now)) }
     ensures added { IfOk result (λ new.
         names.new.keys ≡ insert_key bytes_eq names.old.keys name.now) }

@@ -8,11 +8,7 @@ use sv_design::Design;
 use sv_flat::{ProcKind, Process};
 
 /// The places of the clocked processes, or of the others, in order. It fails where memory runs out.
-pub fn places_of(
-    alloc: Global,
-    design: &Design,
-    clocked: bool,
-) -> Result<Vec<usize>, AllocError>
+pub fn places_of(alloc: Global, design: &Design, clocked: bool) -> Result<Vec<usize>, AllocError>
     ensures { IfOk result (λ places.
         ArePlaces (design_of design.now) clocked places.items) }
 {

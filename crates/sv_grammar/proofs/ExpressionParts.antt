@@ -217,7 +217,7 @@ behind_operand l n w op p x ts mid rest tight is behind =
       tt,
       (
         true_both (nat_le (binding w) (precedence_of op)) (nat_lt (binding x)
-        (precedence_of op)) tight
+            (precedence_of op)) tight
             (operand_is_tight op x right.0),
         (mid, is, (behind.0, behind.1, right.1)),
       ),

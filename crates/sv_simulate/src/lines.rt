@@ -30,11 +30,7 @@ pub fn put_waiting<K: Sink>(out: &mut K, waiting: &mut Vec<u8>) -> Result<(), Si
 }
 
 /// Puts a line behind the lines that wait, and puts them if they are many.
-pub fn put_line<K: Sink>(
-    out: &mut K,
-    waiting: &mut Vec<u8>,
-    line: &[u8],
-) -> Result<(), SimFault>
+pub fn put_line<K: Sink>(out: &mut K, waiting: &mut Vec<u8>, line: &[u8]) -> Result<(), SimFault>
     ensures whole { OnOk result (PutsFront (K.accepted out.old) (waiting.old.items ++ line.now)
         (K.accepted out.new) waiting.new.items) }
     ensures refused { OnErr result
@@ -51,11 +47,7 @@ pub fn put_line<K: Sink>(
 }
 
 /// What stands behind the trace.
-pub fn last_line(
-    alloc: Global,
-    ending: Ending,
-    rounds: Option<u64>,
-) -> Result<String, AllocError>
+pub fn last_line(alloc: Global, ending: Ending, rounds: Option<u64>) -> Result<String, AllocError>
     ensures { IfOk result (λ line. string_bytes line ≡ line_of ending rounds) }
 {
     match (ending, rounds) {

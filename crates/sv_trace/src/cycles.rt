@@ -11,11 +11,7 @@ use crate::fields::{read_value, split_first};
 use std::alloc::{AllocError, Global};
 
 /// The values of a cycle, one for each width; None where the line is wrong.
-pub fn read_cycle(
-    alloc: Global,
-    widths: &[u8],
-    line: &[u8],
-) -> Result<Option<Vec<u64>>, AllocError>
+pub fn read_cycle(alloc: Global, widths: &[u8], line: &[u8]) -> Result<Option<Vec<u64>>, AllocError>
     ensures right { IfOk result (λ found. MatchOption found
         (are_values widths.now (words line.now) ≡ false)
         (λ values. are_values widths.now (words line.now) ≡ true)) }

@@ -89,12 +89,7 @@ fn keep(kept: &mut Vec<u8>, bytes: &[u8], line: u64) -> Result<(), StimFault>
 }
 
 /// Reads what is kept as the last line, if it has a byte, and asks for the header.
-pub fn read_end(
-    alloc: Global,
-    form: &Form,
-    state: &mut State,
-    kept: &[u8],
-) -> Result<(), StimFault>
+pub fn read_end(alloc: Global, form: &Form, state: &mut State, kept: &[u8]) -> Result<(), StimFault>
     requires said { IsSaid form.now (said_of state.old) }
     requires room { state.old.line + length kept.now < 2 ^ 64 }
     requires short { length kept.now ≤ 1048576 }

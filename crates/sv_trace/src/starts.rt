@@ -46,11 +46,7 @@ pub struct Start {
 }
 
 /// The start that follows the word `start`.
-pub fn read_start(
-    registers: &[Register],
-    given: &[bool],
-    rest: &[u8],
-) -> Result<Start, StimKind>
+pub fn read_start(registers: &[Register], given: &[bool], rest: &[u8]) -> Result<Start, StimKind>
     requires { length given.now ≡ length registers.now }
     ensures place { IfOk result (λ start.
         place_in registers.now (before_first is_blank rest.now) ≡ Some start.place) }

@@ -5,13 +5,16 @@ ghost use Rattle.sv_obl.specs.declared.faults.OblFault.TheVariants as fault;
 
 use std::alloc::{AllocError, AllocFailed};
 use sv_flat::SigId;
+use thiserror::Error;
 
 /// Why a walk through a process ends early.
-#[derive(Clone, Copy, Debug, PartialEq, Eq)]
+#[derive(Clone, Copy, Debug, PartialEq, Eq, Error)]
 pub enum WalkFault {
     /// There are more paths than a target may have.
+    #[error("a target has over 4,096 paths")]
     TooMany,
     /// No memory is left.
+    #[error("out of memory")]
     OutOfMemory,
 }
 
@@ -32,15 +35,19 @@ impl<T: Drop> From<AllocFailed<T>> for WalkFault {
 }
 
 /// Why there is no list of obligations.
-#[derive(Clone, Copy, Debug, PartialEq, Eq)]
+#[derive(Clone, Copy, Debug, PartialEq, Eq, Error)]
 pub enum OblFault {
     /// The target has over 4,096 paths.
+    #[error("signal {} has over 4,096 paths", .0.0)]
     Paths(SigId),
     /// Over 65,536 nodes are put into one path of the target.
+    #[error("over 65,536 nodes are put into one path of signal {}", .0.0)]
     Large(SigId),
     /// There are over 65,536 obligations.
+    #[error("there are over 65,536 obligations")]
     Many,
     /// No memory is left.
+    #[error("out of memory")]
     OutOfMemory,
 }
 

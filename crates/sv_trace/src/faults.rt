@@ -3,6 +3,7 @@ ghost use Rattle.std.specs.Prelude.{◌≡◌};
 ghost use Rattle.sv_trace.specs.declared.faults.StimFault.TheVariants.{OutOfMemory};
 
 use std::alloc::{AllocError, AllocFailed};
+use thiserror::Error;
 
 /// What is wrong with a line of a stimulus. The kinds are asked in this order.
 #[derive(Clone, Copy, Debug, PartialEq, Eq)]
@@ -19,11 +20,13 @@ pub enum StimKind {
 }
 
 /// Why a stimulus is refused.
-#[derive(Clone, Copy, Debug, PartialEq, Eq)]
+#[derive(Clone, Copy, Debug, PartialEq, Eq, Error)]
 pub enum StimFault {
     /// The line with this number, from 1, is the first wrong one.
+    #[error("line {} of the stimulus is wrong", .0)]
     Line(u64, StimKind),
     /// Memory ran out.
+    #[error("out of memory")]
     OutOfMemory,
 }
 

@@ -1,5 +1,5 @@
 -- What the objects for large inputs and outputs hold: a repeated line, and the count of bytes.
-use Rattle.std.specs.Prelude.{ℕ, List, ◌++◌, drop}
+use Rattle.std.specs.Prelude.{ℕ, Bool, List, ◌++◌, drop}
 use Rattle.sv_io.specs.declared.large.RepeatSource.{RepeatSource}
 use Rattle.sv_io.specs.declared.large.TallySink.{TallySink}
 use Rattle.sv_io.specs.Repeated.{repeated}
@@ -12,6 +12,10 @@ repeat_given source = source.given.bytes
 abbrev pub repeat_left : RepeatSource → List ℕ
 repeat_left source =
     drop source.at source.head.items ++ drop source.column (repeated source.lines source.line.items)
+
+-- whether the end was shown
+abbrev pub repeat_ended : RepeatSource → Bool
+repeat_ended source = source.ended
 
 -- the most bytes that a take moves
 abbrev pub repeat_most : RepeatSource → ℕ

@@ -8,5 +8,6 @@ pub mod Large
 pub mod Mem
 pub mod Repeated
 pub mod Sink
+pub mod Source
 pub mod Sure
 pub mod System

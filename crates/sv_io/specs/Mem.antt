@@ -1,5 +1,5 @@
 -- What the objects in memory that fail on demand hold, and which of their calls fail.
-use Rattle.std.specs.Prelude.{ℕ, List, Option, take, drop}
+use Rattle.std.specs.Prelude.{ℕ, Bool, List, Option, take, drop}
 use Rattle.sv_io.specs.declared.mem.MemCabinet.{MemCabinet}
 use Rattle.sv_io.specs.declared.mem.MemSource.{MemSource}
 use Rattle.sv_io.specs.declared.mem.MemSink.{MemSink}
@@ -36,6 +36,10 @@ mem_left source = drop source.at source.all.items
 -- the bytes that were given
 abbrev pub mem_given : MemSource → List ℕ
 mem_given source = take source.at source.all.items
+
+-- whether the end was shown
+abbrev pub source_ended : MemSource → Bool
+source_ended source = source.ended
 
 -- how many takes there were, how many of them failed, and the numbers of those that fail
 abbrev pub source_calls : MemSource → ℕ

@@ -1,5 +1,5 @@
 -- What the objects in memory that never fail hold.
-use Rattle.std.specs.Prelude.{ℕ, List, Option, take, drop}
+use Rattle.std.specs.Prelude.{ℕ, Bool, List, Option, take, drop}
 use Rattle.sv_io.specs.declared.sure.SureCabinet.{SureCabinet}
 use Rattle.sv_io.specs.declared.sure.SureSource.{SureSource}
 use Rattle.sv_io.specs.declared.sure.SureSink.{SureSink}
@@ -21,6 +21,10 @@ sure_given source = take source.at source.all.items
 -- the bytes that are left
 abbrev pub sure_left : SureSource → List ℕ
 sure_left source = drop source.at source.all.items
+
+-- whether the end was shown
+abbrev pub sure_ended : SureSource → Bool
+sure_ended source = source.ended
 
 -- the bytes that were accepted
 abbrev pub sure_accepted : SureSink → List ℕ

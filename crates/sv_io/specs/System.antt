@@ -19,12 +19,15 @@ file_faults cabinet = cabinet.faults
 abbrev pub file_failed : {R F O : Type 0} → FileCabinet R F O → Bool
 file_failed cabinet = is_some cabinet.last_error
 
--- the reader, the bytes that were given, and how often the system failed
+-- the reader, the bytes that were given, whether the end was shown, and how often the system failed
 abbrev pub source_reader : {R : Type 0} → StdSource R → R
 source_reader source = source.reader
 
 abbrev pub source_given : {R : Type 0} → StdSource R → List ℕ
 source_given source = source.given.bytes
+
+abbrev pub source_ended : {R : Type 0} → StdSource R → Bool
+source_ended source = source.ended
 
 abbrev pub source_faults : {R : Type 0} → StdSource R → ℕ
 source_faults source = source.faults

@@ -1,10 +1,12 @@
 // A source and a sink for inputs and outputs that are too large to be kept.
-ghost use Rattle.std.specs.Prelude.{◌≡◌, ◌+◌, ◌≤◌, ◌<◌, ◌-◌, ◌∷◌, ◌++◌, true, [], take, drop};
-ghost use Rattle.std.specs.Prelude.{◌↔◌, length, min, vec_len, Ok, IfOk, IfSome, IfNone};
+ghost use Rattle.std.specs.Prelude.{◌≡◌, ◌+◌, ◌≤◌, ◌<◌, ◌-◌, ◌∷◌, ◌++◌, ◌↔◌, ◌⊎◌, true, false, []};
+ghost use Rattle.std.specs.Prelude.{IsTrue, take, drop, length, min, vec_len, Ok, IfOk, IfSome};
+ghost use Rattle.std.specs.Prelude.{IfNone};
 ghost use Rattle.sv_io.specs.Repeated.{repeated};
 
 use super::faults::{Failed, PutFault};
 use super::history::{Passed, Piece};
+use super::pieces::shows_end;
 use super::traits::{Sink, Source};
 
 /// A source of a head and then a line, so many times, in memory. It never fails and keeps the line
@@ -19,6 +21,7 @@ pub struct RepeatSource {
     column: usize,
     lines: u32,
     most: usize,
+    ended: bool,
     given: Passed,
     ghost in_head: { at ≤ vec_len head },
     ghost in_line: { column ≤ vec_len line - 1 },
@@ -26,7 +29,7 @@ pub struct RepeatSource {
 }
 
 impl RepeatSource {
-    ghost use Rattle.sv_io.specs.Large.{repeat_given, repeat_left, repeat_most};
+    ghost use Rattle.sv_io.specs.Large.{repeat_given, repeat_left, repeat_ended, repeat_most};
 
     /// A source with the head left and then the line, `times` times, of which a take moves at most
     /// `most` bytes.
@@ -34,6 +37,7 @@ impl RepeatSource {
         requires { 1 ≤ most }
         ensures none_given { repeat_given result ≡ [] }
         ensures left { repeat_left result ≡ head.items ++ repeated times line.items }
+        ensures not_ended { repeat_ended result ≡ false }
         ensures most { repeat_most result ≡ most }
     {
         RepeatSource {
@@ -43,6 +47,7 @@ impl RepeatSource {
             column: 0,
             lines: times,
             most,
+            ended: false,
             given: Passed::new(),
         }
     }
@@ -52,6 +57,7 @@ impl RepeatSource {
         ensures moved { result ≡ min (length (repeat_left self.old)) (length buf.old) }
         ensures taken { repeat_left self.old ≡ take result buf.new ++ repeat_left self.new }
         ensures given { self.new.given ≡ self.old.given }
+        ensures ended { self.new.ended ≡ self.old.ended }
         ensures most { self.new.most ≡ self.old.most }
     {
         let mut count = 0;
@@ -72,6 +78,7 @@ impl RepeatSource {
         ensures end { IfNone result
             ((repeat_left self.old ≡ []) × (repeat_left self.new ≡ [])) }
         ensures given { self.new.given ≡ self.old.given }
+        ensures ended { self.new.ended ≡ self.old.ended }
         ensures most { self.new.most ≡ self.old.most }
     {
         if self.at < self.head.len() {
@@ -97,6 +104,7 @@ impl RepeatSource {
         ensures left { repeat_left self.new ≡
             drop (self.old.column + 1) (repeated self.old.lines self.old.line.items) }
         ensures given { self.new.given ≡ self.old.given }
+        ensures ended { self.new.ended ≡ self.old.ended }
         ensures most { self.new.most ≡ self.old.most }
     {
         let column = self.column + 1;
@@ -110,13 +118,15 @@ impl RepeatSource {
 }
 
 impl Source for RepeatSource {
-    ghost use Rattle.sv_io.specs.Large.{repeat_given, repeat_left, repeat_most};
+    ghost use Rattle.sv_io.specs.Large.{repeat_given, repeat_left, repeat_ended, repeat_most};
 
     ghost given = { repeat_given };
 
     ghost tells = { true };
 
     ghost left = { repeat_left };
+
+    ghost ended = { repeat_ended };
 
     ghost faults = { λ _. 0 };
 
@@ -130,6 +140,8 @@ impl Source for RepeatSource {
             repeat_left self.old ≡ take count buf.new ++ repeat_left self.new) }
         ensures end { 0 < length buf.old →
             IfOk result (λ count. (count ≡ 0) ↔ (repeat_left self.old ≡ [])) }
+        ensures ended { IsTrue (repeat_ended self.new) ↔
+            (IsTrue (repeat_ended self.old) ⊎ ((result ≡ Ok 0) × (0 < length buf.old))) }
         ensures most { repeat_most self.new ≡ repeat_most self.old }
     {
         let wanted = self.most.min(buf.len());
@@ -137,6 +149,7 @@ impl Source for RepeatSource {
         self.given = self.given.and(&Piece {
             bytes: &buf[..count],
         });
+        self.ended = self.ended || shows_end(count, buf);
         Ok(count)
     }
 }

@@ -1,7 +1,7 @@
 // A cabinet, a source and a sink in memory of which chosen calls fail.
-ghost use Rattle.std.specs.Prelude.{◌≡◌, ◌≢◌, ℕ, ◌+◌, ◌<◌, ◌≤◌, ◌↔◌, ◌⊎◌, Bool, true, IsTrue, []};
-ghost use Rattle.std.specs.Prelude.{List, ◌∷◌, ◌++◌, take, length, min, Option, None, Some, Ok};
-ghost use Rattle.std.specs.Prelude.{Err, IfOk, OnOk, OnErr, IsOk, IsErr, IsErrOf, vec_len};
+ghost use Rattle.std.specs.Prelude.{◌≡◌, ◌≢◌, ℕ, ◌+◌, ◌<◌, ◌≤◌, ◌↔◌, ◌⊎◌, Bool, true, false, []};
+ghost use Rattle.std.specs.Prelude.{IsTrue, List, ◌∷◌, ◌++◌, take, length, min, Option, None, Some};
+ghost use Rattle.std.specs.Prelude.{Ok, Err, IfOk, OnOk, OnErr, IsOk, IsErr, IsErrOf, vec_len};
 ghost use Rattle.std.specs.Option.{option_copied};
 ghost use Rattle.sv_io.specs.Cabinet.{bytes_under, IfLong, KeepsOrBegins};
 ghost use Rattle.sv_io.specs.Count.{Rose, one_more, is_failing};
@@ -12,7 +12,7 @@ use super::calls::Calls;
 use super::faults::{Failed, FetchFault, PutFault, StoreFault};
 use super::files::{Counts, Files, copy_within, count_one, file_named, put_file};
 use super::history::{Call, Exchanges};
-use super::pieces::copy_front;
+use super::pieces::{copy_front, shows_end};
 use super::traits::{Cabinet, Sink, Source};
 use std::alloc::Global;
 
@@ -262,6 +262,7 @@ pub struct MemSource {
     at: usize,
     calls: Calls,
     failed: u64,
+    ended: bool,
     most: usize,
     ghost in_range: { at ≤ vec_len all },
     ghost some: { 1 ≤ most },
@@ -269,7 +270,7 @@ pub struct MemSource {
 
 impl MemSource {
     ghost use Rattle.sv_io.specs.Mem.{mem_given, mem_left, source_calls, source_faults};
-    ghost use Rattle.sv_io.specs.Mem.{source_failing, source_most};
+    ghost use Rattle.sv_io.specs.Mem.{source_ended, source_failing, source_most};
 
     /// A source with these bytes left, of which a take moves at most `most`. The takes whose
     /// numbers stand in `failing` will fail; numbers of takes stop at the greatest u64.
@@ -277,6 +278,7 @@ impl MemSource {
         requires { 1 ≤ most }
         ensures none_given { mem_given result ≡ [] }
         ensures left { mem_left result ≡ bytes.items }
+        ensures not_ended { source_ended result ≡ false }
         ensures no_call { source_calls result ≡ 0 }
         ensures no_fault { source_faults result ≡ 0 }
         ensures failing { source_failing result ≡ failing.items }
@@ -287,6 +289,7 @@ impl MemSource {
             at: 0,
             calls: Calls::new(failing),
             failed: 0,
+            ended: false,
             most,
         }
     }
@@ -298,6 +301,7 @@ impl MemSource {
         ensures bytes { self.new.all ≡ self.old.all }
         ensures calls { self.new.calls ≡ self.old.calls }
         ensures faults { self.new.failed ≡ self.old.failed }
+        ensures ended { self.new.ended ≡ self.old.ended }
         ensures most { self.new.most ≡ self.old.most }
     {
         self.at += count;
@@ -306,13 +310,15 @@ impl MemSource {
 
 impl Source for MemSource {
     ghost use Rattle.sv_io.specs.Mem.{mem_given, mem_left, source_calls, source_faults};
-    ghost use Rattle.sv_io.specs.Mem.{source_failing, source_most};
+    ghost use Rattle.sv_io.specs.Mem.{source_ended, source_failing, source_most};
 
     ghost given = { mem_given };
 
     ghost tells = { true };
 
     ghost left = { mem_left };
+
+    ghost ended = { source_ended };
 
     ghost faults = { source_faults };
 
@@ -327,6 +333,8 @@ impl Source for MemSource {
             mem_left self.old ≡ take count buf.new ++ mem_left self.new) }
         ensures end { 0 < length buf.old →
             IfOk result (λ count. (count ≡ 0) ↔ (mem_left self.old ≡ [])) }
+        ensures ended { IsTrue (source_ended self.new) ↔
+            (IsTrue (source_ended self.old) ⊎ ((result ≡ Ok 0) × (0 < length buf.old))) }
         ensures refused { OnErr result (mem_left self.new ≡ mem_left self.old) }
 
         // It fails exactly where its number is one that fails, and then the count goes up by one.
@@ -347,6 +355,7 @@ impl Source for MemSource {
         }
         let count = copy_front(&self.all[self.at..], buf, self.most);
         self.pass(count);
+        self.ended = self.ended || shows_end(count, buf);
         Ok(count)
     }
 }

@@ -1,5 +1,5 @@
-// A piece of bytes, copied.
-ghost use Rattle.std.specs.Prelude.{◌≡◌, ◌≤◌, length, take, min};
+// Pieces of bytes: one that is copied, and one that shows the end.
+ghost use Rattle.std.specs.Prelude.{◌≡◌, ◌≤◌, ◌<◌, ◌↔◌, IsTrue, length, take, min};
 
 /// Copies as many bytes as both have, and at most `most`, to the front of `buf`, and says how many.
 pub fn copy_front(from: &[u8], buf: &mut [u8], most: usize) -> usize
@@ -9,4 +9,11 @@ pub fn copy_front(from: &[u8], buf: &mut [u8], most: usize) -> usize
     let count = most.min(from.len().min(buf.len()));
     buf[..count].copy_from_slice(&from[..count]);
     count
+}
+
+/// Whether so many bytes, read into this buffer, show the end of an input.
+pub fn shows_end(count: usize, buf: &[u8]) -> bool
+    ensures { IsTrue result ↔ ((count ≡ 0) × (0 < length buf.now)) }
+{
+    count == 0 && !buf.is_empty()
 }

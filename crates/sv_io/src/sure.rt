@@ -1,13 +1,13 @@
 // A cabinet, a source and a sink in memory that never fail.
-ghost use Rattle.std.specs.Prelude.{◌≡◌, ◌≢◌, ℕ, ◌≤◌, true, [], List, None, Some, OnOk, OnErr};
-ghost use Rattle.std.specs.Prelude.{vec_len};
+ghost use Rattle.std.specs.Prelude.{◌≡◌, ◌≢◌, ℕ, ◌≤◌, true, false, [], List, None, Some, OnOk};
+ghost use Rattle.std.specs.Prelude.{OnErr, vec_len};
 ghost use Rattle.std.specs.Option.{option_copied};
 
 use super::OutOfMemory;
 use super::faults::{Failed, FetchFault, PutFault, StoreFault};
 use super::files::{Files, copy_within, file_named, put_file};
 use super::history::{Call, Exchanges};
-use super::pieces::copy_front;
+use super::pieces::{copy_front, shows_end};
 use super::traits::{Cabinet, Sink, Source};
 use std::alloc::Global;
 
@@ -88,23 +88,29 @@ impl Cabinet for SureCabinet {
 pub struct SureSource {
     all: Vec<u8>,
     at: usize,
+    ended: bool,
     ghost in_range: { at ≤ vec_len all },
 }
 
 impl SureSource {
-    ghost use Rattle.sv_io.specs.Sure.{sure_given, sure_left};
+    ghost use Rattle.sv_io.specs.Sure.{sure_given, sure_left, sure_ended};
 
     /// A source with these bytes left.
     pub fn new(bytes: Vec<u8>) -> SureSource
         ensures none_given { sure_given result ≡ [] }
         ensures left { sure_left result ≡ bytes.items }
+        ensures not_ended { sure_ended result ≡ false }
     {
-        SureSource { all: bytes, at: 0 }
+        SureSource {
+            all: bytes,
+            at: 0,
+            ended: false,
+        }
     }
 }
 
 impl Source for SureSource {
-    ghost use Rattle.sv_io.specs.Sure.{sure_given, sure_left};
+    ghost use Rattle.sv_io.specs.Sure.{sure_given, sure_left, sure_ended};
 
     ghost given = { sure_given };
 
@@ -112,11 +118,14 @@ impl Source for SureSource {
 
     ghost left = { sure_left };
 
+    ghost ended = { sure_ended };
+
     ghost faults = { λ _. 0 };
 
     fn take(&mut self, buf: &mut [u8]) -> Result<usize, Failed> {
         let count = copy_front(&self.all[self.at..], buf, usize::MAX);
         self.at += count;
+        self.ended = self.ended || shows_end(count, buf);
         Ok(count)
     }
 }

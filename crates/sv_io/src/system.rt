@@ -1,14 +1,15 @@
 // A cabinet, a source and a sink over the real system.
-ghost use Rattle.std.specs.Prelude.{◌≡◌, ◌≢◌, ℕ, ◌+◌, ◌<◌, ◌≤◌, Bool, false, List, [], ◌∷◌, ◌++◌};
-ghost use Rattle.std.specs.Prelude.{take, None, Some, IfOk, OnOk, OnErr, IsErr, IsErrOf, IsTrue};
-ghost use Rattle.std.specs.Prelude.{length, vec_len};
+ghost use Rattle.std.specs.Prelude.{◌≡◌, ◌≢◌, ℕ, ◌+◌, ◌<◌, ◌≤◌, ◌↔◌, ◌⊎◌, Bool, false, List, []};
+ghost use Rattle.std.specs.Prelude.{◌∷◌, ◌++◌, take, None, Some, Ok, IfOk, OnOk, OnErr, IsErr};
+ghost use Rattle.std.specs.Prelude.{IsErrOf, IsTrue, length, vec_len};
 ghost use Rattle.std.specs.Option.{is_some};
-ghost use Rattle.std.specs.Io.KnownBytes.{Keeps, Appends, Consumes};
+ghost use Rattle.std.specs.Io.KnownBytes.{Keeps, Appends, Consumes, IsAtEnd};
 ghost use Rattle.sv_io.specs.Cabinet.{IfLong};
 ghost use Rattle.sv_io.specs.Count.{Rose};
 
 use super::faults::{Failed, FetchFault, PutFault, StoreFault};
 use super::history::{Call, Exchanges, Passed, Piece};
+use super::pieces::shows_end;
 use super::traits::{Cabinet, Sink, Source};
 use std::alloc::Global;
 use std::io::{ErrorKind, Read, Write};
@@ -133,34 +134,39 @@ fn read_front(files: &impl Files, name: &str, most: u64, bytes: &mut Vec<u8>) ->
 pub struct StdSource<R: Read> {
     reader: R,
     faults: u64,
+    ended: bool,
     given: Passed,
 }
 
 impl<R: Read> StdSource<R> {
-    ghost use Rattle.sv_io.specs.System.{source_reader, source_given, source_faults};
+    ghost use Rattle.sv_io.specs.System.{source_reader, source_given, source_ended, source_faults};
 
     /// Over a reader, as the runtime's `stdin()`.
     pub fn new(reader: R) -> StdSource<R>
         ensures reader { source_reader result ≡ reader }
         ensures none_given { source_given result ≡ [] }
+        ensures not_ended { source_ended result ≡ false }
         ensures no_fault { source_faults result ≡ 0 }
     {
         StdSource {
             reader,
             faults: 0,
+            ended: false,
             given: Passed::new(),
         }
     }
 }
 
 impl<R: Read> Source for StdSource<R> {
-    ghost use Rattle.sv_io.specs.System.{source_reader, source_given, source_faults};
+    ghost use Rattle.sv_io.specs.System.{source_reader, source_given, source_ended, source_faults};
 
     ghost given = { source_given };
 
     ghost tells = { false };
 
     ghost left = { λ _. [] };
+
+    ghost ended = { source_ended };
 
     ghost faults = { source_faults };
 
@@ -169,13 +175,18 @@ impl<R: Read> Source for StdSource<R> {
         ensures given { IfOk result
             (λ count. source_given self.new ≡ source_given self.old ++ take count buf.new) }
         ensures none_given { OnErr result (source_given self.new ≡ source_given self.old) }
+        ensures ended { IsTrue (source_ended self.new) ↔
+            (IsTrue (source_ended self.old) ⊎ ((result ≡ Ok 0) × (0 < length buf.old))) }
         ensures failed { IsErr result → Rose (source_faults self.old) (source_faults self.new) }
         ensures counts { source_faults self.old ≤ source_faults self.new }
 
-        // What is given is what the reader gave, where it is known what a reader gives.
+        // What is given is what the reader gave, and the end is the reader's, where it is known
+        // what a reader gives.
         ensures read { IfOk result (λ count.
             Consumes (R.remaining (source_reader self.old)) (R.remaining (source_reader self.new))
             (take count buf.new)) }
+        ensures at_end { IfOk result (λ count. count ≡ 0 → 0 < length buf.old →
+            IsAtEnd (R.remaining (source_reader self.new))) }
         ensures none_read { OnErr result
             (Keeps (R.remaining (source_reader self.old)) (R.remaining (source_reader self.new))) }
     {
@@ -184,6 +195,7 @@ impl<R: Read> Source for StdSource<R> {
                 self.given = self.given.and(&Piece {
                     bytes: &buf[..count],
                 });
+                self.ended = self.ended || shows_end(count, buf);
                 Ok(count)
             }
             Err(_) => {
@@ -199,6 +211,8 @@ fn read_some<R: Read>(reader: &mut R, buf: &mut [u8]) -> io::Result<usize>
     ensures within { IfOk result (λ count. count ≤ length buf.new) }
     ensures read { IfOk result
         (λ count. Consumes (R.remaining reader.old) (R.remaining reader.new) (take count buf.new)) }
+    ensures at_end { IfOk result
+        (λ count. count ≡ 0 → 0 < length buf.old → IsAtEnd (R.remaining reader.new)) }
     ensures none_read { OnErr result (Keeps (R.remaining reader.old) (R.remaining reader.new)) }
 {
     for _ in 0..u64::MAX {

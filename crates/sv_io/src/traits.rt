@@ -1,7 +1,7 @@
 // The outside as traits: files, an input and an output.
-ghost use Rattle.std.specs.Prelude.{◌≡◌, ◌≢◌, ℕ, ◌+◌, ◌<◌, ◌≤◌, ◌↔◌, Bool, IsTrue, List, [], ◌∷◌};
-ghost use Rattle.std.specs.Prelude.{◌++◌, take, length, Option, Some, Ok, Err, IfOk, OnOk, OnErr};
-ghost use Rattle.std.specs.Prelude.{IsErr, IsErrOf, vec_len};
+ghost use Rattle.std.specs.Prelude.{◌≡◌, ◌≢◌, ℕ, ◌+◌, ◌<◌, ◌≤◌, ◌↔◌, ◌⊎◌, Bool, IsTrue, List};
+ghost use Rattle.std.specs.Prelude.{[], ◌∷◌, ◌++◌, take, length, Option, Some, Ok, Err, IfOk, OnOk};
+ghost use Rattle.std.specs.Prelude.{OnErr, IsErr, IsErrOf, vec_len};
 ghost use Rattle.sv_io.specs.Cabinet.{bytes_under, IfLong, KeepsOrBegins};
 ghost use Rattle.sv_io.specs.Count.{Rose};
 ghost use Rattle.sv_io.specs.Exchange.{Exchange, fetched, stored, fetched_of, is_done};
@@ -86,6 +86,9 @@ pub trait Source {
     // The bytes that are left, where the type tells them.
     ghost left: { Self → List ℕ };
 
+    // Whether a take has shown the end of the input.
+    ghost ended: { Self → Bool };
+
     // How often a take has failed.
     ghost faults: { Self → ℕ };
 
@@ -100,6 +103,8 @@ pub trait Source {
             IfOk result (λ count. left self.old ≡ take count buf.new ++ left self.new) }
         ensures end { IsTrue tells →
             0 < length buf.old → IfOk result (λ count. (count ≡ 0) ↔ (left self.old ≡ [])) }
+        ensures ended { IsTrue (ended self.new) ↔
+            (IsTrue (ended self.old) ⊎ ((result ≡ Ok 0) × (0 < length buf.old))) }
         ensures refused { IsTrue tells → OnErr result (left self.new ≡ left self.old) }
         ensures failed { IsErr result → Rose (faults self.old) (faults self.new) }
         ensures counts { faults self.old ≤ faults self.new };

@@ -1,7 +1,7 @@
 #!/usr/bin/env python3
 """Checks hierarchies at the limits of elaboration through ./secv: signals, instances, points and rows of maps at the limit and one past
-it, modules nested and chained, and a hierarchy whose whole size no machine could hold. Each wanted line is worked out here from
-docs/language.md. The last line is 'N passed, M failed'.
+it, modules nested and chained, and a hierarchy whose whole size no machine could hold; and blocks of 4,096 signals and of 100,000 statements, with
+a latch and without one. Each wanted line is worked out here from docs/language.md. The last line is 'N passed, M failed'.
 """
 import os
 import subprocess
@@ -107,11 +107,40 @@ def labels(folder):
         check(f"a map of {len(keys)} rows, the last of {list(keys)[-1]}", text, wanted, folder)
 
 
+def nest(folder):
+    """A block that assigns 4,094 signals, each once on every path through a nest of eight branches: the first arm of a branch assigns all that
+    are left, and the second one 512 of them before the next branch. With one of these assignments left out its signal is a latch."""
+    names = [f"r{i}" for i in range(4094)]
+
+    def text(left_out):
+        arms = []
+        for depth in range(8):
+            left = names[512 * depth:]
+            for opening, those in ((f"if (a[{depth}]) begin", left), ("end else begin", left[:512])):
+                arms += [f"{opening}\n", *(f"{name}=a;\n" for name in those if left_out != (depth, opening[:2], name))]
+        head = f"module m(input [7:0] a, output [7:0] y);\n  reg [7:0] {', '.join(names)};\n  always @* begin\n"
+        return head + "".join(arms) + "end " * 8 + "end\n  assign y = r0;\nendmodule\n"
+
+    check("4,096 signals and a nest of branches", text(None), NOT_BUILT, folder)
+    for left_out in ((0, "if", "r0"), (3, "if", "r4093"), (7, "en", "r3584")):
+        check(f"these without an assignment at {left_out}", text(left_out), f"refused 605 latch 3:3 {left_out[2]}", folder)
+
+
+def statements(folder):
+    """A block of 100,000 assignments to 4,093 signals, in two arms that assign the last signal once each; without that in the second it is a latch."""
+    names = ", ".join(f"r{i}" for i in range(4093))
+    arm = "".join(f"r{i % 4092}=a;\n" for i in range(49999))
+    for last, wanted in (("r4092=b;\n", NOT_BUILT), ("", "refused 605 latch 3:3 r4092")):
+        head = f"module m(input a, b, output y);\n  reg {names};\n  always @* if (a) begin\n"
+        text = head + arm + "r4092=a;\nend else begin\n" + arm + last + "end\n  assign y = r0;\nendmodule\n"
+        check(f"{text.count(';') - 3} statements", text, wanted, folder)
+
+
 def main():
     # the first run builds the program, which takes more than a run may
     subprocess.run([SECV, "--version"], stdout=subprocess.DEVNULL, check=True)
     with tempfile.TemporaryDirectory() as folder:
-        for group in (signals, instances, astronomical, labels):
+        for group in (signals, instances, astronomical, labels, nest, statements):
             group(folder)
     print(f"{passed} passed, {failed} failed")
     sys.exit(1 if failed else 0)

@@ -60,6 +60,7 @@ TEXTS = [
 FLIP = "module s(input k, input e, output reg r); always @(posedge k) r <= e; endmodule\n"
 Q = "module m(input clk, input a, b, output reg q, output w);\n  "
 S = "module m(input [1:0] s, input signed [1:0] t, output reg [3:0] y);\n  @@always @* "
+NEST = "case (s) 0, 1: y = 0; 2: case (t) 0: y = 1; 1: y = 2; -2: y = 3; -1: y = 4; endcase default: y = 5; endcase\n"
 T = "module m(input a, b, output reg y, output reg t, output reg [3:0] v);\n  always @* begin "
 ADMISSION = [
     (601, Q + "assign w = a; always @* begin @@q <= a; end\n" + END, "", "q"),
@@ -85,6 +86,8 @@ ADMISSION = [
     (605, Q + "assign w = 0; reg [1:0] r; @@always @* {q, r[0]} = a;\n" + END, "", "r"),
     (605, S + "case (s) 3: y = 0; 2: y = 1; 1: y = 2; 4: y = 3; endcase\n" + END, "", "y"),
     (605, S + "case (s + 1'b1) 0: y = 0; 1: y = 1; 2: y = 2; 3: y = 3; endcase\n" + END, "", "y"),
+    (605, S + NEST.replace(" -1: y = 4;", "") + END, "", "y"),
+    (605, S + NEST.replace(" default: y = 5;", "") + END, "", "y"),
     (606, T + "t = 0; v[1:0] = a; y = @@v[2]; v[3:2] = b; end\n" + END, "", "v"),
     (606, T + "t = 0; v[1:0] = a; y = @@v; v[3:2] = b; end\n" + END, "", "v"),
     (606, T + "t = 0; v = 0; y = @@v[a]; v[3] = b; end\n" + END, "", "v"),
@@ -102,6 +105,8 @@ ADMISSION = [
     (199, Q + "assign w = 0; always @* q = 0; reg [3:0] r; always @* if (a) r = 0; else begin r[3:1] = b; r[0] = a; end\n" + END, "", ""),
     (199, S.replace("@@", "") + "case (t) 0: y = 0; 1: y = 1; -2: y = 2; -1: y = 3; endcase\n" + END, "", ""),
     (199, S.replace("@@", "") + "case ({s[1], s[0]}) 0: y = 0; 1: y = 1; 2: y = 2; 3: y = 3; endcase\n" + END, "", ""),
+    (199, S.replace("@@", "") + NEST + END, "", ""),
+    (199, S.replace("m(", "m(input clk, ").replace("@@always @*", "always @(posedge clk)") + NEST.replace("=", "<=").replace(" -1: y <= 4;", "") + END, "", ""),
 ]
 passed = failed = 0
 

@@ -2,9 +2,9 @@
 # Admits designs at the limits and runs one of 4,096 signals. First it prints, for three kinds of designs (a chain of wires, one block
 # that assigns every signal in nested branches, one block of many statements), the processor time of admission at 1/4, 1/2 and the
 # whole of the limit, the ratio of the last two (asked: at most 2.3), and that of the whole against a whole run of iverilog on the
-# same text (asked: at most a quarter). Then it prints the cycles in a second of the simulator's core on a design of 4,096 signals, beside those of
-# vvp and of Verilator's program, where they are installed (asked: at least three times vvp's). Last come the greatest ratio of
-# admission and the ratio to vvp.
+# same text (asked: at most a quarter). Then it prints a table of the cycles in a second on a design of 4,096 signals: a row each for the
+# simulator's core, vvp and Verilator's program, where they are installed, with the ratio of the core's cycles to these (asked: at
+# least 3 to vvp's). Last come the greatest ratio of admission and the ratio to vvp.
 set -eu
 top=$(CDPATH='' cd -- "$(dirname -- "$0")/.." && pwd -P)
 work=$(mktemp -d)
@@ -142,15 +142,15 @@ def running():
     cycles = 20000
     spent = min(int(subprocess.run([program, str(cycles)], input=text, capture_output=True, text=True, check=True).stdout.split()[2]) for _ in range(3))
     ours = cycles / (spent / 1e6)
-    print(f"\ncycles in a second, 4,096 signals: secv {ours:.0f}", end="")
-    vvp = None
+    rows = [("secv", ours)]
     if shutil.which("vvp"):
-        vvp = cycles_of_vvp(text, 2000)
-        print(f", vvp {vvp:.0f}", end="")
+        rows.append(("vvp", cycles_of_vvp(text, 2000)))
     if shutil.which("verilator"):
-        print(f", Verilator {cycles_of_verilator(text, 20000):.0f}", end="")
-    print()
-    return ours / vvp if vvp else None
+        rows.append(("Verilator", cycles_of_verilator(text, 20000)))
+    print(f"\n{'4,096 signals':<14}{'cycles/s':>12}{'secv to it':>12}")
+    for name, rate in rows:
+        print(f"{name:<14}{rate:>12.0f}{ours / rate:>12.2f}")
+    return next((ours / rate for name, rate in rows if name == "vvp"), None)
 
 
 worst = admissions()

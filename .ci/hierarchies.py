@@ -4,10 +4,10 @@ it, modules nested and chained, and a hierarchy whose whole size no machine coul
 a latch and without one. Each wanted line is worked out here from docs/language.md. The last line is 'N passed, M failed'.
 """
 import os
+import resource
 import subprocess
 import sys
 import tempfile
-import time
 
 TOP = os.path.dirname(os.path.dirname(os.path.abspath(__file__)))
 SECV = os.path.join(TOP, "secv")
@@ -17,22 +17,28 @@ MOST_MEGABYTES = 256
 passed = failed = 0
 
 
+def processor_seconds():
+    """What the programs that have ended have used of the processor, however much other work shares it."""
+    used = resource.getrusage(resource.RUSAGE_CHILDREN)
+    return used.ru_utime + used.ru_stime
+
+
 def check(what, text, wanted, folder, words=()):
-    """The program's line for the text, and whether it is the wanted one, in little time and memory."""
+    """The program's line for the text, and whether it is the wanted one, in little processor time and memory."""
     global passed, failed
     path = os.path.join(folder, "text.v")
     with open(path, "w", encoding="ascii") as file:
         file.write(text)
     limit = f"ulimit -v {MOST_MEGABYTES * 1024}; exec \"$@\""
-    start = time.monotonic()
+    before = processor_seconds()
     answer = subprocess.run(["sh", "-c", limit, "sh", SECV, "check", path, *words], stdin=subprocess.DEVNULL, stdout=subprocess.PIPE,
                             stderr=subprocess.DEVNULL, timeout=10 * MOST_SECONDS, check=False)
-    took = time.monotonic() - start
+    took = processor_seconds() - before
     if (answer.stdout, answer.returncode) == ((wanted + "\n").encode(), 1) and took < MOST_SECONDS:
         passed += 1
     else:
         failed += 1
-        print(f"{what}\n  wanted {wanted}\n  got    {answer.stdout!r}, status {answer.returncode}, after {took:.1f} s")
+        print(f"{what}\n  wanted {wanted}\n  got    {answer.stdout!r}, status {answer.returncode}, after {took:.1f} s of the processor")
 
 
 def signals(folder):

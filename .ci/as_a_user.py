@@ -4,6 +4,7 @@
 Every design of examples/ against the .out file beside it, and its obligations against the .list file where one is, every command that README.md shows with its output, and the answers
 to wrong words, missing files and failing outputs. The last line is 'N passed, M failed'.
 """
+import itertools
 import os
 import re
 import subprocess
@@ -61,9 +62,30 @@ USAGE = "; usage: secv COMMAND FILE [OPTIONS] (`secv --help` says more)"
 # Texts, the option that `list` gets, and what it prints. A case of 256 arms, with 16 paths each and one more in the last, has a path too many.
 MANY = "module m(input [7:0] s, input [15:0] t, output reg y); always @* case (s) " + "".join(
     f"{arm}: y = {''.join(f't[{bit}] ? 1 : ' for bit in range(15))}{'t[15] ? 1 : 0' if arm == 255 else '0'}; " for arm in range(256)) + "endcase endmodule\n"
+# 64 bits, for each of which 1,024 nodes are put into the path: 65,536 in all.
+LARGE = "module m(input a, output reg [63:0] y);\n  always @* begin\n" + "".join(
+    f"    y[{bit}] = -a{'^a' * 511};\n" for bit in range(64)) + "  end\nendmodule\n"
+BOTH = "module m(input {H} h, input a, output reg y);\n  always @* begin\n    y = a;\n    if (h) y = a;\n  end\nendmodule\n"
+REPLACED = """module m(input [3:0] a, input [3:0] b, output reg [3:0] s, output reg c, output reg [3:0] p);
+  always @* {c, s} = a + b;
+  always @* begin p[1:0] = a[1:0]; p[3:2] = b[3:2]; end
+endmodule
+"""
+SELECTED = """labelmap Dom [0:0] 0: L; default: H; endlabelmap
+labelmap Two [0:0] [0:0] 0, 0: L; default: H; endlabelmap
+module m(input p, input {Dom(p)} q, input {Two(p, q)} d, output {H} y);
+  assign y = d;
+endmodule
+"""
 LISTS = [("module m(output y); endmodule", [], "refused 604 undriven 1:17 y\n"), ("module m(output y); endmodule", ["--top", "n"], "refused 310 no-top 1:1\n"),
          ("module m(input a, output y); assign y = a; endmodule", ["--top", "m"], "1 y now =1:37 reads a\n"), ("module m; endmodule", [], ""),
-         ("module m(input a, output y); invariant a; assign y = a; endmodule", [], "refused 199 not-built 1:1\n"), (MANY, [], "refused 702 paths y\n")]
+         ("module m(input a, output y); invariant a; assign y = a; endmodule", [], "refused 199 not-built 1:1\n"), (MANY, [], "refused 702 paths y\n"),
+         (LARGE, [], "1 y now =66:5 reads a\n"), (LARGE.replace("  end\n", "    y[0] = a;\n  end\n"), [], "refused 712 obligation-size y\n"),
+         (BOTH, [], "1 y now +4:5 =4:12 reads h a\n2 y now -4:5 =3:5 reads h a\n"),
+         (REPLACED, [], "1 s now =2:17 reads a b\n2 c now =2:14 reads a b\n3 p now =3:36 reads a b\n"),
+         (SELECTED, [], "1 y now =4:10 reads d\n2 d now selector reads q\n"),
+         (SELECTED.replace("{Dom(p)} q", "{H} q"), [], "1 y now =4:10 reads d\n2 d now selector reads q\n"),
+         (SELECTED.replace("{Dom(p)} q", "q"), [], "1 y now =4:10 reads d\n")]
 STATUS = {"accepted": 0, "refused": 1, "usage": 2, "unknown": 3}
 passed = failed = 0
 
@@ -201,18 +223,70 @@ def words_and_faults():
             compare(f"both full, {words}", answer.returncode, 5 if wanted[0] else wanted[1])
 
 
+def compare_lines(what, answer, lines):
+    """Compares a list of obligations whole, which are numbered from 1; of one that differs only the first wrong line is shown."""
+    got = answer.stdout.decode(errors="replace").split("\n")
+    wanted = [*(f"{number} {line}" for number, line in enumerate(lines, 1)), ""]
+    differs = next((pair for pair in itertools.zip_longest(got, wanted) if pair[0] != pair[1]), (None, None))
+    compare(what, (differs[0], answer.returncode), (differs[1], 0))
+
+
+def lines_of_many(text):
+    """The lines of MANY, a path short: an arm stands behind the arms before it, and the choices in its value are asked one after the other."""
+    lines, before = [], ""
+    arms = list(re.finditer(r"(\d+): y = ([^;]*);", text))
+    for arm in arms:
+        conditions = before if arm is arms[-1] else f"{before} +1:{arm.start() + 1}"
+        end = f"=1:{arm.start() + len(arm.group(1)) + 3} reads s t"
+        for column in [arm.start(2) + at.start() + 1 for at in re.finditer(r"\?", arm.group(2))]:
+            lines.append(f"y now{conditions} +1:{column} {end}")
+            conditions += f" -1:{column}"
+        lines.append(f"y now{conditions} {end}")
+        before += f" -1:{arm.start() + 1}"
+    return lines
+
+
+def text_of_targets(wires):
+    """16 registers of 4,095 paths each, and so many wires of one."""
+    ports = "".join(f", output reg y{i}" for i in range(16)) + "".join(f", output z{i}" for i in range(wires))
+    blocks = "".join("  always @(posedge clk) begin\n" + "".join(f"    if (s[{k}]) begin if (s[0]) y{i} <= 0; end\n" for k in range(11)) + "  end\n"
+                     for i in range(16))
+    return f"module m(input clk, input [11:0] s{ports});\n{blocks}" + "".join(f"  assign z{i} = s[0];\n" for i in range(wires)) + "endmodule\n"
+
+
+def lines_of_targets(text):
+    """The lines of these: an `if` ends a path where both conditions hold, and each other way through it goes on with every path of what stands before it."""
+    paths, wires = {}, []
+    for number, line in enumerate(text.split("\n"), 1):
+        target = re.search(r"(\w+) <?= ", line)
+        if not target:
+            continue
+        name, end = target.group(1), f"={number}:{target.start() + 1} reads s"
+        if line.startswith("  assign"):
+            wires.append(f"{name} now {end}")
+            continue
+        outer, inner = (f"{number}:{line.index('if', at) + 1}" for at in (0, 8))
+        before = paths.get(name, [("", f"hold reads s {name}")])
+        paths[name] = [(f" +{outer} +{inner}", end), *((f"{way} +{outer} -{inner}", how) for way, how in before),
+                       *((f"{way} -{outer}", how) for way, how in before)]
+    return [f"{name} next{way} {how}" for name, ways in paths.items() for way, how in ways] + wires
+
+
 def lists():
     with tempfile.TemporaryDirectory() as folder:
         path = os.path.join(folder, "text.v")
-        for text, option, wanted in LISTS:
+        for text, option, wanted in [*LISTS, (text_of_targets(17), [], "refused 703 obligations\n")]:
             with open(path, "w", encoding="ascii") as file:
                 file.write(text)
             answer = run(["list", *option, path])
             compare(f"list {option} {text[:60]}", (answer.stdout, answer.returncode), (wanted.encode(), status_of(wanted.encode())))
-        with open(path, "w", encoding="ascii") as file:
-            file.write(MANY.replace("t[15] ? 1 : 0", "0"))
-        answer = run(["list", path])
-        compare("4,096 paths are listed", (answer.stdout.count(b"\n"), answer.stdout.split(b" ")[0], answer.returncode), (4096, b"1", 0))
+        for what, text, lines_of, count in [("65,536 obligations", text_of_targets(16), lines_of_targets, 65536),
+                                            ("4,096 paths", MANY.replace("t[15] ? 1 : 0", "0"), lines_of_many, 4096)]:
+            with open(path, "w", encoding="ascii") as file:
+                file.write(text)
+            lines = lines_of(text)
+            compare(f"{what}, as many as may be", len(lines), count)
+            compare_lines(f"{what} are listed", run(["list", path]), lines)
         with open("/dev/full", "wb") as full:
             compare("list to a full device", run(["list", path], stdout=full).returncode, 5)
 

@@ -207,7 +207,7 @@ impl State {
 
     /// Unit propagation until all literals of the trail are propagated, or a clause is false: gives
     /// its place.
-    pub fn propagate(self) -> Result<(State, Option<usize>), AllocError>
+    pub fn propagate(mut self) -> Result<(State, Option<usize>), AllocError>
         ensures known { IfOk result (λ pair. pair.0.known ≡ self.known) }
         ensures decisions { IfOk result (λ pair. pair.0.decisions ≡ self.decisions) }
         ensures older { IfOk result (λ pair.
@@ -219,31 +219,17 @@ impl State {
         ensures conflict { IfOk result (λ pair.
             IfSome pair.1 (IsConflict (clauses_known self.known) pair.0.trail.literals)) }
     {
-        let State {
-            known,
-            mut trail,
-            decisions,
-            mut watches,
-            propagated,
-        } = self;
-        let conflict = watches.propagate(known.clauses(), &mut trail, propagated)?;
-        let propagated = if conflict.is_some() {
-            propagated
-        } else {
-            trail.len()
-        };
-        let state = State {
-            known,
-            trail,
-            decisions,
-            watches,
-            propagated,
-        };
-        Ok((state, conflict))
+        let conflict = self
+            .watches
+            .propagate(self.known.clauses(), &mut self.trail, self.propagated)?;
+        if conflict.is_none() {
+            self.propagated = self.trail.len();
+        }
+        Ok((self, conflict))
     }
 
     /// Decision: makes an open literal true, at a new decision level.
-    pub fn decide(self, literal: &Literal) -> Result<State, AllocError>
+    pub fn decide(mut self, literal: &Literal) -> Result<State, AllocError>
         requires of { IsOf self.trail.variables literal.now }
         requires new { IsOpen self.trail.literals literal.now }
         requires propagated { self.propagated ≡ length self.trail.literals }
@@ -253,26 +239,13 @@ impl State {
         ensures decisions { IfOk result (λ state. state.decisions ≡ self.decisions ++
             length self.trail.literals ∷ []) }
     {
-        let State {
-            known,
-            mut trail,
-            mut decisions,
-            watches,
-            propagated,
-        } = self;
-        decisions.push(trail.len())?;
-        trail.push(literal, 0)?;
-        Ok(State {
-            known,
-            trail,
-            decisions,
-            watches,
-            propagated,
-        })
+        self.decisions.push(self.trail.len())?;
+        self.trail.push(literal, 0)?;
+        Ok(self)
     }
 
     /// Backjump: takes the decision levels back whose decisions stand from a place of the trail on.
-    pub fn backjump(self, order: &mut Order, keep: usize) -> State
+    pub fn backjump(mut self, order: &mut Order, keep: usize) -> State
         requires { keep ≤ length self.trail.literals }
         ensures known { result.known ≡ self.known }
         ensures trail_variables { result.trail.variables ≡ self.trail.variables }
@@ -287,28 +260,16 @@ impl State {
         if first == self.decisions.len() {
             return self;
         }
-        let State {
-            known,
-            mut trail,
-            mut decisions,
-            watches,
-            propagated,
-        } = self;
-        let back = decisions[first];
-        decisions.truncate(first);
-        order.release(&trail, back);
-        trail.truncate(back);
-        State {
-            known,
-            trail,
-            decisions,
-            watches,
-            propagated: propagated.min(back),
-        }
+        let back = self.decisions[first];
+        self.decisions.truncate(first);
+        order.release(&self.trail, back);
+        self.trail.truncate(back);
+        self.propagated = self.propagated.min(back);
+        self
     }
 
     // Takes up a conflict clause, and makes its asserting literal true by it.
-    fn take_up(self, alloc: Global, learned: ConflictClause) -> Result<State, AllocError>
+    fn take_up(mut self, alloc: Global, learned: ConflictClause) -> Result<State, AllocError>
         requires derived { IsDerived (clauses_known self.known) (plain_step learned.step) }
         requires new { IsNew (clauses_known self.known) learned.step.clause }
         requires of { IsClauseOf self.known.variables learned.step.clause }
@@ -320,29 +281,17 @@ impl State {
             length self.known.steps + 1) }
         ensures variables { IfOk result (λ state. state.known.variables ≡ self.known.variables) }
     {
-        let State {
-            known,
-            mut trail,
-            decisions,
-            mut watches,
-            propagated,
-        } = self;
         let ConflictClause {
             step,
             asserting,
             other,
             ..
         } = learned;
-        watches.attach(pair_of(asserting, other))?;
-        let known = known.learn(alloc, step)?;
-        trail.push(&asserting, known.clauses().len() as u64)?;
-        Ok(State {
-            known,
-            trail,
-            decisions,
-            watches,
-            propagated,
-        })
+        self.watches.attach(pair_of(asserting, other))?;
+        self.known = self.known.learn(alloc, step)?;
+        self.trail
+            .push(&asserting, self.known.clauses().len() as u64)?;
+        Ok(self)
     }
 
     /// Learns a conflict clause from a false clause, and backjumps to where it makes its asserting

@@ -15,21 +15,25 @@ below c =
     subst (λ z. All (λ d. d < c.args.keep) (take c.first_from-first.result z)) c.deref.ensures.value
     c.first_from-first.ensures.below
 
+-- where no decision stands from the place on, all stand below it
+all_below : (c : After-len) → c.first_from-first.result ≡ c.len.result →
+    All (λ d. d < c.args.keep) c.args.self.decisions
+all_below c same =
+    let items = c.self.inside.decisions.items in
+    let all : c.len.result ≡ length items = c.len.ensures ∙ c.self.inside.decisions.ok.0 in
+    subst (All (λ d. d < c.args.keep)) (ap (λ z. z.decisions) c.self.view_is)
+    (subst (All (λ d. d < c.args.keep))
+    (take_all c.first_from-first.result items (omega arith)) (below c))
+
 pub returns-then-first-len-clause-decisions : goal.returns-then-first-len-clause-decisions
 returns-then-first-len-clause-decisions c =
-    let items = c.self.inside.decisions.items in
-    subst (All (λ d. d < c.args.keep)) (take_all c.first_from-first.result items (omega arith))
-    (below (goal.at.returns-then-first-len-clause-decisions c).After-len)
+    all_below (goal.at.returns-then-first-len-clause-decisions c).After-len (omega arith)
 
 pub returns-then-first-len-clause-goes : goal.returns-then-first-len-clause-goes
 returns-then-first-len-clause-goes c =
-    let items = c.self.inside.decisions.items in
-    let all = subst (All (λ d. d < c.args.keep))
-    (take_all c.first_from-first.result items (omega arith))
-    (below (goal.at.returns-then-first-len-clause-goes c).After-len) in
-    subst (All (λ d. c.args.keep ≤ d → length c.self.inside.trail.literals ≤ d))
-    (ap (λ z. z.decisions) c.self.view_is)
-    (λ k d h high. let low : get_or items k d < c.args.keep = all k d h in absurd (omega arith))
+    let all = all_below (goal.at.returns-then-first-len-clause-goes c).After-len (omega arith) in
+    λ k d h high. let low : get_or c.args.self.decisions k d < c.args.keep = all k d h in
+    absurd (omega arith)
 
 some_taken : (c : After-len) → (c.first_from-first.result ≡ c.len.result → ⊥) →
     c.first_from-first.result < length c.self.inside.decisions.items
@@ -44,12 +48,12 @@ some_taken c ne =
     ⊎_elim (λ less. omega arith) (λ more.
     absurd (omega arith)) other) (cases_order c.first_from-first.result c.len.result)
 
-pub invariant_of-result-2 : goal.invariant_of-result-2
-invariant_of-result-2 c =
+pub invariant_of-self : goal.invariant_of-self
+invariant_of-self c =
     let s = c.self.inside in
     let items = s.decisions.items in
     let n = c.first_from-first.result in
-    let some = some_taken (goal.at.invariant_of-result-2 c).After-len c.if-first-len.false in
+    let some = some_taken (goal.at.invariant_of-self c).After-len c.if-first-len.false in
     subst (λ z. IsSearching (record (state_of s) {
       trail = c.truncate-2.new.self;
       decisions = z;

@@ -2,8 +2,8 @@ use Rattle.std.proofs.Common.{ap, ◌∙◌, sym, ◌++◌, ◌∷◌, [], lengt
 use Rattle.sv_solve.proofs.Levels.{after_decide, state_of}
 use Rattle.sv_solve.proofs.state.State.decide.Goals as goal
 
-pub invariant_of-result : goal.invariant_of-result
-invariant_of-result c =
+pub invariant_of-self : goal.invariant_of-self
+invariant_of-self c =
     after_decide (state_of c.self.inside) c.push-2.new.self c.push.new.self.items c.args.literal.now
     0 c.self.invariant c.len.ensures.consistent
     (ap (λ z. z.propagated) c.self.view_is ∙ c.requires.propagated

@@ -1,12 +1,12 @@
-use Rattle.std.proofs.Common.{◌∙◌, ◌≤◌, ◌≡◌, sym, subst, length, take, arith, ℕ}
+use Rattle.std.proofs.Common.{◌≤◌, ◌≡◌, sym, subst, length, take, arith, ℕ}
 use Rattle.std.proofs.lemmas.List.{take_all}
 use Rattle.sv_solve.specs.Watching.{AllHeld}
 use Rattle.sv_solve.specs.States.{IsSearching}
 use Rattle.sv_solve.proofs.Levels.{after_propagate, when_none, state_of}
 use Rattle.sv_solve.proofs.state.State.propagate.Goals as goal
-use Rattle.sv_solve.proofs.state.State.propagate.Goals.{then-is_some, else-is_some, Joined-is_some}
+use Rattle.sv_solve.proofs.state.State.propagate.Goals.{After-is_none}
 
-after : (c : Joined-is_some) (upto : ℕ) → c.self.inside.propagated ≤ upto
+after : (c : After-is_none) (upto : ℕ) → c.self.inside.propagated ≤ upto
     → upto ≤ length c.propagate.new.trail.literals
     → AllHeld c.propagate.new.self.pairs (take upto c.propagate.new.trail.literals)
     c.propagate.new.trail.literals
@@ -23,33 +23,26 @@ after c upto low high held =
     e.fitting e.listed e.variables low high held e.settled e.older e.longer e.reasons e.implied
     e.trail_variables
 
-pub invariant_of-state : goal.invariant_of-state
-invariant_of-state c =
+pub invariant_of-self : goal.invariant_of-self
+invariant_of-self c =
+    let s = c.self.inside in
+    let now = c.propagate.new.trail in
+    let pairs = c.propagate.new.self.pairs in
+    let all = c.len.result in
+    let progress : s.propagated ≤ length s.trail.literals = c.self.invariant.progress in
+    let longer : length s.trail.literals ≤ length now.literals = c.in_ok-conflict.ensures.longer in
+    let here : all ≡ length now.literals = c.len.ensures.value in
+    let rest : AllHeld pairs now.literals now.literals =
+    when_none c.in_ok-conflict.conflict (AllHeld pairs now.literals now.literals)
+    c.if-is_none.ensures c.in_ok-conflict.ensures.rest in
+    after (goal.at.invariant_of-self c).After-is_none all (omega arith) (omega arith)
+    (subst (λ z. AllHeld pairs z now.literals) (sym (take_all all now.literals (omega arith))) rest)
+
+pub invariant_of-self-else-is_none : goal.invariant_of-self-else-is_none
+invariant_of-self-else-is_none c =
     let s = c.self.inside in
     let now = c.propagate.new.trail in
     let progress : s.propagated ≤ length s.trail.literals = c.self.invariant.progress in
     let longer : length s.trail.literals ≤ length now.literals = c.in_ok-conflict.ensures.longer in
-    elim c.if-is_some.branch [
-      | then-is_some w ↦ subst (λ z.
-          IsSearching (record (state_of s) {
-            trail = now;
-            watching = c.propagate.new.self;
-            propagated = z;
-          })) (sym w.propagated-is)
-          (after c s.propagated (omega arith) (omega arith) c.in_ok-conflict.ensures.held)
-      | else-is_some w ↦
-          let all = w.len-propagated.result in
-          let here : all ≡ length now.literals = w.len-propagated.ensures.value in
-          let rest : AllHeld c.propagate.new.self.pairs now.literals now.literals =
-          when_none c.in_ok-conflict.conflict
-          (AllHeld c.propagate.new.self.pairs now.literals now.literals) (sym c.is_some.ensures
-          ∙ w.if-is_some.false) c.in_ok-conflict.ensures.rest in
-          subst (λ z. IsSearching (record (state_of s) {
-            trail = now;
-            watching = c.propagate.new.self;
-            propagated = z;
-          })) (sym w.propagated-is)
-          (after c all (omega arith) (omega arith)
-          (subst (λ z. AllHeld c.propagate.new.self.pairs z now.literals)
-          (sym (take_all all now.literals (omega arith))) rest))
-    ]
+    after (goal.at.invariant_of-self-else-is_none c).After-is_none s.propagated (omega arith)
+    (omega arith) c.in_ok-conflict.ensures.held

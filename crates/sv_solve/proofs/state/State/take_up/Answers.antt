@@ -49,22 +49,22 @@ push-requires-clause-of c =
     (of_member c.self.inside.known.variables c.args.learned.step.clause c.args.learned.asserting
     (of_it (goal.at.push-requires-clause-of c).After-pair_of) c.requires.asserting.member)
 
-pub invariant_of-result : goal.invariant_of-result
-invariant_of-result c =
-    let here = (goal.at.invariant_of-result c).After-pair_of in
+pub invariant_of-self : goal.invariant_of-self
+invariant_of-self c =
+    let here = (goal.at.invariant_of-self c).After-pair_of in
     let s = c.self.inside in
     let learned = c.args.learned in
-    let next = c.in_ok-known.known in
+    let next = c.in_ok-self-inside.field-0 in
     let more : clauses_known next ≡ clauses_known s.known ++ learned.step.clause ∷ [] =
-    known_more s.known next (plain_step learned.step) c.in_ok-known.ensures.given
-    c.in_ok-known.ensures.steps in
+    known_more s.known next (plain_step learned.step) c.in_ok-self-inside.ensures.given
+    c.in_ok-self-inside.ensures.steps in
     let count : length c.clauses.result.now ≡ length (clauses_known s.known) + 1 =
     ap length (c.clauses.ensures.value ∙ more)
     ∙ length_push (clauses_known s.known) learned.step.clause in
     after_take_up (state_of s) next c.push.new.self c.attach.new.self learned.step.clause
     learned.asserting learned.other learned.keep c.self.invariant (asserts here)
     (subst (λ z. All (λ d. d < learned.keep) z.decisions) (sym c.self.view_is) c.requires.decisions)
-    more c.in_ok-known.ensures.variables
+    more c.in_ok-self-inside.ensures.variables
     (c.in_ok-attach.ensures.pairs ∙ ap (λ z. s.watches.pairs ++ z ∷ []) (pair here))
     c.in_ok-attach.ensures.listed c.in_ok-attach.ensures.variables c.in_ok-push.ensures.literals
     (c.in_ok-push.ensures.reasons ∙ ap (λ z. set s.trail.reasons (length s.trail.literals) z) count)

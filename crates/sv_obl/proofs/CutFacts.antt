@@ -1,20 +1,19 @@
 -- Cuts of statements, one after the other.
-use Rattle.std.proofs.Common.{◌≡◌, ℕ, zero, suc, ◌-◌, ◌*◌, ◌^◌, ◌≤◌, Bool, true, false, cond}
-use Rattle.std.proofs.Common.{◌&&◌, ◌||◌, not, List, [], ◌∷◌, ◌++◌, map, flat_map}
-use Rattle.std.proofs.Common.{refl, sym, ap, ap₂, ◌∙◌, arith, append-nil}
-use Rattle.std.proofs.Common.{Result, Ok, Err}
+use Rattle.std.proofs.Common.{◌≡◌, ℕ, Bool, true, false, cond, ◌&&◌, ◌||◌, not, List, [], ◌∷◌}
+use Rattle.std.proofs.Common.{◌++◌, map, flat_map, refl, sym, ap, ap₂, subst, ◌∙◌, append-nil}
+use Rattle.std.proofs.Common.{Option, Some, None, option_to_list, Result, Ok, Err}
 use Rattle.std.specs.Prelude.{IsTrue, IsFalse, IfOk}
-use Rattle.std.proofs.Math.Nat.{pow-suc}
 use Rattle.std.proofs.lemmas.Bool.{false≢true}
 use Rattle.std.proofs.lemmas.List.Concat.{flat_map-append}
 use Rattle.sv_num.specs.declared.faults.Place.{Place}
-use Rattle.sv_flat.specs.Design.{SignalForm, TypedTree, PieceForm, FlatStatement, assign}
-use Rattle.sv_flat.specs.Design.{branch}
+use Rattle.sv_flat.specs.Design.{SignalForm, TypedTree, PieceForm, FlatStatement, nothing, after}
+use Rattle.sv_flat.specs.Design.{assign, branch}
 use Rattle.sv_flat.specs.Assigned.{assigns}
 use Rattle.sv_obl.specs.declared.cuts.Cut.{Cut}
 use Rattle.sv_obl.specs.declared.cuts.Cut as cut
 use Rattle.sv_obl.specs.Routes.{Route, behind, with_right, routes_before}
-use Rattle.sv_obl.specs.Cuts.{is_nothing, cut_routes, Cuts, IsChain}
+use Rattle.sv_obl.specs.Cuts.{is_nothing, cut_routes, Cuts, IsChain, chain_routes, all_nothing}
+use Rattle.sv_obl.specs.Cuts.{AreCuts, EndsIn}
 use Rattle.sv_obl.proofs.PathLists.{cond_false}
 
 -- ---- lists of lists
@@ -43,6 +42,10 @@ and_right : (b : Bool) → b ≡ (b && true)
 and_right true = refl
 and_right false = refl
 
+and_of : (a b c : Bool) → ((a && b) && c) ≡ (a && (b && c))
+and_of true b c = refl
+and_of false b c = refl
+
 -- ---- answers
 
 -- what follows from what holds of an answer
@@ -50,17 +53,6 @@ pub on_ok : {T E : Type 0} (r : Result T E) (P Q : T → Type 0) → ((x : T) �
     → IfOk r P → IfOk r Q
 on_ok (Ok x) P Q follows h = follows x h
 on_ok (Err e) P Q follows h = h
-
--- two halves were taken from so many
-pub two_halves : (depth all middle front : ℕ) → 1 ≤ depth → middle ≡ all - 2 ^ (depth - 1)
-    → front ≡ middle - 2 ^ (depth - 1) → front ≡ all - 2 ^ depth
-two_halves zero all middle front some one two = absurd (omega arith)
-two_halves (suc k) all middle front some one two =
-    let less : suc k - 1 ≡ k = omega arith in
-    let half : middle ≡ all - 2 ^ k = one ∙ ap (λ n. all - 2 ^ n) less in
-    let rest : front ≡ middle - 2 ^ k = two ∙ ap (λ n. middle - 2 ^ n) less in
-    let double : 2 ^ suc k ≡ 2 ^ k * 2 = pow-suc 2 k in
-    omega arith
 
 -- ---- nothing
 
@@ -192,3 +184,92 @@ module _ (s : ℕ) (pieces : List PieceForm) (place : Place) (blocking : Bool)
         ∙ ap (λ b. cond (b && route.wants) (with_right signals s pieces right route)
         (route ∷ [])) (sym assigned);
   }
+
+-- ---- cuts one after the other
+
+one_after : (xs : List Cut) (x : Cut) → EndsIn (xs ++ x ∷ []) xs x
+one_after [] x = record {
+  nothing = sym (and_right (is_nothing x));
+  routes = λ signals s route.
+      append-nil (cut_routes signals s x route)
+      ∙ sym (flat_itself (cut_routes signals s x route));
+}
+one_after (y ∷ xs) x =
+    let rest = one_after xs x in
+    record {
+      nothing = ap (λ b. is_nothing y && b) rest.nothing
+          ∙ sym (and_of (is_nothing y) (all_nothing xs) (is_nothing x));
+      routes = λ signals s route.
+          ap (flat_map (cut_routes signals s y)) (rest.routes signals s route)
+          ∙ flat_flat (chain_routes signals s xs) (cut_routes signals s y)
+          (cut_routes signals s x route);
+    }
+
+pub popped : (old new : List Cut) (result : Option Cut) (last : Cut)
+    → old ≡ new ++ option_to_list result → result ≡ Some last → EndsIn old new last
+popped old new result last items is =
+    subst (λ all. EndsIn all new last) (sym (items ∙ ap (λ r. new ++ option_to_list r) is))
+    (one_after new last)
+
+pub none_ends : (xs : List Cut) → EndsIn xs xs cut.Nothing
+none_ends xs = record {
+  nothing = and_right (all_nothing xs);
+  routes = λ signals s route. sym (append-nil (chain_routes signals s xs route));
+}
+
+pub none_popped : (old new : List Cut) (result : Option Cut)
+    → old ≡ new ++ option_to_list result → result ≡ None → EndsIn old new cut.Nothing
+none_popped old new result items is =
+    subst (λ all. EndsIn all new cut.Nothing)
+    (sym (items ∙ ap (λ r. new ++ option_to_list r) is ∙ append-nil new)) (none_ends new)
+
+-- the last cuts and those before them, taken as one
+pub two_ends : (all middle front : List Cut) (first second joined : Cut)
+    → EndsIn all middle second → EndsIn middle front first → IsChain first second joined
+    → EndsIn all front joined
+two_ends all middle front first second joined later earlier chain = record {
+  nothing = later.nothing ∙ ap (λ b. b && is_nothing second) earlier.nothing
+      ∙ and_of (all_nothing front) (is_nothing first) (is_nothing second)
+      ∙ ap (λ b. all_nothing front && b) (sym chain.nothing);
+  routes = λ signals s route.
+      later.routes signals s route
+      ∙ flat_alike (chain_routes signals s middle)
+      (λ r. flat_map (chain_routes signals s front) (cut_routes signals s first r))
+      (λ r. earlier.routes signals s r) (cut_routes signals s second route)
+      ∙ sym (flat_flat (cut_routes signals s first) (chain_routes signals s front)
+      (cut_routes signals s second route))
+      ∙ ap (flat_map (chain_routes signals s front)) (sym (chain.routes signals s route));
+}
+
+pub no_cuts : (s : ℕ) → AreCuts s nothing []
+no_cuts s = record { nothing = refl; routes = λ signals route. refl }
+
+-- the cut of one more statement
+pub more_cuts : (s : ℕ) (a b : FlatStatement) (old new : List Cut) (c : Cut)
+    → AreCuts s a old → Cuts s b c → new ≡ old ++ c ∷ [] → AreCuts s (after a b) new
+more_cuts s a b old new c are is items =
+    let one = one_after old c in
+    subst (AreCuts s (after a b)) (sym items)
+    (record {
+      nothing = one.nothing ∙ ap₂ (λ m n. m && n) are.nothing is.nothing
+          ∙ neither (assigns a s) (assigns b s);
+      routes = λ signals route.
+          one.routes signals s route
+          ∙ ap (flat_map (chain_routes signals s old)) (is.routes signals route)
+          ∙ flat_alike (chain_routes signals s old) (routes_before signals s a)
+          (λ r. are.routes signals r) (routes_before signals s b route);
+    })
+  where
+    neither : (x y : Bool) → (not x && not y) ≡ not (x || y)
+    neither true y = refl
+    neither false y = refl
+
+-- all cuts taken as one
+pub taken_as_one : (s : ℕ) (a : FlatStatement) (cs : List Cut) (joined : Cut)
+    → AreCuts s a cs → EndsIn cs [] joined → Cuts s a joined
+taken_as_one s a cs joined are ends = record {
+  nothing = sym ends.nothing ∙ are.nothing;
+  routes = λ signals route.
+      sym (flat_itself (cut_routes signals s joined route))
+      ∙ sym (ends.routes signals s route) ∙ are.routes signals route;
+}

@@ -2,6 +2,7 @@ pub mod BlockSettles
 pub mod Closing
 pub mod CutFacts
 pub mod DesignQueryFacts
+pub mod DrivenTargets
 pub mod GuardedDesigns
 pub mod LatticeFacts
 pub mod LimitExamples

@@ -1,42 +1,50 @@
 -- Statements in short go as the statements that they are made from.
-use Rattle.std.proofs.Common.{◌≡◌, ℕ, zero, suc, ◌+◌, ◌<◌, Bool, true, false, cond, ◌&&◌, ◌||◌}
-use Rattle.std.proofs.Common.{List, [], ◌∷◌, ◌++◌, map, flat_map, fold, length, get_or, All}
-use Rattle.std.proofs.Common.{nat_cmp}
-use Rattle.std.proofs.Common.{Less, Equal, Greater, not, ⊎_elim, ◌==◌, eqb-true}
-use Rattle.std.proofs.Common.{Option, Some, None, option_to_list, refl, sym, ap, ap₂, subst, ◌∙◌}
+use Rattle.std.proofs.Common.{◌≡◌, ℕ, zero, suc, ◌+◌, ◌-◌, ◌<◌, ◌≤◌, Bool, true, false, cond, ◌&&◌}
+use Rattle.std.proofs.Common.{◌||◌, List, [], ◌∷◌, ◌++◌, map, flat_map, fold, length, get_or, All}
+use Rattle.std.proofs.Common.{nat_cmp, nat_lt, Less, Equal, Greater, not, ⊎_elim, ◌==◌, eqb-true}
+use Rattle.std.proofs.Common.{Option, Some, None, refl, sym, ap, ap₂, subst, ◌∙◌, length-append}
 use Rattle.std.proofs.Common.{arith, append-nil, take, add-one, BTreeSet, Ordering}
 use Rattle.std.proofs.Math.Seq.{take-suc}
 use Rattle.std.proofs.lemmas.List.{map-append}
+use Rattle.std.proofs.lemmas.List.Folds.{list_any-append}
 use Rattle.std.proofs.lemmas.List.Quantifiers.{position-Some}
-use Rattle.std.specs.Prelude.{IsTrue, IsFalse, Contains}
+use Rattle.std.specs.Prelude.{IsTrue, IsFalse, IsSome, Contains}
+use Rattle.std.specs.BTreeMap.{BTreeMap, get, keys, is_at, Updates}
 use Rattle.std.specs.BTreeSet.{insert_key, contains}
+use Rattle.std.specs.Global.{Vec}
 use Rattle.std.specs.List.{list_any}
-use Rattle.std.specs.Ordering.{match_ordering}
-use Rattle.std.proofs.lemmas.Bool.{false≢true}
+use Rattle.std.specs.Map.{lookup}
+use Rattle.std.specs.Ordering.{match_ordering, is_eq}
+use Rattle.std.proofs.lemmas.Bool.{false≢true, eq-eqb}
 use Rattle.std.proofs.lemmas.Cmp.{nat_cmp_total}
-use Rattle.std.proofs.lemmas.List.Elements.{All-nil, All-pop, All-push}
+use Rattle.std.proofs.lemmas.List.Elements.{All-nil, All-cons, All-push}
 use Rattle.std.proofs.lemmas.Map.Lookups.{exact_unsigned}
-use Rattle.std.proofs.lemmas.Map.Views.{btree_set_contains_iff}
+use Rattle.std.proofs.lemmas.Map.Views.{btree_set_contains_iff, btree_map_contains_key_iff}
 use Rattle.sv_system.proofs.Lists.{Contains-head, Contains-later, Contains-cases, Contains-nil}
 use Rattle.sv_num.specs.declared.faults.Place.{Place}
 use Rattle.sv_flat.specs.Design.{SignalForm, TypedTree, PieceForm, ProcessForm, FlatStatement}
 use Rattle.sv_flat.specs.Design.{nothing, after, assign, branch, FlatDesign}
 use Rattle.sv_flat.specs.Clocks.{processes_of}
 use Rattle.sv_flat.specs.SignalLists.{driver_of}
-use Rattle.sv_flat.specs.Views.{process_form, flat_statement}
+use Rattle.sv_flat.specs.Views.{process_form, flat_statement, chain_of}
 use Rattle.sv_flat.specs.declared.designs.Process.{Process}
 use Rattle.sv_flat.specs.Assigned.{assigns}
 use Rattle.sv_flat.proofs.Members.{Contains-left, Contains-right}
 use Rattle.sv_obl.specs.declared.cuts.Cut.{Cut}
 use Rattle.sv_obl.specs.declared.cuts.Cut as cut
-use Rattle.sv_obl.specs.declared.shorts.Short.{Short}
+use Rattle.sv_obl.specs.declared.shorts.Short.{Short, Row_of-Short, end_of-Short, more_of-Short}
+use Rattle.sv_obl.specs.declared.shorts.Short.{items-the_row-Short, items_hidden-the_row-Short-0}
+use Rattle.sv_obl.specs.declared.shorts.Short.TheBlock.{hidden-the_row-Short-0}
 use Rattle.sv_obl.specs.declared.shorts.Short as short
-use Rattle.sv_obl.specs.Cuts.{cut_routes, Cuts, IsChain}
+use Rattle.sv_obl.specs.Cuts.{Cuts, AreCuts, EndsIn}
 use Rattle.sv_obl.specs.Routes.{Route, behind, with_right, routes_before}
-use Rattle.sv_obl.specs.Shorts.{nowhere, is_nothing, statement_of, targets_in, IsMarked, Same}
-use Rattle.sv_obl.specs.Shorts.{IsShort, AreShort, whole_of, Joins, EndsIn, SoFar, Covers}
+use Rattle.sv_obl.specs.Shorts.{nowhere, statement_of, row_statements, targets_in, numbers_found}
+use Rattle.sv_obl.specs.Shorts.{numbers_at, ends_in, with_number, numbered, chosen, GoesFor, Tells}
+use Rattle.sv_obl.specs.Shorts.{IsMarked, AreMarked, Same, IsShort, AreShort, whole_of, SoFar}
+use Rattle.sv_obl.specs.Shorts.{Covers}
 use Rattle.sv_obl.specs.Trails.{piece_forms}
-use Rattle.sv_obl.proofs.CutFacts.{flat_flat, flat_alike, flat_itself}
+use Rattle.sv_obl.proofs.CutFacts.{flat_flat, flat_alike, flat_itself, none_ends, no_cuts}
+use Rattle.sv_obl.proofs.CutFacts.{more_cuts, taken_as_one}
 use Rattle.sv_obl.proofs.PathLists.{cond_false}
 
 -- ---- tests
@@ -120,96 +128,33 @@ nothing_last a = record {
   routes = λ signals s route. append-nil (routes_before signals s a route);
 }
 
--- ---- some and one more
+-- ---- one more
 
-pub one_after : (xs : List Short) (x : Short)
-    → Same (whole_of (xs ++ x ∷ [])) (after (whole_of xs) (statement_of x))
+one_after : (xs : List FlatStatement) (x : FlatStatement)
+    → Same (chain_of (xs ++ x ∷ [])) (after (chain_of xs) x)
 one_after [] x =
-    same_then (after (statement_of x) nothing) (statement_of x) (after nothing (statement_of x))
-    (nothing_last (statement_of x))
-    (same_back (after nothing (statement_of x)) (statement_of x) (nothing_first (statement_of x)))
+    same_then (after x nothing) x (after nothing x) (nothing_last x)
+    (same_back (after nothing x) x (nothing_first x))
 one_after (y ∷ xs) x =
-    let first = statement_of y in
-    let rest = whole_of xs in
-    let last = statement_of x in
-    same_then (after first (whole_of (xs ++ x ∷ []))) (after first (after rest last))
-    (after (after first rest) last)
-    (same_after first (whole_of (xs ++ x ∷ [])) first (after rest last) (same_itself first)
-    (one_after xs x))
-    (same_back (after (after first rest) last) (after first (after rest last))
-    (regrouped first rest last))
+    let rest = chain_of xs in
+    let all = chain_of (xs ++ x ∷ []) in
+    same_then (after y all) (after y (after rest x)) (after (after y rest) x)
+    (same_after y all y (after rest x) (same_itself y) (one_after xs x))
+    (same_back (after (after y rest) x) (after y (after rest x)) (regrouped y rest x))
 
 pub pushed : (old new : List Short) (x : Short) → new ≡ old ++ x ∷ []
     → Same (whole_of new) (after (whole_of old) (statement_of x))
 pushed old new x items =
-    subst (λ n. Same (whole_of n) (after (whole_of old) (statement_of x))) (sym items)
-    (one_after old x)
+    subst (λ (xs : List FlatStatement).
+    Same (chain_of xs) (after (whole_of old) (statement_of x)))
+    (sym (ap (map statement_of) items ∙ map-append statement_of old (x ∷ [])))
+    (one_after (map statement_of old) (statement_of x))
 
-pub popped : (old new : List Short) (result : Option Short) (last : Short)
-    → old ≡ new ++ option_to_list result → result ≡ Some last → EndsIn old new last
-popped old new result last items is =
-    let all : old ≡ new ++ last ∷ [] = items ∙ ap (λ r. new ++ option_to_list r) is in
-    record {
-      same = pushed new old last all;
-      marked = λ marks. All-pop IsMarked old new (Some last) all marks;
-    }
-
-pub none_popped : (old new : List Short) (result : Option Short)
-    → old ≡ new ++ option_to_list result → result ≡ None → EndsIn old new short.Nothing
-none_popped old new result items is =
-    let all : old ≡ new ++ [] = items ∙ ap (λ r. new ++ option_to_list r) is in
-    let same : old ≡ new = all ∙ append-nil new in
-    subst (λ o. EndsIn o new short.Nothing) (sym same) (none_ends new)
-  where
-    none_ends : (xs : List Short) → EndsIn xs xs short.Nothing
-    none_ends xs = record {
-      same = same_back (after (whole_of xs) nothing) (whole_of xs) (nothing_last (whole_of xs));
-      marked = λ marks. (marks, tt);
-    }
-
-pub empty_ends : EndsIn [] [] short.Nothing
-empty_ends = record {
-  same = same_back (after nothing nothing) nothing (nothing_last nothing);
-  marked = λ marks. (marks, tt);
-}
-
--- the last part and the one before it, taken as one
-pub two_ends : (all middle front : List Short) (first second whole : Short)
-    → EndsIn all middle second → EndsIn middle front first → Joins first second whole
-    → EndsIn all front whole
-two_ends all middle front first second whole later earlier joins =
-    let a = statement_of first in
-    let b = statement_of second in
-    let w = statement_of whole in
-    let start = whole_of front in
-    record {
-      same =
-          same_then (whole_of all) (after (whole_of middle) b) (after start w) later.same
-          (same_then (after (whole_of middle) b) (after (after start a) b) (after start w)
-          (same_after (whole_of middle) b (after start a) b earlier.same (same_itself b))
-          (same_then (after (after start a) b) (after start (after a b)) (after start w)
-          (regrouped start a b)
-          (same_after start (after a b) start w (same_itself start) joins.same)));
-      marked = λ marks.
-          let one = later.marked marks in
-          let two = earlier.marked one.0 in
-          (two.0, joins.marked two.1 one.1);
-    }
-
--- ---- two joined
-
-nothing_is : (x : Short) → IsTrue (is_nothing x) → statement_of x ≡ nothing
-nothing_is short.Nothing h = refl
-nothing_is (short.Assign pieces value) h = absurd (false≢true h)
-nothing_is (short.Chain' targets p first q second) h = absurd (false≢true h)
-nothing_is (short.Branch' targets place c p first q second) h = absurd (false≢true h)
-
-pub joins_second : (first second : Short) → IsTrue (is_nothing first) → Joins first second second
-joins_second first second none = record {
-  same = subst (λ a. Same (after a (statement_of second)) (statement_of second))
-      (sym (nothing_is first none)) (nothing_first (statement_of second));
-  marked = λ one two. two;
-}
+one_taken : {X : Type 0} (xs : List X) (i : ℕ) (d x : X) → i < length xs → get_or xs i d ≡ x
+    → take (i + 1) xs ≡ take i xs ++ x ∷ []
+one_taken xs i d x inside is =
+    ap (λ k. take k xs) (add-one i) ∙ take-suc xs i d inside
+    ∙ ap (λ y. take i xs ++ y ∷ []) is
 
 -- ---- what is assigned
 
@@ -273,9 +218,17 @@ among_pieces (piece ∷ pieces) s h =
 -- a statement in short tells all that it assigns
 tells_all : (x : Short) → IsMarked x → (s : ℕ) → IsTrue (assigns (statement_of x) s)
     → Contains (targets_in x) s
-tells_all short.Nothing marks s h = absurd (false≢true h)
 tells_all (short.Assign pieces value) marks s h = among_pieces (piece_forms pieces.now) s h
-tells_all (short.Chain' targets p first q second) marks s h = marks.0 s h
+tells_all (short.Block' shape row numbers) marks s h =
+    by_found (get nat_cmp numbers s) refl
+  where
+    by_found : (o : Option (Vec ℕ)) → get nat_cmp numbers s ≡ o → Contains (keys numbers) s
+    by_found (Some those) is =
+        (btree_map_contains_key_iff nat_cmp_total exact_unsigned numbers s).0
+        (subst IsSome (sym is) refl)
+    by_found None is = absurd (false≢true
+        (ap (λ o. assigns (chosen (row_statements row) (numbers_found o)) s) (sym is)
+        ∙ sym (marks.0 s).assigned ∙ h))
 tells_all (short.Branch' targets place c p first q second) marks s h = marks.0 s h
 
 pub covered : (first second : Short) (keys : List ℕ)
@@ -308,15 +261,6 @@ module _ (first second a b : Short) (keys : List ℕ)
         marks (covered a b keys
         (is ∙ ap₂ (λ y z. fold (insert_key nat_cmp) [] (targets_in y ++ targets_in z))
         (sym one) (sym two)) p q) p q
-
-    pub chain_joins : statement_of x ≡ after (statement_of a) (statement_of b)
-        → Joins first second x
-    chain_joins goes = record {
-      same = subst (Same (after (statement_of first) (statement_of second)))
-          (sym (goes ∙ ap₂ (λ y z. after (statement_of y) (statement_of z)) one two))
-          (same_itself (after (statement_of first) (statement_of second)));
-      marked = boxed_marks;
-    }
 
     pub branch_short : (place : Place) (condition : TypedTree) (met unmet : FlatStatement)
         → statement_of x ≡ branch place condition (statement_of a) (statement_of b)
@@ -360,16 +304,46 @@ one_so_far whole first rest old new x so is items = record {
       (All-push IsMarked old x so.marked is.marked);
 }
 
-pub all_short : (whole : FlatStatement) (xs : List Short) (x : Short)
-    → SoFar whole nothing xs → EndsIn xs [] x → IsShort whole x
-all_short whole xs x so ends = record {
-  same =
-      same_then whole (after (whole_of xs) nothing) (statement_of x) so.same
-      (same_then (after (whole_of xs) nothing) (whole_of xs) (statement_of x)
-      (nothing_last (whole_of xs))
-      (same_then (whole_of xs) (after nothing (statement_of x)) (statement_of x) ends.same
-      (nothing_first (statement_of x))));
-  marked = (ends.marked so.marked).1;
+-- the parts of a block stand in it as a row
+row_is : (n : _) (row : Row_of-Short n)
+    → row_statements row ≡ map statement_of (items-the_row-Short n row)
+row_is _ end_of-Short = refl
+row_is _ (more_of-Short x row) = ap (λ xs. statement_of x ∷ xs) (row_is _ row)
+
+row_parts : (v : Vec Short) → row_statements (hidden-the_row-Short-0 v) ≡ map statement_of v.items
+row_parts v =
+    row_is _ (hidden-the_row-Short-0 v) ∙ ap (map statement_of) (items_hidden-the_row-Short-0 v)
+
+row_marked : (n : _) (row : Row_of-Short n) → AreMarked row
+    → All IsMarked (items-the_row-Short n row)
+row_marked _ end_of-Short marks = All-nil IsMarked
+row_marked _ (more_of-Short x row) marks =
+    All-cons IsMarked x (items-the_row-Short _ row) marks.0 (row_marked _ row marks.1)
+
+marked_row : (n : _) (row : Row_of-Short n) → All IsMarked (items-the_row-Short n row)
+    → AreMarked row
+marked_row _ end_of-Short marks = tt
+marked_row _ (more_of-Short x row) marks =
+    (marks 0 x (omega arith), marked_row _ row (λ k d inside. marks (suc k) d (omega arith)))
+
+pub parts_marked : (parts : Vec Short) (numbers : BTreeMap ℕ (Vec ℕ))
+    → IsMarked (short.Block parts numbers) → All IsMarked parts.items
+parts_marked parts numbers marks =
+    subst (All IsMarked) (items_hidden-the_row-Short-0 parts)
+    (row_marked _ (hidden-the_row-Short-0 parts) marks.1)
+
+pub block_short : (whole : FlatStatement) (parts : Vec Short) (numbers : BTreeMap ℕ (Vec ℕ))
+    → SoFar whole nothing parts.items → Tells (map statement_of parts.items) numbers
+    → IsShort whole (short.Block parts numbers)
+block_short whole parts numbers so tells = record {
+  same = subst (λ (xs : List FlatStatement). Same whole (chain_of xs)) (sym (row_parts parts))
+      (same_then whole (after (whole_of parts.items) nothing) (whole_of parts.items) so.same
+      (nothing_last (whole_of parts.items)));
+  marked = (
+    subst (λ (xs : List FlatStatement). Tells xs numbers) (sym (row_parts parts)) tells,
+    marked_row _ (hidden-the_row-Short-0 parts)
+        (subst (All IsMarked) (sym (items_hidden-the_row-Short-0 parts)) so.marked),
+  );
 }
 
 -- ---- processes
@@ -427,21 +401,349 @@ cut_nothing s a none = record {
   routes = λ signals route. sym (stays signals s a none route);
 }
 
-pub cut_after : (s : ℕ) (a b : FlatStatement) (one two whole : Cut)
-    → Cuts s a one → Cuts s b two → IsChain one two whole → Cuts s (after a b) whole
-cut_after s a b one two whole first second chain = record {
-  nothing = chain.nothing ∙ ap₂ (λ m n. m && n) first.nothing second.nothing
-      ∙ neither (assigns a s) (assigns b s);
-  routes = λ signals route.
-      chain.routes signals s route
-      ∙ ap (flat_map (cut_routes signals s one)) (second.routes signals route)
-      ∙ flat_alike (cut_routes signals s one) (routes_before signals s a)
-      (λ r. first.routes signals r) (routes_before signals s b route);
+-- ---- for one target
+
+for_target : (a b : FlatStatement) → Same a b → (s : ℕ) → GoesFor s a b
+for_target a b same s = record {
+  assigned = same.assigned s;
+  routes = λ signals route. same.routes signals s route;
 }
+
+goes_then : (s : ℕ) (a b c : FlatStatement) → GoesFor s a b → GoesFor s b c → GoesFor s a c
+goes_then s a b c one two = record {
+  assigned = one.assigned ∙ two.assigned;
+  routes = λ signals route. one.routes signals route ∙ two.routes signals route;
+}
+
+goes_before : (s : ℕ) (a b x : FlatStatement) → GoesFor s a b → GoesFor s (after a x) (after b x)
+goes_before s a b x goes = record {
+  assigned = ap (λ m. m || assigns x s) goes.assigned;
+  routes = λ signals route.
+      flat_alike (routes_before signals s a) (routes_before signals s b)
+      (λ r. goes.routes signals r) (routes_before signals s x route);
+}
+
+-- what does not assign the target leaves the rest as it is
+passes : (s : ℕ) (a x : FlatStatement) → IsFalse (assigns x s) → GoesFor s (after a x) a
+passes s a x none = record {
+  assigned = ap (λ m. assigns a s || m) none ∙ or_none (assigns a s);
+  routes = λ signals route.
+      ap (flat_map (routes_before signals s a)) (stays signals s x none route)
+      ∙ append-nil (routes_before signals s a route);
+}
+
+cuts_for : (s : ℕ) (a b : FlatStatement) (cs : List Cut) → GoesFor s a b → AreCuts s a cs
+    → AreCuts s b cs
+cuts_for s a b cs goes are = record {
+  nothing = are.nothing ∙ ap not goes.assigned;
+  routes = λ signals route. are.routes signals route ∙ goes.routes signals route;
+}
+
+cut_for : (s : ℕ) (a b : FlatStatement) (c : Cut) → GoesFor s a b → Cuts s b c → Cuts s a c
+cut_for s a b c goes is = record {
+  nothing = is.nothing ∙ ap not (sym goes.assigned);
+  routes = λ signals route. is.routes signals route ∙ sym (goes.routes signals route);
+}
+
+-- ---- chosen parts
+
+chosen_more : (parts : List FlatStatement) (ns : List ℕ) (k : ℕ)
+    → Same (chosen parts (ns ++ k ∷ [])) (after (chosen parts ns) (get_or parts k nothing))
+chosen_more parts ns k =
+    let part = λ (n : ℕ). get_or parts n nothing in
+    subst (λ (xs : List FlatStatement). Same (chain_of xs) (after (chosen parts ns) (part k)))
+    (sym (map-append part ns (k ∷ []))) (one_after (map part ns) (part k))
+
+pub part_at : (parts : List Short) (k : ℕ) (part : Short) (d : FlatStatement) → k < length parts
+    → part ≡ get_or parts k part → get_or (map statement_of parts) k d ≡ statement_of part
+part_at [] k part d inside is = absurd (omega arith)
+part_at (x ∷ xs) zero part d inside is = ap statement_of (sym is)
+part_at (x ∷ xs) (suc k) part d inside is = part_at xs k part d (omega arith) is
+
+beyond : (parts : List Short) (k : ℕ) → length parts ≤ k
+    → get_or (map statement_of parts) k nothing ≡ nothing
+beyond [] k out = refl
+beyond (x ∷ xs) zero out = absurd (omega arith)
+beyond (x ∷ xs) (suc k) out = beyond xs k (omega arith)
+
+-- the cut of the part with the next number
+pub next_cut : (s : ℕ) (parts : List Short) (ns : List ℕ) (i k : ℕ) (part : Short)
+    (old new : List Cut) (c : Cut) → i < length ns → get_or ns i 0 ≡ k
+    → k < length parts → part ≡ get_or parts k part
+    → AreCuts s (chosen (map statement_of parts) (take i ns)) old
+    → Cuts s (statement_of part) c → new ≡ old ++ c ∷ []
+    → AreCuts s (chosen (map statement_of parts) (take (i + 1) ns)) new
+next_cut s parts ns i k part old new c inside is within at are cut items =
+    let all = map statement_of parts in
+    let before = chosen all (take i ns) in
+    let here = get_or all k nothing in
+    subst (λ (ms : List ℕ). AreCuts s (chosen all ms) new) (sym (one_taken ns i 0 k inside is))
+    (cuts_for s (after before here) (chosen all (take i ns ++ k ∷ [])) new
+    (for_target (after before here) (chosen all (take i ns ++ k ∷ []))
+    (same_back (chosen all (take i ns ++ k ∷ [])) (after before here)
+    (chosen_more all (take i ns) k)) s)
+    (more_cuts s before here old new c are
+    (subst (λ (x : FlatStatement). Cuts s x c)
+    (sym (part_at parts k part nothing within at)) cut) items))
+
+-- a number beyond all parts names none
+pub no_next_cut : (s : ℕ) (parts : List Short) (ns : List ℕ) (i k : ℕ) (cs : List Cut)
+    → i < length ns → get_or ns i 0 ≡ k → length parts ≤ k
+    → AreCuts s (chosen (map statement_of parts) (take i ns)) cs
+    → AreCuts s (chosen (map statement_of parts) (take (i + 1) ns)) cs
+no_next_cut s parts ns i k cs inside is out are =
+    let all = map statement_of parts in
+    let before = chosen all (take i ns) in
+    subst (λ (ms : List ℕ). AreCuts s (chosen all ms) cs) (sym (one_taken ns i 0 k inside is))
+    (cuts_for s before (chosen all (take i ns ++ k ∷ [])) cs
+    (for_target before (chosen all (take i ns ++ k ∷ []))
+    (same_back (chosen all (take i ns ++ k ∷ [])) before
+    (same_then (chosen all (take i ns ++ k ∷ [])) (after before nothing) before
+    (subst (λ (x : FlatStatement). Same (chosen all (take i ns ++ k ∷ [])) (after before x))
+    (beyond parts k out) (chosen_more all (take i ns) k))
+    (nothing_last before))) s) are)
+
+-- the cut of a block
+pub block_cut : (s : ℕ) (parts : Vec Short) (numbers : BTreeMap ℕ (Vec ℕ)) (those : List ℕ)
+    (cs : List Cut) (whole : Cut) → IsMarked (short.Block parts numbers)
+    → numbers_at numbers s ≡ those → AreCuts s (chosen (map statement_of parts.items) those) cs
+    → EndsIn cs [] whole → Cuts s (statement_of (short.Block parts numbers)) whole
+block_cut s parts numbers those cs whole marks found are ends =
+    let all = map statement_of parts.items in
+    let tells = subst (λ (xs : List FlatStatement). Tells xs numbers) (row_parts parts) marks.0 in
+    subst (λ (xs : List FlatStatement). Cuts s (chain_of xs) whole) (sym (row_parts parts))
+    (cut_for s (chain_of all) (chosen all (numbers_at numbers s)) whole (tells s)
+    (subst (λ (ns : List ℕ). Cuts s (chosen all ns) whole) (sym found)
+    (taken_as_one s (chosen all those) cs whole are ends)))
+
+pub block_passed : (s : ℕ) (parts : Vec Short) (numbers : BTreeMap ℕ (Vec ℕ))
+    → IsMarked (short.Block parts numbers) → get nat_cmp numbers s ≡ None
+    → Cuts s (statement_of (short.Block parts numbers)) cut.Nothing
+block_passed s parts numbers marks none =
+    block_cut s parts numbers [] [] cut.Nothing marks (ap numbers_found none) (no_cuts s)
+    (none_ends [])
+
+-- ---- the numbers of parts
+
+last_is : (ns : List ℕ) (k : ℕ) → get_or (ns ++ k ∷ []) (length ns) 0 ≡ k
+last_is [] k = refl
+last_is (n ∷ ns) k = last_is ns k
+
+-- the last of some, by how many come before it
+some_end : (ns : List ℕ) (m k : ℕ)
+    → (not (suc m == 0) && (get_or ns (suc m - 1) 0 == k)) ≡ (get_or ns m 0 == k)
+some_end ns m k =
+    let before : suc m - 1 ≡ m = omega arith in
+    ap₂ (λ b i. not b && (get_or ns i 0 == k)) (not_zero (suc m == 0) refl) before
   where
-    neither : (x y : Bool) → (not x && not y) ≡ not (x || y)
-    neither true y = refl
-    neither false y = refl
+    not_zero : (b : Bool) → (suc m == 0) ≡ b → b ≡ false
+    not_zero true is = let same = eqb-true (suc m) 0 is in absurd (omega arith)
+    not_zero false is = refl
+
+ends_pushed : (ns : List ℕ) (k : ℕ) → IsTrue (ends_in (ns ++ k ∷ []) k)
+ends_pushed ns k =
+    let long : length (ns ++ k ∷ []) ≡ suc (length ns) =
+    length-append ns (k ∷ []) ∙ add-one (length ns) in
+    ap (λ n. not (n == 0) && (get_or (ns ++ k ∷ []) (n - 1) 0 == k)) long
+    ∙ some_end (ns ++ k ∷ []) (length ns) k
+    ∙ ap (λ n. n == k) (last_is ns k) ∙ eq-eqb k k refl
+
+-- a number that is put twice
+twice : (k : ℕ) (ns : List ℕ) → with_number k (with_number k ns) ≡ with_number k ns
+twice k ns = by_test (ends_in ns k) refl
+  where
+    by_test : (b : Bool) → ends_in ns k ≡ b → with_number k (with_number k ns) ≡ with_number k ns
+    by_test true is = ap (with_number k) (ap (λ b. cond b ns (ns ++ k ∷ [])) is)
+    by_test false is =
+        let more : with_number k ns ≡ ns ++ k ∷ [] = ap (λ b. cond b ns (ns ++ k ∷ [])) is in
+        ap (with_number k) more
+        ∙ ap (λ b. cond b (ns ++ k ∷ []) ((ns ++ k ∷ []) ++ k ∷ [])) (ends_pushed ns k)
+        ∙ sym more
+
+-- a number above all is put at the end
+put_last : (k : ℕ) (ns : List ℕ) → All (λ n. n < k) ns → with_number k ns ≡ ns ++ k ∷ []
+put_last k [] below = refl
+put_last k (n ∷ ns) below =
+    ap (λ b. cond b (n ∷ ns) (n ∷ ns ++ k ∷ []))
+    (some_end (n ∷ ns) (length ns) k
+    ∙ apart (get_or (n ∷ ns) (length ns) 0) (below (length ns) 0 (omega arith)))
+  where
+    apart : (m : ℕ) → m < k → (m == k) ≡ false
+    apart m less = by_test (m == k) refl
+      where
+        by_test : (b : Bool) → (m == k) ≡ b → b ≡ false
+        by_test true is = let same = eqb-true m k is in absurd (omega arith)
+        by_test false is = refl
+
+differ : (t s : ℕ) → (t == s) ≡ false → is_at (nat_cmp t) s ≡ false
+differ t s h =
+    elim (nat_lt t s) as (λ l. is_eq (cond l Less (cond (t == s) Equal Greater)) ≡ false) [
+      | true ↦ refl
+      | false ↦ ap (λ b. is_eq (cond b Equal Greater)) h
+    ]
+
+-- the numbers of one target were taken out and put back with one more
+pub number_put : (old mid new : BTreeMap ℕ (Vec ℕ)) (t k : ℕ) (those : List ℕ) (more : Vec ℕ)
+    → Updates nat_cmp old mid t None → Updates nat_cmp mid new t (Some more)
+    → numbers_at old t ≡ those → more.items ≡ with_number k those
+    → (s : ℕ) → numbers_at new s ≡ numbered (t ∷ []) k (numbers_at old) s
+number_put old mid new t k those more out back was put s = by_test (t == s) refl
+  where
+    as_tested : (b : Bool) → (t == s) ≡ b
+        → cond (b || false) (with_number k (numbers_at old s)) (numbers_at old s)
+        ≡ numbered (t ∷ []) k (numbers_at old) s
+    as_tested b is = ap (λ (x : Bool).
+        cond (x || false) (with_number k (numbers_at old s)) (numbers_at old s)) (sym is)
+
+    by_test : (b : Bool) → (t == s) ≡ b
+        → numbers_at new s ≡ numbered (t ∷ []) k (numbers_at old) s
+    by_test true is =
+        subst (λ (z : ℕ). numbers_at new z ≡ with_number k (numbers_at old z))
+        (eqb-true t s is)
+        (ap numbers_found back.1 ∙ put ∙ ap (with_number k) (sym was))
+        ∙ as_tested true is
+    by_test false is =
+        ap numbers_found (back.2 s (differ t s is) ∙ out.2 s (differ t s is))
+        ∙ as_tested false is
+
+-- the number was added for one target more
+pub numbered_more : (ts : List ℕ) (i t k : ℕ) (old mid new : ℕ → List ℕ) (s : ℕ)
+    → i < length ts → get_or ts i 0 ≡ t → mid s ≡ numbered (take i ts) k old s
+    → new s ≡ numbered (t ∷ []) k mid s → new s ≡ numbered (take (i + 1) ts) k old s
+numbered_more ts i t k old mid new s inside is one two =
+    two ∙ ap (λ (ns : List ℕ). cond ((t == s) || false) (with_number k ns) ns) one
+    ∙ by_tests (list_any (λ x. x == s) (take i ts)) (t == s)
+    ∙ sym (ap (λ (b : Bool). cond b (with_number k (old s)) (old s))
+    (ap (list_any (λ x. x == s)) (one_taken ts i 0 t inside is)
+    ∙ list_any-append (λ x. x == s) (take i ts) (t ∷ [])))
+  where
+    by_tests : (b c : Bool)
+        → cond (c || false) (with_number k (cond b (with_number k (old s)) (old s)))
+        (cond b (with_number k (old s)) (old s))
+        ≡ cond (b || (c || false)) (with_number k (old s)) (old s)
+    by_tests true true = twice k (old s)
+    by_tests true false = refl
+    by_tests false true = refl
+    by_tests false false = refl
+
+-- ---- what the numbers of the first parts tell
+
+abbrev pub TellsFirst : List FlatStatement → ℕ → BTreeMap ℕ (Vec ℕ) → Type 0
+TellsFirst parts i numbers =
+    (s : ℕ) → All (λ k. k < i) (numbers_at numbers s)
+    × GoesFor s (chain_of (take i parts)) (chosen parts (numbers_at numbers s))
+
+pub none_told : (parts : List FlatStatement) (numbers : BTreeMap ℕ (Vec ℕ))
+    → numbers.entries ≡ [] → TellsFirst parts 0 numbers
+none_told parts numbers empty = λ s.
+    subst (λ (ns : List ℕ). All (λ k. k < 0) ns
+    × GoesFor s (chain_of (take 0 parts)) (chosen parts ns))
+    (sym (ap (λ es. numbers_found (lookup (is_at (nat_cmp s)) es)) empty))
+    (All-nil (λ k. k < 0), for_target nothing nothing (same_itself nothing) s)
+
+-- what is told of a target by its numbers
+abbrev told_by : List FlatStatement → ℕ → ℕ → List ℕ → Type 0
+told_by parts i s ns =
+    All (λ k. k < i) ns × GoesFor s (chain_of (take i parts)) (chosen parts ns)
+
+any_of : (xs : List ℕ) (s : ℕ) → Contains xs s → IsTrue (list_any (λ t. t == s) xs)
+any_of [] s at = absurd (Contains-nil s at)
+any_of (x ∷ xs) s at = ⊎_elim
+    (λ e. ap (λ b. b || list_any (λ t. t == s) xs) (eq-eqb x s e))
+    (λ inside. or_later (x == s) (list_any (λ t. t == s) xs) (any_of xs s inside))
+    (Contains-cases x xs s at)
+  where
+    or_later : (a b : Bool) → IsTrue b → IsTrue (a || b)
+    or_later true b h = refl
+    or_later false b h = h
+
+-- what is not among the targets of a statement in short is not assigned
+untold : (x : Short) → IsMarked x → (s : ℕ) → IsFalse (list_any (λ t. t == s) (targets_in x))
+    → IsFalse (assigns (statement_of x) s)
+untold x marks s none = by_test (assigns (statement_of x) s) refl
+  where
+    by_test : (b : Bool) → assigns (statement_of x) s ≡ b → IsFalse b
+    by_test false is = refl
+    by_test true is =
+        absurd (false≢true (sym none ∙ any_of (targets_in x) s (tells_all x marks s is)))
+
+as_long : (xs : List Short) → length (map statement_of xs) ≡ length xs
+as_long [] = refl
+as_long (x ∷ xs) = ap suc (as_long xs)
+
+pub more_told : (parts : List Short) (i : ℕ) (part : Short) (old new : BTreeMap ℕ (Vec ℕ))
+    → i < length parts → part ≡ get_or parts i part → All IsMarked parts
+    → ((s : ℕ) → numbers_at new s ≡ numbered (targets_in part) i (numbers_at old) s)
+    → TellsFirst (map statement_of parts) i old → TellsFirst (map statement_of parts) (i + 1) new
+more_told parts i part old new inside at marks gains so = λ s.
+    by_test s (list_any (λ t. t == s) (targets_in part)) refl
+  where
+    all : List FlatStatement
+    all = map statement_of parts
+
+    x : FlatStatement
+    x = statement_of part
+
+    start : FlatStatement
+    start = chain_of (take i all)
+
+    longer : Same (chain_of (take (i + 1) all)) (after start x)
+    longer = subst (λ (xs : List FlatStatement). Same (chain_of xs) (after start x))
+        (sym (one_taken all i x x (subst (λ n. i < n) (sym (as_long parts)) inside)
+        (part_at parts i part x inside at))) (one_after (take i all) x)
+
+    changed : (s : ℕ) (b : Bool) → list_any (λ t. t == s) (targets_in part) ≡ b
+        → numbers_at new s ≡ cond b (with_number i (numbers_at old s)) (numbers_at old s)
+    changed s b is = gains s
+        ∙ ap (λ (c : Bool). cond c (with_number i (numbers_at old s)) (numbers_at old s)) is
+
+    by_test : (s : ℕ) (b : Bool) → list_any (λ t. t == s) (targets_in part) ≡ b
+        → told_by all (i + 1) s (numbers_at new s)
+    by_test s true is =
+        let ns = numbers_at old s in
+        let told = so s in
+        subst (told_by all (i + 1) s)
+        (sym (changed s true is ∙ put_last i ns told.0))
+        (All-push (λ k. k < i + 1) ns i (λ k d within. below (told.0 k d within)) (omega arith),
+        goes_then s (chain_of (take (i + 1) all)) (after start x) (chosen all (ns ++ i ∷ []))
+        (for_target (chain_of (take (i + 1) all)) (after start x) longer s)
+        (goes_then s (after start x) (after (chosen all ns) x) (chosen all (ns ++ i ∷ []))
+        (goes_before s start (chosen all ns) x told.1)
+        (for_target (after (chosen all ns) x) (chosen all (ns ++ i ∷ []))
+        (same_back (chosen all (ns ++ i ∷ [])) (after (chosen all ns) x)
+        (subst (λ (y : FlatStatement). Same (chosen all (ns ++ i ∷ [])) (after (chosen all ns) y))
+        (part_at parts i part nothing inside at) (chosen_more all ns i))) s)))
+      where
+        below : {k : ℕ} → k < i → k < i + 1
+        below less = omega arith
+    by_test s false is =
+        let ns = numbers_at old s in
+        let told = so s in
+        subst (told_by all (i + 1) s) (sym (changed s false is))
+        ((λ k d within. below (told.0 k d within)),
+        goes_then s (chain_of (take (i + 1) all)) (after start x) (chosen all ns)
+        (for_target (chain_of (take (i + 1) all)) (after start x) longer s)
+        (goes_then s (after start x) start (chosen all ns)
+        (passes s start x
+        (untold part (subst IsMarked (sym at) (marks i part inside)) s is)) told.1))
+      where
+        below : {k : ℕ} → k < i → k < i + 1
+        below less = omega arith
+
+pub all_told : (parts : List Short) (i : ℕ) (numbers : BTreeMap ℕ (Vec ℕ)) → length parts ≤ i
+    → TellsFirst (map statement_of parts) i numbers → Tells (map statement_of parts) numbers
+all_told parts i numbers all so = λ s.
+    subst (λ (xs : List FlatStatement).
+    GoesFor s (chain_of xs) (chosen (map statement_of parts) (numbers_at numbers s)))
+    (all_taken parts i all) (so s).1
+  where
+    all_taken : (xs : List Short) (n : ℕ) → length xs ≤ n
+        → take n (map statement_of xs) ≡ map statement_of xs
+    all_taken [] zero enough = refl
+    all_taken [] (suc n) enough = refl
+    all_taken (x ∷ xs) zero enough = absurd (omega arith)
+    all_taken (x ∷ xs) (suc n) enough =
+        ap (λ ys. statement_of x ∷ ys) (all_taken xs n (omega arith))
 
 -- what is not among the targets is not assigned
 pub passed_over : (first second : FlatStatement) (targets : BTreeSet ℕ) (s : ℕ)

@@ -44,3 +44,26 @@ pub record IsChain (first second whole : Cut) : Type 0 where
   pub routes : (signals : List SignalForm) (s : ℕ) (route : Route) →
       cut_routes signals s whole route
       ≡ flat_map (cut_routes signals s first) (cut_routes signals s second route)
+
+-- the routes that a route becomes where cuts one after the other are taken before it
+abbrev pub chain_routes : List SignalForm → (target : ℕ) → List Cut → Route → List Route
+chain_routes signals s [] route = route ∷ []
+chain_routes signals s (c ∷ cs) route =
+    flat_map (cut_routes signals s c) (chain_routes signals s cs route)
+
+abbrev pub all_nothing : List Cut → Bool
+all_nothing [] = true
+all_nothing (c ∷ cs) = is_nothing c && all_nothing cs
+
+-- cuts one after the other go as the cut of a statement
+pub record AreCuts (s : ℕ) (statement : FlatStatement) (cs : List Cut) : Type 0 where
+  pub nothing : all_nothing cs ≡ not (assigns statement s)
+  pub routes : (signals : List SignalForm) (route : Route) →
+      chain_routes signals s cs route ≡ routes_before signals s statement route
+
+-- some go as others and then one more
+pub record EndsIn (all front : List Cut) (last : Cut) : Type 0 where
+  pub nothing : all_nothing all ≡ (all_nothing front && is_nothing last)
+  pub routes : (signals : List SignalForm) (s : ℕ) (route : Route) →
+      chain_routes signals s all route
+      ≡ flat_map (chain_routes signals s front) (cut_routes signals s last route)

@@ -1,14 +1,19 @@
--- Statements in short, as they are cut for one target after the other: a block is halves of halves,
--- and each part that has parts of its own tells what it assigns. This says only how the code goes;
+-- Statements in short, as they are cut for one target after the other: a block tells for each target
+-- which of its parts assign it, and a branch what it assigns. This says only how the code goes;
 -- which paths a target has stands in `Paths`.
-use Rattle.std.specs.Prelude.{◌≡◌, ℕ, ◌||◌, IsTrue, Bool, true, false, List, [], ◌∷◌, map, All}
-use Rattle.std.specs.Prelude.{Contains}
+use Rattle.std.specs.Prelude.{◌≡◌, ℕ, ◌==◌, ◌-◌, ◌&&◌, ◌||◌, not, if◌then◌else◌, IsTrue, Bool, true}
+use Rattle.std.specs.Prelude.{List, [], ◌∷◌, ◌++◌, map, length, get_or, slice_index, All, Contains}
+use Rattle.std.specs.Prelude.{Option, Some, None}
+use Rattle.std.specs.BTreeMap.{BTreeMap, get, keys}
+use Rattle.std.specs.Global.{Vec}
+use Rattle.std.specs.List.{list_any}
+use Rattle.std.specs.Ordering.{nat_cmp}
 use Rattle.sv_num.specs.declared.faults.Place.{Place}
 use Rattle.sv_flat.specs.Design.{SignalForm, PieceForm, ProcessForm, FlatStatement, nothing, after}
 use Rattle.sv_flat.specs.Design.{assign, branch}
 use Rattle.sv_flat.specs.Views.{typed_tree, chain_of}
 use Rattle.sv_flat.specs.Assigned.{assigns}
-use Rattle.sv_obl.specs.declared.shorts.Short.{Short}
+use Rattle.sv_obl.specs.declared.shorts.Short.{Short, Row_of-Short, end_of-Short, more_of-Short}
 use Rattle.sv_obl.specs.declared.shorts.Short as short
 use Rattle.sv_obl.specs.Routes.{Route, routes_before}
 use Rattle.sv_obl.specs.Trails.{piece_forms}
@@ -17,26 +22,67 @@ use Rattle.sv_obl.specs.Trails.{piece_forms}
 abbrev pub nowhere : Place
 nowhere = record { line = 0; column = 0 }
 
-abbrev pub is_nothing : Short → Bool
-is_nothing short.Nothing = true
-is_nothing _ = false
+abbrev mutual
+  pub statement_of : Short → FlatStatement
+  statement_of (short.Assign pieces value) =
+      assign (piece_forms pieces.now) nowhere true (typed_tree value.now)
+  statement_of (short.Block' shape row numbers) = chain_of (row_statements row)
+  statement_of (short.Branch' targets place cond p first q second) =
+      branch place (typed_tree cond.now) (statement_of first) (statement_of second)
 
-abbrev pub statement_of : Short → FlatStatement
-statement_of short.Nothing = nothing
-statement_of (short.Assign pieces value) =
-    assign (piece_forms pieces.now) nowhere true (typed_tree value.now)
-statement_of (short.Chain' targets p first q second) =
-    after (statement_of first) (statement_of second)
-statement_of (short.Branch' targets place cond p first q second) =
-    branch place (typed_tree cond.now) (statement_of first) (statement_of second)
+  -- those of the parts of a block, which stand in it as a row
+  pub row_statements : {n : _} → Row_of-Short n → List FlatStatement
+  row_statements end_of-Short = []
+  row_statements (more_of-Short x row) = statement_of x ∷ row_statements row
 
 -- what a statement in short tells that it assigns
 abbrev pub targets_in : Short → List ℕ
-targets_in short.Nothing = []
 targets_in (short.Assign pieces value) =
     map (λ (piece : PieceForm). piece.signal) (piece_forms pieces.now)
-targets_in (short.Chain' targets p first q second) = targets.keys
+targets_in (short.Block' shape row numbers) = keys numbers
 targets_in (short.Branch' targets place cond p first q second) = targets.keys
+
+-- ---- the numbers of parts
+
+-- those that were found for a target, in order
+abbrev pub numbers_found : Option (Vec ℕ) → List ℕ
+numbers_found (Some those) = those.items
+numbers_found None = []
+
+-- the numbers of the parts that assign a target
+abbrev pub numbers_at : BTreeMap ℕ (Vec ℕ) → (target : ℕ) → List ℕ
+numbers_at numbers s = numbers_found (get nat_cmp numbers s)
+
+-- the number is the last
+abbrev pub ends_in : List ℕ → ℕ → Bool
+ends_in numbers k =
+    not (length numbers == 0) && (slice_index numbers (length numbers - 1) == k)
+
+-- one more at the end, where it is not there yet
+abbrev pub with_number : ℕ → List ℕ → List ℕ
+with_number k numbers = if ends_in numbers k then numbers else numbers ++ k ∷ []
+
+-- those of a target once a part with some targets is added
+abbrev pub numbered : (targets : List ℕ) → (number : ℕ) → (ℕ → List ℕ) → (target : ℕ) → List ℕ
+numbered targets k numbers s =
+    if list_any (λ t. t == s) targets then with_number k (numbers s) else numbers s
+
+-- the parts with some numbers, one after the other
+abbrev pub chosen : List FlatStatement → List ℕ → FlatStatement
+chosen parts numbers = chain_of (map (λ k. get_or parts k nothing) numbers)
+
+-- two statements assign the target or not alike, and it has the same routes through them
+pub record GoesFor (s : ℕ) (one other : FlatStatement) : Type 0 where
+  pub assigned : assigns one s ≡ assigns other s
+  pub routes : (signals : List SignalForm) (route : Route) →
+      routes_before signals s one route ≡ routes_before signals s other route
+
+-- for each target the parts with its numbers go as all
+abbrev pub Tells : List FlatStatement → BTreeMap ℕ (Vec ℕ) → Type 0
+Tells parts numbers =
+    (s : ℕ) → GoesFor s (chain_of parts) (chosen parts (numbers_at numbers s))
+
+-- ---- what is marked
 
 -- all that one of two statements assigns is among some numbers
 abbrev pub Covers : List ℕ → (first second : FlatStatement) → Type 0
@@ -44,15 +90,18 @@ Covers targets first second =
     (s : ℕ) → IsTrue (assigns first s || assigns second s) → Contains targets s
 
 -- each part tells all that it assigns
-abbrev pub IsMarked : Short → Type 0
-IsMarked short.Nothing = Unit {0}
-IsMarked (short.Assign pieces value) = Unit {0}
-IsMarked (short.Chain' targets p first q second) =
-    Covers targets.keys (statement_of first) (statement_of second)
-    × IsMarked first × IsMarked second
-IsMarked (short.Branch' targets place cond p first q second) =
-    Covers targets.keys (statement_of first) (statement_of second)
-    × IsMarked first × IsMarked second
+abbrev mutual
+  pub IsMarked : Short → Type 0
+  IsMarked (short.Assign pieces value) = Unit {0}
+  IsMarked (short.Block' shape row numbers) =
+      Tells (row_statements row) numbers × AreMarked row
+  IsMarked (short.Branch' targets place cond p first q second) =
+      Covers targets.keys (statement_of first) (statement_of second)
+      × IsMarked first × IsMarked second
+
+  pub AreMarked : {n : _} → Row_of-Short n → Type 0
+  AreMarked end_of-Short = Unit {0}
+  AreMarked (more_of-Short x row) = IsMarked x × AreMarked row
 
 -- two statements assign the same, and every target has the same routes through them
 pub record Same (one other : FlatStatement) : Type 0 where
@@ -72,20 +121,8 @@ AreShort [] (x ∷ xs) = ⊥
 AreShort (p ∷ ps) [] = ⊥
 AreShort (p ∷ ps) (x ∷ xs) = IsShort p.body x × AreShort ps xs
 
--- ---- one after the other
-
 abbrev pub whole_of : List Short → FlatStatement
 whole_of xs = chain_of (map statement_of xs)
-
--- one goes as two one after the other
-pub record Joins (first second whole : Short) : Type 0 where
-  pub same : Same (after (statement_of first) (statement_of second)) (statement_of whole)
-  pub marked : IsMarked first → IsMarked second → IsMarked whole
-
--- some go as others and then one more
-pub record EndsIn (all front : List Short) (last : Short) : Type 0 where
-  pub same : Same (whole_of all) (after (whole_of front) (statement_of last))
-  pub marked : All IsMarked all → All IsMarked front × IsMarked last
 
 -- those so far, and then the rest, go as the whole
 pub record SoFar (whole rest : FlatStatement) (xs : List Short) : Type 0 where

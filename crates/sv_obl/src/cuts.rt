@@ -1,10 +1,10 @@
 // Statements as far as they assign one target, so that a walk asks nothing twice.
-ghost use Rattle.std.specs.Prelude.{◌≡◌, ℕ, Bool, IfOk};
+ghost use Rattle.std.specs.Prelude.{◌≡◌, ℕ, ◌-◌, ◌<◌, [], map, length, Bool, IfOk, OnOk, All};
 ghost use Rattle.sv_num.specs.declared.faults.Place.{Place};
 ghost use Rattle.sv_flat.specs.Design.{FlatStatement, assign, branch};
 ghost use Rattle.sv_flat.specs.Views.{typed_tree};
-ghost use Rattle.sv_obl.specs.Cuts.{is_nothing, Cuts, IsChain};
-ghost use Rattle.sv_obl.specs.Shorts.{statement_of, IsMarked};
+ghost use Rattle.sv_obl.specs.Cuts.{is_nothing, Cuts, IsChain, AreCuts, EndsIn};
+ghost use Rattle.sv_obl.specs.Shorts.{statement_of, IsMarked, chosen};
 ghost use Rattle.sv_obl.specs.Trails.{piece_forms};
 
 use crate::pieces::is_some_of;
@@ -94,27 +94,65 @@ fn cut_assign<'a>(pieces: &'a [Piece], value: &'a FExpr, target: SigId) -> Cut<'
     }
 }
 
+// The last of some, and nothing where there are none.
+fn last_of<'a>(cuts: &mut Vec<Cut<'a>>) -> Cut<'a>
+    ensures ends { EndsIn cuts.old.items cuts.new.items result }
+    ensures count { length cuts.new.items ≡ length cuts.old.items - 1 }
+{
+    match cuts.pop() {
+        Some(last) => last,
+        None => Cut::Nothing,
+    }
+}
+
+// The last so many of some, taken as one. Halves of halves keep what walks through them from going
+// as deep as a block is long.
+fn last_together<'a>(
+    count: usize,
+    alloc: Global,
+    cuts: &mut Vec<Cut<'a>>,
+) -> Result<Cut<'a>, AllocError>
+    requires { 0 < count }
+    ensures ends { IfOk result (λ last. EndsIn cuts.old.items cuts.new.items last) }
+    ensures count { OnOk result (length cuts.new.items ≡ length cuts.old.items - count) }
+{
+    if count == 1 {
+        return Ok(last_of(cuts));
+    }
+    let half = count / 2;
+    let second = last_together(count - half, alloc, cuts)?;
+    let first = last_together(half, alloc, cuts)?;
+    chained(alloc, first, second)
+}
+
+// All of some, taken as one.
+fn together<'a>(alloc: Global, cuts: Vec<Cut<'a>>) -> Result<Cut<'a>, AllocError>
+    ensures { IfOk result (λ whole. EndsIn cuts.entry.items [] whole) }
+{
+    if cuts.is_empty() {
+        return Ok(Cut::Nothing);
+    }
+    let mut rest = cuts;
+    let count = rest.len();
+    last_together(count, alloc, &mut rest)
+}
+
 /// The cut of a statement for a target; an error where memory runs out. What does not assign the
 /// target is passed over.
+#[cycle(cut)]
 pub fn cut_for<'a>(short: &Short<'a>, alloc: Global, target: SigId) -> Result<Cut<'a>, AllocError>
     ensures { IsMarked short.now
         → IfOk result (λ cut. Cuts target.0 (statement_of short.now) cut) }
 {
     match short {
-        Short::Nothing => Ok(Cut::Nothing),
         Short::Assign { pieces, value } => Ok(cut_assign(*pieces, *value, target)),
-        Short::Chain {
-            targets,
-            first,
-            second,
-        } => {
-            if !targets.contains(&target.0) {
-                return Ok(Cut::Nothing);
+        Short::Block { parts, numbers } => match numbers.get(&target.0) {
+            Some(those) => {
+                let cuts = part_cuts(parts, alloc, target, those)?;
+                together(alloc, cuts)
             }
-            let first = cut_for(first, alloc, target)?;
-            let second = cut_for(second, alloc, target)?;
-            chained(alloc, first, second)
-        }
+            None => Ok(Cut::Nothing),
+        },
         Short::Branch {
             targets,
             place,
@@ -130,4 +168,25 @@ pub fn cut_for<'a>(short: &Short<'a>, alloc: Global, target: SigId) -> Result<Cu
             cut_branch(alloc, *place, *cond, first, second)
         }
     }
+}
+
+// The cuts of the parts with some numbers.
+#[cycle(cut)]
+fn part_cuts<'a>(
+    parts: &[Short<'a>],
+    alloc: Global,
+    target: SigId,
+    numbers: &[usize],
+) -> Result<Vec<Cut<'a>>, AllocError>
+    ensures { All IsMarked parts.now → IfOk result (λ cuts.
+        AreCuts target.0 (chosen (map statement_of parts.now) numbers.now) cuts.items) }
+{
+    let mut cuts = Vec::new(alloc);
+    for number in numbers {
+        if *number < parts.len() {
+            let cut = cut_for(&parts[*number], alloc, target)?;
+            cuts.push(cut)?;
+        }
+    }
+    Ok(cuts)
 }

@@ -2,21 +2,22 @@
 //! signal.
 //!
 //! An obligation is a path through the process of a target, with the signals that it reads.
-//! `specs/Paths.antt` says which paths a target has, `specs/Wanted.antt` what is put in on the way,
-//! `specs/Obligations.antt` which obligations a design has, `specs/Limits.antt` how many it may
-//! have, `specs/Validity.antt` when one is valid, `specs/ListLines.antt` how `secv list` prints
-//! them, and `specs/ListParts.antt` what is left to print after some targets. The laws say what
-//! valid obligations mean.
+//! `specs/Paths.antt` says which paths a target has, `PathValues.antt` when one is taken,
+//! `Wanted.antt` what is put in on the way, over `Exchange.antt` and `Nodes.antt`,
+//! `Obligations.antt` which obligations a design has, `Limits.antt` how many it may have,
+//! `Validity.antt` when one is valid, `ListLines.antt` how `secv list` prints them, and
+//! `ListParts.antt` what is left to print after some targets. The laws say what valid obligations
+//! mean (`Noninterference.antt`). A contract sees an obligation by its plain form (`Views.antt`).
 //!
 //! `obligations` takes an admitted design and gives exactly the list of the definition in its
 //! order, or the first limit that the design passes; `specs/DesignQueries.antt` says what makes an
 //! obligation one of the design's, as each of them is. `check_limits` tells that limit alone, and
 //! `Listing` gives the lines of `secv list` part by part, with no more in memory than the paths of
-//! one target and their lines. Inside, `specs/Routes.antt` tells paths as they are where no read is
-//! an earlier one, `specs/Shorts.antt` statements in short, each part with what it assigns,
-//! `specs/Cuts.antt` what of such a statement is walked for a target, `specs/Trails.antt` ties
-//! routes to what is walked, `specs/Answers.antt` the walk through all targets to the limits, and
-//! `specs/Written.antt` lines to what is written; those six are private.
+//! one target and their lines. Inside, `Routes.antt` tells paths as they are where no read is an
+//! earlier one, `Shorts.antt` statements in short, each part with what it assigns, `Cuts.antt` what
+//! of such a statement is walked for a target, `Trails.antt` ties routes to what is walked,
+//! `Answers.antt` the walk through all targets to the limits, and `Written.antt` lines to what is
+//! written; those six are private.
 #![tactic(auto)]
 
 mod cuts;

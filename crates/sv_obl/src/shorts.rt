@@ -1,20 +1,22 @@
 // Statements in short, from which each target's own statement is cut. Each is made once for a
-// process. A cut then looks only at parts that assign its target and at those right beside them, so
-// all cuts together cost the assignments times their nesting, halves of blocks included.
-ghost use Rattle.std.specs.Prelude.{◌≡◌, ◌++◌, ◌-◌, ◌^◌, [], length, map, fold, Bool, IfOk, OnOk};
+// process. A cut looks a target up once in each block and branch that assigns it, and then only at
+// the parts that assign it, so all cuts together cost the assignments times their nesting.
+ghost use Rattle.std.specs.Prelude.{◌≡◌, ℕ, [], ◌∷◌, ◌++◌, map, fold, Bool, None, IfOk, OnOk};
+ghost use Rattle.std.specs.Prelude.{All};
 ghost use Rattle.std.specs.BTreeSet.{insert_key};
+ghost use Rattle.std.specs.BTreeMap.{keys, Updates};
 ghost use Rattle.std.specs.Ordering.{nat_cmp};
 ghost use Rattle.sv_flat.specs.Design.{PieceForm, FlatStatement, nothing, assign, branch};
 ghost use Rattle.sv_num.specs.declared.faults.Place.{Place};
 ghost use Rattle.sv_flat.specs.Views.{typed_tree, flat_statement, flat_statements, chain_of};
 ghost use Rattle.sv_flat.specs.Views.{process_form};
-ghost use Rattle.sv_obl.specs.Shorts.{targets_in, IsShort, AreShort, Joins};
-ghost use Rattle.sv_obl.specs.Shorts.{EndsIn, SoFar, is_nothing};
+ghost use Rattle.sv_obl.specs.Shorts.{targets_in, IsMarked, IsShort, AreShort, SoFar, statement_of};
+ghost use Rattle.sv_obl.specs.Shorts.{ends_in, with_number, numbers_at, numbered, Tells};
 ghost use Rattle.sv_obl.specs.Trails.{piece_forms};
 
 use crate::reads::set_of;
 use std::alloc::{AllocError, Global};
-use std::collections::BTreeSet;
+use std::collections::{BTreeMap, BTreeSet};
 use sv_flat::{FExpr, FStmt, Piece, Process};
 use sv_num::Place;
 
@@ -22,16 +24,15 @@ use sv_num::Place;
 /// does not assign a target is passed over at once.
 #[derive(Drop)]
 pub enum Short<'a> {
-    Nothing,
     Assign {
         pieces: &'a [Piece],
         value: &'a FExpr,
     },
-    /// One after the other.
-    Chain {
-        targets: BTreeSet<u32>,
-        first: Box<Short<'a>>,
-        second: Box<Short<'a>>,
+    /// Parts one after the other, and for each target the numbers of those that assign it, in
+    /// order.
+    Block {
+        parts: Vec<Short<'a>>,
+        numbers: BTreeMap<u32, Vec<usize>>,
     },
     Branch {
         targets: BTreeSet<u32>,
@@ -63,14 +64,26 @@ fn push_set(set: &BTreeSet<u32>, names: &mut Vec<u32>) -> Result<(), AllocError>
     Ok(())
 }
 
+// Adds the targets of a table.
+fn push_keys(
+    numbers: &BTreeMap<u32, Vec<usize>>,
+    names: &mut Vec<u32>,
+) -> Result<(), AllocError>
+    ensures { OnOk result (names.new.items ≡ names.old.items ++ keys numbers.now) }
+{
+    for target in numbers.keys() {
+        names.push(*target)?;
+    }
+    Ok(())
+}
+
 // Adds what a statement assigns.
 fn push_targets(short: &Short, names: &mut Vec<u32>) -> Result<(), AllocError>
     ensures { OnOk result (names.new.items ≡ names.old.items ++ targets_in short.now) }
 {
     match short {
-        Short::Nothing => Ok(()),
         Short::Assign { pieces, .. } => push_pieces(*pieces, names),
-        Short::Chain { targets, .. } => push_set(targets, names),
+        Short::Block { numbers, .. } => push_keys(numbers, names),
         Short::Branch { targets, .. } => push_set(targets, names),
     }
 }
@@ -84,27 +97,6 @@ fn targets_of(alloc: Global, first: &Short, second: &Short) -> Result<BTreeSet<u
     push_targets(first, &mut names)?;
     push_targets(second, &mut names)?;
     set_of(alloc, &names)
-}
-
-fn is_nothing(short: &Short) -> bool
-    ensures { result ≡ is_nothing short.now }
-{
-    matches!(short, Short::Nothing)
-}
-
-// The two one after the other.
-fn chained<'a>(alloc: Global, first: Short<'a>, second: Short<'a>) -> Result<Short<'a>, AllocError>
-    ensures { IfOk result (λ whole. Joins first.entry second.entry whole) }
-{
-    if is_nothing(&first) {
-        return Ok(second);
-    }
-    let targets = targets_of(alloc, &first, &second)?;
-    Ok(Short::Chain {
-        targets,
-        first: Box::new(alloc, first)?,
-        second: Box::new(alloc, second)?,
-    })
 }
 
 // The branch of two arms.
@@ -128,44 +120,91 @@ fn branched<'a>(
     })
 }
 
-// The last of some, and nothing where there are none.
-fn last_of<'a>(shorts: &mut Vec<Short<'a>>) -> Short<'a>
-    ensures ends { EndsIn shorts.old.items shorts.new.items result }
-    ensures count { length shorts.new.items ≡ length shorts.old.items - 1 }
+// Whether the number is the last of some.
+fn ends_in(numbers: &[usize], number: usize) -> bool
+    ensures { result ≡ ends_in numbers.now number }
 {
-    match shorts.pop() {
-        Some(last) => last,
-        None => Short::Nothing,
+    !numbers.is_empty() && numbers[numbers.len() - 1] == number
+}
+
+// The numbers with one more at the end, where it is not there yet.
+fn with_number(numbers: Vec<usize>, number: usize) -> Result<Vec<usize>, AllocError>
+    ensures { IfOk result (λ more. more.items ≡ with_number number numbers.items) }
+{
+    let mut more = numbers;
+    if !ends_in(&more, number) {
+        more.push(number)?;
+    }
+    Ok(more)
+}
+
+// Takes the numbers of a target out; none where it has none.
+fn take_out(numbers: &mut BTreeMap<u32, Vec<usize>>, alloc: Global, target: u32) -> Vec<usize>
+    ensures those { result.items ≡ numbers_at numbers.old target }
+    ensures others { Updates nat_cmp numbers.old numbers.new target None }
+{
+    match numbers.remove(&target) {
+        Some(those) => those,
+        None => Vec::new(alloc),
     }
 }
 
-// The last 2^depth of some, or as many as there are, taken as one. Halves of halves keep what walks
-// through them from going as deep as a block is long.
-fn last_together<'a>(
-    depth: u32,
+// Adds the number of a part to those of a target, once.
+fn add_number(
+    numbers: &mut BTreeMap<u32, Vec<usize>>,
     alloc: Global,
-    shorts: &mut Vec<Short<'a>>,
-) -> Result<Short<'a>, AllocError>
-    ensures ends { IfOk result (λ last. EndsIn shorts.old.items shorts.new.items last) }
-    ensures count { OnOk result (length shorts.new.items ≡ length shorts.old.items - 2 ^ depth) }
+    target: u32,
+    number: usize,
+) -> Result<(), AllocError>
+    ensures { OnOk result ((s : ℕ) → numbers_at numbers.new s
+        ≡ numbered (target ∷ []) number (numbers_at numbers.old) s) }
 {
-    if depth == 0 {
-        return Ok(last_of(shorts));
-    }
-    if shorts.is_empty() {
-        return Ok(Short::Nothing);
-    }
-    let second = last_together(depth - 1, alloc, shorts)?;
-    let first = last_together(depth - 1, alloc, shorts)?;
-    chained(alloc, first, second)
+    let those = take_out(numbers, alloc, target);
+    let more = with_number(those, number)?;
+    numbers.insert(target, more)?;
+    Ok(())
 }
 
-// All of some, taken as one.
-fn together<'a>(alloc: Global, shorts: Vec<Short<'a>>) -> Result<Short<'a>, AllocError>
-    ensures { IfOk result (λ whole. EndsIn shorts.entry.items [] whole) }
+// Adds it to those of some targets.
+fn add_numbers(
+    numbers: &mut BTreeMap<u32, Vec<usize>>,
+    alloc: Global,
+    targets: &[u32],
+    number: usize,
+) -> Result<(), AllocError>
+    ensures { OnOk result ((s : ℕ) → numbers_at numbers.new s
+        ≡ numbered targets.now number (numbers_at numbers.old) s) }
 {
-    let mut rest = shorts;
-    last_together(64, alloc, &mut rest)
+    for target in targets {
+        add_number(numbers, alloc, *target, number)?;
+    }
+    Ok(())
+}
+
+// Adds the number of a part to those of all that it assigns.
+fn add_part(
+    numbers: &mut BTreeMap<u32, Vec<usize>>,
+    alloc: Global,
+    part: &Short,
+    number: usize,
+) -> Result<(), AllocError>
+    ensures { OnOk result ((s : ℕ) → numbers_at numbers.new s
+        ≡ numbered (targets_in part.now) number (numbers_at numbers.old) s) }
+{
+    let mut targets = Vec::new(alloc);
+    push_targets(part, &mut targets)?;
+    add_numbers(numbers, alloc, &targets, number)
+}
+
+// For each target the numbers of the parts that assign it, in order.
+fn numbers_of(alloc: Global, parts: &[Short]) -> Result<BTreeMap<u32, Vec<usize>>, AllocError>
+    ensures { All IsMarked parts.now → IfOk result (Tells (map statement_of parts.now)) }
+{
+    let mut numbers = BTreeMap::new(alloc);
+    for i in 0..parts.len() {
+        add_part(&mut numbers, alloc, &parts[i], i)?;
+    }
+    Ok(numbers)
 }
 
 // The assignment in short.
@@ -184,8 +223,9 @@ pub fn short_of<'a>(stmt: &'a FStmt, alloc: Global) -> Result<Short<'a>, AllocEr
     match stmt {
         FStmt::Assign { pieces, value, .. } => Ok(assigned(pieces, value)),
         FStmt::Block(stmts) => {
-            let shorts = block_shorts(stmts, alloc)?;
-            together(alloc, shorts)
+            let parts = block_shorts(stmts, alloc)?;
+            let numbers = numbers_of(alloc, &parts)?;
+            Ok(Short::Block { parts, numbers })
         }
         FStmt::If {
             place,

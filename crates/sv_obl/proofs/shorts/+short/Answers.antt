@@ -1,11 +1,10 @@
-use Rattle.std.proofs.Common.{[], sym, ap, subst, ◌+◌, drop}
-use Rattle.std.specs.Prelude.{IfOk}
+use Rattle.std.proofs.Common.{◌+◌, map, drop, sym, ap, subst, All}
 use Rattle.sv_flat.specs.Design.{assign}
 use Rattle.sv_flat.specs.Views.{typed_tree, flat_statement, flat_statements, chain_of}
-use Rattle.sv_obl.specs.Shorts.{IsShort, EndsIn, SoFar}
-use Rattle.sv_obl.proofs.CutFacts.{on_ok}
+use Rattle.sv_obl.specs.declared.shorts.Short.TheViews as view
+use Rattle.sv_obl.specs.Shorts.{statement_of, IsMarked, Tells, IsShort, SoFar}
 use Rattle.sv_obl.specs.Trails.{piece_forms}
-use Rattle.sv_obl.proofs.ShortFacts.{none_so_far, one_so_far, all_short}
+use Rattle.sv_obl.proofs.ShortFacts.{none_so_far, one_so_far, block_short}
 use Rattle.sv_obl.proofs.StatementFacts.{block_is, next_statement}
 use Rattle.sv_obl.proofs.shorts.+short.Goals as goal
 
@@ -16,16 +15,19 @@ short_of-returns-in-Assign t c =
     (typed_tree c.in-Assign.value)) c.assigned.result) c.deref.ensures.value
     (c.assigned.ensures c.in-Assign.place c.in-Assign.blocking))
 
-pub short_of-returns-in_ok-shorts-in-Block : goal.short_of-returns-in_ok-shorts-in-Block
-short_of-returns-in_ok-shorts-in-Block t c =
+pub short_of-returns-in_ok-numbers-in-Block : goal.short_of-returns-in_ok-numbers-in-Block
+short_of-returns-in_ok-numbers-in-Block t c =
     let chain = chain_of (flat_statements c.deref-in-Block.result.now) in
-    let shorts = c.in_ok-shorts-in-Block.shorts.items in
-    subst (λ st. IfOk c.together.result (IsShort st))
+    let parts = c.in_ok-parts-in-Block.parts in
+    let numbers = c.in_ok-numbers-in-Block.numbers in
+    let so = c.in_ok-parts-in-Block.ensures in
+    let same = c.deref-in-Block-2.ensures.value in
+    subst (λ st. IsShort st (view.Block parts numbers))
     (sym (block_is c.args.stmt.now c.in-Block.stmts c.deref-in-Block.result.now c.in-Block.is
     c.deref-in-Block.ensures.value))
-    (on_ok c.together.result (EndsIn shorts []) (IsShort chain)
-    (λ whole ends. all_short chain shorts whole c.in_ok-shorts-in-Block.ensures ends)
-    c.together.ensures)
+    (block_short chain parts numbers so
+    (subst (λ xs. Tells (map statement_of xs) numbers) same
+    (c.in_ok-numbers-in-Block.ensures (subst (All IsMarked) (sym same) so.marked))))
 
 pub block_shorts-loop-stmt-init : goal.block_shorts-loop-stmt-init
 block_shorts-loop-stmt-init t c =

@@ -703,29 +703,31 @@ more_told parts i part old new inside at marks gains so = λ s.
         let ns = numbers_at old s in
         let told = so s in
         subst (told_by all (i + 1) s)
-        (sym (changed s true is ∙ put_last i ns told.0))
-        (All-push (λ k. k < i + 1) ns i (λ k d within. below (told.0 k d within)) (omega arith),
-        goes_then s (chain_of (take (i + 1) all)) (after start x) (chosen all (ns ++ i ∷ []))
-        (for_target (chain_of (take (i + 1) all)) (after start x) longer s)
-        (goes_then s (after start x) (after (chosen all ns) x) (chosen all (ns ++ i ∷ []))
-        (goes_before s start (chosen all ns) x told.1)
-        (for_target (after (chosen all ns) x) (chosen all (ns ++ i ∷ []))
-        (same_back (chosen all (ns ++ i ∷ [])) (after (chosen all ns) x)
-        (subst (λ (y : FlatStatement). Same (chosen all (ns ++ i ∷ [])) (after (chosen all ns) y))
-        (part_at parts i part nothing inside at) (chosen_more all ns i))) s)))
+        (sym (changed s true is ∙ put_last i ns told.0)) (
+          All-push (λ k. k < i + 1) ns i (λ k d within. below (told.0 k d within)) (omega arith),
+          goes_then s (chain_of (take (i + 1) all)) (after start x) (chosen all (ns ++ i ∷ []))
+              (for_target (chain_of (take (i + 1) all)) (after start x) longer s)
+              (goes_then s (after start x) (after (chosen all ns) x) (chosen all (ns ++ i ∷ []))
+              (goes_before s start (chosen all ns) x told.1)
+              (for_target (after (chosen all ns) x) (chosen all (ns ++ i ∷ []))
+              (same_back (chosen all (ns ++ i ∷ [])) (after (chosen all ns) x)
+              (subst (λ (y : FlatStatement). Same (chosen all (ns ++ i ∷ [])) (after (chosen all ns) y))
+              (part_at parts i part nothing inside at) (chosen_more all ns i))) s)),
+        )
       where
         below : {k : ℕ} → k < i → k < i + 1
         below less = omega arith
     by_test s false is =
         let ns = numbers_at old s in
         let told = so s in
-        subst (told_by all (i + 1) s) (sym (changed s false is))
-        ((λ k d within. below (told.0 k d within)),
-        goes_then s (chain_of (take (i + 1) all)) (after start x) (chosen all ns)
-        (for_target (chain_of (take (i + 1) all)) (after start x) longer s)
-        (goes_then s (after start x) start (chosen all ns)
-        (passes s start x
-        (untold part (subst IsMarked (sym at) (marks i part inside)) s is)) told.1))
+        subst (told_by all (i + 1) s) (sym (changed s false is)) (
+          (λ k d within. below (told.0 k d within)),
+          goes_then s (chain_of (take (i + 1) all)) (after start x) (chosen all ns)
+              (for_target (chain_of (take (i + 1) all)) (after start x) longer s)
+              (goes_then s (after start x) start (chosen all ns)
+              (passes s start x
+              (untold part (subst IsMarked (sym at) (marks i part inside)) s is)) told.1),
+        )
       where
         below : {k : ℕ} → k < i → k < i + 1
         below less = omega arith

@@ -1,6 +1,6 @@
--- Statements in short, as they are cut for one target after the other: a block tells for each target
--- which of its parts assign it, and a branch what it assigns. This says only how the code goes;
--- which paths a target has stands in `Paths`.
+-- Statements in short, as they are cut for one target after the other: a block tells for each
+-- target which of its parts assign it, and a branch what it assigns. This says only how the code
+-- goes; which paths a target has stands in `Paths`.
 use Rattle.std.specs.Prelude.{◌≡◌, ℕ, ◌==◌, ◌-◌, ◌&&◌, ◌||◌, not, if◌then◌else◌, IsTrue, Bool, true}
 use Rattle.std.specs.Prelude.{List, [], ◌∷◌, ◌++◌, map, length, get_or, slice_index, All, Contains}
 use Rattle.std.specs.Prelude.{Option, Some, None}

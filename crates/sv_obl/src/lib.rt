@@ -7,7 +7,8 @@
 //! `Obligations.antt` which obligations a design has, `Limits.antt` how many it may have,
 //! `Validity.antt` when one is valid, `ListLines.antt` how `secv list` prints them, and
 //! `ListParts.antt` what is left to print after some targets. The laws say what valid obligations
-//! mean (`Noninterference.antt`). A contract sees an obligation by its plain form (`Views.antt`).
+//! mean (`Noninterference.antt`). A contract sees an obligation by its plain form (`Views.antt`),
+//! and what a call answers to the limits by `Answers.antt`.
 //!
 //! `obligations` takes an admitted design and gives exactly the list of the definition in its
 //! order, or the first limit that the design passes; `specs/DesignQueries.antt` says what makes an
@@ -15,9 +16,8 @@
 //! `Listing` gives the lines of `secv list` part by part, with no more in memory than the paths of
 //! one target and their lines. Inside, `Routes.antt` tells paths as they are where no read is an
 //! earlier one, `Shorts.antt` statements in short, each part with what it assigns, `Cuts.antt` what
-//! of such a statement is walked for a target, `Trails.antt` ties routes to what is walked,
-//! `Answers.antt` the walk through all targets to the limits, and `Written.antt` lines to what is
-//! written; those six are private.
+//! of such a statement is walked for a target, `Trails.antt` ties routes to what is walked, and
+//! `Written.antt` lines to what is written; those five are private.
 #![tactic(auto)]
 
 mod cuts;

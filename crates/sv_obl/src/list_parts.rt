@@ -1,7 +1,7 @@
 // What `secv list` prints, part by part.
 ghost use Rattle.std.specs.Prelude.{◌≡◌, ◌+◌, ◌<◌, ◌++◌, length, IfOk, IfErr, OnOk};
 ghost use Rattle.sv_flat.specs.Views.{design_of};
-ghost use Rattle.sv_obl.specs.Answers.{Told};
+ghost use Rattle.sv_obl.specs.Answers.{Answers, Told};
 ghost use Rattle.sv_obl.specs.Limits.{excess};
 ghost use Rattle.sv_obl.specs.ListLines.{list_text};
 ghost use Rattle.sv_obl.specs.ListParts.{IsAt, lines_left};
@@ -64,7 +64,7 @@ impl<'a> Listing<'a> {
         requires at { IsAt (design_of design.now) (length design.now.signals.items) self.now }
         ensures part { IfOk result (λ part. part.items
             ≡ lines_left (design_of design.now) (length design.now.signals.items)) }
-        ensures told { IfErr result (Told (excess (design_of design.now))) }
+        ensures excess { Answers (excess (design_of design.now)) result }
     {
         let mut lines = Lines {
             text: Vec::new(alloc),

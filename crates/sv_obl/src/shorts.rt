@@ -65,10 +65,7 @@ fn push_set(set: &BTreeSet<u32>, names: &mut Vec<u32>) -> Result<(), AllocError>
 }
 
 // Adds the targets of a table.
-fn push_keys(
-    numbers: &BTreeMap<u32, Vec<usize>>,
-    names: &mut Vec<u32>,
-) -> Result<(), AllocError>
+fn push_keys(numbers: &BTreeMap<u32, Vec<usize>>, names: &mut Vec<u32>) -> Result<(), AllocError>
     ensures { OnOk result (names.new.items ≡ names.old.items ++ keys numbers.now) }
 {
     for target in numbers.keys() {

@@ -11,6 +11,8 @@ use Rattle.std.proofs.Math.Seq.{take-append-add}
 use Rattle.std.proofs.lemmas.Bool.{lt-leb, le-leb, cases_eq, eq-eqb, ne_eqb, eqb-false}
 use Rattle.std.proofs.lemmas.Bool.{false≢true}
 use Rattle.std.proofs.lemmas.List.{take_all, take-append-drop, length-take}
+use Rattle.std.proofs.lemmas.List.{append_cancel_left}
+use Rattle.sv_io.specs.Source.{WhateverFollows}
 use Rattle.sv_lattice.specs.declared.points.Point.{Point}
 use Rattle.sv_flat.specs.declared.designs.Flat.{Flat}
 use Rattle.sv_flat.specs.Views.{design_of}
@@ -500,10 +502,51 @@ stops_with_same tells g0 g1 l0 l1 before accepted old new same stops = record {
   told = λ told. stops_same l0 before accepted old new same (stops.told told);
 }
 
+-- ---- whatever follows
+
+-- where no end was shown the piece was not the end
+not_the_end : (ended : Bool) (piece more : List ℕ) → (piece ≡ [] → IsTrue ended) → IsFalse ended
+    → piece ≡ [] → more ≡ []
+not_the_end ended piece more shown goes_on none = absurd (false≢true (sym goes_on ∙ shown none))
+
+-- the piece brought the ending
+pub piece_open : (given_old given_new taken piece : List ℕ) (rest : ℕ)
+    (before accepted : List ℕ) (ended : Bool) (ends : Ending) (old new : Simulation)
+    → given_new ≡ given_old ++ (taken ++ piece) → (piece ≡ [] → IsTrue ended)
+    → PieceReads taken piece rest before accepted (Ok (Some ends)) old new
+    → WhateverFollows ended given_old given_new (λ bytes. HasReached bytes ends before accepted new)
+piece_open given_old given_new taken piece rest before accepted ended ends old new given shown reads
+    goes_on bytes more is =
+    let same : taken ++ piece ≡ bytes =
+    append_cancel_left given_old (taken ++ piece) bytes (sym given ∙ is) in
+    subst (λ first. HasReached (first ++ more) ends before accepted new) same
+    (subst (λ all. HasReached all ends before accepted new) (sym (append_assoc taken piece more))
+    (reads more (not_the_end ended piece more shown goes_on)))
+
+-- there were too many bytes
+pub large_open : (given_old given_new taken : List ℕ) (left : ℕ) (before accepted : List ℕ)
+    (ended : Bool) (s : Simulation) → given_new ≡ given_old ++ taken
+    → IsUnderWay taken left before accepted s → left ≡ 0
+    → WhateverFollows ended given_old given_new
+    (λ bytes. HasReached bytes ending.TooLarge before accepted s)
+large_open given_old given_new taken left before accepted ended s given way none goes_on bytes more
+    is =
+    let over : largest_stimulus < length taken = omega (arith, way.count) in
+    let same : taken ≡ bytes = append_cancel_left given_old taken bytes (sym given ∙ is) in
+    subst (λ first. HasReached (first ++ more) ending.TooLarge before accepted s) same
+    (reached_large taken more before accepted s way.made way.come way.right over)
+
+-- ---- the end
+
 -- an empty piece is one of no bytes
 pub end_of : (count : ℕ) (buffer l2 : List ℕ) → count ≤ length buffer
     → (count ≡ 0 → l2 ≡ []) → take count buffer ≡ [] → l2 ≡ []
 end_of count buffer l2 within end none =
+    end (omega (arith, length-take count buffer, ap length none))
+
+pub end_shown : (count : ℕ) (buffer : List ℕ) (ended : Bool) → count ≤ length buffer
+    → (count ≡ 0 → IsTrue ended) → take count buffer ≡ [] → IsTrue ended
+end_shown count buffer ended within end none =
     end (omega (arith, length-take count buffer, ap length none))
 
 -- ---- what the calls need

@@ -1,5 +1,5 @@
 -- Each stimulus of an admitted design has one text and one ending.
-use Rattle.std.proofs.Common.{◌≡◌, ℕ, ◌+◌, Bool, true, false, cond, List, ◌++◌}
+use Rattle.std.proofs.Common.{◌≡◌, ℕ, Bool, true, false, cond, List, ◌++◌}
 use Rattle.std.proofs.Common.{map, flat_map, take, codes, decimal, refl, sym, ap, ◌∙◌}
 use Rattle.std.proofs.Common.{subst, Option, Some, None}
 use Rattle.std.specs.Prelude.{Contains, IsTrue}

@@ -8,7 +8,7 @@ use Rattle.sv_simulate.specs.declared.endings.SimFault.{SimFault}
 use Rattle.sv_simulate.specs.declared.endings.SimFault.TheVariants as fault
 use Rattle.sv_simulate.specs.declared.simulations.Simulation.{Simulation}
 use Rattle.sv_simulate.specs.Fronts.{Takes, IsUnderWay}
-use Rattle.sv_simulate.proofs.Loops.{takes_more, end_of}
+use Rattle.sv_simulate.proofs.Loops.{takes_more, end_of, end_shown}
 
 -- ---- faults
 
@@ -59,6 +59,13 @@ pub piece_end : (tells : Bool) (count most : ℕ) (buffer now l2 : List ℕ) →
 piece_end tells count most buffer now l2 same within end told none =
     let inside : count ≤ length now = omega (arith, ap length same, within.1) in
     end_of count now l2 inside (end told) none
+
+pub piece_shown : (ended : Bool) (count most : ℕ) (buffer now : List ℕ) → now ≡ buffer
+    → (count ≤ most) × (count ≤ length buffer) → (count ≡ 0 → IsTrue ended)
+    → take count now ≡ [] → IsTrue ended
+piece_shown ended count most buffer now same within end none =
+    let inside : count ≤ length now = omega (arith, ap length same, within.1) in
+    end_shown count now ended inside end none
 
 pub takes_piece : (tells : Bool) (g1 g2 l1 l2 : List ℕ) (count : ℕ) (buffer now : List ℕ)
     → now ≡ buffer → Takes tells g1 g2 l1 l2 (take count buffer)

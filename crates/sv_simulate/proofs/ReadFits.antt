@@ -1,7 +1,7 @@
 -- What right lines say fits the form: the starting values and the values of each cycle.
 use Rattle.std.proofs.Common.{◌≡◌, ℕ, zero, suc, ◌+◌, ◌<◌, ◌≤◌, ◌^◌, Bool, true, false, cond, ◌&&◌}
 use Rattle.std.proofs.Common.{List, [], ◌∷◌, ◌++◌, length, map, get_or, set, refl, sym, ◌∙◌}
-use Rattle.std.proofs.Common.{subst, arith, ⊎_elim, ◌⊎◌, Option, Some, None, ltb-true, nat_lt}
+use Rattle.std.proofs.Common.{subst, arith, ⊎_elim, Option, Some, None, ltb-true, nat_lt}
 use Rattle.std.proofs.Common.{nat_le}
 use Rattle.std.proofs.Common.{get_or-set_same, get_or-set_other}
 use Rattle.std.specs.Prelude.{All, replicate}

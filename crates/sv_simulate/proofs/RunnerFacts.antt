@@ -35,6 +35,7 @@ use Rattle.sv_sim.proofs.EdgeFacts.{last_untouched, all_touch, run_touch}
 use Rattle.sv_sim.proofs.InOrder.{run_keeps_given}
 use Rattle.sv_sim.proofs.NextValues.{is_seen}
 use Rattle.sv_sim.proofs.OneDesign.{input_no_register}
+use Rattle.sv_sim.proofs.Simulated.{input_listed}
 use Rattle.sv_event.specs.Events.{EventState}
 use Rattle.sv_event.specs.Rests.{AreNumbers, IsNumberedRound}
 use Rattle.sv_event.proofs.RoundFacts.{drawn_is_round}

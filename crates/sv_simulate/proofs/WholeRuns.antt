@@ -4,6 +4,7 @@ use Rattle.std.proofs.Common.{Bool, Option, Some, None, append-nil, arith}
 use Rattle.std.specs.Prelude.{Result, Ok, Err, IfOk, OnErr, IsErrAnd, IsTrue}
 use Rattle.std.proofs.lemmas.List.{append_cancel_left}
 use Rattle.sv_io.specs.Sink.{WritesFront}
+use Rattle.sv_io.specs.Source.{WhateverFollows}
 use Rattle.sv_lattice.specs.declared.points.Point.{Point}
 use Rattle.sv_flat.specs.declared.designs.Flat.{Flat}
 use Rattle.sv_flat.specs.Design.{FlatDesign}
@@ -15,8 +16,8 @@ use Rattle.sv_simulate.specs.declared.endings.SimFault.{SimFault}
 use Rattle.sv_simulate.specs.declared.endings.SimFault.TheVariants as faults
 use Rattle.sv_simulate.specs.declared.simulations.Simulation.{Simulation}
 use Rattle.sv_simulate.specs.Fronts.{WritesFrontAt, WritesAllAt, EndsWith, StopsWith, WritesBy}
-use Rattle.sv_simulate.specs.Fronts.{RunsTo}
-use Rattle.sv_simulate.specs.Progress.{flat_of, IsSameAs}
+use Rattle.sv_simulate.specs.Fronts.{RunsTo, WritesWhole}
+use Rattle.sv_simulate.specs.Progress.{flat_of, IsSameAs, HasReached}
 use Rattle.sv_simulate.specs.Runners.{order_in, rounds_in}
 use Rattle.sv_simulate.specs.Simulated.{largest_stimulus, last_line, level_asked, IsSimulatedAt}
 use Rattle.sv_simulate.specs.Simulated.{IsSimulated, WritesFrontFor, WritesAllCycles}
@@ -150,6 +151,32 @@ run_so flat level order s tells given_old given_new left before accepted r is ru
     same_words (λ d l o. RunsTo d l o tells given_old given_new left before accepted r) flat level
     order s is runs
 
+-- ---- whatever follows
+
+-- the last line was put
+pub open_run : (old s : Simulation) (before accepted new : List ℕ) (rounds : Option ℕ)
+    (ends : Ending) (ended : Bool) (given_old given_new : List ℕ) → IsSameAs old s
+    → rounds ≡ rounds_in s.runner → new ≡ accepted ++ last_line ends rounds
+    → WhateverFollows ended given_old given_new (λ bytes. HasReached bytes ends before accepted s)
+    → WhateverFollows ended given_old given_new
+    (λ bytes. WritesWhole (flat_of old) old.level (order_in old.runner) bytes before new ends)
+open_run old s before accepted new rounds ends ended given_old given_new same count put reached
+    goes_on taken more is =
+    wrote_whole old.design.now old.level (order_in old.runner) rounds s (taken ++ more) before
+    accepted new ends (simulates_as old s same) (reached goes_on taken more is) count put
+
+-- of a simulation, and of its design, level and order
+pub open_so : (flat : Flat) (level : Option Point) (order : Option ℕ) (s : Simulation)
+    (ended : Bool) (given_old given_new before accepted : List ℕ) (r : Result Ending SimFault)
+    → Simulates flat level order s
+    → WhateverFollows ended given_old given_new (λ bytes.
+    IfOk r (WritesWhole (flat_of s) s.level (order_in s.runner) bytes before accepted))
+    → WhateverFollows ended given_old given_new (λ bytes.
+    IfOk r (WritesWhole (design_of flat) level order bytes before accepted))
+open_so flat level order s ended given_old given_new before accepted r is wrote =
+    same_words (λ d l o. WhateverFollows ended given_old given_new (λ bytes.
+    IfOk r (WritesWhole d l o bytes before accepted))) flat level order s is wrote
+
 -- ---- what a run says of its text
 
 on_ok : (design : FlatDesign) (shown : Option Point) (order : Option ℕ)
@@ -240,6 +267,23 @@ module _ (design : FlatDesign) (level : Option (List ℕ)) (shown : Option Point
   pub run_touched : {Untouched : Type 0} → level_asked design level ≡ None → Untouched
   run_touched none =
       let no : Some shown ≡ None = sym asked ∙ none in absurd (cc)
+
+-- whatever follows, with what is shown in place of the level's name
+pub open_at : (design : FlatDesign) (level : Option (List ℕ)) (shown : Option Point)
+    (order : Option ℕ) (ended : Bool) (given_old given_new before accepted : List ℕ)
+    (r : Result Ending SimFault) → level_asked design level ≡ Some shown
+    → WhateverFollows ended given_old given_new (λ bytes.
+    IfOk r (WritesWhole design shown order bytes before accepted))
+    → WhateverFollows ended given_old given_new (λ bytes. IfOk r (λ ends. (printed : List ℕ)
+    × IsSimulated design level order bytes ends printed × (accepted ≡ before ++ printed)))
+open_at design level shown order ended given_old given_new before accepted r asked wrote goes_on
+    taken more is =
+    if_ok r (λ ends text. (
+      text.0,
+      subst (λ a. IsSimulatedAt design a order (taken ++ more) ends text.0) (sym asked) text.1,
+      text.2,
+    ))
+    (wrote goes_on taken more is)
 
 -- ---- a level that is no point
 

@@ -93,12 +93,18 @@ pub record StopsWith (tells : Bool) (given_old given_new left_old left_new befor
 
 -- ---- a whole run
 
+-- the whole text for these bytes, which end so, was accepted
+abbrev pub WritesWhole : FlatDesign → (shown : Option Point) → (order : Option ℕ) →
+    (bytes old new : List ℕ) → Ending → Type 0
+WritesWhole design shown order bytes old new ends =
+    (printed : List ℕ) × IsSimulatedAt design (Some shown) order bytes ends printed
+    × (new ≡ old ++ printed)
+
 -- With an ending the whole text for these bytes was accepted, with a fault a front of it.
 abbrev pub WritesBy : FlatDesign → (shown : Option Point) → (order : Option ℕ) →
     (bytes old new : List ℕ) → Result Ending SimFault → Type 0
 WritesBy design shown order bytes old new (Ok ends) =
-    (printed : List ℕ) × IsSimulatedAt design (Some shown) order bytes ends printed
-    × (new ≡ old ++ printed)
+    WritesWhole design shown order bytes old new ends
 WritesBy design shown order bytes old new (Err fault) =
     WritesFrontAt design (Some shown) order bytes old new
 

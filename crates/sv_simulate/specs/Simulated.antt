@@ -1,5 +1,5 @@
 -- What `sim` writes of a design for a stimulus, and how that ends (this project's profile).
-use Rattle.std.specs.Prelude.{◌≡◌, ℕ, ◌+◌, ◌≤◌, Bool, true, false, nat_le, if◌then◌else◌, List, []}
+use Rattle.std.specs.Prelude.{◌≡◌, ℕ, ◌+◌, ◌≤◌, Bool, nat_le, if◌then◌else◌, List, []}
 use Rattle.std.specs.Prelude.{◌++◌, length, take, map, codes, decimal, Option, Some, None}
 use Rattle.std.specs.Prelude.{option_map, position}
 use Rattle.std.specs.Option.{option_map_or}

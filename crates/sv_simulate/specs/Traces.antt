@@ -1,6 +1,6 @@
 -- The trace that a stimulus makes of a design, and its lines (this project's profile), whatever a
 -- signal goes by: a path in a source text, a number in a flat design.
-use Rattle.std.specs.Prelude.{◌≡◌, ℕ, ◌+◌, true, List, [], ◌∷◌, ◌++◌, map, filter, flat_map}
+use Rattle.std.specs.Prelude.{◌≡◌, ℕ, ◌+◌, List, [], ◌∷◌, ◌++◌, map, filter, flat_map}
 use Rattle.std.specs.Prelude.{codes, decimal, Option, Some, None}
 use Rattle.sv_system.specs.System.{System, Environment, IsTrace, view}
 use Rattle.sv_trace.specs.declared.forms.Register.{Register}

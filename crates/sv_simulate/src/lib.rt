@@ -2,12 +2,15 @@
 //!
 //! Takes an admitted design (`sv_design`), a source that gives the stimulus and a sink (`sv_io`).
 //! [`simulate`] takes the stimulus in pieces, reads it (`sv_trace`), runs its cycles (`sv_sim`, or
-//! `sv_event` where an order is asked for), and writes each cycle's line before it takes more.
+//! `sv_event` where an order is asked for), and writes the lines of a piece before it takes more:
+//! no clause says when, but that where the input fails all lines of the cycles until then are
+//! written (`prompt`).
 //!
-//! Promises that what is written is the trace of the stimulus, and then why it ends: by
-//! `specs/Simulated.antt` over a flat design, whose traces and lines stand in `Traces.antt` for
-//! every kind of signal name. `Runs.antt`, `Progress.antt`, `Fronts.antt` and `Runners.antt` are
-//! private, how the code goes, but for `fault_of_put` of `Runs.antt`: what a sink's fault becomes.
+//! Promises that what is written is the trace of the stimulus, and then why it ends, which is told
+//! at its end or holds whatever follows: by `specs/Simulated.antt` over a flat design, whose traces
+//! and lines stand in `Traces.antt` for every kind of signal name. `Runs.antt`, `Progress.antt`,
+//! `Fronts.antt` and `Runners.antt` are private, how the code goes, but for `fault_of_put` of
+//! `Runs.antt`: what a sink's fault becomes.
 #![tactic(auto)]
 
 mod endings;

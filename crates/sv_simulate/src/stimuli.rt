@@ -7,9 +7,10 @@ ghost use Rattle.sv_flat.specs.Views.{design_of};
 ghost use Rattle.sv_design.specs.Designs.{IsDesign};
 ghost use Rattle.sv_io.specs.Count.{Rose};
 ghost use Rattle.sv_io.specs.Sink.{WritesFront};
+ghost use Rattle.sv_io.specs.Source.{WhateverFollows};
 ghost use Rattle.sv_simulate.specs.Fronts.{WritesAllAt, Takes, IsUnderWay, PieceReads};
-ghost use Rattle.sv_simulate.specs.Fronts.{EndsWith, StopsWith, RunsTo};
-ghost use Rattle.sv_simulate.specs.Progress.{flat_of, IsSimulating, IsSameAs, HasCome};
+ghost use Rattle.sv_simulate.specs.Fronts.{EndsWith, StopsWith, RunsTo, WritesWhole};
+ghost use Rattle.sv_simulate.specs.Progress.{flat_of, IsSimulating, IsSameAs, HasCome, HasReached};
 ghost use Rattle.sv_simulate.specs.Runners.{order_in};
 ghost use Rattle.sv_simulate.specs.Simulated.{largest_stimulus, IsSimulated, level_asked};
 ghost use Rattle.sv_simulate.specs.Simulated.{WritesFrontFor, WritesAllCycles};
@@ -58,6 +59,11 @@ pub fn simulate<S: Source, K: Sink>(
         × IsSimulated (design_of design.now) (option_copied level.entry) order
         (S.left input.old) ending printed
         × (K.accepted out.new ≡ K.accepted out.old ++ printed)) }
+    // Unless the input has ended, it is that of whatever begins with the bytes that were taken.
+    ensures to_the_end { WhateverFollows (S.ended input.new) (S.given input.old) (S.given input.new)
+        (λ bytes. IfOk result (λ ending. (printed : List ℕ)
+        × IsSimulated (design_of design.now) (option_copied level.entry) order bytes ending printed
+        × (K.accepted out.new ≡ K.accepted out.old ++ printed))) }
     // No other ending is.
     ensures only { (taken printed : List ℕ) (other : Ending) →
         S.given input.new ≡ S.given input.old ++ taken →
@@ -131,6 +137,9 @@ fn simulate_at<S: Source, K: Sink>(
     ensures admitted { IsDesign (design_of design.now) }
     ensures runs { RunsTo (design_of design.now) shown order S.tells (S.given input.old)
         (S.given input.new) (S.left input.old) (K.accepted out.old) (K.accepted out.new) result }
+    ensures to_the_end { WhateverFollows (S.ended input.new) (S.given input.old) (S.given input.new)
+        (λ bytes. IfOk result (WritesWhole (design_of design.now) shown order bytes
+        (K.accepted out.old) (K.accepted out.new))) }
     ensures read_fault { IsErrOf result SimFault.Read →
         Rose (S.faults input.old) (S.faults input.new) }
     ensures write_fault { IsErrOf result SimFault.Write →
@@ -153,6 +162,9 @@ fn run_to_end<S: Source, K: Sink>(
     ensures runs { RunsTo (flat_of simulation.old) simulation.old.level
         (order_in simulation.old.runner) S.tells (S.given input.old) (S.given input.new)
         (S.left input.old) (K.accepted out.old) (K.accepted out.new) result }
+    ensures to_the_end { WhateverFollows (S.ended input.new) (S.given input.old) (S.given input.new)
+        (λ bytes. IfOk result (WritesWhole (flat_of simulation.old) simulation.old.level
+        (order_in simulation.old.runner) bytes (K.accepted out.old) (K.accepted out.new))) }
     ensures read_fault { IsErrOf result SimFault.Read →
         Rose (S.faults input.old) (S.faults input.new) }
     ensures write_fault { IsErrOf result SimFault.Write →
@@ -177,6 +189,9 @@ fn read_all<S: Source, K: Sink>(
     ensures ends { IfOk result (λ ending. EndsWith S.tells (S.given input.old) (S.given input.new)
         (S.left input.old) (S.left input.new) ending (K.accepted out.old) (K.accepted out.new)
         simulation.new) }
+    ensures to_the_end { WhateverFollows (S.ended input.new) (S.given input.old) (S.given input.new)
+        (λ bytes. IfOk result (λ ending. HasReached bytes ending (K.accepted out.old)
+        (K.accepted out.new) simulation.new)) }
     ensures stops { OnErr result (StopsWith S.tells (S.given input.old) (S.given input.new)
         (S.left input.old) (S.left input.new) (K.accepted out.old) (K.accepted out.new)
         simulation.old) }
@@ -211,6 +226,7 @@ fn take_piece<S: Source>(input: &mut S, buffer: &mut [u8], most: usize) -> Resul
     ensures taken { IfOk result (λ count. Takes S.tells (S.given input.old) (S.given input.new)
         (S.left input.old) (S.left input.new) (take count buffer.new)) }
     ensures end { IsTrue S.tells → IfOk result (λ count. count ≡ 0 → S.left input.new ≡ []) }
+    ensures ended { IfOk result (λ count. count ≡ 0 → IsTrue (S.ended input.new)) }
     ensures none { OnErr result (Takes S.tells (S.given input.old) (S.given input.new)
         (S.left input.old) (S.left input.new) []) }
     ensures failed { IfErr result (λ fault. fault ≡ SimFault.Read) }

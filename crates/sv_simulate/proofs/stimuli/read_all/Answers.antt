@@ -8,10 +8,10 @@ use Rattle.sv_simulate.specs.Simulated.{largest_stimulus}
 use Rattle.sv_simulate.proofs.CallFacts.{on_error}
 use Rattle.sv_simulate.proofs.Loops.{same_itself, same_twice, under_way, takes_none, takes_more}
 use Rattle.sv_simulate.proofs.Loops.{stops_taken, stops_piece, ends_piece, large_ends, all_taken}
-use Rattle.sv_simulate.proofs.Loops.{stops_with_same, all_same}
+use Rattle.sv_simulate.proofs.Loops.{stops_with_same, all_same, piece_open, large_open}
 use Rattle.sv_simulate.proofs.Pieces.{handed_on, full_no_read, full_no_write, read_no_write}
 use Rattle.sv_simulate.proofs.Pieces.{takes_no_more, piece_length, piece_fits, piece_few, piece_end}
-use Rattle.sv_simulate.proofs.Pieces.{takes_piece, way_fits}
+use Rattle.sv_simulate.proofs.Pieces.{takes_piece, way_fits, piece_shown}
 use Rattle.sv_simulate.proofs.StepFacts.{rose_then}
 use Rattle.sv_simulate.proofs.ValueFacts.{written}
 use Rattle.sv_simulate.proofs.stimuli.read_all.Goals as goal
@@ -23,6 +23,10 @@ returns-in_err-buffer-clause-same g c = same_itself c.args.simulation.now
 
 pub returns-in_err-buffer-clause-ends : goal.returns-in_err-buffer-clause-ends
 returns-in_err-buffer-clause-ends g c =
+    IfOk-from_err c.from_residual.result _ c.from_residual.ensures.0
+
+pub returns-in_err-buffer-clause-to_the_end : goal.returns-in_err-buffer-clause-to_the_end
+returns-in_err-buffer-clause-to_the_end g c goes_on taken more given =
     IfOk-from_err c.from_residual.result _ c.from_residual.ensures.0
 
 pub returns-in_err-buffer-clause-stops : goal.returns-in_err-buffer-clause-stops
@@ -83,6 +87,10 @@ returns-in_err-count-clause-same g c = c.pieces.invariant.same
 
 pub returns-in_err-count-clause-ends : goal.returns-in_err-count-clause-ends
 returns-in_err-count-clause-ends g c =
+    IfOk-from_err c.from_residual-in_err-count.result _ c.from_residual-in_err-count.ensures.0
+
+pub returns-in_err-count-clause-to_the_end : goal.returns-in_err-count-clause-to_the_end
+returns-in_err-count-clause-to_the_end g c goes_on taken more given =
     IfOk-from_err c.from_residual-in_err-count.result _ c.from_residual-in_err-count.ensures.0
 
 pub returns-in_err-count-clause-stops : goal.returns-in_err-count-clause-stops
@@ -199,6 +207,10 @@ pub returns-in_err-ending-clause-ends : goal.returns-in_err-ending-clause-ends
 returns-in_err-ending-clause-ends g c =
     IfOk-from_err c.from_residual-in_err-ending.result _ c.from_residual-in_err-ending.ensures.0
 
+pub returns-in_err-ending-clause-to_the_end : goal.returns-in_err-ending-clause-to_the_end
+returns-in_err-ending-clause-to_the_end g c goes_on taken more given =
+    IfOk-from_err c.from_residual-in_err-ending.result _ c.from_residual-in_err-ending.ensures.0
+
 pub returns-in_err-ending-clause-stops : goal.returns-in_err-ending-clause-stops
 returns-in_err-ending-clause-stops g c =
     let tells = g.S.Source.tells in
@@ -302,6 +314,44 @@ returns-in-Some-clause-ends g c =
     c.in_ok-count.ensures.end)
     fits c.in-Some.ending reached
 
+pub returns-in-Some-clause-to_the_end : goal.returns-in-Some-clause-to_the_end
+returns-in-Some-clause-to_the_end g c =
+    let tells = g.S.Source.tells in
+    let given = g.S.Source.given in
+    let left = g.S.Source.left in
+    let before = g.K.Sink.accepted c.args.out.now in
+    let count = c.in_ok-count.count in
+    let buffer = c.take_piece.new.buffer in
+    let now = c.deref.result.now in
+    let value : c.deref.result.now ≡ c.take_piece.new.buffer =
+    c.deref.ensures.value
+    ∙ written c.pieces.buffer.len c.take_piece.new.buffer
+    c.pieces.buffer.items (c.take_piece.auto.buffer ∙ c.deref_mut.ensures.len) in
+    let within = c.in_ok-count.ensures.within in
+    let rest = c.pieces.left - count in
+    let way = c.pieces.invariant.way in
+    let fits = piece_fits count c.pieces.left buffer now value within in
+    let more = takes_piece tells (given c.pieces.input) (given c.take_piece.new.input)
+    (left c.pieces.input) (left c.take_piece.new.input) count buffer now value
+    c.in_ok-count.ensures.taken in
+    let all = takes_more tells (given c.args.input.now) (given c.pieces.input)
+    (given c.take_piece.new.input) (left c.args.input.now) (left c.pieces.input)
+    (left c.take_piece.new.input) way.0 (take count now) way.1 more in
+    let reads = c.in_ok-ending.ensures.reads way.0 before
+    (way_fits way.0 before (g.K.Sink.accepted c.pieces.out) c.pieces.left _ c.pieces.simulation
+    fits way.2) in
+    let reached = subst
+    (λ (found : Option Ending). PieceReads way.0 (take count now) rest before
+    (g.K.Sink.accepted c.read_piece.new.out) (Ok found) c.pieces.simulation
+    c.read_piece.new.simulation)
+    c.in-Some.is reads in
+    piece_open (given c.args.input.now) (given c.take_piece.new.input) way.0 (take count now) rest
+    before (g.K.Sink.accepted c.read_piece.new.out) (g.S.Source.ended c.take_piece.new.input)
+    c.in-Some.ending c.pieces.simulation c.read_piece.new.simulation all.given
+    (piece_shown (g.S.Source.ended c.take_piece.new.input) count c.pieces.left buffer now value
+    within c.in_ok-count.ensures.ended)
+    reached
+
 pub returns-in-Some-clause-prompt : goal.returns-in-Some-clause-prompt
 returns-in-Some-clause-prompt g c = λ read. absurd (cc)
 
@@ -396,6 +446,14 @@ returns-clause-ends g c =
     (g.S.Source.given c.pieces.input) (g.S.Source.left c.args.input.now)
     (g.S.Source.left c.pieces.input) way.0 c.pieces.left (g.K.Sink.accepted c.args.out.now)
     (g.K.Sink.accepted c.pieces.out) c.pieces.simulation way.1 way.2
+    (omega (arith, c.pieces-test.false))
+
+pub returns-clause-to_the_end : goal.returns-clause-to_the_end
+returns-clause-to_the_end g c =
+    let way = c.pieces.invariant.way in
+    large_open (g.S.Source.given c.args.input.now) (g.S.Source.given c.pieces.input) way.0
+    c.pieces.left (g.K.Sink.accepted c.args.out.now) (g.K.Sink.accepted c.pieces.out)
+    (g.S.Source.ended c.pieces.input) c.pieces.simulation way.1.given way.2
     (omega (arith, c.pieces-test.false))
 
 pub returns-clause-prompt : goal.returns-clause-prompt

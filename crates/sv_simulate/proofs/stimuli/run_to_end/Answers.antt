@@ -1,4 +1,5 @@
-use Rattle.sv_simulate.proofs.WholeRuns.{stops_run, front_run, whole_run}
+use Rattle.std.proofs.lemmas.Result.{IfOk-from_err}
+use Rattle.sv_simulate.proofs.WholeRuns.{stops_run, front_run, whole_run, open_run}
 use Rattle.sv_simulate.proofs.stimuli.run_to_end.Goals as goal
 
 pub returns-in_err-ending-clause-runs : goal.returns-in_err-ending-clause-runs
@@ -29,3 +30,24 @@ returns-clause-runs g c =
     (g.K.Sink.accepted c.put_last_line.new.out) c.rounds.result c.in_ok-ending.ending
     c.read_all.ensures.same c.in_ok-ending.ensures.ends c.rounds.ensures
     c.in_ok-put_last_line.ensures.whole
+
+-- ---- whatever follows
+
+pub returns-in_err-ending-clause-to_the_end : goal.returns-in_err-ending-clause-to_the_end
+returns-in_err-ending-clause-to_the_end g c goes_on taken more given =
+    IfOk-from_err c.from_residual.result _ c.from_residual.ensures.0
+
+pub returns-in_err-put_last_line-clause-to_the_end :
+    goal.returns-in_err-put_last_line-clause-to_the_end
+returns-in_err-put_last_line-clause-to_the_end g c goes_on taken more given =
+    IfOk-from_err c.from_residual-in_err-put_last_line.result _
+    c.from_residual-in_err-put_last_line.ensures.0
+
+pub returns-clause-to_the_end : goal.returns-clause-to_the_end
+returns-clause-to_the_end g c =
+    open_run c.args.simulation.now c.read_all.new.simulation (g.K.Sink.accepted c.args.out.now)
+    (g.K.Sink.accepted c.read_all.new.out) (g.K.Sink.accepted c.put_last_line.new.out)
+    c.rounds.result c.in_ok-ending.ending (g.S.Source.ended c.read_all.new.input)
+    (g.S.Source.given c.args.input.now) (g.S.Source.given c.read_all.new.input)
+    c.read_all.ensures.same c.rounds.ensures c.in_ok-put_last_line.ensures.whole
+    c.in_ok-ending.ensures.to_the_end

@@ -1,10 +1,10 @@
-use Rattle.std.proofs.Common.{refl, sym}
+use Rattle.std.proofs.Common.{refl, sym, ◌++◌}
 use Rattle.std.specs.Option.{option_copied}
 use Rattle.sv_flat.specs.Views.{design_of}
 use Rattle.sv_simulate.proofs.WholeRuns.{run_answer, run_told, run_only, run_front}
 use Rattle.sv_simulate.proofs.WholeRuns.{run_told_front, run_prompt, run_most, run_touched}
 use Rattle.sv_simulate.proofs.WholeRuns.{refused_answer, refused_told, refused_alone}
-use Rattle.sv_simulate.proofs.WholeRuns.{refused_stops, refused_left, none_taken}
+use Rattle.sv_simulate.proofs.WholeRuns.{refused_stops, refused_left, none_taken, open_at}
 use Rattle.sv_simulate.proofs.stimuli.simulate.Goals as goal
 
 pub returns-in-Some-clause-answer : goal.returns-in-Some-clause-answer
@@ -24,6 +24,14 @@ returns-in-Some-clause-told g c =
     (g.K.Sink.accepted c.args.out.now) (g.K.Sink.accepted c.simulate_at.new.out)
     c.simulate_at.result c.simulate_at.ensures.admitted (sym c.in-Some.ensures.asked)
     c.simulate_at.ensures.runs
+
+pub returns-in-Some-clause-to_the_end : goal.returns-in-Some-clause-to_the_end
+returns-in-Some-clause-to_the_end g c =
+    open_at (design_of c.args.design.now) (option_copied c.args.level) c.in-Some.shown
+    c.args.order (g.S.Source.ended c.simulate_at.new.input) (g.S.Source.given c.args.input.now)
+    (g.S.Source.given c.simulate_at.new.input) (g.K.Sink.accepted c.args.out.now)
+    (g.K.Sink.accepted c.simulate_at.new.out) c.simulate_at.result (sym c.in-Some.ensures.asked)
+    c.simulate_at.ensures.to_the_end
 
 pub returns-in-Some-clause-only : goal.returns-in-Some-clause-only
 returns-in-Some-clause-only g c =
@@ -98,6 +106,14 @@ returns-in-None-clause-told g c =
     (g.S.Source.given c.args.input.now) (g.K.Sink.accepted c.args.out.now)
     (g.K.Sink.accepted c.refuse_level.new.out) c.refuse_level.result (sym c.in-None.ensures.asked)
     c.refuse_level.ensures.whole (g.S.Source.left c.args.input.now)
+
+pub returns-in-None-clause-to_the_end : goal.returns-in-None-clause-to_the_end
+returns-in-None-clause-to_the_end g c =
+    λ goes_on taken more given.
+    refused_told (design_of c.args.design.now) (option_copied c.args.level) c.args.order
+    (g.S.Source.given c.args.input.now) (g.K.Sink.accepted c.args.out.now)
+    (g.K.Sink.accepted c.refuse_level.new.out) c.refuse_level.result (sym c.in-None.ensures.asked)
+    c.refuse_level.ensures.whole (taken ++ more)
 
 pub returns-in-None-clause-only : goal.returns-in-None-clause-only
 returns-in-None-clause-only g c =

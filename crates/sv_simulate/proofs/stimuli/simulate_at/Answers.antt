@@ -1,4 +1,5 @@
-use Rattle.sv_simulate.proofs.WholeRuns.{none_run, not_read, not_written, run_so}
+use Rattle.std.proofs.lemmas.Result.{IfOk-from_err}
+use Rattle.sv_simulate.proofs.WholeRuns.{none_run, not_read, not_written, run_so, open_so}
 use Rattle.sv_simulate.proofs.stimuli.simulate_at.Goals as goal
 
 pub returns-in_err-simulation-clause-runs : goal.returns-in_err-simulation-clause-runs
@@ -38,3 +39,22 @@ returns-clause-runs g c =
       is_order = c.in_ok-simulation.ensures.order;
     }
     c.run_to_end.ensures.runs
+
+-- ---- whatever follows
+
+pub returns-in_err-simulation-clause-to_the_end : goal.returns-in_err-simulation-clause-to_the_end
+returns-in_err-simulation-clause-to_the_end g c goes_on taken more given =
+    IfOk-from_err c.from_residual.result _ c.from_residual.ensures.0
+
+pub returns-clause-to_the_end : goal.returns-clause-to_the_end
+returns-clause-to_the_end g c =
+    open_so c.args.design.now c.args.shown c.args.order c.in_ok-simulation.simulation
+    (g.S.Source.ended c.run_to_end.new.input) (g.S.Source.given c.args.input.now)
+    (g.S.Source.given c.run_to_end.new.input) (g.K.Sink.accepted c.args.out.now)
+    (g.K.Sink.accepted c.run_to_end.new.out) c.run_to_end.result
+    record {
+      is_design = c.in_ok-simulation.ensures.design;
+      is_level = c.in_ok-simulation.ensures.level;
+      is_order = c.in_ok-simulation.ensures.order;
+    }
+    c.run_to_end.ensures.to_the_end

@@ -4,6 +4,7 @@ use Rattle.std.proofs.Common.{sym, ◌∙◌, ap, subst, arith, inl, inr, ◌⊎
 use Rattle.std.specs.Prelude.{Bool, IsTrue, IfSome, IfNone, IsSome}
 use Rattle.std.proofs.lemmas.List.{append-nil, append_cancel_left}
 use Rattle.sv_io.specs.Sink.{WritesFront}
+use Rattle.sv_io.specs.Source.{WhateverFollows}
 use Rattle.sv_flat.specs.Design.{FlatDesign}
 use Rattle.sv_lattice.specs.declared.points.Point.{Point}
 use Rattle.sv_simulate.specs.declared.endings.Ending.{Ending}
@@ -48,6 +49,13 @@ module _ (Is : Answer → Type 0) (g text left old new : List ℕ) (tells : Bool
     front = tt;
     whole_front = λ told. tt;
   }
+
+-- whatever the stimulus
+pub sent_whatever : (Is : Answer → Type 0) (text old new : List ℕ) (o : Option Answer)
+    → IfSome o Is → IfSome o (λ a. new ≡ old ++ text)
+    → IfSome o (λ a. (printed : List ℕ) × (Is a × (printed ≡ text)) × (new ≡ old ++ printed))
+sent_whatever Is text old new None given all = tt
+sent_whatever Is text old new (Some a) given all = (text, (given, refl), all)
 
 pub one_given : (given : Option Answer) (b c : Answer) → given ≡ Some b → given ≡ Some c → b ≡ c
 one_given given b c first second = cc
@@ -103,3 +111,19 @@ module _ (design : FlatDesign) (level : Option (List ℕ)) (order : Option ℕ)
     whole_front = λ told.
         let w = whole told in (answer_by w.ends, w.printed, (w.ends, refl, w.is), w.front);
   }
+
+-- whatever follows the bytes that were taken
+pub ended_whatever : (design : FlatDesign) (level : Option (List ℕ)) (order : Option ℕ)
+    (is_ended : Bool) (given_old given_new old new : List ℕ) (o : Option Answer) (ends : Ending)
+    → o ≡ Some (answer_by ends)
+    → WhateverFollows is_ended given_old given_new (λ stimulus. (printed : List ℕ)
+    × IsSimulated design level order stimulus ends printed × (new ≡ old ++ printed))
+    → WhateverFollows is_ended given_old given_new (λ stimulus. IfSome o (λ a.
+    (printed : List ℕ) × EndsAs design level order stimulus a printed
+    × (new ≡ old ++ printed)))
+ended_whatever design level order is_ended given_old given_new old new o ends is whole goes_on taken
+    more given =
+    let text = whole goes_on taken more given in
+    subst (λ (answer : Option Answer). IfSome answer (λ a. (printed : List ℕ)
+    × EndsAs design level order (taken ++ more) a printed × (new ≡ old ++ printed))) (sym is)
+    (text.0, (ends, refl, text.1), text.2)

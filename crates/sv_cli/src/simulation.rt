@@ -1,8 +1,10 @@
 // What `sim` comes to.
-ghost use Rattle.std.specs.Prelude.{◌≡◌, ℕ, ◌++◌, ◌≤◌, ◌+◌, ◌⊎◌, List, Some, IsSome, length};
+ghost use Rattle.std.specs.Prelude.{◌≡◌, ℕ, ◌++◌, ◌≤◌, ◌+◌, ◌⊎◌, List, Some, IsSome, IfSome};
+ghost use Rattle.std.specs.Prelude.{length};
 ghost use Rattle.std.specs.Option.{option_copied};
 ghost use Rattle.sv_flat.specs.Views.{design_of};
 ghost use Rattle.sv_io.specs.Count.{Rose};
+ghost use Rattle.sv_io.specs.Source.{WhateverFollows};
 ghost use Rattle.sv_simulate.specs.Simulated.{largest_stimulus, level_asked, WritesAllCycles};
 ghost use Rattle.sv_cli.specs.Answer.{answer_of, answer_by};
 ghost use Rattle.sv_cli.specs.Prepared.{EndsAs, Performs};
@@ -25,6 +27,10 @@ pub fn simulation<S: Source, K: Sink>(
     ensures performed { Performs (EndsAs (design_of design.now) (option_copied level.entry) order)
         (λ stimulus. S.given input.new ≡ S.given input.old ++ stimulus) S.tells (S.left input.old)
         (K.accepted out.old) (K.accepted out.new) (answer_of result) }
+    ensures to_the_end { WhateverFollows (S.ended input.new) (S.given input.old) (S.given input.new)
+        (λ stimulus. IfSome (answer_of result) (λ a. (printed : List ℕ)
+        × EndsAs (design_of design.now) (option_copied level.entry) order stimulus a printed
+        × (K.accepted out.new ≡ K.accepted out.old ++ printed))) }
     ensures read_fault { result ≡ Outcome.ReadFault →
         (stimulus : List ℕ)
         × (S.given input.new ≡ S.given input.old ++ stimulus)

@@ -7,6 +7,7 @@ ghost use Rattle.sv_io.specs.Cabinet.{bytes_under, IfLong};
 ghost use Rattle.sv_io.specs.Count.{Rose};
 ghost use Rattle.sv_io.specs.Exchange.{Fetched, nothing, fetched, fetched_of, whole};
 ghost use Rattle.sv_io.specs.Sink.{WritesFront};
+ghost use Rattle.sv_io.specs.Source.{WhateverFollows};
 ghost use Rattle.sv_obl.specs.Limits.{excess};
 ghost use Rattle.sv_obl.specs.ListLines.{list_text};
 ghost use Rattle.sv_simulate.specs.Simulated.{largest_stimulus, level_asked, WritesAllCycles};
@@ -84,6 +85,12 @@ pub fn run<C: Cabinet, S: Source, K: Sink>(
         × Reads (words_of words.now) text (C.exchanges cabinet.old) (C.exchanges cabinet.new)
         × IsAnswer (words_of words.now) text (S.left input.old) a printed
         × (K.accepted out.new ≡ K.accepted out.old ++ printed)) }
+    // Unless the input has ended, it is that of whatever begins with the bytes that were taken.
+    ensures to_the_end { WhateverFollows (S.ended input.new) (S.given input.old) (S.given input.new)
+        (λ stimulus. IfSome (answer_of result) (λ a. (text printed : List ℕ)
+        × Reads (words_of words.now) text (C.exchanges cabinet.old) (C.exchanges cabinet.new)
+        × IsAnswer (words_of words.now) text stimulus a printed
+        × (K.accepted out.new ≡ K.accepted out.old ++ printed))) }
     // No other answer is that of the words, the text and the stimulus, but that of another circle
     // of rule 607.
     ensures only { (text stimulus : List ℕ) (a : Answer) (printed : List ℕ) →
@@ -280,6 +287,10 @@ fn perform<S: Source, K: Sink>(
     ensures performed { Performs (IsPerformed prepared)
         (λ stimulus. S.given input.new ≡ S.given input.old ++ stimulus) S.tells (S.left input.old)
         (K.accepted out.old) (K.accepted out.new) (answer_of result) }
+    ensures to_the_end { WhateverFollows (S.ended input.new) (S.given input.old) (S.given input.new)
+        (λ stimulus. IfSome (answer_of result) (λ a. (printed : List ℕ)
+        × IsPerformed prepared stimulus a printed
+        × (K.accepted out.new ≡ K.accepted out.old ++ printed))) }
     ensures read_fault { result ≡ Outcome.ReadFault →
         (stimulus : List ℕ)
         × (S.given input.new ≡ S.given input.old ++ stimulus)

@@ -3,7 +3,7 @@ use Rattle.std.specs.Prelude.{Err}
 use Rattle.std.specs.Option.{option_copied}
 use Rattle.sv_flat.specs.Views.{design_of}
 use Rattle.sv_cli.specs.Answer.{answer_of}
-use Rattle.sv_cli.proofs.Sending.{ended, stopped}
+use Rattle.sv_cli.proofs.Sending.{ended, stopped, ended_whatever}
 use Rattle.sv_cli.proofs.simulation.simulation.Goals as goal
 
 pub returns-in-Ok-clause-performed : goal.returns-in-Ok-clause-performed
@@ -53,3 +53,13 @@ returns-in-Err-Read-clause-read_fault g c fault =
 pub returns-in-Err-Write-clause-write_fault : goal.returns-in-Err-Write-clause-write_fault
 returns-in-Err-Write-clause-write_fault g c fault =
     c.simulate.ensures.write_fault (c.in-Err-Write.is ∙ ap Err c.in-Err-Write.field-0-is)
+
+-- ---- whatever follows
+
+pub returns-in-Ok-clause-to_the_end : goal.returns-in-Ok-clause-to_the_end
+returns-in-Ok-clause-to_the_end g c =
+    ended_whatever (design_of c.args.design.now) (option_copied c.args.level) c.args.order
+    (g.S.Source.ended c.simulate.new.input) (g.S.Source.given c.args.input.now)
+    (g.S.Source.given c.simulate.new.input) (g.K.Sink.accepted c.args.out.now)
+    (g.K.Sink.accepted c.simulate.new.out) (answer_of c.outcome_of.result) c.in-Ok.ending
+    c.outcome_of.ensures c.in-Ok.ensures.to_the_end

@@ -1,13 +1,15 @@
 use Rattle.std.proofs.Common.{◌≡◌, ℕ, List, ◌++◌, Some, ◌⊎◌, refl, sym, subst}
-use Rattle.std.specs.Prelude.{IsSome, Option, option_map, string_bytes}
+use Rattle.std.specs.Prelude.{IfSome, IsSome, Option, option_map, string_bytes}
 use Rattle.std.specs.Option.{option_copied}
 use Rattle.sv_flat.specs.Views.{design_of}
+use Rattle.sv_io.specs.Source.{WhateverFollows}
 use Rattle.sv_obl.specs.ListLines.{list_text}
 use Rattle.sv_simulate.specs.Simulated.{level_asked, WritesAllCycles}
 use Rattle.sv_cli.specs.declared.prepared.Prepared.{Prepared}
 use Rattle.sv_cli.specs.Answer.{Answer, answer_of, done}
 use Rattle.sv_cli.specs.Prepared.{IsReady, EndsAs, IsPerformed, Performs, IsSimulationWith}
 use Rattle.sv_cli.proofs.Sending.{few_taken, sent, one_given, one_equal, some_given}
+use Rattle.sv_cli.proofs.Sending.{sent_whatever}
 use Rattle.sv_cli.proofs.top.perform.Goals as goal
 
 pub returns-in-Whole-clause-performed : goal.returns-in-Whole-clause-performed
@@ -82,3 +84,45 @@ returns-in-Simulation-clause-input_unchanged g c =
     (subst (λ (l : Option (List ℕ)). (c.simulation.new.input ≡ c.args.input.now)
     ⊎ IsSome (level_asked (design_of c.in-Simulation.design) l)) c.as_deref.ensures.value
     c.simulation.ensures.untouched)
+
+-- ---- whatever follows
+
+pub returns-in-Whole-clause-to_the_end : goal.returns-in-Whole-clause-to_the_end
+returns-in-Whole-clause-to_the_end g c =
+    let report = c.in-Whole.report in
+    let given = g.S.Source.given c.args.input.now in
+    let old = g.K.Sink.accepted c.args.out.now in
+    let new = g.K.Sink.accepted c.send.new.out in
+    subst (λ (p : Prepared). WhateverFollows (g.S.Source.ended c.args.input.now) given given
+    (λ stimulus. IfSome (answer_of c.send.result) (λ a. (printed : List ℕ)
+    × IsPerformed p stimulus a printed × (new ≡ old ++ printed)))) (sym c.in-Whole.is)
+    (λ goes_on taken more same.
+    sent_whatever (λ (a : Answer). answer_of report.outcome ≡ Some a) report.text.items old new
+    (answer_of c.send.result) c.send.ensures.answered c.send.ensures.whole)
+
+pub returns-in-Lines-clause-to_the_end : goal.returns-in-Lines-clause-to_the_end
+returns-in-Lines-clause-to_the_end g c =
+    let given = g.S.Source.given c.args.input.now in
+    let old = g.K.Sink.accepted c.args.out.now in
+    let new = g.K.Sink.accepted c.send_lines.new.out in
+    subst (λ (p : Prepared). WhateverFollows (g.S.Source.ended c.args.input.now) given given
+    (λ stimulus. IfSome (answer_of c.send_lines.result) (λ a. (printed : List ℕ)
+    × IsPerformed p stimulus a printed × (new ≡ old ++ printed)))) (sym c.in-Lines.is)
+    (λ goes_on taken more same.
+    sent_whatever (λ (a : Answer). a ≡ done) (list_text (design_of c.in-Lines.design)) old new
+    (answer_of c.send_lines.result) c.send_lines.ensures.answered c.send_lines.ensures.whole)
+
+pub returns-in-Simulation-clause-to_the_end : goal.returns-in-Simulation-clause-to_the_end
+returns-in-Simulation-clause-to_the_end g c =
+    let ended = g.S.Source.ended c.simulation.new.input in
+    let given_old = g.S.Source.given c.args.input.now in
+    let given_new = g.S.Source.given c.simulation.new.input in
+    let old = g.K.Sink.accepted c.args.out.now in
+    let new = g.K.Sink.accepted c.simulation.new.out in
+    subst (λ (p : Prepared). WhateverFollows ended given_old given_new (λ stimulus.
+    IfSome (answer_of c.simulation.result) (λ a. (printed : List ℕ)
+    × IsPerformed p stimulus a printed × (new ≡ old ++ printed)))) (sym c.in-Simulation.is)
+    (subst (λ (l : Option (List ℕ)). WhateverFollows ended given_old given_new (λ stimulus.
+    IfSome (answer_of c.simulation.result) (λ a. (printed : List ℕ)
+    × EndsAs (design_of c.in-Simulation.design) l c.in-Simulation.order stimulus a printed
+    × (new ≡ old ++ printed)))) c.as_deref.ensures.value c.simulation.ensures.to_the_end)

@@ -199,3 +199,14 @@ returns-in-Err-Unread-clause-most g c = few_taken (g.S.Source.given c.args.input
 
 pub returns-in-Err-OutOfMemory-clause-most : goal.returns-in-Err-OutOfMemory-clause-most
 returns-in-Err-OutOfMemory-clause-most g c = few_taken (g.S.Source.given c.args.input.now)
+
+-- ---- whatever follows
+
+pub returns-in-Ok-clause-to_the_end : goal.returns-in-Ok-clause-to_the_end
+returns-in-Ok-clause-to_the_end g c goes_on taken more given =
+    whole_told (words_of c.args.words.now) (g.C.Cabinet.exchanges c.args.cabinet.now)
+    (g.C.Cabinet.exchanges c.prepare.new.cabinet)
+    c.in-Ok.prepared c.in-Ok.ensures.prepared (answer_of c.perform.result) (taken ++ more)
+    (λ (p : List ℕ).
+    g.K.Sink.accepted c.perform.new.out ≡ g.K.Sink.accepted c.args.out.now ++ p)
+    (c.perform.ensures.to_the_end goes_on taken more given)

@@ -76,12 +76,13 @@ module _ (s : Simulation) (taken : List (List ℕ)) (before accepted : List ℕ)
       → PutsFront accepted (s.waiting.items ++ line) now new.waiting.items
       → new ≡ record s {
         runner = new.runner;
-        cycle = s.cycle + 1;
+        cycle = new.cycle;
         values = new.values;
         waiting = new.waiting;
       }
+      → new.cycle ≡ s.cycle + 1
       → HasRunCycles (taken ++ values ∷ []) before now new
-  cycle_more line new now runs leaves put is =
+  cycle_more line new now runs leaves put is next =
       let been = ran.run runs.started in
       let r : Runner = new.runner in
       subst (HasRunCycles (taken ++ values ∷ []) before now) (sym is) (record {
@@ -101,7 +102,7 @@ module _ (s : Simulation) (taken : List (List ℕ)) (before accepted : List ℕ)
               (rounds_in r) s.cycle number_is been.in_order leaves.counted leaves.ticked);
         };
         none = λ unstarted. absurd (false≢true (sym unstarted ∙ runs.started));
-        cycle = ap (λ n. n + 1) ran.cycle ∙ sym (length-append taken (values ∷ []));
+        cycle = next ∙ ap (λ n. n + 1) ran.cycle ∙ sym (length-append taken (values ∷ []));
         few = subst (λ n. IfSome (rounds_in r) (λ rounds. rounds ≤ n * 4294967295))
             (ap (λ n. n + 1) ran.cycle ∙ sym (length-append taken (values ∷ [])))
             (few_more (flat_of s) (order_in s.runner) (rounds_in s.runner) (rounds_in r) s.cycle

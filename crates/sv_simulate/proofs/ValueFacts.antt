@@ -1,20 +1,12 @@
 -- Values of listed signals, one after the other.
 use Rattle.std.proofs.Common.{◌≡◌, ℕ, ◌+◌, ◌<◌, List, length, map, get_or, sym, ap, subst, ◌∙◌}
-use Rattle.std.proofs.Common.{◌++◌, take, drop}
 use Rattle.std.proofs.Common.{below_more, arith, get_or-set_other, get_or-set_same, ◌≢◌}
 use Rattle.std.specs.Prelude.{slice_set, Contains}
 use Rattle.std.proofs.lemmas.List.{length-map, get_or-map, ext_get_or}
-use Rattle.std.proofs.Math.Seq.{take-append_seam}
 use Rattle.std.proofs.lemmas.List.Elements.{Contains-get_or}
 use Rattle.sv_flat.specs.declared.signals.SigId.{SigId}
 use Rattle.sv_design.specs.Numbers.{numbers}
-
--- the number at a place of a list of signals is that of the signal there
-number_there : (ss : List SigId) (ns : List ℕ) → numbers ss ≡ ns → (k : ℕ) → k < length ss
-    → get_or ns k 0 ≡ (get_or ss k (record { 0 = 0 })).0
-number_there ss ns is k inside =
-    ap (λ ms. get_or ms k 0) (sym is)
-    ∙ get_or-map (λ (s : SigId). s.0) ss k (record { 0 = 0 }) 0 inside
+use Rattle.sv_sim.proofs.Simulated.{number_at}
 
 pub count_is : (ss : List SigId) (ns : List ℕ) → numbers ss ≡ ns → length ss ≡ length ns
 count_is ss ns is = sym (length-map ss (λ (s : SigId). s.0)) ∙ ap length is
@@ -22,7 +14,7 @@ count_is ss ns is = sym (length-map ss (λ (s : SigId). s.0)) ∙ ap length is
 pub is_among : (ss : List SigId) (ns : List ℕ) → numbers ss ≡ ns → (k : ℕ) → k < length ss
     → Contains ns (get_or ss k (record { 0 = 0 })).0
 is_among ss ns is k inside =
-    subst (Contains ns) (number_there ss ns is k inside)
+    subst (Contains ns) (number_at ss ns is k inside)
     (Contains-get_or ns k 0 (subst (λ n. k < n) (count_is ss ns is) inside))
 
 -- one more value
@@ -35,7 +27,7 @@ value_more ss ns f values k v is inside count value before =
     below_more _ _
     (λ j below. let other : j ≢ k = omega arith in rw get_or-set_other (before j below))
     (let lt : k < length values = omega (arith, count_is ss ns is) in
-    let now : v ≡ f (get_or ns k 0) = value ∙ ap f (sym (number_there ss ns is k inside)) in
+    let now : v ≡ f (get_or ns k 0) = value ∙ ap f (sym (number_at ss ns is k inside)) in
     rw get_or-set_same now)
 
 pub values_are : (ns xs : List ℕ) (f : ℕ → ℕ) → length xs ≡ length ns
@@ -46,10 +38,3 @@ values_are ns xs f count each =
     (λ j inside.
     let lt : j < length ns = omega (arith, count) in
     each j lt ∙ sym (get_or-map f ns j 0 0 lt))
-
--- values that are written whole are what was written
-pub written : (len : ℕ) (new old : List ℕ) → length new ≡ len →
-    take len (new ++ drop (length new) old) ≡ new
-written len new old is =
-    subst (λ n. take n (new ++ drop (length new) old) ≡ new) is
-    (take-append_seam new (drop (length new) old))

@@ -1,5 +1,5 @@
 // What runs the cycles of a design.
-ghost use Rattle.std.specs.Prelude.{◌≡◌, ◌+◌, ◌<◌, ◌≤◌, ◌^◌, ℕ, IfOk, IfSome, OnOk};
+ghost use Rattle.std.specs.Prelude.{◌≡◌, ◌+◌, ◌%◌, ◌<◌, ◌≤◌, ◌^◌, ℕ, IfOk, IfSome, OnOk};
 ghost use Rattle.std.specs.Prelude.{Contains, map, length, reverse, vec_len};
 ghost use Rattle.std.specs.List.{range_with_len};
 ghost use Rattle.sv_design.specs.Designs.{IsDesign};
@@ -192,8 +192,8 @@ impl<'a> Drawn<'a> {
         ensures design { self.new.event.design ≡ self.old.event.design }
     {
         self.event.set_inputs(inputs);
-        let count = self.event.rounds(self.number.wrapping_add(cycle));
-        self.rounds += u64::from(count);
+        let count = self.event.rounds(order_of_cycle(self.number, cycle));
+        self.rounds = with_rounds(self.rounds, count);
     }
 
     // Runs the clocked processes by a cycle's order.
@@ -216,6 +216,21 @@ impl<'a> Drawn<'a> {
             self.event.tick(self.descending.as_slice());
         }
     }
+}
+
+// The number that the orders of a cycle are drawn from.
+fn order_of_cycle(number: u64, cycle: u64) -> u64
+    ensures { result ≡ (number + cycle) % 2 ^ 64 }
+{
+    number.wrapping_add(cycle)
+}
+
+// The rounds so far and those of one more cycle.
+fn with_rounds(rounds: u64, count: u32) -> u64
+    requires { rounds + 2 ^ 32 ≤ 2 ^ 64 }
+    ensures { result ≡ rounds + count }
+{
+    rounds + u64::from(count)
 }
 
 // The numbers below a count, in ascending order.

@@ -235,9 +235,17 @@ impl<'a> Simulation<'a> {
         take_values(self.design, &self.runner, &mut self.values);
         let line = trace_line(alloc, self.design, self.cycle, &self.values, self.level)?;
         self.runner.tick(self.cycle);
-        self.cycle += 1;
+        self.cycle = cycle_after(self.cycle);
         put_line(out, &mut self.waiting, line.as_slice())
     }
+}
+
+// The number of the cycle after one.
+fn cycle_after(cycle: u64) -> u64
+    requires { cycle + 1 < 2 ^ 64 }
+    ensures { result ≡ cycle + 1 }
+{
+    cycle + 1
 }
 
 // The values of all signals but clocks, in order.

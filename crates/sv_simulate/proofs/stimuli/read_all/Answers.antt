@@ -2,6 +2,7 @@ use Rattle.std.proofs.Common.{◌≡◌, ◌+◌, ◌-◌, [], ◌++◌, length,
 use Rattle.std.proofs.Common.{ap, ◌∙◌, arith, rules, subst, Option}
 use Rattle.std.specs.Prelude.{Ok, Err}
 use Rattle.std.proofs.lemmas.Result.{IfOk-from_err}
+use Rattle.sv_sim.proofs.Simulated.{written}
 use Rattle.sv_simulate.specs.declared.endings.Ending.{Ending}
 use Rattle.sv_simulate.specs.Fronts.{PieceReads}
 use Rattle.sv_simulate.specs.Simulated.{largest_stimulus}
@@ -13,7 +14,6 @@ use Rattle.sv_simulate.proofs.Pieces.{handed_on, full_no_read, full_no_write, re
 use Rattle.sv_simulate.proofs.Pieces.{takes_no_more, piece_length, piece_fits, piece_few, piece_end}
 use Rattle.sv_simulate.proofs.Pieces.{takes_piece, way_fits, piece_shown}
 use Rattle.sv_simulate.proofs.StepFacts.{rose_then}
-use Rattle.sv_simulate.proofs.ValueFacts.{written}
 use Rattle.sv_simulate.proofs.stimuli.read_all.Goals as goal
 
 -- ---- no buffer

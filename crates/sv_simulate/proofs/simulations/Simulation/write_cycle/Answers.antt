@@ -1,18 +1,19 @@
-use Rattle.std.proofs.Common.{◌≡◌, map, subst, sym, ◌∙◌, refl}
+use Rattle.std.proofs.Common.{◌≡◌, ◌*◌, ◌≤◌, map, subst, sym, ◌∙◌, refl}
+use Rattle.std.specs.Prelude.{IfSome}
 use Rattle.std.proofs.lemmas.Result.{on_ok_weaker, on_err_weaker}
 use Rattle.sv_flat.specs.declared.designs.Flat.{Flat}
 use Rattle.sv_flat.specs.FlatSystem.{flat_system}
 use Rattle.sv_flat.specs.SignalLists.{seen, inputs}
 use Rattle.sv_flat.specs.Views.{design_of}
 use Rattle.sv_sim.specs.Given.{FitListed, given}
+use Rattle.sv_sim.proofs.Simulated.{written}
 use Rattle.sv_system.specs.System.{Settled}
 use Rattle.sv_trace.specs.Traces.{trace_line}
 use Rattle.sv_simulate.specs.Progress.{flat_of}
-use Rattle.sv_simulate.specs.Runners.{values_in}
+use Rattle.sv_simulate.specs.Runners.{rounds_in, values_in}
 use Rattle.sv_simulate.proofs.CallFacts.{on_error, runs_of, leaves_of, leaves_few, made_runner}
 use Rattle.sv_simulate.proofs.LineFacts.{seen_fit}
 use Rattle.sv_simulate.proofs.ProgressFacts.{cycle_more, cycle_refused, cycle_full}
-use Rattle.sv_simulate.proofs.ValueFacts.{written}
 use Rattle.sv_simulate.proofs.simulations.Simulation.write_cycle.Goals as goal
 
 pub settle-requires-clause-fit : goal.settle-requires-clause-fit
@@ -90,7 +91,7 @@ returns-clause-ran g c = on_ok_weaker c.put_line.result (λ put. λ taken before
     (leaves_of s c.requires.made us r c.tick.new.self c.settle.ensures.design
     c.settle.ensures.order c.settle.ensures.counted c.tick.ensures.values c.tick.ensures.order
     c.tick.ensures.rounds c.tick.ensures.ticked)
-    put refl)
+    put refl c.cycle_after-self.ensures)
     c.put_line.ensures.whole
 
 pub returns-clause-front : goal.returns-clause-front
@@ -116,6 +117,8 @@ returns-clause-rounds g c = λ few.
     let s = c.args.self.now in
     let r = c.settle.new.self in
     on_ok_weaker c.put_line.result (λ put.
+    subst (λ n. IfSome (rounds_in c.tick.new.self) (λ rounds. rounds ≤ n * 4294967295))
+    (sym c.cycle_after-self.ensures)
     (leaves_few s c.requires.made c.args.inputs.now r c.tick.new.self c.settle.ensures.counted
     c.tick.ensures.rounds few))
     c.put_line.ensures.whole

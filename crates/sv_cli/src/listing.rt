@@ -141,7 +141,7 @@ fn put_selectors<K: Sink>(
     ensures counts { K.faults out.old ≤ K.faults out.new }
 {
     match listing.selector_lines(alloc, design) {
-        Ok(part) => put_all(out, &part),
+        Ok(lines) => put_all(out, &lines),
         Err(_) => Err(PutFault::OutOfMemory),
     }
 }

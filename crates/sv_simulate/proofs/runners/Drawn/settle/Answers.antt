@@ -34,7 +34,8 @@ ran : (c : After-rounds-count) → by_number c.rounds-count.new.self.values ≡
     (with_values (design_of c.args.self.now.event.design) c.args.inputs.now
     (by_number c.args.self.now.event.values))
 ran c =
-    from_old c (λ (n : ℕ) (flat : Flat) (e : Environment ℕ). by_number c.rounds-count.new.self.values ≡
+    from_old c
+    (λ (n : ℕ) (flat : Flat) (e : Environment ℕ). by_number c.rounds-count.new.self.values ≡
     after_rounds (design_of flat) n c.rounds-count.result e)
     c.rounds-count.ensures.values
 

@@ -26,6 +26,12 @@ IsShown words =
     ((words ≡ codes "--help" ∷ []) ⊎ (words ≡ codes "--version" ∷ []))
     ⊎ IsSome (help_asked words)
 
+-- the status is the one wanted; or 5, where the output failed, or 6, where memory ran out
+abbrev pub Shows : {W : Type 0} → (wanted : ℕ) → (old new : StdSink W) → ℕ → Type 0
+Shows wanted old new status =
+    (status ≡ wanted)
+    ⊎ (((status ≡ 5) × Rose (sink_faults old) (sink_faults new)) ⊎ (status ≡ 6))
+
 -- the text was written, and the status is the one wanted; or a front of it was, and the status is
 -- 5, where the output failed, or 6, where memory ran out
 abbrev pub Prints : {W : Type 0} → (text : List ℕ) → (wanted : ℕ) → (old new : StdSink W) → ℕ →

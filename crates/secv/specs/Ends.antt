@@ -1,14 +1,16 @@
 -- What an exit status says of what passed through the files, the input and the output.
-use Rattle.std.specs.Prelude.{◌≡◌, ◌⊎◌, ℕ, List, [], ◌∷◌, ◌++◌, codes, Some, None, ⊤}
-use Rattle.std.specs.Prelude.{IfSome, IfNone, IsSome, MatchOption}
+use Rattle.std.specs.Prelude.{◌≡◌, ◌⊎◌, ℕ, ◌+◌, ◌≤◌, Bool, List, [], ◌∷◌, ◌++◌, length, codes}
+use Rattle.std.specs.Prelude.{Some, None, ⊤, IfSome, IfNone, IsSome, MatchOption}
 use Rattle.sv_io.specs.declared.system.FileCabinet.{FileCabinet}
 use Rattle.sv_io.specs.declared.system.StdSource.{StdSource}
 use Rattle.sv_io.specs.declared.system.StdSink.{StdSink}
 use Rattle.sv_io.specs.Count.{Rose}
 use Rattle.sv_io.specs.Exchange.{Exchange, Fetched, fetched, whole, nothing}
 use Rattle.sv_io.specs.Sink.{WritesFront}
-use Rattle.sv_io.specs.System.{file_exchanges, file_faults, source_given, source_faults}
-use Rattle.sv_io.specs.System.{sink_accepted, sink_faults}
+use Rattle.sv_io.specs.Source.{WhateverFollows}
+use Rattle.sv_io.specs.System.{file_exchanges, file_faults, source_given, source_ended}
+use Rattle.sv_io.specs.System.{source_faults, sink_accepted, sink_faults}
+use Rattle.sv_simulate.specs.Simulated.{largest_stimulus}
 use Rattle.sv_words.specs.Words.{usage_of, help_asked}
 use Rattle.sv_words.specs.declared.command.CommandName.TheVariants.{Check}
 use Rattle.sv_cli.specs.declared.outcome.Outcome.{Outcome}
@@ -25,17 +27,27 @@ IsShown words =
     ⊎ IsSome (help_asked words)
 
 -- the status is the one wanted; or 5, where the output failed, or 6, where memory ran out
-abbrev pub Prints : {W : Type 0} → (wanted : ℕ) → (old new : StdSink W) → ℕ → Type 0
-Prints wanted old new status =
+abbrev pub Shows : {W : Type 0} → (wanted : ℕ) → (old new : StdSink W) → ℕ → Type 0
+Shows wanted old new status =
     (status ≡ wanted)
     ⊎ (((status ≡ 5) × Rose (sink_faults old) (sink_faults new)) ⊎ (status ≡ 6))
 
--- What passed so far between the program and the files, the input and the output, and how often
--- each of them failed.
+-- the text was written, and the status is the one wanted; or a front of it was, and the status is
+-- 5, where the output failed, or 6, where memory ran out
+abbrev pub Prints : {W : Type 0} → (text : List ℕ) → (wanted : ℕ) → (old new : StdSink W) → ℕ →
+    Type 0
+Prints text wanted old new status =
+    ((status ≡ wanted) × (sink_accepted new ≡ sink_accepted old ++ text))
+    ⊎ (WritesFront (sink_accepted old) text (sink_accepted new)
+    × (((status ≡ 5) × Rose (sink_faults old) (sink_faults new)) ⊎ (status ≡ 6)))
+
+-- What passed so far between the program and the files, the input and the output, how often each of
+-- them failed, and whether the end of the input was shown.
 pub record Traffic : Type 0 where
   pub exchanges : List Exchange
   pub fetch_faults : ℕ
   pub given : List ℕ
+  pub ended : Bool
   pub take_faults : ℕ
   pub accepted : List ℕ
   pub put_faults : ℕ
@@ -45,6 +57,7 @@ traffic cabinet input out = record {
   exchanges = file_exchanges cabinet;
   fetch_faults = file_faults cabinet;
   given = source_given input;
+  ended = source_ended input;
   take_faults = source_faults input;
   accepted = sink_accepted out;
   put_faults = sink_faults out;
@@ -61,6 +74,10 @@ pub record Ends (words : List (List ℕ)) (old new : Traffic) (status : ℕ) : T
   pub answer : IfSome (answer_of outcome) (λ a. (text stimulus printed : List ℕ)
       × Reads words text old.exchanges new.exchanges × (new.given ≡ old.given ++ stimulus)
       × IsAnswer words text stimulus a printed × (new.accepted ≡ old.accepted ++ printed))
+  pub to_the_end : WhateverFollows new.ended old.given new.given (λ stimulus.
+      IfSome (answer_of outcome) (λ a. (text printed : List ℕ)
+      × Reads words text old.exchanges new.exchanges
+      × IsAnswer words text stimulus a printed × (new.accepted ≡ old.accepted ++ printed)))
   pub only : (text stimulus : List ℕ) (a : Answer) (printed : List ℕ)
       → Reads words text old.exchanges new.exchanges → new.given ≡ old.given ++ stimulus
       → IsAnswer words text stimulus a printed
@@ -85,5 +102,8 @@ pub record Ends (words : List (List ℕ)) (old new : Traffic) (status : ℕ) : T
       × (new.given ≡ old.given ++ stimulus) × Rose old.take_faults new.take_faults
       × WritesCycles words text stimulus old.accepted new.accepted
   pub write_fault : outcome ≡ WriteFault → Rose old.put_faults new.put_faults
-  pub input_unchanged : ((new.given ≡ old.given) × (new.take_faults ≡ old.take_faults))
+  pub input_unchanged : ((new.given ≡ old.given) × (new.ended ≡ old.ended)
+      × (new.take_faults ≡ old.take_faults))
       ⊎ MayTake words old.exchanges new.exchanges
+  pub most : (stimulus : List ℕ) → new.given ≡ old.given ++ stimulus
+      → length stimulus ≤ largest_stimulus + 1

@@ -7,7 +7,7 @@
 #![tactic(auto)]
 
 ghost use Rattle.sv_words.specs.Words.{words_of};
-ghost use Rattle.secv.specs.Ends.{IsShown, Prints, Ends, traffic};
+ghost use Rattle.secv.specs.Ends.{IsShown, Shows, Prints, Ends, traffic};
 
 mod messages;
 
@@ -74,7 +74,7 @@ fn answer(
     input: &mut StdSource<Stdin>,
     out: &mut StdSink<Stdout>,
 ) -> u8
-    ensures shown { IsShown (words_of words.now) → Prints 0 out.old out.new result }
+    ensures shown { IsShown (words_of words.now) → Shows 0 out.old out.new result }
     ensures ends { (IsShown (words_of words.now) → ⊥) →
         Ends (words_of words.now) (traffic cabinet.old input.old out.old)
         (traffic cabinet.new input.new out.new) result }
@@ -91,7 +91,7 @@ fn answer(
 
 // The help of a command.
 fn print_help(rt: &HostRuntime, out: &mut StdSink<Stdout>, name: CommandName) -> u8
-    ensures { Prints 0 out.old out.new result }
+    ensures { Shows 0 out.old out.new result }
 {
     match help_text(rt.alloc(), name) {
         Ok(text) => print(rt, out, text.as_str(), DONE),
@@ -99,9 +99,10 @@ fn print_help(rt: &HostRuntime, out: &mut StdSink<Stdout>, name: CommandName) ->
     }
 }
 
-// The status, or that of a write fault or of want of memory.
+// Writes the text. It gives the status, or that of a write fault or of want of memory.
 fn print(rt: &HostRuntime, out: &mut StdSink<Stdout>, text: &str, status: u8) -> u8
-    ensures { Prints status out.old out.new result }
+    ensures written { Prints text.now status out.old out.new result }
+    ensures shown { Shows status out.old out.new result }
 {
     match put_all(out, text.as_bytes()) {
         Ok(()) => status,

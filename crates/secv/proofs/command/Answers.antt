@@ -7,6 +7,7 @@ returns c = record {
   is = c.status.ensures;
   noninterference = c.run-outcome.ensures.noninterference;
   answer = c.run-outcome.ensures.answer;
+  to_the_end = c.run-outcome.ensures.to_the_end;
   only = c.run-outcome.ensures.only;
   front = c.run-outcome.ensures.front;
   silent = c.run-outcome.ensures.silent;
@@ -18,4 +19,5 @@ returns c = record {
   input_unchanged =
       nothing_taken c.args.input.now c.run-outcome.new.input
       c.run-outcome.ensures.input_unchanged;
+  most = c.run-outcome.ensures.most;
 }

@@ -102,6 +102,9 @@ pub record Ends (words : List (List ℕ)) (old new : Traffic) (status : ℕ) : T
       × (new.given ≡ old.given ++ stimulus) × Rose old.take_faults new.take_faults
       × WritesCycles words text stimulus old.accepted new.accepted
   pub write_fault : outcome ≡ WriteFault → Rose old.put_faults new.put_faults
+  pub complete : (Rose old.fetch_faults new.fetch_faults → ⊥)
+      → (Rose old.take_faults new.take_faults → ⊥) → (Rose old.put_faults new.put_faults → ⊥)
+      → IsSome (answer_of outcome) ⊎ (outcome ≡ OutOfMemory)
   pub input_unchanged : ((new.given ≡ old.given) × (new.ended ≡ old.ended)
       × (new.take_faults ≡ old.take_faults))
       ⊎ MayTake words old.exchanges new.exchanges

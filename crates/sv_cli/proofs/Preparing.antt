@@ -1,5 +1,5 @@
 -- What is prepared of a text is what is answered for it.
-use Rattle.std.proofs.Common.{◌≡◌, ℕ, ◌<◌, ◌≤◌, List, [], length, map, Option, Some, None, inl, inr}
+use Rattle.std.proofs.Common.{◌≡◌, ℕ, ◌<◌, ◌≤◌, List, [], length, Option, Some, None, inl, inr}
 use Rattle.std.proofs.Common.{◌⊎◌, refl, sym, ap, subst, ◌∙◌}
 use Rattle.std.specs.Prelude.{Result, Ok, Err, IfOk, IsSome, MatchOption, string_bytes, String}
 use Rattle.std.specs.Prelude.{option_map}
@@ -14,20 +14,18 @@ use Rattle.sv_obl.specs.Limits.{excess}
 use Rattle.sv_obl.specs.ListLines.{list_text}
 use Rattle.sv_words.specs.Words.{Request, check, list, sim, request_of, usage_of}
 use Rattle.sv_words.specs.declared.command.UsageKind.{UsageKind}
-use Rattle.sv_simulate.specs.Simulated.{IsSimulated}
 use Rattle.sv_cli.specs.declared.prepared.Prepared.{Prepared}
 use Rattle.sv_cli.specs.declared.prepared.Prepared.TheVariants.{Whole, Lines, Simulation}
 use Rattle.sv_cli.specs.declared.report.Report.{Report}
 use Rattle.sv_cli.specs.Command.{top_in}
 use Rattle.sv_cli.specs.Text.{usage_text, refusal_text, limit_text}
-use Rattle.sv_cli.specs.Answer.{Answer, answer_of, answer_by, done, rule_broken, limit_passed}
+use Rattle.sv_cli.specs.Answer.{Answer, answer_of, done, rule_broken, limit_passed}
 use Rattle.sv_cli.specs.Answer.{misused, largest_file, StandsFor, BreaksFirst, Passes}
-use Rattle.sv_cli.specs.Answer.{limit_number, limit_names, IsVerdict, IsListing, IsSimulation}
+use Rattle.sv_cli.specs.Answer.{limit_number, limit_names, IsListing, IsSimulation}
 use Rattle.sv_cli.specs.Answer.{Simulates, IsAnswerBy, IsAnswer, AreCircles}
 use Rattle.sv_cli.specs.Report.{Decides}
-use Rattle.sv_cli.specs.Prepared.{IsPerformed, IsOtherOrWith, Prepares, PreparesFor}
+use Rattle.sv_cli.specs.Prepared.{IsOtherOrWith, Prepares, PreparesFor}
 use Rattle.sv_cli.specs.Prepared.{PreparesWords, TellsLimit, ListsDesign}
-use Rattle.sv_cli.proofs.Congruence.{two}
 use Rattle.sv_cli.proofs.ListVerdicts.{listing_is_one}
 use Rattle.sv_cli.proofs.Simulating.{refused_only, large_only, simulation_is, simulation_back}
 use Rattle.sv_cli.proofs.Verdicts.{IsOneAnswer, verdict_is_one}

@@ -11,7 +11,9 @@ use Rattle.sv_words.specs.Words.{Request, request_of, usage_of, check, list, sim
 use Rattle.sv_words.specs.declared.command.CommandName.TheVariants as name
 use Rattle.sv_words.specs.declared.command.UsageKind.{UsageKind}
 use Rattle.sv_cli.specs.declared.outcome.Outcome.{Outcome}
-use Rattle.sv_cli.specs.declared.outcome.Outcome.TheVariants.{Done}
+use Rattle.sv_cli.specs.declared.outcome.Outcome.TheVariants.{Done, Refused, Usage, ReadFault}
+use Rattle.sv_cli.specs.declared.outcome.Outcome.TheVariants.{WriteFault, OutOfMemory}
+use Rattle.sv_cli.specs.declared.outcome.Broken.TheVariants.{Rule, Limit, Fails, Stimulus}
 use Rattle.sv_cli.specs.declared.prepared.Prepared.{Prepared}
 use Rattle.sv_cli.specs.declared.prepared.Prepared.TheVariants.{Whole, Lines, Simulation}
 use Rattle.sv_cli.specs.Command.{command_in, file_in, command_of, file_of}
@@ -34,6 +36,21 @@ use Rattle.sv_cli.proofs.Fetches.{reads_one, reads_none, reads_whole}
 pub file_is : (words : List (List ℕ)) (request : Request) → request_of words ≡ Some request
     → file_of words ≡ file_in request
 file_is words request is = ap (λ (r : Option Request). option_map_or file_in r []) is
+
+-- ---- outcomes
+
+-- an outcome that tells no fault has an answer, or tells that memory ran out
+pub answered : (o : Outcome) → (o ≡ ReadFault → ⊥) → (o ≡ WriteFault → ⊥)
+    → IsSome (answer_of o) ⊎ (o ≡ OutOfMemory)
+answered Done read write = inl refl
+answered (Refused (Rule r)) read write = inl refl
+answered (Refused (Limit number names)) read write = inl refl
+answered (Refused (Fails number v)) read write = inl refl
+answered (Refused (Stimulus source line kind)) read write = inl refl
+answered (Usage kind) read write = inl refl
+answered ReadFault read write = absurd (read refl)
+answered WriteFault read write = absurd (write refl)
+answered OutOfMemory read write = inr refl
 
 module _ (words : List (List ℕ)) (before after : List Exchange) where
   abbrev IsRead : List ℕ → Type 0

@@ -152,6 +152,12 @@ pub fn run<C: Cabinet, S: Source, K: Sink>(
         × WritesCycles (words_of words.now) text stimulus (K.accepted out.old)
         (K.accepted out.new) }
     ensures write_fault { result ≡ Outcome.WriteFault → Rose (K.faults out.old) (K.faults out.new) }
+    // Where nothing failed there is an answer, or memory ran out.
+    ensures complete { (Rose (C.fetch_faults cabinet.old (file_of (words_of words.now)))
+        (C.fetch_faults cabinet.new (file_of (words_of words.now))) → ⊥) →
+        (Rose (S.faults input.old) (S.faults input.new) → ⊥) →
+        (Rose (K.faults out.old) (K.faults out.new) → ⊥) →
+        IsSome (answer_of result) ⊎ (result ≡ Outcome.OutOfMemory) }
 
     ensures cabinet_unchanged { (name : List ℕ) →
         C.held cabinet.new name ≡ C.held cabinet.old name }

@@ -16,6 +16,7 @@ returns c = record {
   read_fault = c.run-outcome.ensures.read_fault;
   prompt = c.run-outcome.ensures.prompt;
   write_fault = c.run-outcome.ensures.write_fault;
+  complete = c.run-outcome.ensures.complete;
   input_unchanged =
       nothing_taken c.args.input.now c.run-outcome.new.input
       c.run-outcome.ensures.input_unchanged;

@@ -1,6 +1,5 @@
 use Rattle.std.proofs.Common.{◌≡◌, ℕ, List, ◌++◌, Some, ◌⊎◌, refl, sym, subst}
-use Rattle.std.specs.Prelude.{IfSome, IsSome, Option, option_map, string_bytes}
-use Rattle.std.specs.Option.{option_copied}
+use Rattle.std.specs.Prelude.{IfSome, IsSome, Option}
 use Rattle.sv_flat.specs.Views.{design_of}
 use Rattle.sv_io.specs.Source.{WhateverFollows}
 use Rattle.sv_obl.specs.ListLines.{list_text}

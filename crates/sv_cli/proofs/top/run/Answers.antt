@@ -2,7 +2,6 @@ use Rattle.std.proofs.Common.{◌≡◌, ℕ, List, ◌++◌, None, inl, inr, re
 use Rattle.std.specs.Prelude.{Result, Ok, Err, ⊤}
 use Rattle.sv_io.specs.Sink.{WritesFront}
 use Rattle.sv_words.specs.Words.{words_of}
-use Rattle.sv_cli.specs.declared.outcome.Outcome.{Outcome}
 use Rattle.sv_cli.specs.declared.outcome.Outcome.TheVariants.{OutOfMemory}
 use Rattle.sv_cli.specs.declared.prepared.Prepared.{Prepared}
 use Rattle.sv_cli.specs.declared.top.NoReport.{NoReport}
@@ -11,7 +10,7 @@ use Rattle.sv_cli.specs.Answer.{answer_of}
 use Rattle.sv_cli.proofs.Telling.{answer_told, whole_told, only_told, front_told}
 use Rattle.sv_cli.proofs.Telling.{whole_front_told, read_silent, unchanged_told}
 use Rattle.sv_cli.proofs.Telling.{usage_told, secrets_told, fetch_told, failed_fetch}
-use Rattle.sv_cli.proofs.Telling.{nothing_read, fault_told, prompt_told}
+use Rattle.sv_cli.proofs.Telling.{nothing_read, fault_told, prompt_told, answered}
 use Rattle.sv_cli.proofs.Sending.{few_taken}
 use Rattle.sv_cli.proofs.top.run.Goals as goal
 
@@ -147,6 +146,12 @@ returns-in-Ok-clause-prompt g c failed text reads =
           fault.3 text reads,
     )
 
+pub returns-in-Ok-clause-complete : goal.returns-in-Ok-clause-complete
+returns-in-Ok-clause-complete g c no_fetch no_take no_put =
+    answered c.perform.result
+    (λ failed. let fault = c.perform.ensures.read_fault failed in no_take fault.2)
+    (λ failed. no_put (c.perform.ensures.write_fault failed))
+
 pub returns-in-Ok-clause-input_unchanged : goal.returns-in-Ok-clause-input_unchanged
 returns-in-Ok-clause-input_unchanged g c =
     unchanged_told (words_of c.args.words.now) (g.C.Cabinet.exchanges c.args.cabinet.now)
@@ -180,6 +185,11 @@ returns-in-Err-Unread-clause-prompt g c failed text reads =
     absurd (nothing_read (words_of c.args.words.now) (g.C.Cabinet.exchanges c.args.cabinet.now)
     (g.C.Cabinet.exchanges c.prepare.new.cabinet) text
     unread.0 unread.1 reads)
+
+pub returns-in-Err-Unread-clause-complete : goal.returns-in-Err-Unread-clause-complete
+returns-in-Err-Unread-clause-complete g c no_fetch no_take no_put =
+    let unread = c.in-Err-Unread.ensures.unread (unread_is c.in-Err-Unread.field-0
+    c.in-Err-Unread.field-0-is) in absurd (no_fetch unread.2)
 
 pub returns-in-Err-OutOfMemory-clause-one_fetch :
     goal.returns-in-Err-OutOfMemory-clause-one_fetch

@@ -11,6 +11,8 @@ import subprocess
 import sys
 import tempfile
 
+from rules import UNDECIDED, explained
+
 TOP = os.path.dirname(os.path.dirname(os.path.abspath(__file__)))
 SECV = os.path.join(TOP, "secv")
 # Texts that break a rule on tokens or on the grammar, as docs/language.md shows them.
@@ -27,11 +29,6 @@ SYNTAX = [(b"module m; \x80", b"refused 101 bad-byte 1:11\n"), (b"8'q1", b"refus
           (b"module m(a, b); endmodule", b"refused 202 unsupported 1:10 header-names\n"), (b"module m(inout a); endmodule", b"refused 202 unsupported 1:10 inout\n"),
           (b"module m(input a, output y); assign y = " + b"-" * 65 + b"a; endmodule", b"refused 203 too-deep 1:105\n"),
           (b"module m(input a, output y); assign y = " + b"a+" * 512 + b"a; endmodule", b"refused 204 too-long 1:1065\n")]
-# What is said of a broken rule to a person, by its number.
-SAID = {101: "no token begins with this byte", 102: "this is no number, or too large a one", 103: "this comment has no end",
-        104: "this form of Verilog is left out", 202: "this form of Verilog is left out",
-        201: "no text goes on with this token, or the text ends too early", 203: "this opens a level too many: at most 64 may be open",
-        204: "this is too long: an expression has at most 1,024 tokens, a case 256 arms"}
 HELP = b"""secv checks designs in SecVerilog: Verilog in which every signal has a security label.
 
 usage:
@@ -46,6 +43,17 @@ usage:
 exit status: 0 accepted, listed or simulated, 1 refused, 2 wrong words,
              4 unreadable file or input, 5 unwritable output, 6 out of memory
 """
+# The help of `check` and of `list`, which take the same words.
+SHORT_HELP = """{what}
+
+Usage: secv {word} [OPTIONS] <FILE>
+
+Arguments:
+  <FILE>  The file of the design
+
+Options:
+      --top <MODULE>  The module to take as the top
+"""
 SIM_HELP = b"""Simulate a design on the inputs that standard input gives, cycle by cycle
 
 Usage: secv sim [OPTIONS] <FILE>
@@ -59,6 +67,9 @@ Options:
       --top <MODULE>    The module to take as the top
 """
 USAGE = "; usage: secv COMMAND FILE [OPTIONS] (`secv --help` says more)"
+UNBUILT = "secv: memories, invariants and released values are not built; docs/language.md says more\n"
+FULL = "secv: the output could not be written: No space left on device (os error 28)\n"
+CLOSED = "secv: the output could not be written: Bad file descriptor (os error 9)\n"
 # Texts, the option that `list` gets, and what it prints. A case of 256 arms, with 16 paths each and one more in the last, has a path too many.
 MANY = "module m(input [7:0] s, input [15:0] t, output reg y); always @* case (s) " + "".join(
     f"{arm}: y = {''.join(f't[{bit}] ? 1 : ' for bit in range(15))}{'t[15] ? 1 : 0' if arm == 255 else '0'}; " for arm in range(256)) + "endcase endmodule\n"
@@ -139,6 +150,14 @@ def shown_in_readme():
             compare(f"README: secv {words}", (answer.stdout, answer.returncode), (wanted.encode(), status_of(wanted.encode())))
             shown += 1
     compare("README shows commands", shown > 0, True)
+    folder = os.path.join(TOP, "examples")
+    designs = set()
+    for name in os.listdir(folder):
+        if name.endswith(".v"):
+            with open(os.path.join(folder, name), encoding="utf-8") as file:
+                designs.add(file.read())
+    for block in re.findall(r"^```verilog\n(.*?)^```$", text, re.M | re.S):
+        compare(f"README shows a design of examples/: {block[:60]}", block in designs, True)
     kit = subprocess.run(["rt", "version"], stdout=subprocess.PIPE, check=False).stdout.decode().strip()
     compare("README names the kit", f"prints `{kit}`" in text.replace("\n", " "), True)
 
@@ -150,9 +169,9 @@ def words_and_faults():
     compare("--version", (version.stdout, version.returncode), (b"secv 0.1.0\n", 0))
     answer = run(["sim", "--help"])
     compare("sim --help", (answer.stdout, answer.stderr, answer.returncode), (SIM_HELP, b"", 0))
-    for word in ("check", "list"):
+    for word, what in (("check", "Say whether a secret can reach a public signal"), ("list", "List the obligations of a design, one a line")):
         answer = run([word, "--help"])
-        compare(f"{word} --help", (answer.stdout.count(f"Usage: secv {word} [OPTIONS] <FILE>\n".encode()), answer.stderr, answer.returncode), (1, b"", 0))
+        compare(f"{word} --help", (answer.stdout.decode(), answer.stderr, answer.returncode), (SHORT_HELP.format(word=word, what=what), b"", 0))
     wrong = "`check` does not take these words; usage: secv check FILE [--top MODULE] (`secv check --help` says more)"
     for words, kind, said in [([], "no-command", "no command is given" + USAGE),
                               (["chekc", "f"], "unknown-command", "there is no command chekc; `secv --help` shows all"),
@@ -179,38 +198,32 @@ def words_and_faults():
             with open(os.path.join(folder, name), "wb"):
                 pass
             answer = run(["check", os.path.join(folder, name)])
-            compare("so it is of a broken rule", answer.stderr.decode(), f"secv: {folder}/{escaped}:1:1: {SAID[201]}; docs/language.md says more\n")
+            compare("so it is of a broken rule", answer.stderr.decode(), explained(f"{folder}/{escaped}", "refused 201 unexpected 1:1"))
         other = os.path.join(folder, "other.v")
         with open(other, "w", encoding="ascii") as file:
             file.write("module m(input [7:0] a, output y); assign y = a == 3; endmodule\n")
         answer = run(["check", other])
         compare("a text that is not built", (answer.stdout, answer.returncode), (b"refused 199 not-built 1:1\n", 1))
-        compare("it is explained", answer.stderr.decode(),
-                "secv: only modules of one-bit signals are decided so far; docs/language.md says which\n")
+        compare("it is explained", answer.stderr.decode(), UNDECIDED)
         with open(other, "w", encoding="ascii") as file:
             file.write("module m(input a, output y); invariant a; assign y = a; endmodule\n")
         for word in ("list", "sim"):
             answer = run([word, other])
-            compare(f"an invariant, {word}", (answer.stdout, answer.stderr, answer.returncode),
-                    (b"refused 199 not-built 1:1\n", b"secv: memories, invariants and released values are not built; docs/language.md says more\n", 1))
+            compare(f"an invariant, {word}", (answer.stdout, answer.stderr.decode(), answer.returncode), (b"refused 199 not-built 1:1\n", UNBUILT, 1))
         for text, wanted in SYNTAX:
             with open(other, "wb") as file:
                 file.write(text)
             answer = run(["check", other])
             compare(f"a text {text!r}", (answer.stdout, answer.returncode), (wanted, 1))
-            number, place = wanted.decode().split(" ")[1:4:2]
-            compare(f"it is explained, {text!r}", answer.stderr.decode(),
-                    f"secv: {other}:{place.strip()}: {SAID[int(number)]}; docs/language.md says more\n")
+            compare(f"it is explained, {text!r}", answer.stderr.decode(), explained(other, wanted.decode()))
     for words in (["check", "examples/and.v"], ["--help"]):
         with open("/dev/full", "wb") as full:
             answer = run(words, stdout=full)
         compare(f"a full device, {words}", answer.returncode, 5)
-        compare(f"a full device is explained, {words}", answer.stderr.decode(),
-                "secv: the output could not be written: No space left on device (os error 28)\n")
+        compare(f"a full device is explained, {words}", answer.stderr.decode(), FULL)
         answer = run(words, stdout=None, before=lambda: os.close(1))
         compare(f"a closed output, {words}", answer.returncode, 5)
-        said = answer.stderr.startswith(b"secv: the output could not be written") and answer.stderr.count(b"\n") == 1
-        compare(f"a closed output is explained, {words}", said, True)
+        compare(f"a closed output is explained, {words}", answer.stderr.decode(), CLOSED)
     for words, wanted in [(["check", "examples/leak.v"], (b"refused flow 1 y from k\nin k 0\n", 1)), (["check"], (b"usage words\n", 2)),
                           (["check", "examples/unknown_value.v"], (b"refused 104 unsupported 3:34 four-state\n", 1)),
                           (["check", "none.v"], (b"", 4)), ([b"\xff"], (b"usage words\n", 2)), (["sim", "examples/owner.v"], (b"refused stimulus input 1 header\n", 1))]:
@@ -279,7 +292,8 @@ def lists():
             with open(path, "w", encoding="ascii") as file:
                 file.write(text)
             answer = run(["list", *option, path])
-            compare(f"list {option} {text[:60]}", (answer.stdout, answer.returncode), (wanted.encode(), status_of(wanted.encode())))
+            said = UNBUILT if wanted.startswith("refused 199 ") else explained(path, wanted) if ":" in wanted and status_of(wanted.encode()) else ""
+            compare(f"list {option} {text[:60]}", (answer.stdout.decode(), answer.stderr.decode(), answer.returncode), (wanted, said, status_of(wanted.encode())))
         for what, text, lines_of, count in [("65,536 obligations", text_of_targets(16), lines_of_targets, 65536),
                                             ("4,096 paths", MANY.replace("t[15] ? 1 : 0", "0"), lines_of_many, 4096)]:
             with open(path, "w", encoding="ascii") as file:
@@ -288,14 +302,16 @@ def lists():
             compare(f"{what}, as many as may be", len(lines), count)
             compare_lines(f"{what} are listed", run(["list", path]), lines)
         with open("/dev/full", "wb") as full:
-            compare("list to a full device", run(["list", path], stdout=full).returncode, 5)
+            answer = run(["list", path], stdout=full)
+        compare("list to a full device", (answer.stderr.decode(), answer.returncode), (FULL, 5))
 
 
 def simulations():
     """The examples of docs/formats.md, what stops a simulation, and what a user sees of it line by line."""
     with open(os.path.join(TOP, "docs", "formats.md"), encoding="utf-8") as file:
         text = file.read().partition("\n# Stimulus and trace\n")[2]
-    design, stimulus, trace, public, nested, started, counted, refused = re.findall(r"^```(?:verilog)?\n(.*?)^```$", text, re.M | re.S)
+    shown = re.findall(r"^```(?:verilog)?\n(.*?)^```$", text, re.M | re.S)
+    design, stimulus, trace, public, nested, started, counted, refused, inverters, turned, ordered = shown
     wrong = stimulus.replace("0 F", "0 10")
     with tempfile.TemporaryDirectory() as folder:
         path = os.path.join(folder, "text.v")
@@ -307,8 +323,8 @@ def simulations():
                                              ([], "start q 9\n", "refused stimulus input 2 header\n", 1), (["--top", "n"], wrong, "refused 310 no-top 1:1\n", 1)]:
             answer = run(["sim", path, *words], given=given.encode())
             # A broken rule has a line for a person too.
-            told = (answer.stdout, answer.stderr == b"", answer.returncode)
-            compare(f"sim {words} {given!r}", told, (wanted.encode(), "no-top" not in wanted, status))
+            said = explained(path, wanted) if "no-top" in wanted else ""
+            compare(f"sim {words} {given!r}", (answer.stdout.decode(), answer.stderr.decode(), answer.returncode), (wanted, said, status))
         back = os.path.join(folder, "back.v")
         with open(back, "w", encoding="ascii") as file:
             file.write("module m(input a, output y); wire q; assign y = ~q; assign q = ~a; endmodule\n")
@@ -320,8 +336,13 @@ def simulations():
             file.write(nested)
         answer = run(["sim", other], given=started.encode())
         compare("sim of two instances", (answer.stdout, answer.stderr, answer.returncode), (counted.encode(), b"", 0))
+        with open(other, "w", encoding="ascii") as file:
+            file.write(inverters)
+        answer = run(["sim", other, "--order", "3"], given=turned.encode())
+        compare("sim of three inverters in an order", (answer.stdout, answer.stderr, answer.returncode), (ordered.encode(), b"", 0))
         with open("/dev/full", "wb") as full:
-            compare("sim to a full device", run(["sim", path], stdout=full, given=stimulus.encode()).returncode, 5)
+            answer = run(["sim", path], stdout=full, given=stimulus.encode())
+        compare("sim to a full device", (answer.stderr.decode(), answer.returncode), (FULL, 5))
         answer = run(["sim", path], before=lambda: os.close(0))
         compare("sim without an input", (answer.stdout, answer.stderr, answer.returncode), (b"", b"secv: the input could not be read\n", 4))
         program = subprocess.Popen([SECV, "sim", path], stdin=subprocess.PIPE, stdout=subprocess.PIPE)
@@ -345,8 +366,7 @@ def rules(title, least):
                 file.write(text)
             answer = run(["check", *option.split(), path])
             compare(f"language.md: {text} {option}", (answer.stdout, answer.returncode), (f"{wanted}\n".encode(), 1))
-            place = wanted.split(" ")[3]
-            compare(f"it is explained, {text}", answer.stderr.startswith(f"secv: {path}:{place}: ".encode()) and answer.stderr.count(b"\n") == 1, True)
+            compare(f"it is explained, {text}", answer.stderr.decode(), explained(path, wanted))
 
 
 def main():

@@ -31,7 +31,7 @@ def chain(size):
 
 def branches(size):
     """One block that gives each signal a value, and then another in each branch of a nest of eight."""
-    count = size - 3
+    count = size - 2
     names = [f"r{i}" for i in range(count)]
     yield "module m(input [7:0] a, output [7:0] y);\n  reg [7:0] " + ", ".join(names) + ";\n  always @* begin\n"
     yield "".join(f"{name} = a;\n" for name in names)
@@ -53,13 +53,13 @@ def statements(size):
 
 def datapath(size):
     """Registers with a wire each, which reads the wire before it and the register."""
-    count = (size - 3) // 2
-    yield "module m(input clk, input [31:0] a, output [31:0] y);\n"
+    count = (size - 4) // 2
+    yield "module m(input clk, input [31:0] a, output [31:0] y, z);\n"
     for i in range(count):
         before = f"w{i - 1}" if i % 16 else "a"
         yield f"  reg [31:0] r{i}; wire [31:0] w{i}; assign w{i} = (r{i} + {before}) ^ (r{(i * 7) % count} & a);\n"
         yield f"  always @(posedge clk) r{i} <= w{i} + 32'd{i};\n"
-    yield f"  assign y = w{count - 1};\nendmodule\n"
+    yield f"  assign y = w{count - 1}; assign z = w0;\nendmodule\n"
 
 
 def timed(words, text=None):
@@ -118,7 +118,7 @@ std::printf("%%u\\n", all); }
 
 def cycles_of_vvp(text, cycles):
     with open(os.path.join(work, "bench.v"), "w") as file:
-        start = "".join(f"dut.r{i} = 0;\n" for i in range((SIGNALS - 3) // 2))
+        start = "".join(f"dut.r{i} = 0;\n" for i in range((SIGNALS - 4) // 2))
         file.write(text + TESTBENCH % (start, cycles))
     subprocess.run(["iverilog", "-o", os.path.join(work, "bench.vvp"), "-s", "bench", os.path.join(work, "bench.v")], check=True)
     took, _ = timed(["vvp", "-n", os.path.join(work, "bench.vvp")])

@@ -1,8 +1,9 @@
 #!/bin/sh
-# Times `secv list` on texts of 1/8, 1/4, 1/2 and the whole of a limit, in three shapes: 4,096 paths of one target, 65,520 obligations
-# of 4,095 targets of one block, and 65,536 obligations of 16 targets whose paths have over a hundred conditions each. Prints a table
-# of obligations, bytes printed, times and greatest memory, with the ratio of each time to the one before (asked: at most 2.3); then
-# the greatest ratio of the last two times, the greatest time (asked: below 2 seconds) and the greatest memory (asked: below 300 MB).
+# Times `secv list` on texts of 1/8, 1/4, 1/2 and the whole of a limit, in four shapes: 4,096 paths of one target, 4,096 paths of one
+# target with 65,520 assignments on each, 65,520 obligations of 4,095 targets of one block, and 65,536 obligations of 16 targets whose
+# paths have over a hundred conditions each. Prints a table of obligations, bytes printed, times and greatest memory, with the ratio of
+# each time to the one before (asked: at most 2.3); then the greatest ratio of the last two times, the greatest time (asked: below 2
+# seconds) and the greatest memory (asked: below 300 MB).
 # Memory is the greatest resident size that GNU time tells (`/usr/bin/time`). The variable SECV may name another program to measure.
 set -eu
 if ! [ -x /usr/bin/time ]; then
@@ -35,6 +36,13 @@ def paths(part):
     for level in reversed(range(halvings)):
         body = f"if (a[{level}]) {body} else y = 0;"
     return f"module m(input [11:0] a, input [7:0] b, output reg [7:0] y);\n  always @* {body}\nendmodule\n"
+
+
+def assignments(part):
+    """One target with 4,096 paths over so many, each with the same 65,520 assignments over so many: no path may keep a list of them."""
+    ifs = "".join(f"if (a[{k}]) y[{k + 1}]=b;" for k in range(13 - part.bit_length()))
+    body = "y[0]=c;" * (65_520 // part)
+    return f"module m(input [11:0] a, input b, input c, output reg [12:0] y);\n  always @* begin y=0;{ifs}{body} end\nendmodule\n"
 
 
 def targets(part):
@@ -92,7 +100,7 @@ def printed(file):
 
 
 ratios, slowest, largest = 0, 0, 0
-for shape in (paths, targets, cases):
+for shape in (paths, assignments, targets, cases):
     print(f"{shape.__name__}\n{'lines':>8} {'bytes':>10} {'seconds':>9} {'MB':>7} {'ratio':>6}")
     before, last = None, 0
     for part in (8, 4, 2, 1):

@@ -1,10 +1,11 @@
 -- The obligations of a target are those of its routes.
 use Rattle.std.proofs.Common.{◌≡◌, ℕ, ◌<◌, Bool, true, false, cond, ◌&&◌, ◌||◌, ◌==◌, not, nat_lt}
 use Rattle.std.proofs.Common.{List, [], ◌∷◌, ◌++◌, length, map, reverse, flat_map, Some, All}
-use Rattle.std.proofs.Common.{Option, suc}
+use Rattle.std.proofs.Common.{Option, suc, min, arith}
 use Rattle.std.proofs.Common.{⊎_elim, refl, sym, ap, ap₂, subst, ◌∙◌, append-nil}
 use Rattle.std.specs.Prelude.{Contains, IsTrue}
 use Rattle.std.specs.List.{list_any, range_with_len}
+use Rattle.std.proofs.lemmas.Bool.Decides.{nat_tests}
 use Rattle.std.proofs.lemmas.List.{reverse-append}
 use Rattle.std.proofs.lemmas.List.Concat.{flat_map-append}
 use Rattle.std.proofs.lemmas.List.Folds.{list_any-append}
@@ -24,12 +25,12 @@ use Rattle.sv_flat.proofs.BlockFacts.{is_settled}
 use Rattle.sv_flat.proofs.Members.{Contains-either}
 use Rattle.sv_flat.proofs.LeastSets.{or_cases, from_some, holds-from_Contains}
 use Rattle.sv_flat.proofs.LeastSets.{Contains-from_holds}
+use Rattle.sv_obl.specs.Answers.{is_large}
 use Rattle.sv_obl.specs.Exchange.{name, content}
 use Rattle.sv_obl.specs.Obligations.{Obligation, flow, path_obligation, place_of, is_link}
 use Rattle.sv_obl.specs.Obligations.{frame_of}
 use Rattle.sv_obl.specs.Paths.{StepForm, Path, open_path, path_names, before, closed, paths}
-use Rattle.sv_obl.specs.Routes.{Put, Route, open_route, routes_before, nodes_put, names_in}
-use Rattle.sv_obl.specs.Routes.{names_on}
+use Rattle.sv_obl.specs.Routes.{Route, open_route, routes_before, names_in, names_on}
 use Rattle.sv_obl.specs.Routes.{route_obligation}
 use Rattle.sv_obl.specs.Wanted.{with_copies, copy_of, is_copy, original, close, closed_tree, marked}
 use Rattle.sv_obl.proofs.NumberSets.{filter_alike}
@@ -148,18 +149,14 @@ module _ (signals : List SignalForm) (s : ℕ) (inside : s < length signals)
         (sym (held_name (reads signals q.result) t)
         ∙ ap (λ ns. holds ns t) result_names
         ∙ list_any-append (λ m. m == t) (held r.wants) same.names.rest
-        ∙ ap (λ b. holds (held r.wants) t || b)
-        (same.names.each t ∙ sym (all_named signals (λ (put : Put). put.right) r.puts t)))
-        ∙ or_moved (holds step_names t) (holds (held r.wants) t) (holds put_names t)
+        ∙ ap (λ b. holds (held r.wants) t || b) (same.names.each t))
+        ∙ or_moved (holds step_names t) (holds (held r.wants) t) (holds r.names t)
         ∙ ap (λ b. b || holds (held r.wants) t)
-        (sym (list_any-append (λ m. m == t) step_names put_names))
-        ∙ sym (list_any-append (λ m. m == t) (step_names ++ put_names) (held r.wants))
+        (sym (list_any-append (λ m. m == t) step_names r.names))
+        ∙ sym (list_any-append (λ m. m == t) (step_names ++ r.names) (held r.wants))
       where
         step_names : List ℕ
         step_names = flat_map (λ (step : StepForm). names_in [] step.condition) r.steps
-
-        put_names : List ℕ
-        put_names = flat_map (λ (put : Put). names_in [] put.right) r.puts
 
         or_moved : (a b c : Bool) → (a || (b || c)) ≡ ((a || c) || b)
         or_moved true b c = refl
@@ -210,6 +207,10 @@ module _ (signals : List SignalForm) (s : ℕ) (inside : s < length signals)
 
 -- ---- obligations
 
+-- a count that is kept up to one over the limit passes it where the whole count does
+capped_same : (n : ℕ) → nat_lt 65536 n ≡ nat_lt 65536 (min n 65537)
+capped_same n = grind (arith, nat_tests)
+
 module _ (design : FlatDesign) (p : ProcessForm) (s : ℕ) (inside : s < length design.signals) where
   abbrev signals : List SignalForm
   signals = design.signals
@@ -256,12 +257,13 @@ module _ (design : FlatDesign) (p : ProcessForm) (s : ℕ) (inside : s < length 
   -- so many are large
   pub large_same : (ps : List Path) (rs : List Route) → AllMatch signals s inside ps rs
       → list_any (λ (path : Path). nat_lt 65536 path.nodes) (map close_path ps)
-      ≡ list_any (λ (r : Route). nat_lt 65536 (nodes_put r.puts)) rs
+      ≡ list_any is_large rs
   large_same [] [] all = refl
   large_same [] (r ∷ rs) all = elim all [ ]
   large_same (path ∷ ps) [] all = elim all [ ]
   large_same (path ∷ ps) (r ∷ rs) all =
-      ap₂ (λ a b. nat_lt 65536 a || b) (all.0).nodes (large_same ps rs all.1)
+      ap₂ (λ a b. a || b) (capped_same path.nodes ∙ ap (nat_lt 65536) (sym (all.0).nodes))
+      (large_same ps rs all.1)
 
   pub count_same : (ps : List Path) (rs : List Route) → AllMatch signals s inside ps rs
       → length (map close_path ps) ≡ length rs
@@ -311,7 +313,7 @@ module _ (design : FlatDesign) (p : ProcessForm) (s : ℕ) (inside : s < length 
 
     pub target_large : list_any (λ (path : Path). nat_lt 65536 path.nodes)
         (paths signals s p.kind p.body)
-        ≡ list_any (λ (r : Route). nat_lt 65536 (nodes_put r.puts)) target_routes
+        ≡ list_any is_large target_routes
     target_large = ap (list_any (λ (path : Path). nat_lt 65536 path.nodes)) paths_are
         ∙ large_same (before signals s p.body (open_path signals s)) target_routes all_match
 

@@ -1,6 +1,6 @@
 -- The paths of a target and its routes are the same where no read is an earlier one.
 use Rattle.std.proofs.Common.{◌≡◌, ℕ, ◌+◌, ◌*◌, ◌<◌, Bool, true, false, cond, ◌&&◌, ◌||◌, ◌==◌, not}
-use Rattle.std.proofs.Common.{List, [], ◌∷◌, ◌++◌, length, map, reverse, flat_map, sum, Some, None}
+use Rattle.std.proofs.Common.{List, [], ◌∷◌, ◌++◌, length, map, reverse, flat_map, min, Some, None}
 use Rattle.std.proofs.Common.{Option, is_none, option_map, slice_get, ◌⊎◌, inl, inr, ⊎_elim, refl}
 use Rattle.std.proofs.Common.{sym, ap, ap₂, subst, ◌∙◌, arith, append_assoc, zero-add, zero-mul}
 use Rattle.std.specs.Prelude.{Contains, IsTrue, IsFalse}
@@ -8,7 +8,6 @@ use Rattle.std.specs.List.{list_any, list_all, range_with_len}
 use Rattle.std.proofs.lemmas.Bool.{false≢true, or_right, eqb-true, eq-eqb, ne_eqb}
 use Rattle.std.proofs.lemmas.List.{map-append, reverse-append}
 use Rattle.std.proofs.lemmas.List.Folds.{list_any-append}
-use Rattle.std.proofs.lemmas.List.Sums.{sum_by_push}
 use Rattle.sv_num.specs.declared.faults.Place.{Place}
 use Rattle.sv_system.proofs.Lists.{Contains-nil, Contains-head, Contains-cases}
 use Rattle.sv_system.proofs.Lists.{Contains-map}
@@ -28,12 +27,13 @@ use Rattle.sv_obl.specs.Paths.{StepForm, Path, open_path, under, step_with, Way,
 use Rattle.sv_obl.specs.Paths.{pieces_of, covers, name_itself, covers_name, ways_taken, later_place}
 use Rattle.sv_obl.specs.Paths.{is_target, puts_into, with_way, path_names, is_taken}
 use Rattle.sv_obl.specs.Paths.{before}
-use Rattle.sv_obl.specs.Routes.{Put, Route, open_route, behind, is_all, times_put, first_place}
-use Rattle.sv_obl.specs.Routes.{with_put, with_ways, with_right, routes_before, nodes_put}
+use Rattle.sv_obl.specs.Routes.{Route, open_route, behind, is_all, times_put, first_place}
+use Rattle.sv_obl.specs.Routes.{names_in, with_names, with_put, with_ways, with_right}
+use Rattle.sv_obl.specs.Routes.{routes_before}
+use Rattle.sv_obl.proofs.NumberSets.{put_held}
 use Rattle.sv_obl.proofs.PathLists.{both_true, only}
 use Rattle.sv_obl.proofs.PathRuns.{step_of, whole_way}
 use Rattle.sv_obl.proofs.PutFacts.{copy_is_copy, original_of_copy}
-use Rattle.sv_obl.specs.Routes.{names_in}
 use Rattle.sv_obl.proofs.RouteNames.{names_alike, held_name, some_piece, LeftOf, left_of}
 use Rattle.sv_obl.proofs.PutAlone.{Settled, AllSettled, well_formed_settled, settled_names}
 use Rattle.sv_obl.proofs.PutAlone.{put_leaves, steps_stay, NotAlone, put_alone, here, names_put}
@@ -47,11 +47,9 @@ same_test true false to from = sym (to refl)
 same_test false true to from = from refl
 same_test false false to from = refl
 
-or_same : (a b : Bool) → (a || b) ≡ (b || a)
-or_same true true = refl
-or_same true false = refl
-or_same false true = refl
-or_same false false = refl
+-- counts that are added up to one over the limit
+capped : (first second : ℕ) → min (min first 65537 + second) 65537 ≡ min (first + second) 65537
+capped first second = omega arith
 
 module _ (signals : List SignalForm) (s : ℕ) (inside : s < length signals) where
   abbrev both : List SignalForm
@@ -60,16 +58,12 @@ module _ (signals : List SignalForm) (s : ℕ) (inside : s < length signals) whe
   abbrev StepsSettled : List StepForm → Type 0
   StepsSettled steps = (step : StepForm) → Contains steps step → Settled signals s step.condition
 
-  -- some right side that was put names the signal
-  abbrev pub puts_name : List Put → ℕ → Bool
-  puts_name puts t = list_any (λ (put : Put). names_signal signals put.right t) puts
-
-  -- the names are the target's, where it is wanted, and those that were put
-  pub record Named (wants : Bool) (puts : List Put) (names : List ℕ) : Type 0 where
+  -- the names are the target's, where it is wanted, and those in what was put
+  pub record Named (wants : Bool) (put names : List ℕ) : Type 0 where
     pub rest : List ℕ
     pub are : names ≡ here signals s wants ++ rest
     pub settled : AllSettled signals s rest
-    pub each : (t : ℕ) → holds rest t ≡ puts_name puts t
+    pub each : (t : ℕ) → holds rest t ≡ holds put t
 
   -- before an assignment is taken the result is the target's name by itself
   abbrev pub Alone : Bool → TypedTree → Type 0
@@ -81,8 +75,8 @@ module _ (signals : List SignalForm) (s : ℕ) (inside : s < length signals) whe
     pub steps : p.steps ≡ reverse r.steps
     pub conditions : StepsSettled p.steps
     pub place : p.place ≡ r.place
-    pub nodes : p.nodes ≡ nodes_put r.puts
-    pub names : Named r.wants r.puts (names_in both p.result)
+    pub nodes : r.nodes ≡ min p.nodes 65537
+    pub names : Named r.wants r.names (names_in both p.result)
     pub alone : Alone (is_none r.place) p.result
 
   abbrev pub AllMatch : List Path → List Route → Type 0
@@ -295,9 +289,6 @@ module _ (signals : List SignalForm) (s : ℕ) (inside : s < length signals) whe
           (settled : Settled signals s way)
           (nodes_same : times_put signals s pieces r * nodes_in right
           ≡ times_put signals s pieces r * nodes_in way) where
-        abbrev put_form : Put
-        put_form = record { count = times_put signals s pieces r; right = way }
-
         put_steps : map (step_with (put_in signals pieces right)) p.steps ≡ p.steps
         put_steps = steps_stay signals s (put_in signals pieces right) p.steps
             (λ step at. put_leaves signals s pieces right step.condition (same.conditions step at))
@@ -312,17 +303,16 @@ module _ (signals : List SignalForm) (s : ℕ) (inside : s < length signals) whe
             (second_of (some_piece signals both way s pieces) (holds (names_in both way) t)
             (sym (left.each t) ∙ holds-from_Contains left.more t at)))
 
-        way_named : (t : ℕ) → holds left.more t ≡ names_signal signals way t
+        way_named : (t : ℕ) → holds left.more t ≡ holds (names_in [] way) t
         way_named t =
             left.each t ∙ ap (λ b. b && holds (names_in both way) t) some
-            ∙ ap (λ ns. holds ns t) (names_alike signals both way)
-            ∙ held_name (reads signals way) t
+            ∙ ap (λ ns. holds ns t) (names_alike [] both way)
 
         here_turned : (c : Bool) → cond c [] (copy_of signals s ∷ []) ≡ here signals s (not c)
         here_turned true = refl
         here_turned false = refl
 
-        named : Named (not (covers signals s pieces)) (r.puts ++ put_form ∷ [])
+        named : Named (not (covers signals s pieces)) (with_names r.names way)
             (names_in both (put_in signals pieces way p.result))
         named = record {
           rest = left.more ++ same.names.rest;
@@ -339,15 +329,8 @@ module _ (signals : List SignalForm) (s : ℕ) (inside : s < length signals) whe
           each = λ t.
               list_any-append (λ m. m == t) left.more same.names.rest
               ∙ ap₂ (λ a b. a || b) (way_named t) (same.names.each t)
-              ∙ or_same (names_signal signals way t) (puts_name r.puts t)
-              ∙ ap (λ b. puts_name r.puts t || b) (sym (or_none (names_signal signals way t)))
-              ∙ sym (list_any-append (λ (put : Put). names_signal signals put.right t) r.puts
-              (put_form ∷ []));
+              ∙ sym (put_held (names_in [] way) r.names t);
         }
-          where
-            or_none : (a : Bool) → (a || false) ≡ a
-            or_none true = refl
-            or_none false = refl
 
         may_be : (t : ℕ) → name_itself p.result ≡ Some t →
             IsFalse (is_copy signals t) ⊎ (t ≡ copy_of signals s)
@@ -386,23 +369,13 @@ module _ (signals : List SignalForm) (s : ℕ) (inside : s < length signals) whe
           conditions = subst StepsSettled (sym put_steps) same.conditions;
           place = ap (later_place (first_place s pieces)) same.place;
           nodes =
-              ap₂ (λ a b. a + b) same.nodes
-              (ap (λ k. k * nodes_in right) puts_are ∙ nodes_same)
-              ∙ sym (nodes_more r.puts);
+              ap₂ (λ a b. min (a + b) 65537) same.nodes
+              (sym (ap (λ k. k * nodes_in right) puts_are ∙ nodes_same))
+              ∙ capped p.nodes (puts_into signals s pieces p * nodes_in right);
           names = named;
           alone = subst (λ c. Alone c (put_in signals pieces way p.result)) (sym some_place)
               (put_alone signals s pieces way settled some p.result may_be);
         }
-          where
-            nodes_more : (puts : List Put)
-                → nodes_put (puts ++ put_form ∷ [])
-                ≡ nodes_put puts + times_put signals s pieces r * nodes_in way
-            nodes_more puts =
-                ap sum (map-append (λ (put : Put). put.count * nodes_in put.right) puts
-                (put_form ∷ []))
-                ∙ sum_by_push (λ k. k)
-                (map (λ (put : Put). put.count * nodes_in put.right) puts)
-                (times_put signals s pieces r * nodes_in way)
 
   -- ---- right sides
 

@@ -702,16 +702,17 @@ more_told parts i part old new inside at marks gains so = λ s.
     by_test s true is =
         let ns = numbers_at old s in
         let told = so s in
+        let more = chosen all (ns ++ i ∷ []) in
         subst (told_by all (i + 1) s)
         (sym (changed s true is ∙ put_last i ns told.0)) (
           All-push (λ k. k < i + 1) ns i (λ k d within. below (told.0 k d within)) (omega arith),
-          goes_then s (chain_of (take (i + 1) all)) (after start x) (chosen all (ns ++ i ∷ []))
+          goes_then s (chain_of (take (i + 1) all)) (after start x) more
               (for_target (chain_of (take (i + 1) all)) (after start x) longer s)
-              (goes_then s (after start x) (after (chosen all ns) x) (chosen all (ns ++ i ∷ []))
+              (goes_then s (after start x) (after (chosen all ns) x) more
               (goes_before s start (chosen all ns) x told.1)
-              (for_target (after (chosen all ns) x) (chosen all (ns ++ i ∷ []))
-              (same_back (chosen all (ns ++ i ∷ [])) (after (chosen all ns) x)
-              (subst (λ (y : FlatStatement). Same (chosen all (ns ++ i ∷ [])) (after (chosen all ns) y))
+              (for_target (after (chosen all ns) x) more
+              (same_back more (after (chosen all ns) x)
+              (subst (λ (y : FlatStatement). Same more (after (chosen all ns) y))
               (part_at parts i part nothing inside at) (chosen_more all ns i))) s)),
         )
       where

@@ -19,11 +19,11 @@ use Rattle.sv_flat.specs.Design.{FlatDesign}
 use Rattle.sv_obl.specs.Paths.{Path}
 use Rattle.sv_obl.specs.Limits.{target_paths, first_excess, excess}
 use Rattle.sv_obl.specs.Limits.{Excess, many_paths, large_path, many_obligations}
-use Rattle.sv_obl.specs.Routes.{Route, nodes_put}
+use Rattle.sv_obl.specs.Routes.{Route}
 
 -- over 65,536 nodes are put into the path
 abbrev pub is_large : Route → Bool
-is_large route = nat_lt 65536 (nodes_put route.puts)
+is_large route = nat_lt 65536 route.nodes
 
 -- the limit that a target passes with its routes, after so many obligations
 abbrev pub target_excess : (target total : ℕ) → List Route → Option Excess

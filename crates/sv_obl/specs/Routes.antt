@@ -1,43 +1,41 @@
 -- The paths through a process in which no read is an earlier one: no condition and no right side
 -- wants a name, so a path wants its target or nothing. This says only how the code goes; which
 -- paths a target has stands in `Paths`.
-use Rattle.std.specs.Prelude.{ℕ, ◌*◌, sum, Bool, true, false, ◌==◌, ◌&&◌, ◌||◌, not}
-use Rattle.std.specs.Prelude.{if◌then◌else◌, List, [], ◌∷◌, ◌++◌, length, map, flat_map}
+use Rattle.std.specs.Prelude.{ℕ, ◌+◌, ◌*◌, min, Bool, true, false, ◌&&◌, not}
+use Rattle.std.specs.Prelude.{if◌then◌else◌, List, [], ◌∷◌, ◌++◌, length, map, flat_map, fold}
 use Rattle.std.specs.Prelude.{reverse, slice_get, Option, Some, None, is_none, option_map}
-use Rattle.std.specs.List.{list_any}
+use Rattle.std.specs.BTreeSet.{insert_key}
+use Rattle.std.specs.Ordering.{nat_cmp}
 use Rattle.sv_num.specs.declared.faults.Place.{Place}
 use Rattle.sv_flat.specs.Design.{SignalForm, TypedTree, typed, choice, PieceForm, ProcessForm}
 use Rattle.sv_flat.specs.Design.{FlatStatement, nothing, after, assign, branch}
 use Rattle.sv_flat.specs.Assigned.{assigns}
 use Rattle.sv_flat.specs.Processes.{is_clocked}
 use Rattle.sv_flat.specs.Sets.{holds, those}
-use Rattle.sv_flat.specs.Readings.{ReadForm, reads, names_signal}
+use Rattle.sv_flat.specs.Readings.{ReadForm, reads}
 use Rattle.sv_obl.specs.Nodes.{nodes_in}
 use Rattle.sv_obl.specs.Obligations.{Obligation, flow, is_link, frame_of}
 use Rattle.sv_obl.specs.Paths.{StepForm, pieces_of, covers, later_place}
 
--- a right side that was put for the target's name, and how often it counts among the nodes
-pub record Put : Type 0 where
-  pub count : ℕ
-  pub right : TypedTree
-
--- A path as far back as statements were taken: its conditions, the last in the text first, what was
--- put for the target's name, the place of the last assignment to it, and whether it is wanted
--- still.
+-- A path as far back as statements were taken: its conditions, the last in the text first, the
+-- names in what was put for the target's name and the nodes of that, up to one over the limit, the
+-- place of the last assignment to the target, and whether it is wanted still.
 pub record Route : Type 0 where
   pub steps : List StepForm
-  pub puts : List Put
+  pub names : List ℕ
+  pub nodes : ℕ
   pub place : Option Place
   pub wants : Bool
 
 abbrev pub open_route : Route
-open_route = record { steps = []; puts = []; place = None; wants = true }
+open_route = record { steps = []; names = []; nodes = 0; place = None; wants = true }
 
 -- the route with a condition before it
 abbrev pub behind : StepForm → Route → Route
 behind step route = record {
   steps = route.steps ++ step ∷ [];
-  puts = route.puts;
+  names = route.names;
+  nodes = route.nodes;
   place = route.place;
   wants = route.wants;
 }
@@ -56,13 +54,29 @@ abbrev pub first_place : (target : ℕ) → List PieceForm → Option Place
 first_place s pieces =
     option_map (λ (piece : PieceForm). piece.place) (slice_get (pieces_of s pieces) 0)
 
+-- the signals of reads
+abbrev pub signals_of_reads : List ReadForm → List ℕ
+signals_of_reads rs = map (λ (r : ReadForm). r.signal) rs
+
+-- the names in an expression, in textual order
+abbrev pub names_in : List SignalForm → TypedTree → List ℕ
+names_in A t = signals_of_reads (reads A t)
+
+-- ascending names with those of a right side, each once
+abbrev pub with_names : List ℕ → (right : TypedTree) → List ℕ
+with_names names right = fold (insert_key nat_cmp) names (names_in [] right)
+
+-- nodes with those of a right side, as often as they count, up to one over the limit
+abbrev pub with_nodes : (nodes count : ℕ) → (right : TypedTree) → ℕ
+with_nodes nodes count right = min (nodes + count * nodes_in right) 65537
+
 -- the route with a right side put in
 abbrev pub with_put : List SignalForm → (target : ℕ) → List PieceForm → (right : TypedTree) →
     Route → Route
 with_put signals s pieces right route = record {
   steps = route.steps;
-  puts = route.puts
-      ++ record { count = times_put signals s pieces route; right = right } ∷ [];
+  names = with_names route.names right;
+  nodes = with_nodes route.nodes (times_put signals s pieces route) right;
   place = later_place (first_place s pieces) route.place;
   wants = not (covers signals s pieces);
 }
@@ -104,30 +118,12 @@ routes_before signals s (branch place condition first second) route =
 
 -- ---- what a route tells
 
--- the signals of reads
-abbrev pub signals_of_reads : List ReadForm → List ℕ
-signals_of_reads rs = map (λ (r : ReadForm). r.signal) rs
-
--- the names in an expression, in textual order
-abbrev pub names_in : List SignalForm → TypedTree → List ℕ
-names_in A t = signals_of_reads (reads A t)
-
--- the nodes that were put in
-abbrev pub nodes_put : List Put → ℕ
-nodes_put puts = sum (map (λ (put : Put). put.count * nodes_in put.right) puts)
-
--- at the beginning of a clocked block a target that is wanted still is read
-abbrev pub route_names : List SignalForm → (is_register : Bool) → (target : ℕ) → Route → ℕ → Bool
-route_names signals is_register s route t =
-    list_any (λ (step : StepForm). names_signal signals step.condition t) route.steps
-    || list_any (λ (put : Put). names_signal signals put.right t) route.puts
-    || (is_register && route.wants && (s == t))
-
--- all names on a route, in the order of its lists
+-- All names on a route, in the order of its lists. At the beginning of a clocked block a target
+-- that is wanted still is read.
 abbrev pub names_on : (is_register : Bool) → (target : ℕ) → Route → List ℕ
 names_on is_register s route =
     flat_map (λ (step : StepForm). names_in [] step.condition) route.steps
-    ++ flat_map (λ (put : Put). names_in [] put.right) route.puts
+    ++ route.names
     ++ (if is_register && route.wants then s ∷ [] else [])
 
 -- the obligation of a route through a process, where there are so many signals

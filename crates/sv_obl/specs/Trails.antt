@@ -11,21 +11,18 @@ use Rattle.sv_obl.specs.declared.faults.OblFault.{OblFault}
 use Rattle.sv_obl.specs.declared.faults.OblFault.TheVariants.{Paths, Large, Many}
 use Rattle.sv_obl.specs.declared.faults.OblFault.TheVariants as fault
 use Rattle.sv_obl.specs.declared.trails.Turn.{Turn}
-use Rattle.sv_obl.specs.declared.trails.Filling.{Filling}
 use Rattle.sv_obl.specs.declared.trails.Trail.{Trail}
 use Rattle.sv_obl.specs.Paths.{StepForm}
-use Rattle.sv_obl.specs.Routes.{Put, Route}
+use Rattle.sv_obl.specs.Routes.{Route}
 
 abbrev pub turn_form : Turn → StepForm
 turn_form t = record { place = t.place; condition = typed_tree t.cond.now; truth = t.truth }
 
-abbrev pub put_of : Filling → Put
-put_of f = record { count = f.count; right = typed_tree f.right.now }
-
 abbrev pub route_of : Trail → Route
 route_of t = record {
   steps = map turn_form t.turns.items;
-  puts = map put_of t.fillings.items;
+  names = t.names.keys;
+  nodes = t.nodes;
   place = t.place;
   wants = t.wants;
 }

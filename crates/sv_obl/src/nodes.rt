@@ -4,19 +4,17 @@ ghost use Rattle.std.specs.List.{list_any};
 ghost use Rattle.sv_flat.specs.Views.{typed_tree, typed_trees, node_tree, parts_of};
 ghost use Rattle.sv_obl.specs.Nodes.{nodes_in, nodes_under, nodes_in_parts};
 ghost use Rattle.sv_obl.specs.Answers.{is_large};
-ghost use Rattle.sv_obl.specs.Routes.{nodes_put};
-ghost use Rattle.sv_obl.specs.Trails.{put_of, route_of, routes_of};
+ghost use Rattle.sv_obl.specs.Routes.{with_nodes};
+ghost use Rattle.sv_obl.specs.Trails.{route_of, routes_of};
 
-use crate::trails::{Filling, Trail};
+use crate::trails::Trail;
 use sv_flat::{FExpr, FNode};
 
 // The sum of two counts, up to one over the limit.
 fn sum(first: u32, second: u32) -> u32
-    requires first { first ≤ 65537 }
-    requires second { second ≤ 65537 }
     ensures { result ≡ min (first + second) 65537 }
 {
-    (first + second).min(65_537)
+    first.saturating_add(second).min(65_537)
 }
 
 // The nodes of an expression, up to one over the limit.
@@ -74,26 +72,29 @@ fn times(count: usize, nodes: u32) -> u32
     (count as u64 * u64::from(nodes)).min(65_537) as u32
 }
 
-// The nodes of a right side, as often as they count.
-fn nodes_of(filling: &Filling) -> u32
-    ensures { result ≡ min
-        ((put_of filling.now).count * nodes_in (put_of filling.now).right) 65537 }
+// The nodes of a right side, as often as they count, up to one over the limit.
+fn nodes_of(count: usize, right: &FExpr) -> u32
+    ensures { result ≡ min (count * nodes_in (typed_tree right.now)) 65537 }
 {
-    if filling.count == 0 {
+    if count == 0 {
         return 0;
     }
-    times(filling.count, nodes_in(filling.right))
+    times(count, nodes_in(right))
+}
+
+/// So many nodes, and those of a right side that is put in, as often as they count: up to one over
+/// the limit.
+pub fn with_nodes(nodes: u32, count: usize, right: &FExpr) -> u32
+    ensures { result ≡ with_nodes nodes count (typed_tree right.now) }
+{
+    sum(nodes, nodes_of(count, right))
 }
 
 // Whether over 65,536 nodes are put into the path.
 fn is_large(trail: &Trail) -> bool
     ensures { result ≡ is_large (route_of trail.now) }
 {
-    let mut total = 0;
-    for filling in &trail.fillings {
-        total = sum(total, nodes_of(filling));
-    }
-    total > 65_536
+    trail.nodes > 65_536
 }
 
 /// Whether over 65,536 nodes are put into one of the paths.

@@ -1,17 +1,17 @@
 // The signals that a path reads.
 ghost use Rattle.std.specs.Prelude.{◌≡◌, ℕ, ◌<◌, [], ◌∷◌, ◌++◌, ◌&&◌, if◌then◌else◌, fold, map};
-ghost use Rattle.std.specs.Prelude.{flat_map, length, All, IfOk, OnOk};
+ghost use Rattle.std.specs.Prelude.{flat_map, All, IfOk, OnOk};
 ghost use Rattle.std.specs.BTreeSet.{insert_key};
 ghost use Rattle.std.specs.Ordering.{nat_cmp};
 ghost use Rattle.sv_flat.specs.Sets.{holds, those};
 ghost use Rattle.sv_flat.specs.Readings.{parts_reads};
 ghost use Rattle.sv_flat.specs.Views.{typed_tree, typed_trees, parts_of};
 ghost use Rattle.sv_obl.specs.Paths.{StepForm};
-ghost use Rattle.sv_obl.specs.Routes.{Put, signals_of_reads, names_in, names_on};
-ghost use Rattle.sv_obl.specs.Trails.{turn_form, put_of, route_of};
+ghost use Rattle.sv_obl.specs.Routes.{signals_of_reads, names_in, with_names, names_on};
+ghost use Rattle.sv_obl.specs.Trails.{turn_form, route_of};
 ghost use Rattle.sv_obl.specs.Views.{number_of};
 
-use crate::trails::{Filling, Trail, Turn};
+use crate::trails::{Trail, Turn};
 use std::alloc::{AllocError, Global};
 use std::collections::BTreeSet;
 use sv_flat::{FExpr, FNode, SigId};
@@ -86,13 +86,12 @@ fn add_of_turns(turns: &[Turn], names: &mut Vec<u32>) -> Result<(), AllocError>
     Ok(())
 }
 
-// Adds those of what was put for the target's name.
-fn add_of_fillings(fillings: &[Filling], names: &mut Vec<u32>) -> Result<(), AllocError>
-    ensures { OnOk result (names.new.items ≡ names.old.items
-        ++ flat_map (λ (put : Put). names_in [] put.right) (map put_of fillings.now)) }
+// Adds those of a set.
+fn add_of_set(set: &BTreeSet<u32>, names: &mut Vec<u32>) -> Result<(), AllocError>
+    ensures { OnOk result (names.new.items ≡ names.old.items ++ set.now.keys) }
 {
-    for filling in fillings {
-        add_names(filling.right, names)?;
+    for name in set {
+        names.push(*name)?;
     }
     Ok(())
 }
@@ -108,15 +107,36 @@ fn add_held(held: bool, target: SigId, names: &mut Vec<u32>) -> Result<(), Alloc
     Ok(())
 }
 
+// The set with numbers put in.
+fn with_all(set: BTreeSet<u32>, names: &[u32]) -> Result<BTreeSet<u32>, AllocError>
+    ensures { IfOk result (λ all. all.keys ≡ fold (insert_key nat_cmp) set.keys names.now) }
+{
+    let mut all = set;
+    for name in names {
+        all.insert(*name)?;
+    }
+    Ok(all)
+}
+
 /// The numbers in ascending order, each once; an error where memory runs out.
 pub fn set_of(alloc: Global, names: &[u32]) -> Result<BTreeSet<u32>, AllocError>
     ensures { IfOk result (λ set. set.keys ≡ fold (insert_key nat_cmp) [] names.now) }
 {
-    let mut set = BTreeSet::new(alloc);
-    for name in names {
-        set.insert(*name)?;
-    }
-    Ok(set)
+    with_all(BTreeSet::new(alloc), names)
+}
+
+/// The numbers with those of the signals that are named in an expression, in ascending order, each
+/// once; an error where memory runs out.
+pub fn with_names(
+    alloc: Global,
+    set: BTreeSet<u32>,
+    expr: &FExpr,
+) -> Result<BTreeSet<u32>, AllocError>
+    ensures { IfOk result (λ all. all.keys ≡ with_names set.keys (typed_tree expr.now)) }
+{
+    let mut names = Vec::new(alloc);
+    add_names(expr, &mut names)?;
+    with_all(set, &names)
 }
 
 // The signals of a set.
@@ -149,7 +169,7 @@ fn names_of(
 {
     let mut names = Vec::new(alloc);
     add_of_turns(&trail.turns, &mut names)?;
-    add_of_fillings(&trail.fillings, &mut names)?;
+    add_of_set(&trail.names, &mut names)?;
     add_held(is_held(is_register, trail), target, &mut names)?;
     Ok(names)
 }

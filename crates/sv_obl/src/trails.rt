@@ -4,6 +4,7 @@ ghost use Rattle.sv_obl.specs.Routes.{open_route, behind as route_behind};
 ghost use Rattle.sv_obl.specs.Trails.{turn_form, route_of, routes_of};
 
 use std::alloc::{AllocError, Global};
+use std::collections::BTreeSet;
 use sv_flat::FExpr;
 use sv_num::Place;
 
@@ -15,20 +16,16 @@ pub struct Turn<'a> {
     pub truth: bool,
 }
 
-/// A right side that was put for the target's name, and how often it counts among the nodes.
-#[derive(Clone, Copy, Debug)]
-pub struct Filling<'a> {
-    pub count: usize,
-    pub right: &'a FExpr,
-}
-
-/// A path as far back as statements were taken.
+/// A path as far back as statements were taken. Of the right sides that were put for the target's
+/// name it keeps what is asked of them later, so that it is no longer than what is printed of it.
 #[derive(Debug, Drop)]
 pub struct Trail<'a> {
     /// Its conditions, the last in the text first.
     pub turns: Vec<Turn<'a>>,
-    /// What was put for the target's name, the last in the text first.
-    pub fillings: Vec<Filling<'a>>,
+    /// The numbers of the signals that are named in what was put for the target's name.
+    pub names: BTreeSet<u32>,
+    /// The nodes of what was put, up to one over the limit.
+    pub nodes: u32,
     /// The place of the target's name in the last assignment, and none before one is taken.
     pub place: Option<Place>,
     /// Whether the target is wanted still.
@@ -42,7 +39,8 @@ impl<'a> Trail<'a> {
     {
         Trail {
             turns: Vec::new(alloc),
-            fillings: Vec::new(alloc),
+            names: BTreeSet::new(alloc),
+            nodes: 0,
             place: None,
             wants: true,
         }
@@ -54,7 +52,8 @@ impl<'a> Trail<'a> {
     {
         Ok(Trail {
             turns: self.turns.as_slice().to_vec(alloc)?,
-            fillings: self.fillings.as_slice().to_vec(alloc)?,
+            names: self.names.clone()?,
+            nodes: self.nodes,
             place: self.place,
             wants: self.wants,
         })
@@ -70,7 +69,8 @@ fn behind<'a>(trail: Trail<'a>, turn: Turn<'a>) -> Result<Trail<'a>, AllocError>
     turns.push(turn)?;
     Ok(Trail {
         turns,
-        fillings: trail.fillings,
+        names: trail.names,
+        nodes: trail.nodes,
         place: trail.place,
         wants: trail.wants,
     })

@@ -11,8 +11,10 @@ ghost use Rattle.sv_obl.specs.Trails.{piece_forms, route_of, routes_of, Walks, A
 
 use crate::cuts::Cut;
 use crate::faults::WalkFault;
+use crate::nodes::with_nodes;
 use crate::pieces::{count_of, covers, first_place};
-use crate::trails::{Filling, Trail, Turn, add_behind, alone};
+use crate::reads::with_names;
+use crate::trails::{Trail, Turn, add_behind, alone};
 use std::alloc::{AllocError, Global};
 use sv_flat::{FExpr, FNode, Piece, SigId, Signal};
 use sv_num::Place;
@@ -91,6 +93,7 @@ fn place_with(target: SigId, pieces: &[Piece], place: Option<Place>) -> Option<P
 
 // The trail with a right side put in.
 fn with_put<'a>(
+    alloc: Global,
     signals: &[Signal],
     target: SigId,
     pieces: &[Piece],
@@ -102,11 +105,10 @@ fn with_put<'a>(
         (piece_forms pieces.now) (typed_tree right.now) (route_of trail.entry)) }
 {
     let count = times_put(signals, target, pieces, &trail);
-    let mut fillings = trail.fillings;
-    fillings.push(Filling { count, right })?;
     Ok(Trail {
         turns: trail.turns,
-        fillings,
+        names: with_names(alloc, trail.names, right)?,
+        nodes: with_nodes(trail.nodes, count, right),
         place: place_with(target, pieces, trail.place),
         wants: !covers(signals, target, pieces),
     })
@@ -125,7 +127,7 @@ fn put_whole<'a>(
     ensures { Walks (with_put (signal_forms signals.now) target.0 (piece_forms pieces.now)
         (typed_tree right.now) (route_of trail.entry) ∷ []) result }
 {
-    let put = with_put(signals, target, pieces, right, trail)?;
+    let put = with_put(alloc, signals, target, pieces, right, trail)?;
     Ok(alone(alloc, put)?)
 }
 

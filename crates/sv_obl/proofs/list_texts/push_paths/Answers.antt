@@ -1,13 +1,10 @@
-use Rattle.std.proofs.Common.{◌+◌, ◌∷◌, [], length, map, take, sym, subst}
+use Rattle.std.proofs.Common.{◌+◌, length, map, take}
 use Rattle.sv_flat.specs.ByNumber.{signal_forms}
 use Rattle.sv_flat.specs.Views.{process_form}
 use Rattle.sv_obl.specs.Routes.{route_obligation}
 use Rattle.sv_obl.specs.Trails.{route_of, routes_of}
-use Rattle.sv_obl.specs.Views.{IsAmong}
-use Rattle.sv_obl.specs.Written.{Writes}
 use Rattle.sv_obl.proofs.TargetFacts.{trail_among}
 use Rattle.sv_obl.proofs.WrittenFacts.{routes_more, fewer_routes, none_written, one_written}
-use Rattle.sv_obl.proofs.WrittenFacts.{route_among}
 use Rattle.sv_obl.proofs.list_texts.push_paths.Goals as goal
 
 pub loop-trail-init : goal.loop-trail-init

@@ -6,7 +6,7 @@ use Rattle.sv_flat.specs.declared.signals.SigId.{SigId}
 use Rattle.sv_flat.specs.ByNumber.{signal_forms}
 use Rattle.sv_flat.specs.Processes.{is_clocked}
 use Rattle.sv_flat.specs.Sets.{holds, those}
-use Rattle.sv_flat.specs.Views.{process_kind, process_form}
+use Rattle.sv_flat.specs.Views.{process_form}
 use Rattle.sv_obl.specs.declared.frames.Frame.{Frame}
 use Rattle.sv_obl.specs.declared.trails.Turn.{Turn}
 use Rattle.sv_obl.specs.ListLines.{blanked, name_of, frame_word, step_word, right_word}

@@ -2,8 +2,11 @@ pub mod AtPlace
 pub mod ByDepth
 pub mod EdgeFacts
 pub mod Fitting
+pub mod Fronts
 pub mod GivenValues
 pub mod InOrder
 pub mod NextValues
+pub mod PlanFacts
+pub mod ReadRuns
 pub mod OneDesign
 pub mod Simulated

@@ -13,6 +13,7 @@ use Rattle.std.proofs.Math.Seq.{take-append_seam}
 use Rattle.std.proofs.Math.ListN.{get_or-eq_default}
 use Rattle.std.proofs.lemmas.Bool.{eqb-true, false≢true}
 use Rattle.std.proofs.lemmas.List.{length-map, get_or-map, get_or-replicate, length-replicate}
+use Rattle.std.proofs.lemmas.List.Elements.{Contains-get_or}
 use Rattle.std.proofs.lemmas.List.Quantifiers.{position-Some}
 use Rattle.sv_system.specs.System.{Environment, Settled, IsStill, SameSignals}
 use Rattle.sv_system.specs.Schedules.{IsTheSettled}
@@ -32,15 +33,16 @@ use Rattle.sv_flat.specs.Clocks.{is_clock, processes_of}
 use Rattle.sv_flat.specs.FlatSystem.{flat_system}
 use Rattle.sv_flat.specs.Processes.{is_clocked, is_top_kind, is_top_input}
 use Rattle.sv_flat.specs.Processes.{signals_that}
-use Rattle.sv_flat.specs.Reads.{is_combinational}
+use Rattle.sv_flat.specs.Reads.{is_combinational, order}
 use Rattle.sv_flat.specs.SignalLists.{inputs as inputs_of, driver_of}
 use Rattle.sv_flat.specs.Soundness.{sound}
 use Rattle.sv_flat.specs.Values.{signal_width}
 use Rattle.sv_flat.specs.Views.{signal_form, design_of}
 use Rattle.sv_flat.proofs.AdmittedFacts.{and_true, is_process, combinational_is_driven}
-use Rattle.sv_flat.proofs.Depths.{first_of, second_of}
+use Rattle.sv_flat.proofs.Depths.{first_of, second_of, is_below}
 use Rattle.sv_flat.proofs.FlatScheduled.{parts_of}
 use Rattle.sv_flat.proofs.LeastSets.{either_way, some_from, in_those, those_pass}
+use Rattle.sv_flat.proofs.Orders.{order_only}
 use Rattle.sv_flat.proofs.SameRuns.{none_found}
 use Rattle.sv_design.specs.Numbers.{numbers}
 use Rattle.sv_sim.specs.Given.{with_given, given}
@@ -67,6 +69,31 @@ pub number_at : (ss : List SigId) (ns : List ℕ) → numbers ss ≡ ns → (k :
 number_at ss ns is k inside =
     ap (λ ms. slice_index ms k) (sym is)
     ∙ get_or-map (λ (s : SigId). s.0) ss k (record { 0 = 0 }) 0 inside
+
+-- it is one of them
+pub listed_at : (ss : List SigId) (ns : List ℕ) → numbers ss ≡ ns → (k : ℕ) → k < length ss
+    → Contains ns (get_or ss k (record { 0 = 0 })).0
+listed_at ss ns is k inside =
+    subst (Contains ns) (number_at ss ns is k inside)
+    (Contains-get_or ns k 0
+    (subst (λ n. k < n) (sym (length-map ss (λ (s : SigId). s.0)) ∙ ap length is) inside))
+
+-- each signal of the order is combinational, and a signal
+pub order_at : (flat : Flat) → IsAdmitted (design_of flat) → (ss : List SigId)
+    → numbers ss ≡ order (design_of flat) → (k : ℕ) → k < length ss
+    → IsTrue (is_combinational (design_of flat) (get_or ss k (record { 0 = 0 })).0)
+order_at flat admitted ss is k inside =
+    order_only (design_of flat) admitted.ordered (get_or ss k (record { 0 = 0 })).0
+    (listed_at ss (order (design_of flat)) is k inside)
+
+pub order_within : (flat : Flat) → IsAdmitted (design_of flat) → (ss : List SigId)
+    → numbers ss ≡ order (design_of flat) → (k : ℕ) → k < length ss
+    → (get_or ss k (record { 0 = 0 })).0 < length flat.signals.items
+order_within flat admitted ss is k inside =
+    subst (λ n. (get_or ss k (record { 0 = 0 })).0 < n)
+    (length-map flat.signals.items signal_form)
+    (is_below (design_of flat) (get_or ss k (record { 0 = 0 })).0
+    (order_at flat admitted ss is k inside))
 
 -- listed signals are signals
 pub numbers_within : (flat : Flat) (signals : List Signal) → signals ≡ flat.signals.items

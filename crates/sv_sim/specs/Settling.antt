@@ -1,14 +1,14 @@
 -- Words for how settling and the clock edge go, process by process. What settled and next mean is
 -- said in sv_system/specs/System.antt.
-use Rattle.std.specs.Prelude.{◌≡◌, ℕ, ◌<◌, IsTrue, IsFalse, List, length, take, filter}
-use Rattle.std.specs.Prelude.{slice_index_or, Contains}
+use Rattle.std.specs.Prelude.{◌≡◌, ℕ, ◌<◌, Bool, false, IsTrue, IsFalse, List, length, take, filter}
+use Rattle.std.specs.Prelude.{slice_index, slice_index_or, Contains}
 use Rattle.sv_system.specs.System.{Environment}
 use Rattle.sv_flat.specs.Design.{ProcessForm, continuous, nothing, FlatDesign}
 use Rattle.sv_flat.specs.Assigned.{assigns}
 use Rattle.sv_flat.specs.Clocks.{processes_of}
 use Rattle.sv_flat.specs.FlatSystem.{combinational_processes, run_of}
 use Rattle.sv_flat.specs.Processes.{is_clocked}
-use Rattle.sv_flat.specs.Reads.{is_combinational, order}
+use Rattle.sv_flat.specs.Reads.{is_combinational, reads_for}
 
 -- no run of a combinational process that assigns the signal changes it
 abbrev pub IsStable : FlatDesign → Environment ℕ → ℕ → Type 0
@@ -16,10 +16,23 @@ IsStable design environment s = (p : ProcessForm) → Contains (combinational_pr
     → IsTrue (assigns p.body s)
     → run_of design p environment s ≡ environment s
 
--- the first so many signals of the order are stable
-abbrev pub FrontIsStable : FlatDesign → Environment ℕ → ℕ → Type 0
-FrontIsStable design environment i =
-    (s : ℕ) → Contains (take i (order design)) s → IsStable design environment s
+-- The list has the combinational signals and no others, each behind the combinational signals that
+-- are read for it.
+pub record IsPlan (design : FlatDesign) (plan : List ℕ) : Type 0 where
+  pub all : (s : ℕ) → IsTrue (is_combinational design s) → Contains plan s
+  pub only : (s : ℕ) → Contains plan s → IsTrue (is_combinational design s)
+  pub behind : (i : ℕ) → i < length plan → (r : ℕ) → IsTrue (is_combinational design r)
+      → Contains (reads_for design (slice_index plan i)) r
+      → Contains (take i plan) r
+
+-- the table says that the signal is left
+abbrev pub is_left : List Bool → ℕ → Bool
+is_left table s = slice_index_or table s false
+
+-- the first so many signals of the plan are stable
+abbrev pub FrontIsStable : FlatDesign → (plan : List ℕ) → Environment ℕ → ℕ → Type 0
+FrontIsStable design plan environment i =
+    (s : ℕ) → Contains (take i plan) s → IsStable design environment s
 
 -- the process at a place; past the end one that does nothing
 abbrev pub process_at : FlatDesign → ℕ → ProcessForm

@@ -12,11 +12,18 @@
 //! sees of a simulation, and `Given.antt` how values are given to signals. `Settling.antt` is
 //! private, but for `process_at`, the process of `run_at` and `update_at`: it says how settling and
 //! the edge go.
+//!
+//! Settling goes by a plan of the combinational signals, which `new` makes. `drafts` and `groups`
+//! promise no more than to end safely: whether a draft is a plan is asked of it, and the order by
+//! depth stands in for one that is none. Only the time that settling takes hangs on the draft.
 #![tactic(auto)]
 
+mod drafts;
 mod edges;
+mod groups;
 mod laws;
 mod listed;
+mod plans;
 mod settling;
 mod sim;
 

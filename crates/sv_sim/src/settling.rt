@@ -1,31 +1,34 @@
 // Settling.
-ghost use Rattle.std.specs.Prelude.{◌≡◌, ◌+◌, ◌<◌, ℕ, IsTrue, IfSome, length, slice_index};
+ghost use Rattle.std.specs.Prelude.{◌≡◌, ◌+◌, ◌<◌, ℕ, IsTrue, IfSome, List, length};
+ghost use Rattle.std.specs.Prelude.{slice_index};
 ghost use Rattle.sv_design.specs.Designs.{IsDesign};
+ghost use Rattle.sv_design.specs.Numbers.{numbers};
 ghost use Rattle.sv_flat.specs.ByNumber.{by_number, FitSignals};
 ghost use Rattle.sv_flat.specs.Clocks.{processes_of};
 ghost use Rattle.sv_flat.specs.FlatSystem.{flat_system, run_of};
-ghost use Rattle.sv_flat.specs.Reads.{is_combinational, order};
+ghost use Rattle.sv_flat.specs.Reads.{is_combinational};
 ghost use Rattle.sv_flat.specs.Views.{design_of};
 ghost use Rattle.sv_system.specs.System.{IsStill};
 ghost use Rattle.sv_sim.specs.Settling.{FrontIsStable, process_at, OwnIsStable, SameOthers};
-ghost use Rattle.sv_sim.specs.Settling.{IsDriver};
+ghost use Rattle.sv_sim.specs.Settling.{IsDriver, IsPlan};
 
 use sv_design::Design;
 use sv_flat::{SigId, run_body};
 
-/// Runs the processes that assign the combinational signals, those of lower signals first: once all
-/// lower signals are settled, a run settles what it assigns.
-pub fn settle(design: &Design, values: &mut [u64])
-    requires { FitSignals (design_of design.now).signals values.old }
+/// Runs the processes that assign the signals of a plan, one after the other: once all that is read
+/// for a signal is settled, a run of its process settles it.
+pub fn settle(design: &Design, plan: &[SigId], values: &mut [u64])
+    requires design { IsDesign (design_of design.now) }
+    requires plan { IsPlan (design_of design.now) (numbers plan.now) }
+    requires fit { FitSignals (design_of design.now).signals values.old }
     ensures fit { FitSignals (design_of design.now).signals values.new }
     ensures others { SameOthers (design_of design.now) (by_number values.new)
         (by_number values.old) }
     ensures still { IsStill (flat_system (design_of design.now)) (by_number values.new) }
 {
-    let order = design.order();
     let mut last = None;
-    for k in 0..order.len() {
-        last = settle_next(design, order[k], last, values);
+    for k in 0..plan.len() {
+        last = settle_next(design, plan[k], last, values);
     }
 }
 
@@ -45,10 +48,10 @@ fn settle_next(
     ensures others { SameOthers (design_of design.now) (by_number values.new)
         (by_number values.old) }
     ensures last { IfSome result (OwnIsStable (design_of design.now) (by_number values.new)) }
-    ensures front { (i : ℕ) → i < length (order (design_of design.now))
-        → slice_index (order (design_of design.now)) i ≡ signal.0
-        → FrontIsStable (design_of design.now) (by_number values.old) i
-        → FrontIsStable (design_of design.now) (by_number values.new) (i + 1) }
+    ensures front { (plan : List ℕ) → IsPlan (design_of design.now) plan
+        → (i : ℕ) → i < length plan → slice_index plan i ≡ signal.0
+        → FrontIsStable (design_of design.now) plan (by_number values.old) i
+        → FrontIsStable (design_of design.now) plan (by_number values.new) (i + 1) }
 {
     let place = driver(design, signal);
     if last == Some(place) {
@@ -58,8 +61,8 @@ fn settle_next(
     Some(place)
 }
 
-// The place of the process of a combinational signal.
-fn driver(design: &Design, signal: SigId) -> usize
+/// The place of the process of a combinational signal.
+pub fn driver(design: &Design, signal: SigId) -> usize
     requires { IsTrue (is_combinational (design_of design.now) signal.0) }
     ensures driver { IsDriver (design_of design.now) signal.0 result }
     ensures design { IsDesign (design_of design.now) }

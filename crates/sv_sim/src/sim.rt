@@ -12,6 +12,7 @@ ghost use Rattle.sv_sim.specs.Given.{FitListed, with_given, given};
 
 use crate::edges::clock_edge;
 use crate::listed::{fits, put_listed};
+use crate::plans::plan_of;
 use crate::settling::settle;
 use std::alloc::{AllocError, Global};
 use std::marker::Model;
@@ -27,6 +28,8 @@ pub struct Sim<'a> {
     values: Vec<u64>,
     // Room for the values after the clock edge.
     next: Vec<u64>,
+    // The combinational signals in the order in which settling runs their processes.
+    plan: Vec<SigId>,
     is_settled: bool,
 }
 
@@ -37,6 +40,8 @@ impl<'a> Model for Sim<'a> {
     ghost use Rattle.sv_flat.specs.contracts.statements.FStmt as statement;
     ghost use Rattle.sv_flat.specs.declared.designs.Flat.{Flat};
     ghost use Rattle.sv_flat.specs.Views.{design_of};
+    ghost use Rattle.sv_design.specs.Numbers.{numbers};
+    ghost use Rattle.sv_sim.specs.Settling.{IsPlan};
     ghost use Rattle.sv_sim.specs.Simulations.{Simulation, IsSimulation};
 
     ghost Value = { Simulation };
@@ -55,7 +60,8 @@ impl<'a> Model for Sim<'a> {
 
     ghost invariant = { λ s.
         IsSimulation (design_of s.design.now) s.values.items s.is_settled
-        × (length s.next.items ≡ length s.values.items) };
+        × (length s.next.items ≡ length s.values.items)
+        × IsPlan (design_of s.design.now) (numbers s.plan.items) };
 }
 
 impl<'a> Sim<'a> {
@@ -72,6 +78,7 @@ impl<'a> Sim<'a> {
             design,
             values: vec![in alloc; 0; count]?,
             next: vec![in alloc; 0; count]?,
+            plan: plan_of(alloc, design)?,
             is_settled: false,
         })
     }
@@ -130,7 +137,7 @@ impl<'a> Sim<'a> {
             self.design.signals(),
             &mut self.values,
         );
-        settle(self.design, &mut self.values);
+        settle(self.design, &self.plan, &mut self.values);
         self.is_settled = true;
     }
 

@@ -9,13 +9,14 @@ use Rattle.sv_sim.proofs.Simulated.{last_is}
 use Rattle.sv_sim.proofs.settling.settle_next.Goals as goal
 
 pub returns-then-eq-clause-front : goal.returns-then-eq-clause-front
-returns-then-eq-clause-front c = λ i inside at front.
+returns-then-eq-clause-front c = λ plan is_plan i inside at front.
     let design = design_of c.args.design.now in
     let fine = c.driver-place.ensures.design in
     let e = by_number c.args.values.now in
     let own = last_is c.args.last c.driver-place.result (OwnIsStable design e) c.requires.last
     (sym c.eq.ensures ∙ c.if-eq.true) in
-    front_more design fine.is_sound fine.is_admitted e i c.args.signal.0 inside at front
+    front_more design fine.is_sound fine.is_admitted plan is_plan e i c.args.signal.0 inside at
+    front
     (own c.args.signal.0 c.driver-place.ensures.driver.assigned)
 
 pub returns-clause-others : goal.returns-clause-others
@@ -39,15 +40,15 @@ returns-clause-last c =
     (own_stable design fine.is_sound fine.is_admitted p c.driver-place.ensures.driver.process e)
 
 pub returns-clause-front : goal.returns-clause-front
-returns-clause-front c = λ i inside at front.
+returns-clause-front c = λ plan is_plan i inside at front.
     let design = design_of c.args.design.now in
     let fine = c.driver-place.ensures.design in
     let e = by_number c.args.values.now in
     let p = process_at design c.driver-place.result in
     let among = c.driver-place.ensures.driver.process in
-    subst (λ (f : Environment ℕ). FrontIsStable design f (i + 1)) (sym c.run_at.ensures.run)
-    (front_more design fine.is_sound fine.is_admitted (run_of design p e) i c.args.signal.0 inside
-    at
-    (front_stays design fine.is_sound fine.is_admitted p among e i front)
+    subst (λ (f : Environment ℕ). FrontIsStable design plan f (i + 1)) (sym c.run_at.ensures.run)
+    (front_more design fine.is_sound fine.is_admitted plan is_plan (run_of design p e) i
+    c.args.signal.0 inside at
+    (front_stays design fine.is_sound fine.is_admitted plan is_plan p among e i front)
     (own_stable design fine.is_sound fine.is_admitted p among e c.args.signal.0
     c.driver-place.ensures.driver.assigned))

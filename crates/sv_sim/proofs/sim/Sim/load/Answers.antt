@@ -37,5 +37,7 @@ invariant_of-self c =
     c.self.invariant.0 fit put in
     let size = c.self.invariant.1
     ∙ sym (c.put_listed.auto.values ∙ ap length c.deref_mut.ensures.value) in
-    subst (λ (vs : List ℕ).
-    IsSimulation design vs false × (length now.next.items ≡ length vs)) (sym whole) (loaded, size)
+    let both = subst (λ (vs : List ℕ).
+    IsSimulation design vs false × (length now.next.items ≡ length vs)) (sym whole)
+    (loaded, size) in
+    (both.0, both.1, c.self.invariant.2)

@@ -16,4 +16,5 @@ invariant_of-result c =
       new_simulation (design_of flat) c.in_ok-vec.field-0.items
           (first ∙ ap (λ k. replicate k 0) count),
       ap length (second ∙ sym first),
+      c.in_ok-plan_of.ensures,
     )

@@ -48,8 +48,9 @@ invariant_of-self c =
     c.settle.ensures.fit others c.settle.ensures.still in
     let size = c.self.invariant.1 ∙ (c.self.invariant.0).fit.count
     ∙ sym c.settle.ensures.fit.count in
-    subst (λ (vs : List ℕ). IsSimulation design vs true × (length now.next.items ≡ length vs))
-    (sym whole) (after, size)
+    let both = subst (λ (vs : List ℕ).
+    IsSimulation design vs true × (length now.next.items ≡ length vs)) (sym whole) (after, size) in
+    (both.0, both.1, c.self.invariant.2)
 
 pub returns-clause-values : goal.returns-clause-values
 returns-clause-values c =

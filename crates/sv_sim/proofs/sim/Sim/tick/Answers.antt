@@ -24,6 +24,7 @@ invariant_of-self c =
     now.is_settled c.self.invariant.0 c.clock_edge.ensures.fit next in
     let size = ap length old ∙ (c.self.invariant.0).fit.count
     ∙ sym c.clock_edge.ensures.fit.count in
-    subst (λ (vs : List ℕ).
+    let both = subst (λ (vs : List ℕ).
     IsSimulation design vs false × (length c.swap.new.y.items ≡ length vs)) (sym whole)
-    (ticked, size)
+    (ticked, size) in
+    (both.0, both.1, c.self.invariant.2)

@@ -2,7 +2,7 @@
 use Rattle.std.proofs.Common.{◌≡◌, [], ◌∷◌, Some, None, codes, refl}
 use Rattle.clap.proofs.OnLiterals.{clap_on_literals}
 use Rattle.sv_words.specs.Lines.{found_in, is_read, line_of}
-use Rattle.sv_words.specs.Words.{check, help_asked, request_of, sim, usage_of}
+use Rattle.sv_words.specs.Words.{check, help_asked, list, request_of, sim, usage_of}
 use Rattle.sv_words.specs.declared.command.CommandName.TheVariants.{Check}
 use Rattle.sv_words.specs.declared.command.UsageKind.TheVariants.{NoCommand, UnknownCommand, Words}
 
@@ -41,6 +41,62 @@ numbered = refl
 numbered_is_right : usage_of (codes "sim" ∷ codes "--order" ∷ codes "+07" ∷ codes "-" ∷ []) ≡ None
 unfolding is_read line_of clap_on_literals
 numbered_is_right = refl
+
+-- a level is the point that is shown, and neither a top nor an order
+at_a_level : request_of (codes "sim" ∷ codes "f" ∷ codes "--level" ∷ codes "L" ∷ [])
+    ≡ Some (sim (codes "f") (Some (codes "L")) None None)
+unfolding found_in line_of clap_on_literals
+at_a_level = refl
+
+at_a_level_is_right : usage_of (codes "sim" ∷ codes "f" ∷ codes "--level" ∷ codes "L" ∷ []) ≡ None
+unfolding is_read line_of clap_on_literals
+at_a_level_is_right = refl
+
+-- a top is the module, and no level
+of_a_top : request_of (codes "sim" ∷ codes "f" ∷ codes "--top" ∷ codes "m" ∷ [])
+    ≡ Some (sim (codes "f") None None (Some (codes "m")))
+unfolding found_in line_of clap_on_literals
+of_a_top = refl
+
+of_a_top_is_right : usage_of (codes "sim" ∷ codes "f" ∷ codes "--top" ∷ codes "m" ∷ []) ≡ None
+unfolding is_read line_of clap_on_literals
+of_a_top_is_right = refl
+
+-- all three options, before FILE and behind it
+all_options : request_of (codes "sim" ∷ codes "--order" ∷ codes "1" ∷ codes "f"
+    ∷ codes "--level" ∷ codes "L" ∷ codes "--top" ∷ codes "m" ∷ [])
+    ≡ Some (sim (codes "f") (Some (codes "L")) (Some 1) (Some (codes "m")))
+unfolding found_in line_of clap_on_literals
+all_options = refl
+
+all_options_are_right : usage_of (codes "sim" ∷ codes "--order" ∷ codes "1" ∷ codes "f"
+    ∷ codes "--level" ∷ codes "L" ∷ codes "--top" ∷ codes "m" ∷ []) ≡ None
+unfolding is_read line_of clap_on_literals
+all_options_are_right = refl
+
+-- a list of a file, and of a module of it
+listed : request_of (codes "list" ∷ codes "f" ∷ []) ≡ Some (list (codes "f") None)
+unfolding found_in line_of clap_on_literals
+listed = refl
+
+listed_is_right : usage_of (codes "list" ∷ codes "f" ∷ []) ≡ None
+unfolding is_read line_of clap_on_literals
+listed_is_right = refl
+
+listed_of_a_top : request_of (codes "list" ∷ codes "f" ∷ codes "--top=m" ∷ [])
+    ≡ Some (list (codes "f") (Some (codes "m")))
+unfolding found_in line_of clap_on_literals
+listed_of_a_top = refl
+
+listed_of_a_top_is_right : usage_of (codes "list" ∷ codes "f" ∷ codes "--top=m" ∷ []) ≡ None
+unfolding is_read line_of clap_on_literals
+listed_of_a_top_is_right = refl
+
+-- a list has no level
+list_at_a_level : usage_of (codes "list" ∷ codes "f" ∷ codes "--level" ∷ codes "L" ∷ [])
+    ≡ Some Words
+unfolding is_read line_of clap_on_literals
+list_at_a_level = refl
 
 too_large : usage_of (codes "sim" ∷ codes "f" ∷ codes "--order=18446744073709551616" ∷ [])
     ≡ Some Words

@@ -1,6 +1,6 @@
 // What a level sees, and two runs of one design, compared at a level.
 use crate::texts::design;
-use std::alloc::Global;
+use std::alloc::{AllocError, Global};
 use std::process::Abort;
 use std::test::Fail;
 use sv_flat::SigId;
@@ -21,10 +21,22 @@ const LEAK: &str = "labelmap D [0:0] 0: L; default: H; endlabelmap\n\
     assign y = turn ? a : b;\n\
     endmodule\n";
 
+// The output is always 0, and a secret tells whether it is seen.
+const SHOWN: &str = "labelmap D [0:0] 0: L; default: H; endlabelmap\n\
+    module m(input {H} s, output {D(s)} y); assign y = 0; endmodule\n";
+
 // A register that keeps a secret.
 const KEPT: &str = "module m(input clk, input d, output reg {H} r, output reg q);\n  \
     always @(posedge clk) begin r <= d; q <= d; end\n\
     endmodule\n";
+
+// A stimulus of so many times the first cycles, and then the last ones.
+fn stimulus(alloc: Global, times: usize, first: &str, last: &str) -> Result<String, AllocError> {
+    let mut text = String::from_str(alloc, "inputs turn a b\n")?;
+    text.push_str(first.repeat(alloc, times)?.as_str())?;
+    text.push_str(last)?;
+    Ok(text)
+}
 
 fn compared(
     rt: &impl Abort,
@@ -112,17 +124,44 @@ fn compares_no_registers_without_a_cycle(rt: HostRuntime) -> Result<(), Fail> {
 }
 
 #[test]
+fn finds_what_one_run_alone_shows(rt: HostRuntime) -> Result<(), Fail> {
+    let shown = "inputs s\n0\n";
+    let hidden = "inputs s\n1\n";
+    for (a, b) in [(shown, hidden), (hidden, shown)] {
+        let found = compared(&rt, rt.alloc(), SHOWN, 0, a, b)?;
+        assert_eq!(rt; found, Compared::ViewsDiffer(0, SigId(1)));
+    }
+    Ok(())
+}
+
+#[test]
+fn finds_that_one_run_is_longer(rt: HostRuntime) -> Result<(), Fail> {
+    let long = "inputs turn a b\n0 1 0\n1 1 1\n0 0 1\n";
+    let short = "inputs turn a b\n0 1 1\n1 1 0\n";
+    for (a, b) in [(long, short), (short, long)] {
+        let found = compared(&rt, rt.alloc(), TURNS, 0, a, b)?;
+        assert_eq!(rt; found, Compared::LengthsDiffer(2));
+    }
+    Ok(())
+}
+
+#[test]
 fn goes_on_to_the_last_of_a_thousand_cycles(rt: HostRuntime) -> Result<(), Fail> {
     let alloc = rt.alloc();
-    let mut a = String::new(alloc);
-    let mut b = String::new(alloc);
-    a.push_str("inputs turn a b\n")?;
-    b.push_str("inputs turn a b\n")?;
-    for _cycle in 0..500 {
-        a.push_str("0 1 0\n1 1 1\n")?;
-        b.push_str("0 1 1\n1 1 0\n")?;
-    }
+    let a = stimulus(alloc, 500, "0 1 0\n1 1 1\n", "")?;
+    let b = stimulus(alloc, 500, "0 1 1\n1 1 0\n", "")?;
     let found = compared(&rt, alloc, TURNS, 0, a.as_str(), b.as_str())?;
     assert_eq!(rt; found, Compared::Equal(1000));
+    Ok(())
+}
+
+// The secret input stands in the output in every cycle, and is seen there in the last one alone.
+#[test]
+fn finds_a_leak_in_the_last_of_a_thousand_cycles(rt: HostRuntime) -> Result<(), Fail> {
+    let alloc = rt.alloc();
+    let a = stimulus(alloc, 999, "1 1 1\n", "0 1 1\n")?;
+    let b = stimulus(alloc, 999, "1 1 0\n", "0 1 0\n")?;
+    let found = compared(&rt, alloc, LEAK, 0, a.as_str(), b.as_str())?;
+    assert_eq!(rt; found, Compared::ViewsDiffer(999, SigId(3)));
     Ok(())
 }

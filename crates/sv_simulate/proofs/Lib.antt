@@ -4,10 +4,12 @@ pub mod DesignForms
 pub mod EndFacts
 pub mod Fronts
 pub mod GivenFacts
+pub mod LimitExamples
 pub mod LineFacts
 pub mod Loops
 pub mod MoreCycles
 pub mod OneText
+pub mod OrderExamples
 pub mod OrderedRuns
 pub mod Pieces
 pub mod ProgressFacts
@@ -19,6 +21,7 @@ pub mod ReadOf
 pub mod RunnerFacts
 pub mod SameTraces
 pub mod StepFacts
+pub mod TextExamples
 pub mod ValueFacts
 pub mod WholeRuns
 pub mod WholeTexts

@@ -1,12 +1,12 @@
 // Two runs side by side.
 ghost use Rattle.std.specs.Prelude.{◌≡◌, [], ◌<◌, min, length, IfOk};
 ghost use Rattle.sv_flat.specs.Views.{design_of};
-ghost use Rattle.sv_obl.specs.Noninterference.{IsChecked};
 ghost use Rattle.sv_obl.specs.Validity.{AllValid};
 ghost use Rattle.sv_tworun.specs.declared.compared.Compared.TheVariants.{Equal, LengthsDiffer};
 ghost use Rattle.sv_tworun.specs.Comparisons.{IsComparison, FindsNoLeak};
 ghost use Rattle.sv_tworun.specs.Forms.{run_of, FitsRun};
 
+use crate::checked::know_design;
 use crate::compared::Compared;
 use crate::differences::difference;
 use std::alloc::{AllocError, Global};
@@ -33,11 +33,11 @@ pub fn compare(
     requires second { FitsRun (design_of design.now) (run_of b.now) }
     ensures comparison { IfOk result (IsComparison (design_of design.now) level (run_of a.now)
         (run_of b.now)) }
-    ensures no_leak { IsChecked (design_of design.now) → AllValid [] (design_of design.now)
-        → IfOk result FindsNoLeak }
+    ensures no_leak { AllValid [] (design_of design.now) → IfOk result FindsNoLeak }
 {
-    // Its runs have traces, as it is admitted.
-    let _signals = design.signals();
+    // brings that it is admitted, so that its runs have traces, and that its lattice and its label
+    // maps are such, so that no run leaks where all obligations are valid
+    know_design(design);
     let mut one = Sim::new(alloc, design)?;
     let mut other = Sim::new(alloc, design)?;
     one.load(&a.start);

@@ -13,6 +13,7 @@
 //! Private to the crate, for the contracts of its parts: `Sights`.
 #![tactic(auto)]
 
+mod checked;
 mod compared;
 mod comparing;
 mod differences;

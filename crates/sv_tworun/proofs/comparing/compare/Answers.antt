@@ -37,7 +37,7 @@ returns-clause-comparison c =
     let least = c.common_cycles-count.ensures in
     let one_long = length_of c.args.a.now c.len.result c.len.ensures in
     let other_long = length_of c.args.b.now c.len-2.result c.len-2.ensures in
-    compared (design_of c.args.design.now) c.signals-signals.ensures.design c.args.level
+    compared (design_of c.args.design.now) c.know_design.ensures.design c.args.level
     (run_of c.args.a.now) (run_of c.args.b.now) c.at_the_end.result c.requires.first
     c.requires.second
     (found_at_end (design_of c.args.design.now) c.args.level (run_of c.args.a.now)
@@ -51,9 +51,9 @@ returns-clause-comparison c =
     one_long other_long c.at_the_end.ensures.equal c.at_the_end.ensures.shorter)
 
 pub returns-clause-no_leak : goal.returns-clause-no_leak
-returns-clause-no_leak c checked valid =
-    no_leak (design_of c.args.design.now) checked valid c.args.level (run_of c.args.a.now)
-    (run_of c.args.b.now) c.at_the_end.result (returns-clause-comparison c)
+returns-clause-no_leak c valid =
+    no_leak (design_of c.args.design.now) c.know_design.ensures.checked valid c.args.level
+    (run_of c.args.a.now) (run_of c.args.b.now) c.at_the_end.result (returns-clause-comparison c)
 
 pub loop-cycle-init : goal.loop-cycle-init
 loop-cycle-init c =
@@ -111,9 +111,10 @@ returns-in-Some-clause-comparison c =
     c.in-Some.ensures.found)))
 
 pub returns-in-Some-clause-no_leak : goal.returns-in-Some-clause-no_leak
-returns-in-Some-clause-no_leak c checked valid =
-    no_leak (design_of c.args.design.now) checked valid c.args.level (run_of c.args.a.now)
-    (run_of c.args.b.now) c.in-Some.difference (returns-in-Some-clause-comparison c)
+returns-in-Some-clause-no_leak c valid =
+    no_leak (design_of c.args.design.now) c.know_design.ensures.checked valid c.args.level
+    (run_of c.args.a.now) (run_of c.args.b.now) c.in-Some.difference
+    (returns-in-Some-clause-comparison c)
 
 pub loop-cycle-preserved : goal.loop-cycle-preserved
 loop-cycle-preserved c =

@@ -1,4 +1,5 @@
 pub mod ApartFacts
+pub mod ComparisonExamples
 pub mod DifferenceFacts
 pub mod LeakFacts
 pub mod OneFinding

@@ -100,7 +100,7 @@ def admissions():
     return worst
 
 
-TESTBENCH = """module bench; reg clk; reg [31:0] a; wire [31:0] y; reg [31:0] all; integer i; m dut(clk, a, y);
+TESTBENCH = """module bench; reg clk; reg [31:0] a; wire [31:0] y; reg [31:0] all; integer i; m dut(.clk(clk), .a(a), .y(y));
 initial begin clk = 0; a = 1; all = 0;
 %s
 for (i = 0; i < %d; i = i + 1) begin a = a * 1664525 + 1; #1 all = all ^ y; clk = 1; #1 clk = 0; end

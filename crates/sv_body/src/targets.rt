@@ -1,9 +1,8 @@
 // What an assignment changes.
-ghost use Rattle.std.specs.Prelude.{◌≡◌, ◌≤◌, ◌<◌, false, [], min, List, Result, Ok, Err, map};
+ghost use Rattle.std.specs.Prelude.{◌≡◌, ◌≤◌, ◌<◌, false, min, List, Ok, map};
 ghost use Rattle.std.specs.Prelude.{IfOk, IfErr, MatchOption, IsTrue};
 ghost use Rattle.std.specs.List.{list_all};
 ghost use Rattle.sv_num.specs.Vectors.{number_of as whole_number_of};
-ghost use Rattle.sv_num.specs.Faults.{Refuses};
 ghost use Rattle.sv_ast.specs.Scopes.{width_of};
 ghost use Rattle.sv_ast.specs.Shape.{is_shaped_expression, is_shaped_target, is_whole_target};
 ghost use Rattle.sv_ast.specs.Values.{natural};
@@ -11,9 +10,8 @@ ghost use Rattle.sv_ast.specs.Views.{expression_tree, selection_of, target_tree}
 ghost use Rattle.sv_flat.specs.Design.{SignalForm};
 ghost use Rattle.sv_flat.specs.Soundness.{statement_sound, is_one_assignment};
 ghost use Rattle.sv_flat.specs.Views.{piece_form, flat_statement};
-ghost use Rattle.sv_walk.specs.Walks.{Step, each};
-ghost use Rattle.sv_walk.specs.Rules.{unknown_name};
-ghost use Rattle.sv_walk.specs.ExpressionSteps.{is_below, is_part};
+ghost use Rattle.sv_walk.specs.Walks.{each};
+ghost use Rattle.sv_walk.specs.ExpressionSteps.{is_below};
 ghost use Rattle.sv_walk.specs.Targets.{selection_steps, target_steps, assignment_walk};
 ghost use Rattle.sv_width.specs.Agreement.{HaveSignals};
 ghost use Rattle.sv_width.specs.Answers.{IsBreach};
@@ -25,26 +23,10 @@ use crate::parts::Part;
 use std::alloc::Global;
 use sv_ast::{Expr, Select, Target};
 use sv_flat::{FStmt, Piece};
-use sv_num::{Bits, Fault, Name, OutOfMemory, Place};
-use sv_width::{Meaning, Scope, constant_in_reach, natural, place_of, typed};
-
-// The refusal by a rule at a place, without names.
-fn refusal(alloc: Global, number: u16, place: Place) -> Fault
-    ensures { Refuses result number place [] }
-{
-    Fault::broken(number, place, Vec::new(alloc))
-}
-
-// Rule 401: the name stands for no signal.
-fn unknown(alloc: Global, name: &Name, place: Place) -> Fault
-    ensures { (end : Result (Unit {0}) Step) → end ≡ Err (unknown_name place name.now) →
-        IsBreach end result }
-{
-    match name.alone(alloc) {
-        Ok(names) => Fault::broken(401, place, names),
-        Err(error) => Fault::from(error),
-    }
-}
+use sv_num::{Bits, Fault, OutOfMemory, Place};
+use sv_width::{
+    Meaning, Scope, constant_in_reach, natural, part_inside, place_of, refusal, typed, unknown_name,
+};
 
 // The bit that an index takes from so many, if it is one of them.
 fn bit_inside(width: u8, index: Bits) -> Option<u8>
@@ -56,23 +38,6 @@ fn bit_inside(width: u8, index: Bits) -> Option<u8>
     let bit = natural(index)?;
     if bit < u64::from(width) {
         Some(bit as u8)
-    } else {
-        None
-    }
-}
-
-// The bounds of a part of so many bits, if it lies inside of them with its high not below its low.
-fn part_inside(width: u8, high: Bits, low: Bits) -> Option<(u8, u8)>
-    ensures { MatchOption result
-        (is_part width (whole_number_of high) (whole_number_of low) ≡ false)
-        (λ p. (p.0 < width) × (p.1 ≤ p.0)
-        × IsTrue (is_part width (whole_number_of high) (whole_number_of low))
-        × (p.0 ≡ natural (whole_number_of high)) × (p.1 ≡ natural (whole_number_of low))) }
-{
-    let high = natural(high)?;
-    let low = natural(low)?;
-    if high < u64::from(width) && low <= high {
-        Some((high as u8, low as u8))
     } else {
         None
     }
@@ -127,8 +92,8 @@ fn part_of(alloc: Global, target: &Target, scope: &Scope) -> Result<Part, Fault>
                 low,
             })
         }
-        Some(Meaning::Param(_)) => Err(unknown(alloc, &target.name, target.place)),
-        None => Err(unknown(alloc, &target.name, target.place)),
+        Some(Meaning::Param(_)) => Err(unknown_name(alloc, &target.name, target.place)),
+        None => Err(unknown_name(alloc, &target.name, target.place)),
     }
 }
 

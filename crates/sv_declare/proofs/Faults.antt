@@ -11,13 +11,7 @@ use Rattle.sv_width.specs.Answers.{IsBreach}
 use Rattle.sv_width.specs.Scopes.{Known, meaning_of, IsTwice}
 use Rattle.sv_declare.specs.declared.sites.Declared.{Declared}
 use Rattle.sv_declare.specs.Sites.{declared_of}
-use Rattle.sv_declare.specs.Steps.{IsRefusalBy, Stops}
-
--- what refuses by a step refuses where a walk is broken by it
-pub breach_by : {X : Type 0} (f : Fault) (s : Step) → IsRefusalBy s f
-    → (end : Result X Step) → end ≡ Err s → IsBreach end f
-breach_by (Rule r) s is end e = e ∙ ap (λ (t : Step). Err t) (sym is)
-breach_by OutOfMemory s is end e = tt
+use Rattle.sv_declare.specs.Steps.{Stops}
 
 -- what breaks one walk breaks another
 pub breach_on : {X Y : Type 0} (f : Fault) (d : Result X Step) (e : Result Y Step)

@@ -13,11 +13,6 @@ use Rattle.sv_declare.specs.declared.sites.Declared.{Declared}
 use Rattle.sv_declare.specs.declared.sites.Header.{Header}
 use Rattle.sv_declare.specs.Sites.{declared_of, header_items, IsSoFar}
 
--- the fault is want of memory, or refuses by the step
-abbrev pub IsRefusalBy : Step → Fault → Type 0
-IsRefusalBy s (Rule r) = step_of r ≡ s
-IsRefusalBy s OutOfMemory = Unit {0}
-
 -- the fault is want of memory, or refuses by the step that the walk breaks; what was declared
 -- before that step stays
 abbrev pub Stops : (end : Result walk.Declared Step) → (until : walk.Declared) → Declared →

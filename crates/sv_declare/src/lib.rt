@@ -16,7 +16,6 @@ mod labelling;
 mod overriding;
 mod parameters;
 mod ranges;
-mod refusals;
 mod signals;
 mod sites;
 

@@ -10,11 +10,10 @@ ghost use Rattle.sv_width.specs.Answers.{IsBreach};
 ghost use Rattle.sv_width.specs.Scopes.{names_ahead};
 ghost use Rattle.sv_declare.specs.Ranges.{IsWidthOf, IsWidth, IsRange};
 
-use crate::refusals::nameless;
 use std::alloc::Global;
 use sv_ast::Span;
 use sv_num::{Bits, Fault};
-use sv_width::{Scope, constant, natural, place_of};
+use sv_width::{Scope, constant, natural, place_of, refusal};
 
 // The most bits that a range gives.
 const MOST_BITS: u64 = 64;
@@ -45,7 +44,7 @@ fn range_width(alloc: Global, span: &Span, scope: &Scope) -> Result<u8, Fault>
     let low = constant(alloc, &span.low, scope)?;
     match width_of(high, low) {
         Some(width) => Ok(width),
-        None => Err(nameless(alloc, 409, place_of(&span.high))),
+        None => Err(refusal(alloc, 409, place_of(&span.high))),
     }
 }
 

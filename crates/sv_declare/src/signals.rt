@@ -9,13 +9,13 @@ ghost use Rattle.sv_declare.specs.Sites.{site_of, declared_of, IsSoFar};
 ghost use Rattle.sv_declare.specs.Steps.{Stops};
 
 use crate::ranges::optional_width;
-use crate::refusals::nameless;
 use crate::sites::{Declared, Site};
 use std::alloc::Global;
 use sv_ast::{Decl, DeclKind};
 use sv_flat::{SigId, SigKind, Signal};
 use sv_lattice::{Label, Point};
 use sv_num::{Fault, Name, OutOfMemory};
+use sv_width::refusal;
 
 // The most signals that a design has.
 const MOST_SIGNALS: usize = 4096;
@@ -91,7 +91,7 @@ pub fn declare_signal(
     let width = optional_width(alloc, &decl.span, &declared.scope)?.unwrap_or(1);
     let number = site.base + declared.signals.len();
     if number >= MOST_SIGNALS && declared.scope.find(&decl.name).is_none() {
-        return Err(nameless(alloc, 315, decl.place));
+        return Err(refusal(alloc, 315, decl.place));
     }
     let signal = new_signal(alloc, site, decl, width, least)?;
     let name = decl.name.copy(alloc)?;

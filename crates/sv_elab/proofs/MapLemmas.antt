@@ -2,28 +2,25 @@
 use Rattle.std.proofs.Common.{◌≡◌, ℕ, ◌+◌, ◌-◌, ◌*◌, ◌%◌, ◌^◌, ◌<◌, ◌≤◌, Bool, true, false, cond}
 use Rattle.std.proofs.Common.{◌==◌, ◌⊎◌, inl, inr, List, [], ◌∷◌, ◌++◌, find, set, get_or, Option}
 use Rattle.std.proofs.Common.{Some, None, refl, sym, ap, ◌∙◌, subst, arith}
-use Rattle.std.specs.Prelude.{pos, nat_lt, option_map, is_none, Result, Ok, Err}
+use Rattle.std.specs.Prelude.{pos, nat_lt, option_map, is_none, Ok, Err}
 use Rattle.std.proofs.lemmas.Nat.{mul-add-lt, pow-add, shl_whole}
 use Rattle.std.proofs.lemmas.Bool.{and_from, lt-ltb, ltb-true, ltb-false, eq-eqb, ne_eqb, cases_eq}
 use Rattle.std.proofs.lemmas.List.{get_or-set_same, get_or-set_other, get_or_past, length-set}
 use Rattle.sv_num.specs.declared.faults.Place.{Place}
 use Rattle.sv_num.specs.Vectors.{as_number, is_negative, reduced, number_of}
-use Rattle.sv_num.specs.declared.faults.Fault.{Fault}
 use Rattle.sv_num.proofs.NumberLemmas.{number_at, wider_above, wider_below}
 use Rattle.sv_token.specs.Lexemes.{literal_of}
 use Rattle.sv_token.specs.declared.tokens.Lit.{Lit}
 use Rattle.sv_ast.specs.Tree.{literal, KeyTree, RowTree, MapTree}
 use Rattle.sv_ast.specs.Values.{value, length_of, signed_of, whole_number}
 use Rattle.sv_lattice.specs.declared.points.Point.{Point}
-use Rattle.sv_walk.specs.Walks.{Step, ask, found, ◌>>=◌}
+use Rattle.sv_walk.specs.Walks.{ask, found, ◌>>=◌}
 use Rattle.sv_walk.specs.Rules.{map_row}
 use Rattle.sv_walk.specs.Lattices.{point_number}
 use Rattle.sv_walk.specs.LabelMaps.{no_names, key_number, key_value, point_at, rows_walk}
 use Rattle.sv_walk.specs.LabelMaps.{default_walk}
-use Rattle.sv_width.specs.Answers.{IsBreach}
 use Rattle.sv_elab.specs.MapParts.{bits_in, is_row_key, IsValue, IsTable, IsRow, IsWrongRow}
 use Rattle.sv_elab.specs.MapParts.{table_point}
-use Rattle.sv_elab.proofs.DeclaredLattices.{breach_on}
 
 -- a value at its own length and sign is itself
 own_value_kept : (n v : ℕ) (s : Bool) → v < 2 ^ n → reduced n (as_number n s v) ≡ v
@@ -62,19 +59,6 @@ pair_value f second row w key a b s k few first first_low other other_low =
 
     low : a * 2 ^ w % 2 ^ 64 + b < 2 ^ (f + w)
     low = omega (arith, pow-add 2 f w, moved, mul-add-lt a (2 ^ w) b (2 ^ f) first_low other_low)
-
--- ---- refusals
-
-step_same : (end : Result (Unit {0}) Step) (s t : Step) → end ≡ Err s → end ≡ Err t → s ≡ t
-step_same end s t g h = cc
-
--- what refuses by a step refuses where a walk of anything is broken by it
-pub breach_by : {X : Type 0} (f : Fault) (s : Step)
-    → ((end : Result (Unit {0}) Step) → end ≡ Err s → IsBreach end f)
-    → (e : Result X Step) → e ≡ Err s → IsBreach e f
-breach_by f s refuses e is =
-    breach_on f (Err s) e (λ t h. is ∙ ap (λ (r : Step). Err r) (step_same (Err s) s t refl h))
-    (refuses (Err s) refl)
 
 -- ---- the point of the other keys
 

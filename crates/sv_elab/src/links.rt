@@ -19,13 +19,13 @@ ghost use Rattle.sv_elab.specs.Instances.{port_walk, IsLinked};
 
 use crate::lookups::{whole_signal, width_of};
 use crate::processes::whole_assignment;
-use crate::wrong_names::{add_name, refusal};
+use crate::wrong_names::add_name;
 use indexmap::{IndexMap, IndexSet};
 use std::alloc::{AllocError, Global};
 use sv_ast::{Decl, DeclKind, Expr, Links, Module};
 use sv_flat::{FExpr, FNode, ProcKind, Process, SigId};
 use sv_num::{Fault, Name, OutOfMemory, Place};
-use sv_width::{Scope, place_of, typed};
+use sv_width::{Scope, place_of, refusal_naming, typed};
 
 /// The ports of an instance: how many signals stand before them, their module, the place of the
 /// first port of each name, and what the header's declarations say of the names.
@@ -140,7 +140,7 @@ fn link_out(
     let place = place_of(expr);
     let known = match whole_signal(outer, expr) {
         Some(known) => known,
-        None => return Err(refusal(alloc, 313, place, &port.name)),
+        None => return Err(refusal_naming(alloc, 313, place, &port.name)),
     };
     let value = ports.value(port, known.width, place)?;
     Ok(whole_assignment(
@@ -193,10 +193,10 @@ fn new_port<'a>(
 {
     let index = match ports.places.get(name) {
         Some(index) => *index,
-        None => return Err(refusal(alloc, 313, place, name)),
+        None => return Err(refusal_naming(alloc, 313, place, name)),
     };
     if !add_name(alloc, linked, name)? {
-        return Err(refusal(alloc, 313, place, name));
+        return Err(refusal_naming(alloc, 313, place, name));
     }
     Ok(&ports.master.ports[index])
 }

@@ -21,14 +21,13 @@ ghost use Rattle.sv_elab.specs.MapParts.{IsWrongRow, IsRow, IsTable, AreFilled, 
 ghost use Rattle.sv_elab.specs.MapParts.{points_in, own_walk};
 
 use crate::lattices::Points;
-use crate::wrong_names::refusal;
 use indexmap::IndexMap;
 use std::alloc::Global;
 use sv_ast::{Expr, MapText, Span};
 use sv_lattice::{LabelMap, Point};
 use sv_num::{Bits, Fault, Name, OutOfMemory, Place};
 use sv_token::Lit;
-use sv_width::natural;
+use sv_width::{natural, refusal_naming};
 
 // The most bits that the ranges of a map have in all.
 const MOST_BITS: u8 = 8;
@@ -167,7 +166,7 @@ fn filled(
     for row in &text.rows {
         match row_entry(points, ranges, &table, row) {
             Some((value, point)) => table[value] = Some(point),
-            None => return Err(refusal(alloc, 307, text.place, &text.name)),
+            None => return Err(refusal_naming(alloc, 307, text.place, &text.name)),
         }
     }
     Ok(table)
@@ -186,7 +185,7 @@ fn other_point(alloc: Global, points: &Points, text: &MapText) -> Result<Option<
         None => Ok(None),
         Some(name) => match points.find(name) {
             Some(point) => Ok(Some(point)),
-            None => Err(refusal(alloc, 307, text.place, &text.name)),
+            None => Err(refusal_naming(alloc, 307, text.place, &text.name)),
         },
     }
 }
@@ -230,7 +229,7 @@ fn label_map(alloc: Global, points: &Points, text: &MapText) -> Result<LabelMap,
 {
     match widths(text) {
         Some(ranges) => map_of(alloc, points, ranges, text),
-        None => Err(refusal(alloc, 307, text.place, &text.name)),
+        None => Err(refusal_naming(alloc, 307, text.place, &text.name)),
     }
 }
 
@@ -245,7 +244,7 @@ fn map_of(alloc: Global, points: &Points, ranges: Ranges, text: &MapText) -> Res
     let other = other_point(alloc, points, text)?;
     match all_points(alloc, &table, other)? {
         Some(rows) => Ok(new_map(ranges, rows)),
-        None => Err(refusal(alloc, 308, text.place, &text.name)),
+        None => Err(refusal_naming(alloc, 308, text.place, &text.name)),
     }
 }
 
@@ -264,7 +263,7 @@ pub fn label_maps(
     let mut maps = IndexMap::new(alloc);
     for text in texts {
         if maps.contains_key(&text.name) {
-            return Err(refusal(alloc, 306, text.place, &text.name));
+            return Err(refusal_naming(alloc, 306, text.place, &text.name));
         }
         let map = label_map(alloc, points, text)?;
         maps.insert(text.name.copy(alloc)?, map)?;

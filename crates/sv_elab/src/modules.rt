@@ -11,11 +11,12 @@ ghost use Rattle.sv_walk.specs.Texts.{module_names};
 ghost use Rattle.sv_width.specs.Answers.{IsBreach};
 ghost use Rattle.sv_elab.specs.Modules.{names_of, plain, asked_name, is_apart_from};
 
-use crate::wrong_names::{add_name, refusal};
+use crate::wrong_names::add_name;
 use indexmap::IndexSet;
 use std::alloc::Global;
 use sv_ast::{Item, Module};
 use sv_num::{Fault, Name, OutOfMemory, Place};
+use sv_width::refusal_naming;
 
 /// The names of modules, each with the number of its module. Rule 312 refuses the first name that
 /// an earlier module has.
@@ -27,7 +28,7 @@ pub fn module_names(alloc: Global, modules: &[Module]) -> Result<IndexSet<Name>,
     let mut names = IndexSet::new(alloc);
     for module in modules {
         if !add_name(alloc, &mut names, &module.name)? {
-            return Err(refusal(alloc, 312, module.place, &module.name));
+            return Err(refusal_naming(alloc, 312, module.place, &module.name));
         }
     }
     Ok(names)

@@ -13,13 +13,12 @@ ghost use Rattle.sv_elab.specs.Instances.{built_form, always_kind_walk};
 
 use crate::built::Built;
 use crate::lookups::{number_of, width_of};
-use crate::wrong_names::refusal;
 use std::alloc::Global;
 use sv_ast::{Decl, Expr, Stmt, Target};
 use sv_body::{assignment, statement};
 use sv_flat::{FExpr, FStmt, Piece, ProcKind, Process, SigId};
 use sv_num::{Fault, Name, OutOfMemory, Place};
-use sv_width::{Meaning, Scope, typed};
+use sv_width::{Meaning, Scope, typed, unknown_name};
 
 /// One blocking assignment of a value to a whole signal of so many bits, as a process.
 pub fn whole_assignment(
@@ -116,7 +115,7 @@ fn always_kind(
         None => Ok(ProcKind::Comb),
         Some((name, place)) => match scope.find(name) {
             Some(Meaning::Signal(known)) => Ok(ProcKind::Clocked(known.signal)),
-            _ => Err(refusal(alloc, 401, *place, name)),
+            _ => Err(unknown_name(alloc, name, *place)),
         },
     }
 }

@@ -1,11 +1,9 @@
 // The first name of a lattice, in the order of the text, that breaks rule 302.
-ghost use Rattle.std.specs.Prelude.{◌≡◌, ℕ, ◌∷◌, [], not, List, Result, Ok, Err, None, map, OnOk};
-ghost use Rattle.std.specs.Prelude.{IfOk, IfErr};
+ghost use Rattle.std.specs.Prelude.{◌≡◌, ℕ, [], not, List, Ok, None, map, OnOk, IfOk, IfErr};
 ghost use Rattle.std.specs.Str.{bytes_eq};
 ghost use Rattle.indexmap.specs.IndexSet.{insert_key};
 ghost use Rattle.sv_ast.specs.Views.{placed_name, pair_tree, lattice_tree};
-ghost use Rattle.sv_walk.specs.Walks.{Step};
-ghost use Rattle.sv_walk.specs.Rules.{step, lattice_name};
+ghost use Rattle.sv_walk.specs.Rules.{lattice_name};
 ghost use Rattle.sv_walk.specs.Lattices.{stands_before, is_point, point_questions, pair_questions};
 ghost use Rattle.sv_walk.specs.Lattices.{point_names};
 ghost use Rattle.sv_width.specs.Answers.{IsBreach};
@@ -16,6 +14,7 @@ use indexmap::IndexSet;
 use std::alloc::Global;
 use sv_ast::LatticeText;
 use sv_num::{Fault, Name, OutOfMemory, Place};
+use sv_width::refusal_naming;
 
 /// A name that breaks rule 302, with its place.
 #[derive(Clone, Copy)]
@@ -97,17 +96,6 @@ pub fn with_pairs<'a>(
     wrong
 }
 
-/// The refusal by a rule that names one name.
-pub fn refusal(alloc: Global, rule: u16, place: Place, name: &Name) -> Fault
-    ensures { (end : Result (Unit {0}) Step) → end ≡ Err (step rule place (name.now ∷ [])) →
-        IsBreach end result }
-{
-    match name.alone(alloc) {
-        Ok(names) => Fault::broken(rule, place, names),
-        Err(error) => Fault::from(error),
-    }
-}
-
 /// The names of the points of a lattice. Rule 302 refuses the first name, in the order of the text,
 /// that is declared twice or is in a pair but no point.
 pub fn distinct_names(alloc: Global, text: &LatticeText) -> Result<IndexSet<Name>, Fault>
@@ -117,7 +105,7 @@ pub fn distinct_names(alloc: Global, text: &LatticeText) -> Result<IndexSet<Name
 {
     let (names, wrong) = declared_names(alloc, &text.points)?;
     match with_pairs(&names, &text.pairs, wrong) {
-        Some(wrong) => Err(refusal(alloc, 302, wrong.place, wrong.name)),
+        Some(wrong) => Err(refusal_naming(alloc, 302, wrong.place, wrong.name)),
         None => Ok(names),
     }
 }

@@ -16,13 +16,13 @@ use Rattle.sv_num.specs.declared.operators.BinOp.{BinOp}
 use Rattle.sv_num.specs.declared.operators.OpClass.{OpClass}
 use Rattle.sv_num.specs.declared.operators.OpClass.TheVariants.{Context, Compare, Logical, Shift}
 use Rattle.sv_num.specs.UnaryValues.{gives_one_bit}
-use Rattle.sv_num.specs.BinaryValues.{class_of, result_width}
+use Rattle.sv_num.specs.BinaryValues.{class_of, result_width, is_division}
 use Rattle.sv_flat.specs.declared.expressions.FExpr.{FExpr}
 use Rattle.sv_flat.specs.declared.expressions.FNode.TheBlock.{hidden-the_row-FExpr-0}
 use Rattle.sv_flat.specs.Design.{SignalForm, TypedTree, NodeTree, TypedTrees, read_part, unary}
 use Rattle.sv_flat.specs.Design.{binary, join, replication, held_part, slice}
 use Rattle.sv_flat.specs.Soundness.{is_one_to, is_signal, has_type, is_part_of, unary_typed}
-use Rattle.sv_flat.specs.Soundness.{binary_typed, is_division, well_formed, node_well_formed}
+use Rattle.sv_flat.specs.Soundness.{binary_typed, well_formed, node_well_formed}
 use Rattle.sv_flat.specs.Soundness.{parts_well_formed}
 use Rattle.sv_num.specs.Parts.{bits_between}
 use Rattle.sv_flat.specs.Values.{signal_width, expression_width, expression_signed, parts_width}

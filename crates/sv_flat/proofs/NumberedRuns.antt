@@ -250,6 +250,17 @@ pub updated-more : (e : Environment ℕ) (us : Updates) (k x : ℕ) →
     updated e (us ++ (k, x) ∷ []) ≡ put ◌==◌ k x (updated e us)
 updated-more e us k x = fun_ext (λ s. same_last s (e s) us (k, x))
 
+-- to put pieces where some updates are made is to make more updates
+pub pieces_updated : (forms : List SignalForm) (right : ℕ) (e : Environment ℕ) (us : Updates)
+    (ps : List PieceForm)
+    → (fold (put_piece forms true right) (updated e us, []) ps).0 ≡
+    updated e (fold (put_piece forms false right) (e, us) ps).1
+pieces_updated forms right e us [] = refl
+pieces_updated forms right e us (p ∷ ps) =
+    let x = with_piece forms p right (updated e us p.signal) in
+    ap (λ z. (fold (put_piece forms true right) (z, []) ps).0) (sym (updated-more e us p.signal x))
+    ∙ pieces_updated forms right e (us ++ (p.signal, x) ∷ []) ps
+
 -- ---- arms
 
 block_no_branch : (n : _) (row : Row_of-FStmt n) → IsFalse (is_branch (row_chain row))

@@ -3,7 +3,7 @@ use Rattle.std.proofs.Common.{ℕ, ◌*◌, Bool, true, false, cond, ℤ, pos, n
 use Rattle.std.proofs.Common.{List, [], ◌∷◌, ◌++◌, ⊎_elim, subst}
 use Rattle.std.specs.Prelude.{Contains, IsTrue}
 use Rattle.std.specs.List.{list_all}
-use Rattle.sv_num.specs.BinaryValues.{class_of}
+use Rattle.sv_num.specs.BinaryValues.{class_of, is_division}
 use Rattle.sv_num.specs.declared.faults.Place.{Place}
 use Rattle.sv_system.proofs.Lists.{Contains-nil, Contains-cases, Contains-from_map}
 use Rattle.sv_flat.specs.Design.{SignalForm, TypedTree, typed, NodeTree, constant, read, read_bit}
@@ -12,7 +12,7 @@ use Rattle.sv_flat.specs.Design.{held_bit, held_part, mend, slice, TypedTrees, n
 use Rattle.sv_flat.specs.Design.{FlatStatement, nothing, after, assign, branch}
 use Rattle.sv_flat.specs.Values.{signal_width, expression_width, parts_width, number_of}
 use Rattle.sv_flat.specs.Soundness.{is_one_to, is_signal, has_type, is_part_of, unary_typed}
-use Rattle.sv_flat.specs.Soundness.{binary_typed, is_division, piece_fits, well_formed}
+use Rattle.sv_flat.specs.Soundness.{binary_typed, piece_fits, well_formed}
 use Rattle.sv_flat.specs.Soundness.{node_well_formed, parts_well_formed, statement_sound}
 use Rattle.sv_flat.specs.Assigned.{assigns, can_assign, always_assigns}
 use Rattle.sv_flat.specs.Readings.{ReadForm, whole_read, bit_read, indexed_read, is_constant, reads}

@@ -8,7 +8,7 @@ use Rattle.std.proofs.lemmas.Bool.{false≢true}
 use Rattle.std.proofs.lemmas.Nat.Bits.{same_from_bits_below}
 use Rattle.sv_num.specs.Vectors.{as_number, is_true}
 use Rattle.sv_num.specs.UnaryValues.{unary_value}
-use Rattle.sv_num.specs.BinaryValues.{binary_value, class_of}
+use Rattle.sv_num.specs.BinaryValues.{binary_value, class_of, is_division}
 use Rattle.sv_num.specs.declared.faults.Place.{Place}
 use Rattle.sv_system.specs.System.{Environment}
 use Rattle.sv_system.proofs.Lists.{Contains-head, Contains-later, Contains-nil}
@@ -19,7 +19,7 @@ use Rattle.sv_num.specs.Parts.{extended, bits_between, bit_or_zero, replaced_bit
 use Rattle.sv_flat.specs.Values.{signal_width, expression_width, expression_signed, parts_width}
 use Rattle.sv_flat.specs.Values.{value, node_value, joined, number_of, cut_value}
 use Rattle.sv_flat.specs.Soundness.{is_one_to, is_signal, has_type, is_part_of, unary_typed}
-use Rattle.sv_flat.specs.Soundness.{binary_typed, is_division, well_formed, node_well_formed}
+use Rattle.sv_flat.specs.Soundness.{binary_typed, well_formed, node_well_formed}
 use Rattle.sv_flat.specs.Soundness.{parts_well_formed}
 use Rattle.sv_flat.specs.Readings.{ReadForm, whole_read, bit_read, indexed_read, is_constant}
 use Rattle.sv_flat.specs.Readings.{is_constant_node, are_constant, reads, node_reads, parts_reads}

@@ -5,12 +5,10 @@ use Rattle.std.specs.Prelude.{nat_lt, nat_le, List, length, Option, Some, None}
 use Rattle.std.specs.Bool.{beq}
 use Rattle.std.specs.List.{list_all}
 use Rattle.sv_num.specs.declared.operators.UnOp.{UnOp}
-use Rattle.sv_num.specs.declared.operators.BinOp.{BinOp}
-use Rattle.sv_num.specs.declared.operators.BinOp.TheVariants.{Div, Rem}
 use Rattle.sv_num.specs.declared.operators.OpClass.{OpClass}
 use Rattle.sv_num.specs.declared.operators.OpClass.TheVariants.{Context, Compare, Logical, Shift}
 use Rattle.sv_num.specs.UnaryValues.{gives_one_bit}
-use Rattle.sv_num.specs.BinaryValues.{class_of}
+use Rattle.sv_num.specs.BinaryValues.{class_of, is_division}
 use Rattle.sv_lattice.specs.declared.points.Point.{Point}
 use Rattle.sv_lattice.specs.declared.labels.Label.{Label}
 use Rattle.sv_lattice.specs.declared.labels.Label.TheVariants.{Point as Declared, Table}
@@ -53,12 +51,6 @@ binary_typed Context width signed a b = has_type width signed a && has_type widt
 binary_typed Compare width signed a b = has_type (expression_width a) (expression_signed a) b
 binary_typed Logical width signed a b = true
 binary_typed Shift width signed a b = has_type width signed a
-
--- a quotient or remainder of constants stands as its value, and of others it is refused
-abbrev pub is_division : BinOp → Bool
-is_division Div = true
-is_division Rem = true
-is_division _ = false
 
 abbrev mutual
   -- every length is 1 to 64, every operand has the type that its operator gives it, and every name

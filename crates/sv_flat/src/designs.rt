@@ -91,31 +91,9 @@ impl Flat {
             signals: self.signals.copy(alloc)?,
             processes: self.processes.copy(alloc)?,
             lattice: self.lattice.copy(alloc)?,
-            points: copy_names(&self.points, alloc)?,
-            maps: copy_maps(&self.maps, alloc)?,
+            points: self.points.copy(alloc)?,
+            maps: self.maps.copy(alloc)?,
             invariants: self.invariants.copy(alloc)?,
         })
     }
-}
-
-// A copy of each name, in order.
-fn copy_names(names: &[Name], alloc: Global) -> Result<Vec<Name>, AllocError>
-    ensures { IfOk result (λ copies. copies.items ≡ names.now) }
-{
-    let mut copies = Vec::with_capacity(alloc, names.len())?;
-    for name in names {
-        copies.push(name.copy(alloc)?)?;
-    }
-    Ok(copies)
-}
-
-// A copy of each label map, in order.
-fn copy_maps(maps: &[LabelMap], alloc: Global) -> Result<Vec<LabelMap>, AllocError>
-    ensures { IfOk result (λ copies. copies.items ≡ maps.now) }
-{
-    let mut copies = Vec::with_capacity(alloc, maps.len())?;
-    for map in maps {
-        copies.push(map.copy(alloc)?)?;
-    }
-    Ok(copies)
 }

@@ -5,6 +5,7 @@ ghost use Rattle.std.specs.List.{list_all};
 ghost use Rattle.sv_flat.specs.ByNumber.{signal_forms, by_number, FitSignals, AreWords, updated};
 ghost use Rattle.sv_flat.specs.ByNumber.{is_nonblocking, is_branch};
 ghost use Rattle.sv_flat.specs.declared.statements.FStmt.{size-FStmt};
+ghost use Rattle.sv_flat.specs.Design.{TypedTree};
 ghost use Rattle.sv_flat.specs.Runs.{Updates, with_piece, put_piece, run, run_alone};
 ghost use Rattle.sv_flat.specs.Soundness.{piece_fits, well_formed, statement_sound};
 ghost use Rattle.sv_flat.specs.Values.{value, signal_width};
@@ -103,6 +104,19 @@ fn assign(pieces: &[Piece], expr: &FExpr, signals: &[Signal], values: &mut [u64]
     ensures fit { FitSignals (signal_forms signals.now) values.new }
 {
     let right = value_of(expr, signals, values);
+    put_pieces(pieces, right, signals, values);
+}
+
+// Puts the pieces of a right side's value in textual order.
+fn put_pieces(pieces: &[Piece], right: u64, signals: &[Signal], values: &mut [u64])
+    requires inside { (e : TypedTree) × IsTrue
+        (list_all (piece_fits (signal_forms signals.now) e) (map piece_form pieces.now)) }
+    requires words { AreWords (signal_forms signals.now) }
+    requires fit { FitSignals (signal_forms signals.now) values.old }
+    ensures run { by_number values.new ≡ (fold (put_piece (signal_forms signals.now) true right)
+        (by_number values.old, []) (map piece_form pieces.now)).0 }
+    ensures fit { FitSignals (signal_forms signals.now) values.new }
+{
     for piece in pieces {
         let place = piece.signal.0 as usize;
         values[place] = with_piece(piece, right, values[place], signals);
@@ -190,8 +204,5 @@ fn update(pieces: &[Piece], expr: &FExpr, signals: &[Signal], values: &[u64], ne
     ensures fit { FitSignals (signal_forms signals.now) next.new }
 {
     let right = value_of(expr, signals, values);
-    for piece in pieces {
-        let place = piece.signal.0 as usize;
-        next[place] = with_piece(piece, right, next[place], signals);
-    }
+    put_pieces(pieces, right, signals, next);
 }

@@ -2,11 +2,9 @@
 // and 5.5, give them.
 ghost use Rattle.std.specs.Prelude.{◌≡◌, ◌*◌, ◌^◌, ◌<◌, ◌≤◌, ◌&&◌, nat_le, nat_lt, length};
 ghost use Rattle.std.specs.Prelude.{MatchOption};
-ghost use Rattle.sv_num.specs.UnaryValues.{gives_one_bit};
-ghost use Rattle.sv_num.specs.BinaryValues.{class_of};
 ghost use Rattle.sv_flat.specs.ByNumber.{signal_forms};
 ghost use Rattle.sv_flat.specs.Soundness.{is_one_to, is_signal, is_part_of, has_type, unary_typed};
-ghost use Rattle.sv_flat.specs.Soundness.{binary_typed, is_division};
+ghost use Rattle.sv_flat.specs.Soundness.{binary_typed};
 ghost use Rattle.sv_flat.specs.Soundness.{well_formed, node_well_formed, parts_well_formed};
 ghost use Rattle.sv_flat.specs.Values.{parts_width, signal_width};
 ghost use Rattle.sv_flat.specs.Views.{typed_tree, typed_trees, node_tree, parts_of};
@@ -15,7 +13,7 @@ use crate::bits::low_bits;
 use crate::expressions::{FExpr, FNode};
 use crate::signals::{SigId, Signal};
 use crate::values::width_of_signal;
-use sv_num::{BinOp, OpClass, UnOp};
+use sv_num::{OpClass, UnOp, class_of, gives_one_bit, is_division};
 
 /// Whether the expression has a value: every length is 1 to 64, every operand has the length and
 /// signedness that its operator gives it, every signal is one of these, every part lies inside its
@@ -156,41 +154,6 @@ fn has_type(expr: &FExpr, width: u8, signed: bool) -> bool
     ensures { result ≡ has_type width signed (typed_tree expr.now) }
 {
     expr.width == width && expr.signed == signed
-}
-
-fn gives_one_bit(op: UnOp) -> bool
-    ensures { result ≡ gives_one_bit op }
-{
-    match op {
-        UnOp::Plus | UnOp::Minus | UnOp::Invert => false,
-        UnOp::LogicNot | UnOp::And | UnOp::Nand | UnOp::Or | UnOp::Nor | UnOp::Xor | UnOp::Xnor =>
-            true,
-    }
-}
-
-fn is_division(op: BinOp) -> bool
-    ensures { result ≡ is_division op }
-{
-    matches!(op, BinOp::Div | BinOp::Rem)
-}
-
-fn class_of(op: BinOp) -> OpClass
-    ensures { result ≡ class_of op }
-{
-    match op {
-        BinOp::Mul
-        | BinOp::Div
-        | BinOp::Rem
-        | BinOp::Add
-        | BinOp::Sub
-        | BinOp::And
-        | BinOp::Xor
-        | BinOp::Xnor
-        | BinOp::Or => OpClass::Context,
-        BinOp::Shl | BinOp::Shr | BinOp::SignShl | BinOp::SignShr => OpClass::Shift,
-        BinOp::Lt | BinOp::Le | BinOp::Gt | BinOp::Ge | BinOp::Eq | BinOp::Ne => OpClass::Compare,
-        BinOp::LogicAnd | BinOp::LogicOr => OpClass::Logical,
-    }
 }
 
 fn unary_typed(op: UnOp, width: u8, signed: bool, operand: &FExpr) -> bool

@@ -7,6 +7,7 @@ use Rattle.std.specs.Prelude.{if◌then◌else◌, Ok, IsTrue}
 use Rattle.std.specs.Prelude.{option_map, option_and_then}
 use Rattle.std.specs.List.{slice_get, filter_map}
 use Rattle.std.proofs.lemmas.Bool.{false≢true, or_cases}
+use Rattle.sv_num.specs.BinaryValues.{is_division}
 use Rattle.sv_num.specs.declared.faults.Place.{Place}
 use Rattle.sv_num.specs.UnaryValues.{gives_one_bit}
 use Rattle.sv_ast.specs.Scopes.{Binding, parameter, signal, width_of}
@@ -22,7 +23,7 @@ use Rattle.sv_flat.specs.Clocks.{whole_name, link_in, link_out}
 use Rattle.sv_walk.specs.Walks.{Walk, ask, found}
 use Rattle.sv_walk.specs.Rules.{unknown_name, wrong_link}
 use Rattle.sv_walk.specs.Names.{Names, is_bound, in_reach, place_of}
-use Rattle.sv_walk.specs.TypedExpressions.{is_division, named_node, typed_of}
+use Rattle.sv_walk.specs.TypedExpressions.{named_node, typed_of}
 use Rattle.sv_walk.specs.ExpressionSteps.{asked, divisors, typed_walk, expression_walk}
 use Rattle.sv_walk.specs.Links.{port_number, port_width, port_value, whole_assignment}
 use Rattle.sv_walk.specs.Links.{input_link, output_link, link_walk}

@@ -23,12 +23,9 @@ fn circle_with(table: &[u32], first: usize) -> Option<usize>
     requires first { first < length table.now }
     ensures { FindsNumber (length table.now) (AreApart table.now first) result }
 {
-    for second in 0..table.len() {
-        if second != first && has(table[first], second) && has(table[second], first) {
-            return Some(second);
-        }
-    }
-    None
+    (0..table.len()).find(|second| {
+        *second != first && has(table[first], *second) && has(table[*second], first)
+    })
 }
 
 /// The first two points without a least upper point.

@@ -20,12 +20,9 @@ pub fn first_unknown(points: u32, pairs: &[(u32, u32)]) -> Option<usize>
     ensures { MatchOption result (All (IsKnown points) pairs.now)
         (IsFirstUnknown points pairs.now) }
 {
-    for (i, pair) in pairs.iter().enumerate() {
-        if pair.0 >= points || pair.1 >= points {
-            return Some(i);
-        }
-    }
-    None
+    pairs
+        .iter()
+        .position(|pair| pair.0 >= points || pair.1 >= points)
 }
 
 /// The table in which each point flows to itself alone.

@@ -1,8 +1,8 @@
 -- What the binary operators give (IEEE 1364-2005, clause 5). Operands are read as whole numbers,
 -- signed or not, and the result is taken modulo 2^length.
-use Rattle.std.specs.Prelude.{◌≡◌, ◌≢◌, ℕ, ◌-◌, ◌*◌, ◌/◌, ◌%◌, ◌^◌, Bool, false, ◌==◌, ◌&&◌, ◌||◌}
-use Rattle.std.specs.Prelude.{not, ◌+ℤ◌, ◌-ℤ◌, ◌*ℤ◌, int_div, int_rem, int_lt, int_le, bit_and}
-use Rattle.std.specs.Prelude.{bit_or, bit_xor}
+use Rattle.std.specs.Prelude.{◌≡◌, ◌≢◌, ℕ, ◌-◌, ◌*◌, ◌/◌, ◌%◌, ◌^◌, Bool, true, false, ◌==◌}
+use Rattle.std.specs.Prelude.{◌&&◌, ◌||◌, not, ◌+ℤ◌, ◌-ℤ◌, ◌*ℤ◌, int_div, int_rem, int_lt, int_le}
+use Rattle.std.specs.Prelude.{bit_and, bit_or, bit_xor}
 use Rattle.std.specs.Int.{int_shr}
 use Rattle.sv_num.specs.declared.operators.BinOp.{BinOp}
 use Rattle.sv_num.specs.declared.operators.BinOp.TheVariants.{Mul, Div, Rem, Add, Sub, Shl, Shr}
@@ -37,6 +37,12 @@ class_of Xnor = Context
 class_of Or = Context
 class_of LogicAnd = Logical
 class_of LogicOr = Logical
+
+-- `/` and `%`, which give no value where the right operand is 0
+abbrev pub is_division : BinOp → Bool
+is_division Div = true
+is_division Rem = true
+is_division _ = false
 
 -- both operands have one length and signedness, but those of a shift, of `&&` and of `||`
 abbrev pub HaveOneType : OpClass → Bits → Bits → Type 0

@@ -1,4 +1,4 @@
--- The operators of expressions (IEEE 1364-2005, clause 5): spelling, operator, level from the
+-- The operators of expressions (IEEE 1364-2005, clause 5): spelling, operator, precedence from the
 -- tightest on, and class.
 use Rattle.std.specs.Prelude.{ℕ, List, [], ◌∷◌, ◌++◌, length, take, codes}
 use Rattle.sv_num.specs.declared.operators.BinOp.{BinOp}

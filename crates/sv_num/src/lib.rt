@@ -27,7 +27,7 @@ pub use binary::apply_binary;
 pub use faults::{Fault, Place, Refusal};
 pub use names::Name;
 pub use operator_tables::{BINARY, BinRow, UNARY, UnRow, find, find_unary, tables_are_whole};
-pub use operators::{BinOp, OpClass, UnOp};
+pub use operators::{BinOp, OpClass, UnOp, class_of, gives_one_bit, is_division};
 pub use parts::{concat, extend, slice};
 pub use std::alloc::AllocError as OutOfMemory;
 pub use unary::apply_unary;

@@ -12,7 +12,7 @@ ghost use Rattle.sv_num.specs.OperatorTables.{binary_table, unary_table};
 use crate::operators::{BinOp, OpClass, UnOp};
 
 /// A binary operator: its spelling, which is the first `length` bytes of the field and then zeros,
-/// its level, where the tightest is 1, and how its operands are sized.
+/// its precedence, where the tightest has 1, and how its operands are sized.
 #[derive(Clone, Copy, Debug, PartialEq, Eq)]
 pub struct BinRow {
     pub spelling: [u8; 3],

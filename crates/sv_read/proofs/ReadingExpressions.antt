@@ -139,8 +139,8 @@ looser_bound b k m h le = grind arith
 tighter_bound : (b k m : ℕ) → IsTrue (nat_le b k) → k + 1 ≡ m → IsTrue (nat_lt b m)
 tighter_bound b k m h e = grind arith
 
-at_level : (k m : ℕ) → k ≡ m → IsTrue (nat_le k m)
-at_level k m e = grind arith
+equal_bound : (k m : ℕ) → k ≡ m → IsTrue (nat_le k m)
+equal_bound k m e = grind arith
 
 pub looser :
     (n k m : ℕ) (e : ExpressionTree) (ts rest : List Placed) → k ≤ m → IsChain n k e ts rest →
@@ -157,17 +157,17 @@ pub binary_is :
     precedence_of op ≡ k → j + 1 ≡ k → IsChain n k x ts a → binary_at op p a b → IsChain n j y b
     rest →
     IsChain n k (tree.binary op p x y) ts rest
-binary_is n k j op p x y ts a b rest level below left sign right = record {
+binary_is n k j op p x y ts a b rest same below left sign right = record {
   written = binary op p left.written right.written;
   tree =
       ap (λ l. tree.binary op p l (without_groups right.written)) left.tree
       ∙ ap (tree.binary op p x) right.tree;
-  binds = at_level (precedence_of op) k level;
+  binds = equal_bound (precedence_of op) k same;
   is = (
     both_true
-        (subst (λ (m : ℕ). IsTrue (nat_le (binding left.written) m)) (sym level) left.binds)
+        (subst (λ (m : ℕ). IsTrue (nat_le (binding left.written) m)) (sym same) left.binds)
         (tighter_bound (binding right.written) j (precedence_of op) right.binds
-        (below ∙ sym level)),
+        (below ∙ sym same)),
     (a, left.is, (b, sign, right.is)),
   );
 }

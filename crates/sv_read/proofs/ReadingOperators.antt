@@ -26,18 +26,18 @@ row_operator o n row known found =
     option_and_then (λ row. option_map (λ r. r.1) (slice_get binary_table row)) b) known
     ∙ looked_up n row found)
 
-levels : (n : ℕ) → option_map (λ (r : BinRow). r.level) (slice_get BINARY n) ≡
+precedences : (n : ℕ) → option_map (λ (r : BinRow). r.level) (slice_get BINARY n) ≡
     option_map (λ (r : BinRow). precedence_of r.op) (slice_get BINARY n)
-levels n =
+precedences n =
     sym (slice_get-map (λ (r : BinRow). r.level) BINARY n)
     ∙ slice_get-map (λ (r : BinRow). precedence_of r.op) BINARY n
 
-pub row_level :
+pub row_precedence :
     (o : Operator) (n : ℕ) (row : BinRow) → o.binary ≡ Some n → slice_get BINARY n ≡ Some row →
     Some row.level ≡ option_map precedence_of (binary_operator o)
-row_level o n row known found =
+row_precedence o n row known found =
     sym (ap (option_map (λ (r : BinRow). r.level)) found)
-    ∙ levels n
+    ∙ precedences n
     ∙ ap (option_map (λ (r : BinRow). precedence_of r.op)) found
     ∙ ap (option_map precedence_of) (row_operator o n row known found)
 

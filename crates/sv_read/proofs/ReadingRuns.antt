@@ -174,16 +174,16 @@ brace_closes = record { taken = refl; other = brace_other; full = λ start. refl
 -- ---- operators
 
 pub other_precedence :
-    (op : BinOp) (p : Place) (found level : ℕ) (ts rest : List Placed) → found ≡ precedence_of op →
-    (found ≡ level → ⊥) → binary_at op p ts rest →
-    NextIs (IsNotOfPrecedence level) ts
-other_precedence op p found level ts rest is differs (o, known, at) =
-    subst (λ us. NextIs (IsNotOfPrecedence level) us) (sym at)
-    (λ o' op' same here level'.
+    (op : BinOp) (p : Place) (found precedence : ℕ) (ts rest : List Placed)
+    → found ≡ precedence_of op → (found ≡ precedence → ⊥) → binary_at op p ts rest
+    → NextIs (IsNotOfPrecedence precedence) ts
+other_precedence op p found precedence ts rest is differs (o, known, at) =
+    subst (λ us. NextIs (IsNotOfPrecedence precedence) us) (sym at)
+    (λ o' op' same here same_precedence.
     let same_operator : o ≡ o' = cc in
     let found_here : binary_operator o ≡ Some op' = ap binary_operator same_operator ∙ here in
     let same_op : op ≡ op' = cc in
-    differs (is ∙ ap precedence_of same_op ∙ level'))
+    differs (is ∙ ap precedence_of same_op ∙ same_precedence))
 
 pub other_operator : (found op : BinOp) (p : Place) (ts rest : List Placed) → (found ≡ op → ⊥) →
     binary_at found p ts rest → NextIsNoOperator op ts
@@ -195,62 +195,25 @@ other_operator found op p ts rest differs (o, known, at) =
     let same_op : found ≡ op = cc in
     differs same_op)
 
-level_is_some : (op : BinOp) → 0 < precedence_of op
-level_is_some ops.Mul = omega arith
-level_is_some ops.Div = omega arith
-level_is_some ops.Rem = omega arith
-level_is_some ops.Add = omega arith
-level_is_some ops.Sub = omega arith
-level_is_some ops.Shl = omega arith
-level_is_some ops.Shr = omega arith
-level_is_some ops.SignShl = omega arith
-level_is_some ops.SignShr = omega arith
-level_is_some ops.Lt = omega arith
-level_is_some ops.Le = omega arith
-level_is_some ops.Gt = omega arith
-level_is_some ops.Ge = omega arith
-level_is_some ops.Eq = omega arith
-level_is_some ops.Ne = omega arith
-level_is_some ops.And = omega arith
-level_is_some ops.Xor = omega arith
-level_is_some ops.Xnor = omega arith
-level_is_some ops.Or = omega arith
-level_is_some ops.LogicAnd = omega arith
-level_is_some ops.LogicOr = omega arith
+precedence_is_some : (op : BinOp) → 0 < precedence_of op
+precedence_is_some ops.Mul = omega arith
+precedence_is_some _ = omega arith
 
-level_is_low : (op : BinOp) → precedence_of op ≤ 10
-level_is_low ops.Mul = omega arith
-level_is_low ops.Div = omega arith
-level_is_low ops.Rem = omega arith
-level_is_low ops.Add = omega arith
-level_is_low ops.Sub = omega arith
-level_is_low ops.Shl = omega arith
-level_is_low ops.Shr = omega arith
-level_is_low ops.SignShl = omega arith
-level_is_low ops.SignShr = omega arith
-level_is_low ops.Lt = omega arith
-level_is_low ops.Le = omega arith
-level_is_low ops.Gt = omega arith
-level_is_low ops.Ge = omega arith
-level_is_low ops.Eq = omega arith
-level_is_low ops.Ne = omega arith
-level_is_low ops.And = omega arith
-level_is_low ops.Xor = omega arith
-level_is_low ops.Xnor = omega arith
-level_is_low ops.Or = omega arith
-level_is_low ops.LogicAnd = omega arith
-level_is_low ops.LogicOr = omega arith
+precedence_is_low : (op : BinOp) → precedence_of op ≤ 10
+precedence_is_low ops.Mul = omega arith
+precedence_is_low _ = omega arith
 
-pub any_looser : (level : ℕ) (ts : List Placed) → level ≡ 0 → NextIsLooser level ts
-any_looser level [] is = tt
-any_looser level (t ∷ ts) is = λ o op same here. rw is (level_is_some op)
+pub any_looser : (precedence : ℕ) (ts : List Placed) → precedence ≡ 0 → NextIsLooser precedence ts
+any_looser precedence [] is = tt
+any_looser precedence (t ∷ ts) is = λ o op same here. rw is (precedence_is_some op)
 
-pub looser_behind : (level : ℕ) (ts : List Placed) → 0 < level → NextIsLooser (level - 1) ts →
-    NextIs (IsNotOfPrecedence level) ts → NextIsLooser level ts
-looser_behind level [] some looser other = tt
-looser_behind level (t ∷ ts) some looser other = λ o op same here.
-    let less : level - 1 < precedence_of op = looser o op same here in
-    let differs : precedence_of op ≡ level → ⊥ = other o op same here in
+pub looser_behind : (precedence : ℕ) (ts : List Placed) → 0 < precedence →
+    NextIsLooser (precedence - 1) ts → NextIs (IsNotOfPrecedence precedence) ts →
+    NextIsLooser precedence ts
+looser_behind precedence [] some looser other = tt
+looser_behind precedence (t ∷ ts) some looser other = λ o op same here.
+    let less : precedence - 1 < precedence_of op = looser o op same here in
+    let differs : precedence_of op ≡ precedence → ⊥ = other o op same here in
     grind arith
 
 no_tail : (n : ℕ) (o : Operator) (found : Option BinOp) → binary_operator o ≡ found →
@@ -258,7 +221,7 @@ no_tail : (n : ℕ) (o : Operator) (found : Option BinOp) → binary_operator o 
 no_tail n o None is looser = ap (infix_tail n) is
 no_tail n o (Some op) is looser =
     let less : 10 < precedence_of op = looser o op refl is in
-    let low : precedence_of op ≤ 10 = level_is_low op in
+    let low : precedence_of op ≤ 10 = precedence_is_low op in
     absurd (omega arith)
 
 tail_is_over : (n : ℕ) (x : Lexeme) → IsLooser 10 x → IsNot (sign signs.Question) x →

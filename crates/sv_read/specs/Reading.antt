@@ -12,12 +12,12 @@ use Rattle.sv_ast.specs.GrammarGroups.{binding}
 use Rattle.sv_ast.specs.GrammarExpressions.{IsWritten, AreWritten, AreMore}
 use Rattle.sv_ast.specs.GrammarRules.{all_limits}
 
--- an expression of the tree, whose operators outside groups are no looser than the level; it may
--- stand in another one
-pub record IsChain (n level : ℕ) (e : ExpressionTree) (ts rest : List Placed) : Type 0 where
+-- an expression of the tree, whose operators outside groups are no looser than the precedence; it
+-- may stand in another one
+pub record IsChain (n precedence : ℕ) (e : ExpressionTree) (ts rest : List Placed) : Type 0 where
   pub written : Written
   pub tree : without_groups written ≡ e
-  pub binds : IsTrue (nat_le (binding written) level)
+  pub binds : IsTrue (nat_le (binding written) precedence)
   pub is : IsWritten all_limits n written ts rest
 
 -- the parts of a join or replication, commas between them

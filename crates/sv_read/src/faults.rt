@@ -12,28 +12,7 @@ use crate::forms::word_at;
 use crate::stop::{Breach, Expected};
 use std::alloc::{AllocError, Global};
 use sv_num::{Fault, Name, Place};
-use sv_token::Token;
-
-// The place behind a byte: a line feed ends its line.
-fn next_place(place: Place, byte: u8) -> Place
-    requires line { place.line + 1 < 2 ^ 32 }
-    requires column { place.column + 1 < 2 ^ 32 }
-    ensures is { result ≡ next_place place byte }
-    ensures line { result.line ≤ place.line + 1 }
-    ensures column { result.column ≤ place.column + 1 }
-{
-    if byte == b'\n' {
-        Place {
-            line: place.line + 1,
-            column: 1,
-        }
-    } else {
-        Place {
-            line: place.line,
-            column: place.column + 1,
-        }
-    }
-}
+use sv_token::{Token, next_place};
 
 // The place behind the last byte.
 fn end_place(bytes: &[u8]) -> Place

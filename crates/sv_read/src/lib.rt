@@ -9,7 +9,7 @@
 //! (`is`) or that it does not (`none`). The crates above read statements and modules by these
 //! functions.
 //!
-//! `specs/Reading.antt` and `Expectations.antt` say how reading goes, for this layer alone; what it
+//! `specs/Reading.antt` and `Expectations.antt` are private: they say how reading goes; what it
 //! means stands in `sv_ast`.
 #![tactic(auto)]
 

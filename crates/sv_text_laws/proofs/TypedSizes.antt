@@ -2,7 +2,7 @@
 use Rattle.std.proofs.Common.{◌≡◌, ℕ, ◌≤◌, Bool, Option, Some, None, sym, subst, arith}
 use Rattle.sv_num.specs.declared.faults.Place.{Place}
 use Rattle.sv_num.specs.UnaryValues.{gives_one_bit}
-use Rattle.sv_num.specs.BinaryValues.{class_of}
+use Rattle.sv_num.specs.BinaryValues.{class_of, is_division}
 use Rattle.sv_ast.specs.Scopes.{Binding, parameter, signal}
 use Rattle.sv_ast.specs.Tree.{ExpressionTree, literal, named, bit_of, part_of, unary, binary}
 use Rattle.sv_ast.specs.Tree.{choice, join, replication}
@@ -10,7 +10,7 @@ use Rattle.sv_ast.specs.Tree.{ExpressionTrees, no_expressions, more_expressions}
 use Rattle.sv_ast.specs.Values.{length_of, signed_of}
 use Rattle.sv_flat.specs.Design.{TypedTree, typed}
 use Rattle.sv_walk.specs.Names.{Names}
-use Rattle.sv_walk.specs.TypedExpressions.{is_division, named_node, typed_of, typed_parts}
+use Rattle.sv_walk.specs.TypedExpressions.{named_node, typed_of, typed_parts}
 use Rattle.sv_walk.specs.TypedExpressions.{left_length, right_length, left_signed, right_signed}
 use Rattle.sv_width.proofs.SameValue.{either, typed_reduction, typed_unary, typed_division}
 use Rattle.sv_width.proofs.SameValue.{typed_binary}

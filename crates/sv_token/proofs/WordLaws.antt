@@ -1,6 +1,6 @@
 -- Words and their kinds.
 use Rattle.std.proofs.Common.{◌≡◌, ℕ, ◌+◌, ◌-◌, ◌<◌, Bool, true, false, cond, Bor, List, [], ◌∷◌}
-use Rattle.std.proofs.Common.{take, drop, length, get_or, map, Option, Some, refl, sym, ap, subst}
+use Rattle.std.proofs.Common.{take, drop, length, get_or, map, Option, Some, refl, sym, ap}
 use Rattle.std.proofs.Common.{◌∙◌, arith}
 use Rattle.std.specs.Prelude.{option_map, codes, find, if◌then◌else◌}
 use Rattle.std.specs.List.{prefix_len}
@@ -10,8 +10,6 @@ use Rattle.std.proofs.lemmas.Cmp.{nat_list_eq_equiv}
 use Rattle.std.proofs.lemmas.List.Folds.{length-prefix_len}
 use Rattle.std.proofs.Math.Numerals.{add-one}
 use Rattle.sv_token.specs.declared.keywords.WordKind.{WordKind}
-use Rattle.sv_token.specs.declared.keywords.WordKind.TheVariants.{Else, End, Endcase, Endmodule}
-use Rattle.sv_token.specs.declared.keywords.WordKind.TheVariants.{Endlattice, Endlabelmap}
 use Rattle.sv_token.specs.Bytes.{entry, continues_name, begins_name, next_is}
 use Rattle.sv_token.specs.Fronts.{token, unsupported, bad_byte}
 use Rattle.sv_token.specs.Lexemes.{word, identifier, between}
@@ -84,17 +82,3 @@ system_name_is (b ∷ bs) n o some dollar is kind =
     let count : length (take (prefix_len continues_name bs) bs) ≡ n =
     length-prefix_len continues_name bs ∙ sym is in
     rw (known, count, ← is) refl
-
--- the words of the table that begin with `e`
-abbrev pub e_rows : List (List ℕ × WordKind)
-e_rows =
-    (codes "else", Else) ∷ (codes "end", End) ∷ (codes "endcase", Endcase) ∷
-    (codes "endmodule", Endmodule)
-    ∷ (codes "endlattice", Endlattice) ∷ (codes "endlabelmap", Endlabelmap) ∷ []
-
-pub e_words : (text : List ℕ) → get_or text 0 0 ≡ 101 → entry e_rows text ≡ word_of text
-unfolding word_of
-e_words [] is = absurd (omega arith)
-e_words (b ∷ bs) is =
-    let P : ℕ → Type 0 = λ d. entry e_rows (d ∷ bs) ≡ word_of (d ∷ bs) in
-    subst P (sym is) refl

@@ -1,6 +1,6 @@
 -- What the fronts of the code say.
-use Rattle.std.specs.Prelude.{ℕ, ◌+◌, ◌-◌, not, ◌||◌, nat_le, if◌then◌else◌, List, [], ◌∷◌, length}
-use Rattle.std.specs.Prelude.{drop, Option, Some, None, option_map, codes}
+use Rattle.std.specs.Prelude.{◌≡◌, ℕ, ◌+◌, ◌-◌, not, ◌||◌, nat_le, if◌then◌else◌, List, [], ◌∷◌}
+use Rattle.std.specs.Prelude.{length, drop, Option, Some, None, option_map, codes}
 use Rattle.std.specs.Option.{option_map_or}
 use Rattle.sv_num.specs.declared.faults.Fault.{Fault}
 use Rattle.sv_num.specs.declared.faults.Fault.TheVariants.{Rule, OutOfMemory}
@@ -14,12 +14,14 @@ use Rattle.sv_token.specs.declared.fronts.Breach.TheVariants.{LeftOut}
 use Rattle.sv_token.specs.declared.fronts.Front.{Front as CodeFront}
 use Rattle.sv_token.specs.declared.fronts.Front.TheVariants as code_front
 use Rattle.sv_token.specs.Bytes.{entry}
+use Rattle.sv_token.specs.declared.keywords.WordKind.{WordKind}
 use Rattle.sv_token.specs.Fronts.{Front, gap, token, broken, unsupported}
 use Rattle.sv_token.specs.declared.numerals.Head.{Head as CodeHead}
 use Rattle.sv_token.specs.Lexemes.{lexeme_of, sign}
 use Rattle.sv_token.specs.Numerals.{Head, value_in, are_digits_in, value_bound}
 use Rattle.sv_token.specs.Signs.{left_out_signs, sign_of}
 use Rattle.sv_token.specs.Tokens.{BreaksLexis}
+use Rattle.sv_token.specs.Words.{word_of}
 
 -- the word for a form that is left out
 abbrev pub form_word : Form → List ℕ
@@ -58,6 +60,10 @@ front_of bytes (code_front.Broken breach) = broken (rule_number breach) (rule_na
 abbrev pub head_behind : List ℕ → ℕ → CodeHead → Head
 head_behind bytes start head =
     record { signed = head.signed; base = head.base; behind = drop head.length (drop start bytes) }
+
+-- of the texts that begin with the byte, the table knows the words of the grammar, and no others
+abbrev pub HasWordsFrom : ℕ → List (List ℕ × WordKind) → Type 0
+HasWordsFrom first rows = (more : List ℕ) → entry rows (first ∷ more) ≡ word_of (first ∷ more)
 
 -- the value of a literal, where its digits are digits of the base and it is not too large
 abbrev pub literal_value : Option ℕ → ℕ → List ℕ → Option ℕ

@@ -43,8 +43,8 @@ fn front_at(bytes: &[u8]) -> Front
     }
 }
 
-// The place behind a byte: a line feed ends its line.
-fn next_place(place: Place, byte: u8) -> Place
+/// The place behind a byte: a line feed ends its line.
+pub fn next_place(place: Place, byte: u8) -> Place
     requires line { place.line + 1 < 2 ^ 32 }
     requires column { place.column + 1 < 2 ^ 32 }
     ensures is { result ≡ next_place place byte }

@@ -24,6 +24,6 @@ mod tokens;
 mod words;
 
 pub use keywords::WordKind;
-pub use lexer::lex;
+pub use lexer::{lex, next_place};
 pub use signs::{Operator, SignKind};
 pub use tokens::{Lit, Token, TokenKind};

@@ -63,19 +63,22 @@ fn are_digits_in(base: u8, digits: &[u8]) -> bool
 
 // Plain decimals.
 
+// Whether the byte can go on a decimal.
+fn continues_decimal(byte: u8) -> bool
+    ensures { result ≡ continues_decimal byte }
+{
+    byte.is_ascii_digit() || byte == b'_'
+}
+
 // How many bytes at the front go on a decimal.
 fn decimal_length(bytes: &[u8]) -> usize
     ensures is { result ≡ prefix_len continues_decimal bytes.now }
     ensures within { result ≤ length bytes.now }
 {
-    let mut length = 0;
-    for byte in bytes {
-        if !(byte.is_ascii_digit() || *byte == b'_') {
-            return length;
-        }
-        length += 1;
-    }
-    length
+    bytes
+        .iter()
+        .take_while(|byte| continues_decimal(**byte))
+        .count()
 }
 
 // Whether `.` and a digit come next.
@@ -184,14 +187,10 @@ fn digits_length(bytes: &[u8]) -> usize
     ensures is { result ≡ prefix_len continues_digits bytes.now }
     ensures within { result ≤ length bytes.now }
 {
-    let mut length = 0;
-    for byte in bytes {
-        if !continues_digits(*byte) {
-            return length;
-        }
-        length += 1;
-    }
-    length
+    bytes
+        .iter()
+        .take_while(|byte| continues_digits(**byte))
+        .count()
 }
 
 // Whether the byte stands for no value of two.

@@ -3,7 +3,7 @@ ghost use Rattle.std.specs.Prelude.{◌≡◌, ◌<◌, length, drop, map, find,
 ghost use Rattle.std.specs.Str.{bytes_eq};
 ghost use Rattle.sv_token.specs.Bytes.{entry};
 ghost use Rattle.sv_token.specs.Words.{word_of, name_at, system_name_at};
-ghost use Rattle.sv_token.specs.Views.{front_of};
+ghost use Rattle.sv_token.specs.Views.{front_of, HasWordsFrom};
 
 use crate::bytes::{name_is_next, name_length};
 use crate::fronts::{Breach, Form, Front};
@@ -27,65 +27,58 @@ fn kind_among(text: &[u8], rows: &[Row]) -> Option<WordKind>
     row_among(text, rows).map(|row| row.1)
 }
 
+// The words of the grammar with the first byte `e`.
+const E_ROWS: [Row; 6] = [
+    (b"else", WordKind::Else),
+    (b"end", WordKind::End),
+    (b"endcase", WordKind::Endcase),
+    (b"endmodule", WordKind::Endmodule),
+    (b"endlattice", WordKind::Endlattice),
+    (b"endlabelmap", WordKind::Endlabelmap),
+];
+
+// The words of the grammar with the first byte.
+#[tactic(auto, unfolding(crate::specs::Words::word_of))]
+fn rows_from(first: u8) -> &'static [Row]
+    ensures { HasWordsFrom first (map (λ row. (row.0.now, row.1)) result.now) }
+{
+    match first {
+        b'$' => &[(b"$release", WordKind::Release)],
+        b'a' => &[(b"always", WordKind::Always), (b"assign", WordKind::Assign)],
+        b'b' => &[(b"begin", WordKind::Begin)],
+        b'c' => &[(b"case", WordKind::Case)],
+        b'd' => &[(b"default", WordKind::Default)],
+        b'e' => &E_ROWS,
+        b'i' => &[
+            (b"if", WordKind::If),
+            (b"input", WordKind::Input),
+            (b"invariant", WordKind::Invariant),
+        ],
+        b'l' => &[
+            (b"localparam", WordKind::Localparam),
+            (b"lattice", WordKind::Lattice),
+            (b"labelmap", WordKind::Labelmap),
+        ],
+        b'm' => &[(b"module", WordKind::Module)],
+        b'o' => &[(b"output", WordKind::Output)],
+        b'p' => &[
+            (b"parameter", WordKind::Parameter),
+            (b"posedge", WordKind::Posedge),
+            (b"point", WordKind::Point),
+        ],
+        b'r' => &[(b"reg", WordKind::Reg)],
+        b's' => &[(b"signed", WordKind::Signed)],
+        b'w' => &[(b"wire", WordKind::Wire)],
+        _ => &[],
+    }
+}
+
 // The word of the grammar that the text spells, sought among those with its first byte.
 #[tactic(auto, unfolding(crate::specs::Words::word_of))]
 fn word_of(text: &[u8]) -> Option<WordKind>
     ensures { result ≡ word_of text.now }
 {
-    let [first, ..] = text else {
-        return None;
-    };
-    match *first {
-        b'$' => kind_among(text, &[(b"$release", WordKind::Release)]),
-        b'a' => kind_among(
-            text,
-            &[(b"always", WordKind::Always), (b"assign", WordKind::Assign)],
-        ),
-        b'b' => kind_among(text, &[(b"begin", WordKind::Begin)]),
-        b'c' => kind_among(text, &[(b"case", WordKind::Case)]),
-        b'd' => kind_among(text, &[(b"default", WordKind::Default)]),
-        b'e' => kind_among(
-            text,
-            &[
-                (b"else", WordKind::Else),
-                (b"end", WordKind::End),
-                (b"endcase", WordKind::Endcase),
-                (b"endmodule", WordKind::Endmodule),
-                (b"endlattice", WordKind::Endlattice),
-                (b"endlabelmap", WordKind::Endlabelmap),
-            ],
-        ),
-        b'i' => kind_among(
-            text,
-            &[
-                (b"if", WordKind::If),
-                (b"input", WordKind::Input),
-                (b"invariant", WordKind::Invariant),
-            ],
-        ),
-        b'l' => kind_among(
-            text,
-            &[
-                (b"localparam", WordKind::Localparam),
-                (b"lattice", WordKind::Lattice),
-                (b"labelmap", WordKind::Labelmap),
-            ],
-        ),
-        b'm' => kind_among(text, &[(b"module", WordKind::Module)]),
-        b'o' => kind_among(text, &[(b"output", WordKind::Output)]),
-        b'p' => kind_among(
-            text,
-            &[
-                (b"parameter", WordKind::Parameter),
-                (b"posedge", WordKind::Posedge),
-                (b"point", WordKind::Point),
-            ],
-        ),
-        b'r' => kind_among(text, &[(b"reg", WordKind::Reg)]),
-        b's' => kind_among(text, &[(b"signed", WordKind::Signed)]),
-        b'w' => kind_among(text, &[(b"wire", WordKind::Wire)]),
-        _ => None,
-    }
+    kind_among(text, rows_from(*text.first()?))
 }
 
 /// From a letter or `_` on: a word of the grammar, or else a name.

@@ -5,7 +5,7 @@
 use Rattle.std.specs.Prelude.{ℕ, max, Bool, true, false, not, ◌==◌, ◌||◌, ◌&&◌, nat_lt, nat_le, ℤ}
 use Rattle.std.specs.Prelude.{pos, negsuc}
 use Rattle.sv_num.specs.UnaryValues.{gives_one_bit}
-use Rattle.sv_num.specs.BinaryValues.{class_of}
+use Rattle.sv_num.specs.BinaryValues.{class_of, is_division}
 use Rattle.sv_ast.specs.Scopes.{Scope, Number, width_of}
 use Rattle.sv_ast.specs.Tree.{ExpressionTree, ExpressionTrees, literal, named, bit_of, part_of}
 use Rattle.sv_ast.specs.Tree.{unary, binary, choice, join, replication, no_expressions}
@@ -17,7 +17,7 @@ use Rattle.sv_walk.specs.Walks.{Walk, Steps, done, ask, ◌>>=◌}
 use Rattle.sv_walk.specs.Rules.{unknown_name, too_wide, bad_select, not_constant, zero_divisor}
 use Rattle.sv_walk.specs.Rules.{division, unsized_part, bad_count}
 use Rattle.sv_walk.specs.Names.{Names, is_parameter, in_reach, means_signal, place_of}
-use Rattle.sv_walk.specs.TypedExpressions.{is_division, names_signal, left_length, right_length}
+use Rattle.sv_walk.specs.TypedExpressions.{names_signal, left_length, right_length}
 use Rattle.sv_walk.specs.TypedExpressions.{left_signed, right_signed, typed_of}
 
 unfoldable mutual

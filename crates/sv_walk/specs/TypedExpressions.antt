@@ -3,12 +3,10 @@
 -- parameters and divisions stand as their values, other constant expressions as they are written.
 use Rattle.std.specs.Prelude.{ℕ, max, Bool, true, false, ◌||◌, ◌&&◌, Option, Some, None}
 use Rattle.sv_num.specs.declared.faults.Place.{Place}
-use Rattle.sv_num.specs.declared.operators.BinOp.{BinOp}
-use Rattle.sv_num.specs.declared.operators.BinOp.TheVariants.{Div, Rem}
 use Rattle.sv_num.specs.declared.operators.OpClass.{OpClass}
 use Rattle.sv_num.specs.declared.operators.OpClass.TheVariants.{Context, Compare, Logical, Shift}
 use Rattle.sv_num.specs.UnaryValues.{gives_one_bit}
-use Rattle.sv_num.specs.BinaryValues.{class_of}
+use Rattle.sv_num.specs.BinaryValues.{class_of, is_division}
 use Rattle.sv_ast.specs.Scopes.{Scope, Binding, parameter, signal}
 use Rattle.sv_ast.specs.Tree.{ExpressionTree, ExpressionTrees, literal, named, bit_of, part_of}
 use Rattle.sv_ast.specs.Tree.{unary, binary, choice, join, replication, no_expressions}
@@ -21,11 +19,6 @@ use Rattle.sv_flat.specs.Design.{binary as binary_node, choice as choice_node, j
 use Rattle.sv_flat.specs.Design.{replication as replication_node}
 use Rattle.sv_ast.specs.Instances.{is_signal}
 use Rattle.sv_walk.specs.Names.{Names}
-
-abbrev pub is_division : BinOp → Bool
-is_division Div = true
-is_division Rem = true
-is_division _ = false
 
 unfoldable mutual
   -- whether a signal is named: an expression that names none is constant

@@ -1,5 +1,5 @@
 -- What refuses by a step.
-use Rattle.std.proofs.Common.{◌≡◌, ℕ, List, sym, ap, ◌∙◌}
+use Rattle.std.proofs.Common.{◌≡◌, ℕ, List, refl, sym, ap, ◌∙◌}
 use Rattle.std.specs.Prelude.{Result, Ok, Err, IfOk, OnOk, IfErr}
 use Rattle.sv_num.specs.declared.faults.Place.{Place}
 use Rattle.sv_num.specs.declared.faults.Fault.{Fault}
@@ -7,7 +7,7 @@ use Rattle.sv_num.specs.declared.faults.Fault.TheVariants.{Rule, OutOfMemory}
 use Rattle.sv_num.specs.Faults.{Refuses}
 use Rattle.sv_walk.specs.Walks.{Step}
 use Rattle.sv_walk.specs.Rules.{step}
-use Rattle.sv_width.specs.Answers.{IsBreach}
+use Rattle.sv_width.specs.Answers.{step_of, IsBreach}
 
 pub breach_of : {X : Type 0} (f : Fault) (number : ℕ) (place : Place) (names given : List (List ℕ))
     → Refuses f number place names → names ≡ given → (end : Result X Step)
@@ -17,6 +17,17 @@ breach_of (Rule r) number place names given refuses is end e =
     Err s) (ap (λ (t : ℕ × Place × List (List ℕ)). step t.0 t.1 t.2) refuses
     ∙ ap (λ ns. step number place ns) is))
 breach_of OutOfMemory number place names given refuses is end e = tt
+
+one_step : (end : Result (Unit {0}) Step) (s t : Step) → end ≡ Err s → end ≡ Err t → s ≡ t
+one_step end s t g h = cc
+
+-- what refuses by a step refuses where a walk of anything is broken by it
+pub breach_by : {X : Type 0} (f : Fault) (s : Step)
+    → ((end : Result (Unit {0}) Step) → end ≡ Err s → IsBreach end f)
+    → (end : Result X Step) → end ≡ Err s → IsBreach end f
+breach_by (Rule r) s refuses end e =
+    e ∙ ap (λ (t : Step). Err t) (one_step (Err s) s (step_of r) refl (refuses (Err s) refl))
+breach_by OutOfMemory s refuses end e = tt
 
 pub breach_memory : {X : Type 0} (f : Fault) → f ≡ OutOfMemory → (end : Result X Step) →
     IsBreach end f

@@ -18,12 +18,12 @@ use Rattle.sv_num.specs.declared.operators.OpClass.{OpClass}
 use Rattle.sv_num.specs.declared.operators.OpClass.TheVariants.{Context, Compare, Logical, Shift}
 use Rattle.sv_num.specs.declared.vectors.Bits.{Bits}
 use Rattle.sv_num.specs.Vectors.{width_of, is_signed, value_of}
-use Rattle.sv_num.specs.BinaryValues.{class_of, binary_value, HaveOneType, HasDivisor}
+use Rattle.sv_num.specs.BinaryValues.{class_of, binary_value, HaveOneType, HasDivisor, is_division}
 use Rattle.sv_num.proofs.NumberLemmas.{word_low}
 use Rattle.sv_ast.specs.Values.{natural}
 use Rattle.sv_walk.specs.Walks.{Step}
 use Rattle.sv_walk.specs.ExpressionSteps.{is_count}
-use Rattle.sv_walk.specs.TypedExpressions.{is_division, left_length, left_signed, right_length}
+use Rattle.sv_walk.specs.TypedExpressions.{left_length, left_signed, right_length}
 use Rattle.sv_walk.specs.TypedExpressions.{right_signed}
 use Rattle.sv_width.specs.Answers.{IsBreach}
 use Rattle.sv_width.specs.Measured.{OwnForm, MeasuredTree, MeasuredTrees}

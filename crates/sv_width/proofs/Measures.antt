@@ -9,7 +9,7 @@ use Rattle.sv_num.specs.declared.faults.Fault.TheVariants.{Rule, OutOfMemory}
 use Rattle.sv_num.specs.declared.operators.BinOp.{BinOp}
 use Rattle.sv_num.specs.declared.operators.UnOp.{UnOp}
 use Rattle.sv_num.specs.UnaryValues.{gives_one_bit}
-use Rattle.sv_num.specs.BinaryValues.{class_of}
+use Rattle.sv_num.specs.BinaryValues.{class_of, is_division}
 use Rattle.sv_ast.specs.Scopes.{Binding, parameter, signal, width_of}
 use Rattle.sv_ast.specs.Tree.{ExpressionTree, ExpressionTrees, literal, named, bit_of, part_of}
 use Rattle.sv_ast.specs.Tree.{unary, binary, choice, join, replication, no_expressions}
@@ -21,7 +21,7 @@ use Rattle.sv_ast.specs.Instances.{is_signal}
 use Rattle.sv_walk.specs.Walks.{Step, Walk, Steps, done, ask, then_walk, ◌>>=◌}
 use Rattle.sv_walk.specs.Names.{Names, is_parameter, means_signal, place_of}
 use Rattle.sv_walk.specs.Rules.{unknown_name, not_constant, bad_select}
-use Rattle.sv_walk.specs.TypedExpressions.{is_division, names_signal, some_names_signal}
+use Rattle.sv_walk.specs.TypedExpressions.{names_signal, some_names_signal}
 use Rattle.sv_walk.specs.ExpressionSteps.{asked, asked_parts, own_divisors, sized_parts}
 use Rattle.sv_walk.specs.ExpressionSteps.{is_part, is_count}
 use Rattle.sv_walk.proofs.WalkLemmas.{end_after, end_broken}

@@ -12,7 +12,7 @@ use Rattle.sv_num.specs.declared.operators.UnOp.{UnOp}
 use Rattle.sv_num.specs.declared.faults.Place.{Place}
 use Rattle.sv_num.specs.Vectors.{as_number, is_true}
 use Rattle.sv_num.specs.UnaryValues.{gives_one_bit, unary_value}
-use Rattle.sv_num.specs.BinaryValues.{class_of, binary_value}
+use Rattle.sv_num.specs.BinaryValues.{class_of, binary_value, is_division}
 use Rattle.sv_system.specs.System.{Environment}
 use Rattle.sv_ast.specs.Scopes.{Binding, parameter, signal, width_of, value_of}
 use Rattle.sv_ast.specs.Tree.{ExpressionTree, ExpressionTrees, literal, named, bit_of, part_of}
@@ -27,7 +27,7 @@ use Rattle.sv_flat.specs.Design.{unary as unary_node, constant}
 use Rattle.sv_flat.specs.Values.{signal_width, expression_width, expression_signed, parts_width}
 use Rattle.sv_flat.specs.Values.{value as flat_value, joined, number_of}
 use Rattle.sv_walk.specs.Names.{Names, is_bound, in_reach, means_signal}
-use Rattle.sv_walk.specs.TypedExpressions.{is_division, names_signal, some_names_signal}
+use Rattle.sv_walk.specs.TypedExpressions.{names_signal, some_names_signal}
 use Rattle.sv_walk.specs.TypedExpressions.{left_length, left_signed, right_length, right_signed}
 use Rattle.sv_walk.specs.TypedExpressions.{named_node, typed_of, typed_parts}
 use Rattle.sv_width.specs.Agreement.{AllDeclared, HaveSignals, HaveValues}

@@ -1,6 +1,7 @@
 -- What holds of an expression that breaks no rule but perhaps 405, part by part.
 use Rattle.std.proofs.Common.{◌≡◌, ℕ, Bool, true, false, List, refl}
 use Rattle.std.specs.Prelude.{not, ◌||◌, nat_le, IsTrue, Result, Ok, Err}
+use Rattle.sv_num.specs.BinaryValues.{is_division}
 use Rattle.sv_ast.specs.Scopes.{width_of}
 use Rattle.sv_ast.specs.Tree.{ExpressionTree, ExpressionTrees, literal, named, bit_of, part_of}
 use Rattle.sv_ast.specs.Tree.{unary, binary, choice, join, replication, no_expressions}
@@ -9,7 +10,7 @@ use Rattle.sv_ast.specs.Values.{length_of, joined_length, whole_number}
 use Rattle.sv_walk.specs.Walks.{Step, Steps, done, ask, then_walk, ◌>>=◌}
 use Rattle.sv_walk.specs.Names.{Names, is_parameter, in_reach, means_signal, place_of}
 use Rattle.sv_walk.specs.Rules.{unknown_name, too_wide, bad_select, not_constant}
-use Rattle.sv_walk.specs.TypedExpressions.{is_division, names_signal}
+use Rattle.sv_walk.specs.TypedExpressions.{names_signal}
 use Rattle.sv_walk.specs.ExpressionSteps.{asked, asked_parts, own_divisors, sized_parts, is_below}
 use Rattle.sv_walk.specs.ExpressionSteps.{is_count, is_part}
 use Rattle.sv_walk.proofs.WalkLemmas.{asked_true}

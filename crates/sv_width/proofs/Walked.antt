@@ -12,7 +12,7 @@ use Rattle.sv_num.specs.declared.operators.BinOp.TheVariants.{LogicOr}
 use Rattle.sv_num.specs.declared.operators.UnOp.{UnOp}
 use Rattle.sv_num.specs.declared.operators.OpClass.TheVariants.{Context}
 use Rattle.sv_num.specs.UnaryValues.{gives_one_bit}
-use Rattle.sv_num.specs.BinaryValues.{class_of}
+use Rattle.sv_num.specs.BinaryValues.{class_of, is_division}
 use Rattle.sv_ast.specs.Scopes.{Binding, parameter, signal}
 use Rattle.sv_ast.specs.Tree.{ExpressionTree, ExpressionTrees, literal, named, bit_of, part_of}
 use Rattle.sv_ast.specs.Tree.{unary, binary, choice, join, replication, no_expressions}
@@ -25,7 +25,7 @@ use Rattle.sv_flat.specs.Design.{TypedTree, TypedTrees, NodeTree, typed}
 use Rattle.sv_walk.specs.Walks.{Step, Steps, done, ask, then_walk, ◌>>=◌}
 use Rattle.sv_walk.specs.Rules.{zero_divisor}
 use Rattle.sv_walk.specs.Names.{Names, place_of}
-use Rattle.sv_walk.specs.TypedExpressions.{is_division, names_signal, left_length, left_signed}
+use Rattle.sv_walk.specs.TypedExpressions.{names_signal, left_length, left_signed}
 use Rattle.sv_walk.specs.TypedExpressions.{right_length, right_signed, named_node, typed_of}
 use Rattle.sv_walk.specs.TypedExpressions.{typed_parts}
 use Rattle.sv_walk.specs.ExpressionSteps.{divisors, part_divisors}

@@ -18,7 +18,7 @@ use Rattle.sv_num.specs.declared.operators.UnOp.{UnOp}
 use Rattle.sv_num.specs.declared.faults.Place.{Place}
 use Rattle.sv_num.specs.Vectors.{as_number, reduced}
 use Rattle.sv_num.specs.UnaryValues.{gives_one_bit}
-use Rattle.sv_num.specs.BinaryValues.{class_of, binary_value}
+use Rattle.sv_num.specs.BinaryValues.{class_of, binary_value, is_division}
 use Rattle.sv_ast.specs.Scopes.{Binding, parameter, signal, width_of}
 use Rattle.sv_ast.specs.Tree.{ExpressionTree, ExpressionTrees, literal, named, bit_of, part_of}
 use Rattle.sv_ast.specs.Tree.{unary, binary, choice, join, replication, no_expressions}
@@ -31,10 +31,10 @@ use Rattle.sv_ast.specs.Instances.{is_signal as names_a_signal}
 use Rattle.sv_flat.specs.Design.{SignalForm}
 use Rattle.sv_flat.specs.Values.{signal_width, expression_width, expression_signed, parts_width}
 use Rattle.sv_flat.specs.Soundness.{is_one_to, is_signal, has_type}
-use Rattle.sv_flat.specs.Soundness.{binary_typed, is_division as is_flat_division, well_formed}
+use Rattle.sv_flat.specs.Soundness.{binary_typed, well_formed}
 use Rattle.sv_flat.specs.Soundness.{node_well_formed, parts_well_formed}
 use Rattle.sv_walk.specs.Names.{Names, is_bound}
-use Rattle.sv_walk.specs.TypedExpressions.{is_division, names_signal, left_length, left_signed}
+use Rattle.sv_walk.specs.TypedExpressions.{names_signal, left_length, left_signed}
 use Rattle.sv_walk.specs.TypedExpressions.{right_length, right_signed, named_node, typed_of}
 use Rattle.sv_walk.specs.TypedExpressions.{typed_parts}
 use Rattle.sv_width.specs.Agreement.{AllDeclared, HaveSignals, HaveLengths, IsLength}
@@ -137,29 +137,6 @@ pub kept_length : (op : UnOp) (m n : ℕ) → gives_one_bit op ≡ false →
     (if gives_one_bit op then 1 else m) ≤ n → m ≤ n
 kept_length op m n is fits = subst (λ (b : Bool). (if b then 1 else m) ≤ n) is fits
 
-same_divisions : (op : BinOp) → is_flat_division op ≡ is_division op
-same_divisions Mul = refl
-same_divisions Div = refl
-same_divisions Rem = refl
-same_divisions Add = refl
-same_divisions Sub = refl
-same_divisions Shl = refl
-same_divisions Shr = refl
-same_divisions SignShl = refl
-same_divisions SignShr = refl
-same_divisions Lt = refl
-same_divisions Le = refl
-same_divisions Gt = refl
-same_divisions Ge = refl
-same_divisions Eq = refl
-same_divisions Ne = refl
-same_divisions And = refl
-same_divisions Xor = refl
-same_divisions Xnor = refl
-same_divisions Or = refl
-same_divisions LogicAnd = refl
-same_divisions LogicOr = refl
-
 all_of_three : (a b c : Bool) → a ≡ true → b ≡ true → c ≡ true → (a && b && c) ≡ true
 all_of_three a b c p q r = and_from (a && b) c (and_from a b p q) r
 
@@ -218,8 +195,8 @@ module _ (names : Names) (declared : AllDeclared names) (lengths : HaveLengths n
       ∙ and_from (is_one_to 64 n) _ one (lt-ltb _ (2 ^ n) (quotient_low names op p a b n s h)))
       (λ h. ap (λ t. well_formed signals t) (typed_binary names p n s op a b h)
       ∙ and_from (is_one_to 64 n) _ one
-      (all_of_four (not (is_flat_division op)) _ _ _
-      (ap not (same_divisions op ∙ h))
+      (all_of_four (not (is_division op)) _ _ _
+      (ap not h)
       (operands_typed names (class_of op) n s a b (length_of names.scope a)
       (length_of names.scope b) (signed_of names.scope a) (signed_of names.scope b))
       left right))

@@ -8,7 +8,7 @@ use Rattle.sv_num.specs.declared.operators.BinOp.{BinOp}
 use Rattle.sv_num.specs.declared.vectors.Bits.{Bits}
 use Rattle.sv_num.specs.Vectors.{width_of, is_signed, value_of}
 use Rattle.sv_num.specs.UnaryValues.{gives_one_bit}
-use Rattle.sv_num.specs.BinaryValues.{class_of}
+use Rattle.sv_num.specs.BinaryValues.{class_of, is_division}
 use Rattle.sv_ast.specs.Tree.{ExpressionTree, ExpressionTrees}
 use Rattle.sv_ast.specs.Values.{natural, binary_length, binary_signed, constant_of, whole_number}
 use Rattle.sv_flat.specs.Design.{typed}
@@ -18,7 +18,7 @@ use Rattle.sv_flat.specs.Views.{typed_tree, node_tree}
 use Rattle.sv_walk.specs.Walks.{Steps, done, ask, ◌>>=◌}
 use Rattle.sv_walk.specs.Rules.{bad_select, too_wide, zero_divisor, division, bad_count}
 use Rattle.sv_walk.specs.Names.{Names, place_of}
-use Rattle.sv_walk.specs.TypedExpressions.{is_division, names_signal}
+use Rattle.sv_walk.specs.TypedExpressions.{names_signal}
 use Rattle.sv_walk.specs.ExpressionSteps.{asked, asked_parts, own_divisors, sized_parts, is_below}
 use Rattle.sv_walk.specs.ExpressionSteps.{is_count}
 use Rattle.sv_width.specs.declared.measured.Measured.{Measured}

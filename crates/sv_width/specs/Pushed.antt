@@ -7,12 +7,12 @@ use Rattle.std.specs.Prelude.{if◌then◌else◌}
 use Rattle.sv_num.specs.declared.operators.BinOp.{BinOp}
 use Rattle.sv_num.specs.Vectors.{as_number, reduced, is_true}
 use Rattle.sv_num.specs.UnaryValues.{gives_one_bit, unary_value}
-use Rattle.sv_num.specs.BinaryValues.{class_of, binary_value}
+use Rattle.sv_num.specs.BinaryValues.{class_of, binary_value, is_division}
 use Rattle.sv_flat.specs.Design as flat
 use Rattle.sv_flat.specs.Design.{TypedTree, NodeTree, TypedTrees, typed}
 use Rattle.sv_walk.specs.Walks.{Steps, done, ask, ◌>>=◌}
 use Rattle.sv_walk.specs.Rules.{zero_divisor}
-use Rattle.sv_walk.specs.TypedExpressions.{is_division, left_length, right_length, left_signed}
+use Rattle.sv_walk.specs.TypedExpressions.{left_length, right_length, left_signed}
 use Rattle.sv_walk.specs.TypedExpressions.{right_signed}
 use Rattle.sv_width.specs.Measured.{MeasuredTree, MeasuredTrees, value, read, read_bit}
 use Rattle.sv_width.specs.Measured.{read_part, unary, binary, choice, join, replication, no_parts}

@@ -23,10 +23,10 @@ use crate::folding::joined_width;
 use crate::lookups::{Setting, refusal};
 use crate::meanings::KnownSignal;
 use crate::measured::{Measured, Own};
-use crate::types::{BitType, common, gives_one_bit, is_division, one_bit, result_type};
+use crate::types::{BitType, common, one_bit, result_type};
 use std::alloc::Global;
 use sv_ast::Expr;
-use sv_num::{BinOp, Bits, Fault, OutOfMemory, Place, UnOp};
+use sv_num::{BinOp, Bits, Fault, OutOfMemory, Place, UnOp, gives_one_bit, is_division};
 
 /// Where a constant stands inside an expression.
 pub fn inside(setting: Setting) -> Setting
@@ -98,7 +98,7 @@ pub fn part(
         (IsBreach (ask (is_part known.width (number_of high) (number_of low))
         (bad_select place)).end) }
 {
-    match bounds(known.width, high, low) {
+    match part_inside(known.width, high, low) {
         Some((high, low)) => Ok(inside_part(known, place, high, low)),
         None => Err(refusal(alloc, 403, place)),
     }
@@ -123,8 +123,9 @@ fn inside_part(known: KnownSignal, place: Place, high: u8, low: u8) -> Measured
     Measured::Part(own, known.signal, place, high, low)
 }
 
-// The bounds of a part, where it lies inside so many bits.
-fn bounds(width: u8, high: Bits, low: Bits) -> Option<(u8, u8)>
+/// The bounds of a part of so many bits, where it lies inside of them with its high not below its
+/// low.
+pub fn part_inside(width: u8, high: Bits, low: Bits) -> Option<(u8, u8)>
     ensures inside { IsSome result ↔ IsTrue (is_part width (number_of high) (number_of low)) }
     ensures order { IfSome result (λ p. (p.0 < width) × (p.1 ≤ p.0)) }
     ensures high { IfSome result (λ p. p.0 ≡ natural (number_of high)) }

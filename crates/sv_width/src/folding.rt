@@ -12,9 +12,11 @@ ghost use Rattle.sv_width.specs.Views.{measured_tree, measured_trees, parts_of};
 
 use crate::lookups::refusal;
 use crate::measured::Measured;
-use crate::types::{BitType, gives_one_bit, is_division, left_type, right_type};
+use crate::types::{BitType, left_type, right_type};
 use std::alloc::Global;
-use sv_num::{BinOp, Bits, Fault, Place, apply_binary, apply_unary, extend};
+use sv_num::{
+    BinOp, Bits, Fault, Place, apply_binary, apply_unary, extend, gives_one_bit, is_division,
+};
 
 /// The value at another length: cut, or extended as the type's signedness says.
 pub fn at_type(bits: Bits, to: BitType) -> Bits

@@ -29,9 +29,9 @@ mod scope;
 mod types;
 mod typing;
 
-pub use building::natural;
+pub use building::{natural, part_inside};
 pub use laws::{typed_forms_are_well_formed, typed_means_its_source};
-pub use lookups::place_of;
+pub use lookups::{place_of, refusal, refusal_naming, unknown_name};
 pub use meanings::{KnownSignal, Meaning};
 pub use operands::Operand;
 pub use scope::Scope;

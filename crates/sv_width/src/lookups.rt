@@ -41,15 +41,23 @@ pub fn refusal(alloc: Global, number: u16, place: Place) -> Fault
     Fault::broken(number, place, Vec::new(alloc))
 }
 
-// Rule 401: the name stands for nothing that may stand there.
-fn unknown(alloc: Global, name: &Name, place: Place) -> Fault
-    ensures { (end : Result (Unit {0}) Step) → end ≡ Err (unknown_name place name.now) →
+/// The refusal by a rule at a place, with one name.
+pub fn refusal_naming(alloc: Global, number: u16, place: Place, name: &Name) -> Fault
+    ensures { (end : Result (Unit {0}) Step) → end ≡ Err (step number place (name.now ∷ [])) →
         IsBreach end result }
 {
     match name.alone(alloc) {
-        Ok(names) => Fault::broken(401, place, names),
+        Ok(names) => Fault::broken(number, place, names),
         Err(error) => Fault::from(error),
     }
+}
+
+/// The refusal by rule 401: the name stands for nothing that may stand there.
+pub fn unknown_name(alloc: Global, name: &Name, place: Place) -> Fault
+    ensures { (end : Result (Unit {0}) Step) → end ≡ Err (unknown_name place name.now) →
+        IsBreach end result }
+{
+    refusal_naming(alloc, 401, place, name)
 }
 
 /// A whole name.
@@ -97,7 +105,7 @@ fn absent(alloc: Global, name: &Name, place: Place, scope: &Scope, setting: Sett
     if setting == Setting::Declaring && scope.is_announced(name) {
         refusal(alloc, 404, place)
     } else {
-        unknown(alloc, name, place)
+        unknown_name(alloc, name, place)
     }
 }
 
@@ -117,7 +125,7 @@ pub fn selected(
         name.now).end) }
 {
     match scope.find(name) {
-        Some(Meaning::Param(_)) => Err(unknown(alloc, name, place)),
+        Some(Meaning::Param(_)) => Err(unknown_name(alloc, name, place)),
         Some(Meaning::Signal(known)) => {
             if setting == Setting::Open {
                 Ok(known)

@@ -2,13 +2,11 @@
 ghost use Rattle.std.specs.Prelude.{◌≡◌, ◌≤◌, ◌&&◌, false, max};
 ghost use Rattle.sv_num.specs.Vectors.{width_of, is_signed, value_of};
 ghost use Rattle.sv_num.specs.BinaryValues.{class_of};
-ghost use Rattle.sv_num.specs.UnaryValues.{gives_one_bit};
-ghost use Rattle.sv_walk.specs.TypedExpressions.{is_division, left_length, left_signed};
-ghost use Rattle.sv_walk.specs.TypedExpressions.{right_length};
+ghost use Rattle.sv_walk.specs.TypedExpressions.{left_length, left_signed, right_length};
 ghost use Rattle.sv_walk.specs.TypedExpressions.{right_signed};
 ghost use Rattle.sv_ast.specs.Values.{binary_length, binary_signed};
 
-use sv_num::{BinOp, Bits, OpClass, UnOp};
+use sv_num::{BinOp, Bits, OpClass, class_of};
 
 /// A length of 1 to 64 bits, and a signedness.
 #[derive(Clone, Copy, Debug, PartialEq, Eq)]
@@ -37,37 +35,6 @@ pub fn type_of(bits: Bits) -> BitType
     BitType {
         width: bits.width(),
         signed: bits.signed(),
-    }
-}
-
-/// How a binary operator sizes its operands.
-pub fn class_of(op: BinOp) -> OpClass
-    ensures { result ≡ class_of op }
-{
-    match op {
-        BinOp::Mul | BinOp::Div | BinOp::Rem | BinOp::Add | BinOp::Sub => OpClass::Context,
-        BinOp::Shl | BinOp::Shr | BinOp::SignShl | BinOp::SignShr => OpClass::Shift,
-        BinOp::Lt | BinOp::Le | BinOp::Gt | BinOp::Ge | BinOp::Eq | BinOp::Ne => OpClass::Compare,
-        BinOp::And | BinOp::Xor | BinOp::Xnor | BinOp::Or => OpClass::Context,
-        BinOp::LogicAnd | BinOp::LogicOr => OpClass::Logical,
-    }
-}
-
-/// Whether the operator is `/` or `%`.
-pub fn is_division(op: BinOp) -> bool
-    ensures { result ≡ is_division op }
-{
-    matches!(op, BinOp::Div | BinOp::Rem)
-}
-
-/// Whether the operator is `!` or a reduction.
-pub fn gives_one_bit(op: UnOp) -> bool
-    ensures { result ≡ gives_one_bit op }
-{
-    match op {
-        UnOp::Plus | UnOp::Minus | UnOp::Invert => false,
-        UnOp::LogicNot => true,
-        UnOp::And | UnOp::Nand | UnOp::Or | UnOp::Nor | UnOp::Xor | UnOp::Xnor => true,
     }
 }
 

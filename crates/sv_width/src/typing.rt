@@ -22,11 +22,11 @@ use crate::lookups::Setting;
 use crate::measured::Measured;
 use crate::measuring::{measured, measured_constant};
 use crate::scope::Scope;
-use crate::types::{BitType, gives_one_bit, is_division, left_type, right_type};
+use crate::types::{BitType, left_type, right_type};
 use std::alloc::Global;
 use sv_ast::Expr;
 use sv_flat::{FExpr, FNode};
-use sv_num::{Bits, Fault};
+use sv_num::{Bits, Fault, gives_one_bit, is_division};
 
 /// The typed form of an expression for targets of so many bits in all (IEEE 1364-2005, clause
 /// 5.4.1), 0 for a place that gives no length.

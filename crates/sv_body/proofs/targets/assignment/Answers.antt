@@ -1,4 +1,4 @@
-use Rattle.std.proofs.Common.{◌≡◌, ℕ, ◌≤◌, ◌<◌, min, Bool, true, false, [], map, refl, sym, ap}
+use Rattle.std.proofs.Common.{◌≡◌, ℕ, ◌≤◌, ◌<◌, min, Bool, true, false, map, refl, sym, ap}
 use Rattle.std.proofs.Common.{subst, ◌∙◌, arith}
 use Rattle.std.specs.Prelude.{nat_le}
 use Rattle.std.specs.List.{list_all}
@@ -8,12 +8,13 @@ use Rattle.sv_ast.specs.Runs.{targets_width}
 use Rattle.sv_ast.specs.Views.{expression_tree, target_tree}
 use Rattle.sv_flat.specs.Soundness.{is_whole}
 use Rattle.sv_flat.specs.Views.{piece_form, typed_tree}
+use Rattle.sv_walk.specs.Rules.{too_wide}
 use Rattle.sv_walk.specs.ExpressionSteps.{expression_walk}
 use Rattle.sv_walk.specs.Targets.{assignment_walk, pieces_of}
 use Rattle.sv_width.specs.Answers.{IsBreach}
 use Rattle.sv_width.specs.Scopes.{names_of}
 use Rattle.sv_width.proofs.Ends.{expression_lengths, known_lengths}
-use Rattle.sv_width.proofs.Breaches.{breach_of}
+use Rattle.sv_width.proofs.Breaches.{breach_by}
 use Rattle.sv_body.specs.Targets.{parts_width, placed}
 use Rattle.sv_body.proofs.TargetFacts.{parts_have, parts_placed, targets_broken, targets_wide}
 use Rattle.sv_body.proofs.TargetFacts.{value_broken, assigned}
@@ -45,7 +46,7 @@ returns-then-width-gt64-clause-broken c =
     let found = c.in_ok-parts.ensures.found in
     let width = ap parts_width c.deref.ensures.value
     ∙ parts_have names (known_lengths c.args.scope.now) ts c.in_ok-parts.parts.items found in
-    breach_of c.refusal.result 402 c.args.place [] [] c.refusal.ensures refl
+    breach_by c.refusal.result (too_wide c.args.place) c.refusal.ensures
     (assignment_walk names ts c.args.place c.args.blocking (expression_tree c.args.value.now)).end
     (targets_wide names ts c.args.place c.args.blocking (expression_tree c.args.value.now) found.0
     (sym (ap (λ n. nat_le n 64) width)

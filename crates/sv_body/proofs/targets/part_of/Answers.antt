@@ -36,13 +36,13 @@ returns-in-Some-Param-clause-broken c =
     let names = names_of c.args.scope.now in
     let t = c.args.target.now in
     let h = rw c.in-Some-Param.field-0-is at c.in-Some-Param.ensures in
-    c.unknown.ensures (target_steps names (target_tree t)).end
+    c.unknown_name.ensures (target_steps names (target_tree t)).end
     (target_unknown names (target_tree t) (ap (λ m. is_signal (option_map binding_of m)) (sym h)))
 
 pub returns-in-None-clause-broken : goal.returns-in-None-clause-broken
 returns-in-None-clause-broken c =
     let names = names_of c.args.scope.now in
     let t = c.args.target.now in
-    c.unknown-in-None.ensures (target_steps names (target_tree t)).end
+    c.unknown_name-in-None.ensures (target_steps names (target_tree t)).end
     (target_unknown names (target_tree t)
     (ap (λ m. is_signal (option_map binding_of m)) (sym c.in-None.ensures)))

@@ -1,12 +1,15 @@
-use Rattle.std.proofs.Common.{◌-◌, [], refl, sym, ap, subst, ◌∙◌}
+use Rattle.std.proofs.Common.{◌≡◌, ◌-◌, false, refl, sym, ap, subst, ◌∙◌}
 use Rattle.std.specs.Prelude.{Err}
 use Rattle.std.proofs.lemmas.Result.{err_from_is_err_and}
+use Rattle.sv_num.specs.Vectors.{number_of as whole_number_of}
 use Rattle.sv_ast.specs.Views.{expression_tree, selection_of}
 use Rattle.sv_walk.specs.Rules.{bad_select}
+use Rattle.sv_walk.specs.ExpressionSteps.{is_part}
 use Rattle.sv_walk.specs.Targets.{selection_steps}
 use Rattle.sv_width.specs.Answers.{IsBreach}
 use Rattle.sv_width.specs.Scopes.{names_of}
-use Rattle.sv_width.proofs.Breaches.{breach_of}
+use Rattle.sv_width.proofs.SameValue.{either}
+use Rattle.sv_width.proofs.Breaches.{breach_by}
 use Rattle.sv_body.proofs.TargetFacts.{IsChosen, whole_chosen, bit_chosen, bit_refused, bit_unfound}
 use Rattle.sv_body.proofs.TargetFacts.{part_chosen, part_refused, high_unfound, low_unfound}
 use Rattle.sv_body.proofs.targets.selected.Goals as goal
@@ -76,7 +79,7 @@ returns-in-None-clause-broken c =
     let t = c.args.target.now in
     let e = expression_tree c.in-Bit.index in
     let outside = rw c.in-None.is at c.bit_inside.ensures in
-    breach_of c.refusal.result 403 c.place_of.result [] [] c.refusal.ensures refl
+    breach_by c.refusal.result (bad_select c.place_of.result) c.refusal.ensures
     (selection_steps names t.name t.place (selection_of t.select)).end
     (ap (λ x. (selection_steps names t.name t.place (selection_of x)).end) c.in-Bit.is
     ∙ bit_refused names t.name t.place c.args.width c.requires.known e c.in_ok-bits-in-Bit.bits
@@ -87,7 +90,7 @@ pub returns-in-Some-part_inside-clause-found : goal.returns-in-Some-part_inside-
 returns-in-Some-part_inside-clause-found c =
     let names = names_of c.args.scope.now in
     let t = c.args.target.now in
-    let inside = rw c.in-Some-part_inside.is at c.part_inside.ensures in
+    let inside = c.in-Some-part_inside.ensures in
     subst (λ sel. IsChosen names t.name t.place sel c.in-Some-part_inside.bounds.0
     c.in-Some-part_inside.bounds.1)
     (sym (ap selection_of c.in-Part.is))
@@ -95,16 +98,18 @@ returns-in-Some-part_inside-clause-found c =
     (expression_tree c.in-Part.low)
     c.in_ok-high-in-Part.high c.in_ok-low-in-Part.low c.in-Some-part_inside.bounds.0
     c.in-Some-part_inside.bounds.1
-    c.in_ok-high-in-Part.ensures.found c.in_ok-low-in-Part.ensures.found inside.0 inside.1 inside.2
-    inside.3 inside.4)
+    c.in_ok-high-in-Part.ensures.found c.in_ok-low-in-Part.ensures.found inside.order.0
+    inside.order.1 (inside.inside.0 refl) inside.high inside.low)
 
 pub returns-in-None-part_inside-clause-broken : goal.returns-in-None-part_inside-clause-broken
 returns-in-None-part_inside-clause-broken c =
     let names = names_of c.args.scope.now in
     let t = c.args.target.now in
-    let outside = rw c.in-None-part_inside.is at c.part_inside.ensures in
-    breach_of c.refusal-in-None-part_inside.result 403 t.place [] []
-    c.refusal-in-None-part_inside.ensures refl
+    let outside : is_part c.args.width (whole_number_of c.in_ok-high-in-Part.high)
+    (whole_number_of c.in_ok-low-in-Part.low) ≡ false =
+    either _ (λ h. absurd (cc (c.in-None-part_inside.ensures.inside.1 h))) (λ h. h) in
+    breach_by c.refusal-in-None-part_inside.result (bad_select t.place)
+    c.refusal-in-None-part_inside.ensures
     (selection_steps names t.name t.place (selection_of t.select)).end
     (ap (λ x. (selection_steps names t.name t.place (selection_of x)).end) c.in-Part.is
     ∙ part_refused names t.name t.place c.args.width c.requires.known

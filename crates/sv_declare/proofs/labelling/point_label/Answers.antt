@@ -2,8 +2,8 @@ use Rattle.std.proofs.Common.{◌≡◌, Some, None, sym, ◌∙◌}
 use Rattle.sv_ast.specs.Tree.{point_label}
 use Rattle.sv_walk.specs.Rules.{bad_label}
 use Rattle.sv_walk.specs.LabelSteps.{label_walk}
+use Rattle.sv_width.proofs.Breaches.{breach_by}
 use Rattle.sv_declare.specs.Sites.{tables_of}
-use Rattle.sv_declare.proofs.Faults.{breach_by}
 use Rattle.sv_declare.proofs.LabelEnds.{point_found, point_unknown}
 use Rattle.sv_declare.proofs.labelling.point_label.Goals as goal
 
@@ -17,7 +17,8 @@ pub returns-in-None-clause-broken : goal.returns-in-None-clause-broken
 returns-in-None-clause-broken c = λ names.
     let is : c.get_index_of.result ≡ None = cc in
     let tables = tables_of c.args.tables.now in
-    breach_by c.refusal.result (bad_label c.args.place c.args.name.now) c.refusal.ensures
+    breach_by c.refusal_naming.result (bad_label c.args.place c.args.name.now)
+    c.refusal_naming.ensures
     (label_walk tables names (point_label c.args.name.now c.args.place)).end
     (point_unknown tables names c.args.name.now c.args.place
     (sym c.get_index_of.ensures.index ∙ is))

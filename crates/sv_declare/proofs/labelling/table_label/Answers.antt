@@ -10,8 +10,9 @@ use Rattle.sv_walk.specs.Rules.{bad_label}
 use Rattle.sv_walk.specs.LabelSteps.{second_selector, same_number, second_fits, second_number}
 use Rattle.sv_walk.specs.LabelSteps.{label_walk}
 use Rattle.sv_width.specs.Scopes.{bindings_of, names_of}
+use Rattle.sv_width.proofs.Breaches.{breach_by}
 use Rattle.sv_declare.specs.Sites.{tables_of}
-use Rattle.sv_declare.proofs.Faults.{breach_by, breach_on}
+use Rattle.sv_declare.proofs.Faults.{breach_on}
 use Rattle.sv_declare.proofs.LabelEnds.{selector_asked, selector_width, selector_number}
 use Rattle.sv_declare.proofs.LabelEnds.{second_asked, second_numbers, same_numbers, map_unknown}
 use Rattle.sv_declare.proofs.LabelEnds.{first_stops, second_stops, number_wrong, width_stops}
@@ -26,7 +27,7 @@ returns-in_default-clause-broken c =
     let first = c.args.first.now in
     let second = c.args.second.now in
     let p = c.args.place in
-    breach_by c.refusal.result (bad_label p n) c.refusal.ensures
+    breach_by c.refusal_naming.result (bad_label p n) c.refusal_naming.ensures
     (label_walk tables names (table_label n first second p)).end
     (map_unknown tables names n first second p c.in_default.ensures)
 
@@ -77,8 +78,8 @@ returns-then-not-same_number-clause-broken c =
     let p = c.args.place in
     let is = c.in-Some.ensures in
     let wrong : c.same_number.result ≡ false = cc in
-    breach_by c.refusal-then-not-same_number.result (bad_label p n)
-    c.refusal-then-not-same_number.ensures
+    breach_by c.refusal_naming-then-not-same_number.result (bad_label p n)
+    c.refusal_naming-then-not-same_number.ensures
     (label_walk tables names (table_label n first second p)).end
     (number_wrong tables names n first second p c.in-Some.found.number is.0
     (selector_asked known first c.in_ok-first_signal.first_signal (bad_label p first)

@@ -19,9 +19,10 @@ use Rattle.sv_walk.specs.Rules.{wrong_override}
 use Rattle.sv_walk.specs.ExpressionSteps.{constant_walk}
 use Rattle.sv_walk.specs.Overrides.{is_open, named_walk}
 use Rattle.sv_width.specs.Scopes.{names_of, number_of}
+use Rattle.sv_width.proofs.Breaches.{breach_by}
 use Rattle.sv_declare.specs.Sites.{settings_of}
 use Rattle.sv_declare.proofs.Entries.{none_there}
-use Rattle.sv_declare.proofs.Faults.{breach_by, breach_on}
+use Rattle.sv_declare.proofs.Faults.{breach_on}
 use Rattle.sv_declare.proofs.Lists.{left_more, left_none, all_parts}
 use Rattle.sv_declare.proofs.OverrideEnds.{named_none, named_wrong, named_stops, named_more}
 use Rattle.sv_declare.proofs.OverrideEnds.{set_there, not_true}
@@ -41,7 +42,7 @@ returns-then-not-is_free_name-clause-broken c =
     let closed : (is_open m o.name && not (is_some (entry set o.name))) ≡ false =
     ap (λ (b : Bool). b && not (is_some (entry set o.name))) (sym (c.in_ok-free.ensures o.name))
     ∙ sym c.is_free_name.ensures ∙ no in
-    breach_by c.refusal.result (wrong_override o.place o.name) c.refusal.ensures
+    breach_by c.refusal_naming.result (wrong_override o.place o.name) c.refusal_naming.ensures
     (named_walk outer m [] (map named_override values)).end
     (sym c.loop-name.invariant.walk
     ∙ ap (λ (vs : List (List ℕ × Place × Expr)).

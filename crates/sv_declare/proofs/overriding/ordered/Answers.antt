@@ -16,9 +16,10 @@ use Rattle.sv_walk.specs.Rules.{overrides_over}
 use Rattle.sv_walk.specs.ExpressionSteps.{constant_walk}
 use Rattle.sv_walk.specs.Overrides.{ordered_walk}
 use Rattle.sv_width.specs.Scopes.{names_of, number_of}
+use Rattle.sv_width.proofs.Breaches.{breach_by}
 use Rattle.sv_declare.specs.Overridden.{parameter_trees}
 use Rattle.sv_declare.specs.Sites.{settings_of}
-use Rattle.sv_declare.proofs.Faults.{breach_by, breach_on}
+use Rattle.sv_declare.proofs.Faults.{breach_on}
 use Rattle.sv_declare.proofs.Lists.{left_more, left_none, all_parts}
 use Rattle.sv_declare.proofs.OverrideEnds.{ordered_none, ordered_over, ordered_stops, ordered_more}
 use Rattle.sv_declare.proofs.OverrideEnds.{set_alike}
@@ -33,7 +34,7 @@ returns-then-index-len-clause-broken c =
     let value = c.index-values-index.result in
     let set = c.loop-index.invariant.walk.0 in
     let past : length free ≤ i = omega (arith, c.if-index-len.true, c.len.ensures) in
-    breach_by c.nameless.result (overrides_over c.place_of.result) c.nameless.ensures
+    breach_by c.refusal.result (overrides_over c.place_of.result) c.refusal.ensures
     (ordered_walk outer (open_parameters (module_tree c.args.master.now)) []
     (expression_trees values)).end
     (sym c.loop-index.invariant.walk.1

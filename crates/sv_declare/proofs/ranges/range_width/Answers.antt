@@ -9,7 +9,8 @@ use Rattle.sv_walk.specs.Rules.{bad_range}
 use Rattle.sv_walk.specs.ExpressionSteps.{constant_walk}
 use Rattle.sv_walk.specs.Declarations.{range_steps}
 use Rattle.sv_width.specs.Scopes.{names_ahead, number_of}
-use Rattle.sv_declare.proofs.Faults.{breach_on, breach_by}
+use Rattle.sv_width.proofs.Breaches.{breach_by}
+use Rattle.sv_declare.proofs.Faults.{breach_on}
 use Rattle.sv_declare.proofs.StepLemmas.{constant_is, whole_is, high_stops, low_stops}
 use Rattle.sv_declare.proofs.StepLemmas.{range_refused, range_passed}
 use Rattle.sv_declare.proofs.ranges.range_width.Goals as goal
@@ -57,7 +58,7 @@ pub returns-in-None-clause-broken : goal.returns-in-None-clause-broken
 returns-in-None-clause-broken c =
     let names = names_ahead c.args.scope.now in
     let span = span_tree c.args.span.now in
-    breach_by c.nameless.result (bad_range c.place_of.result) c.nameless.ensures
+    breach_by c.refusal.result (bad_range c.place_of.result) c.refusal.ensures
     (range_steps names (Some span)).end
     (range_refused names span (number_of c.in_ok-high.high) c.in_ok-high.ensures.found
     (number_of c.in_ok-low.low) c.in_ok-low.ensures.found c.in-None.ensures

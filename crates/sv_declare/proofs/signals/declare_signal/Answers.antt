@@ -19,9 +19,10 @@ use Rattle.sv_walk.specs.Names.{names_at}
 use Rattle.sv_width.specs.declared.meanings.Meaning.{Meaning}
 use Rattle.sv_width.specs.declared.meanings.Meaning.TheVariants as meaning
 use Rattle.sv_width.specs.Scopes.{Known, names_ahead, meaning_of}
+use Rattle.sv_width.proofs.Breaches.{breach_by}
 use Rattle.sv_declare.specs.Sites.{site_of, bindings_in, declared_of, signal_count}
 use Rattle.sv_declare.specs.Steps.{Stops}
-use Rattle.sv_declare.proofs.Faults.{breach_on, breach_by, breach_twice, stops_at}
+use Rattle.sv_declare.proofs.Faults.{breach_on, breach_twice, stops_at}
 use Rattle.sv_declare.proofs.NameLemmas.{bindings_more, bound_is, names_signal, count_with_signal}
 use Rattle.sv_declare.proofs.NameLemmas.{width_is}
 use Rattle.sv_declare.proofs.StepLemmas.{signal_range_stops, signal_twice, signal_over}
@@ -57,7 +58,7 @@ returns-then-is_none-clause-stopped c =
     let d = declared_of old in
     let t = declaration_tree c.args.decl.now in
     let names = names_ahead old.scope in
-    let f = c.nameless.result in
+    let f = c.refusal.result in
     let end : Result WalkDeclared Step = (signal_walk base least site d t).end in
     let size : length d.signals ≡ length old.signals.items =
     length-map old.signals.items signal_form in
@@ -69,7 +70,7 @@ returns-then-is_none-clause-stopped c =
     ∙ ap (λ (r : Option Meaning). is_some r) (sym c.find.ensures)
     ∙ c.is_none.ensures ∙ ap not c.if-is_none.true in
     stops_at f end old
-    (breach_by f (too_many t.place) c.nameless.ensures end
+    (breach_by f (too_many t.place) c.refusal.ensures end
     (signal_over base least site d t names c.requires.so_far.names
     c.in_ok-optional_width.ensures.found.0 unbound over))
 

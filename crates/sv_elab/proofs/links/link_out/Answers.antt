@@ -10,8 +10,8 @@ use Rattle.sv_walk.specs.Names.{place_of}
 use Rattle.sv_walk.specs.Links.{whole_assignment, port_value, output_link}
 use Rattle.sv_width.specs.declared.meanings.Meaning.{Meaning}
 use Rattle.sv_width.specs.Scopes.{names_of, binding_of, signal_number}
+use Rattle.sv_width.proofs.Breaches.{breach_by}
 use Rattle.sv_elab.specs.Instances.{ports_form}
-use Rattle.sv_elab.proofs.MapLemmas.{breach_by}
 use Rattle.sv_elab.proofs.LinkEnds.{output_found, output_broken}
 use Rattle.sv_elab.proofs.links.link_out.Goals as goal
 
@@ -21,7 +21,8 @@ returns-in-None-clause-broken c =
     let ports = ports_form c.args.ports.now in
     let d = declaration_tree c.args.port.now in
     let e = expression_tree c.args.expr.now in
-    breach_by c.refusal.result (wrong_link c.place_of-place.result d.name) c.refusal.ensures
+    breach_by c.refusal_naming.result (wrong_link c.place_of-place.result d.name)
+    c.refusal_naming.ensures
     (output_link names ports d e).end
     (output_broken names ports d e c.in-None.ensures
     ∙ ap (λ (p : Place). let r : Result ProcessForm Step = Err (wrong_link p d.name) in

@@ -6,8 +6,8 @@ use Rattle.sv_ast.specs.Tree.{DeclarationTree}
 use Rattle.sv_ast.specs.Views.{declaration_tree}
 use Rattle.sv_walk.specs.Rules.{wrong_link}
 use Rattle.sv_width.proofs.EntryLemmas.{lookup_is_entry}
+use Rattle.sv_width.proofs.Breaches.{breach_by}
 use Rattle.sv_elab.specs.Instances.{ports_form, port_walk, place_from}
-use Rattle.sv_elab.proofs.MapLemmas.{breach_by}
 use Rattle.sv_elab.proofs.LinkEnds.{port_unknown, port_new}
 use Rattle.sv_elab.proofs.PlaceLemmas.{find_none, find_some, place_within}
 use Rattle.sv_elab.proofs.links.new_port.Goals as goal
@@ -18,7 +18,7 @@ returns-in-None-clause-broken c =
     let n = c.args.name.now in
     let none : place_from 0 p.master.now.ports.items n ≡ None =
     sym (c.in-None.ensures.value ∙ lookup_is_entry n p.places.entries ∙ c.requires n) in
-    breach_by c.refusal.result (wrong_link c.args.place n) c.refusal.ensures
+    breach_by c.refusal_naming.result (wrong_link c.args.place n) c.refusal_naming.ensures
     (port_walk (ports_form p) c.args.linked.now.keys c.args.place n).end
     (port_unknown (ports_form p) c.args.linked.now.keys c.args.place n
     (find_none declaration_tree (λ (d : DeclarationTree).

@@ -5,10 +5,10 @@ use Rattle.sv_lattice.specs.declared.points.Point.{Point}
 use Rattle.sv_ast.specs.Views.{map_tree, row_tree}
 use Rattle.sv_walk.specs.Rules.{map_row}
 use Rattle.sv_walk.specs.LabelMaps.{rows_walk}
+use Rattle.sv_width.proofs.Breaches.{breach_by}
 use Rattle.sv_elab.specs.MapParts.{bits_in, IsRow, IsWrongRow}
 use Rattle.sv_elab.proofs.NameLemmas.{left_more, left_none}
-use Rattle.sv_elab.proofs.MapLemmas.{breach_by, row_wrong, row_right, row_free, table_more}
-use Rattle.sv_elab.proofs.MapLemmas.{rows_none}
+use Rattle.sv_elab.proofs.MapLemmas.{row_wrong, row_right, row_free, table_more, rows_none}
 use Rattle.sv_elab.proofs.maps.filled.Goals as goal
 
 pub returns-in-None-clause-broken : goal.returns-in-None-clause-broken
@@ -24,7 +24,7 @@ returns-in-None-clause-broken c =
     let listed = c.deref-row-items.ensures.value in
     let split = left_more items i row (subst (λ xs. i < length xs) listed c.loop-row-test.true)
     (subst (λ xs. row ≡ get_or xs i row) listed c.row-item.is) in
-    breach_by c.refusal.result (map_row t.place t.name) c.refusal.ensures
+    breach_by c.refusal_naming.result (map_row t.place t.name) c.refusal_naming.ensures
     (rows_walk points t first second [] t.rows).end
     (sym c.loop-row.invariant.2
     ∙ ap (λ rest. (rows_walk points t first second rows (map row_tree rest)).end) split

@@ -10,10 +10,10 @@ use Rattle.sv_ast.specs.Views.{map_tree}
 use Rattle.sv_walk.specs.Rules.{map_name}
 use Rattle.sv_walk.specs.LabelMaps.{maps_walk}
 use Rattle.sv_width.proofs.EntryLemmas.{none_there}
+use Rattle.sv_width.proofs.Breaches.{breach_by}
 use Rattle.sv_elab.specs.MapParts.{own_walk}
 use Rattle.sv_elab.proofs.NameLemmas.{left_more, left_none}
 use Rattle.sv_elab.proofs.DeclaredLattices.{breach_on}
-use Rattle.sv_elab.proofs.MapLemmas.{breach_by}
 use Rattle.sv_elab.proofs.MapEnds.{map_there, again_broken, own_broken, own_passed, maps_none}
 use Rattle.sv_elab.proofs.maps.label_maps.Goals as goal
 
@@ -24,7 +24,7 @@ returns-then-contains_key-clause-broken c =
     let i = c.loop-text.text-index in
     let text = c.text-item.result in
     let maps = c.loop-text.maps.entries in
-    breach_by c.refusal.result (map_name text.place text.name) c.refusal.ensures
+    breach_by c.refusal_naming.result (map_name text.place text.name) c.refusal_naming.ensures
     (maps_walk points [] (map map_tree texts)).end
     (sym c.loop-text.invariant.walk
     ∙ ap (λ rest. (maps_walk points maps (map map_tree rest)).end)

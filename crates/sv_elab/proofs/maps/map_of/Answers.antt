@@ -4,8 +4,8 @@ use Rattle.sv_lattice.specs.Maps.{MapRows}
 use Rattle.std.specs.Prelude.{Ok}
 use Rattle.sv_ast.specs.Views.{map_tree}
 use Rattle.sv_walk.specs.Rules.{map_hole}
+use Rattle.sv_width.proofs.Breaches.{breach_by}
 use Rattle.sv_elab.specs.MapParts.{own_walk, points_in, is_whole}
-use Rattle.sv_elab.proofs.MapLemmas.{breach_by}
 use Rattle.sv_elab.proofs.MapEnds.{few_bits, new_is_map, map_stop, map_length, map_made}
 use Rattle.sv_elab.proofs.maps.map_of.Goals as goal
 
@@ -38,7 +38,7 @@ pub returns-clause-broken : goal.returns-clause-broken
 returns-clause-broken c =
     let t = map_tree c.args.text.now in
     let none = rw c.in-None.is at c.in_ok-rows.ensures in
-    breach_by c.refusal.result (map_hole t.place t.name) c.refusal.ensures
+    breach_by c.refusal_naming.result (map_hole t.place t.name) c.refusal_naming.ensures
     (own_walk c.args.points.now.points t).end
     (map_stop c.args.points.now.points t c.args.ranges c.requires c.in_ok-table.table.items
     c.in_ok-table.ensures.found c.in_ok-other.other c.in_ok-other.ensures.found

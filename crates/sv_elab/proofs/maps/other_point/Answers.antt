@@ -2,7 +2,8 @@ use Rattle.std.proofs.Common.{ap, sym, ◌∙◌}
 use Rattle.sv_ast.specs.Views.{map_tree}
 use Rattle.sv_walk.specs.Rules.{map_row}
 use Rattle.sv_walk.specs.LabelMaps.{default_walk}
-use Rattle.sv_elab.proofs.MapLemmas.{breach_by, other_none, other_found, other_broken}
+use Rattle.sv_width.proofs.Breaches.{breach_by}
+use Rattle.sv_elab.proofs.MapLemmas.{other_none, other_found, other_broken}
 use Rattle.sv_elab.proofs.maps.other_point.Goals as goal
 
 pub returns-in-None-clause-found : goal.returns-in-None-clause-found
@@ -21,7 +22,7 @@ returns-in-Some-find-clause-found c =
 pub returns-in-None-find-clause-broken : goal.returns-in-None-find-clause-broken
 returns-in-None-find-clause-broken c =
     let t = map_tree c.args.text.now in
-    breach_by c.refusal.result (map_row t.place t.name) c.refusal.ensures
+    breach_by c.refusal_naming.result (map_row t.place t.name) c.refusal_naming.ensures
     (default_walk c.args.points.now.points t t.other).end
     (ap (λ o. (default_walk c.args.points.now.points t o).end) c.in-Some.is
     ∙ other_broken c.args.points.now.points t c.in-Some.name (sym c.in-None-find.ensures))

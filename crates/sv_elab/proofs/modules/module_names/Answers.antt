@@ -12,7 +12,7 @@ returns-then-not-branch-clause-broken c =
     let i = c.loop-module.module-index in
     let m = c.module-item.result in
     let keys = c.loop-module.names.keys in
-    c.refusal.ensures (module_names [] (map module_tree ms)).end
+    c.refusal_naming.ensures (module_names [] (map module_tree ms)).end
     (sym c.loop-module.invariant.walk
     ∙ ap (λ rest. (module_names keys (map module_tree rest)).end)
     (left_more ms i m c.loop-module-test.true c.module-item.is)

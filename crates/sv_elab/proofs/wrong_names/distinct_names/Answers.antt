@@ -10,7 +10,7 @@ use Rattle.sv_elab.proofs.wrong_names.distinct_names.Goals as goal
 
 pub returns-in-Some-clause-broken : goal.returns-in-Some-clause-broken
 returns-in-Some-clause-broken c =
-    c.refusal.ensures (name_steps (lattice_tree c.args.text.now)).end
+    c.refusal_naming.ensures (name_steps (lattice_tree c.args.text.now)).end
     (asked_names c.args.text.now.place c.args.text.now.points.items c.args.text.now.pairs.items
     c.in_ok-names.names.keys
     (name_step c.in_ok-names.wrong) (name_step (Some c.in-Some.wrong))

@@ -2,7 +2,7 @@ use Rattle.std.proofs.Common.{◌≡◌, true, [], drop, map, fold}
 use Rattle.sv_flat.specs.ByNumber.{signal_forms, by_number, FitSignals}
 use Rattle.sv_flat.specs.Runs.{put_piece}
 use Rattle.sv_flat.specs.Views.{piece_form}
-use Rattle.sv_flat.proofs.runs.assign.Given as goal
+use Rattle.sv_flat.proofs.runs.put_pieces.Given as goal
 
 -- what is left to be put leads to what all pieces lead to
 abbrev pub invariant-loop-piece : goal.invariant-loop-piece

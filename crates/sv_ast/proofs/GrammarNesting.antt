@@ -49,7 +49,7 @@ IsNested (binary op p a b) =
     × IsNested b
 IsNested w = Unit {0}
 
--- an operator of this level at most, or an operand
+-- an operator of this precedence at most, or an operand
 abbrev pub is_at_most : ℕ → Piece → Bool
 is_at_most v (operand w) = true
 is_at_most v (operator op p) = nat_le (precedence_of op) v
@@ -88,24 +88,24 @@ all_behind test (x ∷ xs) y ys all =
     all_behind test xs y ys (true_parts (test x) (list_all test (xs ++ y ∷ ys)) all).1
 
 -- the operators of an expression bind at least as tight as it does
-levels_of_pieces : (v : ℕ) (w : Written) → IsTrue (nat_le (binding w) v) → IsNested w →
+precedences_of_pieces : (v : ℕ) (w : Written) → IsTrue (nat_le (binding w) v) → IsNested w →
     IsTrue (list_all (is_at_most v) (pieces w))
-levels_of_pieces v (binary op p a b) tight nested =
+precedences_of_pieces v (binary op p a b) tight nested =
     let parts = true_parts (nat_le (binding a) (precedence_of op)) (nat_lt (binding b)
     (precedence_of op))
     nested.0 in
     all_append (is_at_most v) (pieces a) (operator op p ∷ pieces b)
-    (levels_of_pieces v a (le_le (binding a) (precedence_of op) v parts.0 tight) nested.1)
+    (precedences_of_pieces v a (le_le (binding a) (precedence_of op) v parts.0 tight) nested.1)
     (true_both (nat_le (precedence_of op) v) (list_all (is_at_most v) (pieces b)) tight
-    (levels_of_pieces v b
+    (precedences_of_pieces v b
     (le_le (binding b) (precedence_of op) v (less_le (binding b) (precedence_of op) parts.1) tight)
     nested.2))
-levels_of_pieces v _ tight nested = refl
+precedences_of_pieces v _ tight nested = refl
 
--- every level counts from 1
-level_is_some : (op : BinOp) → IsTrue (nat_lt 0 (precedence_of op))
-level_is_some Mul = refl
-level_is_some _ = refl
+-- precedences count from 1
+precedence_is_some : (op : BinOp) → IsTrue (nat_lt 0 (precedence_of op))
+precedence_is_some Mul = refl
+precedence_is_some _ = refl
 
 some_pieces : (w : Written) → (x : Piece) × (xs : List Piece) × (pieces w ≡ x ∷ xs)
 some_pieces (binary op p a b) =
@@ -146,7 +146,7 @@ no_later op p a b oq q c d nested nested_too us longer same =
     let up : IsTrue (nat_le (precedence_of op) (precedence_of oq)) =
     all_behind (is_at_most (precedence_of oq)) (pieces a) (operator op p) us
     (subst (λ ys. IsTrue (list_all (is_at_most (precedence_of oq)) ys)) row
-    (levels_of_pieces (precedence_of oq) c parts_too.0 nested_too.1)) in
+    (precedences_of_pieces (precedence_of oq) c parts_too.0 nested_too.1)) in
     let rest : pieces a ++ operator op p ∷ pieces b ≡
     pieces a ++ operator op p ∷ (us ++ operator oq q ∷ pieces d) =
     same ∙ ap (λ ys. ys ++ operator oq q ∷ pieces d) row
@@ -158,9 +158,9 @@ no_later op p a b oq q c d nested nested_too us longer same =
     let down : IsTrue (nat_le (precedence_of oq) (precedence_of op - 1)) =
     all_behind (is_at_most (precedence_of op - 1)) us (operator oq q) (pieces d)
     (subst (λ ys. IsTrue (list_all (is_at_most (precedence_of op - 1)) ys)) right
-    (levels_of_pieces (precedence_of op - 1) b (below (binding b)
+    (precedences_of_pieces (precedence_of op - 1) b (below (binding b)
     (precedence_of op) parts.1) nested.2)) in
-    not_both (precedence_of oq) (precedence_of op) (level_is_some op) up down
+    not_both (precedence_of oq) (precedence_of op) (precedence_is_some op) up down
 
 -- one nesting for a row
 pub one_nesting : (w v : Written) → IsNested w → IsNested v → pieces w ≡ pieces v → w ≡ v

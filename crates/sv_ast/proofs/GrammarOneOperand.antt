@@ -265,12 +265,12 @@ one_group e one l k n m v ts r s kind first second ends ends_too =
     operands_of_one_class l k n m (group e) v ts r s tt kind first second in
     absurd (grind arith)
 
-no_level_zero : (op : BinOp) → IsTrue (nat_eq (precedence_of op) 0) → ⊥
-no_level_zero Mul zero = false≢true zero
-no_level_zero _ zero = false≢true zero
+no_precedence_zero : (op : BinOp) → IsTrue (nat_eq (precedence_of op) 0) → ⊥
+no_precedence_zero Mul zero = false≢true zero
+no_precedence_zero _ zero = false≢true zero
 
 pub tight_is_operand : (w : Written) → IsTrue (nat_eq (binding w) 0) → IsOperand w
-tight_is_operand (binary op p a b) tight = no_level_zero op tight
+tight_is_operand (binary op p a b) tight = no_precedence_zero op tight
 tight_is_operand (choice p c a b) tight = false≢true tight
 tight_is_operand _ tight = tt
 

@@ -14,7 +14,7 @@ use Rattle.sv_ast.specs.GrammarExpressions.{IsExpression}
 use Rattle.sv_ast.proofs.GrammarReads.{◌>>=◌, otherwise, check, Reads, read_sign, read_sign_at}
 use Rattle.sv_ast.proofs.GrammarReads.{read_number_at, read_name_at, read_binary_at, read_unary_at}
 
--- an expression that binds at least as tight as the level says
+-- an expression that binds at least as tight as the precedence says
 abbrev pub ReadsWithin : ℕ → Limits → ℕ → List Placed → Type 0
 ReadsWithin most l n ts =
     Option ((w : Written) × (rest : List Placed) × IsTrue (nat_le (binding w) most)

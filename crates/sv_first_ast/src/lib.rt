@@ -1,4 +1,4 @@
-//! The trees of source texts, and what they mean.
+//! The trees of texts of the first form, and what they mean.
 //!
 //! A contract sees a tree by its plain form, as `module_tree` of `specs/Tree.antt` gives it. What a
 //! text means as a design is a cycle system (`specs/Meaning.antt`, over `Lattice.antt`), and what

@@ -60,22 +60,22 @@ tight_is_no_choice : (a : Written) → IsTrue (nat_le (binding a) 10) → NoChoi
 tight_is_no_choice (choice p c a b) loose = false≢true loose
 tight_is_no_choice _ loose = tt
 
-level_within : (op : BinOp) → IsTrue (nat_le (precedence_of op) 10)
-level_within Mul = refl
-level_within _ = refl
+precedence_within : (op : BinOp) → IsTrue (nat_le (precedence_of op) 10)
+precedence_within Mul = refl
+precedence_within _ = refl
 
 no_choice_is_tight : (a : Written) → NoChoice a → IsTrue (nat_le (binding a) 10)
-no_choice_is_tight (binary op p a b) kind = level_within op
+no_choice_is_tight (binary op p a b) kind = precedence_within op
 no_choice_is_tight (choice p c a b) kind = absurd kind
 no_choice_is_tight _ kind = refl
 
-level_is_some : (op : BinOp) → IsTrue (nat_lt 0 (precedence_of op))
-level_is_some Mul = refl
-level_is_some _ = refl
+precedence_is_some : (op : BinOp) → IsTrue (nat_lt 0 (precedence_of op))
+precedence_is_some Mul = refl
+precedence_is_some _ = refl
 
-level_is_not_below : (op : BinOp) → IsTrue (nat_le 0 (precedence_of op))
-level_is_not_below Mul = refl
-level_is_not_below _ = refl
+precedence_is_not_below : (op : BinOp) → IsTrue (nat_le 0 (precedence_of op))
+precedence_is_not_below Mul = refl
+precedence_is_not_below _ = refl
 
 true_parts : (x y : Bool) → IsTrue (x && y) → IsTrue x × IsTrue y
 true_parts true y all = (refl, all)
@@ -192,7 +192,7 @@ operand_is_tight : (op : BinOp) (x : Written) → IsOperand x →
     IsTrue (nat_lt (binding x) (precedence_of op))
 operand_is_tight op (binary oq q a b) kind = absurd kind
 operand_is_tight op (choice p c a b) kind = absurd kind
-operand_is_tight op _ kind = level_is_some op
+operand_is_tight op _ kind = precedence_is_some op
 
 insert_binds : (v : ℕ) (w : Written) (op : BinOp) (p : Place) (x : Written)
     → IsTrue (nat_lt (binding w) v) → IsTrue (nat_lt (precedence_of op) v)
@@ -249,7 +249,7 @@ inserted l n (binary oq q a b) op p x ts mid rest kind is behind =
     ))
 inserted l n (choice q c a b) op p x ts mid rest kind is behind = absurd kind
 inserted l n w op p x ts mid rest kind is behind =
-    behind_operand l n w op p x ts mid rest (level_is_not_below op) is behind
+    behind_operand l n w op p x ts mid rest (precedence_is_not_below op) is behind
 
 all_inserted : (l : Limits) (n : ℕ) (ks : List Link) (w : Written) (ts mid rest : List Placed)
     → Goes l n ts mid w → row_form l n ks mid rest

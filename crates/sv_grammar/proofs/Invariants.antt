@@ -22,9 +22,9 @@ use Rattle.sv_grammar.specs.Machine.{outer_on, Step, goes, fails_as, ends_early,
 use Rattle.sv_grammar.specs.Machine.{inside_on, outside_on, tokens_of, after_inner, after_outer}
 use Rattle.sv_grammar.specs.Machine.{step}
 use Rattle.sv_grammar.proofs.ExpressionForms.{inner_form}
-use Rattle.sv_grammar.proofs.Completions.{a_token, a_number, zero_literal, Quiet, is_sane, is_plain}
-use Rattle.sv_grammar.proofs.Completions.{closing, closed, closing_is_quiet, ends_tail_quietly}
-use Rattle.sv_grammar.proofs.Completions.{ends_name_quietly}
+use Rattle.sv_grammar.proofs.Completions.{a_token, a_number, zero_literal, is_sane, is_plain}
+use Rattle.sv_grammar.proofs.Completions.{closing, closed, closing_is_quiet}
+use Rattle.sv_grammar.proofs.QuietTokens.{Quiet, ends_tail_quietly, ends_name_quietly}
 use Rattle.sv_grammar.proofs.FineRows.{are_sane, are_plain, plain_behind, row_is_fine}
 use Rattle.sv_grammar.proofs.FineRows.{rows_are_fine}
 use Rattle.sv_grammar.proofs.Runs.{Fits}

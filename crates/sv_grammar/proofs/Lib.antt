@@ -38,6 +38,7 @@ pub mod OuterForms
 pub mod OuterSteps
 pub mod OuterTokens
 pub mod PartSteps
+pub mod QuietTokens
 pub mod ReadLists
 pub mod ReadRows
 pub mod ReadSteps
@@ -45,6 +46,7 @@ pub mod Refusals
 pub mod Runs
 pub mod ShapedForms
 pub mod ShapedTexts
+pub mod SkippedRows
 pub mod StatementForms
 pub mod StatementSteps
 pub mod Syntax

@@ -8,7 +8,7 @@
 //! that it follows the grammar exactly is proved. What reads tokens says by `Reads.antt` how far it
 //! has followed the machine.
 //!
-//! All these files in `specs/` say how reading goes, for this layer alone; what it means stands in
+//! All these files in `specs/` are private: they say how reading goes; what it means stands in
 //! `sv_ast`.
 #![tactic(auto)]
 

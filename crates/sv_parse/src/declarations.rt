@@ -454,9 +454,5 @@ pub fn declared(alloc: Global, decls: Vec<Decl>) -> Result<Vec<Item>, AllocError
     ensures { IfOk result (λ items.
         map item_tree items.items ≡ map tree.declared (map declaration_tree decls.items)) }
 {
-    let mut items = Vec::with_capacity(alloc, decls.len())?;
-    for decl in decls {
-        items.push(Item::Decl(decl))?;
-    }
-    Ok(items)
+    decls.into_iter().map(Item::Decl).collect(alloc)
 }

@@ -459,11 +459,7 @@ fn as_items(alloc: Global, instances: Vec<Instance>) -> Result<Vec<Item>, AllocE
     ensures { IfOk result (λ items.
         map item_tree items.items ≡ map tree.instance_item (map instance_tree instances.items)) }
 {
-    let mut items = Vec::with_capacity(alloc, instances.len())?;
-    for instance in instances {
-        items.push(Item::Instance(instance))?;
-    }
-    Ok(items)
+    instances.into_iter().map(Item::Instance).collect(alloc)
 }
 
 /// The instances of an item that begins with the name of a module.

@@ -4,8 +4,8 @@
 //! `BreaksGrammar`). Below it each function promises what those of `sv_read` do.
 //!
 //! `specs/Faults.antt` says what the fault of a text says. `Reading.antt`,
-//! `ReadingDeclarations.antt`, `ReadingItems.antt` and `ReadingTexts.antt` say how reading goes,
-//! for this layer alone; what it means stands in `sv_ast`.
+//! `ReadingDeclarations.antt`, `ReadingItems.antt` and `ReadingTexts.antt` are private: they say
+//! how reading goes; what it means stands in `sv_ast`.
 #![tactic(auto)]
 
 mod declarations;

@@ -286,11 +286,7 @@ fn declared(alloc: Global, params: Vec<Param>) -> Result<Vec<Item>, AllocError>
     ensures { IfOk result (λ items.
         map item_tree items.items ≡ map tree.parameter_item (map parameter_tree params.items)) }
 {
-    let mut items = Vec::with_capacity(alloc, params.len())?;
-    for param in params {
-        items.push(Item::Param(param))?;
-    }
-    Ok(items)
+    params.into_iter().map(Item::Param).collect(alloc)
 }
 
 /// The parameters of an item that begins with `parameter` or `localparam`.

@@ -77,7 +77,7 @@ fn read_selected_label<'a>(
 }
 
 // A label, behind its brace.
-fn read_open_label<'a>(
+fn read_open_reg_label<'a>(
     alloc: Global,
     bytes: &[u8],
     tokens: &'a [Token],
@@ -119,7 +119,7 @@ fn read_reg_label<'a>(
 {
     match behind(SignKind::OpenBrace, tokens) {
         Some(rest) => {
-            let (label, rest) = read_open_label(alloc, bytes, rest)?;
+            let (label, rest) = read_open_reg_label(alloc, bytes, rest)?;
             Ok((label, rest))
         }
         None => Ok((RegLabel::None, tokens)),

@@ -27,7 +27,8 @@ use Rattle.sv_grammar.specs.Machine.{outer_on, Step, within_limits, inside_on, o
 use Rattle.sv_grammar.specs.Machine.{tokens_of, after_inner, after_outer, step, go_on, run}
 use Rattle.sv_grammar.specs.Reads.{Reads, IsNot, NextIsNotWord, NextIsNotSign}
 use Rattle.sv_grammar.proofs.ReadSteps.{reads_then, begins_expression, as_many}
-use Rattle.sv_grammar.proofs.ReadRows.{word_taken, begins_arms}
+use Rattle.sv_grammar.proofs.ReadRows.{word_taken}
+use Rattle.sv_grammar.proofs.SkippedRows.{begins_arms}
 use Rattle.sv_grammar.proofs.ReadLists.{ends_more_choices}
 use Rattle.sv_read.proofs.Halting.{stops_then}
 use Rattle.sv_statement.specs.ReadingArms.{ArmComes, behind_arm, behind_items}

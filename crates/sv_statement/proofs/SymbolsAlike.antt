@@ -28,7 +28,8 @@ use Rattle.sv_grammar.specs.Reads.{Reads, NextIs, IsNot, NextIsNotSign, NextIsNo
 use Rattle.sv_grammar.specs.Reads.{NextIsTarget, BeginsTarget}
 use Rattle.sv_grammar.proofs.ReadSteps.{reads_then, reads_before, takes_token, expression_from}
 use Rattle.sv_grammar.proofs.ReadSteps.{reads_expression}
-use Rattle.sv_grammar.proofs.ReadRows.{sign_taken, begins_value_or_release}
+use Rattle.sv_grammar.proofs.ReadRows.{sign_taken}
+use Rattle.sv_grammar.proofs.SkippedRows.{begins_value_or_release}
 use Rattle.sv_grammar.proofs.ReadLists.{name_first, NextIsIdentifier, ends_more_targets}
 use Rattle.sv_read.proofs.ReadingRuns.{then_read}
 

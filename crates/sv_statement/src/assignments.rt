@@ -95,7 +95,7 @@ impl Listed for WholeTargets {
 }
 
 // The targets of an assignment of the item: one, or several in braces.
-fn read_targets<'a>(
+fn read_whole_targets<'a>(
     alloc: Global,
     bytes: &[u8],
     tokens: &'a [Token],
@@ -164,7 +164,7 @@ fn read_assignment<'a>(
     ensures halts { IfErr result (λ e.
         HaltsAs (outer later_assigned ∷ []) (placed_tokens bytes.now tokens.now) e) }
 {
-    let (targets, rest) = read_targets(alloc, bytes, tokens)?;
+    let (targets, rest) = read_whole_targets(alloc, bytes, tokens)?;
     let rest = expect_sign(SignKind::Equals, rest)?;
     let (item, rest) = read_valued(alloc, bytes, targets, rest)?;
     Ok((item, rest))

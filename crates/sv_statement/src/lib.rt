@@ -3,8 +3,8 @@
 //! What tokens mean is said in `sv_ast` (`specs/GrammarStatements.antt`), the machine of the
 //! grammar in `sv_grammar`, and what each function that reads promises in `sv_read`.
 //!
-//! `specs/ReadingArms.antt` and `ReadingAssignments.antt` say how reading goes, for this layer
-//! alone; what it means stands in `sv_ast`.
+//! `specs/ReadingArms.antt` and `ReadingAssignments.antt` are private: they say how reading goes;
+//! what it means stands in `sv_ast`.
 #![tactic(auto)]
 
 mod arms;

@@ -2,7 +2,8 @@ use Rattle.std.proofs.Common.{refl, [], ◌∷◌}
 use Rattle.sv_token.specs.Lexemes.{placed_tokens}
 use Rattle.sv_grammar.specs.Symbols.{outer, punctuation, expression, link}
 use Rattle.sv_grammar.proofs.ReadSteps.{reads_then, reads_before}
-use Rattle.sv_grammar.proofs.ReadRows.{sign_taken, begins_link}
+use Rattle.sv_grammar.proofs.ReadRows.{sign_taken}
+use Rattle.sv_grammar.proofs.SkippedRows.{begins_link}
 use Rattle.sv_read.proofs.Halting.{passed, stops_then, stops_before}
 use Rattle.sv_parse.proofs.ReadingSymbols.{as_expression}
 use Rattle.sv_token.specs.declared.signs.SignKind.TheVariants as signs

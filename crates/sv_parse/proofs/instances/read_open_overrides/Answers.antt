@@ -3,7 +3,7 @@ use Rattle.sv_grammar.specs.Symbols.{outer, punctuation, plain_name, expression,
 use Rattle.sv_grammar.specs.Symbols.{overrides, more_named_overrides}
 use Rattle.sv_grammar.proofs.ReadSteps.{reads_then}
 use Rattle.sv_grammar.proofs.ReadLists.{ends_more_named_overrides, ends_more_values}
-use Rattle.sv_grammar.proofs.ReadRows.{begins_overrides}
+use Rattle.sv_grammar.proofs.SkippedRows.{begins_overrides}
 use Rattle.sv_read.proofs.Halting.{passed, stops_then}
 use Rattle.sv_parse.proofs.ReadingSymbols.{as_expression, begins_with_sign, goes_on_overrides}
 use Rattle.sv_parse.proofs.ReadingSymbols.{goes_on_values}

@@ -6,7 +6,7 @@ use Rattle.sv_grammar.specs.Symbols.{outer, punctuation, plain_name, expression,
 use Rattle.sv_grammar.specs.Symbols.{link, more_named_links}
 use Rattle.sv_grammar.proofs.ReadSteps.{reads_then}
 use Rattle.sv_grammar.proofs.ReadLists.{ends_more_values, ends_more_named_links}
-use Rattle.sv_grammar.proofs.ReadRows.{begins_links}
+use Rattle.sv_grammar.proofs.SkippedRows.{begins_links}
 use Rattle.sv_read.proofs.Halting.{passed, stops_then}
 use Rattle.sv_parse.proofs.ReadingSymbols.{as_expression, begins_with_sign, goes_on_values}
 use Rattle.sv_parse.proofs.ReadingSymbols.{goes_on_links}

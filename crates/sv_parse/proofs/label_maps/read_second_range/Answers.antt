@@ -3,7 +3,8 @@ use Rattle.sv_ast.specs.Views.{span_tree}
 use Rattle.std.proofs.Common.{[], ◌∷◌, refl}
 use Rattle.sv_grammar.specs.Symbols.{outer, punctuation, plain_number, perhaps_key_range}
 use Rattle.sv_grammar.proofs.ReadSteps.{reads_then}
-use Rattle.sv_grammar.proofs.ReadRows.{sign_taken, skips_perhaps_key_range}
+use Rattle.sv_grammar.proofs.ReadRows.{sign_taken}
+use Rattle.sv_grammar.proofs.SkippedRows.{skips_perhaps_key_range}
 use Rattle.sv_read.proofs.Halting.{passed, stops_then}
 use Rattle.sv_parse.proofs.ReadingItems.{key_range_is}
 use Rattle.sv_token.specs.declared.signs.SignKind.TheVariants as signs

@@ -1,4 +1,4 @@
-use Rattle.sv_grammar.proofs.ReadRows.{skips_perhaps_lattice}
+use Rattle.sv_grammar.proofs.SkippedRows.{skips_perhaps_lattice}
 use Rattle.sv_read.proofs.Halting.{passed}
 use Rattle.sv_parse.proofs.ReadingSymbols.{word_is_next}
 use Rattle.sv_token.specs.declared.keywords.WordKind.TheVariants as words

@@ -1,7 +1,7 @@
 use Rattle.std.proofs.Common.{[], ◌∷◌}
 use Rattle.sv_grammar.specs.Symbols.{outer, perhaps_maps}
 use Rattle.sv_grammar.proofs.ReadSteps.{reads_then}
-use Rattle.sv_grammar.proofs.ReadRows.{skips_perhaps_maps}
+use Rattle.sv_grammar.proofs.SkippedRows.{skips_perhaps_maps}
 use Rattle.sv_read.proofs.Halting.{passed, stops_then}
 use Rattle.sv_parse.proofs.ReadingSymbols.{word_is_next}
 use Rattle.sv_parse.proofs.ReadingItems.{each_end, pushed_each}

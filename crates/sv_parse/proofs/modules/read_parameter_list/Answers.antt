@@ -2,7 +2,8 @@ use Rattle.std.proofs.Common.{[], ◌∷◌, refl}
 use Rattle.sv_grammar.specs.Symbols.{outer, punctuation, perhaps_header_parameters}
 use Rattle.sv_grammar.specs.Symbols.{header_parameter, more_header_parameters}
 use Rattle.sv_grammar.proofs.ReadSteps.{reads_then, reads_before}
-use Rattle.sv_grammar.proofs.ReadRows.{sign_taken, skips_perhaps_header_parameters}
+use Rattle.sv_grammar.proofs.ReadRows.{sign_taken}
+use Rattle.sv_grammar.proofs.SkippedRows.{skips_perhaps_header_parameters}
 use Rattle.sv_read.proofs.Halting.{passed, stops_then, stops_before}
 use Rattle.sv_token.specs.declared.signs.SignKind.TheVariants as signs
 use Rattle.std.proofs.Common.{inr}

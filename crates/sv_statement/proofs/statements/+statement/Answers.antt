@@ -12,7 +12,8 @@ use Rattle.sv_token.specs.declared.keywords.WordKind.TheVariants as words
 use Rattle.sv_grammar.specs.Symbols.{outer, statement, statements, perhaps_block_name, perhaps_else}
 use Rattle.sv_grammar.specs.Symbols.{arms}
 use Rattle.sv_grammar.proofs.ReadSteps.{reads_then}
-use Rattle.sv_grammar.proofs.ReadRows.{word_taken, skips_perhaps_else}
+use Rattle.sv_grammar.proofs.ReadRows.{word_taken}
+use Rattle.sv_grammar.proofs.SkippedRows.{skips_perhaps_else}
 use Rattle.sv_read.proofs.Halting.{passed, stops_then}
 use Rattle.sv_read.proofs.ReadingRuns.{then_read, then_stop}
 use Rattle.sv_statement.proofs.SymbolsAlike.{one_statement, word_is_there}

@@ -2,7 +2,8 @@ use Rattle.sv_token.specs.Lexemes.{placed_tokens}
 use Rattle.std.proofs.Common.{[], ◌∷◌, refl}
 use Rattle.sv_token.specs.declared.signs.SignKind.TheVariants as signs
 use Rattle.sv_grammar.specs.Symbols.{outer, punctuation, expression, perhaps_bits, bits_end}
-use Rattle.sv_grammar.proofs.ReadRows.{sign_taken, skips_perhaps_bits, halts_bits_end}
+use Rattle.sv_grammar.proofs.ReadRows.{sign_taken, halts_bits_end}
+use Rattle.sv_grammar.proofs.SkippedRows.{skips_perhaps_bits}
 use Rattle.sv_read.proofs.Halting.{passed, stops_by}
 use Rattle.sv_read.proofs.ReadingRuns.{then_read, then_stop}
 use Rattle.sv_statement.proofs.SymbolsAlike.{bits_begun, part_begun}

@@ -7,7 +7,7 @@ use Rattle.sv_parse.proofs.DeclarationRuns.{and_stop, and_read, reg_name_first}
 use Rattle.sv_grammar.proofs.ReadRows.{sign_taken, halts_reg_label_end}
 use Rattle.sv_grammar.specs.Symbols.{reg_label_end, label_selector, reg_name}
 use Rattle.sv_grammar.proofs.ReadSteps.{reads_then}
-use Rattle.sv_parse.proofs.registers.read_open_label.Goals as goal
+use Rattle.sv_parse.proofs.registers.read_open_reg_label.Goals as goal
 
 pub returns-clause-is : goal.returns-clause-is
 returns-clause-is c = (

@@ -8,7 +8,7 @@ use Rattle.sv_read.proofs.ReadingRuns.{then_read, then_stop}
 use Rattle.sv_statement.specs.ReadingAssignments.{behind_targets}
 use Rattle.sv_statement.proofs.SymbolsAlike.{joined_go_on, later_is_named}
 use Rattle.sv_statement.proofs.AssignmentRuns.{joined_names, joined_begun, joined_closing}
-use Rattle.sv_statement.proofs.assignments.read_targets.Goals as goal
+use Rattle.sv_statement.proofs.assignments.read_whole_targets.Goals as goal
 
 pub returns-in-Some-clause-is : goal.returns-in-Some-clause-is
 returns-in-Some-clause-is c =

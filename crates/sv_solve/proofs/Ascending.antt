@@ -1,8 +1,10 @@
 -- Lists of numbers that ascend.
-use Rattle.std.proofs.Common.{◌≡◌, ℕ, ◌-◌, ◌<◌, ◌≤◌, List, ap, ◌∙◌, ⊎_elim, length, take, get_or}
+use Rattle.std.proofs.Common.{◌≡◌, ℕ, ◌<◌, ◌≤◌, List, ap, ◌∙◌, ⊎_elim, length, take, get_or}
 use Rattle.std.proofs.Common.{arith}
 use Rattle.std.specs.Prelude.{All, AllPairs, Contains}
-use Rattle.std.proofs.lemmas.Bool.{cases_order, cases_lt}
+use Rattle.std.proofs.lemmas.Bool.{cases_order, cases_lt, ltb-true, lt-ltb}
+use Rattle.std.specs.List.Sorted.{IsPartitionedBy}
+use lib.Dec.{ltb}
 use Rattle.std.proofs.lemmas.List.{get_or_default, get_or-take, length-take-le}
 
 -- an ascending list: what is below its element at a place stands before that place
@@ -31,20 +33,16 @@ ascend_take xs n up most i j d lt h =
     let other : get_or (take n xs) j d ≡ get_or xs j d = get_or-take n xs j d (omega arith) in
     omega arith
 
--- an ascending list: all before a place are below what the element before it is below
-pub below_take : (xs : List ℕ) (n bound : ℕ) → AllPairs ◌<◌ xs → 0 < n → n ≤ length xs →
-    get_or xs (n - 1) 0 < bound → All (λ x. x < bound) (take n xs)
-below_take xs n bound up some most lt k d h =
-    let size : length (take n xs) ≡ n = length-take-le n xs most in
-    let at : get_or (take n xs) k d ≡ get_or xs k d = get_or-take n xs k d (omega arith) in
-    let last : get_or xs (n - 1) d ≡ get_or xs (n - 1) 0 =
-    get_or_default xs (n - 1) d 0 (omega arith) in
-    ⊎_elim (λ less. let more : get_or xs k d
-    < get_or xs (n - 1) d = up k (n - 1) d less (omega arith) in omega arith)
-    (λ ge. let same : k ≡ n - 1 = omega arith in
-    let here : get_or xs k d ≡ get_or xs (n - 1) d = ap (λ z. get_or xs z d) same in
-    omega arith)
-    (cases_lt k (n - 1))
+-- an ascending list: what is below a bound stands before what is not
+pub below_first : (xs : List ℕ) (bound : ℕ) → AllPairs ◌<◌ xs →
+    IsPartitionedBy (λ x. ltb x bound) xs
+below_first xs bound up i j d le some below =
+    let low : get_or xs j d < bound = ltb-true (get_or xs j d) bound below in
+    lt-ltb (get_or xs i d) bound
+    (⊎_elim (λ less. let more : get_or xs i d < get_or xs j d = up i j d less some in omega arith)
+    (λ ge. let same : i ≡ j = omega arith in
+    let here : get_or xs i d ≡ get_or xs j d = ap (λ z. get_or xs z d) same in omega arith)
+    (cases_lt i j))
 
 -- an ascending list: what is not below a bound stands at a place or later, and is no lower
 pub from_place : (xs : List ℕ) (n bound : ℕ) → AllPairs ◌<◌ xs → n < length xs →

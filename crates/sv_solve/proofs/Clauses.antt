@@ -3,6 +3,8 @@ use Rattle.std.proofs.Common.{◌≡◌, ◌≢◌, ℕ, zero, suc, ◌+◌, ◌
 use Rattle.std.proofs.Common.{unsigned_abs, List, [], ◌∷◌, refl, sym, ap, ◌∙◌, subst, ⊎_elim}
 use Rattle.std.proofs.Common.{length, get_or, arith, Some, slice_get, add-one}
 use Rattle.std.proofs.lemmas.List.{get_or_default}
+use Rattle.std.proofs.lemmas.List.Elements.{All-from_get_or}
+use Rattle.std.specs.List.{All}
 use Rattle.std.proofs.lemmas.Bool.{cases_order, cases_lt}
 use Rattle.sv_clause.specs.Literals.{stands, Ascend, IsClause}
 use Rattle.sv_clause.specs.Logs.{numbered}
@@ -93,6 +95,18 @@ pub of_neg_at : (variables : ℕ) (clause : List ℤ) (i : ℕ) → IsClauseOf v
     i < length clause → IsOf variables (neg_ℤ (get_or clause i (pos 0)))
 of_neg_at variables clause i c h =
     of_neg variables (get_or clause i (pos 0)) (of_at variables clause i c h)
+
+pub of_each : (variables : ℕ) (clause : List ℤ) → IsClauseOf variables clause →
+    All (IsOf variables) clause
+of_each variables clause c =
+    All-from_get_or (IsOf variables) clause (pos 0) (λ i h. of_at variables clause i c h)
+
+pub others_false_from_All : (literals clause : List ℤ) (left : ℤ) →
+    All (λ l. l ≢ left → stands (neg_ℤ l) literals ≡ true) clause →
+    OthersFalse literals clause left
+others_false_from_All literals clause left each l member =
+    let p = place_of l clause member in
+    subst (λ z. z ≢ left → stands (neg_ℤ z) literals ≡ true) p.2 (each p.0 (pos 0) p.1)
 
 -- the literals at these places are false
 abbrev FalseBetween : List ℤ → List ℤ → ℕ → ℕ → Type 0

@@ -146,14 +146,7 @@ fn first_from(decisions: &[usize], keep: usize) -> usize
     ensures below { All (λ decision. decision < keep) (take result decisions.now) }
     ensures from { result < length decisions.now → keep ≤ slice_index_or decisions.now result 0 }
 {
-    let mut first = decisions.len();
-    'decisions: while first > 0 {
-        if decisions[first - 1] < keep {
-            return first;
-        }
-        first -= 1;
-    }
-    first
+    decisions.partition_point(|decision| *decision < keep)
 }
 
 impl State {

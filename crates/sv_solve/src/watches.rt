@@ -114,6 +114,17 @@ impl Model for Watches {
     } };
 }
 
+// Whether a literal is another one than the kept one, and not false.
+fn is_watchable(literal: &Literal, trail: &Trail, kept: &Literal) -> bool
+    requires { IsOf trail.now.variables literal.now }
+    ensures another { IsTrue result → literal.now ≢ kept.now }
+    ensures not_false { IsTrue result → IsFalse (stands (neg_ℤ literal.now) trail.now.literals) }
+    ensures neither { IsFalse result → literal.now ≢ kept.now →
+        IsTrue (stands (neg_ℤ literal.now) trail.now.literals) }
+{
+    !literal.is(kept) && !trail.contains(&literal.negated())
+}
+
 // A literal of the clause other than the kept one that is not false, if there is one.
 fn next_watch(clause: &[Literal], trail: &Trail, kept: &Literal) -> Option<Literal>
     requires { IsClauseOf trail.now.variables clause.now }
@@ -123,16 +134,10 @@ fn next_watch(clause: &[Literal], trail: &Trail, kept: &Literal) -> Option<Liter
         IsFalse (stands (neg_ℤ literal) trail.now.literals)) }
     ensures none { IfNone result (OthersFalse trail.now.literals clause.now kept.now) }
 {
-    let mut place = 0;
-    'literals: while place < clause.len() {
-        let literal = clause[place];
-        place += 1;
-        if literal.is(kept) || trail.contains(&literal.negated()) {
-            continue 'literals;
-        }
-        return Some(literal);
-    }
-    None
+    clause
+        .iter()
+        .find(|literal| is_watchable(literal, trail, kept))
+        .copied()
 }
 
 // What a clause asks for when one of its two watched literals became false.

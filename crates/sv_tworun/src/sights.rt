@@ -53,10 +53,8 @@ pub fn first_apart(
     ensures { number_if_any result ≡ find (differs (flat_system (design_of design.now)) level
         (by_number first.now) (by_number second.now)) (numbers listed.now) }
 {
-    for signal in listed {
-        if is_apart(design, level, *signal, first, second) {
-            return Some(*signal);
-        }
-    }
-    None
+    listed
+        .iter()
+        .find(|signal| is_apart(design, level, **signal, first, second))
+        .copied()
 }

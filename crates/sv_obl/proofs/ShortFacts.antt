@@ -30,6 +30,7 @@ use Rattle.sv_flat.specs.Views.{process_form, flat_statement, chain_of}
 use Rattle.sv_flat.specs.declared.designs.Process.{Process}
 use Rattle.sv_flat.specs.Assigned.{assigns}
 use Rattle.sv_flat.proofs.Members.{Contains-left, Contains-right}
+use Rattle.sv_flat.proofs.SameRuns.{or_none_left, or_none_right}
 use Rattle.sv_obl.specs.declared.cuts.Cut.{Cut}
 use Rattle.sv_obl.specs.declared.cuts.Cut as cut
 use Rattle.sv_obl.specs.declared.shorts.Short.{Short, Row_of-Short, end_of-Short, more_of-Short}
@@ -56,14 +57,6 @@ or_none false = refl
 or_of : (a b c : Bool) → ((a || b) || c) ≡ (a || (b || c))
 or_of true b c = refl
 or_of false b c = refl
-
-first_none : (a b : Bool) → IsFalse (a || b) → IsFalse a
-first_none true b h = h
-first_none false b h = refl
-
-second_none : (a b : Bool) → IsFalse (a || b) → IsFalse b
-second_none true b h = absurd (false≢true (sym h))
-second_none false b h = h
 
 -- ---- statements that go alike
 
@@ -381,9 +374,9 @@ stays : (signals : List SignalForm) (s : ℕ) (a : FlatStatement) → IsFalse (a
 stays signals s nothing none route = refl
 stays signals s (after first second) none route =
     ap (flat_map (routes_before signals s first))
-    (stays signals s second (second_none (assigns first s) (assigns second s) none) route)
+    (stays signals s second (or_none_right (assigns first s) (assigns second s) none) route)
     ∙ append-nil (routes_before signals s first route)
-    ∙ stays signals s first (first_none (assigns first s) (assigns second s) none) route
+    ∙ stays signals s first (or_none_left (assigns first s) (assigns second s) none) route
 stays signals s (assign pieces place blocking right) none route =
     cond_false (assigns (assign pieces place blocking right) s && route.wants)
     (with_right signals s pieces right route) (route ∷ []) (ap (λ b. b && route.wants) none)

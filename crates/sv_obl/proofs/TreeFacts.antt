@@ -7,7 +7,7 @@ use Rattle.sv_num.specs.declared.faults.Place.{Place}
 use Rattle.sv_num.specs.Vectors.{as_number, is_true}
 use Rattle.sv_num.specs.Parts.{extended, bits_between, bit_or_zero, replaced_bits, repeated}
 use Rattle.sv_num.specs.UnaryValues.{unary_value}
-use Rattle.sv_num.specs.BinaryValues.{binary_value, class_of}
+use Rattle.sv_num.specs.BinaryValues.{binary_value, class_of, is_division}
 use Rattle.sv_system.specs.System.{Environment}
 use Rattle.sv_system.proofs.Lists.{Contains-nil, Contains-head, Contains-later, Contains-cases}
 use Rattle.sv_flat.specs.Design.{SignalForm, TypedTree, typed, NodeTree, constant, read, read_bit}
@@ -16,7 +16,7 @@ use Rattle.sv_flat.specs.Design.{held_bit, held_part, mend, slice, TypedTrees, n
 use Rattle.sv_flat.specs.Values.{signal_width, parts_width, expression_width, value, node_value}
 use Rattle.sv_flat.specs.Values.{joined, number_of, cut_value}
 use Rattle.sv_flat.specs.Soundness.{is_one_to, is_signal, has_type, is_part_of, unary_typed}
-use Rattle.sv_flat.specs.Soundness.{binary_typed, is_division, well_formed, node_well_formed}
+use Rattle.sv_flat.specs.Soundness.{binary_typed, well_formed, node_well_formed}
 use Rattle.sv_flat.specs.Soundness.{parts_well_formed}
 use Rattle.sv_flat.specs.Readings.{ReadForm, whole_read, bit_read, indexed_read, is_constant, reads}
 use Rattle.sv_flat.specs.Readings.{node_reads, parts_reads}

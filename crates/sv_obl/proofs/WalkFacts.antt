@@ -1,30 +1,27 @@
 -- Routes only grow more on the walk, so it may end as soon as they are too many.
-use Rattle.std.proofs.Common.{◌≡◌, ℕ, suc, ◌+◌, ◌<◌, ◌≤◌, Bool, true, false, cond}
+use Rattle.std.proofs.Common.{◌≡◌, ℕ, ◌+◌, ◌<◌, ◌≤◌, Bool, true, false, cond}
 use Rattle.std.proofs.Common.{List, [], ◌∷◌, ◌++◌, length, map, flat_map, get_or, Ok, Err}
 use Rattle.std.proofs.Common.{Result}
 use Rattle.std.proofs.Common.{refl, IsErrAnd}
 use Rattle.std.specs.Global.{Vec}
 use Rattle.std.proofs.Common.{sym, ap, subst, ◌∙◌, arith, append_assoc, length-append}
-use Rattle.std.proofs.Common.{ap₂, append-nil, take}
-use Rattle.std.proofs.lemmas.List.{map-append}
-use Rattle.std.proofs.lemmas.List.Concat.{flat_map-append}
+use Rattle.std.proofs.Common.{ap₂, take, drop}
+use Rattle.std.proofs.lemmas.List.{length-map, take_at, drop_at}
 use Rattle.std.proofs.lemmas.List.Folds.{length-flat_map-take}
 use Rattle.sv_flat.specs.Design.{SignalForm, TypedTree, typed, choice, PieceForm}
 use Rattle.sv_flat.specs.Views.{typed_tree}
 use Rattle.sv_obl.specs.declared.faults.WalkFault.{WalkFault}
 use Rattle.sv_obl.specs.declared.faults.WalkFault.TheVariants.{TooMany, OutOfMemory}
 use Rattle.sv_obl.specs.declared.trails.Trail.{Trail}
+use Rattle.sv_obl.specs.Paths.{StepForm}
 use Rattle.sv_obl.specs.Routes.{Route, behind, is_all, with_put, with_ways, with_right}
 use Rattle.sv_obl.specs.declared.cuts.Cut.{Cut}
 use Rattle.sv_obl.specs.declared.cuts.Cut as cut
 use Rattle.sv_obl.specs.Cuts.{cut_routes}
-use Rattle.sv_obl.specs.Trails.{piece_forms, route_of, routes_of, Walks, Adds}
+use Rattle.sv_obl.proofs.CutFacts.{flat_flat, flat_alike}
+use Rattle.sv_obl.specs.Trails.{piece_forms, route_of, routes_of, Adds}
 
 -- ---- lists
-
-length-map : {X Y : Type 0} (f : X → Y) (xs : List X) → length (map f xs) ≡ length xs
-length-map f [] = refl
-length-map f (x ∷ xs) = ap suc (length-map f xs)
 
 module _ {X Y : Type 0} (f : X → List Y) (some : (x : X) → 1 ≤ length (f x)) where
   pub flat_longer : (xs : List X) → length xs ≤ length (flat_map f xs)
@@ -47,7 +44,7 @@ module _ (signals : List SignalForm) (s : ℕ) where
       1 ≤ length (map f xs ++ map g ys)
   some_both f g xs ys one =
       let both = length-append (map f xs) (map g ys) in
-      let same = length-map f xs in
+      let same = length-map xs f in
       omega arith
 
   some_ways : (pieces : List PieceForm) (right : TypedTree) (route : Route) →
@@ -80,34 +77,85 @@ module _ (signals : List SignalForm) (s : ℕ) where
 
 -- ---- a walk that ends early
 
-pub ends_early : (routes more : List Route) → length routes ≤ length more → (e : WalkFault)
-    → Walks routes (Err e) → Walks more (Err e)
-ends_early routes more less TooMany h = omega arith
-ends_early routes more less OutOfMemory h = tt
+-- more routes are too many too
+pub ends_early : (routes more : List Route) (trails after : Vec Trail) (e : WalkFault)
+    → length routes ≤ length more → Adds routes trails (Err e) → Adds more after (Err e)
+ends_early routes more trails after TooMany less h = omega arith
+ends_early routes more trails after OutOfMemory less h = tt
 
-pub fails_alike : (routes : List Route) (e : WalkFault) (result : Result (Vec Trail) WalkFault)
-    → IsErrAnd result (λ y. y ≡ e) → Walks routes (Err e) → Walks routes result
-fails_alike routes e (Ok trails) same h = elim same [ ]
-fails_alike routes e (Err y) same h = subst (λ x. Walks routes (Err x)) (sym same) h
+pub fails_early : (routes more : List Route) (trails after : Vec Trail) (e : WalkFault)
+    (result : Result Unit WalkFault) → length routes ≤ length more
+    → IsErrAnd result (λ y. y ≡ e) → Adds routes trails (Err e) → Adds more after result
+fails_early routes more trails after e (Ok done) less same h = elim same [ ]
+fails_early routes more trails after e (Err y) less same h =
+    subst (λ x. Adds more after (Err x)) (sym same)
+    (ends_early routes more trails after e less h)
 
-pub adds_fails : (routes : List Route) (trails : Vec Trail) (e : WalkFault)
-    → Adds routes trails (Err e) → Walks routes (Err e)
-adds_fails routes trails TooMany h = h
-adds_fails routes trails OutOfMemory h = tt
+pub one_too_many : (trails : List Trail) (route : Route) → 4096 ≤ length trails
+    → 4096 < length (routes_of trails ++ route ∷ [])
+one_too_many trails route full =
+    let same = length-map trails route_of in
+    let more = length-append (routes_of trails) (route ∷ []) in
+    omega (arith, same, more)
 
--- where the second of two cuts gives too many, both do
-pub chain_ends : (signals : List SignalForm) (s : ℕ) (first second whole : Cut) (route : Route)
-    (e : WalkFault)
-    → ((r : Route) → cut_routes signals s whole r
-    ≡ flat_map (cut_routes signals s first) (cut_routes signals s second r))
-    → Walks (cut_routes signals s second route) (Err e)
-    → Walks (cut_routes signals s whole route) (Err e)
-chain_ends signals s first second whole route e is =
-    ends_early (cut_routes signals s second route) (cut_routes signals s whole route)
-    (subst (λ (rs : List Route). length (cut_routes signals s second route) ≤ length rs)
-    (sym (is route))
-    (flat_longer (cut_routes signals s first) (some_cut signals s first)
-    (cut_routes signals s second route))) e
+-- ---- conditions put before the trails that were added
+
+module _ (f : Route → Route) where
+  pub behind_added : (old more all new : List Route) (start : ℕ) → length old ≡ start
+      → all ≡ old ++ more → new ≡ take start all ++ map f (drop start all)
+      → new ≡ old ++ map f more
+  behind_added old more all new start size is here =
+      here
+      ∙ ap (λ zs. take start zs ++ map f (drop start zs)) is
+      ∙ ap₂ (λ xs ys. xs ++ map f ys) (take_at old more start size) (drop_at old more start size)
+
+-- trails are added behind those before
+pub grown : (old new : List Trail) (more : List Route) → routes_of new ≡ routes_of old ++ more
+    → length old ≤ length new
+grown old new more is =
+    let one = length-map old route_of in
+    let two = length-map new route_of in
+    let whole : length (routes_of new) ≡ length (routes_of old) + length more =
+    ap length is ∙ length-append (routes_of old) more in
+    omega (arith, one, two, whole)
+
+-- how many trails there are tells how many routes
+pub as_many : (trails : List Trail) (count : ℕ) → count ≡ length trails
+    → length (routes_of trails) ≡ count
+as_many trails count is = length-map trails route_of ∙ sym is
+
+pub ways_alike : (a b a' b' : StepForm) (xs ys xs' ys' : List Route) → a ≡ a' → b ≡ b'
+    → xs ≡ xs' → ys ≡ ys'
+    → map (behind a) xs ++ map (behind b) ys ≡ map (behind a') xs' ++ map (behind b') ys'
+ways_alike a b a' b' xs ys xs' ys' one two three four =
+    ap₂ (λ rs ss. rs ++ ss) (ap₂ (λ step rs. map (behind step) rs) one three)
+    (ap₂ (λ step rs. map (behind step) rs) two four)
+
+-- the trails of one way, and then those of the other, each behind its condition
+module _ (f g : Route → Route) (old those others both first front : List Route) (start : ℕ)
+    (split : both ≡ map f those ++ map g others) (size : length old ≡ start)
+    (gains : first ≡ old ++ those) (here : front ≡ take start first ++ map f (drop start first))
+  where
+    pub fork_longer : length (front ++ others) ≤ length (old ++ both)
+    fork_longer =
+        let one = length-append front others in
+        let two : length (old ++ both) ≡ length old + length (map f those ++ map g others) =
+        length-append old both ∙ ap (λ rs. length old + length rs) split in
+        let three = length-append (map f those) (map g others) in
+        let four = length-map others g in
+        let five : length front ≡ length old + length (map f those) =
+        ap length (behind_added f old those first front start size gains here)
+        ∙ length-append old (map f those) in
+        omega arith
+
+    pub forked : (second whole : List Route) (mid : ℕ) → length front ≡ mid
+        → second ≡ front ++ others → whole ≡ take mid second ++ map g (drop mid second)
+        → whole ≡ old ++ both
+    forked second whole mid next more last =
+        behind_added g front others second whole mid next more last
+        ∙ ap (λ zs. zs ++ map g others) (behind_added f old those first front start size gains here)
+        ∙ append_assoc old (map f those) (map g others)
+        ∙ ap (λ rs. old ++ rs) (sym split)
 
 -- ---- the trails before a cut, one by one
 
@@ -134,30 +182,43 @@ module _ (f : Route → List Route) where
       ap length (sym (flat_routes trails)) in
       omega arith
 
-  pub seen_more : (seen : List Trail) (x : Trail) (all more new : List Route) → new ≡ all ++ more
-      → all ≡ flat_map f (routes_of seen) → more ≡ f (route_of x)
-      → new ≡ flat_map f (routes_of (seen ++ x ∷ []))
-  seen_more seen x all more new gains here next =
-      gains
-      ∙ ap₂ (λ a b. a ++ b) here (next ∙ sym (append-nil (f (route_of x))))
-      ∙ sym (flat_map-append f (routes_of seen) (route_of x ∷ []))
-      ∙ ap (flat_map f) (sym (map-append route_of seen (x ∷ [])))
-
-pub shorter_left : (xs ys : List Route) → length xs ≤ length (xs ++ ys)
-shorter_left xs ys = let both = length-append xs ys in omega arith
-
-pub shorter_middle : (xs ys zs : List Route) → length ys ≤ length ((xs ++ ys) ++ zs)
-shorter_middle xs ys zs =
-    let one = length-append xs ys in
-    let two = length-append (xs ++ ys) zs in
+-- where the second of two cuts gives too many, both do
+pub chain_longer : (signals : List SignalForm) (s : ℕ) (first second whole : Cut) (route : Route)
+    (none old : List Route) → none ≡ []
+    → ((r : Route) → cut_routes signals s whole r
+    ≡ flat_map (cut_routes signals s first) (cut_routes signals s second r))
+    → length (none ++ cut_routes signals s second route)
+    ≤ length (old ++ cut_routes signals s whole route)
+chain_longer signals s first second whole route none old empty is =
+    let one = length-append none (cut_routes signals s second route) in
+    let two = length-append old (cut_routes signals s whole route) in
+    let three : length none ≡ 0 = ap length empty in
+    let four = flat_longer (cut_routes signals s first) (some_cut signals s first)
+    (cut_routes signals s second route) in
+    let five : length (cut_routes signals s whole route) ≡ length (flat_map
+    (cut_routes signals s first) (cut_routes signals s second route)) = ap length (is route) in
     omega arith
 
-module _ {X Y : Type 0} (f : X → Y) where
-  pub pushed : (start : List Y) (all more seen : List X) (x : X) → more ≡ all ++ x ∷ []
-      → map f all ≡ start ++ map f seen
-      → map f more ≡ start ++ map f (seen ++ x ∷ [])
-  pushed start all more seen x is here =
-      ap (map f) is ∙ map-append f all (x ∷ [])
-      ∙ ap (λ ys. ys ++ f x ∷ []) here
-      ∙ append_assoc start (map f seen) (f x ∷ [])
-      ∙ ap (λ ys. start ++ ys) (sym (map-append f seen (x ∷ [])))
+-- a chain before some routes is its second cut before them, and then its first
+module _ (signals : List SignalForm) (s : ℕ) (first second whole : Cut)
+    (is : (r : Route) → cut_routes signals s whole r
+    ≡ flat_map (cut_routes signals s first) (cut_routes signals s second r)) where
+  pub chain_flat : (routes : List Route) → flat_map (cut_routes signals s whole) routes
+      ≡ flat_map (cut_routes signals s first) (flat_map (cut_routes signals s second) routes)
+  chain_flat routes =
+      flat_alike (cut_routes signals s whole)
+      (λ r. flat_map (cut_routes signals s first) (cut_routes signals s second r)) is routes
+      ∙ sym (flat_flat (cut_routes signals s second) (cut_routes signals s first) routes)
+
+  pub chain_flat_longer : (routes none old : List Route) → none ≡ []
+      → length (none ++ flat_map (cut_routes signals s second) routes)
+      ≤ length (old ++ flat_map (cut_routes signals s whole) routes)
+  chain_flat_longer routes none old empty =
+      let seconds = flat_map (cut_routes signals s second) routes in
+      let one = length-append none seconds in
+      let two = length-append old (flat_map (cut_routes signals s whole) routes) in
+      let three : length none ≡ 0 = ap length empty in
+      let four = flat_longer (cut_routes signals s first) (some_cut signals s first) seconds in
+      let five : length (flat_map (cut_routes signals s whole) routes)
+      ≡ length (flat_map (cut_routes signals s first) seconds) = ap length (chain_flat routes) in
+      omega arith

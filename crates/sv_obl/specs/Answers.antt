@@ -1,5 +1,6 @@
--- How the walk through all targets answers. This says only how the code goes; which obligations a
--- design has stands in `Obligations`, and how many it may have in `Limits`.
+-- What the calls answer to the limits (`Told`, `Answers`, `Lists`), and how the walk through all
+-- targets comes to it. Which obligations a design has stands in `Obligations`, and how many it may
+-- have in `Limits`.
 use Rattle.std.specs.Prelude.{◌≡◌, ℕ, ◌+◌, Bool, nat_lt, if◌then◌else◌, List, [], length, map}
 use Rattle.std.specs.Prelude.{filter, flat_map, not}
 use Rattle.std.specs.Prelude.{Option, Some, None, Result, Ok, Err}

@@ -88,7 +88,7 @@ abbrev pub rows_of : FlatDesign → Label → MapRows
 rows_of design (Declared point) = map_of design.maps 0
 rows_of design (Table map first second) = map_of design.maps map
 
--- whatever the selector's value is, its label flows to the label that it selects
+-- the selector's label is a point that flows to every row of the map
 abbrev pub always_flows : FlatDesign → (signal selector : ℕ) → Bool
 always_flows design s t =
     flows_to_rows design.lattice (rows_of design (signal_of design.signals s).label)

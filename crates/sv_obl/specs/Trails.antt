@@ -39,9 +39,9 @@ Walks routes (Err OutOfMemory) = Unit {0}
 abbrev pub piece_forms : List Piece → List PieceForm
 piece_forms pieces = map piece_form pieces
 
--- the routes were added, where they are few enough
+-- the trails have the routes now, unless those are too many
 abbrev pub Adds : List Route → Vec Trail → Result Unit WalkFault → Type 0
-Adds routes trails (Ok done) = (routes_of trails.items ≡ routes) × (length routes ≤ 4096)
+Adds routes trails (Ok done) = routes_of trails.items ≡ routes
 Adds routes trails (Err TooMany) = 4096 < length routes
 Adds routes trails (Err OutOfMemory) = Unit {0}
 

@@ -17,7 +17,8 @@
 //! one target and their lines. Inside, `Routes.antt` tells paths as they are where no read is an
 //! earlier one, `Shorts.antt` statements in short, each part with what it assigns, `Cuts.antt` what
 //! of such a statement is walked for a target, `Trails.antt` ties routes to what is walked, and
-//! `Written.antt` lines to what is written; those five are private.
+//! `Written.antt` lines to what is written; those five are private. `ListParts.antt` cites
+//! `Shorts.antt` for what a `Listing` holds.
 #![tactic(auto)]
 
 mod cuts;

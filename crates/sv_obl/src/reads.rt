@@ -18,9 +18,9 @@ use sv_flat::{FExpr, FNode, SigId};
 
 // Adds the numbers of the signals that are named in an expression, in textual order.
 #[cycle(add_names)]
-fn add_names(expr: &FExpr, names: &mut Vec<u32>) -> Result<(), AllocError>
-    ensures { OnOk result
-        (names.new.items ≡ names.old.items ++ names_in [] (typed_tree expr.now)) }
+fn add_names(expr: &FExpr, names: &mut BTreeSet<u32>) -> Result<(), AllocError>
+    ensures { OnOk result (names.new.keys
+        ≡ fold (insert_key nat_cmp) names.old.keys (names_in [] (typed_tree expr.now))) }
 {
     match &expr.node {
         FNode::Number(_) => Ok(()),
@@ -58,9 +58,9 @@ fn add_names(expr: &FExpr, names: &mut Vec<u32>) -> Result<(), AllocError>
 
 // Adds those of some expressions.
 #[cycle(add_names)]
-fn add_all_names(exprs: &[FExpr], names: &mut Vec<u32>) -> Result<(), AllocError>
-    ensures { OnOk result (names.new.items ≡ names.old.items
-        ++ signals_of_reads (parts_reads [] (parts_of (typed_trees exprs.now)))) }
+fn add_all_names(exprs: &[FExpr], names: &mut BTreeSet<u32>) -> Result<(), AllocError>
+    ensures { OnOk result (names.new.keys ≡ fold (insert_key nat_cmp) names.old.keys
+        (signals_of_reads (parts_reads [] (parts_of (typed_trees exprs.now))))) }
 {
     for expr in exprs {
         add_names(expr, names)?;
@@ -68,17 +68,17 @@ fn add_all_names(exprs: &[FExpr], names: &mut Vec<u32>) -> Result<(), AllocError
     Ok(())
 }
 
-fn add_name(signal: SigId, names: &mut Vec<u32>) -> Result<(), AllocError>
-    ensures { OnOk result (names.new.items ≡ names.old.items ++ signal.0 ∷ []) }
+fn add_name(signal: SigId, names: &mut BTreeSet<u32>) -> Result<(), AllocError>
+    ensures { OnOk result (names.new.keys ≡ insert_key nat_cmp names.old.keys signal.0) }
 {
-    names.push(signal.0)?;
+    names.insert(signal.0)?;
     Ok(())
 }
 
 // Adds those of conditions.
-fn add_of_turns(turns: &[Turn], names: &mut Vec<u32>) -> Result<(), AllocError>
-    ensures { OnOk result (names.new.items ≡ names.old.items
-        ++ flat_map (λ (step : StepForm). names_in [] step.condition) (map turn_form turns.now)) }
+fn add_of_turns(turns: &[Turn], names: &mut BTreeSet<u32>) -> Result<(), AllocError>
+    ensures { OnOk result (names.new.keys ≡ fold (insert_key nat_cmp) names.old.keys
+        (flat_map (λ (step : StepForm). names_in [] step.condition) (map turn_form turns.now))) }
 {
     for turn in turns {
         add_names(turn.cond, names)?;
@@ -87,19 +87,20 @@ fn add_of_turns(turns: &[Turn], names: &mut Vec<u32>) -> Result<(), AllocError>
 }
 
 // Adds those of a set.
-fn add_of_set(set: &BTreeSet<u32>, names: &mut Vec<u32>) -> Result<(), AllocError>
-    ensures { OnOk result (names.new.items ≡ names.old.items ++ set.now.keys) }
+fn add_of_set(set: &BTreeSet<u32>, names: &mut BTreeSet<u32>) -> Result<(), AllocError>
+    ensures { OnOk result
+        (names.new.keys ≡ fold (insert_key nat_cmp) names.old.keys set.now.keys) }
 {
     for name in set {
-        names.push(*name)?;
+        names.insert(*name)?;
     }
     Ok(())
 }
 
 // Adds the target where a register is held.
-fn add_held(held: bool, target: SigId, names: &mut Vec<u32>) -> Result<(), AllocError>
-    ensures { OnOk result
-        (names.new.items ≡ names.old.items ++ (if held then target.0 ∷ [] else [])) }
+fn add_held(held: bool, target: SigId, names: &mut BTreeSet<u32>) -> Result<(), AllocError>
+    ensures { OnOk result (names.new.keys ≡ fold (insert_key nat_cmp) names.old.keys
+        (if held then target.0 ∷ [] else [])) }
 {
     if held {
         add_name(target, names)?;
@@ -107,36 +108,25 @@ fn add_held(held: bool, target: SigId, names: &mut Vec<u32>) -> Result<(), Alloc
     Ok(())
 }
 
-// The set with numbers put in.
-fn with_all(set: BTreeSet<u32>, names: &[u32]) -> Result<BTreeSet<u32>, AllocError>
-    ensures { IfOk result (λ all. all.keys ≡ fold (insert_key nat_cmp) set.keys names.now) }
-{
-    let mut all = set;
-    for name in names {
-        all.insert(*name)?;
-    }
-    Ok(all)
-}
-
 /// The numbers in ascending order, each once; an error where memory runs out.
 pub fn set_of(alloc: Global, names: &[u32]) -> Result<BTreeSet<u32>, AllocError>
     ensures { IfOk result (λ set. set.keys ≡ fold (insert_key nat_cmp) [] names.now) }
 {
-    with_all(BTreeSet::new(alloc), names)
+    let mut set = BTreeSet::new(alloc);
+    for name in names {
+        set.insert(*name)?;
+    }
+    Ok(set)
 }
 
 /// The numbers with those of the signals that are named in an expression, in ascending order, each
 /// once; an error where memory runs out.
-pub fn with_names(
-    alloc: Global,
-    set: BTreeSet<u32>,
-    expr: &FExpr,
-) -> Result<BTreeSet<u32>, AllocError>
+pub fn with_names(set: BTreeSet<u32>, expr: &FExpr) -> Result<BTreeSet<u32>, AllocError>
     ensures { IfOk result (λ all. all.keys ≡ with_names set.keys (typed_tree expr.now)) }
 {
-    let mut names = Vec::new(alloc);
-    add_names(expr, &mut names)?;
-    with_all(set, &names)
+    let mut all = set;
+    add_names(expr, &mut all)?;
+    Ok(all)
 }
 
 // The signals of a set.
@@ -157,17 +147,17 @@ fn is_held(is_register: bool, trail: &Trail) -> bool
     is_register && trail.wants
 }
 
-// The numbers of the signals that a path of the target reads, as often as it names them.
+// The numbers of the signals that a path of the target reads, in ascending order, each once.
 fn names_of(
     alloc: Global,
     is_register: bool,
     target: SigId,
     trail: &Trail,
-) -> Result<Vec<u32>, AllocError>
-    ensures { IfOk result (λ names.
-        names.items ≡ names_on is_register target.0 (route_of trail.now)) }
+) -> Result<BTreeSet<u32>, AllocError>
+    ensures { IfOk result (λ names. names.keys
+        ≡ fold (insert_key nat_cmp) [] (names_on is_register target.0 (route_of trail.now))) }
 {
-    let mut names = Vec::new(alloc);
+    let mut names = BTreeSet::new(alloc);
     add_of_turns(&trail.turns, &mut names)?;
     add_of_set(&trail.names, &mut names)?;
     add_held(is_held(is_register, trail), target, &mut names)?;
@@ -186,6 +176,5 @@ pub fn reads_of(
         ≡ those n (holds (names_on is_register target.0 (route_of trail.now)))) }
 {
     let names = names_of(alloc, is_register, target, trail)?;
-    let set = set_of(alloc, &names)?;
-    signals_of(alloc, &set)
+    signals_of(alloc, &names)
 }

@@ -19,7 +19,7 @@ use crate::path_queries::query_of;
 use crate::queries::Query;
 use crate::shorts::Short;
 use crate::trails::Trail;
-use crate::walks::before;
+use crate::walks::trails_of;
 use std::alloc::{AllocError, Global};
 use sv_design::Design;
 use sv_flat::{Process, SigId, Signal};
@@ -37,7 +37,7 @@ fn paths_of<'a>(
         (statement_of short.now) open_route) result }
 {
     let cut = cut_for(short, alloc, target)?;
-    match before(&cut, alloc, signals, target, Trail::open(alloc)) {
+    match trails_of(alloc, signals, target, &cut) {
         Ok(trails) => Ok(trails),
         Err(WalkFault::TooMany) => Err(OblFault::Paths(target)),
         Err(WalkFault::OutOfMemory) => Err(OblFault::OutOfMemory),

@@ -1,5 +1,6 @@
 // Paths as they are walked, with references into the design.
-ghost use Rattle.std.specs.Prelude.{◌≡◌, [], ◌∷◌, ◌++◌, map, IfOk, OnOk};
+ghost use Rattle.std.specs.Prelude.{◌≡◌, ◌≤◌, ◌++◌, length, take, drop, map, IfOk, OnOk};
+ghost use Rattle.sv_flat.specs.Views.{typed_tree};
 ghost use Rattle.sv_obl.specs.Routes.{open_route, behind as route_behind};
 ghost use Rattle.sv_obl.specs.Trails.{turn_form, route_of, routes_of};
 
@@ -14,6 +15,16 @@ pub struct Turn<'a> {
     pub place: Place,
     pub cond: &'a FExpr,
     pub truth: bool,
+}
+
+impl<'a> Turn<'a> {
+    /// A condition at a place.
+    pub fn new(place: Place, cond: &'a FExpr, truth: bool) -> Turn<'a>
+        ensures { turn_form result
+            ≡ record { place = place; condition = typed_tree cond.now; truth = truth } }
+    {
+        Turn { place, cond, truth }
+    }
 }
 
 /// A path as far back as statements were taken. Of the right sides that were put for the target's
@@ -60,42 +71,21 @@ impl<'a> Trail<'a> {
     }
 }
 
-// The trail with a condition before it.
-fn behind<'a>(trail: Trail<'a>, turn: Turn<'a>) -> Result<Trail<'a>, AllocError>
-    ensures { IfOk result (λ longer.
-        route_of longer ≡ route_behind (turn_form turn.entry) (route_of trail.entry)) }
-{
-    let mut turns = trail.turns;
-    turns.push(turn)?;
-    Ok(Trail {
-        turns,
-        names: trail.names,
-        nodes: trail.nodes,
-        place: trail.place,
-        wants: trail.wants,
-    })
-}
-
-/// Adds trails with a condition before each.
-pub fn add_behind<'a>(
-    trails: Vec<Trail<'a>>,
+/// Puts a condition before each of the trails from a place on.
+pub fn put_behind<'a>(
+    trails: &mut Vec<Trail<'a>>,
+    start: usize,
     turn: Turn<'a>,
-    all: &mut Vec<Trail<'a>>,
 ) -> Result<(), AllocError>
-    ensures { OnOk result (routes_of all.new.items ≡ routes_of all.old.items
-        ++ map (route_behind (turn_form turn.entry)) (routes_of trails.entry.items)) }
+    requires { start ≤ length trails.old.items }
+    ensures routes { OnOk result (routes_of trails.new.items
+        ≡ take start (routes_of trails.old.items)
+        ++ map (route_behind (turn_form turn.entry)) (drop start (routes_of trails.old.items))) }
+    ensures count { length trails.new.items ≡ length trails.old.items }
 {
-    for trail in trails {
-        all.push(behind(trail, turn)?)?;
+    for i in start..trails.len() {
+        let trail = &mut trails[i];
+        trail.turns.push(turn)?;
     }
     Ok(())
-}
-
-/// The list with one trail.
-pub fn alone<'a>(alloc: Global, trail: Trail<'a>) -> Result<Vec<Trail<'a>>, AllocError>
-    ensures { IfOk result (λ trails. routes_of trails.items ≡ route_of trail.entry ∷ []) }
-{
-    let mut trails = Vec::new(alloc);
-    trails.push(trail)?;
-    Ok(trails)
 }

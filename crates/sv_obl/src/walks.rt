@@ -1,12 +1,11 @@
 // The walk through a process from its last statement back.
-ghost use Rattle.std.specs.Prelude.{◌≡◌, ◌<◌, [], ◌∷◌, ◌++◌, true, false, length, map};
-ghost use Rattle.std.specs.Prelude.{flat_map, IfOk};
+ghost use Rattle.std.specs.Prelude.{◌≡◌, ◌<◌, ◌≤◌, [], ◌∷◌, ◌++◌, length, flat_map, IfOk, OnOk};
 ghost use Rattle.sv_flat.specs.ByNumber.{signal_forms};
 ghost use Rattle.sv_flat.specs.Views.{typed_tree};
 ghost use Rattle.sv_obl.specs.Cuts.{cut_routes};
 ghost use Rattle.sv_obl.specs.Paths.{later_place};
-ghost use Rattle.sv_obl.specs.Routes.{behind, is_all, times_put, first_place, with_put, with_ways};
-ghost use Rattle.sv_obl.specs.Routes.{with_right};
+ghost use Rattle.sv_obl.specs.Routes.{open_route, is_all, times_put, first_place, with_put};
+ghost use Rattle.sv_obl.specs.Routes.{with_ways, with_right};
 ghost use Rattle.sv_obl.specs.Trails.{piece_forms, route_of, routes_of, Walks, Adds};
 
 use crate::cuts::Cut;
@@ -14,49 +13,22 @@ use crate::faults::WalkFault;
 use crate::nodes::with_nodes;
 use crate::pieces::{count_of, covers, first_place};
 use crate::reads::with_names;
-use crate::trails::{Trail, Turn, add_behind, alone};
+use crate::trails::{Trail, Turn, put_behind};
 use std::alloc::{AllocError, Global};
 use sv_flat::{FExpr, FNode, Piece, SigId, Signal};
 use sv_num::Place;
 
-// The trails, where they are few enough.
-fn few<'a>(trails: Vec<Trail<'a>>) -> Result<Vec<Trail<'a>>, WalkFault>
-    ensures { Walks (routes_of trails.entry.items) result }
+// Adds a trail, where they stay few enough.
+#[tactic(auto, using(crate::proofs::WalkFacts::one_too_many))]
+fn add<'a>(trail: Trail<'a>, all: &mut Vec<Trail<'a>>) -> Result<(), WalkFault>
+    ensures adds { Adds (routes_of all.old.items ++ route_of trail.entry ∷ []) all.new result }
+    ensures few { OnOk result (length all.new.items ≤ 4096) }
 {
-    if trails.len() > 4096 {
+    if all.len() >= 4096 {
         return Err(WalkFault::TooMany);
     }
-    Ok(trails)
-}
-
-// The trails behind a condition that holds, and then those behind it where it does not.
-fn fork<'a>(
-    alloc: Global,
-    place: Place,
-    cond: &'a FExpr,
-    yes: Vec<Trail<'a>>,
-    no: Vec<Trail<'a>>,
-) -> Result<Vec<Trail<'a>>, WalkFault>
-    ensures { Walks
-        (map (behind (record { place = place; condition = typed_tree cond.now; truth = true }))
-        (routes_of yes.entry.items)
-        ++ map (behind (record { place = place; condition = typed_tree cond.now; truth = false }))
-        (routes_of no.entry.items)) result }
-{
-    let mut all = Vec::new(alloc);
-    let holds = Turn {
-        place,
-        cond,
-        truth: true,
-    };
-    add_behind(yes, holds, &mut all)?;
-    let fails = Turn {
-        place,
-        cond,
-        truth: false,
-    };
-    add_behind(no, fails, &mut all)?;
-    few(all)
+    all.push(trail)?;
+    Ok(())
 }
 
 // Whether no assignment was taken yet, and this one covers the target whole.
@@ -93,7 +65,6 @@ fn place_with(target: SigId, pieces: &[Piece], place: Option<Place>) -> Option<P
 
 // The trail with a right side put in.
 fn with_put<'a>(
-    alloc: Global,
     signals: &[Signal],
     target: SigId,
     pieces: &[Piece],
@@ -107,31 +78,34 @@ fn with_put<'a>(
     let count = times_put(signals, target, pieces, &trail);
     Ok(Trail {
         turns: trail.turns,
-        names: with_names(alloc, trail.names, right)?,
+        names: with_names(trail.names, right)?,
         nodes: with_nodes(trail.nodes, count, right),
         place: place_with(target, pieces, trail.place),
         wants: !covers(signals, target, pieces),
     })
 }
 
-// The one trail that a right side gives where it is not split.
+// Adds the one trail that a right side gives where it is not split.
 fn put_whole<'a>(
-    alloc: Global,
     signals: &[Signal],
     target: SigId,
     pieces: &[Piece],
     right: &'a FExpr,
     trail: Trail<'a>,
-) -> Result<Vec<Trail<'a>>, WalkFault>
+    all: &mut Vec<Trail<'a>>,
+) -> Result<(), WalkFault>
     requires { target.0 < length signals.now }
-    ensures { Walks (with_put (signal_forms signals.now) target.0 (piece_forms pieces.now)
-        (typed_tree right.now) (route_of trail.entry) ∷ []) result }
+    ensures adds { Adds (routes_of all.old.items ++ with_put (signal_forms signals.now) target.0
+        (piece_forms pieces.now) (typed_tree right.now) (route_of trail.entry) ∷ []) all.new
+        result }
+    ensures few { OnOk result (length all.new.items ≤ 4096) }
 {
-    let put = with_put(alloc, signals, target, pieces, right, trail)?;
-    Ok(alone(alloc, put)?)
+    let put = with_put(signals, target, pieces, right, trail)?;
+    add(put, all)
 }
 
-// The trails that the ways of a right side give.
+// Adds the trails that the ways of a right side give. A condition is put before all that stand
+// behind it where they are, so none of them is moved again.
 fn put_ways<'a>(
     right: &'a FExpr,
     alloc: Global,
@@ -139,23 +113,29 @@ fn put_ways<'a>(
     target: SigId,
     pieces: &[Piece],
     trail: Trail<'a>,
-) -> Result<Vec<Trail<'a>>, WalkFault>
+    all: &mut Vec<Trail<'a>>,
+) -> Result<(), WalkFault>
     requires { target.0 < length signals.now }
-    ensures { Walks (with_ways (signal_forms signals.now) target.0 (piece_forms pieces.now)
-        (typed_tree right.now) (route_of trail.entry)) result }
+    ensures adds { Adds (routes_of all.old.items ++ with_ways (signal_forms signals.now) target.0
+        (piece_forms pieces.now) (typed_tree right.now) (route_of trail.entry)) all.new result }
+    ensures few { OnOk result (length all.new.items ≤ 4096) }
 {
     match &right.node {
         FNode::Choice(place, cond, yes, no) => {
             let copy = trail.copy(alloc)?;
-            let first = put_ways(yes, alloc, signals, target, pieces, copy)?;
-            let second = put_ways(no, alloc, signals, target, pieces, trail)?;
-            fork(alloc, *place, cond, first, second)
+            let first = all.len();
+            put_ways(yes, alloc, signals, target, pieces, copy, all)?;
+            put_behind(all, first, Turn::new(*place, cond, true))?;
+            let second = all.len();
+            put_ways(no, alloc, signals, target, pieces, trail, all)?;
+            put_behind(all, second, Turn::new(*place, cond, false))?;
+            Ok(())
         }
-        _ => put_whole(alloc, signals, target, pieces, right, trail),
+        _ => put_whole(signals, target, pieces, right, trail, all),
     }
 }
 
-// The trails that an assignment gives that is taken.
+// Adds the trails that an assignment gives that is taken.
 fn put_right<'a>(
     alloc: Global,
     signals: &[Signal],
@@ -163,48 +143,49 @@ fn put_right<'a>(
     pieces: &[Piece],
     right: &'a FExpr,
     trail: Trail<'a>,
-) -> Result<Vec<Trail<'a>>, WalkFault>
+    all: &mut Vec<Trail<'a>>,
+) -> Result<(), WalkFault>
     requires { target.0 < length signals.now }
-    ensures { Walks (with_right (signal_forms signals.now) target.0 (piece_forms pieces.now)
-        (typed_tree right.now) (route_of trail.entry)) result }
+    ensures adds { Adds (routes_of all.old.items ++ with_right (signal_forms signals.now) target.0
+        (piece_forms pieces.now) (typed_tree right.now) (route_of trail.entry)) all.new result }
+    ensures few { OnOk result (length all.new.items ≤ 4096) }
 {
     if is_all(signals, target, pieces, &trail) {
-        put_ways(right, alloc, signals, target, pieces, trail)
+        put_ways(right, alloc, signals, target, pieces, trail, all)
     } else {
-        put_whole(alloc, signals, target, pieces, right, trail)
+        put_whole(signals, target, pieces, right, trail, all)
     }
 }
 
-// The trail alone, before what leaves it as it is.
-fn unchanged<'a>(alloc: Global, trail: Trail<'a>) -> Result<Vec<Trail<'a>>, WalkFault>
-    ensures { Walks (route_of trail.entry ∷ []) result }
-{
-    Ok(alone(alloc, trail)?)
-}
-
-/// The trails that a trail becomes where a cut for the target is taken before it; an error where
-/// they are more than 4,096, or where memory runs out.
+// Adds the trails that a trail becomes where a cut is taken before it; an error where all are then
+// more than 4,096, or where memory runs out.
 #[cycle(before)]
-pub fn before<'a>(
+fn before<'a>(
     cut: &Cut<'a>,
     alloc: Global,
     signals: &[Signal],
     target: SigId,
     trail: Trail<'a>,
-) -> Result<Vec<Trail<'a>>, WalkFault>
+    all: &mut Vec<Trail<'a>>,
+) -> Result<(), WalkFault>
     requires { target.0 < length signals.now }
-    ensures { Walks (cut_routes (signal_forms signals.now) target.0 cut.now
-        (route_of trail.entry)) result }
+    ensures adds { Adds (routes_of all.old.items
+        ++ cut_routes (signal_forms signals.now) target.0 cut.now (route_of trail.entry)) all.new
+        result }
+    ensures few { length all.old.items ≤ 4096 → OnOk result (length all.new.items ≤ 4096) }
 {
     if !trail.wants {
-        return unchanged(alloc, trail);
+        return add(trail, all);
     }
     match cut {
-        Cut::Nothing => unchanged(alloc, trail),
-        Cut::Assign { pieces, value } => put_right(alloc, signals, target, *pieces, *value, trail),
+        Cut::Nothing => add(trail, all),
+        Cut::Assign { pieces, value } => {
+            put_right(alloc, signals, target, *pieces, *value, trail, all)
+        }
         Cut::Chain { first, second } => {
-            let trails = before(second, alloc, signals, target, trail)?;
-            before_each(first, alloc, signals, target, trails)
+            let mut trails = Vec::new(alloc);
+            before(second, alloc, signals, target, trail, &mut trails)?;
+            before_all(first, alloc, signals, target, trails, all)
         }
         Cut::Branch {
             place,
@@ -213,14 +194,45 @@ pub fn before<'a>(
             no,
         } => {
             let copy = trail.copy(alloc)?;
-            let first = before(yes, alloc, signals, target, copy)?;
-            let second = before(no, alloc, signals, target, trail)?;
-            fork(alloc, *place, *cond, first, second)
+            let first = all.len();
+            before(yes, alloc, signals, target, copy, all)?;
+            put_behind(all, first, Turn::new(*place, *cond, true))?;
+            let second = all.len();
+            before(no, alloc, signals, target, trail, all)?;
+            put_behind(all, second, Turn::new(*place, *cond, false))?;
+            Ok(())
         }
     }
 }
 
-// The trails that some trails become where a cut is taken before each.
+// Adds the trails that some trails become where a cut is taken before each. Of a chain each part is
+// taken before all of them at once, and so is read once and not once for each trail.
+#[cycle(before)]
+fn before_all<'a>(
+    cut: &Cut<'a>,
+    alloc: Global,
+    signals: &[Signal],
+    target: SigId,
+    trails: Vec<Trail<'a>>,
+    all: &mut Vec<Trail<'a>>,
+) -> Result<(), WalkFault>
+    requires { target.0 < length signals.now }
+    ensures adds { Adds (routes_of all.old.items
+        ++ flat_map (cut_routes (signal_forms signals.now) target.0 cut.now)
+        (routes_of trails.entry.items)) all.new result }
+    ensures few { length all.old.items ≤ 4096 → OnOk result (length all.new.items ≤ 4096) }
+{
+    match cut {
+        Cut::Chain { first, second } => {
+            let mut between = Vec::new(alloc);
+            before_all(second, alloc, signals, target, trails, &mut between)?;
+            before_all(first, alloc, signals, target, between, all)
+        }
+        _ => before_each(cut, alloc, signals, target, trails, all),
+    }
+}
+
+// Adds them one by one.
 #[cycle(before)]
 fn before_each<'a>(
     cut: &Cut<'a>,
@@ -228,28 +240,32 @@ fn before_each<'a>(
     signals: &[Signal],
     target: SigId,
     trails: Vec<Trail<'a>>,
-) -> Result<Vec<Trail<'a>>, WalkFault>
+    all: &mut Vec<Trail<'a>>,
+) -> Result<(), WalkFault>
     requires { target.0 < length signals.now }
-    ensures { Walks (flat_map (cut_routes (signal_forms signals.now) target.0 cut.now)
-        (routes_of trails.entry.items)) result }
+    ensures adds { Adds (routes_of all.old.items
+        ++ flat_map (cut_routes (signal_forms signals.now) target.0 cut.now)
+        (routes_of trails.entry.items)) all.new result }
+    ensures few { length all.old.items ≤ 4096 → OnOk result (length all.new.items ≤ 4096) }
 {
-    let mut all = Vec::new(alloc);
     for trail in trails {
-        let more = before(cut, alloc, signals, target, trail)?;
-        add_all(&mut all, more)?;
-    }
-    Ok(all)
-}
-
-// Adds trails, where they stay few enough.
-fn add_all<'a>(all: &mut Vec<Trail<'a>>, more: Vec<Trail<'a>>) -> Result<(), WalkFault>
-    ensures { Adds (routes_of all.old.items ++ routes_of more.entry.items) all.new result }
-{
-    for trail in more {
-        all.push(trail)?;
-    }
-    if all.len() > 4096 {
-        return Err(WalkFault::TooMany);
+        before(cut, alloc, signals, target, trail, all)?;
     }
     Ok(())
+}
+
+/// The trails of a target where its cut is taken; an error where they are more than 4,096, or where
+/// memory runs out.
+pub fn trails_of<'a>(
+    alloc: Global,
+    signals: &[Signal],
+    target: SigId,
+    cut: &Cut<'a>,
+) -> Result<Vec<Trail<'a>>, WalkFault>
+    requires { target.0 < length signals.now }
+    ensures { Walks (cut_routes (signal_forms signals.now) target.0 cut.now open_route) result }
+{
+    let mut trails = Vec::new(alloc);
+    before(cut, alloc, signals, target, Trail::open(alloc), &mut trails)?;
+    Ok(trails)
 }

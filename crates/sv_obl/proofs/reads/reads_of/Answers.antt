@@ -1,7 +1,6 @@
-use Rattle.std.proofs.Common.{◌≡◌, [], fold, nat_cmp, map, ap, subst, ◌∙◌}
+use Rattle.std.proofs.Common.{◌≡◌, map, subst, ◌∙◌}
 use Rattle.std.specs.Prelude.{IfOk}
 use Rattle.std.specs.Global.{Vec}
-use Rattle.std.specs.BTreeSet.{insert_key}
 use Rattle.sv_flat.specs.declared.signals.SigId.{SigId}
 use Rattle.sv_obl.specs.Routes.{names_on}
 use Rattle.sv_obl.specs.Trails.{route_of}
@@ -13,7 +12,5 @@ pub returns : goal.returns
 returns c = λ n below.
     let names = names_on c.args.is_register c.args.target.0 (route_of c.args.trail.now) in
     subst (λ ks. IfOk c.signals_of.result (λ (reads : Vec SigId). map number_of reads.items ≡ ks))
-    (c.in_ok-set.ensures
-    ∙ ap (fold (insert_key nat_cmp) []) (c.deref.ensures.value ∙ c.in_ok-names.ensures)
-    ∙ numbers_put n names below)
+    (c.in_ok-names.ensures ∙ numbers_put n names below)
     c.signals_of.ensures

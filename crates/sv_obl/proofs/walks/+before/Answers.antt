@@ -1,40 +1,175 @@
-use Rattle.std.proofs.Common.{◌≡◌, ◌+◌, ◌≤◌, ◌++◌, List, length, flat_map, map-id, sym, ap, ap₂}
-use Rattle.std.proofs.Common.{subst, ◌∙◌, arith, rules, length-append}
+use Rattle.std.proofs.Common.{◌≡◌, ◌+◌, ◌++◌, Bool, true, false, List, [], ◌∷◌, length, map}
+use Rattle.std.proofs.Common.{flat_map, map-id, refl, sym, ap, ap₂, subst, ◌∙◌, arith, rules}
+use Rattle.std.proofs.Common.{length-append}
 use Rattle.std.proofs.lemmas.Iterator.Consumers.{YieldsList-turn, YieldsList-so_far}
 use Rattle.std.proofs.lemmas.Iterator.Adapters.{YieldsList-from_vec}
 use Rattle.sv_flat.specs.ByNumber.{signal_forms}
+use Rattle.sv_flat.specs.Views.{typed_tree}
+use Rattle.sv_obl.specs.declared.cuts.Cut.{Cut}
 use Rattle.sv_obl.specs.Cuts.{cut_routes}
-use Rattle.sv_obl.specs.Routes.{Route}
-use Rattle.sv_obl.specs.Trails.{route_of, routes_of, Walks}
+use Rattle.sv_obl.specs.Paths.{StepForm}
+use Rattle.sv_obl.specs.Routes.{Route, behind}
+use Rattle.sv_obl.specs.Trails.{route_of, routes_of, turn_form, Adds}
 use Rattle.sv_obl.proofs.CutFacts.{closed_stays}
-use Rattle.sv_obl.proofs.WalkFacts.{ends_early, fails_alike, adds_fails, chain_ends, next_longer}
+use Rattle.sv_obl.proofs.PathLists.{cond_true}
+use Rattle.sv_obl.proofs.WalkFacts.{grown, as_many, fails_early, fork_longer, forked, ways_alike}
+use Rattle.sv_obl.proofs.WalkFacts.{chain_longer, chain_flat, chain_flat_longer, next_longer}
 use Rattle.sv_obl.proofs.walks.+before.Goals as goal
 
-pub before-returns-then-not-trail : goal.before-returns-then-not-trail
-before-returns-then-not-trail t c =
+pub before-returns-then-not-trail-clause-adds : goal.before-returns-then-not-trail-clause-adds
+before-returns-then-not-trail-clause-adds t c =
     let signals = signal_forms c.args.signals.now in
-    subst (λ (rs : List Route). Walks rs c.unchanged.result)
+    subst (λ (rs : List Route). Adds (routes_of c.args.all.now.items ++ rs) c.add.new.all
+    c.add.result)
     (sym (closed_stays signals c.args.target.0 c.args.cut.now (route_of c.args.trail)
     c.if-not-trail.true))
-    c.unchanged.ensures
+    c.add.ensures.adds
 
-pub before-returns-in_err-trails-in-Chain : goal.before-returns-in_err-trails-in-Chain
-before-returns-in_err-trails-in-Chain t c =
+pub before-returns-in_err-before-in-Chain-clause-adds :
+    goal.before-returns-in_err-before-in-Chain-clause-adds
+before-returns-in_err-before-in-Chain-clause-adds t c =
     let signals = signal_forms c.args.signals.now in
     let s = c.args.target.0 in
     let first = c.in-Chain.first.value in
+    let second = c.deref.result.now in
     let route = route_of c.args.trail in
-    fails_alike (cut_routes signals s c.args.cut.now route) c.in_err-trails-in-Chain.field-0.0
-    c.from_residual.result c.from_residual.ensures.1
-    (chain_ends signals s first c.deref.result.now c.args.cut.now route
-    c.in_err-trails-in-Chain.field-0.0
+    let old = routes_of c.args.all.now.items in
+    let none = routes_of c.new-trails.result.items in
+    fails_early (none ++ cut_routes signals s second route)
+    (old ++ cut_routes signals s c.args.cut.now route) c.before-in-Chain.new.all c.args.all.now
+    c.in_err-before-in-Chain.field-0.0 c.from_residual.result
+    (chain_longer signals s first second c.args.cut.now route none old
+    (ap routes_of c.new-trails.ensures.items)
+    (λ r. ap (λ k. cut_routes signals s k r) c.in-Chain.is
+    ∙ ap (λ k. flat_map (cut_routes signals s first) (cut_routes signals s k r))
+    (sym c.deref.ensures)))
+    c.from_residual.ensures.1 c.in_err-before-in-Chain.ensures.adds
+
+pub before-put_behind-requires : goal.before-put_behind-requires
+before-put_behind-requires t c =
+    let more = grown c.args.all.now.items c.before-in-Branch.new.all.items _
+    c.in_ok-before-in-Branch.ensures.adds in
+    omega (arith, c.len-first.ensures)
+
+pub before-put_behind-requires-in-Branch : goal.before-put_behind-requires-in-Branch
+before-put_behind-requires-in-Branch t c =
+    let more = grown c.put_behind.new.trails.items c.before-in-Branch-2.new.all.items _
+    c.in_ok-before-in-Branch-2.ensures.adds in
+    omega (arith, c.len-second.ensures)
+
+pub before-returns-in_err-before-in-Branch-2-clause-adds :
+    goal.before-returns-in_err-before-in-Branch-2-clause-adds
+before-returns-in_err-before-in-Branch-2-clause-adds t c =
+    let signals = signal_forms c.args.signals.now in
+    let s = c.args.target.0 in
+    let route = route_of c.args.trail in
+    let cuts : Cut → Route → List Route = λ k r. cut_routes signals s k r in
+    let whole = cuts c.args.cut.now route in
+    let old = routes_of c.args.all.now.items in
+    let one = turn_form c.new.result in
+    let those = cuts c.deref-in-Branch.result.now (route_of c.in_ok-copy-in-Branch.copy) in
+    let others = cuts c.deref-in-Branch-2.result.now route in
+    let step : Bool → StepForm = λ truth. record {
+      place = c.in-Branch.place;
+      condition = typed_tree c.in-Branch.cond.now;
+      truth = truth;
+    } in
+    let two = step false in
+    let split : whole ≡ map (behind one) those ++ map (behind two) others =
+    ap (λ k. cuts k route) c.in-Branch.is
+    ∙ cond_true route.wants _ (route ∷ []) (search rules)
+    ∙ ways_alike (step true) (step false) one two (cuts c.in-Branch.yes.value route)
+    (cuts c.in-Branch.no.value route) those others (sym c.new.ensures)
+    refl
+    (ap₂ cuts (sym c.deref-in-Branch.ensures) (sym c.in_ok-copy-in-Branch.ensures))
+    (ap (λ k. cuts k route) (sym c.deref-in-Branch-2.ensures)) in
+    fails_early (routes_of c.put_behind.new.trails.items ++ others) (old ++ whole)
+    c.before-in-Branch-2.new.all c.before-in-Branch-2.new.all
+    c.in_err-before-in-Branch-2.field-0.0 c.from_residual-in_err-before-in-Branch-2.result
+    (fork_longer (behind one) (behind two) old those others whole
+    (routes_of c.before-in-Branch.new.all.items) (routes_of c.put_behind.new.trails.items)
+    c.len-first.result split (as_many c.args.all.now.items c.len-first.result (omega arith))
+    c.in_ok-before-in-Branch.ensures.adds c.in_ok-put_behind-in-Branch.ensures.routes)
+    c.from_residual-in_err-before-in-Branch-2.ensures.1
+    c.in_err-before-in-Branch-2.ensures.adds
+
+pub before-returns-in_ok-put_behind-in-Branch-2-clause-adds :
+    goal.before-returns-in_ok-put_behind-in-Branch-2-clause-adds
+before-returns-in_ok-put_behind-in-Branch-2-clause-adds t c =
+    let signals = signal_forms c.args.signals.now in
+    let s = c.args.target.0 in
+    let route = route_of c.args.trail in
+    let cuts : Cut → Route → List Route = λ k r. cut_routes signals s k r in
+    let whole = cuts c.args.cut.now route in
+    let old = routes_of c.args.all.now.items in
+    let one = turn_form c.new.result in
+    let those = cuts c.deref-in-Branch.result.now (route_of c.in_ok-copy-in-Branch.copy) in
+    let others = cuts c.deref-in-Branch-2.result.now route in
+    let step : Bool → StepForm = λ truth. record {
+      place = c.in-Branch.place;
+      condition = typed_tree c.in-Branch.cond.now;
+      truth = truth;
+    } in
+    let two = turn_form c.new-in-Branch.result in
+    let split : whole ≡ map (behind one) those ++ map (behind two) others =
+    ap (λ k. cuts k route) c.in-Branch.is
+    ∙ cond_true route.wants _ (route ∷ []) (search rules)
+    ∙ ways_alike (step true) (step false) one two (cuts c.in-Branch.yes.value route)
+    (cuts c.in-Branch.no.value route) those others (sym c.new.ensures)
+    (sym c.new-in-Branch.ensures)
+    (ap₂ cuts (sym c.deref-in-Branch.ensures) (sym c.in_ok-copy-in-Branch.ensures))
+    (ap (λ k. cuts k route) (sym c.deref-in-Branch-2.ensures)) in
+    forked (behind one) (behind two) old those others whole
+    (routes_of c.before-in-Branch.new.all.items) (routes_of c.put_behind.new.trails.items)
+    c.len-first.result split (as_many c.args.all.now.items c.len-first.result (omega arith))
+    c.in_ok-before-in-Branch.ensures.adds c.in_ok-put_behind-in-Branch.ensures.routes
+    (routes_of c.before-in-Branch-2.new.all.items)
+    (routes_of c.put_behind-in-Branch.new.trails.items) c.len-second.result
+    (as_many c.put_behind.new.trails.items c.len-second.result (omega arith))
+    c.in_ok-before-in-Branch-2.ensures.adds c.in_ok-put_behind-in-Branch-2.ensures.routes
+
+pub before_all-returns-in_err-before_all-in-Chain-clause-adds :
+    goal.before_all-returns-in_err-before_all-in-Chain-clause-adds
+before_all-returns-in_err-before_all-in-Chain-clause-adds t c =
+    let signals = signal_forms c.args.signals.now in
+    let s = c.args.target.0 in
+    let first = c.in-Chain.first.value in
+    let second = c.deref.result.now in
+    let routes = routes_of c.args.trails.items in
+    let old = routes_of c.args.all.now.items in
+    let none = routes_of c.new-between.result.items in
+    fails_early (none ++ flat_map (cut_routes signals s second) routes)
+    (old ++ flat_map (cut_routes signals s c.args.cut.now) routes) c.before_all.new.all
+    c.args.all.now c.in_err-before_all-in-Chain.field-0.0 c.from_residual.result
+    (chain_flat_longer signals s first second c.args.cut.now
     (λ r. ap (λ k. cut_routes signals s k r) c.in-Chain.is
     ∙ ap (λ k. flat_map (cut_routes signals s first) (cut_routes signals s k r))
     (sym c.deref.ensures))
-    c.in_err-trails-in-Chain.ensures)
+    routes none old (ap routes_of c.new-between.ensures.items))
+    c.from_residual.ensures.1 c.in_err-before_all-in-Chain.ensures.adds
 
-pub before_each-returns-in_err-more : goal.before_each-returns-in_err-more
-before_each-returns-in_err-more t c =
+pub before_all-returns-in_ok-before_all-in-Chain-clause-adds :
+    goal.before_all-returns-in_ok-before_all-in-Chain-clause-adds
+before_all-returns-in_ok-before_all-in-Chain-clause-adds t c =
+    let signals = signal_forms c.args.signals.now in
+    let s = c.args.target.0 in
+    let first = c.deref-in-Chain.result.now in
+    let second = c.deref.result.now in
+    let routes = routes_of c.args.trails.items in
+    subst (λ (rs : List Route). Adds (routes_of c.args.all.now.items ++ rs)
+    c.before_all-in-Chain.new.all c.before_all-in-Chain.result)
+    (ap (flat_map (cut_routes signals s first)) (c.in_ok-before_all-in-Chain.ensures.adds
+    ∙ ap (λ ts. routes_of ts ++ flat_map (cut_routes signals s second) routes)
+    c.new-between.ensures.items)
+    ∙ sym (chain_flat signals s first second c.args.cut.now
+    (λ r. ap (λ k. cut_routes signals s k r) c.in-Chain.is
+    ∙ ap₂ (λ j k. flat_map (cut_routes signals s j) (cut_routes signals s k r))
+    (sym c.deref-in-Chain.ensures) (sym c.deref.ensures)) routes))
+    c.before_all-in-Chain.ensures.adds
+
+pub before_each-returns-in_err-before-clause-adds :
+    goal.before_each-returns-in_err-before-clause-adds
+before_each-returns-in_err-before-clause-adds t c =
     let f = cut_routes (signal_forms c.args.signals.now) c.args.target.0 c.args.cut.now in
     let trails = c.args.trails.items in
     let seen = c.loop-trail.yielded in
@@ -46,35 +181,13 @@ before_each-returns-in_err-more t c =
     let turn = YieldsList-turn yields seen c.loop-trail.trail-iterator c.loop-trail.yielded_by
     c.next.result c.next.new.self x c.in-Some.is c.next.ensures.steps in
     let longer = next_longer f trails seen x (sym (map-id seen) ∙ so_far) turn.0 turn.1 in
-    let less : length (f (route_of x)) ≤ length (flat_map f (routes_of trails)) =
-    omega (arith, longer) in
-    fails_alike (flat_map f (routes_of trails)) c.in_err-more.field-0.0 c.from_residual.result
-    c.from_residual.ensures.1
-    (ends_early (f (route_of x)) (flat_map f (routes_of trails)) less c.in_err-more.field-0.0
-    c.in_err-more.ensures)
-
-pub before_each-returns-in_err-add_all : goal.before_each-returns-in_err-add_all
-before_each-returns-in_err-add_all t c =
-    let f = cut_routes (signal_forms c.args.signals.now) c.args.target.0 c.args.cut.now in
-    let trails = c.args.trails.items in
-    let seen = c.loop-trail.yielded in
-    let x = c.in-Some.trail in
-    let yields = YieldsList-from_vec {s = c.into_iter-trail-iterator.result} trails
-    (search rules) (search rules) in
-    let so_far = YieldsList-so_far yields seen c.loop-trail.trail-iterator
-    c.loop-trail.yielded_by in
-    let turn = YieldsList-turn yields seen c.loop-trail.trail-iterator c.loop-trail.yielded_by
-    c.next.result c.next.new.self x c.in-Some.is c.next.ensures.steps in
-    let longer = next_longer f trails seen x (sym (map-id seen) ∙ so_far) turn.0 turn.1 in
+    let old = routes_of c.args.all.now.items in
     let all = routes_of c.loop-trail.all.items in
-    let more = routes_of c.in_ok-more.more.items in
-    let both : length (all ++ more) ≡ length (flat_map f (routes_of seen)) + length (f (route_of x))
-    = length-append all more
-    ∙ ap₂ (λ a b. a + b) (ap length c.loop-trail.invariant.0) (ap length c.in_ok-more.ensures.0) in
-    let less : length (all ++ more) ≤ length (flat_map f (routes_of trails)) =
-    omega (arith, longer, both) in
-    fails_alike (flat_map f (routes_of trails)) c.in_err-add_all.field-0.0
-    c.from_residual-in_err-add_all.result c.from_residual-in_err-add_all.ensures.1
-    (ends_early (all ++ more) (flat_map f (routes_of trails)) less c.in_err-add_all.field-0.0
-    (adds_fails (all ++ more) c.add_all.new.all c.in_err-add_all.field-0.0
-    c.in_err-add_all.ensures))
+    let here : length all ≡ length old + length (flat_map f (routes_of seen)) =
+    ap length c.loop-trail.invariant.adds ∙ length-append old (flat_map f (routes_of seen)) in
+    let more = length-append all (f (route_of x)) in
+    let most = length-append old (flat_map f (routes_of trails)) in
+    fails_early (all ++ f (route_of x)) (old ++ flat_map f (routes_of trails))
+    c.before-in-loop-trail.new.all c.before-in-loop-trail.new.all c.in_err-before.field-0.0
+    c.from_residual.result (omega (arith, longer, here, more, most)) c.from_residual.ensures.1
+    c.in_err-before.ensures.adds

@@ -134,7 +134,7 @@ fn shifts_with_the_sign(rt: HostRuntime) -> Result<(), Fail> {
 
 // `{8'sh80} >>> 1` at 8 bits: a concatenation is unsigned.
 #[test]
-fn joins_without_sign(rt: HostRuntime) -> Result<(), Fail> {
+fn joins_are_unsigned(rt: HostRuntime) -> Result<(), Fail> {
     let mut parts = Vec::new(rt.alloc());
     parts.push(number(8, true, 0x80))?;
     let join = FExpr {

@@ -1,24 +1,42 @@
 // The outside in memory and over real files and streams.
 use std::alloc::Global;
 use std::io::{ErrorKind, Read, Write};
+use std::process::Abort;
 use std::test::Fail;
 use std::{fs, io};
 use sv_io::*;
+
+// Asserts that a fetch of at most 4 bytes gives these.
+fn gives<C: Cabinet>(
+    rt: &impl Abort,
+    alloc: Global,
+    cabinet: &mut C,
+    name: &str,
+    bytes: &[u8],
+) -> Result<(), Fail> {
+    let fetched = cabinet.fetch(alloc, name, 4)?;
+    assert_eq!(rt; fetched.as_slice(), bytes);
+    Ok(())
+}
+
+// The fault of a fetch of at most one byte, if it is one.
+fn fault<C: Cabinet>(alloc: Global, cabinet: &mut C, name: &str) -> Option<FetchFault> {
+    match cabinet.fetch(alloc, name, 1) {
+        Ok(_) => None,
+        Err(fault) => Some(fault),
+    }
+}
 
 #[test]
 fn a_sure_cabinet_hands_out_what_it_took(rt: HostRuntime) -> Result<(), Fail> {
     let alloc = rt.alloc();
     let mut cabinet = SureCabinet::new(alloc);
     cabinet.hold("a", b"xyz")?;
-    cabinet.store("b", b"old")?;
     cabinet.store("b", b"new")?;
-    assert_eq!(rt; cabinet.fetch(alloc, "a", 3)?.as_slice(), b"xyz".as_slice());
-    assert_eq!(rt; cabinet.fetch(alloc, "b", 9)?.as_slice(), b"new".as_slice());
-    assert_eq!(rt; cabinet.fetch(alloc, "c", 0)?.len(), 0);
+    gives(&rt, alloc, &mut cabinet, "b", b"new")?;
+    assert_eq!(rt; cabinet.bytes("b"), Some(b"new".as_slice()));
     let long = FetchFault::Long(Vec::from_slice(alloc, b"xy")?);
-    assert_eq!(rt; cabinet.fetch(alloc, "a", 1), Err(long));
-    assert_eq!(rt; cabinet.bytes("c"), None);
-    assert_eq!(rt; cabinet.bytes("a"), Some(b"xyz".as_slice()));
+    assert_eq!(rt; fault(alloc, &mut cabinet, "a"), Some(long));
     Ok(())
 }
 
@@ -27,14 +45,12 @@ fn a_cabinet_fails_at_its_numbers(rt: HostRuntime) -> Result<(), Fail> {
     let alloc = rt.alloc();
     let mut cabinet = MemCabinet::new(alloc, Vec::from_slice(alloc, &[2, 4])?);
     cabinet.hold("a", b"xyz")?;
-    assert_eq!(rt; cabinet.fetch(alloc, "a", 3)?.as_slice(), b"xyz".as_slice());
-    assert_eq!(rt; cabinet.fetch(alloc, "a", 3), Err(FetchFault::Failed));
+    gives(&rt, alloc, &mut cabinet, "a", b"xyz")?;
+    let failed = Some(FetchFault::Failed);
+    assert_eq!(rt; fault(alloc, &mut cabinet, "a"), failed);
     cabinet.store("b", b"new")?;
     assert_eq!(rt; cabinet.store("a", b"new"), Err(StoreFault::Failed));
-    assert_eq!(rt; cabinet.fetch(alloc, "c", 3), Err(FetchFault::Failed));
-    assert_eq!(rt; cabinet.fetch(alloc, "a", 3)?.as_slice(), b"xyz".as_slice());
     assert_eq!(rt; cabinet.bytes("c"), None);
-    assert_eq!(rt; cabinet.bytes("b"), Some(b"new".as_slice()));
     Ok(())
 }
 
@@ -109,38 +125,46 @@ fn a_sink_that_fails_keeps_the_front(rt: HostRuntime) -> Result<(), Fail> {
     Ok(())
 }
 
-const PATH: &str = "sv_io_test_file";
+const STORED: &str = "sv_io_test_stored";
+
+const STREAMED: &str = "sv_io_test_streamed";
 
 #[test]
-fn files_are_read_and_written(rt: HostRuntime) -> Result<(), Fail> {
+fn files_are_stored_and_fetched(rt: HostRuntime) -> Result<(), Fail> {
     let alloc = rt.alloc();
     let mut cabinet = FileCabinet::new(rt);
-    cabinet.store(PATH, b"older bytes")?;
-    cabinet.store(PATH, b"text")?;
-    assert_eq!(rt;
-        cabinet.fetch(alloc, PATH, 4)?.as_slice(),
-        b"text".as_slice()
-    );
+    cabinet.store(STORED, b"older bytes")?;
+    cabinet.store(STORED, b"text")?;
+    gives(&rt, alloc, &mut cabinet, STORED, b"text")?;
     let long = FetchFault::Long(Vec::from_slice(alloc, b"te")?);
-    assert_eq!(rt; cabinet.fetch(alloc, PATH, 1), Err(long));
-
-    let mut input = StdSource::new(fs::open(&rt, PATH)?);
-    assert_eq!(rt; taken(alloc, &mut input)?.as_slice(), b"text".as_slice());
-    let mut output = StdSink::new(fs::create(&rt, PATH)?);
-    put_all(&mut output, b"put")?;
-    assert_eq!(rt;
-        cabinet.fetch(alloc, PATH, 4)?.as_slice(),
-        b"put".as_slice()
-    );
-    fs::remove_file(&rt, PATH)?;
-
+    assert_eq!(rt; fault(alloc, &mut cabinet, STORED), Some(long));
     assert!(rt; cabinet.last_error().is_none());
-    assert_eq!(rt; cabinet.fetch(alloc, PATH, 4), Err(FetchFault::Failed));
+    fs::remove_file(&rt, STORED)?;
+    Ok(())
+}
+
+#[test]
+fn files_are_streams(rt: HostRuntime) -> Result<(), Fail> {
+    put_all(&mut StdSink::new(fs::create(&rt, STREAMED)?), b"put")?;
+    let mut input = StdSource::new(fs::open(&rt, STREAMED)?);
+    let all = taken(rt.alloc(), &mut input)?;
+    assert_eq!(rt; all.as_slice(), b"put".as_slice());
+    fs::remove_file(&rt, STREAMED)?;
+    Ok(())
+}
+
+#[test]
+fn missing_files_are_faults(rt: HostRuntime) {
+    let mut cabinet = FileCabinet::new(rt);
+    let fetched = fault(rt.alloc(), &mut cabinet, "sv_io_test_missing");
+    assert_eq!(rt; fetched, Some(FetchFault::Failed));
     assert_eq!(rt; cause(cabinet.last_error()), Some(ErrorKind::NotFound));
-    assert_eq!(rt;
-        cabinet.store("missing/file", b"text"),
-        Err(StoreFault::Failed)
-    );
+    let stored = cabinet.store("missing/file", b"text");
+    assert_eq!(rt; stored, Err(StoreFault::Failed));
+}
+
+#[test]
+fn standard_streams(rt: HostRuntime) -> Result<(), Fail> {
     put_all(&mut StdSink::new(rt.stdout()), b"standard output\n")?;
     assert_eq!(rt; StdSource::new(rt.stdin()).take(&mut []), Ok(0));
     Ok(())
@@ -191,13 +215,17 @@ fn cause(error: Option<&io::Error>) -> Option<ErrorKind> {
 }
 
 #[test]
-fn a_stream_that_breaks_is_a_fault(rt: HostRuntime) {
+fn an_input_that_breaks_is_a_fault(rt: HostRuntime) {
     let mut input = StdSource::new(Fitful { calls: 0 });
     let mut buf = [0u8; 4];
     assert_eq!(rt; input.take(&mut buf), Ok(1));
     assert_eq!(rt; input.take(&mut buf), Ok(0));
     assert_eq!(rt; input.take(&mut buf), Ok(1));
     assert_eq!(rt; input.take(&mut buf), Err(Failed));
+}
+
+#[test]
+fn an_output_that_breaks_is_a_fault(rt: HostRuntime) {
     let mut output = StdSink::new(Fitful { calls: 0 });
     assert_eq!(rt; output.put(b"ab"), Ok(1));
     assert!(rt; output.last_error().is_none());

@@ -1,151 +1,90 @@
 // Findings of modules of the first form.
 use std::alloc::Global;
+use std::process::Abort;
 use std::test::Fail;
-use sv_first_ast::{Decl, DeclKind, Expr, Item, Module, Point, Stmt};
-use sv_first_flow::{Finding, check};
-use sv_num::{BinOp, Name, OutOfMemory, UnOp};
+use sv_first::read_module;
+use sv_first_flow::{Finding, Leak, check};
 
-fn decl(
-    alloc: Global,
-    kind: DeclKind,
-    label: Option<Point>,
-    name: &[u8],
-) -> Result<Decl, OutOfMemory> {
-    let name = Name::new(alloc, name)?;
-    Ok(Decl { kind, label, name })
-}
-
-fn read(alloc: Global, name: &[u8]) -> Result<Expr, OutOfMemory> {
-    Ok(Expr::Name(Name::new(alloc, name)?))
-}
-
-// `left & ~right`
-fn mask(alloc: Global, left: &[u8], right: &[u8]) -> Result<Expr, OutOfMemory> {
-    let left = Box::new(alloc, read(alloc, left)?)?;
-    let right = Box::new(alloc, read(alloc, right)?)?;
-    let right = Box::new(alloc, Expr::Unary(UnOp::Invert, right))?;
-    Ok(Expr::Binary(BinOp::And, left, right))
-}
-
-fn assign(alloc: Global, target: &[u8], value: Expr) -> Result<Item, OutOfMemory> {
-    let target = Name::new(alloc, target)?;
-    Ok(Item::Assign { target, value })
-}
-
-fn always(alloc: Global, clock: &[u8], target: &[u8], value: Expr) -> Result<Item, OutOfMemory> {
-    let clock = Name::new(alloc, clock)?;
-    let body = Stmt::Assign {
-        target: Name::new(alloc, target)?,
-        blocking: false,
-        value,
-    };
-    Ok(Item::Always { clock, body })
-}
-
-// A module with the inputs `clk`, `a` and `k`, which is a secret, and the output `y`.
-fn module(alloc: Global, y: DeclKind, items: Vec<Item>) -> Result<Module, OutOfMemory> {
-    let mut ports = Vec::new(alloc);
-    ports.push(decl(alloc, DeclKind::Input, None, b"clk")?)?;
-    ports.push(decl(alloc, DeclKind::Input, None, b"a")?)?;
-    ports.push(decl(alloc, DeclKind::Input, Some(Point::High), b"k")?)?;
-    ports.push(decl(alloc, y, None, b"y")?)?;
-    Ok(Module {
-        name: Name::new(alloc, b"m")?,
-        ports,
-        items,
-    })
+// What is found of a text that is a module, unless the module is refused.
+fn finding(alloc: Global, text: &[u8]) -> Result<Option<Finding>, Fail> {
+    let module = read_module(alloc, text)?.ok_or("nothing was read")?;
+    Ok(check(alloc, &module)?)
 }
 
 // How many obligations hold, where all do.
-fn held(alloc: Global, y: DeclKind, items: Vec<Item>) -> Result<Option<u32>, OutOfMemory> {
-    match check(alloc, &module(alloc, y, items)?)? {
-        Some(Finding::Holds(count)) => Ok(Some(count)),
-        _ => Ok(None),
+fn held(found: Option<Finding>) -> Option<u32> {
+    match found {
+        Some(Finding::Holds(count)) => Some(count),
+        _ => None,
     }
 }
 
-fn is_refused(alloc: Global, y: DeclKind, items: Vec<Item>) -> Result<bool, OutOfMemory> {
-    Ok(check(alloc, &module(alloc, y, items)?)?.is_none())
-}
+// A gate, and a wire that is declared after its use.
+const HOLDING: [(&str, u32); 2] = [
+    (
+        "module m(input clk, input a, input {H} k, output y);
+            assign y = a & ~clk; endmodule",
+        1,
+    ),
+    (
+        "module m(input clk, input a, input {H} k, output y);
+            assign w = a; assign y = w & ~a; wire w; endmodule",
+        2,
+    ),
+];
+
+// Two drivers, a later target, a clock that is read, and a read of no declaration.
+const REFUSED: [&str; 4] = [
+    "module m(input clk, input a, input {H} k, output y);
+        assign y = a; assign y = a; endmodule",
+    "module m(input clk, input a, input {H} k, output y);
+        wire w; assign y = w; assign w = a; endmodule",
+    "module m(input clk, input a, input {H} k, output reg y);
+        always @(posedge clk) y <= a & ~clk; endmodule",
+    "module m(input clk, input a, input {H} k, output y);
+        assign y = a & ~b; endmodule",
+];
+
+// A secret in a public register.
+const LEAKING: &str = "module m(input clk, input a, input {H} k, output reg y);
+    always @(posedge clk) y <= a & ~k; endmodule";
 
 #[test]
-fn gate_holds(rt: HostRuntime) -> Result<(), Fail> {
-    let alloc = rt.alloc();
-    let mut items = Vec::new(alloc);
-    items.push(assign(alloc, b"y", mask(alloc, b"a", b"clk")?)?)?;
-    assert_eq!(rt; held(alloc, DeclKind::OutputWire, items)?, Some(1));
+fn obligations_hold(rt: HostRuntime) -> Result<(), Fail> {
+    for (text, count) in HOLDING {
+        let found = finding(rt.alloc(), text.as_bytes())?;
+        assert_eq!(rt; held(found), Some(count), "{text}");
+    }
     Ok(())
 }
 
 #[test]
-fn wire_declared_after_its_use_holds(rt: HostRuntime) -> Result<(), Fail> {
-    let alloc = rt.alloc();
-    let mut items = Vec::new(alloc);
-    items.push(assign(alloc, b"w", read(alloc, b"a")?)?)?;
-    items.push(assign(alloc, b"y", mask(alloc, b"w", b"a")?)?)?;
-    items.push(Item::Decl(decl(alloc, DeclKind::Wire, None, b"w")?))?;
-    assert_eq!(rt; held(alloc, DeclKind::OutputWire, items)?, Some(2));
+fn modules_are_refused(rt: HostRuntime) -> Result<(), Fail> {
+    for text in REFUSED {
+        let found = finding(rt.alloc(), text.as_bytes())?;
+        assert!(rt; found.is_none(), "{text}");
+    }
     Ok(())
+}
+
+// Asserts that the register `y` takes `k` at the first obligation, with `a` and `k` as inputs.
+fn check_leak(rt: &impl Abort, leak: &Leak) {
+    assert_eq!(rt; leak.obligation, 1);
+    assert_eq!(rt; leak.target.bytes(), b"y".as_slice());
+    assert_eq!(rt; leak.read.bytes(), b"k".as_slice());
+    assert!(rt; leak.clocked);
+    assert_eq!(rt; leak.registers.len(), 1);
+    assert_eq!(rt; leak.registers[0].bytes(), b"y".as_slice());
+    assert_eq!(rt; leak.inputs.len(), 2);
+    assert_eq!(rt; leak.inputs[0].bytes(), b"a".as_slice());
+    assert_eq!(rt; leak.inputs[1].bytes(), b"k".as_slice());
 }
 
 #[test]
 fn secret_in_a_public_register_leaks(rt: HostRuntime) -> Result<(), Fail> {
-    let alloc = rt.alloc();
-    let mut items = Vec::new(alloc);
-    items.push(always(alloc, b"clk", b"y", mask(alloc, b"a", b"k")?)?)?;
-    let module = module(alloc, DeclKind::OutputReg, items)?;
-    match check(alloc, &module)? {
-        Some(Finding::Leaks(leak)) => {
-            assert_eq!(rt; leak.obligation, 1);
-            assert_eq!(rt; leak.target.bytes(), b"y".as_slice());
-            assert_eq!(rt; leak.read.bytes(), b"k".as_slice());
-            assert!(rt; leak.clocked);
-            assert_eq!(rt; leak.registers.len(), 1);
-            assert_eq!(rt; leak.registers[0].bytes(), b"y".as_slice());
-            assert_eq!(rt; leak.inputs.len(), 2);
-            assert_eq!(rt; leak.inputs[0].bytes(), b"a".as_slice());
-            assert_eq!(rt; leak.inputs[1].bytes(), b"k".as_slice());
-        }
+    match finding(rt.alloc(), LEAKING.as_bytes())? {
+        Some(Finding::Leaks(leak)) => check_leak(&rt, &leak),
         _ => panic!(rt; "no leak was found"),
     }
-    Ok(())
-}
-
-#[test]
-fn two_drivers_are_refused(rt: HostRuntime) -> Result<(), Fail> {
-    let alloc = rt.alloc();
-    let mut items = Vec::new(alloc);
-    items.push(assign(alloc, b"y", read(alloc, b"a")?)?)?;
-    items.push(assign(alloc, b"y", read(alloc, b"a")?)?)?;
-    assert!(rt; is_refused(alloc, DeclKind::OutputWire, items)?);
-    Ok(())
-}
-
-#[test]
-fn later_target_is_refused(rt: HostRuntime) -> Result<(), Fail> {
-    let alloc = rt.alloc();
-    let mut items = Vec::new(alloc);
-    items.push(Item::Decl(decl(alloc, DeclKind::Wire, None, b"w")?))?;
-    items.push(assign(alloc, b"y", read(alloc, b"w")?)?)?;
-    items.push(assign(alloc, b"w", read(alloc, b"a")?)?)?;
-    assert!(rt; is_refused(alloc, DeclKind::OutputWire, items)?);
-    Ok(())
-}
-
-#[test]
-fn clock_that_is_read_is_refused(rt: HostRuntime) -> Result<(), Fail> {
-    let alloc = rt.alloc();
-    let mut items = Vec::new(alloc);
-    items.push(always(alloc, b"clk", b"y", mask(alloc, b"a", b"clk")?)?)?;
-    assert!(rt; is_refused(alloc, DeclKind::OutputReg, items)?);
-    Ok(())
-}
-
-#[test]
-fn undeclared_read_is_refused(rt: HostRuntime) -> Result<(), Fail> {
-    let alloc = rt.alloc();
-    let mut items = Vec::new(alloc);
-    items.push(assign(alloc, b"y", mask(alloc, b"a", b"b")?)?)?;
-    assert!(rt; is_refused(alloc, DeclKind::OutputWire, items)?);
     Ok(())
 }

@@ -2,37 +2,23 @@
 
 ghost use Rattle.std.specs.Prelude.{◌<◌, ◌-◌, ◌^◌, length};
 
-use std::alloc::Global;
+use std::alloc::{AllocError, Global};
 use std::process::Abort;
 use std::test::Fail;
-use sv_num::{Bits, Fault, Refusal};
-use sv_token::{Lit, Operator, SignKind, Token, TokenKind, WordKind, lex};
+use sv_num::{Fault, Refusal};
+use sv_token::{Token, lex};
 
-fn number(width: u8, signed: bool, value: u64, sized: bool) -> Option<TokenKind> {
-    let bits = Bits::new(width, signed, value)?;
-    Some(TokenKind::Number(Lit { bits, sized }))
-}
+// How a token's kind reads, its bytes and its place.
+type Row = (&'static str, usize, usize, u32, u32);
 
-fn sign(kind: SignKind) -> Option<TokenKind> {
-    Some(TokenKind::Sign(kind))
-}
-
-fn operator(binary: Option<u8>, unary: Option<u8>) -> Option<TokenKind> {
-    sign(SignKind::Operator(Operator { binary, unary }))
-}
-
-fn expect(
-    rt: &impl Abort,
-    alloc: Global,
-    text: &[u8],
-    expected: &[(Option<TokenKind>, usize, usize, u32, u32)],
-) -> Result<(), Fail>
+fn expect(rt: &impl Abort, alloc: Global, text: &[u8], expected: &[Row]) -> Result<(), Fail>
     requires { length text.now < 2 ^ 32 - 1 }
 {
     let tokens = lex(alloc, text)?;
     assert_eq!(rt; tokens.len(), expected.len());
     for (token, (kind, start, end, line, column)) in tokens.iter().zip(expected) {
-        assert_eq!(rt; Some(token.kind), *kind);
+        let shown = format!(in alloc; "{:?}", token.kind)?;
+        assert_eq!(rt; shown.as_str(), *kind);
         assert_eq!(rt; (token.start, token.end), (*start, *end));
         assert_eq!(rt; (token.place.line, token.place.column), (*line, *column));
     }
@@ -67,34 +53,59 @@ fn refused(
     Ok(())
 }
 
+const ZERO: &str = "Number(Lit { bits: Bits { width: 32, signed: true, value: 0 }, sized: false })";
+
+const THREE: &str =
+    "Number(Lit { bits: Bits { width: 32, signed: true, value: 3 }, sized: false })";
+
+const FIVE: &str = "Number(Lit { bits: Bits { width: 4, signed: true, value: 5 }, sized: true })";
+
+const TEXT: &[u8] = b"module m;\n\twire [3:0] w_1$ = // x\r y\n -4'sb1_01 >>>/* * */$release(~^ a)";
+
+// The tokens of `TEXT`.
+const TOKENS: [Row; 19] = [
+    ("Word(Module)", 0, 6, 1, 1),
+    ("Name", 7, 8, 1, 8),
+    ("Sign(Semicolon)", 8, 9, 1, 9),
+    ("Word(Wire)", 11, 15, 2, 2),
+    ("Sign(OpenBracket)", 16, 17, 2, 7),
+    (THREE, 17, 18, 2, 8),
+    ("Sign(Colon)", 18, 19, 2, 9),
+    (ZERO, 19, 20, 2, 10),
+    ("Sign(CloseBracket)", 20, 21, 2, 11),
+    ("Name", 22, 26, 2, 13),
+    ("Sign(Equals)", 27, 28, 2, 18),
+    (
+        "Sign(Operator(Operator { binary: Some(4), unary: Some(1) }))",
+        38,
+        39,
+        3,
+        2,
+    ),
+    (FIVE, 39, 47, 3, 3),
+    (
+        "Sign(Operator(Operator { binary: Some(8), unary: None }))",
+        48,
+        51,
+        3,
+        12,
+    ),
+    ("Word(Release)", 58, 66, 3, 22),
+    ("Sign(OpenParenthesis)", 66, 67, 3, 30),
+    (
+        "Sign(Operator(Operator { binary: Some(17), unary: Some(9) }))",
+        67,
+        69,
+        3,
+        31,
+    ),
+    ("Name", 70, 71, 3, 34),
+    ("Sign(CloseParenthesis)", 71, 72, 3, 35),
+];
+
 #[test]
 fn tokens(rt: HostRuntime) -> Result<(), Fail> {
-    expect(
-        &rt,
-        rt.alloc(),
-        b"module m;\n\twire [3:0] w_1$ = // x\r y\n -4'sb1_01 >>>/* * */$release(~^ a)",
-        &[
-            (Some(TokenKind::Word(WordKind::Module)), 0, 6, 1, 1),
-            (Some(TokenKind::Name), 7, 8, 1, 8),
-            (sign(SignKind::Semicolon), 8, 9, 1, 9),
-            (Some(TokenKind::Word(WordKind::Wire)), 11, 15, 2, 2),
-            (sign(SignKind::OpenBracket), 16, 17, 2, 7),
-            (number(32, true, 3, false), 17, 18, 2, 8),
-            (sign(SignKind::Colon), 18, 19, 2, 9),
-            (number(32, true, 0, false), 19, 20, 2, 10),
-            (sign(SignKind::CloseBracket), 20, 21, 2, 11),
-            (Some(TokenKind::Name), 22, 26, 2, 13),
-            (sign(SignKind::Equals), 27, 28, 2, 18),
-            (operator(Some(4), Some(1)), 38, 39, 3, 2),
-            (number(4, true, 5, true), 39, 47, 3, 3),
-            (operator(Some(8), None), 48, 51, 3, 12),
-            (Some(TokenKind::Word(WordKind::Release)), 58, 66, 3, 22),
-            (sign(SignKind::OpenParenthesis), 66, 67, 3, 30),
-            (operator(Some(17), Some(9)), 67, 69, 3, 31),
-            (Some(TokenKind::Name), 70, 71, 3, 34),
-            (sign(SignKind::CloseParenthesis), 71, 72, 3, 35),
-        ],
-    )
+    expect(&rt, rt.alloc(), TEXT, &TOKENS)
 }
 
 #[test]
@@ -108,27 +119,35 @@ fn refusals(rt: HostRuntime) -> Result<(), Fail> {
     refused(&rt, alloc, b"m; /*/ n", 103, 1, 4, b"")
 }
 
+// These bytes, and then a byte a million times.
+fn million(alloc: Global, front: &[u8], byte: u8) -> Result<Vec<u8>, AllocError> {
+    let mut text = front.to_vec(alloc)?;
+    for _ in 0..1_000_000 {
+        text.push(byte)?;
+    }
+    Ok(text)
+}
+
 // Texts of a million bytes are read at once.
 #[test]
 fn long_texts(rt: HostRuntime) -> Result<(), Fail> {
-    let alloc = rt.alloc();
-    let mut open = Vec::new(alloc);
-    let mut digits = Vec::new(alloc);
-    let mut comment = b"//".to_vec(alloc)?;
-    for _ in 0..1_000_000 {
-        open.push(b'(')?;
-        digits.push(b'0')?;
-        comment.push(b'*')?;
-    }
-    let count = lex(alloc, short(&rt, open.as_slice()))?.len();
+    let text = million(rt.alloc(), b"", b'(')?;
+    let count = lex(rt.alloc(), short(&rt, &text))?.len();
     assert_eq!(rt; count, 1_000_000);
-    expect(
-        &rt,
-        alloc,
-        short(&rt, digits.as_slice()),
-        &[(number(32, true, 0, false), 0, 1_000_000, 1, 1)],
-    )?;
-    expect(&rt, alloc, short(&rt, comment.as_slice()), &[])
+    Ok(())
+}
+
+#[test]
+fn long_numbers(rt: HostRuntime) -> Result<(), Fail> {
+    let text = million(rt.alloc(), b"", b'0')?;
+    let expected = [(ZERO, 0, 1_000_000, 1, 1)];
+    expect(&rt, rt.alloc(), short(&rt, &text), &expected)
+}
+
+#[test]
+fn long_comments(rt: HostRuntime) -> Result<(), Fail> {
+    let text = million(rt.alloc(), b"//", b'*')?;
+    expect(&rt, rt.alloc(), short(&rt, &text), &[])
 }
 
 fn short<'a>(rt: &impl Abort, text: &'a [u8]) -> &'a [u8]

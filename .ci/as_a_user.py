@@ -97,7 +97,7 @@ LISTS = [("module m(output y); endmodule", [], "refused 604 undriven 1:17 y\n"),
          (SELECTED, [], "1 y now =4:10 reads d\n2 d now selector reads q\n"),
          (SELECTED.replace("{Dom(p)} q", "{H} q"), [], "1 y now =4:10 reads d\n2 d now selector reads q\n"),
          (SELECTED.replace("{Dom(p)} q", "q"), [], "1 y now =4:10 reads d\n")]
-STATUS = {"accepted": 0, "refused": 1, "usage": 2, "unknown": 3}
+STATUS = {"accepted": 0, "refused": 1, "usage": 2}
 passed = failed = 0
 
 
@@ -166,7 +166,7 @@ def words_and_faults():
     answer = run(["--help"])
     compare("--help", (answer.stdout, answer.stderr, answer.returncode), (HELP, b"", 0))
     version = run(["--version"])
-    compare("--version", (version.stdout, version.returncode), (b"secv 0.1.0\n", 0))
+    compare("--version", (version.stdout, version.stderr, version.returncode), (b"secv 0.1.0\n", b"", 0))
     answer = run(["sim", "--help"])
     compare("sim --help", (answer.stdout, answer.stderr, answer.returncode), (SIM_HELP, b"", 0))
     for word, what in (("check", "Say whether a secret can reach a public signal"), ("list", "List the obligations of a design, one a line")):
@@ -259,12 +259,39 @@ def lines_of_many(text):
     return lines
 
 
+def lines_of_nested(text):
+    """The lines of a case of cases: an arm stands behind the arms before it, and the last arm of a whole case is sure."""
+    lines, outer = [], ""
+    rows = text.split("\n")[2:-3]
+    for number, row in enumerate(rows, 3):
+        own, inner = "" if row is rows[-1] else f" +{number}:1", ""
+        arms = list(re.finditer(r"(\d+): y =", row))
+        for arm in arms:
+            way = "" if arm is arms[-1] else f" +{number}:{arm.start() + 1}"
+            lines.append(f"y now{outer}{own}{inner}{way} ={number}:{arm.end() - 2} reads a b c")
+            inner += f" -{number}:{arm.start() + 1}"
+        outer += f" -{number}:1"
+    return lines
+
+
 def text_of_targets(wires):
     """16 registers of 4,095 paths each, and so many wires of one."""
     ports = "".join(f", output reg y{i}" for i in range(16)) + "".join(f", output z{i}" for i in range(wires))
     blocks = "".join("  always @(posedge clk) begin\n" + "".join(f"    if (s[{k}]) begin if (s[0]) y{i} <= 0; end\n" for k in range(11)) + "  end\n"
                      for i in range(16))
     return f"module m(input clk, input [11:0] s{ports});\n{blocks}" + "".join(f"  assign z{i} = s[0];\n" for i in range(wires)) + "endmodule\n"
+
+
+def with_selector(text):
+    """The text with one more obligation behind all others: of the selector of the label of an input."""
+    return "labelmap D [0:0] 0: L; default: H; endlabelmap " + text.replace("input clk,", "input clk, input {H} h, input {D(h)} g,", 1)
+
+
+def nested(last):
+    """A case of 256 arms, each a case of 16, with the right side of the very last arm."""
+    arms = [f"{outer}: case (b) " + " ".join(f"{inner}: y = {last if (outer, inner) == (255, 15) else 'c'};" for inner in range(16)) + " endcase"
+            for outer in range(256)]
+    return "module m(input [7:0] a, input [3:0] b, input c, output reg y);\nalways @* case (a)\n" + "\n".join(arms) + "\nendcase\nendmodule\n"
 
 
 def lines_of_targets(text):
@@ -288,14 +315,16 @@ def lines_of_targets(text):
 def lists():
     with tempfile.TemporaryDirectory() as folder:
         path = os.path.join(folder, "text.v")
-        for text, option, wanted in [*LISTS, (text_of_targets(17), [], "refused 703 obligations\n")]:
+        for text, option, wanted in [*LISTS, (text_of_targets(17), [], "refused 703 obligations\n"),
+                                     (with_selector(text_of_targets(16)), [], "refused 703 obligations\n"), (nested("c ? 1 : 0"), [], "refused 702 paths y\n")]:
             with open(path, "w", encoding="ascii") as file:
                 file.write(text)
             answer = run(["list", *option, path])
             said = UNBUILT if wanted.startswith("refused 199 ") else explained(path, wanted) if ":" in wanted and status_of(wanted.encode()) else ""
             compare(f"list {option} {text[:60]}", (answer.stdout.decode(), answer.stderr.decode(), answer.returncode), (wanted, said, status_of(wanted.encode())))
         for what, text, lines_of, count in [("65,536 obligations", text_of_targets(16), lines_of_targets, 65536),
-                                            ("4,096 paths", MANY.replace("t[15] ? 1 : 0", "0"), lines_of_many, 4096)]:
+                                            ("4,096 paths", MANY.replace("t[15] ? 1 : 0", "0"), lines_of_many, 4096),
+                                            ("4,096 paths of a case of cases", nested("c"), lines_of_nested, 4096)]:
             with open(path, "w", encoding="ascii") as file:
                 file.write(text)
             lines = lines_of(text)

@@ -1,7 +1,7 @@
 #!/usr/bin/env python3
 """Tries the launcher ./secv on a small checkout of three crates, with a stand-in for the kit that proves nothing: when it builds and when
-not, two first builds at once, a build that is stopped or fails, a kit that is missing, and a checkout that cannot be written. The last
-line is 'N passed, M failed'.
+not, two first builds at once, a build that is stopped or fails, a kit or a tool that is missing, and a checkout that cannot be written. The
+last line is 'N passed, M failed'.
 """
 import os
 import re
@@ -15,7 +15,7 @@ import time
 TOP = os.path.dirname(os.path.dirname(os.path.abspath(__file__)))
 NOBODY = 65534
 MOST_SECONDS = 60
-BUILDING = "secv: building, once: every function is proved to meet its contract before the program is made, which takes some minutes\n"
+BUILDING = "secv: building, once: every function is proved to meet its contract before the program is made, which takes up to an hour\n"
 STOPPED = "secv: the build was stopped; what it has proved is kept\n"
 # Keeps each call of it. What it does behind a check is what the file `then` says: nothing, or to wait, or to fail with these lines.
 KIT = r"""#!/bin/sh
@@ -195,22 +195,39 @@ def fails(at):
     compare("it builds then", at.run(), ("made of one: \n", BUILDING, 3))
 
 
-def without_a_kit(at):
-    tools = os.path.join(at.kit, "tools")
+def tools_but(at, missing):
+    """A folder with every command of the PATH but this one."""
+    tools = os.path.join(at.kit, f"without {missing}")
     os.mkdir(tools)
     for folder in reversed(os.get_exec_path()):
         for name in os.listdir(folder) if os.path.isdir(folder) else []:
-            if name != "rt":
+            if name != missing:
                 path = os.path.join(tools, name)
                 if os.path.lexists(path):
                     os.remove(path)
                 os.symlink(os.path.join(folder, name), path)
+    return tools
+
+
+def without_a_kit(at):
+    tools = tools_but(at, "rt")
     said = "secv: it has to be built, and building needs the Rattle kit: install it and put its bin folder on the PATH, so that 'rt version' answers\n"
     compare("without a kit", at.run(path=tools), ("", said, 70))
     at.run()
     compare("without a kit, once it is built", at.run("a", path=tools), ("made of one: a\n", "", 3))
     at.write("crates/low/src/lib.rt", "two")
     compare("without a kit, after a change", at.run(path=tools), ("", said, 70))
+
+
+def without_a_tool(at):
+    """It does not take a missing tool for another build that runs."""
+    said = "secv: it has to be built, and building needs flock and setsid (util-linux)\n"
+    paths = {missing: f"{at.kit}:{tools_but(at, missing)}" for missing in ("flock", "setsid")}
+    for missing, path in paths.items():
+        compare(f"without {missing}", (at.run(path=path), at.calls()), (("", said, 70), []))
+    at.run()
+    for missing, path in paths.items():
+        compare(f"without {missing}, once it is built", at.run("a", path=path), ("made of one: a\n", "", 3))
 
 
 def not_writable(at):
@@ -241,7 +258,7 @@ def not_writable(at):
 
 
 def main():
-    for group in (builds, at_once, stopped, fails, without_a_kit, not_writable):
+    for group in (builds, at_once, stopped, fails, without_a_kit, without_a_tool, not_writable):
         with tempfile.TemporaryDirectory() as folder:
             os.chmod(folder, 0o755)
             group(Checkout(folder))

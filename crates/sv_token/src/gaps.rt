@@ -8,18 +8,15 @@ ghost use Rattle.sv_token.specs.Views.{front_of};
 
 use crate::bytes::{name_is_next, name_length, rest_of_line};
 use crate::fronts::{Breach, Form, Front};
+use memchr::memmem;
 
 // The number of bytes up to the first `*/` and with it.
 fn close_length(bytes: &[u8]) -> Option<usize>
     ensures is { result ≡ close_length bytes.now }
     ensures within { IfSome result (λ n. n ≤ length bytes.now) }
 {
-    for at in 0..bytes.len() {
-        if bytes[at..].starts_with(b"*/") {
-            return Some(at + 2);
-        }
-    }
-    None
+    let place = memmem::find(bytes, b"*/")?;
+    Some(place + 2)
 }
 
 /// From the `/` of `/*` on: the comment, which has an end.

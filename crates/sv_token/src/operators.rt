@@ -109,12 +109,10 @@ pub fn sign_at(bytes: &[u8]) -> Front
     requires { 0 < length bytes.now }
     ensures { front_of bytes.now result ≡ sign_at bytes.now }
 {
-    let mut count = bytes.len().min(3);
-    while count > 0 {
+    for count in (1..=bytes.len().min(3)).rev() {
         if let Some(front) = spelled(bytes, count) {
             return front;
         }
-        count -= 1;
     }
     Front::Broken(Breach::BadByte)
 }

@@ -1,18 +1,17 @@
--- Least upper points by rows, and how searches for the first pair go on.
-use Rattle.std.proofs.Common.{◌≡◌, ℕ, zero, suc, ◌+◌, ◌<◌, min, ◌↔◌, ◌⊎◌, inl, inr, ◌&&◌, ◌==◌}
-use Rattle.std.proofs.Common.{◌≤◌, Option, Some, None, List, length, get_or, refl, sym, ap, ◌∙◌}
-use Rattle.std.proofs.Common.{subst, arith}
+-- Least upper points by rows, and facts of points under two relations.
+use Rattle.std.proofs.Common.{◌≡◌, ℕ, zero, suc, ◌<◌, min, ◌↔◌, ◌&&◌, ◌==◌}
+use Rattle.std.proofs.Common.{List, length, get_or, refl, sym, ap, ◌∙◌}
+use Rattle.std.proofs.Common.{arith}
 use Rattle.std.specs.Cmp.{both_ways}
 use Rattle.std.specs.Int.{bit_at}
-use Rattle.std.specs.Prelude.{bit_and, MatchOption}
+use Rattle.std.specs.Prelude.{bit_and}
 use Rattle.std.specs.List.{Contains}
 use Rattle.std.proofs.lemmas.Nat.{and_le_l}
 use Rattle.std.proofs.lemmas.Nat.Bits.{bit_at_and, bit_at-lt, same_from_bits_below}
-use Rattle.std.proofs.lemmas.Bool.{cases_eq, and_parts, and_from}
+use Rattle.std.proofs.lemmas.Bool.{and_parts, and_from}
 use Rattle.std.proofs.lemmas.List.{get_or_default}
 use Rattle.sv_lattice.specs.Flows.{IsJoin, HasJoin, HasMeet, IsApart, EachPair, IsFirstWithout}
-use Rattle.sv_lattice.specs.Tables.{flow_test, FlowsTo, IsWithin, IsPreorder, IsFirstNot}
-use Rattle.sv_lattice.specs.Tables.{FindsNumber}
+use Rattle.sv_lattice.specs.Tables.{flow_test, FlowsTo, IsWithin, IsPreorder}
 use Rattle.sv_lattice.proofs.TableLemmas.{on_bits}
 
 pub and_test : (r s b : ℕ) → (bit_at (bit_and r s) b == 1) ≡ (bit_at r b == 1 && bit_at s b == 1)
@@ -76,43 +75,6 @@ module _ (table : List ℕ) (within : IsWithin (length table) table)
 
   pub joined : Contains table uppers → HasJoin (length table) (FlowsTo table) a b
   joined (c, p, e) = (c, row_join c p (get_or_default table c 0 uppers p ∙ e))
-
--- ---- searches row by row
-
--- what `find` over the numbers below n says, where it looks for one of which P does not hold
-pub found_number : (n : ℕ) (P : ℕ → Type 0) (r : Option ℕ) →
-    MatchOption r ((k : ℕ) → 0 ≤ k → k < n → P k) (λ i.
-    (0 ≤ i) × (i < n) × (P i → ⊥) × ((k : ℕ) → 0 ≤ k → k < i → P k)) →
-    FindsNumber n P r
-found_number n P None none = λ k p. none k (omega arith) p
-found_number n P (Some i) first = record {
-  is_point = first.1;
-  fails = first.2;
-  before = λ j p. first.3 j (omega arith) p;
-}
-
-module _ (n : ℕ) (Q : ℕ → ℕ → Type 0) (a : ℕ) (rows : (c d : ℕ) → c < a → d < n → Q c d) where
-  before_pair : (b c d : ℕ) → ((j : ℕ) → j < b → Q a j) → d < n →
-      (c < a) ⊎ ((c ≡ a) × (d < b)) → Q c d
-  before_pair b c d below p (inl lt) = rows c d lt p
-  before_pair b c d below p (inr h) = subst (λ k. Q k d) (sym h.0) (below d h.1)
-
-  -- the first in row a, where the rows before have none
-  pub first_pair : (b : ℕ) → a < n → IsFirstNot n (Q a) b → IsFirstWithout n Q a b
-  first_pair b p first = record {
-    first_is_point = p;
-    second_is_point = first.is_point;
-    fails = first.fails;
-    before = λ c d q r. before_pair b c d first.before r;
-  }
-
-  row_more : (c d : ℕ) → ((j : ℕ) → j < n → Q a j) → c < a + 1 → d < n →
-      (c ≡ a) ⊎ (c ≡ a → ⊥) → Q c d
-  row_more c d row p q (inl e) = subst (λ k. Q k d) (sym e) (row d q)
-  row_more c d row p q (inr ne) = rows c d (omega arith) q
-
-  pub rows_more : ((j : ℕ) → j < n → Q a j) → (c d : ℕ) → c < a + 1 → d < n → Q c d
-  rows_more row c d p q = row_more c d row p q (cases_eq c a)
 
 -- ---- the same relation under two names
 

@@ -10,12 +10,9 @@ pub fn first_circle(table: &[u32]) -> Option<(u32, u32)>
     requires { length table.now ≤ 32 }
     ensures { FindsPair (length table.now) (AreApart table.now) result }
 {
-    for first in 0..table.len() {
-        if let Some(second) = circle_with(table, first) {
-            return Some((first as u32, second as u32));
-        }
-    }
-    None
+    (0..table.len()).find_map(|first| {
+        circle_with(table, first).map(|second| (first as u32, second as u32))
+    })
 }
 
 fn circle_with(table: &[u32], first: usize) -> Option<usize>
@@ -35,12 +32,9 @@ pub fn first_unjoined(table: &[u32]) -> Option<(u32, u32)>
     requires preorder { IsPreorder (length table.now) (FlowsTo table.now) }
     ensures { FindsPair (length table.now) (HaveJoin table.now) result }
 {
-    for first in 0..table.len() {
-        if let Some(second) = unjoined_with(table, first) {
-            return Some((first as u32, second as u32));
-        }
-    }
-    None
+    (0..table.len()).find_map(|first| {
+        unjoined_with(table, first).map(|second| (first as u32, second as u32))
+    })
 }
 
 fn unjoined_with(table: &[u32], first: usize) -> Option<usize>
@@ -49,12 +43,7 @@ fn unjoined_with(table: &[u32], first: usize) -> Option<usize>
     requires first { first < length table.now }
     ensures { FindsNumber (length table.now) (HaveJoin table.now first) result }
 {
-    for second in 0..table.len() {
-        if !have_join(table, first, second) {
-            return Some(second);
-        }
-    }
-    None
+    (0..table.len()).find(|second| !have_join(table, first, *second))
 }
 
 // The upper points of two points are those that both rows have, and they are the row of the least

@@ -1,7 +1,7 @@
 use Rattle.std.proofs.Common.{ℕ, length, rules}
 use Rattle.std.proofs.lemmas.Iterator.{first_from_Range}
 use Rattle.sv_lattice.specs.Tables.{AreApart}
-use Rattle.sv_lattice.proofs.BoundLemmas.{found_number}
+use Rattle.sv_lattice.proofs.SearchLemmas.{found_number}
 use Rattle.sv_lattice.proofs.bounds.circle_with.Goals as goal
 
 pub returns : goal.returns

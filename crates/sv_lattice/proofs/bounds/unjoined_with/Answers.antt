@@ -1,10 +1,15 @@
-use Rattle.std.proofs.Common.{below_more, length}
-use Rattle.sv_lattice.specs.Flows.{HasJoin}
-use Rattle.sv_lattice.specs.Tables.{FlowsTo}
+use Rattle.std.proofs.Common.{ℕ, true, false, length, rules}
+use Rattle.std.proofs.lemmas.Iterator.{first_from_Range}
+use Rattle.sv_lattice.specs.Tables.{HaveJoin}
+use Rattle.sv_lattice.proofs.SearchLemmas.{found_number, Denies, fails_if, holds_unless}
 use Rattle.sv_lattice.proofs.bounds.unjoined_with.Goals as goal
 
-pub loop-second-preserved : goal.loop-second-preserved
-loop-second-preserved c =
-    let table = c.args.table.now in
-    below_more (HasJoin (length table) (FlowsTo table) c.args.first) c.loop-second.second
-    c.loop-second.invariant (c.have_join.ensures.0 c.if-not-have_join.false)
+pub returns : goal.returns
+returns c =
+    let P : ℕ → Type 0 = HaveJoin c.args.table.now c.args.first in
+    found_number (length c.args.table.now) P c.find.result
+    (first_from_Range _ _ _ c.find.result (λ k. P k → ⊥) P c.find.ensures.ran
+    (λ k q called. let denied : Denies (P k) true = search rules in fails_if (P k) denied)
+    (λ k q called.
+    let denied : Denies (P k) false = search rules in
+    (search rules, holds_unless (P k) denied)))

@@ -71,15 +71,16 @@ pub fn replaced_bits(value: u64, width: u8, high: u8, low: u8, piece: u64) -> u6
     beside(above, beside(inside, low_bits(value, low), low), high + 1)
 }
 
-/// A value of one width at another, no smaller one: the new bits are copies of the highest bit
-/// where the type is signed, and else 0.
-pub fn extended(value: u64, from: u8, to: u8, signed: bool) -> u64
-    requires wider { from ≤ to }
+/// A value, given after its width, at another, no smaller one: the new bits are copies of the
+/// highest bit where the type is signed, and else 0.
+pub fn extended(read: (u8, u64), to: u8, signed: bool) -> u64
+    requires wider { read.0 ≤ to }
     requires few { to ≤ 64 }
-    requires low { value < 2 ^ from }
-    ensures value { result ≡ extended signed from to value }
+    requires low { read.1 < 2 ^ read.0 }
+    ensures value { result ≡ extended signed read.0 to read.1 }
     ensures range { result < 2 ^ to }
 {
+    let (from, value) = read;
     if from == 0 || !signed {
         return value;
     }
@@ -98,13 +99,14 @@ pub fn beside(high: u64, low: u64, width: u8) -> u64
     }
 }
 
-/// A value of some width, so many times one beside the other.
-pub fn repeated(count: u32, width: u8, value: u64) -> u64
-    requires few { count * width ≤ 64 }
-    requires low { value < 2 ^ width }
-    ensures value { result ≡ repeated count width value }
-    ensures range { result < 2 ^ (count * width) }
+/// A value, given after its width, so many times one beside the other.
+pub fn repeated(count: u32, part: (u8, u64)) -> u64
+    requires few { count * part.0 ≤ 64 }
+    requires low { part.1 < 2 ^ part.0 }
+    ensures value { result ≡ repeated count part.0 part.1 }
+    ensures range { result < 2 ^ (count * part.0) }
 {
+    let (width, value) = part;
     let mut all = 0;
     for _ in 0..count {
         all = beside(all, value, width);

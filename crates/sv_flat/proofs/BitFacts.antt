@@ -1,6 +1,6 @@
 -- What the arithmetic of the code gives for the bits of a value.
 use Rattle.std.proofs.Common.{◌≡◌, ℕ, zero, suc, ◌+◌, ◌-◌, ◌*◌, ◌/◌, ◌%◌, ◌^◌, ◌<◌, ◌≤◌, Bool, true}
-use Rattle.std.proofs.Common.{false, cond, nat_eq, nat_lt, ltb-true, ltb-false, ⊎_elim, refl, sym}
+use Rattle.std.proofs.Common.{false, nat_eq, nat_lt, ltb-true, ltb-false, ⊎_elim, sym}
 use Rattle.std.proofs.Common.{ap, subst, ◌∙◌, arith}
 use Rattle.std.specs.Prelude.{bit_and}
 use Rattle.std.proofs.lemmas.Nat.{and_mask, one_shl, pow_pos}

@@ -1,10 +1,10 @@
 -- Runs on values by number.
 use mathlib.Core.Path.{fun_ext}
-use Rattle.std.proofs.Common.{◌≡◌, ◌≢◌, ℕ, zero, suc, ◌+◌, ◌^◌, ◌-◌, ◌<◌, ◌≤◌, Bool, true, false}
-use Rattle.std.proofs.Common.{cond, ◌&&◌, ◌||◌, ◌==◌, not, List, [], ◌∷◌, ◌++◌, length, map, fold}
+use Rattle.std.proofs.Common.{◌≡◌, ℕ, zero, suc, ◌+◌, ◌^◌, ◌-◌, ◌<◌, ◌≤◌, Bool, true, false}
+use Rattle.std.proofs.Common.{cond, ◌&&◌, ◌==◌, List, [], ◌∷◌, ◌++◌, length, map, fold}
 use Rattle.std.proofs.Common.{drop, set, get_or, get_or-set_same, get_or-set_other, refl, sym, ap}
 use Rattle.std.proofs.Common.{subst, ◌∙◌, ⊎_elim, add-one, length-set, ltb-true}
-use Rattle.std.specs.Prelude.{Contains, IsTrue, IsFalse, slice_index}
+use Rattle.std.specs.Prelude.{IsTrue, IsFalse, slice_index}
 use Rattle.std.specs.List.{list_all}
 use Rattle.std.proofs.Math.Seq.{drop-cons}
 use Rattle.std.proofs.lemmas.List.{length-map}
@@ -28,7 +28,7 @@ use Rattle.sv_flat.specs.ByNumber.{is_branch}
 use Rattle.sv_flat.specs.Design.{SignalForm, TypedTree, PieceForm, FlatStatement, nothing, after}
 use Rattle.sv_flat.specs.Design.{assign, branch}
 use Rattle.sv_flat.specs.Runs.{Updates, with_piece, put_piece, run, run_alone}
-use Rattle.sv_flat.specs.Soundness.{is_signal, is_part_of, piece_fits, statement_sound}
+use Rattle.sv_flat.specs.Soundness.{is_signal, is_part_of, piece_fits}
 use Rattle.sv_flat.specs.Values.{signal_width, expression_width, value}
 use Rattle.sv_flat.specs.Views.{signal_form, piece_form, flat_statement, flat_statements, chain_of}
 use Rattle.sv_flat.specs.Views.{row_chain}

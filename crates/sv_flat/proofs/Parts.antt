@@ -1,14 +1,13 @@
 -- Parts of a join or replication, one after the other.
-use Rattle.std.proofs.Common.{◌≡◌, ℕ, zero, suc, ◌+◌, ◌*◌, ◌^◌, ◌<◌, ◌≤◌, List, [], ◌∷◌, length}
-use Rattle.std.proofs.Common.{get_or, drop, refl, sym, ap, subst, ◌∙◌, arith, add-one}
+use Rattle.std.proofs.Common.{◌≡◌, ℕ, zero, suc, ◌+◌, ◌*◌, ◌^◌, ◌<◌, List, [], ◌∷◌, length}
+use Rattle.std.proofs.Common.{get_or, drop, sym, ap, subst, ◌∙◌, arith, add-one}
 use Rattle.std.specs.Prelude.{IsTrue}
-use Rattle.std.proofs.Math.Seq.{drop-cons, drop-length}
+use Rattle.std.proofs.Math.Seq.{drop-cons}
 use Rattle.std.proofs.lemmas.Nat.{pow-add}
-use Rattle.sv_system.specs.System.{Environment}
 use Rattle.sv_flat.specs.declared.expressions.FExpr.{FExpr}
-use Rattle.sv_flat.specs.Design.{SignalForm, TypedTree, TypedTrees, more_parts}
+use Rattle.sv_flat.specs.Design.{SignalForm, TypedTrees, more_parts}
 use Rattle.sv_flat.specs.Soundness.{well_formed, parts_well_formed}
-use Rattle.sv_flat.specs.Values.{value, joined, parts_width}
+use Rattle.sv_flat.specs.Values.{value}
 use Rattle.sv_flat.specs.Views.{typed_tree, typed_trees, parts_of}
 use Rattle.sv_flat.proofs.Depths.{first_of, second_of}
 

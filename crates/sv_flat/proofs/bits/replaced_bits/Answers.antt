@@ -1,4 +1,4 @@
-use Rattle.std.proofs.Common.{arith, ◌<◌, ◌^◌}
+use Rattle.std.proofs.Common.{arith}
 use Rattle.sv_flat.proofs.BitFacts.{lower_fits, replaced_fits, fits_in_word}
 use Rattle.sv_flat.proofs.bits.replaced_bits.Goals as goal
 

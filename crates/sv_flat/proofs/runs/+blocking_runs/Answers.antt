@@ -1,4 +1,4 @@
-use Rattle.std.proofs.Common.{sym, ap, subst, refl, ◌∙◌, ◌+◌, Bool, true, false, List, [], map}
+use Rattle.std.proofs.Common.{sym, ap, subst, refl, ◌∙◌, ◌+◌, Bool, true, List, [], map}
 use Rattle.std.proofs.Common.{fold, drop}
 use Rattle.std.specs.Prelude.{IsTrue}
 use Rattle.sv_flat.specs.declared.statements.FStmt.{the_lemmas}

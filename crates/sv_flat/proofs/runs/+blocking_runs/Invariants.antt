@@ -1,10 +1,7 @@
-use Rattle.std.proofs.Common.{◌≡◌, ◌≤◌, drop}
-use Rattle.std.specs.Prelude.{IsTrue}
-use Rattle.sv_flat.specs.declared.statements.FStmt.{size-FStmt}
+use Rattle.std.proofs.Common.{◌≡◌, drop}
 use Rattle.sv_flat.specs.ByNumber.{signal_forms, by_number, FitSignals}
 use Rattle.sv_flat.specs.Runs.{run_alone}
-use Rattle.sv_flat.specs.Soundness.{statement_sound}
-use Rattle.sv_flat.specs.Views.{flat_statement, flat_statements, chain_of}
+use Rattle.sv_flat.specs.Views.{flat_statements, chain_of}
 use Rattle.sv_flat.proofs.runs.+blocking_runs.Given as goal
 
 -- the statements that are left lead to what all of them lead to

@@ -1,10 +1,7 @@
-use Rattle.std.proofs.Common.{◌≡◌, ◌≤◌, drop}
-use Rattle.std.specs.Prelude.{IsTrue}
-use Rattle.sv_flat.specs.declared.statements.FStmt.{size-FStmt}
-use Rattle.sv_flat.specs.ByNumber.{signal_forms, by_number, FitSignals, updated, is_nonblocking}
+use Rattle.std.proofs.Common.{◌≡◌, drop}
+use Rattle.sv_flat.specs.ByNumber.{signal_forms, by_number, FitSignals, updated}
 use Rattle.sv_flat.specs.Runs.{Updates, run}
-use Rattle.sv_flat.specs.Soundness.{statement_sound}
-use Rattle.sv_flat.specs.Views.{flat_statement, flat_statements, chain_of}
+use Rattle.sv_flat.specs.Views.{flat_statements, chain_of}
 use Rattle.sv_flat.proofs.runs.+nonblocking_runs.Given as goal
 
 -- some updates are made, from which the statements that are left lead to what all of them lead to

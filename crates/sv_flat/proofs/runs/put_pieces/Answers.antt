@@ -1,4 +1,4 @@
-use Rattle.std.proofs.Common.{◌≡◌, ◌==◌, ◌+◌, true, [], ◌∷◌, map, fold, drop, sym, ap, ◌∙◌}
+use Rattle.std.proofs.Common.{◌==◌, ◌+◌, true, [], map, fold, drop, sym, ap, ◌∙◌}
 use Rattle.sv_system.specs.System.{put}
 use Rattle.sv_flat.specs.ByNumber.{signal_forms, by_number}
 use Rattle.sv_flat.specs.Runs.{put_piece}

@@ -105,7 +105,7 @@ held_push pairs pair before now held new place =
     other)
     (cases_order place (length pairs))
 
-fitting_push : (clauses : List (List ℤ)) (pairs : List (Option Pair)) (clause : List ℤ)
+pub fitting_push : (clauses : List (List ℤ)) (pairs : List (Option Pair)) (clause : List ℤ)
     (pair : Option Pair) → IsFitting clauses pairs → IsPairOf clause pair →
     IsFitting (clauses ++ clause ∷ []) (pairs ++ pair ∷ [])
 fitting_push clauses pairs clause pair fit new =

@@ -1,6 +1,6 @@
 // Conflict-driven clause learning, up to a budget of conflict clauses.
 ghost use Rattle.std.specs.Prelude.{◌≡◌, ◌↔◌, ℕ, ℤ, ◌+◌, ◌^◌, ◌<◌, ◌≤◌, List, All, IfOk, IsTrue};
-ghost use Rattle.std.specs.Prelude.{length, unsigned_abs};
+ghost use Rattle.std.specs.Prelude.{[], length, min, unsigned_abs};
 ghost use Rattle.sv_clause.specs.Literals.{Satisfies};
 ghost use Rattle.sv_clause.specs.Logs.{Refutes};
 ghost use Rattle.sv_clause.specs.Units.{IsSpentLog, IsUnitConflict};
@@ -75,15 +75,34 @@ fn answer(
     requires { All (IsWithin variables) clauses.now }
     ensures { IfOk result (IsAnswer variables clauses.now budget) }
 {
-    let mut state = match State::new(alloc, variables, clauses)? {
-        Begun::Ready(state) => state,
-        Begun::Refuted(log) => return Ok(Solved::Refuted(log)),
-    };
-    let mut seen = LiteralList::new(alloc, state.trail().variables())?;
-    let mut order = Order::new(alloc, state.trail().variables())?;
+    // no literal of 32 bits is of a variable above this
+    let bound = variables.min(2_147_483_647);
+    let mut seen = LiteralList::new(alloc, bound)?;
+    let mut order = Order::new(alloc, bound)?;
+    match State::new(alloc, variables, clauses, &mut seen)? {
+        Begun::Ready(state) => learn(alloc, variables, state, &mut seen, &mut order, budget),
+        Begun::Refuted(log) => Ok(Solved::Refuted(log)),
+    }
+}
+
+// Learns from a state before any conflict.
+fn learn(
+    alloc: Global,
+    variables: u32,
+    state: State,
+    seen: &mut LiteralList,
+    order: &mut Order,
+    budget: u32,
+) -> Result<Solved, OutOfMemory>
+    requires none { state.known.steps ≡ [] }
+    requires variables { state.known.variables ≡ min variables 2147483647 }
+    requires seen { seen.old.variables ≡ state.known.variables }
+    ensures { IfOk result (IsAnswer variables state.known.given budget) }
+{
+    let mut state = state;
     let mut learned = 0;
     'budget: while learned < budget {
-        match search(alloc, state, &mut seen, &mut order)? {
+        match search(alloc, state, seen, order)? {
             Outcome::Found(trail) => {
                 return Ok(Solved::Found(values_under(alloc, variables, &trail)?));
             }
@@ -92,7 +111,7 @@ fn answer(
         }
         learned += 1;
     }
-    spend(alloc, state, &mut seen, &mut order)
+    spend(alloc, state, seen, order)
 }
 
 /// Decides clauses over variables from 1 on, with at most `budget` conflict clauses.

@@ -96,18 +96,18 @@ fn pair_of(first: Literal, other: Option<Literal>) -> Option<Pair>
 }
 
 // Watched literals: the first two of each clause.
-fn attach_all(watches: &mut Watches, clauses: &[KeptClause]) -> Result<(), AllocError>
-    requires clauses { All (IsClauseOf watches.old.variables) clauses.now }
-    requires empty { watches.old.pairs ≡ [] }
-    requires listed { IsListed watches.old }
-    ensures fitting { OnOk result (IsFitting clauses.now watches.new.pairs) }
-    ensures listed { OnOk result (IsListed watches.new) }
-    ensures variables { OnOk result (watches.new.variables ≡ watches.old.variables) }
+fn watch_all(alloc: Global, variables: u32, clauses: &[KeptClause]) -> Result<Watches, AllocError>
+    requires small { variables < 2 ^ 31 }
+    requires clauses { All (IsClauseOf variables) clauses.now }
+    ensures fitting { IfOk result (λ watches. IsFitting clauses.now watches.pairs) }
+    ensures listed { IfOk result IsListed }
+    ensures variables { IfOk result (λ watches. watches.variables ≡ variables) }
 {
+    let mut watches = Watches::new(alloc, variables)?;
     'clauses: for clause in clauses {
         watches.attach(first_pair(clause.literals()))?;
     }
-    Ok(())
+    Ok(watches)
 }
 
 // Unit clauses: makes the literal of each true, and gives the place of a clause that is false, if
@@ -139,6 +139,25 @@ fn assume_units(clauses: &[KeptClause], trail: &mut Trail) -> Result<Option<usiz
     Ok(None)
 }
 
+// The log that refutes the known clauses, of which one is false, where all of the trail is implied.
+fn refute_known(
+    alloc: Global,
+    known: Knowledge,
+    trail: &Trail,
+    seen: &mut LiteralList,
+    conflict: usize,
+) -> Result<Log, AllocError>
+    requires trail_variables { trail.now.variables ≡ known.variables }
+    requires variables { seen.old.variables ≡ known.variables }
+    requires implied { ImpliedFrom (clauses_known known) trail.now 0 }
+    requires conflict { IsConflict (clauses_known known) trail.now.literals conflict }
+    ensures refutation { IfOk result (IsRefutation known) }
+    ensures variables { OnOk result (seen.new.variables ≡ seen.old.variables) }
+{
+    let step = refute(alloc, known.clauses(), trail, seen, conflict)?;
+    known.finish_with(step)
+}
+
 // The lowest decision level whose decision stands from a place of the trail on.
 fn first_from(decisions: &[usize], keep: usize) -> usize
     requires { AllPairs ◌<◌ decisions.now }
@@ -151,26 +170,42 @@ fn first_from(decisions: &[usize], keep: usize) -> usize
 
 impl State {
     /// The state before any decision, where the literals of the clauses of one literal are true.
-    pub fn new(alloc: Global, variables: u32, clauses: &[Clause]) -> Result<Begun, AllocError>
-        requires { All (IsWithin variables) clauses.now }
-        ensures { IfOk result (IsBegun (min variables 2147483647) clauses.now) }
+    pub fn new(
+        alloc: Global,
+        variables: u32,
+        clauses: &[Clause],
+        seen: &mut LiteralList,
+    ) -> Result<Begun, AllocError>
+        requires within { All (IsWithin variables) clauses.now }
+        requires variables { seen.old.variables ≡ min variables 2147483647 }
+        ensures begun { IfOk result (IsBegun (min variables 2147483647) clauses.now) }
+        ensures variables { OnOk result (seen.new.variables ≡ seen.old.variables) }
     {
         let known = Knowledge::new(alloc, variables, clauses)?;
         let mut trail = Trail::new(alloc, known.variables())?;
-        let mut watches = Watches::new(alloc, known.variables())?;
-        attach_all(&mut watches, known.clauses())?;
         if let Some(conflict) = assume_units(known.clauses(), &mut trail)? {
-            let mut seen = LiteralList::new(alloc, known.variables())?;
-            let step = refute(alloc, known.clauses(), &trail, &mut seen, conflict)?;
-            return Ok(Begun::Refuted(known.finish_with(step)?));
+            let log = refute_known(alloc, known, &trail, seen, conflict)?;
+            return Ok(Begun::Refuted(log));
         }
-        Ok(Begun::Ready(State {
+        Ok(Begun::Ready(State::watching(alloc, known, trail)?))
+    }
+
+    // The state before any decision, where the first two literals of each clause are watched.
+    fn watching(alloc: Global, known: Knowledge, trail: Trail) -> Result<State, AllocError>
+        requires small { known.variables < 2 ^ 31 }
+        requires variables { trail.variables ≡ known.variables }
+        requires units { UnitsTrue (clauses_known known) trail.literals }
+        requires implied { ImpliedFrom (clauses_known known) trail 0 }
+        ensures { IfOk result (λ state. state.known ≡ known) }
+    {
+        let watches = watch_all(alloc, known.variables(), known.clauses())?;
+        Ok(State {
             known,
             trail,
             decisions: Vec::new(alloc),
             watches,
             propagated: 0,
-        }))
+        })
     }
 
     /// The trail.
@@ -332,8 +367,7 @@ impl State {
         ensures variables { OnOk result (seen.new.variables ≡ seen.old.variables) }
     {
         let State { known, trail, .. } = self;
-        let step = refute(alloc, known.clauses(), &trail, seen, conflict)?;
-        known.finish_with(step)
+        refute_known(alloc, known, &trail, seen, conflict)
     }
 
     /// The trail alone.

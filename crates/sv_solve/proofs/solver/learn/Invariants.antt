@@ -1,9 +1,9 @@
 use Rattle.std.proofs.Common.{◌≡◌, ◌≤◌, ◌-◌, length, min}
-use Rattle.sv_solve.proofs.solver.answer.Given as goal
+use Rattle.sv_solve.proofs.solver.learn.Given as goal
 
 abbrev pub invariant-budget : goal.invariant-budget
 invariant-budget l =
-    (l.state.known.given ≡ l.clauses) × (length l.state.known.steps ≡ l.learned)
+    (l.state.known.given ≡ l.initial.state.known.given) × (length l.state.known.steps ≡ l.learned)
     × (l.learned ≤ l.budget) × (l.state.known.variables ≡ min l.variables 2147483647)
     × (l.seen.variables ≡ l.state.known.variables)
 

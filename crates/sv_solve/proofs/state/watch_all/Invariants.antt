@@ -1,8 +1,8 @@
 use Rattle.std.proofs.Common.{◌≡◌, take}
 use Rattle.sv_solve.specs.Watching.{IsListed, IsFitting}
-use Rattle.sv_solve.proofs.state.attach_all.Given as goal
+use Rattle.sv_solve.proofs.state.watch_all.Given as goal
 
 abbrev pub invariant-clauses : goal.invariant-clauses
 invariant-clauses l =
     IsFitting (take l.clause-index l.clauses) l.watches.pairs × IsListed l.watches
-    × (l.watches.variables ≡ l.fn.watches.variables)
+    × (l.watches.variables ≡ l.variables)

@@ -1,5 +1,5 @@
 // What the solver answers.
-ghost use Rattle.std.specs.Prelude.{All, IfOk};
+ghost use Rattle.std.specs.Prelude.{◌≤◌, All, IfOk};
 ghost use Rattle.sv_solve.specs.Answers.{IsWithin};
 
 use std::alloc::Global;
@@ -23,76 +23,79 @@ fn clauses_of(alloc: Global, variables: u32, lists: &[&[i32]]) -> Result<Vec<Cla
     Ok(clauses)
 }
 
-// The values, if any were found.
-fn found(answer: &Solved) -> Option<&[bool]> {
-    match answer {
-        Solved::Found(values) => Some(values.as_slice()),
-        _ => None,
+fn answer(alloc: Global, variables: u32, lists: &[&[i32]], budget: u32) -> Result<Solved, Fail>
+    requires some { 1 ≤ budget }
+    requires most { budget ≤ 4000000000 }
+{
+    let clauses = clauses_of(alloc, variables, lists)?;
+    Ok(solve(alloc, variables, &clauses, budget)?)
+}
+
+// The values that are found.
+fn found(alloc: Global, variables: u32, lists: &[&[i32]]) -> Result<Vec<bool>, Fail> {
+    match answer(alloc, variables, lists, 5)? {
+        Solved::Found(values) => Ok(values),
+        _ => Err(Fail::from("no values")),
     }
 }
 
-// How many steps the refutation has, if it is one.
-fn refuted(answer: &Solved) -> Option<usize> {
-    match answer {
-        Solved::Refuted(log) => Some(log.steps.len()),
-        _ => None,
+// How many steps the refutation has.
+fn refuted(alloc: Global, variables: u32, lists: &[&[i32]]) -> Result<usize, Fail> {
+    match answer(alloc, variables, lists, 27)? {
+        Solved::Refuted(log) => Ok(log.steps.len()),
+        _ => Err(Fail::from("no refutation")),
     }
 }
 
-// How many steps the spent log has, if it is one.
-fn spent(answer: &Solved) -> Option<usize> {
-    match answer {
-        Solved::Spent(log) => Some(log.steps.len()),
-        _ => None,
+// How many steps the log of a spent budget of one step has.
+fn spent(alloc: Global, variables: u32, lists: &[&[i32]]) -> Result<usize, Fail> {
+    match answer(alloc, variables, lists, 1)? {
+        Solved::Spent(log) => Ok(log.steps.len()),
+        _ => Err(Fail::from("no spent log")),
     }
 }
 
 // Three of these clauses have one solution, and all four have none.
-#[test]
-fn finds_and_refutes(rt: HostRuntime) -> Result<(), Fail> {
-    let alloc = rt.alloc();
-    let three = clauses_of(alloc, 2, &[&[1, 2], &[-1, 2], &[1, -2]])?;
-    let answer = solve(alloc, 2, &three, 5)?;
-    assert_eq!(rt; found(&answer), Some([true, true].as_slice()));
-    let four = clauses_of(alloc, 2, &[&[1, 2], &[-1, 2], &[1, -2], &[-1, -2]])?;
-    let answer = solve(alloc, 2, &four, 5)?;
-    assert_eq!(rt; refuted(&answer), Some(2));
-    Ok(())
-}
+const FOUR: [&[i32]; 4] = [&[1, 2], &[-1, 2], &[1, -2], &[-1, -2]];
 
 #[test]
-fn decides_without_a_decision(rt: HostRuntime) -> Result<(), Fail> {
-    let alloc = rt.alloc();
-    let none = clauses_of(alloc, 0, &[])?;
-    let answer = solve(alloc, 0, &none, 1)?;
-    assert_eq!(rt; found(&answer), Some([].as_slice()));
-    let empty = clauses_of(alloc, 0, &[&[]])?;
-    let answer = solve(alloc, 0, &empty, 1)?;
-    assert_eq!(rt; refuted(&answer), Some(1));
-    let chain = clauses_of(alloc, 3, &[&[1], &[-1, 2], &[-2, 3], &[-2, 3], &[-3]])?;
-    let answer = solve(alloc, 3, &chain, 1)?;
-    assert_eq!(rt; refuted(&answer), Some(1));
+fn finds(rt: HostRuntime) -> Result<(), Fail> {
+    let cases: [(u32, &[&[i32]], &[bool]); 2] = [(2, &FOUR[..3], &[true, true]), (0, &[], &[])];
+    for (variables, lists, want) in cases {
+        let values = found(rt.alloc(), variables, lists)?;
+        assert_eq!(rt; values.as_slice(), want);
+    }
     Ok(())
 }
 
 // All eight clauses of three variables need more than one step before the empty one.
+const EIGHT: [&[i32]; 8] = [
+    &[1, 2, 3],
+    &[1, 2, -3],
+    &[1, -2, 3],
+    &[1, -2, -3],
+    &[-1, 2, 3],
+    &[-1, 2, -3],
+    &[-1, -2, 3],
+    &[-1, -2, -3],
+];
+
+#[test]
+fn refutes(rt: HostRuntime) -> Result<(), Fail> {
+    let cases: [(u32, &[&[i32]], usize); 3] = [
+        (2, &FOUR, 2),
+        (0, &[&[]], 1),
+        (3, &[&[1], &[-1, 2], &[-2, 3], &[-2, 3], &[-3]], 1),
+    ];
+    for (variables, lists, want) in cases {
+        assert_eq!(rt; refuted(rt.alloc(), variables, lists)?, want);
+    }
+    assert!(rt; refuted(rt.alloc(), 3, &EIGHT)? > 2);
+    Ok(())
+}
+
 #[test]
 fn spends_its_budget(rt: HostRuntime) -> Result<(), Fail> {
-    let alloc = rt.alloc();
-    let lists: [&[i32]; 8] = [
-        &[1, 2, 3],
-        &[1, 2, -3],
-        &[1, -2, 3],
-        &[1, -2, -3],
-        &[-1, 2, 3],
-        &[-1, 2, -3],
-        &[-1, -2, 3],
-        &[-1, -2, -3],
-    ];
-    let clauses = clauses_of(alloc, 3, &lists)?;
-    let answer = solve(alloc, 3, &clauses, 1)?;
-    assert_eq!(rt; spent(&answer), Some(1));
-    let answer = solve(alloc, 3, &clauses, 27)?;
-    assert!(rt; refuted(&answer).is_some());
+    assert_eq!(rt; spent(rt.alloc(), 3, &EIGHT)?, 1);
     Ok(())
 }

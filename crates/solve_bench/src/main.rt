@@ -88,22 +88,31 @@ fn read_instances(rt: &impl Input, alloc: Global) -> Result<Vec<Instance>> {
     let mut literals: Vec<i32> = Vec::new(alloc);
     'lines: for line in BufReader::new(alloc, rt.reader())?.lines(alloc) {
         let line = line?;
-        let text = line.as_str();
-        if text.starts_with('c') {
-            continue 'lines;
-        }
-        if text.starts_with('p') {
-            ensure!(literals.is_empty(), "a clause has no end");
-            instances
-                .push(begin_instance(alloc, text)?)
-                .map_err(AllocError::from)?;
-            continue 'lines;
-        }
-        let instance = instances.last_mut().context("no line p cnf stands first")?;
-        read_line(alloc, text, &mut literals, &mut instance.clauses)?;
+        read_line(alloc, line.as_str(), &mut literals, &mut instances)?;
     }
     ensure!(literals.is_empty(), "a clause has no end");
     Ok(instances)
+}
+
+// Reads one line: a comment, the first line of an instance, or literals.
+fn read_line(
+    alloc: Global,
+    text: &str,
+    literals: &mut Vec<i32>,
+    instances: &mut Vec<Instance>,
+) -> Result<()> {
+    if text.starts_with('c') {
+        return Ok(());
+    }
+    if text.starts_with('p') {
+        ensure!(literals.is_empty(), "a clause has no end");
+        instances
+            .push(begin_instance(alloc, text)?)
+            .map_err(AllocError::from)?;
+        return Ok(());
+    }
+    let instance = instances.last_mut().context("no line p cnf stands first")?;
+    read_literals(alloc, text, literals, &mut instance.clauses)
 }
 
 // The instance of a line `p cnf VARIABLES CLAUSES`, with no clause yet.
@@ -120,7 +129,7 @@ fn begin_instance(alloc: Global, text: &str) -> Result<Instance> {
 }
 
 // Reads the literals of one line, after those of a clause that began before it.
-fn read_line(
+fn read_literals(
     alloc: Global,
     text: &str,
     literals: &mut Vec<i32>,

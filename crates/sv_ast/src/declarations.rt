@@ -132,10 +132,10 @@ impl Copied for Decl {
         Ok(Decl {
             kind: self.kind,
             signed: self.signed,
-            span: self.span.copy(alloc)?,
-            label: self.label.copy(alloc)?,
             name: self.name.copy(alloc)?,
             place: self.place,
+            label: self.label.copy(alloc)?,
+            span: self.span.copy(alloc)?,
             value: self.value.copy(alloc)?,
         })
     }
@@ -150,10 +150,10 @@ impl Copied for Param {
         Ok(Param {
             local: self.local,
             signed: self.signed,
-            span: self.span.copy(alloc)?,
             name: self.name.copy(alloc)?,
             place: self.place,
             value: self.value.copy(alloc)?,
+            span: self.span.copy(alloc)?,
         })
     }
 }
@@ -179,10 +179,10 @@ impl Copied for Memory {
     fn copy(&self, alloc: Global) -> Result<Memory, AllocError> {
         Ok(Memory {
             signed: self.signed,
-            span: self.span.copy(alloc)?,
-            label: self.label.copy(alloc)?,
             name: self.name.copy(alloc)?,
             place: self.place,
+            label: self.label.copy(alloc)?,
+            span: self.span.copy(alloc)?,
             first: self.first,
             last: self.last,
         })

@@ -1,11 +1,13 @@
 // Modules and whole texts.
-ghost use Rattle.std.specs.Prelude.{◌≡◌, IfOk};
+ghost use Rattle.std.specs.Prelude.{◌≡◌, map, IfOk};
+ghost use Rattle.std.specs.Option.{option_map};
 ghost use Rattle.sv_ast.specs.Shape.{is_shaped_override, are_shaped_overrides, is_shaped_link};
 ghost use Rattle.sv_ast.specs.Shape.{are_shaped_links, is_shaped_instance};
 ghost use Rattle.sv_ast.specs.Shape.{is_shaped_item, is_shaped_module, is_shaped_map, is_shaped};
 ghost use Rattle.sv_ast.specs.Tree.{PlacedName, NamedOverride, OverrideTrees, NamedLink, LinkTrees};
-ghost use Rattle.sv_ast.specs.Tree.{InstanceTree, ItemTree};
+ghost use Rattle.sv_ast.specs.Tree.{InstanceTree, ItemTree, continuous, released, always_item};
 ghost use Rattle.sv_ast.specs.Tree.{ModuleTree, PairTree, LatticeTree, RowTree, MapTree};
+ghost use Rattle.sv_ast.specs.Views.{expression_tree, target_tree, statement_tree};
 ghost use Rattle.sv_ast.specs.Views.{placed_name, named_override, override_trees, named_link};
 ghost use Rattle.sv_ast.specs.Views.{link_trees, instance_tree, item_tree};
 ghost use Rattle.sv_ast.specs.Views.{module_tree, pair_tree, lattice_tree, row_tree, map_tree};
@@ -237,6 +239,64 @@ impl Copied for Instance {
     }
 }
 
+// A second `assign` that is equal.
+fn assign_copy(
+    targets: &Vec<Target>,
+    place: Place,
+    value: &Expr,
+    alloc: Global,
+) -> Result<Item, AllocError>
+    ensures { IfOk result (λ copy.
+        item_tree copy ≡ continuous (map target_tree targets.now.items) place
+        (expression_tree value.now)) }
+{
+    Ok(Item::Assign {
+        targets: targets.copy(alloc)?,
+        place,
+        value: value.copy(alloc)?,
+    })
+}
+
+// A second `assign` of a released value that is equal.
+fn release_copy(
+    target: &Name,
+    place: Place,
+    value: &Expr,
+    point: &Name,
+    point_place: Place,
+    alloc: Global,
+) -> Result<Item, AllocError>
+    ensures { IfOk result (λ copy.
+        item_tree copy ≡ released (placed_name (target.now, place)) (expression_tree value.now)
+        (placed_name (point.now, point_place))) }
+{
+    Ok(Item::Release {
+        target: target.copy(alloc)?,
+        place,
+        point: point.copy(alloc)?,
+        point_place,
+        value: value.copy(alloc)?,
+    })
+}
+
+// A second `always` that is equal.
+fn always_copy(
+    place: Place,
+    clock: &Option<(Name, Place)>,
+    body: &Stmt,
+    alloc: Global,
+) -> Result<Item, AllocError>
+    ensures { IfOk result (λ copy.
+        item_tree copy ≡ always_item place (option_map placed_name clock.now)
+        (statement_tree body.now)) }
+{
+    Ok(Item::Always {
+        place,
+        clock: clock.copy(alloc)?,
+        body: body.copy(alloc)?,
+    })
+}
+
 impl Copied for Item {
     ghost Form = { ItemTree };
 
@@ -251,29 +311,15 @@ impl Copied for Item {
                 targets,
                 place,
                 value,
-            } => Ok(Item::Assign {
-                targets: targets.copy(alloc)?,
-                place: *place,
-                value: value.copy(alloc)?,
-            }),
+            } => assign_copy(targets, *place, value, alloc),
             Item::Release {
                 target,
                 place,
                 value,
                 point,
                 point_place,
-            } => Ok(Item::Release {
-                target: target.copy(alloc)?,
-                place: *place,
-                value: value.copy(alloc)?,
-                point: point.copy(alloc)?,
-                point_place: *point_place,
-            }),
-            Item::Always { place, clock, body } => Ok(Item::Always {
-                place: *place,
-                clock: clock.copy(alloc)?,
-                body: body.copy(alloc)?,
-            }),
+            } => release_copy(target, *place, value, point, *point_place, alloc),
+            Item::Always { place, clock, body } => always_copy(*place, clock, body, alloc),
             Item::Invariant(place, expr) => Ok(Item::Invariant(*place, expr.copy(alloc)?)),
             Item::Instance(instance) => Ok(Item::Instance(instance.copy(alloc)?)),
         }

@@ -5,8 +5,9 @@ ghost use Rattle.sv_ast.specs.Shape.{is_whole, is_whole_target, is_shaped_select
 ghost use Rattle.sv_ast.specs.Shape.{is_shaped_target, are_shaped_targets, are_whole_targets};
 ghost use Rattle.sv_ast.specs.Shape.{is_shaped_statement, are_shaped_statements, has_arm};
 ghost use Rattle.sv_ast.specs.Shape.{default_count, are_shaped_arms};
-ghost use Rattle.sv_ast.specs.Tree.{Selection, TargetTree, StatementTree};
-ghost use Rattle.sv_ast.specs.Views.{selection_of, target_tree, statement_tree, statement_trees};
+ghost use Rattle.sv_ast.specs.Tree.{Selection, TargetTree, StatementTree, assignment};
+ghost use Rattle.sv_ast.specs.Views.{expression_tree, selection_of, target_tree, statement_tree};
+ghost use Rattle.sv_ast.specs.Views.{statement_trees};
 ghost use Rattle.sv_ast.specs.Views.{statements_of, arm_tree, arm_trees, arms_of};
 
 use crate::copies::Copied;
@@ -116,12 +117,7 @@ impl Stmt {
                 place,
                 blocking,
                 value,
-            } => Ok(Stmt::Assign {
-                targets: targets.copy(alloc)?,
-                place: *place,
-                blocking: *blocking,
-                value: value.copy(alloc)?,
-            }),
+            } => assign_copy(targets, *place, *blocking, value, alloc),
             Stmt::Block(stmts) => Ok(Stmt::Block(copies(stmts, alloc)?)),
             Stmt::If {
                 place,
@@ -148,6 +144,26 @@ impl Stmt {
             }),
         }
     }
+}
+
+// A second assignment that is equal.
+fn assign_copy(
+    targets: &Vec<Target>,
+    place: Place,
+    blocking: bool,
+    value: &Expr,
+    alloc: Global,
+) -> Result<Stmt, AllocError>
+    ensures { IfOk result (λ copy.
+        statement_tree copy ≡ assignment (map target_tree targets.now.items) place blocking
+        (expression_tree value.now)) }
+{
+    Ok(Stmt::Assign {
+        targets: targets.copy(alloc)?,
+        place,
+        blocking,
+        value: value.copy(alloc)?,
+    })
 }
 
 // A copy in a box of its own.

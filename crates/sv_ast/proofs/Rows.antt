@@ -91,13 +91,12 @@ row_arms-hidden v =
     row_arms-items _ (hidden-the_row-Arm-1 v)
     ∙ ap (λ arms. arms_of (arm_trees arms)) (items_hidden-the_row-Arm-1 v)
 
--- so vectors with equal plain forms give equal cases, where the selectors are equal too
-pub same_cases :
-    (place : Place) (v w : Vec Arm Global) (a b : ExpressionTree) →
+-- so a vector gives the case of its arms, where the selectors are equal too
+pub case_is :
+    (place : Place) (v : Vec Arm Global) (a b : ExpressionTree) →
     a ≡ b →
-    arm_trees v.items ≡ arm_trees w.items →
     case_of place a (row_arms (hidden-the_row-Arm-1 v)) ≡
-    case_of place b (row_arms (hidden-the_row-Arm-1 w))
-same_cases place v w a b selector same =
+    case_of place b (arms_of (arm_trees v.items))
+case_is place v a b selector =
     ap (λ e. case_of place e (row_arms (hidden-the_row-Arm-1 v))) selector
-    ∙ ap (case_of place b) (row_arms-hidden v ∙ ap arms_of same ∙ sym (row_arms-hidden w))
+    ∙ ap (case_of place b) (row_arms-hidden v)

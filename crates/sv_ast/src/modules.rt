@@ -379,10 +379,10 @@ impl Copied for MapText {
         Ok(MapText {
             name: self.name.copy(alloc)?,
             place: self.place,
+            other: self.other.copy(alloc)?,
+            rows: self.rows.copy(alloc)?,
             span: self.span.copy(alloc)?,
             second: self.second.copy(alloc)?,
-            rows: self.rows.copy(alloc)?,
-            other: self.other.copy(alloc)?,
         })
     }
 }

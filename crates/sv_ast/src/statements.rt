@@ -5,7 +5,8 @@ ghost use Rattle.sv_ast.specs.Shape.{is_whole, is_whole_target, is_shaped_select
 ghost use Rattle.sv_ast.specs.Shape.{is_shaped_target, are_shaped_targets, are_whole_targets};
 ghost use Rattle.sv_ast.specs.Shape.{is_shaped_statement, are_shaped_statements, has_arm};
 ghost use Rattle.sv_ast.specs.Shape.{default_count, are_shaped_arms};
-ghost use Rattle.sv_ast.specs.Tree.{Selection, TargetTree, StatementTree, assignment};
+ghost use Rattle.sv_ast.specs.Tree.{Selection, TargetTree, StatementTree, assignment, if_only};
+ghost use Rattle.sv_ast.specs.Tree.{if_else, case_of};
 ghost use Rattle.sv_ast.specs.Views.{expression_tree, selection_of, target_tree, statement_tree};
 ghost use Rattle.sv_ast.specs.Views.{statement_trees};
 ghost use Rattle.sv_ast.specs.Views.{statements_of, arm_tree, arm_trees, arms_of};
@@ -123,25 +124,29 @@ impl Stmt {
                 place,
                 cond,
                 yes,
-                no,
-            } => Ok(Stmt::If {
-                place: *place,
-                cond: cond.copy(alloc)?,
-                yes: boxed(yes, alloc)?,
-                no: match no {
-                    Some(no) => Some(boxed(no, alloc)?),
-                    None => None,
-                },
-            }),
+                no: None,
+            } => {
+                let yes = boxed(yes, alloc)?;
+                if_of(*place, cond, yes, alloc)
+            }
+            Stmt::If {
+                place,
+                cond,
+                yes,
+                no: Some(no),
+            } => {
+                let yes = boxed(yes, alloc)?;
+                let no = boxed(no, alloc)?;
+                if_else_of(*place, cond, yes, no, alloc)
+            }
             Stmt::Case {
                 place,
                 selector,
                 arms,
-            } => Ok(Stmt::Case {
-                place: *place,
-                selector: selector.copy(alloc)?,
-                arms: arm_copies(arms, alloc)?,
-            }),
+            } => {
+                let arms = arm_copies(arms, alloc)?;
+                case_of(*place, selector, arms, alloc)
+            }
         }
     }
 }
@@ -163,6 +168,52 @@ fn assign_copy(
         place,
         blocking,
         value: value.copy(alloc)?,
+    })
+}
+
+// An `if` without `else`, with a copy of its condition.
+fn if_of(place: Place, cond: &Expr, yes: Box<Stmt>, alloc: Global) -> Result<Stmt, AllocError>
+    ensures { IfOk result (λ stmt.
+        statement_tree stmt ≡ if_only place (expression_tree cond.now) (statement_tree yes.value)) }
+{
+    Ok(Stmt::If {
+        place,
+        cond: cond.copy(alloc)?,
+        yes,
+        no: None,
+    })
+}
+
+// An `if` with its `else`, with a copy of its condition.
+fn if_else_of(
+    place: Place,
+    cond: &Expr,
+    yes: Box<Stmt>,
+    no: Box<Stmt>,
+    alloc: Global,
+) -> Result<Stmt, AllocError>
+    ensures { IfOk result (λ stmt.
+        statement_tree stmt ≡ if_else place (expression_tree cond.now) (statement_tree yes.value)
+        (statement_tree no.value)) }
+{
+    Ok(Stmt::If {
+        place,
+        cond: cond.copy(alloc)?,
+        yes,
+        no: Some(no),
+    })
+}
+
+// A `case`, with a copy of its selector.
+fn case_of(place: Place, selector: &Expr, arms: Vec<Arm>, alloc: Global) -> Result<Stmt, AllocError>
+    ensures { IfOk result (λ stmt.
+        statement_tree stmt ≡ case_of place (expression_tree selector.now)
+        (arms_of (arm_trees arms.items))) }
+{
+    Ok(Stmt::Case {
+        place,
+        selector: selector.copy(alloc)?,
+        arms,
     })
 }
 

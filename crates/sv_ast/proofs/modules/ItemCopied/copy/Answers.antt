@@ -19,7 +19,8 @@ returns-in_ok-copy-in-Memory c =
 
 pub returns-in_ok-copy-in-Invariant : goal.returns-in_ok-copy-in-Invariant
 returns-in_ok-copy-in-Invariant c =
-    ap (invariant_item c.in-Invariant.place) c.in_ok-copy-in-Invariant.ensures ∙ ap item_tree (sym c.in-Invariant.is)
+    ap (invariant_item c.in-Invariant.place) c.in_ok-copy-in-Invariant.ensures
+    ∙ ap item_tree (sym c.in-Invariant.is)
 
 pub returns-in_ok-copy-in-Instance : goal.returns-in_ok-copy-in-Instance
 returns-in_ok-copy-in-Instance c =
@@ -27,15 +28,15 @@ returns-in_ok-copy-in-Instance c =
 
 pub returns-in-Assign : goal.returns-in-Assign
 returns-in-Assign c =
-    subst (λ (i : Item). IfOk c.assign_copy.result (λ copy. item_tree copy ≡ item_tree i)) (sym c.in-Assign.is)
-    c.assign_copy.ensures
+    subst (λ (i : Item). IfOk c.assign_copy.result (λ copy. item_tree copy ≡ item_tree i))
+    (sym c.in-Assign.is) c.assign_copy.ensures
 
 pub returns-in-Release : goal.returns-in-Release
 returns-in-Release c =
-    subst (λ (i : Item). IfOk c.release_copy.result (λ copy. item_tree copy ≡ item_tree i)) (sym c.in-Release.is)
-    c.release_copy.ensures
+    subst (λ (i : Item). IfOk c.release_copy.result (λ copy. item_tree copy ≡ item_tree i))
+    (sym c.in-Release.is) c.release_copy.ensures
 
 pub returns-in-Always : goal.returns-in-Always
 returns-in-Always c =
-    subst (λ (i : Item). IfOk c.always_copy.result (λ copy. item_tree copy ≡ item_tree i)) (sym c.in-Always.is)
-    c.always_copy.ensures
+    subst (λ (i : Item). IfOk c.always_copy.result (λ copy. item_tree copy ≡ item_tree i))
+    (sym c.in-Always.is) c.always_copy.ensures

@@ -1,4 +1,4 @@
--- An expression that is nested by levels is read from its tokens.
+-- An expression that is nested by precedence is read from its tokens.
 use Rattle.std.proofs.Common.{◌≡◌, ℕ, zero, suc, ◌+◌, ◌-◌, ◌<◌, ◌≤◌, Bool, true, false, ◌&&◌, eqb}
 use Rattle.std.proofs.Common.{leb, ltb, List, [], ◌∷◌, ◌++◌, length, map, Option, Some, None, refl}
 use Rattle.std.proofs.Common.{sym, ap, subst, ◌∙◌, append_assoc, arith, add-one}
@@ -11,8 +11,9 @@ use Rattle.sv_num.specs.declared.operators.BinOp.{BinOp}
 use Rattle.sv_num.specs.declared.operators.BinOp.TheVariants as binop
 use Rattle.sv_first_ast.specs.Tree.{ExpressionTree, named, unary, binary}
 use Rattle.sv_first_ast.specs.Form.{reads}
-use Rattle.sv_first_ast.specs.Spelling.{first_signs, is_name, is_token, binary_sign, binary_level}
-use Rattle.sv_first_ast.specs.Spelling.{expression_tokens, level, is_nested, is_expression}
+use Rattle.sv_first_ast.specs.Spelling.{first_signs, is_name, is_token, binary_sign}
+use Rattle.sv_first_ast.specs.Spelling.{binary_precedence, expression_tokens, precedence}
+use Rattle.sv_first_ast.specs.Spelling.{is_nested, is_expression}
 use Rattle.sv_first.specs.declared.token.TokenKind.{TokenKind}
 use Rattle.sv_first.specs.declared.token.TokenKind.TheVariants as kinds
 use Rattle.sv_first.specs.Tokens.{Lexeme}
@@ -114,21 +115,22 @@ all_right p [] ys h = h
 all_right p (x ∷ xs) ys h = all_right p xs ys (and_parts (p x) (list_all p (xs ++ ys)) h).1
 
 record Operands (op : BinOp) (a b : ExpressionTree) : Type 0 where
-  left_level : level a ≤ binary_level op
-  right_level : level b < binary_level op
+  left_precedence : precedence a ≤ binary_precedence op
+  right_precedence : precedence b < binary_precedence op
   left : IsSpelled a
   right : IsSpelled b
 
 operands : (op : BinOp) (a b : ExpressionTree) → IsSpelled (binary op a b) → Operands op a b
 operands op a b h =
-    let p = and_parts (leb (level a) (binary_level op) && ltb (level b) (binary_level op)
-    && is_nested a) (is_nested b) h.nested in
-    let q = and_parts (leb (level a) (binary_level op) && ltb (level b) (binary_level op))
-    (is_nested a) p.0 in
-    let r = and_parts (leb (level a) (binary_level op)) (ltb (level b) (binary_level op)) q.0 in
+    let p = and_parts (leb (precedence a) (binary_precedence op)
+    && ltb (precedence b) (binary_precedence op) && is_nested a) (is_nested b) h.nested in
+    let q = and_parts (leb (precedence a) (binary_precedence op)
+    && ltb (precedence b) (binary_precedence op)) (is_nested a) p.0 in
+    let r = and_parts (leb (precedence a) (binary_precedence op))
+    (ltb (precedence b) (binary_precedence op)) q.0 in
     record {
-      left_level = leb-true (level a) (binary_level op) r.0;
-      right_level = ltb-true (level b) (binary_level op) r.1;
+      left_precedence = leb-true (precedence a) (binary_precedence op) r.0;
+      right_precedence = ltb-true (precedence b) (binary_precedence op) r.1;
       left =
           record {
             nested = q.1;
@@ -150,12 +152,12 @@ inverted_suc : (k : ℕ) (e : ExpressionTree) → inverted (suc k) e ≡ inverte
 inverted_suc zero e = refl
 inverted_suc (suc k) e = ap (λ (t : ExpressionTree). unary unop.Invert t) (inverted_suc k e)
 
-operand_leads : (e : ExpressionTree) → IsSpelled e → level e ≡ 0 → (l : Left) (k : ℕ) →
+operand_leads : (e : ExpressionTree) → IsSpelled e → precedence e ≡ 0 → (l : Left) (k : ℕ) →
     Leads (expression_tokens e) (before l k) (behind l (inverted k e))
 unfolding first_signs
 operand_leads (named n) h low l k = name_leads l k n (and_parts (is_name n) true h.names).0
 operand_leads (unary unop.Invert e) h low l k =
-    let p = and_parts (eqb (level e) 0) (is_nested e) h.nested in
+    let p = and_parts (eqb (precedence e) 0) (is_nested e) h.nested in
     let inner : IsSpelled e =
     record {
       nested = p.1;
@@ -164,24 +166,24 @@ operand_leads (unary unop.Invert e) h low l k =
     } in
     let after = then_leads (codes "~" ∷ []) (expression_tokens e) (before l k) (before l (suc k))
     (behind l (inverted (suc k) e)) (invert_leads l k)
-    (operand_leads e inner (eqb-true (level e) 0 p.0) l (suc k)) in
+    (operand_leads e inner (eqb-true (precedence e) 0 p.0) l (suc k)) in
     subst (λ (t : ExpressionTree).
     Leads (codes "~" ∷ expression_tokens e) (before l k) (behind l t)) (inverted_suc k e) after
 operand_leads (unary _ e) h low l k = absurd (false≢true h.tokens)
 operand_leads (binary op a b) h low l k =
-    let o = operands op a b h in absurd (omega (arith, o.right_level))
+    let o = operands op a b h in absurd (omega (arith, o.right_precedence))
 
--- no level stands between that of operands and that of `&`
-low_operator : (op : BinOp) → binary_level op < 6 → binary_level op ≡ 0
+-- no precedence stands between that of operands and that of `&`
+low_operator : (op : BinOp) → binary_precedence op < 6 → binary_precedence op ≡ 0
 low_operator binop.And lt = omega arith
 low_operator binop.Xor lt = omega arith
 low_operator binop.Or lt = omega arith
 low_operator _ lt = refl
 
-low_level : (e : ExpressionTree) → level e < 6 → level e ≡ 0
-low_level (named n) lt = refl
-low_level (unary op e) lt = refl
-low_level (binary op a b) lt = low_operator op lt
+low_precedence : (e : ExpressionTree) → precedence e < 6 → precedence e ≡ 0
+low_precedence (named n) lt = refl
+low_precedence (unary op e) lt = refl
+low_precedence (binary op a b) lt = low_operator op lt
 
 -- ---- what `&` joins
 
@@ -193,7 +195,7 @@ record EndsAnd (o x : Option ExpressionTree) (e : ExpressionTree) : Type 0 where
   leads : Leads (expression_tokens e) (before (record { of_or = o; of_xor = x; of_and = None }) 0)
       (behind (record { of_or = o; of_xor = x; of_and = left }) last)
 
-one_operand : (o x : Option ExpressionTree) (e : ExpressionTree) → IsSpelled e → level e ≡ 0 →
+one_operand : (o x : Option ExpressionTree) (e : ExpressionTree) → IsSpelled e → precedence e ≡ 0 →
     EndsAnd o x e
 one_operand o x e h low =
     record {
@@ -203,20 +205,20 @@ one_operand o x e h low =
       leads = operand_leads e h low (record { of_or = o; of_xor = x; of_and = None }) 0;
     }
 
-and_ends : (o x : Option ExpressionTree) (e : ExpressionTree) → IsSpelled e → level e ≤ 6 →
+and_ends : (o x : Option ExpressionTree) (e : ExpressionTree) → IsSpelled e → precedence e ≤ 6 →
     EndsAnd o x e
 and_ends o x (named n) h low = one_operand o x (named n) h refl
 and_ends o x (unary op e) h low = one_operand o x (unary op e) h refl
 and_ends o x (binary binop.And a b) h low =
     let p = operands binop.And a b h in
-    let r = and_ends o x a p.left p.left_level in
+    let r = and_ends o x a p.left p.left_precedence in
     let l : Left = record { of_or = o; of_xor = x; of_and = r.left } in
     let m : Left = record { of_or = o; of_xor = x; of_and = Some a } in
     let P : ExpressionTree → Type 0 =
     λ t. Leads (codes "&" ∷ []) (behind l r.last)
     (before (record { of_or = o; of_xor = x; of_and = Some t }) 0) in
     let sign : P a = subst P r.all (and_leads l r.last) in
-    let right = operand_leads b p.right (low_level b p.right_level) m 0 in
+    let right = operand_leads b p.right (low_precedence b p.right_precedence) m 0 in
     record {
       left = Some a;
       last = b;
@@ -230,7 +232,7 @@ and_ends o x (binary binop.And a b) h low =
 and_ends o x (binary binop.Xor a b) h low = absurd (omega arith)
 and_ends o x (binary binop.Or a b) h low = absurd (omega arith)
 and_ends o x (binary _ a b) h low =
-    let p = operands _ a b h in absurd (omega (arith, p.right_level))
+    let p = operands _ a b h in absurd (omega (arith, p.right_precedence))
 
 -- ---- what `^` joins
 
@@ -246,7 +248,7 @@ record EndsXor (o : Option ExpressionTree) (e : ExpressionTree) : Type 0 where
 one_and : (o : Option ExpressionTree) (e : ExpressionTree) → EndsAnd o None e → EndsXor o e
 one_and o e r = record { first = None; left = r.left; last = r.last; all = r.all; leads = r.leads }
 
-xor_ends : (o : Option ExpressionTree) (e : ExpressionTree) → IsSpelled e → level e ≤ 7 →
+xor_ends : (o : Option ExpressionTree) (e : ExpressionTree) → IsSpelled e → precedence e ≤ 7 →
     EndsXor o e
 xor_ends o (named n) h low = one_and o (named n) (and_ends o None (named n) h (omega arith))
 xor_ends o (unary op e) h low =
@@ -255,13 +257,13 @@ xor_ends o (binary binop.And a b) h low =
     one_and o (binary binop.And a b) (and_ends o None (binary binop.And a b) h (omega arith))
 xor_ends o (binary binop.Xor a b) h low =
     let p = operands binop.Xor a b h in
-    let r = xor_ends o a p.left p.left_level in
+    let r = xor_ends o a p.left p.left_precedence in
     let l : Left = record { of_or = o; of_xor = r.first; of_and = r.left } in
     let P : ExpressionTree → Type 0 =
     λ t. Leads (codes "^" ∷ []) (behind l r.last)
     (before (record { of_or = o; of_xor = Some t; of_and = None }) 0) in
     let sign : P a = subst P r.all (xor_leads l r.last) in
-    let right = and_ends o (Some a) b p.right (omega (arith, p.right_level)) in
+    let right = and_ends o (Some a) b p.right (omega (arith, p.right_precedence)) in
     let m : Left = record { of_or = o; of_xor = Some a; of_and = right.left } in
     record {
       first = Some a;
@@ -275,7 +277,8 @@ xor_ends o (binary binop.Xor a b) h low =
           (behind m right.last) sign right.leads);
     }
 xor_ends o (binary binop.Or a b) h low = absurd (omega arith)
-xor_ends o (binary _ a b) h low = let p = operands _ a b h in absurd (omega (arith, p.right_level))
+xor_ends o (binary _ a b) h low =
+    let p = operands _ a b h in absurd (omega (arith, p.right_precedence))
 
 -- ---- what `|` joins
 
@@ -308,7 +311,7 @@ or_ends (binary binop.Or a b) h =
     λ t. Leads (codes "|" ∷ []) (behind r.top r.last)
     (before (record { of_or = Some t; of_xor = None; of_and = None }) 0) in
     let sign : P a = subst P r.all (or_leads r.top r.last) in
-    let right = xor_ends (Some a) b p.right (omega (arith, p.right_level)) in
+    let right = xor_ends (Some a) b p.right (omega (arith, p.right_precedence)) in
     let m : Left = record { of_or = Some a; of_xor = right.first; of_and = right.left } in
     record {
       top = m;
@@ -320,7 +323,7 @@ or_ends (binary binop.Or a b) h =
           (then_leads (codes "|" ∷ []) (expression_tokens b) (behind r.top r.last) _
           (behind m right.last) sign right.leads);
     }
-or_ends (binary _ a b) h = let p = operands _ a b h in absurd (omega (arith, p.right_level))
+or_ends (binary _ a b) h = let p = operands _ a b h in absurd (omega (arith, p.right_precedence))
 
 -- ---- the whole
 

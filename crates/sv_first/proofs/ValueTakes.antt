@@ -1,4 +1,4 @@
--- An expression that is read is spelled by the tokens that were read, and nested by levels.
+-- An expression that is read is spelled by the tokens that were read, and nested by precedence.
 use Rattle.std.proofs.Common.{◌≡◌, ℕ, zero, suc, ◌+◌, ◌<◌, ◌≤◌, Bool, true, false, List, [], ◌∷◌}
 use Rattle.std.proofs.Common.{◌++◌, length, Option, Some, None, refl, sym, ap, subst, ◌∙◌}
 use Rattle.std.proofs.Common.{append_assoc, arith, add-one}
@@ -10,8 +10,8 @@ use Rattle.sv_num.specs.declared.operators.BinOp.{BinOp}
 use Rattle.sv_num.specs.declared.operators.BinOp.TheVariants as binop
 use Rattle.sv_first_ast.specs.Tree.{ExpressionTree, named}
 use Rattle.sv_first_ast.specs.Form.{reads}
-use Rattle.sv_first_ast.specs.Spelling.{is_name, binary_sign, binary_level, expression_tokens}
-use Rattle.sv_first_ast.specs.Spelling.{level, is_nested, is_expression}
+use Rattle.sv_first_ast.specs.Spelling.{is_name, binary_sign, binary_precedence, expression_tokens}
+use Rattle.sv_first_ast.specs.Spelling.{precedence, is_nested, is_expression}
 use Rattle.sv_first.specs.declared.token.TokenKind.{TokenKind}
 use Rattle.sv_first.specs.declared.token.TokenKind.TheVariants as kinds
 use Rattle.sv_first.specs.Tokens.{Lexeme, IsLexed, AreLexed, texts_of}
@@ -23,10 +23,10 @@ use Rattle.sv_first.proofs.KindLaws.{kinds_are_one, Spells, kind_spells}
 use Rattle.sv_first.proofs.TokenLaws.{Takes, bind_some, some_is}
 use Rattle.sv_first.proofs.ValueSteps.{at_semicolon, at_limit, at_token, at_nothing}
 
--- the expression is of names, nested, with an operator of at most this level at the top
+-- the expression is of names, nested, with an operator of at most this precedence at the top
 pub record IsUpTo (n : ℕ) (e : ExpressionTree) : Type 0 where
   pub nested : is_nested e ≡ true
-  pub level_is : level e ≤ n
+  pub precedence_is : precedence e ≤ n
   pub names : list_all is_name (reads e) ≡ true
 
 -- the same of what stands left of an operator, if anything does
@@ -74,10 +74,10 @@ inverted_is : (n : ℕ) (e : ExpressionTree) → IsUpTo 0 e → IsUpTo 0 (invert
 inverted_is zero e h = h
 inverted_is (suc n) e h =
     let r = inverted_is n e h in
-    let zero_level : level (inverted n e) ≡ 0 = omega (arith, r.level_is) in
+    let zero_precedence : precedence (inverted n e) ≡ 0 = omega (arith, r.precedence_is) in
     record {
-      nested = and_from _ _ (rw zero_level refl) r.nested;
-      level_is = omega arith;
+      nested = and_from _ _ (rw zero_precedence refl) r.nested;
+      precedence_is = omega arith;
       names = r.names;
     }
 
@@ -86,19 +86,25 @@ inverted_tokens : (n : ℕ) (t : List ℕ) →
 inverted_tokens zero t = refl
 inverted_tokens (suc n) t = ap (λ (ts : List (List ℕ)). codes "~" ∷ ts) (inverted_tokens n t)
 
--- an operator between operands of levels that go under it
+-- an operator between operands of precedences that go under it
 joined_is : (op : BinOp) (n m : ℕ) (o : Option ExpressionTree) (e : ExpressionTree) →
-    binary_level op ≡ n → m < n → IsLeftUpTo n o → IsUpTo m e → IsUpTo n (joined op o e)
+    binary_precedence op ≡ n → m < n → IsLeftUpTo n o → IsUpTo m e → IsUpTo n (joined op o e)
 joined_is op n m None e is lt left right =
-    record { nested = right.nested; level_is = omega (arith, right.level_is); names = right.names }
+    record {
+      nested = right.nested;
+      precedence_is = omega (arith, right.precedence_is);
+      names = right.names;
+    }
 joined_is op n m (Some a) e is lt left right =
     record {
       nested =
           and_from _ _ (and_from _ _
-          (and_from _ _ (le-leb (level a) (binary_level op) (omega (arith, left.level_is)))
-          (lt-ltb (level e) (binary_level op) (omega (arith, right.level_is)))) left.nested)
+          (and_from _ _
+          (le-leb (precedence a) (binary_precedence op) (omega (arith, left.precedence_is)))
+          (lt-ltb (precedence e) (binary_precedence op) (omega (arith, right.precedence_is))))
+          left.nested)
           right.nested;
-      level_is = omega arith;
+      precedence_is = omega arith;
       names = list_all-append (reads a) (reads e) left.names right.names;
     }
 
@@ -170,7 +176,7 @@ operand_takes l n kinds.Name w t spells left e =
     let name : IsUpTo 0 (named w) =
     record {
       nested = refl;
-      level_is = omega arith;
+      precedence_is = omega arith;
       names = and_from (is_name w) _ (spells.name refl) refl;
     } in
     let next : Steps (before l n) (behind l (inverted n (named w))) w =

@@ -123,32 +123,32 @@ binary_sign binop.Xor = codes "^"
 binary_sign binop.Or = codes "|"
 binary_sign _ = []
 
--- an operator of a lower level binds tighter (clause 5.1.2)
-abbrev pub binary_level : BinOp → ℕ
-binary_level binop.And = 6
-binary_level binop.Xor = 7
-binary_level binop.Or = 8
-binary_level _ = 0
+-- the precedence of a binary operator, where a lower one binds tighter (clause 5.1.2)
+abbrev pub binary_precedence : BinOp → ℕ
+binary_precedence binop.And = 6
+binary_precedence binop.Xor = 7
+binary_precedence binop.Or = 8
+binary_precedence _ = 0
 
 abbrev pub expression_tokens : ExpressionTree → List (List ℕ)
 expression_tokens (named n) = n ∷ []
 expression_tokens (unary op e) = unary_sign op ∷ expression_tokens e
 expression_tokens (binary op a b) = expression_tokens a ++ binary_sign op ∷ expression_tokens b
 
--- the level of the operator at the top; names and unary operators bind tightest
-abbrev pub level : ExpressionTree → ℕ
-level (binary op a b) = binary_level op
-level _ = 0
+-- the precedence of the operator at the top; names and unary operators bind tightest
+abbrev pub precedence : ExpressionTree → ℕ
+precedence (binary op a b) = binary_precedence op
+precedence _ = 0
 
--- binary operators are nested by levels, those of one level to the left
+-- binary operators are nested by precedence, those of one precedence to the left
 abbrev pub is_nested : ExpressionTree → Bool
 is_nested (named n) = true
-is_nested (unary op e) = nat_eq (level e) 0 && is_nested e
+is_nested (unary op e) = nat_eq (precedence e) 0 && is_nested e
 is_nested (binary op a b) =
-    nat_le (level a) (binary_level op) && nat_lt (level b) (binary_level op) && is_nested a
-    && is_nested b
+    nat_le (precedence a) (binary_precedence op) && nat_lt (precedence b) (binary_precedence op)
+    && is_nested a && is_nested b
 
--- an expression of names, nested by levels, with at most 64 tokens
+-- an expression of names, nested by precedence, with at most 64 tokens
 abbrev pub is_expression : ExpressionTree → Bool
 is_expression e =
     is_nested e && list_all is_name (reads e) && nat_le (length (expression_tokens e)) 64

@@ -43,26 +43,20 @@ joined_closing ts a b opens names over =
 abbrev pub behind_value : State
 behind_value = outer plain_name ∷ outer (punctuation signs.CloseParenthesis) ∷ []
 
+pub release_opened : (ts a : List Placed) →
+    Reads (outer (punctuation signs.OpenParenthesis) ∷ []) [] ts a →
+    Reads behind_release (outer (expression 0) ∷ outer (punctuation signs.Comma) ∷ behind_value) ts a
+release_opened ts a opens =
+    reads_before (outer (punctuation signs.OpenParenthesis) ∷ []) []
+    (outer (expression 0) ∷ outer (punctuation signs.Comma) ∷ behind_value) ts a opens
+
 pub release_value :
     (ts a b : List Placed) → Reads (outer (punctuation signs.OpenParenthesis) ∷ []) [] ts a →
-    Reads (outer (expression 0) ∷ []) [] a b →
-    Reads behind_release (outer (punctuation signs.Comma) ∷ behind_value) ts b
+    Reads (outer (expression 0) ∷ outer (punctuation signs.Comma) ∷ []) [] a b →
+    Reads behind_release behind_value ts b
 release_value ts a b opens value =
-    then_read behind_release (outer (expression 0) ∷ [])
-    (outer (punctuation signs.Comma) ∷ behind_value) ts a b
-    (reads_before (outer (punctuation signs.OpenParenthesis) ∷ []) []
-    (outer (expression 0) ∷ outer (punctuation signs.Comma) ∷ behind_value) ts a opens) value
-
-pub release_point :
-    (ts a b d e : List Placed) → Reads (outer (punctuation signs.OpenParenthesis) ∷ []) [] ts a →
-    Reads (outer (expression 0) ∷ []) [] a b →
-    Reads (outer (punctuation signs.Comma) ∷ []) [] b d → Reads (outer plain_name ∷ []) [] d e →
-    Reads behind_release (outer (punctuation signs.CloseParenthesis) ∷ []) ts e
-release_point ts a b d e opens value comma point =
-    then_read behind_release (outer plain_name ∷ [])
-    (outer (punctuation signs.CloseParenthesis) ∷ []) ts d e
-    (then_read behind_release (outer (punctuation signs.Comma) ∷ []) behind_value ts b d
-    (release_value ts a b opens value) comma) point
+    then_read behind_release (outer (expression 0) ∷ outer (punctuation signs.Comma) ∷ [])
+    behind_value ts a b (release_opened ts a opens) value
 
 -- ---- behind `assign`, where the first target is a name
 

@@ -272,18 +272,6 @@ bits_begun n ts a b opens first =
     (sign_taken (perhaps_bits n) signs.OpenBracket (expression n ∷ bits_end n ∷ []) ts a refl
     opens) first
 
-pub part_begun :
-    (n : ℕ) (ts a b d : List Placed) → a_sign signs.OpenBracket ts a →
-    Reads (outer (expression n) ∷ []) [] a b → a_sign signs.Colon b d →
-    Reads (outer (perhaps_bits n) ∷ [])
-    (outer (expression n) ∷ outer (punctuation signs.CloseBracket) ∷ []) ts d
-part_begun n ts a b d opens first colon =
-    reads_then (outer (perhaps_bits n) ∷ []) (outer (bits_end n) ∷ [])
-    (outer (expression n) ∷ outer (punctuation signs.CloseBracket) ∷ []) ts b d
-    (bits_begun n ts a b opens first)
-    (sign_taken (bits_end n) signs.Colon (expression n ∷ punctuation signs.CloseBracket ∷ []) b d
-    refl colon)
-
 -- ---- targets in braces
 
 pub targets_begun :

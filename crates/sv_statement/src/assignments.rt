@@ -17,6 +17,7 @@ ghost use Rattle.sv_read.specs.Expectations.{HaltsAs};
 ghost use Rattle.sv_statement.specs.ReadingAssignments.{AssignsTo, ReleasesAs, IsAssignEnd};
 ghost use Rattle.sv_statement.specs.ReadingAssignments.{behind_targets, behind_release};
 
+use crate::closed::{read_closed, read_closed_name};
 use crate::targets::first_place;
 use std::alloc::Global;
 use sv_ast::{Item, Select, Target};
@@ -231,10 +232,8 @@ fn read_released<'a>(
         HaltsAs behind_release (placed_tokens bytes.now tokens.now) e) }
 {
     let rest = expect_sign(SignKind::OpenParenthesis, tokens)?;
-    let (value, rest) = read_expression(alloc, bytes, 0, rest)?;
-    let rest = expect_sign(SignKind::Comma, rest)?;
-    let (point, point_place, rest) = read_name(alloc, bytes, rest)?;
-    let rest = expect_sign(SignKind::CloseParenthesis, rest)?;
+    let (value, rest) = read_closed(alloc, bytes, 0, SignKind::Comma, rest)?;
+    let (point, point_place, rest) = read_closed_name(alloc, bytes, rest)?;
     let item = Item::Release {
         target,
         place,

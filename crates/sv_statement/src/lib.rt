@@ -9,5 +9,6 @@
 
 mod arms;
 pub mod assignments;
+pub mod closed;
 pub mod statements;
 pub mod targets;

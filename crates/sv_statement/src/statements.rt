@@ -18,6 +18,7 @@ ghost use Rattle.sv_read.specs.Expectations.{HaltsAs};
 ghost use Rattle.sv_statement.specs.ReadingArms.{ArmComes};
 
 use crate::arms::read_arm_head;
+use crate::closed::read_closed;
 use crate::targets::{first_place, read_targets};
 use std::alloc::{AllocError, Global};
 use sv_ast::{Arm, Expr, Stmt};
@@ -25,7 +26,7 @@ use sv_num::{BinOp, Place};
 use sv_read::cursor::{
     behind, behind_word, expect_sign, expect_word, read_name, stuck, unexpected,
 };
-use sv_read::expressions::{read_expression, read_in_parentheses};
+use sv_read::expressions::read_in_parentheses;
 use sv_read::operators::operator_at;
 use sv_read::room::deeper;
 use sv_read::stop::{Expected, Stop};
@@ -73,8 +74,7 @@ fn read_assignment<'a>(
     let (targets, rest) = read_targets(alloc, bytes, levels, tokens)?;
     let place = first_place(&targets);
     let (blocking, rest) = assigns(rest)?;
-    let (value, rest) = read_expression(alloc, bytes, levels, rest)?;
-    let rest = expect_sign(SignKind::Semicolon, rest)?;
+    let (value, rest) = read_closed(alloc, bytes, levels, SignKind::Semicolon, rest)?;
     let stmt = Stmt::Assign {
         targets,
         place,

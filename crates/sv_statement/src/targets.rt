@@ -2,23 +2,51 @@
 ghost use Rattle.std.specs.Prelude.{◌<◌, ◌≤◌, length, map, IfOk, IfErr, [], ◌∷◌};
 ghost use Rattle.sv_token.specs.Lexemes.{placed_tokens};
 ghost use Rattle.sv_ast.specs.Tree.{TargetTree};
-ghost use Rattle.sv_ast.specs.Views.{selection_of, target_tree};
+ghost use Rattle.sv_token.specs.declared.signs.SignKind.TheVariants as signs;
+ghost use Rattle.sv_ast.specs.Views.{expression_tree, selection_of, target_tree};
+ghost use Rattle.sv_ast.specs.GrammarForms.{◌⨾◌, a_sign};
+ghost use Rattle.sv_ast.specs.GrammarExpressions.{IsExpression};
 ghost use Rattle.sv_ast.specs.GrammarStatements.{IsSelection, IsTarget, AreTargets, BeginAt};
 ghost use Rattle.sv_ast.specs.GrammarRules.{all_limits};
-ghost use Rattle.sv_grammar.specs.Reads.{Reads, NextIsTarget};
+ghost use Rattle.sv_grammar.specs.Reads.{Reads, NextIsNotSign, NextIsTarget};
 ghost use Rattle.sv_read.specs.Expectations.{HaltsAs};
 ghost use Rattle.sv_grammar.specs.StatementTable.{assignment_behind};
 ghost use Rattle.sv_grammar.specs.Machine.{outside_on};
-ghost use Rattle.sv_grammar.specs.Symbols.{outer, plain_name, perhaps_bits, statement};
+ghost use Rattle.sv_grammar.specs.Symbols.{outer, plain_name, perhaps_bits, bits_end, statement};
 
+use crate::closed::read_closed;
 use std::alloc::Global;
-use sv_ast::{Select, Target};
+use sv_ast::{Expr, Select, Target};
 use sv_num::Place;
 use sv_read::cursor::{behind, expect_sign, read_name};
 use sv_read::expressions::read_expression;
 use sv_read::lists::{Listed, one, read_list};
 use sv_read::stop::Stop;
 use sv_token::{SignKind, Token};
+
+// The low bound of a part, from the `:` to the `]`.
+fn read_low<'a>(
+    alloc: Global,
+    bytes: &[u8],
+    levels: usize,
+    tokens: &'a [Token],
+) -> Result<(Expr, &'a [Token]), Stop>
+    ensures is { IfOk result (λ x.
+        (a_sign signs.Colon ⨾ IsExpression all_limits levels (expression_tree x.0)
+        ⨾ a_sign signs.CloseBracket) (placed_tokens bytes.now tokens.now)
+        (placed_tokens bytes.now x.1.now)) }
+    ensures shorter { IfOk result (λ x. length x.1.now < length tokens.now) }
+    ensures reads { IfOk result (λ x.
+        Reads (outer (bits_end levels) ∷ []) [] (placed_tokens bytes.now tokens.now)
+        (placed_tokens bytes.now x.1.now)) }
+    ensures halts { NextIsNotSign signs.CloseBracket (placed_tokens bytes.now tokens.now) →
+        IfErr result (λ e. HaltsAs (outer (bits_end levels) ∷ [])
+        (placed_tokens bytes.now tokens.now) e) }
+{
+    let rest = expect_sign(SignKind::Colon, tokens)?;
+    let (low, rest) = read_closed(alloc, bytes, levels, SignKind::CloseBracket, rest)?;
+    Ok((low, rest))
+}
 
 // The bits of a target.
 fn read_select<'a>(
@@ -44,9 +72,7 @@ fn read_select<'a>(
     if let Some(after) = behind(SignKind::CloseBracket, rest) {
         return Ok((Select::Bit(first), after));
     }
-    let rest = expect_sign(SignKind::Colon, rest)?;
-    let (low, rest) = read_expression(alloc, bytes, levels, rest)?;
-    let rest = expect_sign(SignKind::CloseBracket, rest)?;
+    let (low, rest) = read_low(alloc, bytes, levels, rest)?;
     Ok((Select::Part(first, low), rest))
 }
 

@@ -2,33 +2,31 @@ use Rattle.std.proofs.Common.{[], ◌∷◌, refl}
 use Rattle.sv_token.specs.declared.signs.SignKind.TheVariants as signs
 use Rattle.sv_token.specs.Lexemes.{placed_tokens}
 use Rattle.sv_grammar.specs.Symbols.{outer, punctuation, expression}
-use Rattle.sv_read.proofs.Halting.{passed, stops_before}
-use Rattle.sv_read.proofs.ReadingRuns.{then_read, then_stop}
-use Rattle.sv_statement.proofs.AssignmentRuns.{behind_value, release_value, release_point}
+use Rattle.sv_grammar.proofs.ReadSteps.{reads_then}
+use Rattle.sv_read.proofs.Halting.{passed, stops_before, stops_then}
+use Rattle.sv_read.proofs.ReadingRuns.{then_stop}
+use Rattle.sv_statement.proofs.AssignmentRuns.{behind_value, release_opened, release_value}
 use Rattle.sv_statement.proofs.assignments.read_released.Goals as goal
 
 pub returns-clause-is : goal.returns-clause-is
-returns-clause-is c = (
-  refl,
-  (
-    placed_tokens c.args.bytes.now c.in_ok-rest.rest.now,
-    c.in_ok-rest.ensures.is c.args.bytes.now,
-    (
-      placed_tokens c.args.bytes.now c.in_ok-point.rest.now,
+returns-clause-is c =
+    let value = c.in_ok-value.ensures.is in
+    let point = c.in_ok-point.ensures.is in (
+      refl,
       (
-        placed_tokens c.args.bytes.now c.in_ok-value.rest.now,
-        c.in_ok-value.ensures.is,
+        placed_tokens c.args.bytes.now c.in_ok-rest.rest.now,
+        c.in_ok-rest.ensures.is c.args.bytes.now,
         (
-          placed_tokens c.args.bytes.now c.in_ok-rest-2.rest.now,
-          c.in_ok-rest-2.ensures.is
-              c.args.bytes.now,
-          c.in_ok-point.ensures.is,
+          point.0,
+          (
+            value.0,
+            value.1,
+            (placed_tokens c.args.bytes.now c.in_ok-value.rest.now, value.2, point.1),
+          ),
+          point.2,
         ),
       ),
-      c.in_ok-rest-3.ensures.is c.args.bytes.now,
-    ),
-  ),
-)
+    )
 
 -- ---- the machine of the grammar
 
@@ -39,27 +37,24 @@ returns-in_err-rest-clause-halts c =
     (outer (expression 0) ∷ outer (punctuation signs.Comma) ∷ behind_value) _ _
     (c.in_err-rest.ensures.halts c.args.bytes.now))
 
-pub returns-in_err-rest-2-clause-halts : goal.returns-in_err-rest-2-clause-halts
-returns-in_err-rest-2-clause-halts c =
-    passed _ _ _ c.from_residual-in_err-rest-2.ensures.1
-    (then_stop _ (outer (punctuation signs.Comma) ∷ []) behind_value _ _ _
-    (release_value _ _ _ (c.in_ok-rest.ensures.reads c.args.bytes.now refl)
-    c.in_ok-value.ensures.reads)
-    (c.in_err-rest-2.ensures.halts c.args.bytes.now))
+pub returns-in_err-value-clause-halts : goal.returns-in_err-value-clause-halts
+returns-in_err-value-clause-halts c =
+    passed _ _ _ c.from_residual-in_err-value.ensures.1
+    (then_stop _ (outer (expression 0) ∷ outer (punctuation signs.Comma) ∷ []) behind_value _ _ _
+    (release_opened _ _ (c.in_ok-rest.ensures.reads c.args.bytes.now refl))
+    c.in_err-value.ensures.halts)
 
-pub returns-in_err-rest-3-clause-halts : goal.returns-in_err-rest-3-clause-halts
-returns-in_err-rest-3-clause-halts c =
-    passed _ _ _ c.from_residual-in_err-rest-3.ensures.1
-    (then_stop _ (outer (punctuation signs.CloseParenthesis) ∷ []) [] _ _ _
-    (release_point _ _ _ _ _ (c.in_ok-rest.ensures.reads c.args.bytes.now refl)
-    c.in_ok-value.ensures.reads (c.in_ok-rest-2.ensures.reads c.args.bytes.now refl)
-    c.in_ok-point.ensures.reads)
-    (c.in_err-rest-3.ensures.halts c.args.bytes.now))
+pub returns-in_err-point-clause-halts : goal.returns-in_err-point-clause-halts
+returns-in_err-point-clause-halts c =
+    passed _ _ _ c.from_residual-in_err-point.ensures.1
+    (stops_then _ behind_value _ _ _
+    (release_value _ _ _ (c.in_ok-rest.ensures.reads c.args.bytes.now refl)
+    (c.in_ok-value.ensures.reads refl))
+    c.in_err-point.ensures.halts)
 
 pub returns-clause-reads : goal.returns-clause-reads
 returns-clause-reads c =
-    then_read _ (outer (punctuation signs.CloseParenthesis) ∷ []) [] _ _ _
-    (release_point _ _ _ _ _ (c.in_ok-rest.ensures.reads c.args.bytes.now refl)
-    c.in_ok-value.ensures.reads (c.in_ok-rest-2.ensures.reads c.args.bytes.now refl)
-    c.in_ok-point.ensures.reads)
-    (c.in_ok-rest-3.ensures.reads c.args.bytes.now refl)
+    reads_then _ behind_value [] _ _ _
+    (release_value _ _ _ (c.in_ok-rest.ensures.reads c.args.bytes.now refl)
+    (c.in_ok-value.ensures.reads refl))
+    c.in_ok-point.ensures.reads

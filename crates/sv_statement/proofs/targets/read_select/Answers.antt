@@ -1,12 +1,13 @@
 use Rattle.sv_token.specs.Lexemes.{placed_tokens}
 use Rattle.std.proofs.Common.{[], ◌∷◌, refl}
 use Rattle.sv_token.specs.declared.signs.SignKind.TheVariants as signs
-use Rattle.sv_grammar.specs.Symbols.{outer, punctuation, expression, perhaps_bits, bits_end}
-use Rattle.sv_grammar.proofs.ReadRows.{sign_taken, halts_bits_end}
+use Rattle.sv_grammar.specs.Symbols.{outer, expression, perhaps_bits, bits_end}
+use Rattle.sv_grammar.proofs.ReadSteps.{reads_then}
+use Rattle.sv_grammar.proofs.ReadRows.{sign_taken}
 use Rattle.sv_grammar.proofs.SkippedRows.{skips_perhaps_bits}
-use Rattle.sv_read.proofs.Halting.{passed, stops_by}
-use Rattle.sv_read.proofs.ReadingRuns.{then_read, then_stop}
-use Rattle.sv_statement.proofs.SymbolsAlike.{bits_begun, part_begun}
+use Rattle.sv_read.proofs.Halting.{passed, stops_then}
+use Rattle.sv_read.proofs.ReadingRuns.{then_stop}
+use Rattle.sv_statement.proofs.SymbolsAlike.{bits_begun}
 use Rattle.sv_statement.proofs.targets.read_select.Goals as goal
 
 pub returns-in-Some-behind-clause-is : goal.returns-in-Some-behind-clause-is
@@ -22,25 +23,20 @@ returns-in-Some-behind-clause-is c = (
 )
 
 pub returns-clause-is : goal.returns-clause-is
-returns-clause-is c = (
-  (placed_tokens c.args.bytes.now c.in-Some.rest.now),
-  c.in-Some.ensures.is
-      c.args.bytes.now,
-  (
-    (placed_tokens c.args.bytes.now c.in_ok-low.rest.now),
-    (
-      (placed_tokens c.args.bytes.now c.in_ok-first.rest.now),
-      c.in_ok-first.ensures.is,
+returns-clause-is c =
+    let low = c.in_ok-low.ensures.is in (
+      placed_tokens c.args.bytes.now c.in-Some.rest.now,
+      c.in-Some.ensures.is c.args.bytes.now,
       (
-        (placed_tokens c.args.bytes.now c.in_ok-rest.rest.now),
-        c.in_ok-rest.ensures.is
-            c.args.bytes.now,
-        c.in_ok-low.ensures.is,
+        low.2.0,
+        (
+          placed_tokens c.args.bytes.now c.in_ok-first.rest.now,
+          c.in_ok-first.ensures.is,
+          (low.0, low.1, low.2.1),
+        ),
+        low.2.2,
       ),
-    ),
-    c.in_ok-rest-2.ensures.is c.args.bytes.now,
-  ),
-)
+    )
 
 -- ---- the machine of the grammar
 
@@ -60,47 +56,22 @@ returns-in_err-first-clause-halts c =
 pub returns-in-Some-behind-clause-reads : goal.returns-in-Some-behind-clause-reads
 returns-in-Some-behind-clause-reads c =
     let n = c.args.levels in
-    then_read _ (outer (bits_end n) ∷ []) [] _ _ _
+    reads_then _ (outer (bits_end n) ∷ []) [] _ _ _
     (bits_begun n _ _ _ (c.in-Some.ensures.is c.args.bytes.now) c.in_ok-first.ensures.reads)
     (sign_taken (bits_end n) signs.CloseBracket [] _ _ refl
     (c.in-Some-behind.ensures.is c.args.bytes.now))
-
-pub returns-in_err-rest-clause-halts : goal.returns-in_err-rest-clause-halts
-returns-in_err-rest-clause-halts c =
-    let n = c.args.levels in
-    passed _ _ _ c.from_residual-in_err-rest.ensures.1
-    (then_stop _ (outer (bits_end n) ∷ []) [] _ _ _
-    (bits_begun n _ _ _ (c.in-Some.ensures.is c.args.bytes.now) c.in_ok-first.ensures.reads)
-    (stops_by c.args.bytes.now _ _ _ _ (λ no_colon.
-    halts_bits_end n _ (c.in_default-behind.ensures.none c.args.bytes.now) no_colon)
-    (c.in_err-rest.ensures.stops c.args.bytes.now)))
 
 pub returns-in_err-low-clause-halts : goal.returns-in_err-low-clause-halts
 returns-in_err-low-clause-halts c =
     let n = c.args.levels in
     passed _ _ _ c.from_residual-in_err-low.ensures.1
-    (then_stop _ (outer (expression n) ∷ []) (outer (punctuation signs.CloseBracket) ∷ []) _ _ _
-    (part_begun n _ _ _ _ (c.in-Some.ensures.is c.args.bytes.now) c.in_ok-first.ensures.reads
-    (c.in_ok-rest.ensures.is c.args.bytes.now))
-    c.in_err-low.ensures.halts)
-
-pub returns-in_err-rest-2-clause-halts : goal.returns-in_err-rest-2-clause-halts
-returns-in_err-rest-2-clause-halts c =
-    let n = c.args.levels in
-    passed _ _ _ c.from_residual-in_err-rest-2.ensures.1
-    (then_stop _ (outer (punctuation signs.CloseBracket) ∷ []) [] _ _ _
-    (then_read _ (outer (expression n) ∷ []) (outer (punctuation signs.CloseBracket) ∷ []) _ _ _
-    (part_begun n _ _ _ _ (c.in-Some.ensures.is c.args.bytes.now) c.in_ok-first.ensures.reads
-    (c.in_ok-rest.ensures.is c.args.bytes.now))
-    c.in_ok-low.ensures.reads)
-    (c.in_err-rest-2.ensures.halts c.args.bytes.now))
+    (stops_then _ (outer (bits_end n) ∷ []) _ _ _
+    (bits_begun n _ _ _ (c.in-Some.ensures.is c.args.bytes.now) c.in_ok-first.ensures.reads)
+    (c.in_err-low.ensures.halts (c.in_default-behind.ensures.none c.args.bytes.now)))
 
 pub returns-clause-reads : goal.returns-clause-reads
 returns-clause-reads c =
     let n = c.args.levels in
-    then_read _ (outer (punctuation signs.CloseBracket) ∷ []) [] _ _ _
-    (then_read _ (outer (expression n) ∷ []) (outer (punctuation signs.CloseBracket) ∷ []) _ _ _
-    (part_begun n _ _ _ _ (c.in-Some.ensures.is c.args.bytes.now) c.in_ok-first.ensures.reads
-    (c.in_ok-rest.ensures.is c.args.bytes.now))
-    c.in_ok-low.ensures.reads)
-    (c.in_ok-rest-2.ensures.reads c.args.bytes.now refl)
+    reads_then _ (outer (bits_end n) ∷ []) [] _ _ _
+    (bits_begun n _ _ _ (c.in-Some.ensures.is c.args.bytes.now) c.in_ok-first.ensures.reads)
+    c.in_ok-low.ensures.reads

@@ -5,8 +5,8 @@ signs, nested mixes of signed and unsigned operands, and constants.
     width_vectors.py > crates/width_bench/stdin
 
 The answers are those of Icarus Verilog (`iverilog` and `vvp`), which is to be installed. An expression whose answer has an x is
-left out: a division by zero, or a bit outside of its vector. What is asked of such bits and of rules was worked by hand. The lines
-are
+left out: a division by zero, or a bit outside of its vector. What is asked of such bits and of rules was worked by hand, and each
+operator at the edges of the seven lengths is worked out here with whole numbers, without Icarus Verilog. The lines are
 
     signal NAME LENGTH SIGN          a signal, with the value 0
     parameter NAME LENGTH SIGN VALUE
@@ -169,6 +169,51 @@ def constants():
         yield mixed(DRAW.randrange(1, 4), constant_operand, joins=False, constants=True)
 
 
+def read(value, length, sign):
+    """The whole number that the bits stand for."""
+    return value - (1 << length) if sign == "signed" and value >> (length - 1) else value
+
+
+def binary_value(op, a, b, length, sign):
+    """What the operator gives of operands of one length and sign, b not 0, before it is cut to the length."""
+    left, right = read(a, length, sign), read(b, length, sign)
+    quotient = abs(left) // abs(right) * (1 if (left < 0) == (right < 0) else -1)
+    return {"*": left * right, "/": quotient, "%": left - quotient * right, "+": left + right, "-": left - right,
+            "<<": a << b if b < 64 else 0, "<<<": a << b if b < 64 else 0, ">>": a >> b, ">>>": left >> b,
+            "<": left < right, "<=": left <= right, ">": left > right, ">=": left >= right, "==": a == b, "!=": a != b,
+            "&": a & b, "^": a ^ b, "~^": ~(a ^ b), "^~": ~(a ^ b), "|": a | b, "&&": a != 0 and b != 0, "||": a != 0 or b != 0}[op]
+
+
+def unary_value(op, a, length):
+    """What the operator gives of the operand, before it is cut to the length."""
+    most, odd = (1 << length) - 1, a.bit_count() % 2
+    return {"+": a, "-": -a, "!": a == 0, "~": ~a, "&": a == most, "~&": a != most, "|": a != 0, "~|": a == 0,
+            "^": odd, "~^": 1 - odd, "^~": 1 - odd}[op]
+
+
+def operand_edges(length):
+    """Pairs of operands: the lowest number and -1, alternating bits and 3, and a small number beside amounts at and past the length."""
+    most, half = (1 << length) - 1, 1 << (length - 1)
+    pairs = [(half, most), ((2 << length) // 3 & ~1 | (length == 1), min(3, most)), ((half >> 1) + half & ~1, 1)]
+    if length > 30:
+        pairs += [(most - 4, length), (most - 4, 64), (7, length - 1)]
+    return pairs
+
+
+def edges():
+    """Each operator on literals at the edges of each length: the length, the value and the expression."""
+    for length in LENGTHS:
+        most = (1 << length) - 1
+        for sign in SIGNS:
+            mark = f"{length}'{'s' if sign == 'signed' else ''}h"
+            for a, b in operand_edges(length):
+                for op in BINARY + DIVISIONS:
+                    yield length, int(binary_value(op, a, b, length, sign)) & most, f"{mark}{a:x} {op} {mark}{b:x}"
+            for a in sorted({0, 1, (1 << length) // 3, 1 << (length - 1), most}):
+                for op in UNARY:
+                    yield length, int(unary_value(op, a, length)) & most, f"{op} {mark}{a:x}"
+
+
 def declared(sign, length):
     return f"{'signed ' if sign == 'signed' else ''}[{length - 1}:0]"
 
@@ -222,6 +267,7 @@ def main():
     out += [f"set {signal} {value}" for signal, value in OUTSIDE_VALUES]
     out += [f"typed 1 0 {text}" for text in OUTSIDE]
     out += [f"refused {rule} {column} {text}" for rule, column, text in REFUSED]
+    out += [f"typed {length} {value} {text}" for length, value, text in dict.fromkeys(edges())]
     sys.stdout.write("\n".join(out) + "\n")
 
 

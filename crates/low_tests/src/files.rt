@@ -1,172 +1,58 @@
 // The outside in memory and over real files and streams.
 use std::alloc::Global;
 use std::io::{ErrorKind, Read, Write};
-use std::process::Abort;
 use std::test::Fail;
 use std::{fs, io};
 use sv_io::*;
 
-// Asserts that a fetch of at most 4 bytes gives these.
-fn gives<C: Cabinet>(
-    rt: &impl Abort,
-    alloc: Global,
-    cabinet: &mut C,
-    name: &str,
-    bytes: &[u8],
-) -> Result<(), Fail> {
-    let fetched = cabinet.fetch(alloc, name, 4)?;
-    assert_eq!(rt; fetched.as_slice(), bytes);
-    Ok(())
+// A name in the folder that the tests run in.
+const NAME: &str = "sv_io_test_stored";
+
+// Whether what is stored last is handed out, its front alone where it is over the limit.
+fn keeps<C: Cabinet>(alloc: Global, cabinet: &mut C) -> Result<bool, Fail> {
+    cabinet.store(NAME, b"older bytes")?;
+    cabinet.store(NAME, b"text")?;
+    let whole = cabinet.fetch(alloc, NAME, 4)?;
+    Ok(whole.as_slice() == b"text".as_slice() && is_long(alloc, cabinet))
 }
 
-// The fault of a fetch of at most one byte, if it is one.
-fn fault<C: Cabinet>(alloc: Global, cabinet: &mut C, name: &str) -> Option<FetchFault> {
-    match cabinet.fetch(alloc, name, 1) {
-        Ok(_) => None,
-        Err(fault) => Some(fault),
+// Whether a fetch of at most one byte hands out two of them as too many.
+fn is_long<C: Cabinet>(alloc: Global, cabinet: &mut C) -> bool {
+    match cabinet.fetch(alloc, NAME, 1) {
+        Err(FetchFault::Long(front)) => front.as_slice() == b"te".as_slice(),
+        _ => false,
     }
 }
 
 #[test]
-fn a_sure_cabinet_hands_out_what_it_took(rt: HostRuntime) -> Result<(), Fail> {
+fn memory_keeps_what_is_stored(rt: HostRuntime) -> Result<(), Fail> {
     let alloc = rt.alloc();
-    let mut cabinet = SureCabinet::new(alloc);
-    cabinet.hold("a", b"xyz")?;
-    cabinet.store("b", b"new")?;
-    gives(&rt, alloc, &mut cabinet, "b", b"new")?;
-    assert_eq!(rt; cabinet.bytes("b"), Some(b"new".as_slice()));
-    let long = FetchFault::Long(Vec::from_slice(alloc, b"xy")?);
-    assert_eq!(rt; fault(alloc, &mut cabinet, "a"), Some(long));
+    let mut sure = SureCabinet::new(alloc);
+    sure.hold(NAME, b"held")?;
+    assert!(rt; keeps(alloc, &mut sure)?);
+    assert!(rt; keeps(alloc, &mut MemCabinet::new(alloc, Vec::new(alloc)))?);
     Ok(())
 }
 
 #[test]
-fn a_cabinet_fails_at_its_numbers(rt: HostRuntime) -> Result<(), Fail> {
-    let alloc = rt.alloc();
-    let mut cabinet = MemCabinet::new(alloc, Vec::from_slice(alloc, &[2, 4])?);
-    cabinet.hold("a", b"xyz")?;
-    gives(&rt, alloc, &mut cabinet, "a", b"xyz")?;
-    let failed = Some(FetchFault::Failed);
-    assert_eq!(rt; fault(alloc, &mut cabinet, "a"), failed);
-    cabinet.store("b", b"new")?;
-    assert_eq!(rt; cabinet.store("a", b"new"), Err(StoreFault::Failed));
-    assert_eq!(rt; cabinet.bytes("c"), None);
-    Ok(())
-}
-
-// The bytes of a source, taken with a buffer of 3, with a '!' for each take that fails.
-fn taken<S: Source>(alloc: Global, source: &mut S) -> Result<Vec<u8>, OutOfMemory> {
-    let mut all = Vec::new(alloc);
-    let mut buf = [0u8; 3];
-    for _ in 0..20 {
-        match source.take(&mut buf) {
-            Ok(0) => break,
-            Ok(count) => all.extend_from_slice(&buf[..count.min(3)])?,
-            Err(Failed) => all.extend_from_slice(b"!")?,
-        }
-    }
-    Ok(all)
-}
-
-#[test]
-fn a_repeating_source_gives_its_head_and_then_its_lines(rt: HostRuntime) -> Result<(), Fail> {
-    let alloc = rt.alloc();
-    let head = Vec::from_slice(alloc, b"ab\n")?;
-    let line = Vec::from_slice(alloc, b"xyz\n")?;
-    let mut source = RepeatSource::new(head, line, 3, 2);
-    let all = taken(alloc, &mut source)?;
-    assert_eq!(rt; all.as_slice(), b"ab\nxyz\nxyz\nxyz\n".as_slice());
-    let mut lines = RepeatSource::new(Vec::new(alloc), Vec::from_slice(alloc, b"0")?, 2, 7);
-    assert_eq!(rt; taken(alloc, &mut lines)?.as_slice(), b"00".as_slice());
-    let mut none = RepeatSource::new(Vec::new(alloc), Vec::new(alloc), u32::MAX, 1);
-    assert_eq!(rt; taken(alloc, &mut none)?.len(), 0);
+fn files_keep_what_is_stored(rt: HostRuntime) -> Result<(), Fail> {
+    let mut files = FileCabinet::new(rt);
+    assert!(rt; keeps(rt.alloc(), &mut files)?);
+    assert!(rt; files.last_error().is_none());
+    assert!(rt; files.store("missing/file", b"text").is_err());
+    assert_eq!(rt; cause(files.last_error()), Some(ErrorKind::NotFound));
+    fs::remove_file(&rt, NAME)?;
     Ok(())
 }
 
 #[test]
-fn a_tally_counts_the_bytes_that_are_put(rt: HostRuntime) -> Result<(), Fail> {
-    let mut tally = TallySink::new();
-    put_all(&mut tally, b"")?;
-    assert_eq!(rt; tally.bytes(), 0);
-    put_all(&mut tally, b"abc")?;
-    put_all(&mut tally, b"de")?;
-    assert_eq!(rt; tally.bytes(), 5);
-    Ok(())
-}
-
-#[test]
-fn a_source_gives_its_bytes_in_turn(rt: HostRuntime) -> Result<(), Fail> {
-    let alloc = rt.alloc();
-    let failing = Vec::from_slice(alloc, &[2])?;
-    let mut source = MemSource::new(Vec::from_slice(alloc, b"abcde")?, failing, 2);
-    assert_eq!(rt; taken(alloc, &mut source)?.as_slice(), b"ab!cde".as_slice());
-    let mut sure = SureSource::new(Vec::from_slice(alloc, b"abcde")?);
-    assert_eq!(rt; taken(alloc, &mut sure)?.as_slice(), b"abcde".as_slice());
-    Ok(())
-}
-
-#[test]
-fn a_sink_that_fails_keeps_the_front(rt: HostRuntime) -> Result<(), Fail> {
-    let alloc = rt.alloc();
-    let text = b"abc";
-    for number in 1..=4u32 {
-        let mut sink = MemSink::new(alloc, Vec::from_slice(alloc, &[number])?, 1);
-        let fails = put_all(&mut sink, text) == Err(PutFault::Failed);
-        assert_eq!(rt; fails, number < 4, "at put {number}");
-        assert_eq!(rt;
-            sink.bytes(),
-            &text[..number as usize - 1],
-            "at put {number}"
-        );
-    }
-    let mut sure = SureSink::new(alloc);
-    put_all(&mut sure, text)?;
-    assert_eq!(rt; sure.bytes(), text.as_slice());
-    Ok(())
-}
-
-const STORED: &str = "sv_io_test_stored";
-
-const STREAMED: &str = "sv_io_test_streamed";
-
-#[test]
-fn files_are_stored_and_fetched(rt: HostRuntime) -> Result<(), Fail> {
-    let alloc = rt.alloc();
-    let mut cabinet = FileCabinet::new(rt);
-    cabinet.store(STORED, b"older bytes")?;
-    cabinet.store(STORED, b"text")?;
-    gives(&rt, alloc, &mut cabinet, STORED, b"text")?;
-    let long = FetchFault::Long(Vec::from_slice(alloc, b"te")?);
-    assert_eq!(rt; fault(alloc, &mut cabinet, STORED), Some(long));
-    assert!(rt; cabinet.last_error().is_none());
-    fs::remove_file(&rt, STORED)?;
-    Ok(())
-}
-
-#[test]
-fn files_are_streams(rt: HostRuntime) -> Result<(), Fail> {
-    put_all(&mut StdSink::new(fs::create(&rt, STREAMED)?), b"put")?;
-    let mut input = StdSource::new(fs::open(&rt, STREAMED)?);
-    let all = taken(rt.alloc(), &mut input)?;
-    assert_eq!(rt; all.as_slice(), b"put".as_slice());
-    fs::remove_file(&rt, STREAMED)?;
-    Ok(())
-}
-
-#[test]
-fn missing_files_are_faults(rt: HostRuntime) {
-    let mut cabinet = FileCabinet::new(rt);
-    let fetched = fault(rt.alloc(), &mut cabinet, "sv_io_test_missing");
-    assert_eq!(rt; fetched, Some(FetchFault::Failed));
-    assert_eq!(rt; cause(cabinet.last_error()), Some(ErrorKind::NotFound));
-    let stored = cabinet.store("missing/file", b"text");
-    assert_eq!(rt; stored, Err(StoreFault::Failed));
-}
-
-#[test]
-fn standard_streams(rt: HostRuntime) -> Result<(), Fail> {
-    put_all(&mut StdSink::new(rt.stdout()), b"standard output\n")?;
-    assert_eq!(rt; StdSource::new(rt.stdin()).take(&mut []), Ok(0));
+fn memory_streams_pass_bytes_on(rt: HostRuntime) -> Result<(), Fail> {
+    let mut source = SureSource::new(Vec::from_slice(rt.alloc(), b"abc")?);
+    let mut buf = [0u8; 4];
+    assert_eq!(rt; source.take(&mut buf), Ok(3));
+    let mut sink = SureSink::new(rt.alloc());
+    put_all(&mut sink, &buf[..3])?;
+    assert_eq!(rt; sink.bytes(), b"abc".as_slice());
     Ok(())
 }
 

@@ -32,40 +32,56 @@ pub enum Line<'a> {
 pub fn read_line(text: &str) -> Result<Line<'_>> {
     let (first, rest) = word(text)?;
     match first {
-        "signal" => {
-            let (name, rest) = word(rest)?;
-            Ok(Line::Signal(name, read_kind(rest)?.0))
-        }
-        "parameter" => {
-            let (name, rest) = word(rest)?;
-            let (kind, rest) = read_kind(rest)?;
-            Ok(Line::Parameter(name, kind, rest.parse::<u64>()?))
-        }
-        "set" => {
-            let (name, rest) = word(rest)?;
-            Ok(Line::Set(name, rest.parse::<u64>()?))
-        }
-        "typed" => {
-            let (target, rest) = word(rest)?;
-            let (value, rest) = word(rest)?;
-            Ok(Line::Typed(target.parse::<u8>()?, value.parse::<u64>()?, rest))
-        }
-        "constant" => {
-            let (kind, rest) = read_kind(rest)?;
-            let (value, rest) = word(rest)?;
-            Ok(Line::Constant(kind, value.parse::<u64>()?, rest))
-        }
-        "refused" => {
-            let (rule, rest) = word(rest)?;
-            let (column, rest) = word(rest)?;
-            Ok(Line::Refused(rule.parse::<u16>()?, column.parse::<u32>()?, rest))
-        }
-        "expression" => {
-            let (target, rest) = word(rest)?;
-            Ok(Line::Expression(target.parse::<u8>()?, rest))
-        }
+        "signal" => read_signal(rest),
+        "parameter" => read_parameter(rest),
+        "set" => read_set(rest),
+        "typed" => read_typed(rest),
+        "constant" => read_constant(rest),
+        "refused" => read_refused(rest),
+        "expression" => read_expression(rest),
         _ => bail!("no such line: {text}"),
     }
+}
+
+// Each reads what is behind the first word.
+
+fn read_signal(text: &str) -> Result<Line<'_>> {
+    let (name, rest) = word(text)?;
+    Ok(Line::Signal(name, read_kind(rest)?.0))
+}
+
+fn read_parameter(text: &str) -> Result<Line<'_>> {
+    let (name, rest) = word(text)?;
+    let (kind, rest) = read_kind(rest)?;
+    Ok(Line::Parameter(name, kind, rest.parse::<u64>()?))
+}
+
+fn read_set(text: &str) -> Result<Line<'_>> {
+    let (name, rest) = word(text)?;
+    Ok(Line::Set(name, rest.parse::<u64>()?))
+}
+
+fn read_typed(text: &str) -> Result<Line<'_>> {
+    let (target, rest) = word(text)?;
+    let (value, rest) = word(rest)?;
+    Ok(Line::Typed(target.parse::<u8>()?, value.parse::<u64>()?, rest))
+}
+
+fn read_constant(text: &str) -> Result<Line<'_>> {
+    let (kind, rest) = read_kind(text)?;
+    let (value, rest) = word(rest)?;
+    Ok(Line::Constant(kind, value.parse::<u64>()?, rest))
+}
+
+fn read_refused(text: &str) -> Result<Line<'_>> {
+    let (rule, rest) = word(text)?;
+    let (column, rest) = word(rest)?;
+    Ok(Line::Refused(rule.parse::<u16>()?, column.parse::<u32>()?, rest))
+}
+
+fn read_expression(text: &str) -> Result<Line<'_>> {
+    let (target, rest) = word(text)?;
+    Ok(Line::Expression(target.parse::<u8>()?, rest))
 }
 
 // The first word, and what is behind it.

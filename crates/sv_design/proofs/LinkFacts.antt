@@ -1,8 +1,8 @@
 -- Links of ports by whole names.
 use Rattle.std.proofs.Common.{◌≡◌, ℕ, ◌<◌, Bool, true, false, cond, ◌&&◌, ◌||◌, nat_le, List, []}
-use Rattle.std.proofs.Common.{◌∷◌, length, Option, Some, None, refl, subst, ltb-true}
+use Rattle.std.proofs.Common.{◌∷◌, ◌==◌, length, Option, Some, None, refl, ap₂, subst, ltb-true}
 use Rattle.std.specs.Prelude.{IsTrue, option_map}
-use Rattle.std.specs.List.{cons_option}
+use Rattle.std.specs.List.{cons_option, filter_map}
 use Rattle.sv_flat.specs.Clocks.{whole_name, whole_link, is_port_in, is_port_out, link_in, link_out}
 use Rattle.sv_flat.specs.Clocks.{lists_pair}
 use Rattle.sv_flat.specs.Values.{signal_width}
@@ -11,7 +11,9 @@ use Rattle.sv_flat.specs.Design.{ProcessForm, FlatDesign}
 use Rattle.sv_flat.specs.Soundness.{is_one_to, is_signal, piece_fits, well_formed, statement_sound}
 use Rattle.sv_flat.specs.Soundness.{kind_sound, process_sound}
 use Rattle.sv_flat.proofs.Depths.{first_of, second_of}
-use Rattle.sv_design.specs.Links.{is_pair, IsBelow}
+use Rattle.sv_design.specs.declared.links.Edges.{Edges}
+use Rattle.sv_design.specs.declared.links.Edges.TheVariants.{ToNames, ToInputs, ToNets}
+use Rattle.sv_design.specs.Links.{turned, is_pair, IsBelow, edge_of}
 use Rattle.sv_design.proofs.Sound.{piece_is_signal}
 
 -- one link before others
@@ -70,3 +72,39 @@ module _ (design : FlatDesign) (p : ProcessForm) (is_sound : IsTrue (process_sou
       (link_below design.signals p.body
       (second_of (kind_sound design p.kind p.body) (statement_sound design.signals p.body)
       is_sound))
+
+-- ---- the other way
+
+module _ (f : ProcessForm → Option (ℕ × ℕ)) (a b : ℕ) where
+  and_turned : (x y : Bool) → (x && y) ≡ (y && x)
+  and_turned true true = refl
+  and_turned true false = refl
+  and_turned false true = refl
+  and_turned false false = refl
+
+  first_turned : (o : Option (ℕ × ℕ)) (pairs others : List (ℕ × ℕ))
+      → lists_pair pairs a b ≡ lists_pair others b a
+      → lists_pair (cons_option (option_map turned o) pairs) a b
+      ≡ lists_pair (cons_option o others) b a
+  first_turned None pairs others same = same
+  first_turned (Some pair) pairs others same =
+      ap₂ (λ x y. x || y) (and_turned (pair.1 == a) (pair.0 == b)) same
+
+  pub pairs_turned : (ps : List ProcessForm)
+      → lists_pair (filter_map (λ p. option_map turned (f p)) ps) a b
+      ≡ lists_pair (filter_map f ps) b a
+  pairs_turned [] = refl
+  pairs_turned (p ∷ ps) = first_turned (f p) (filter_map (λ q. option_map turned (f q)) ps)
+      (filter_map f ps) (pairs_turned ps)
+
+turned_below : (n : ℕ) (o : Option (ℕ × ℕ)) → IsBelow n o → IsBelow n (option_map turned o)
+turned_below n None below = tt
+turned_below n (Some pair) below = (below.1, below.0)
+
+pub edge_below : (edges : Edges) (design : FlatDesign) (p : ProcessForm)
+    → IsTrue (process_sound design p) → IsBelow (length design.signals) (edge_of edges p)
+edge_below ToNames design p is_sound = link_in_below design p is_sound
+edge_below ToInputs design p is_sound =
+    turned_below (length design.signals) (link_in p) (link_in_below design p is_sound)
+edge_below ToNets design p is_sound =
+    turned_below (length design.signals) (link_out p) (link_out_below design p is_sound)

@@ -4,6 +4,8 @@ use Rattle.std.specs.List.{filter_map}
 use Rattle.sv_flat.specs.Clocks.{link_in, link_out}
 use Rattle.sv_flat.specs.Design.{ProcessForm}
 use Rattle.sv_design.specs.declared.links.Link.{Link}
+use Rattle.sv_design.specs.declared.links.Edges.{Edges}
+use Rattle.sv_design.specs.declared.links.Edges.TheVariants.{ToNames, ToInputs, ToNets}
 
 -- the signal that is assigned and the signal that is read
 abbrev pub link_form : Link → ℕ × ℕ
@@ -22,9 +24,20 @@ abbrev pub IsBelow : ℕ → Option (ℕ × ℕ) → Type 0
 IsBelow n None = Unit {0}
 IsBelow n (Some pair) = (pair.0 < n) × (pair.1 < n)
 
+-- the other way
+abbrev pub turned : ℕ × ℕ → ℕ × ℕ
+turned pair = (pair.1, pair.0)
+
 -- the links among some processes
 abbrev pub links_in_of : List ProcessForm → List (ℕ × ℕ)
 links_in_of ps = filter_map link_in ps
 
-abbrev pub links_out_of : List ProcessForm → List (ℕ × ℕ)
-links_out_of ps = filter_map link_out ps
+-- the edge that a process gives
+abbrev pub edge_of : Edges → ProcessForm → Option (ℕ × ℕ)
+edge_of ToNames p = link_in p
+edge_of ToInputs p = option_map turned (link_in p)
+edge_of ToNets p = option_map turned (link_out p)
+
+-- the edges that some processes give
+abbrev pub edges_of : Edges → List ProcessForm → List (ℕ × ℕ)
+edges_of edges ps = filter_map (edge_of edges) ps

@@ -1,12 +1,11 @@
 // Links of ports by whole names.
-ghost use Rattle.std.specs.Prelude.{◌≡◌, ◌<◌, ◌||◌, ℕ, Bool, option_map, length, map, IsTrue, OnOk};
-ghost use Rattle.std.specs.Prelude.{IfOk};
+ghost use Rattle.std.specs.Prelude.{◌≡◌, ℕ, option_map, length, IsTrue, OnOk, IfOk};
 ghost use Rattle.sv_flat.specs.Clocks.{whole_name, whole_link, link_in, link_out, links_in};
-ghost use Rattle.sv_flat.specs.Clocks.{links_out, lists_pair, makes_clock};
+ghost use Rattle.sv_flat.specs.Clocks.{lists_pair, makes_clock};
 ghost use Rattle.sv_flat.specs.Soundness.{sound};
 ghost use Rattle.sv_flat.specs.Views.{design_of, process_form, typed_tree, flat_statement};
 ghost use Rattle.sv_design.specs.Graphs.{size, has_edge, GainsEdges, IsWhole};
-ghost use Rattle.sv_design.specs.Links.{link_of, is_pair, IsBelow};
+ghost use Rattle.sv_design.specs.Links.{link_of, turned, is_pair, IsBelow, edge_of, edges_of};
 
 use crate::graphs::Graph;
 use std::alloc::{AllocError, Global};
@@ -72,75 +71,60 @@ fn link_out(process: &Process) -> Option<Link>
     }
 }
 
-// Adds an edge from the port of a link to its name.
-fn add_origin(graph: &mut Graph, link: Option<Link>) -> Result<(), AllocError>
-    requires { IsBelow (size graph.old) (link_of link) }
+// A link read the other way.
+fn turned(link: Option<Link>) -> Option<Link>
+    ensures { link_of result ≡ option_map turned (link_of link) }
+{
+    link.map(|link| Link {
+        target: link.source,
+        source: link.target,
+    })
+}
+
+/// Which edges links give: from input ports to the names that are linked to them, from names to
+/// these ports, or from output ports to the nets that are linked to them.
+#[derive(Clone, Copy)]
+pub enum Edges {
+    ToNames,
+    ToInputs,
+    ToNets,
+}
+
+// The edge that a process gives, as a link of what it leads from and what it leads to.
+fn edge_of(edges: Edges, process: &Process) -> Option<Link>
+    ensures { link_of result ≡ edge_of edges (process_form process.now) }
+{
+    match edges {
+        Edges::ToNames => link_in(process),
+        Edges::ToInputs => turned(link_in(process)),
+        Edges::ToNets => turned(link_out(process)),
+    }
+}
+
+// Adds an edge, where there is one.
+fn add_edge(graph: &mut Graph, edge: Option<Link>) -> Result<(), AllocError>
+    requires { IsBelow (size graph.old) (link_of edge) }
     ensures size { size graph.new ≡ size graph.old }
-    ensures gains { OnOk result (GainsEdges graph.old graph.new (λ a b.
-        is_pair (link_of link) a b)) }
+    ensures gains { OnOk result (GainsEdges graph.old graph.new (is_pair (link_of edge))) }
     ensures whole { OnOk result (IsWhole graph.old → IsWhole graph.new) }
 {
-    match link {
-        Some(link) => graph.add(link.target, link.source),
+    match edge {
+        Some(edge) => graph.add(edge.target, edge.source),
         None => Ok(()),
     }
 }
 
-// Adds an edge from the name of a link to its port.
-fn add_sink(graph: &mut Graph, link: Option<Link>) -> Result<(), AllocError>
-    requires { IsBelow (size graph.old) (link_of link) }
-    ensures size { size graph.new ≡ size graph.old }
-    ensures gains { OnOk result (GainsEdges graph.old graph.new (λ a b.
-        is_pair (link_of link) b a)) }
-    ensures whole { OnOk result (IsWhole graph.old → IsWhole graph.new) }
-{
-    match link {
-        Some(link) => graph.add(link.source, link.target),
-        None => Ok(()),
-    }
-}
-
-// Adds an edge from each port to the names that are linked to it.
-fn add_origins(graph: &mut Graph, flat: &Flat) -> Result<(), AllocError>
+// Adds the edges that links give.
+fn add_edges(graph: &mut Graph, flat: &Flat, edges: Edges) -> Result<(), AllocError>
     requires sound { IsTrue (sound (design_of flat.now)) }
     requires size { size graph.old ≡ length flat.now.signals.items }
     ensures size { size graph.new ≡ length flat.now.signals.items }
-    ensures gains { OnOk result (GainsEdges graph.old graph.new (λ a b.
-        lists_pair (links_in (design_of flat.now)) a b)) }
+    ensures gains { OnOk result (GainsEdges graph.old graph.new
+        (lists_pair (edges_of edges (design_of flat.now).processes))) }
     ensures whole { OnOk result (IsWhole graph.old → IsWhole graph.new) }
 {
     for process in &flat.processes {
-        add_origin(graph, link_in(process))?;
-    }
-    Ok(())
-}
-
-// Adds an edge from each name to the input ports that it is linked to.
-fn add_inputs(graph: &mut Graph, flat: &Flat) -> Result<(), AllocError>
-    requires sound { IsTrue (sound (design_of flat.now)) }
-    requires size { size graph.old ≡ length flat.now.signals.items }
-    ensures size { size graph.new ≡ length flat.now.signals.items }
-    ensures gains { OnOk result (GainsEdges graph.old graph.new (λ a b.
-        lists_pair (links_in (design_of flat.now)) b a)) }
-    ensures whole { OnOk result (IsWhole graph.old → IsWhole graph.new) }
-{
-    for process in &flat.processes {
-        add_sink(graph, link_in(process))?;
-    }
-    Ok(())
-}
-
-// Adds an edge from each output port to the nets that are linked to it.
-fn add_outputs(graph: &mut Graph, flat: &Flat) -> Result<(), AllocError>
-    requires sound { IsTrue (sound (design_of flat.now)) }
-    requires size { size graph.old ≡ length flat.now.signals.items }
-    ensures size { size graph.new ≡ length flat.now.signals.items }
-    ensures gains { OnOk result (GainsEdges graph.old graph.new (λ a b.
-        lists_pair (links_out (design_of flat.now)) b a)) }
-    ensures whole { OnOk result (IsWhole graph.old → IsWhole graph.new) }
-{
-    for process in &flat.processes {
-        add_sink(graph, link_out(process))?;
+        add_edge(graph, edge_of(edges, process))?;
     }
     Ok(())
 }
@@ -155,7 +139,7 @@ pub fn origins_of(alloc: Global, flat: &Flat) -> Result<Graph, AllocError>
     ensures whole { IfOk result IsWhole }
 {
     let mut graph = Graph::new(alloc, flat.signals.len())?;
-    add_origins(&mut graph, flat)?;
+    add_edges(&mut graph, flat, Edges::ToNames)?;
     Ok(graph)
 }
 
@@ -169,7 +153,7 @@ pub fn clock_graph(alloc: Global, flat: &Flat) -> Result<Graph, AllocError>
     ensures whole { IfOk result IsWhole }
 {
     let mut graph = origins_of(alloc, flat)?;
-    add_outputs(&mut graph, flat)?;
-    add_inputs(&mut graph, flat)?;
+    add_edges(&mut graph, flat, Edges::ToNets)?;
+    add_edges(&mut graph, flat, Edges::ToInputs)?;
     Ok(graph)
 }

@@ -65,10 +65,13 @@ pub fn top_clock(flat: &Flat, clocks: &[bool]) -> Option<SigId>
     requires clocks { AreClocks (design_of flat.now) clocks.now }
     ensures { number_if_any result ≡ top_clock (design_of flat.now) }
 {
-    for (s, signal) in flat.signals.iter().enumerate() {
-        if clocks[s] & is_top(signal.kind) {
-            return Some(SigId(s as u32));
-        }
+    let found = flat
+        .signals
+        .iter()
+        .zip(clocks)
+        .position(|(signal, is_clock)| *is_clock & is_top(signal.kind));
+    match found {
+        Some(place) => Some(SigId(place as u32)),
+        None => None,
     }
-    None
 }

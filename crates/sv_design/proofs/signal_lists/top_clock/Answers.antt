@@ -1,66 +1,123 @@
-use Rattle.std.proofs.Common.{◌≡◌, ◌&&◌, length, sym, ap, ap₂, subst, ◌∙◌, arith}
+use Rattle.std.proofs.Common.{◌≡◌, ◌<◌, ◌≤◌, ◌&&◌, ℕ, Bool, true, false, List, [], ◌∷◌, length}
+use Rattle.std.proofs.Common.{get_or, min, Option, Some, None, refl, sym, ap, ap₂, subst, ◌∙◌, arith}
+use Rattle.std.proofs.Common.{rules, tests}
 use Rattle.std.proofs.Math.ListN.{length-map}
+use Rattle.std.proofs.lemmas.Iterator.{YieldsList-from_slice, YieldsList-from_zip}
+use Rattle.std.proofs.lemmas.Iterator.{IsFirst-from_position}
+use Rattle.std.proofs.lemmas.List.{get_or_default}
 use Rattle.std.proofs.lemmas.List.FromFn.{length-map-range_with_len}
-use Rattle.std.specs.Prelude.{find}
+use Rattle.std.proofs.lemmas.Slice.Zip.{length-zip, get_or-zip}
+use Rattle.std.specs.List.{zip, AllWithin, HoldsAt}
+use Rattle.std.specs.Prelude.{find, MatchOption}
 use Rattle.sv_flat.specs.Clocks.{is_clock}
 use Rattle.sv_flat.specs.Design.{SignalForm}
 use Rattle.sv_flat.specs.Processes.{is_top_kind, is_top_input}
+use Rattle.sv_flat.specs.SignalLists.{top_clock}
 use Rattle.sv_flat.specs.Views.{design_of, signal_form}
+use Rattle.sv_flat.specs.declared.designs.Flat.{Flat}
+use Rattle.sv_flat.specs.declared.signals.Signal.{Signal}
 use Rattle.sv_flat.proofs.Depths.{first_of, second_of}
+use Rattle.sv_design.specs.DriverTables.{AreClocks}
 use Rattle.sv_design.proofs.ClockLinks.{at_table}
 use Rattle.sv_design.proofs.ClockOrder.{NoneBelow, clocks_in_order, first_of_both, none_of_both}
-use Rattle.sv_design.proofs.ClockOrder.{none_below_more}
-use Rattle.sv_design.proofs.DriverFacts.{signal_at, inside_design}
+use Rattle.sv_design.proofs.DriverFacts.{signal_at}
 use Rattle.sv_design.proofs.signal_lists.top_clock.Goals as goal
 
-pub bounds-clocks-s : goal.bounds-clocks-s
-bounds-clocks-s c =
-    let design = design_of c.args.flat.now in
-    let size : length c.args.clocks.now ≡ length design.signals =
-    ap length c.requires.clocks
-    ∙ length-map-range_with_len (is_clock design) 0 (length design.signals) in
-    let inside = inside_design c.args.flat.now c.deref-signal-items.result.now c.loop-s.s
-    c.deref-signal-items.ensures.value c.loop-s-test.true in
-    omega arith
+some_item : {X : Type 0} (xs : List X) (k : ℕ) → k < length xs → X
+some_item [] k inside = absurd (omega arith)
+some_item (x ∷ xs) k inside = x
 
-pub returns-then-clocks-s : goal.returns-then-clocks-s
-returns-then-clocks-s c =
+-- a signal beside whether it is a clock
+abbrev is_top_clock : Signal × Bool → Bool
+is_top_clock p = p.1 && is_top_kind p.0.kind
+
+module _ (flat : Flat) (clocks : List Bool) (are : AreClocks (design_of flat) clocks) where
+  abbrev pairs : List (Signal × Bool)
+  pairs = zip flat.signals.items clocks
+
+  table_size : length clocks ≡ length flat.signals.items
+  table_size =
+      ap length are
+      ∙ length-map-range_with_len (is_clock (design_of flat)) 0 (length (design_of flat).signals)
+      ∙ length-map flat.signals.items signal_form
+
+  pairs_size : length pairs ≡ length flat.signals.items
+  pairs_size =
+      let both = length-zip flat.signals.items clocks in
+      let same = table_size in
+      omega arith
+
+  at_pair : (k : ℕ) (d : Signal × Bool) → k < length flat.signals.items
+      → is_top_clock (get_or pairs k d)
+      ≡ (is_clock (design_of flat) k && is_top_input (design_of flat) k)
+  at_pair k d inside =
+      let design = design_of flat in
+      let signals = flat.signals.items in
+      let here : k < length design.signals = rw length-map inside in
+      let has : k < length clocks = subst (λ n. k < n) (sym table_size) inside in
+      let signal = get_or signals k d.0 in
+      let form = signal_at flat signals k signal refl inside
+      (get_or_default signals k d.0 signal inside) in
+      ap is_top_clock (get_or-zip signals clocks k d inside has)
+      ∙ ap₂ (λ c t. c && t)
+      (get_or_default clocks k d.1 false has ∙ at_table design clocks are k here)
+      (ap (λ (s : SignalForm). is_top_kind s.kind) (sym form))
+
+  none_below : (i : ℕ) → i ≤ length flat.signals.items
+      → AllWithin (λ p. is_top_clock p ≡ false) pairs 0 i
+      → NoneBelow (is_clock (design_of flat)) (is_top_input (design_of flat)) i
+  none_below i most none k below =
+      let count = pairs_size in
+      let inside : k < length pairs = omega arith in
+      let d = some_item pairs k inside in
+      sym (at_pair k d (omega arith)) ∙ none k d (omega arith) below
+
+  is_first : (o : Option ℕ)
+      → MatchOption o (AllWithin (λ p. is_top_clock p ≡ false) pairs 0 (length pairs))
+      (λ i. (i < length pairs) × HoldsAt (λ p. is_top_clock p ≡ true) pairs i
+      × AllWithin (λ p. is_top_clock p ≡ false) pairs 0 i)
+      → o ≡ top_clock (design_of flat)
+  is_first None none =
+      let design = design_of flat in
+      let all : NoneBelow (is_clock design) (is_top_input design) (length design.signals) =
+      subst (NoneBelow (is_clock design) (is_top_input design))
+      (sym (length-map flat.signals.items signal_form))
+      (none_below (length flat.signals.items) (omega arith)
+      (subst (AllWithin (λ p. is_top_clock p ≡ false) pairs 0) pairs_size none)) in
+      sym (ap (find (is_top_input design)) (clocks_in_order design)
+      ∙ none_of_both (is_clock design) (is_top_input design) (length design.signals) all)
+  is_first (Some i) first =
+      let design = design_of flat in
+      let count = pairs_size in
+      let lt = first.0 in
+      let inside : i < length flat.signals.items = omega arith in
+      let here : i < length design.signals = rw length-map inside in
+      let d = some_item pairs i first.0 in
+      let both = sym (at_pair i d inside) ∙ first.1 d in
+      sym (ap (find (is_top_input design)) (clocks_in_order design)
+      ∙ first_of_both (is_clock design) (is_top_input design) (length design.signals) i here
+      (none_below i (omega arith) first.2)
+      (first_of (is_clock design i) (is_top_input design i) both)
+      (second_of (is_clock design i) (is_top_input design i) both))
+
+pub returns-in-Some : goal.returns-in-Some
+returns-in-Some c =
     let flat = c.args.flat.now in
-    let design = design_of flat in
-    let i = c.loop-s.s in
-    let items = c.deref-signal-items.result.now in
-    let same = c.deref-signal-items.ensures.value in
-    let at = signal_at flat items i c.signal-item.result same c.loop-s-test.true c.signal-item.is in
-    let inside = inside_design flat items i same c.loop-s-test.true in
-    let top = c.is_top.ensures ∙ ap (λ (s : SignalForm). is_top_kind s.kind) (sym at) in
-    let clock = at_table design c.args.clocks.now c.requires.clocks i inside in
-    let both = sym (ap₂ (λ k t. k && t) clock top) ∙ c.if-clocks-s.true in
-    sym (ap (find (is_top_input design)) (clocks_in_order design)
-    ∙ first_of_both (is_clock design) (is_top_input design) (length design.signals) i inside
-    c.loop-s.invariant (first_of (is_clock design i) (is_top_input design i) both)
-    (second_of (is_clock design i) (is_top_input design i) both))
+    let clocks = c.args.clocks.now in
+    let first = IsFirst-from_position c.position-found.new.self _ c.position-found.result (λ p. is_top_clock p ≡ true)
+    (λ p. is_top_clock p ≡ false) c.position-found.ensures.ran
+    (YieldsList-from_zip (YieldsList-from_slice flat.signals.items (cc))
+    (YieldsList-from_slice clocks (cc)))
+    (λ x q k. search (rules, tests)) (λ x q k. search (rules, tests)) in
+    sym c.in-Some.is ∙ is_first flat clocks c.requires.clocks c.position-found.result first
 
-pub loop-s-preserved : goal.loop-s-preserved
-loop-s-preserved c =
+pub returns-in-None : goal.returns-in-None
+returns-in-None c =
     let flat = c.args.flat.now in
-    let design = design_of flat in
-    let i = c.loop-s.s in
-    let items = c.deref-signal-items.result.now in
-    let same = c.deref-signal-items.ensures.value in
-    let at = signal_at flat items i c.signal-item.result same c.loop-s-test.true c.signal-item.is in
-    let inside = inside_design flat items i same c.loop-s-test.true in
-    let top = c.is_top.ensures ∙ ap (λ (s : SignalForm). is_top_kind s.kind) (sym at) in
-    let clock = at_table design c.args.clocks.now c.requires.clocks i inside in
-    none_below_more (is_clock design) (is_top_input design) i c.loop-s.invariant
-    (sym (ap₂ (λ k t. k && t) clock top) ∙ c.if-clocks-s.false)
-
-pub returns : goal.returns
-returns c =
-    let design = design_of c.args.flat.now in
-    let count = length-map c.args.flat.now.signals.items signal_form in
-    let most = c.loop-s.auto.s-end in
-    let same : c.loop-s.s ≡ length design.signals =
-    omega (arith, c.loop-s-test.false, ap length c.deref-signal-items.ensures.value) in
-    sym (ap (find (is_top_input design)) (clocks_in_order design)
-    ∙ none_of_both (is_clock design) (is_top_input design) (length design.signals)
-    (subst (NoneBelow (is_clock design) (is_top_input design)) same c.loop-s.invariant))
+    let clocks = c.args.clocks.now in
+    let first = IsFirst-from_position c.position-found.new.self _ c.position-found.result (λ p. is_top_clock p ≡ true)
+    (λ p. is_top_clock p ≡ false) c.position-found.ensures.ran
+    (YieldsList-from_zip (YieldsList-from_slice flat.signals.items (cc))
+    (YieldsList-from_slice clocks (cc)))
+    (λ x q k. search (rules, tests)) (λ x q k. search (rules, tests)) in
+    sym c.in-None.is ∙ is_first flat clocks c.requires.clocks c.position-found.result first

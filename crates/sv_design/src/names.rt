@@ -117,6 +117,19 @@ fn indexed(signals: &[Signal], zeros: &[u64], signal: SigId, place: Place, index
     }
 }
 
+// The bits from one down to another.
+fn part(signal: SigId, place: Place, high: u8, low: u8) -> Read
+    ensures { read_form result ≡
+        record { signal = signal.0; place = place; high = high; low = low } }
+{
+    Read {
+        signal,
+        place,
+        high: u64::from(high),
+        low: u64::from(low),
+    }
+}
+
 /// Adds the names in an expression, in textual order. A constant index has its value where each
 /// signal is 0.
 #[cycle(add_names)]
@@ -142,18 +155,18 @@ pub fn add_names(
             add_names(signals, zeros, index, names)
         }
         FNode::Part(signal, place, high, low) => {
-            names.push(Read {
-                signal: *signal,
-                place: *place,
-                high: u64::from(*high),
-                low: u64::from(*low),
-            })?;
+            names.push(part(*signal, *place, *high, *low))?;
             Ok(())
         }
-        FNode::Unary(_, operand) => add_names(signals, zeros, operand, names),
-        FNode::Binary(_, left, right) => {
-            add_names(signals, zeros, left, names)?;
-            add_names(signals, zeros, right, names)
+        FNode::Unary(_, value)
+        | FNode::Held(_, value)
+        | FNode::HeldPart(_, _, value, _, _)
+        | FNode::Slice(value, _, _) => add_names(signals, zeros, value, names),
+        FNode::Binary(_, first, second)
+        | FNode::HeldBit(_, _, first, second)
+        | FNode::Mend(_, first, _, _, second) => {
+            add_names(signals, zeros, first, names)?;
+            add_names(signals, zeros, second, names)
         }
         FNode::Choice(_, cond, yes, no) => {
             add_names(signals, zeros, cond, names)?;
@@ -162,17 +175,6 @@ pub fn add_names(
         }
         FNode::Join(parts) => add_all_names(signals, zeros, parts, names),
         FNode::Repeat(_, parts) => add_all_names(signals, zeros, parts, names),
-        FNode::Held(_, value) => add_names(signals, zeros, value, names),
-        FNode::HeldBit(_, _, value, index) => {
-            add_names(signals, zeros, value, names)?;
-            add_names(signals, zeros, index, names)
-        }
-        FNode::HeldPart(_, _, value, _, _) => add_names(signals, zeros, value, names),
-        FNode::Mend(_, old, _, _, piece) => {
-            add_names(signals, zeros, old, names)?;
-            add_names(signals, zeros, piece, names)
-        }
-        FNode::Slice(value, _, _) => add_names(signals, zeros, value, names),
     }
 }
 

@@ -28,7 +28,7 @@ use sv_num::Place;
 
 /// A process that assigns a signal: its number among the processes, links to clocks left out, and
 /// its place.
-#[derive(Clone, Copy, Debug)]
+#[derive(Clone, Copy)]
 pub struct Driver {
     pub process: usize,
     pub place: Place,

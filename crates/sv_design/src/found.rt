@@ -7,7 +7,7 @@ use sv_flat::SigId;
 use sv_num::Place;
 
 /// Where a rule is broken, and for which signal.
-#[derive(Clone, Copy, Debug, PartialEq, Eq)]
+#[derive(Clone, Copy)]
 pub struct Found {
     pub place: Place,
     pub signal: SigId,

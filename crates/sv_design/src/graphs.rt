@@ -9,7 +9,7 @@ use std::alloc::{AllocError, Global};
 use sv_flat::SigId;
 
 /// A graph over signals: for each signal, by its number, those that its edges lead to.
-#[derive(Debug, Drop)]
+#[derive(Drop)]
 pub struct Graph {
     pub(crate) rows: Vec<Vec<SigId>>,
 }

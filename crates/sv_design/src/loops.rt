@@ -22,7 +22,7 @@ use sv_flat::{Flat, SigId};
 
 /// A circle of reads: its least signal with the place of its declaration, and its signals from that
 /// one on.
-#[derive(Debug, Drop)]
+#[derive(Drop)]
 pub struct Circle {
     pub first: Found,
     pub signals: Vec<SigId>,

@@ -19,7 +19,7 @@ use sv_flat::SigId;
 
 /// Which signals are combinational; for each signal those that are read for it; and for each
 /// combinational signal the combinational ones that it is read for.
-#[derive(Debug, Drop)]
+#[derive(Drop)]
 pub struct Reads {
     pub combs: Vec<bool>,
     pub reads: Graph,

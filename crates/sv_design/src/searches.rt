@@ -11,14 +11,14 @@ use std::alloc::{AllocError, Global};
 use sv_flat::SigId;
 
 /// A signal that a search found, and the place, among what was found, of the signal that led to it.
-#[derive(Clone, Copy, Debug)]
+#[derive(Clone, Copy)]
 pub struct Step {
     pub signal: SigId,
     pub from: usize,
 }
 
 /// What a search found, in the order in which it was found; and for each signal its place there.
-#[derive(Debug, Drop)]
+#[derive(Drop)]
 pub struct Search {
     pub(crate) steps: Vec<Step>,
     pub(crate) places: Vec<Option<usize>>,

@@ -1,11 +1,13 @@
+use Rattle.std.proofs.Common.{◌&&◌}
 use Rattle.std.proofs.Common.{◌≡◌, ◌+◌, ◌-◌, ◌<◌, ◌||◌, length, get_or, drop, refl, sym, ap, ap₂}
 use Rattle.std.proofs.Common.{subst, ◌∙◌, arith, rules, Option}
 use Rattle.std.specs.Prelude.{IsTrue, IfOk}
-use Rattle.std.specs.List.{list_any}
+use Rattle.std.specs.List.{list_any, list_all}
 use Rattle.sv_flat.specs.Assigned.{assigns, can_assign, has_bit}
 use Rattle.sv_flat.specs.Design.{assign, branch}
 use Rattle.sv_flat.specs.Readings.{readings, readings_of, either}
-use Rattle.sv_flat.specs.Soundness.{statement_sound}
+use Rattle.sv_flat.specs.Soundness.{statement_sound, well_formed, piece_fits}
+use Rattle.sv_flat.proofs.Depths.{first_of, second_of}
 use Rattle.sv_flat.specs.Views.{design_of, typed_tree, flat_statement, flat_statements, chain_of}
 use Rattle.sv_flat.specs.declared.statements.FStmt.{the_lemmas}
 use Rattle.sv_design.specs.declared.bits.Bits.{Bits}
@@ -18,6 +20,54 @@ use Rattle.sv_design.proofs.Passes.{sound_at, or_turned, only_pieces, reads_insi
 use Rattle.sv_design.proofs.Passes.{backward_more}
 use Rattle.sv_design.proofs.Sound.{block_is, next_statement}
 use Rattle.sv_design.proofs.blocks.+backward.Goals as goal
+
+pub backward-wrong_in-requires-clause-formed : goal.backward-wrong_in-requires-clause-formed
+backward-wrong_in-requires-clause-formed t c =
+    let signals = (design_of c.args.flat.now).signals in
+    let right = typed_tree c.in-Assign.value in
+    let pieces = piece_forms c.in-Assign.pieces.items in
+    let whole = assign pieces c.in-Assign.place c.in-Assign.blocking right in
+    let is : flat_statement c.args.stmt.now ≡ whole = ap flat_statement c.in-Assign.is in
+    first_of (well_formed signals right) (list_all (piece_fits signals right) pieces)
+    (subst (λ b. IsTrue (statement_sound signals b)) is c.requires.stmt)
+
+pub backward-backward-requires-in-If : goal.backward-backward-requires-in-If
+backward-backward-requires-in-If t c =
+    let signals = (design_of c.args.flat.now).signals in
+    let cond = typed_tree c.in-If.cond in
+    let first = flat_statement c.deref-in-If.result.now in
+    let second = flat_statement c.deref-in-If-2.result.now in
+    let whole = branch c.in-If.place cond first second in
+    let is : flat_statement c.args.stmt.now ≡ whole = ap flat_statement c.in-If.is
+    ∙ ap₂ (λ p q. branch c.in-If.place cond (flat_statement p) (flat_statement q))
+    (sym c.deref-in-If.ensures) (sym c.deref-in-If-2.ensures) in
+    let sound = subst (λ b. IsTrue (statement_sound signals b)) is c.requires.stmt in (
+      search (rules, the_lemmas),
+      (
+        c.requires.sound,
+        (
+          c.requires.zeros,
+          second_of (well_formed signals cond && statement_sound signals first)
+              (statement_sound signals second) sound,
+        ),
+      ),
+    )
+
+pub backward-wrong_in-requires-in-If-clause-formed :
+    goal.backward-wrong_in-requires-in-If-clause-formed
+backward-wrong_in-requires-in-If-clause-formed t c =
+    let signals = (design_of c.args.flat.now).signals in
+    let cond = typed_tree c.in-If.cond in
+    let first = flat_statement c.deref-in-If.result.now in
+    let second = flat_statement c.deref-in-If-2.result.now in
+    let whole = branch c.in-If.place cond first second in
+    let is : flat_statement c.args.stmt.now ≡ whole = ap flat_statement c.in-If.is
+    ∙ ap₂ (λ p q. branch c.in-If.place cond (flat_statement p) (flat_statement q))
+    (sym c.deref-in-If.ensures) (sym c.deref-in-If-2.ensures) in
+    let sound = subst (λ b. IsTrue (statement_sound signals b)) is c.requires.stmt in
+    first_of (well_formed signals cond) (statement_sound signals first)
+    (first_of (well_formed signals cond && statement_sound signals first)
+    (statement_sound signals second) sound)
 
 pub backward-backward_all-requires : goal.backward-backward_all-requires
 backward-backward_all-requires t c =

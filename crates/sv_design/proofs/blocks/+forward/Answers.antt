@@ -1,12 +1,14 @@
 use Rattle.std.proofs.Common.{◌≡◌, ◌+◌, ◌&&◌, ◌||◌, drop, refl, sym, ap, ap₂, subst, ◌∙◌, rules}
 use Rattle.std.proofs.Common.{Option}
-use Rattle.std.specs.List.{list_any}
+use Rattle.std.proofs.lemmas.Bool.{and_parts}
+use Rattle.std.specs.List.{list_any, list_all}
 use Rattle.std.specs.Prelude.{IsTrue, IfOk}
 use Rattle.std.proofs.lemmas.List.{at_drop_all}
 use Rattle.sv_flat.specs.Assigned.{assigns, can_assign, always_assigns, has_bit}
 use Rattle.sv_flat.specs.Design.{assign, branch}
 use Rattle.sv_flat.specs.Readings.{readings, readings_of, either}
-use Rattle.sv_flat.specs.Soundness.{statement_sound}
+use Rattle.sv_flat.specs.Soundness.{statement_sound, well_formed, piece_fits}
+use Rattle.sv_flat.proofs.Depths.{first_of, second_of}
 use Rattle.sv_flat.specs.Views.{design_of, typed_tree, flat_statement, flat_statements, chain_of}
 use Rattle.sv_flat.specs.declared.statements.FStmt.{the_lemmas}
 use Rattle.sv_design.specs.declared.bits.Bits.{Bits}
@@ -19,6 +21,46 @@ use Rattle.sv_design.proofs.Passes.{sound_at, only_pieces, three_reads, forward_
 use Rattle.sv_design.proofs.Passes.{forward_end}
 use Rattle.sv_design.proofs.Sound.{block_is, next_statement}
 use Rattle.sv_design.proofs.blocks.+forward.Goals as goal
+
+pub forward-wrong_in-requires-clause-formed : goal.forward-wrong_in-requires-clause-formed
+forward-wrong_in-requires-clause-formed t c =
+    let signals = (design_of c.args.flat.now).signals in
+    let right = typed_tree c.in-Assign.value in
+    let pieces = piece_forms c.in-Assign.pieces.items in
+    let whole = assign pieces c.in-Assign.place c.in-Assign.blocking right in
+    let is : flat_statement c.args.stmt.now ≡ whole = ap flat_statement c.in-Assign.is in
+    first_of (well_formed signals right) (list_all (piece_fits signals right) pieces)
+    (subst (λ b. IsTrue (statement_sound signals b)) is c.requires.stmt)
+
+pub forward-forward-requires-in-If : goal.forward-forward-requires-in-If
+forward-forward-requires-in-If t c =
+    let signals = (design_of c.args.flat.now).signals in
+    let cond = typed_tree c.in-If.cond in
+    let first = flat_statement c.deref-in-If.result.now in
+    let second = flat_statement c.deref-in-If-2.result.now in
+    let whole = branch c.in-If.place cond first second in
+    let is : flat_statement c.args.stmt.now ≡ whole = ap flat_statement c.in-If.is
+    ∙ ap₂ (λ p q. branch c.in-If.place cond (flat_statement p) (flat_statement q))
+    (sym c.deref-in-If.ensures) (sym c.deref-in-If-2.ensures) in
+    let sound = subst (λ b. IsTrue (statement_sound signals b)) is c.requires.stmt in (
+      search (rules, the_lemmas),
+      (
+        c.requires.sound,
+        (
+          c.requires.zeros,
+          second_of (well_formed signals cond && statement_sound signals first)
+              (statement_sound signals second) sound,
+        ),
+      ),
+    )
+
+pub forward-wrong_in-requires-in-If-clause-formed :
+    goal.forward-wrong_in-requires-in-If-clause-formed
+forward-wrong_in-requires-in-If-clause-formed t c =
+    let signals = (design_of c.args.flat.now).signals in
+    let sound = subst (λ b. IsTrue (statement_sound signals b)) (ap flat_statement c.in-If.is)
+    c.requires.stmt in
+    (and_parts _ _ (and_parts _ _ sound).0).0
 
 pub forward-forward_all-requires : goal.forward-forward_all-requires
 forward-forward_all-requires t c =

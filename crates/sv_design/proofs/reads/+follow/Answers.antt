@@ -1,11 +1,12 @@
 use Rattle.std.proofs.Common.{◌≡◌, ◌+◌, ◌||◌, ◌&&◌, drop, sym, ap, ap₂, subst, ◌∙◌, rules}
 use Rattle.std.specs.Prelude.{IsTrue, IfOk, OnOk}
-use Rattle.std.specs.List.{list_any}
+use Rattle.std.specs.List.{list_any, list_all}
 use Rattle.std.proofs.Math.ListN.{length-map}
 use Rattle.sv_flat.specs.Assigned.{assigns, can_assign, has_bit}
 use Rattle.sv_flat.specs.Design.{assign, branch}
 use Rattle.sv_flat.specs.Readings.{names_signal}
-use Rattle.sv_flat.specs.Soundness.{statement_sound}
+use Rattle.sv_flat.specs.Soundness.{statement_sound, well_formed, piece_fits}
+use Rattle.sv_flat.proofs.Depths.{first_of, second_of}
 use Rattle.sv_flat.specs.Views.{design_of, signal_form, typed_tree, flat_statement, flat_statements}
 use Rattle.sv_flat.specs.Views.{chain_of}
 use Rattle.sv_flat.specs.declared.statements.FStmt.{the_lemmas}
@@ -35,6 +36,57 @@ follow-add_reads-requires-clause-targets t c =
     targets_below signals whole c.add_pieces.new.self _
     (length-map c.args.flat.now.signals.items signal_form ∙ sym c.requires.size)
     (subst (λ b. IsTrue (statement_sound signals b)) is c.requires.body) bits
+
+pub follow-add_reads-requires-clause-formed : goal.follow-add_reads-requires-clause-formed
+follow-add_reads-requires-clause-formed t c =
+    let signals = (design_of c.args.flat.now).signals in
+    let right = typed_tree c.in-Assign.value in
+    let pieces = piece_forms c.in-Assign.pieces.items in
+    let whole = assign pieces c.in-Assign.place c.in-Assign.blocking right in
+    let is : flat_statement c.args.stmt.now ≡ whole = ap flat_statement c.in-Assign.is in
+    first_of (well_formed signals right) (list_all (piece_fits signals right) pieces)
+    (subst (λ b. IsTrue (statement_sound signals b)) is c.requires.body)
+
+pub follow-follow-requires-in-If : goal.follow-follow-requires-in-If
+follow-follow-requires-in-If t c =
+    let signals = (design_of c.args.flat.now).signals in
+    let cond = typed_tree c.in-If.cond in
+    let first = flat_statement c.deref-in-If.result.now in
+    let second = flat_statement c.deref-in-If-2.result.now in
+    let whole = branch c.in-If.place cond first second in
+    let is : flat_statement c.args.stmt.now ≡ whole = ap flat_statement c.in-If.is
+    ∙ ap₂ (λ p q. branch c.in-If.place cond (flat_statement p) (flat_statement q))
+    (sym c.deref-in-If.ensures) (sym c.deref-in-If-2.ensures) in
+    let sound = subst (λ b. IsTrue (statement_sound signals b)) is c.requires.body in (
+      search (rules, the_lemmas),
+      (
+        c.requires.sound,
+        (
+          c.requires.zeros,
+          (
+            second_of (well_formed signals cond && statement_sound signals first)
+                (statement_sound signals second) sound,
+            c.in_ok-by_yes-in-If.ensures.size ∙ c.requires.size,
+          ),
+        ),
+      ),
+    )
+
+pub follow-add_reads-requires-in-If-clause-formed :
+    goal.follow-add_reads-requires-in-If-clause-formed
+follow-add_reads-requires-in-If-clause-formed t c =
+    let signals = (design_of c.args.flat.now).signals in
+    let cond = typed_tree c.in-If.cond in
+    let first = flat_statement c.deref-in-If.result.now in
+    let second = flat_statement c.deref-in-If-2.result.now in
+    let whole = branch c.in-If.place cond first second in
+    let is : flat_statement c.args.stmt.now ≡ whole = ap flat_statement c.in-If.is
+    ∙ ap₂ (λ p q. branch c.in-If.place cond (flat_statement p) (flat_statement q))
+    (sym c.deref-in-If.ensures) (sym c.deref-in-If-2.ensures) in
+    first_of (well_formed signals cond) (statement_sound signals first)
+    (first_of (well_formed signals cond && statement_sound signals first)
+    (statement_sound signals second)
+    (subst (λ b. IsTrue (statement_sound signals b)) is c.requires.body))
 
 pub follow-returns-in_ok-add_reads-in-Assign-clause-gains :
     goal.follow-returns-in_ok-add_reads-in-Assign-clause-gains

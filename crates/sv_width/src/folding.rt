@@ -43,7 +43,7 @@ fn low_bits(number: u64, width: u8) -> u64
 
 /// The value of a measured expression at a type, where each signal is 0. Rule 405 refuses the first
 /// divisor that is 0.
-#[tactic(auto, unfolding(crate::specs::Pushed::folded_of, crate::specs::Pushed::joined_from, crate::specs::Pushed::divisors_of, crate::specs::Pushed::divisors_in))]
+#[tactic(auto, unfolding(crate::specs::Pushed::folded_of, crate::specs::Pushed::divisors_of))]
 #[cycle(folding)]
 pub fn folded(alloc: Global, expr: &Measured, to: BitType) -> Result<Bits, Fault>
     ensures found { IfOk result (IsFolded (measured_tree expr.now) to.width to.signed) }
@@ -70,14 +70,8 @@ pub fn folded(alloc: Global, expr: &Measured, to: BitType) -> Result<Bits, Fault
             let b = right.own_type();
             let left_bits = folded(alloc, left, left_type(*op, to, a, b))?;
             let right_bits = folded(alloc, right, right_type(*op, to, a, b))?;
-            binary(
-                alloc,
-                *op,
-                *place,
-                left_bits,
-                right_bits,
-                Types { to, a, b },
-            )
+            let types = Types { to, a, b };
+            binary(alloc, *op, *place, left_bits, right_bits, types)
         }
         Measured::Choice(_, _, cond, yes, no) => {
             let cond = folded(alloc, cond, cond.own_type())?;
@@ -91,12 +85,8 @@ pub fn folded(alloc: Global, expr: &Measured, to: BitType) -> Result<Bits, Fault
         }
         Measured::Repeat(_, count, parts) => {
             let value = joined(alloc, parts, to.width)?;
-            let width = joined_width(parts);
-            Ok(Bits::of_type(
-                to.width,
-                to.signed,
-                repeated(*count, value, width, to.width),
-            ))
+            let whole = repeated(*count, value, joined_width(parts), to.width);
+            Ok(Bits::of_type(to.width, to.signed, whole))
         }
     }
 }
@@ -162,7 +152,7 @@ fn applied(op: BinOp, left: Bits, right: Bits, types: Types) -> Bits
 }
 
 // The parts one behind the other, modulo 2 to the width.
-#[tactic(auto, unfolding(crate::specs::Pushed::folded_of, crate::specs::Pushed::joined_from, crate::specs::Pushed::divisors_of, crate::specs::Pushed::divisors_in))]
+#[tactic(auto, unfolding(crate::specs::Pushed::joined_from, crate::specs::Pushed::divisors_in))]
 #[cycle(folding)]
 fn joined(alloc: Global, parts: &[Measured], width: u8) -> Result<u64, Fault>
     requires some { 1 ≤ width }

@@ -145,7 +145,7 @@ fn is_signal(name: &Name, scope: &Scope) -> bool
 }
 
 /// Whether a signal is named. It looks no further than the first one.
-#[tactic(auto, unfolding(sv_walk::specs::TypedExpressions::names_signal, sv_walk::specs::TypedExpressions::some_names_signal))]
+#[tactic(auto, unfolding(sv_walk::specs::TypedExpressions::names_signal))]
 #[cycle(naming)]
 pub fn names_signal(expr: &Expr, scope: &Scope) -> bool
     ensures { result ≡ names_signal (bindings_of scope.now) (expression_tree expr.now) }
@@ -169,7 +169,7 @@ pub fn names_signal(expr: &Expr, scope: &Scope) -> bool
     }
 }
 
-#[tactic(auto, unfolding(sv_walk::specs::TypedExpressions::names_signal, sv_walk::specs::TypedExpressions::some_names_signal))]
+#[tactic(auto, unfolding(sv_walk::specs::TypedExpressions::some_names_signal))]
 #[cycle(naming)]
 fn some_name_signal(exprs: &[Expr], scope: &Scope) -> bool
     ensures { result ≡ some_names_signal (bindings_of scope.now)

@@ -85,7 +85,6 @@ pub fn constant_in_reach(alloc: Global, expr: &Expr, scope: &Scope) -> Result<Bi
 }
 
 /// The typed form at a type. Rule 405 refuses the first divisor that is 0.
-#[tactic(auto, unfolding(crate::specs::Pushed::node_of, crate::specs::Pushed::nodes_in, crate::specs::Pushed::divisors_of, crate::specs::Pushed::divisors_in))]
 #[cycle(typing)]
 pub fn pushed(alloc: Global, expr: &Measured, to: BitType) -> Result<FExpr, Fault>
     ensures found { IfOk result (IsPushed (measured_tree expr.now) to.width to.signed) }
@@ -99,7 +98,7 @@ pub fn pushed(alloc: Global, expr: &Measured, to: BitType) -> Result<FExpr, Faul
     })
 }
 
-#[tactic(auto, unfolding(crate::specs::Pushed::node_of, crate::specs::Pushed::nodes_in, crate::specs::Pushed::divisors_of, crate::specs::Pushed::divisors_in))]
+#[tactic(auto, unfolding(crate::specs::Pushed::node_of, crate::specs::Pushed::divisors_of))]
 #[cycle(typing)]
 fn node(alloc: Global, expr: &Measured, to: BitType) -> Result<FNode, Fault>
     ensures found { IfOk result (IsNode (measured_tree expr.now) to.width to.signed) }
@@ -151,7 +150,6 @@ fn node(alloc: Global, expr: &Measured, to: BitType) -> Result<FNode, Fault>
     }
 }
 
-#[tactic(auto, unfolding(crate::specs::Pushed::node_of, crate::specs::Pushed::nodes_in, crate::specs::Pushed::divisors_of, crate::specs::Pushed::divisors_in))]
 #[cycle(typing)]
 fn boxed(alloc: Global, expr: &Measured, to: BitType) -> Result<Box<FExpr>, Fault>
     ensures found { IfOk result (λ b.
@@ -162,7 +160,7 @@ fn boxed(alloc: Global, expr: &Measured, to: BitType) -> Result<Box<FExpr>, Faul
     Ok(Box::new(alloc, pushed(alloc, expr, to)?)?)
 }
 
-#[tactic(auto, unfolding(crate::specs::Pushed::node_of, crate::specs::Pushed::nodes_in, crate::specs::Pushed::divisors_of, crate::specs::Pushed::divisors_in))]
+#[tactic(auto, unfolding(crate::specs::Pushed::nodes_in, crate::specs::Pushed::divisors_in))]
 #[cycle(typing)]
 fn pushed_parts(alloc: Global, parts: &[Measured]) -> Result<Vec<FExpr>, Fault>
     ensures asked { OnOk result ((divisors_in (parts_of (measured_trees parts.now))).end ≡ Ok tt) }

@@ -83,9 +83,9 @@ folded-returns-in_ok-value-in-Repeat-clause-found t c =
     row_parts (hidden-the_row-Measured-0 c.in-Repeat.parts) =
     ap (λ es. parts_of (measured_trees es)) c.deref-in-Repeat.ensures.value
     ∙ sym (row_parts-hidden c.in-Repeat.parts) in
-    let width : c.joined_width-width.result ≡
+    let width : c.joined_width.result ≡
     min (joined_width (parts_of (measured_trees c.deref-in-Repeat.result.now))) 65 =
-    c.joined_width-width.ensures
+    c.joined_width.ensures
     ∙ ap (λ es. min (joined_width (parts_of (measured_trees es))) 65)
     (c.deref-in-Repeat-2.ensures.value ∙ sym c.deref-in-Repeat.ensures.value) in
     subst (λ (e : Measured).
@@ -94,7 +94,7 @@ folded-returns-in_ok-value-in-Repeat-clause-found t c =
       sym (ap (λ es. (divisors_in es).end) parts) ∙ c.in_ok-value-in-Repeat.ensures.asked,
       c.of_type-in-Repeat.ensures.width,
       c.of_type-in-Repeat.ensures.signed,
-      c.of_type-in-Repeat.ensures.value ∙ c.repeated.ensures.value
+      c.of_type-in-Repeat.ensures.value ∙ c.repeated-whole.ensures.value
           ∙ ap (λ w. behind_times c.args.to.width c.in-Repeat.count w c.in_ok-value-in-Repeat.value)
           width
           ∙ capped_times c.args.to.width c.in-Repeat.count

@@ -1,6 +1,6 @@
 #!/usr/bin/env python3
-"""Compares whole outputs and statuses of `./secv` on worked designs: findings, lists of obligations and traces, texts that are of the first
-form or nearly so, and a million cycles. Each row was worked by hand from docs/language.md, docs/semantics.md and docs/formats.md; the
+"""Compares whole outputs and statuses of `./secv` on worked designs: findings, lists of obligations and traces, and texts that are of the first
+form or nearly so. Each row was worked by hand from docs/language.md, docs/semantics.md and docs/formats.md; the
 rounds of drawn orders were counted by a separate program. The last line is 'N passed, M failed'.
 """
 import os

@@ -1,59 +1,45 @@
 // Calls of `run` over files and streams in memory.
-ghost use Rattle.std.specs.Prelude.{◌≤◌};
 
 use std::alloc::{AllocError, Global};
 use sv_cli::run;
-use sv_io::{MemCabinet, MemSink, MemSource};
+use sv_io::{MemCabinet, MemSink, MemSource, Sink, Source};
 
-/// The numbers, from 1, of the calls that fail.
-#[derive(Clone, Copy)]
-pub struct Failing<'a> {
-    pub fetches: &'a [u32],
-    pub takes: &'a [u32],
-    pub puts: &'a [u32],
+/// The status of a command over the text, with these streams.
+pub fn status_of<S: Source, K: Sink>(
+    alloc: Global,
+    command: &str,
+    text: &str,
+    input: &mut S,
+    out: &mut K,
+) -> Result<u8, AllocError> {
+    let mut cabinet = MemCabinet::new(alloc, Vec::new(alloc));
+    cabinet.hold("f", text.as_bytes())?;
+    let command = String::from_str(alloc, command)?;
+    let words = vec![in alloc; command, String::from_str(alloc, "f")?]?;
+    Ok(run(alloc, &words, &mut cabinet, input, out).status())
 }
 
-/// No call fails.
-pub const NONE: Failing<'static> = Failing {
-    fetches: &[],
-    takes: &[],
-    puts: &[],
-};
+/// What the input gives, at most how many bytes a take, and the numbers, from 1, of the take and of
+/// the put that fail; at 0 none does.
+#[derive(Clone, Copy)]
+pub struct Streams<'a> {
+    pub stimulus: &'a str,
+    pub most: usize,
+    pub take: u32,
+    pub put: u32,
+}
 
-/// The status and all that was written for words that one blank parts, where `f` holds the text and
-/// the input gives the stimulus, a byte a take. The output moves a byte a put.
+/// The status and all that was written, where the output moves a byte a put.
 pub fn called(
     alloc: Global,
-    words: &str,
-    text: &[u8],
-    stimulus: &str,
-    failing: Failing<'_>,
+    command: &str,
+    text: &str,
+    streams: Streams<'_>,
 ) -> Result<(u8, Vec<u8>), AllocError> {
-    called_in_pieces(alloc, words, text, stimulus, failing, 1)
-}
-
-/// The same, where a take gives at most so many bytes.
-pub fn called_in_pieces(
-    alloc: Global,
-    words: &str,
-    text: &[u8],
-    stimulus: &str,
-    failing: Failing<'_>,
-    most: usize,
-) -> Result<(u8, Vec<u8>), AllocError>
-    requires { 1 ≤ most }
-{
-    let mut list = Vec::new(alloc);
-    for word in words.split(' ') {
-        if !word.is_empty() {
-            list.push(String::from_str(alloc, word)?)?;
-        }
-    }
-    let mut cabinet = MemCabinet::new(alloc, Vec::from_slice(alloc, failing.fetches)?);
-    cabinet.hold("f", text)?;
-    let bytes = Vec::from_slice(alloc, stimulus.as_bytes())?;
-    let mut input = MemSource::new(bytes, Vec::from_slice(alloc, failing.takes)?, most);
-    let mut out = MemSink::new(alloc, Vec::from_slice(alloc, failing.puts)?, 1);
-    let outcome = run(alloc, &list, &mut cabinet, &mut input, &mut out);
-    Ok((outcome.status(), Vec::from_slice(alloc, out.bytes())?))
+    let bytes = Vec::from_slice(alloc, streams.stimulus.as_bytes())?;
+    let takes = vec![in alloc; streams.take]?;
+    let mut input = MemSource::new(bytes, takes, streams.most.max(1));
+    let mut out = MemSink::new(alloc, vec![in alloc; streams.put]?, 1);
+    let status = status_of(alloc, command, text, &mut input, &mut out)?;
+    Ok((status, Vec::from_slice(alloc, out.bytes())?))
 }

@@ -1,12 +1,13 @@
-//! Tests of the top call over files and streams in memory, with whole outputs of worked examples.
-//! They stand in a crate of their own, since a crate with tests is proved twice.
+//! Tests of `run` where a source or a sink fails in mid-stream, and over a million cycles. Whole
+//! outputs are compared through the built program (`.ci/`). They stand in a crate of their own,
+//! since a crate with tests is proved twice.
 #![tactic(auto)]
 
 #[cfg(test)]
 mod calls;
 #[cfg(test)]
-mod large;
+mod cycles;
 #[cfg(test)]
-mod simulations;
+mod failures;
 #[cfg(test)]
-mod tests;
+mod texts;

@@ -3,8 +3,8 @@ use Rattle.std.specs.Prelude.{All}
 use Rattle.sv_flat.specs.Views.{design_of}
 use Rattle.sv_obl.specs.DesignQueries.{IsQueryOf}
 use Rattle.sv_obl.specs.Views.{obligation_of}
-use Rattle.elaboration_tests.proofs.QueryFacts.{asked_at}
-use Rattle.elaboration_tests.proofs.obligations.lines.Goals as goal
+use Rattle.design_tests.proofs.QueryFacts.{asked_at}
+use Rattle.design_tests.proofs.obligations.lines.Goals as goal
 
 pub list_line-requires-clause-query : goal.list_line-requires-clause-query
 list_line-requires-clause-query c =

@@ -4,16 +4,15 @@ use Rattle.std.proofs.Common.{List, [], ◌∷◌, ◌++◌, length, map, flat_m
 use Rattle.std.proofs.Common.{Result}
 use Rattle.std.proofs.Common.{refl, IsErrAnd}
 use Rattle.std.specs.Global.{Vec}
-use Rattle.std.proofs.Common.{sym, ap, subst, ◌∙◌, arith, append_assoc, length-append}
-use Rattle.std.proofs.Common.{ap₂, take, drop}
-use Rattle.std.proofs.lemmas.List.{length-map, take_at, drop_at}
+use Rattle.std.proofs.Common.{sym, ap, subst, ◌∙◌, arith, length-append}
+use Rattle.std.proofs.Common.{take}
+use Rattle.std.proofs.lemmas.List.{length-map}
 use Rattle.std.proofs.lemmas.List.Folds.{length-flat_map-take}
 use Rattle.sv_flat.specs.Design.{SignalForm, TypedTree, typed, choice, PieceForm}
 use Rattle.sv_flat.specs.Views.{typed_tree}
 use Rattle.sv_obl.specs.declared.faults.WalkFault.{WalkFault}
 use Rattle.sv_obl.specs.declared.faults.WalkFault.TheVariants.{TooMany, OutOfMemory}
 use Rattle.sv_obl.specs.declared.trails.Trail.{Trail}
-use Rattle.sv_obl.specs.Paths.{StepForm}
 use Rattle.sv_obl.specs.Routes.{Route, behind, is_all, with_put, with_ways, with_right}
 use Rattle.sv_obl.specs.declared.cuts.Cut.{Cut}
 use Rattle.sv_obl.specs.declared.cuts.Cut as cut
@@ -97,65 +96,6 @@ one_too_many trails route full =
     let same = length-map trails route_of in
     let more = length-append (routes_of trails) (route ∷ []) in
     omega (arith, same, more)
-
--- ---- conditions put before the trails that were added
-
-module _ (f : Route → Route) where
-  pub behind_added : (old more all new : List Route) (start : ℕ) → length old ≡ start
-      → all ≡ old ++ more → new ≡ take start all ++ map f (drop start all)
-      → new ≡ old ++ map f more
-  behind_added old more all new start size is here =
-      here
-      ∙ ap (λ zs. take start zs ++ map f (drop start zs)) is
-      ∙ ap₂ (λ xs ys. xs ++ map f ys) (take_at old more start size) (drop_at old more start size)
-
--- trails are added behind those before
-pub grown : (old new : List Trail) (more : List Route) → routes_of new ≡ routes_of old ++ more
-    → length old ≤ length new
-grown old new more is =
-    let one = length-map old route_of in
-    let two = length-map new route_of in
-    let whole : length (routes_of new) ≡ length (routes_of old) + length more =
-    ap length is ∙ length-append (routes_of old) more in
-    omega (arith, one, two, whole)
-
--- how many trails there are tells how many routes
-pub as_many : (trails : List Trail) (count : ℕ) → count ≡ length trails
-    → length (routes_of trails) ≡ count
-as_many trails count is = length-map trails route_of ∙ sym is
-
-pub ways_alike : (a b a' b' : StepForm) (xs ys xs' ys' : List Route) → a ≡ a' → b ≡ b'
-    → xs ≡ xs' → ys ≡ ys'
-    → map (behind a) xs ++ map (behind b) ys ≡ map (behind a') xs' ++ map (behind b') ys'
-ways_alike a b a' b' xs ys xs' ys' one two three four =
-    ap₂ (λ rs ss. rs ++ ss) (ap₂ (λ step rs. map (behind step) rs) one three)
-    (ap₂ (λ step rs. map (behind step) rs) two four)
-
--- the trails of one way, and then those of the other, each behind its condition
-module _ (f g : Route → Route) (old those others both first front : List Route) (start : ℕ)
-    (split : both ≡ map f those ++ map g others) (size : length old ≡ start)
-    (gains : first ≡ old ++ those) (here : front ≡ take start first ++ map f (drop start first))
-  where
-    pub fork_longer : length (front ++ others) ≤ length (old ++ both)
-    fork_longer =
-        let one = length-append front others in
-        let two : length (old ++ both) ≡ length old + length (map f those ++ map g others) =
-        length-append old both ∙ ap (λ rs. length old + length rs) split in
-        let three = length-append (map f those) (map g others) in
-        let four = length-map others g in
-        let five : length front ≡ length old + length (map f those) =
-        ap length (behind_added f old those first front start size gains here)
-        ∙ length-append old (map f those) in
-        omega arith
-
-    pub forked : (second whole : List Route) (mid : ℕ) → length front ≡ mid
-        → second ≡ front ++ others → whole ≡ take mid second ++ map g (drop mid second)
-        → whole ≡ old ++ both
-    forked second whole mid next more last =
-        behind_added g front others second whole mid next more last
-        ∙ ap (λ zs. zs ++ map g others) (behind_added f old those first front start size gains here)
-        ∙ append_assoc old (map f those) (map g others)
-        ∙ ap (λ rs. old ++ rs) (sym split)
 
 -- ---- the trails before a cut, one by one
 

@@ -4,10 +4,9 @@ use Rattle.std.proofs.Common.{map, flat_map, take, get_or, All, Some, None, Resu
 use Rattle.std.proofs.Common.{refl, sym, ap, subst, ◌∙◌, arith, append_assoc, append-nil}
 use Rattle.std.proofs.Common.{length-append, IsErrAnd, Bool, true, false, cond, nat_lt, ltb-false}
 use Rattle.std.specs.Prelude.{IsTrue, IfErr}
-use Rattle.std.specs.List.{range_with_len, list_any, position}
+use Rattle.std.specs.List.{range_with_len, list_any}
 use Rattle.std.proofs.lemmas.List.{map-append, take_more}
 use Rattle.std.proofs.lemmas.List.Elements.{All-head, All-tail}
-use Rattle.std.proofs.lemmas.List.Quantifiers.{position-Some}
 use Rattle.sv_flat.specs.Admission.{IsAdmitted}
 use Rattle.sv_flat.specs.Design.{SignalForm, ProcessForm, FlatDesign}
 use Rattle.sv_flat.specs.Processes.{is_clocked, signal_numbers}
@@ -299,18 +298,6 @@ module _ (design : FlatDesign) where
       ∙ ap (λ k. lines_from design.signals (length (obligations_before design n) + 1)
       (flat_map (target_obligations [] design) (range_with_len n k) ++ selectors))
       (nothing_left n)
-
--- ---- the process that drives a target
-
-element_at : {X : Type 0} (xs : List X) (k : ℕ) → k < length xs → (x : X) × (get_or xs k x ≡ x)
-element_at [] k inside = absurd (omega arith)
-element_at (x ∷ xs) zero inside = (x, refl)
-element_at (x ∷ xs) (suc k) inside = element_at xs k (omega arith)
-
-pub found_at : {X : Type 0} (test : X → Bool) (xs : List X) (k : ℕ) → position test xs ≡ Some k
-    → (x : X) × (get_or xs k x ≡ x)
-found_at test [] k h = absurd cc
-found_at test (x ∷ xs) k h = element_at (x ∷ xs) k (position-Some test (x ∷ xs) k x h).0
 
 -- ---- limits
 

@@ -1,6 +1,7 @@
 pub mod Answers
 pub mod Cuts
 pub mod DesignQueries
+pub mod Driven
 pub mod Exchange
 pub mod Limits
 pub mod ListLines

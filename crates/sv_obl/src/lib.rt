@@ -16,9 +16,9 @@
 //! `Listing` gives the lines of `secv list` part by part, with no more in memory than the paths of
 //! one target and their lines. Inside, `Routes.antt` tells paths as they are where no read is an
 //! earlier one, `Shorts.antt` statements in short, each part with what it assigns, `Cuts.antt` what
-//! of such a statement is walked for a target, `Trails.antt` ties routes to what is walked, and
-//! `Written.antt` lines to what is written; those five are private. `ListParts.antt` cites
-//! `Shorts.antt` for what a `Listing` holds.
+//! of such a statement is walked for a target, `Trails.antt` ties routes to what is walked,
+//! `Driven.antt` paths to the target whose they are, and `Written.antt` lines to what is written;
+//! those six are private. `ListParts.antt` cites `Shorts.antt` for what a `Listing` holds.
 #![tactic(auto)]
 
 mod cuts;

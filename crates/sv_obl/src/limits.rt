@@ -1,45 +1,24 @@
 // Whether a design keeps its limits, told before any of its obligations is made: of each path only
 // where it goes is walked.
 ghost use Rattle.std.specs.Prelude.{◌≡◌, ◌+◌, ◌<◌, ◌≤◌, [], length, IfOk};
-ghost use Rattle.sv_flat.specs.ByNumber.{signal_forms};
 ghost use Rattle.sv_flat.specs.Clocks.{processes_of};
 ghost use Rattle.sv_flat.specs.Views.{design_of};
-ghost use Rattle.sv_obl.specs.Answers.{Answers, target_excess, excess_at};
+ghost use Rattle.sv_obl.specs.Answers.{Answers, excess_at};
 ghost use Rattle.sv_obl.specs.Limits.{excess};
 ghost use Rattle.sv_obl.specs.Obligations.{target_obligations};
-ghost use Rattle.sv_obl.specs.Routes.{open_route, routes_before};
-ghost use Rattle.sv_obl.specs.Shorts.{statement_of, IsMarked, AreShort};
+ghost use Rattle.sv_obl.specs.Shorts.{AreShort};
 ghost use Rattle.sv_obl.specs.Written.{CountsTargets};
 
 use crate::faults::OblFault;
 use crate::listing::{add_all_selectors, count_of};
 use crate::shorts::{Short, shorts_of};
-use crate::targets::paths_within;
+use crate::targets::driven_trails;
 use std::alloc::Global;
 use sv_design::Design;
-use sv_flat::{SigId, Signal};
+use sv_flat::SigId;
 
-// How many obligations there are with those of the target's paths.
-fn count_through(
-    alloc: Global,
-    signals: &[Signal],
-    short: &Short,
-    target: SigId,
-    total: u32,
-) -> Result<u32, OblFault>
-    requires known { target.0 < length signals.now }
-    requires marked { IsMarked short.now }
-    requires few { total ≤ 65536 }
-    ensures excess { Answers (target_excess target.0 total (routes_before
-        (signal_forms signals.now) target.0 (statement_of short.now) open_route)) result }
-    ensures count { IfOk result (λ count. count ≡ total + length (routes_before
-        (signal_forms signals.now) target.0 (statement_of short.now) open_route)) }
-{
-    let trails = paths_within(alloc, signals, short, target, total as usize)?;
-    Ok(total + trails.len() as u32)
-}
-
-// The same of a target, where the bodies of the processes are given in short.
+// How many obligations there are with those of a target, where the bodies of the processes are
+// given in short.
 fn count_target(
     alloc: Global,
     design: &Design,
@@ -54,8 +33,8 @@ fn count_target(
     ensures count { IfOk result (λ count. count
         ≡ total + length (target_obligations [] (design_of design.now) target.0)) }
 {
-    match design.driver(target) {
-        Some(place) => count_through(alloc, design.signals(), &shorts[place], target, total),
+    match driven_trails(alloc, design, shorts, target, total as usize)? {
+        Some(driven) => Ok(total + driven.trails.len() as u32),
         None => Ok(total),
     }
 }

@@ -5,11 +5,11 @@ ghost use Rattle.sv_flat.specs.ByNumber.{signal_forms};
 ghost use Rattle.sv_flat.specs.Clocks.{processes_of};
 ghost use Rattle.sv_flat.specs.Processes.{is_clocked, signal_numbers};
 ghost use Rattle.sv_flat.specs.Views.{process_form, process_kind, design_of};
-ghost use Rattle.sv_obl.specs.Answers.{Answers, target_excess, excess_at};
+ghost use Rattle.sv_obl.specs.Answers.{Answers, excess_at};
 ghost use Rattle.sv_obl.specs.Limits.{first_excess};
 ghost use Rattle.sv_obl.specs.Obligations.{target_obligations, selector_obligations};
-ghost use Rattle.sv_obl.specs.Routes.{Route, open_route, routes_before, names_on, route_obligation};
-ghost use Rattle.sv_obl.specs.Shorts.{statement_of, IsMarked, AreShort};
+ghost use Rattle.sv_obl.specs.Routes.{Route, names_on, route_obligation};
+ghost use Rattle.sv_obl.specs.Shorts.{AreShort};
 ghost use Rattle.sv_obl.specs.Trails.{route_of, routes_of};
 ghost use Rattle.sv_obl.specs.Views.{obligation_of, IsAmong};
 ghost use Rattle.sv_obl.specs.Written.{Writes};
@@ -20,7 +20,7 @@ use crate::listing::add_all_selectors;
 use crate::path_lines::push_path;
 use crate::queries::Query;
 use crate::shorts::Short;
-use crate::targets::paths_within;
+use crate::targets::driven_trails;
 use crate::trails::Trail;
 use std::alloc::{AllocError, Global};
 use sv_design::Design;
@@ -114,34 +114,6 @@ fn push_paths(
     Ok(())
 }
 
-// Adds those of the target's paths through the process; an error where the target passes a limit
-// after the lines before it, or where memory runs out.
-fn push_through(
-    alloc: Global,
-    lines: &mut Lines,
-    signals: &[Signal],
-    process: &Process,
-    short: &Short,
-    target: SigId,
-) -> Result<(), OblFault>
-    requires known { target.0 < length signals.now }
-    requires marked { IsMarked short.now }
-    requires few { lines.old.count ≤ 65536 }
-    requires names { (route : Route) → Contains (routes_before (signal_forms signals.now) target.0
-        (statement_of short.now) open_route) route → All (λ t. t < length signals.now)
-        (names_on (is_clocked (process_kind process.now.kind)) target.0 route) }
-    ensures excess { Answers (target_excess target.0 lines.old.count (routes_before
-        (signal_forms signals.now) target.0 (statement_of short.now) open_route)) result }
-    ensures listed { OnOk result (Writes (signal_forms signals.now)
-        (map (route_obligation (length signals.now) (process_form process.now) target.0)
-        (routes_before (signal_forms signals.now) target.0 (statement_of short.now) open_route))
-        lines.old lines.new) }
-{
-    let trails = paths_within(alloc, signals, short, target, lines.count as usize)?;
-    push_paths(alloc, lines, signals, process, target, &trails)?;
-    Ok(())
-}
-
 /// Adds those of a target, where the bodies of the processes are given in short; an error where it
 /// passes a limit after the lines before it, or where memory runs out.
 pub fn push_target(
@@ -158,19 +130,18 @@ pub fn push_target(
     ensures listed { OnOk result (Writes (design_of design.now).signals
         (target_obligations [] (design_of design.now) target.0) lines.old lines.new) }
 {
-    match design.driver(target) {
-        Some(place) => {
-            push_through(
-                alloc,
-                lines,
-                design.signals(),
-                &design.processes()[place],
-                &shorts[place],
-                target,
-            )
-        }
-        None => Ok(()),
+    let found = driven_trails(alloc, design, shorts, target, lines.count as usize)?;
+    if let Some(driven) = found {
+        push_paths(
+            alloc,
+            lines,
+            design.signals(),
+            driven.process,
+            target,
+            &driven.trails,
+        )?;
     }
+    Ok(())
 }
 
 /// Adds those of all selectors; an error where all are too many, or where memory runs out.

@@ -6,6 +6,7 @@ ghost use Rattle.sv_flat.specs.Processes.{is_clocked};
 ghost use Rattle.sv_flat.specs.Clocks.{processes_of};
 ghost use Rattle.sv_flat.specs.Views.{process_form, process_kind, design_of};
 ghost use Rattle.sv_obl.specs.Answers.{Answers, target_excess, excess_at};
+ghost use Rattle.sv_obl.specs.Driven.{IsDriven};
 ghost use Rattle.sv_obl.specs.Obligations.{target_obligations};
 ghost use Rattle.sv_obl.specs.Routes.{Route, open_route, routes_before, names_on, route_obligation};
 ghost use Rattle.sv_obl.specs.Shorts.{statement_of, IsMarked, AreShort};
@@ -23,6 +24,13 @@ use crate::walks::trails_of;
 use std::alloc::{AllocError, Global};
 use sv_design::Design;
 use sv_flat::{Process, SigId, Signal};
+
+/// The paths of a target through the process that drives it.
+#[derive(Drop)]
+pub struct Driven<'d, 'a> {
+    pub process: &'d Process,
+    pub trails: Vec<Trail<'a>>,
+}
 
 // The paths of the target through the process, where they are few enough.
 fn paths_of<'a>(
@@ -44,9 +52,9 @@ fn paths_of<'a>(
     }
 }
 
-/// The paths of the target through the process, where they keep all limits after so many
-/// obligations.
-pub fn paths_within<'a>(
+// The paths of the target through the process, where they keep all limits after so many
+// obligations.
+fn paths_within<'a>(
     alloc: Global,
     signals: &[Signal],
     short: &Short<'a>,
@@ -71,6 +79,32 @@ pub fn paths_within<'a>(
     Ok(trails)
 }
 
+/// The target's paths through the process that drives it, if one does, where they keep all limits
+/// after so many obligations. The bodies of the processes are given in short.
+pub fn driven_trails<'d, 'a>(
+    alloc: Global,
+    design: &'d Design,
+    shorts: &[Short<'a>],
+    target: SigId,
+    total: usize,
+) -> Result<Option<Driven<'d, 'a>>, OblFault>
+    requires known { target.0 < length design.now.signals.items }
+    requires shorts { AreShort (processes_of (design_of design.now)) shorts.now }
+    requires few { total ≤ 65536 }
+    ensures excess { Answers (excess_at (design_of design.now) total target.0) result }
+    ensures driven { IfOk result (IsDriven (design_of design.now) target.0 total) }
+{
+    match design.driver(target) {
+        Some(place) => {
+            let process = &design.processes()[place];
+            let short = &shorts[place];
+            let trails = paths_within(alloc, design.signals(), short, target, total)?;
+            Ok(Some(Driven { process, trails }))
+        }
+        None => Ok(None),
+    }
+}
+
 // Adds the obligations of paths of the target.
 fn add_queries(
     alloc: Global,
@@ -87,33 +121,6 @@ fn add_queries(
     for trail in trails {
         queries.push(query_of(alloc, process, target, trail)?)?;
     }
-    Ok(())
-}
-
-// Adds the obligations of the target's paths through the process.
-fn add_paths(
-    alloc: Global,
-    signals: &[Signal],
-    process: &Process,
-    short: &Short,
-    target: SigId,
-    queries: &mut Vec<Query>,
-) -> Result<(), OblFault>
-    requires known { target.0 < length signals.now }
-    requires marked { IsMarked short.now }
-    requires few { length queries.old.items ≤ 65536 }
-    ensures excess { Answers (target_excess target.0 (length queries.old.items) (routes_before
-        (signal_forms signals.now) target.0 (statement_of short.now) open_route)) result }
-    ensures listed { (n : ℕ) → ((route : Route) → Contains (routes_before
-        (signal_forms signals.now) target.0 (statement_of short.now) open_route) route
-        → All (λ t. t < n)
-        (names_on (is_clocked (process_kind process.now.kind)) target.0 route))
-        → OnOk result (map obligation_of queries.new.items ≡ map obligation_of queries.old.items
-        ++ map (route_obligation n (process_form process.now) target.0) (routes_before
-        (signal_forms signals.now) target.0 (statement_of short.now) open_route)) }
-{
-    let trails = paths_within(alloc, signals, short, target, queries.len())?;
-    add_queries(alloc, process, target, &trails, queries)?;
     Ok(())
 }
 
@@ -135,17 +142,9 @@ pub fn add_target(
         ≡ map obligation_of queries.old.items
         ++ target_obligations [] (design_of design.now) target.0) }
 {
-    match design.driver(target) {
-        Some(place) => {
-            add_paths(
-                alloc,
-                design.signals(),
-                &design.processes()[place],
-                &shorts[place],
-                target,
-                queries,
-            )
-        }
-        None => Ok(()),
+    let found = driven_trails(alloc, design, shorts, target, queries.len())?;
+    if let Some(driven) = found {
+        add_queries(alloc, driven.process, target, &driven.trails, queries)?;
     }
+    Ok(())
 }

@@ -1,12 +1,13 @@
 // The walk through a process from its last statement back.
-ghost use Rattle.std.specs.Prelude.{◌≡◌, ◌<◌, ◌≤◌, [], ◌∷◌, ◌++◌, length, flat_map, IfOk, OnOk};
+ghost use Rattle.std.specs.Prelude.{◌≡◌, ◌<◌, ◌≤◌, [], ◌∷◌, ◌++◌, length, map, flat_map, IfOk};
+ghost use Rattle.std.specs.Prelude.{OnOk};
 ghost use Rattle.sv_flat.specs.ByNumber.{signal_forms};
 ghost use Rattle.sv_flat.specs.Views.{typed_tree};
 ghost use Rattle.sv_obl.specs.Cuts.{cut_routes};
 ghost use Rattle.sv_obl.specs.Paths.{later_place};
 ghost use Rattle.sv_obl.specs.Routes.{open_route, is_all, times_put, first_place, with_put};
-ghost use Rattle.sv_obl.specs.Routes.{with_ways, with_right};
-ghost use Rattle.sv_obl.specs.Trails.{piece_forms, route_of, routes_of, Walks, Adds};
+ghost use Rattle.sv_obl.specs.Routes.{with_ways, with_right, behind};
+ghost use Rattle.sv_obl.specs.Trails.{piece_forms, turn_form, route_of, routes_of, Walks, Adds};
 
 use crate::cuts::Cut;
 use crate::faults::WalkFault;
@@ -104,8 +105,8 @@ fn put_whole<'a>(
     add(put, all)
 }
 
-// Adds the trails that the ways of a right side give. A condition is put before all that stand
-// behind it where they are, so none of them is moved again.
+// Adds the trails that the ways of a right side give.
+#[cycle(ways)]
 fn put_ways<'a>(
     right: &'a FExpr,
     alloc: Global,
@@ -122,17 +123,39 @@ fn put_ways<'a>(
 {
     match &right.node {
         FNode::Choice(place, cond, yes, no) => {
+            let taken = Turn::new(*place, cond, true);
+            let passed = Turn::new(*place, cond, false);
             let copy = trail.copy(alloc)?;
-            let first = all.len();
-            put_ways(yes, alloc, signals, target, pieces, copy, all)?;
-            put_behind(all, first, Turn::new(*place, cond, true))?;
-            let second = all.len();
-            put_ways(no, alloc, signals, target, pieces, trail, all)?;
-            put_behind(all, second, Turn::new(*place, cond, false))?;
-            Ok(())
+            put_way(yes, taken, alloc, signals, target, pieces, copy, all)?;
+            put_way(no, passed, alloc, signals, target, pieces, trail, all)
         }
         _ => put_whole(signals, target, pieces, right, trail, all),
     }
+}
+
+// Adds those of one way of a choice. The condition is put before all that stand behind it where
+// they are, so none of them is moved again.
+#[cycle(ways)]
+fn put_way<'a>(
+    right: &'a FExpr,
+    turn: Turn<'a>,
+    alloc: Global,
+    signals: &[Signal],
+    target: SigId,
+    pieces: &[Piece],
+    trail: Trail<'a>,
+    all: &mut Vec<Trail<'a>>,
+) -> Result<(), WalkFault>
+    requires { target.0 < length signals.now }
+    ensures adds { Adds (routes_of all.old.items ++ map (behind (turn_form turn.entry))
+        (with_ways (signal_forms signals.now) target.0 (piece_forms pieces.now)
+        (typed_tree right.now) (route_of trail.entry))) all.new result }
+    ensures few { OnOk result (length all.new.items ≤ 4096) }
+{
+    let start = all.len();
+    put_ways(right, alloc, signals, target, pieces, trail, all)?;
+    put_behind(all, start, turn)?;
+    Ok(())
 }
 
 // Adds the trails that an assignment gives that is taken.
@@ -193,16 +216,36 @@ fn before<'a>(
             yes,
             no,
         } => {
+            let taken = Turn::new(*place, *cond, true);
+            let passed = Turn::new(*place, *cond, false);
             let copy = trail.copy(alloc)?;
-            let first = all.len();
-            before(yes, alloc, signals, target, copy, all)?;
-            put_behind(all, first, Turn::new(*place, *cond, true))?;
-            let second = all.len();
-            before(no, alloc, signals, target, trail, all)?;
-            put_behind(all, second, Turn::new(*place, *cond, false))?;
-            Ok(())
+            before_arm(yes, taken, alloc, signals, target, copy, all)?;
+            before_arm(no, passed, alloc, signals, target, trail, all)
         }
     }
+}
+
+// Adds those of one arm of a branch, each behind its condition.
+#[cycle(before)]
+fn before_arm<'a>(
+    cut: &Cut<'a>,
+    turn: Turn<'a>,
+    alloc: Global,
+    signals: &[Signal],
+    target: SigId,
+    trail: Trail<'a>,
+    all: &mut Vec<Trail<'a>>,
+) -> Result<(), WalkFault>
+    requires { target.0 < length signals.now }
+    ensures adds { Adds (routes_of all.old.items ++ map (behind (turn_form turn.entry))
+        (cut_routes (signal_forms signals.now) target.0 cut.now (route_of trail.entry))) all.new
+        result }
+    ensures few { length all.old.items ≤ 4096 → OnOk result (length all.new.items ≤ 4096) }
+{
+    let start = all.len();
+    before(cut, alloc, signals, target, trail, all)?;
+    put_behind(all, start, turn)?;
+    Ok(())
 }
 
 // Adds the trails that some trails become where a cut is taken before each. Of a chain each part is

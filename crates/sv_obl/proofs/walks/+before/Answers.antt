@@ -1,19 +1,15 @@
-use Rattle.std.proofs.Common.{◌≡◌, ◌+◌, ◌++◌, Bool, true, false, List, [], ◌∷◌, length, map}
-use Rattle.std.proofs.Common.{flat_map, map-id, refl, sym, ap, ap₂, subst, ◌∙◌, arith, rules}
+use Rattle.std.proofs.Common.{◌≡◌, ◌+◌, ◌++◌, List, length}
+use Rattle.std.proofs.Common.{flat_map, map-id, sym, ap, ap₂, subst, ◌∙◌, arith, rules}
 use Rattle.std.proofs.Common.{length-append}
 use Rattle.std.proofs.lemmas.Iterator.Consumers.{YieldsList-turn, YieldsList-so_far}
 use Rattle.std.proofs.lemmas.Iterator.Adapters.{YieldsList-from_vec}
 use Rattle.sv_flat.specs.ByNumber.{signal_forms}
-use Rattle.sv_flat.specs.Views.{typed_tree}
-use Rattle.sv_obl.specs.declared.cuts.Cut.{Cut}
 use Rattle.sv_obl.specs.Cuts.{cut_routes}
-use Rattle.sv_obl.specs.Paths.{StepForm}
-use Rattle.sv_obl.specs.Routes.{Route, behind}
-use Rattle.sv_obl.specs.Trails.{route_of, routes_of, turn_form, Adds}
+use Rattle.sv_obl.specs.Routes.{Route}
+use Rattle.sv_obl.specs.Trails.{route_of, routes_of, Adds}
 use Rattle.sv_obl.proofs.CutFacts.{closed_stays}
-use Rattle.sv_obl.proofs.PathLists.{cond_true}
-use Rattle.sv_obl.proofs.WalkFacts.{grown, as_many, fails_early, fork_longer, forked, ways_alike}
-use Rattle.sv_obl.proofs.WalkFacts.{chain_longer, chain_flat, chain_flat_longer, next_longer}
+use Rattle.sv_obl.proofs.WalkFacts.{fails_early, chain_longer, chain_flat, chain_flat_longer}
+use Rattle.sv_obl.proofs.WalkFacts.{next_longer}
 use Rattle.sv_obl.proofs.walks.+before.Goals as goal
 
 pub before-returns-then-not-trail-clause-adds : goal.before-returns-then-not-trail-clause-adds
@@ -44,89 +40,6 @@ before-returns-in_err-before-in-Chain-clause-adds t c =
     ∙ ap (λ k. flat_map (cut_routes signals s first) (cut_routes signals s k r))
     (sym c.deref.ensures)))
     c.from_residual.ensures.1 c.in_err-before-in-Chain.ensures.adds
-
-pub before-put_behind-requires : goal.before-put_behind-requires
-before-put_behind-requires t c =
-    let more = grown c.args.all.now.items c.before-in-Branch.new.all.items _
-    c.in_ok-before-in-Branch.ensures.adds in
-    omega (arith, c.len-first.ensures)
-
-pub before-put_behind-requires-in-Branch : goal.before-put_behind-requires-in-Branch
-before-put_behind-requires-in-Branch t c =
-    let more = grown c.put_behind.new.trails.items c.before-in-Branch-2.new.all.items _
-    c.in_ok-before-in-Branch-2.ensures.adds in
-    omega (arith, c.len-second.ensures)
-
-pub before-returns-in_err-before-in-Branch-2-clause-adds :
-    goal.before-returns-in_err-before-in-Branch-2-clause-adds
-before-returns-in_err-before-in-Branch-2-clause-adds t c =
-    let signals = signal_forms c.args.signals.now in
-    let s = c.args.target.0 in
-    let route = route_of c.args.trail in
-    let cuts : Cut → Route → List Route = λ k r. cut_routes signals s k r in
-    let whole = cuts c.args.cut.now route in
-    let old = routes_of c.args.all.now.items in
-    let one = turn_form c.new.result in
-    let those = cuts c.deref-in-Branch.result.now (route_of c.in_ok-copy-in-Branch.copy) in
-    let others = cuts c.deref-in-Branch-2.result.now route in
-    let step : Bool → StepForm = λ truth. record {
-      place = c.in-Branch.place;
-      condition = typed_tree c.in-Branch.cond.now;
-      truth = truth;
-    } in
-    let two = step false in
-    let split : whole ≡ map (behind one) those ++ map (behind two) others =
-    ap (λ k. cuts k route) c.in-Branch.is
-    ∙ cond_true route.wants _ (route ∷ []) (search rules)
-    ∙ ways_alike (step true) (step false) one two (cuts c.in-Branch.yes.value route)
-    (cuts c.in-Branch.no.value route) those others (sym c.new.ensures)
-    refl
-    (ap₂ cuts (sym c.deref-in-Branch.ensures) (sym c.in_ok-copy-in-Branch.ensures))
-    (ap (λ k. cuts k route) (sym c.deref-in-Branch-2.ensures)) in
-    fails_early (routes_of c.put_behind.new.trails.items ++ others) (old ++ whole)
-    c.before-in-Branch-2.new.all c.before-in-Branch-2.new.all
-    c.in_err-before-in-Branch-2.field-0.0 c.from_residual-in_err-before-in-Branch-2.result
-    (fork_longer (behind one) (behind two) old those others whole
-    (routes_of c.before-in-Branch.new.all.items) (routes_of c.put_behind.new.trails.items)
-    c.len-first.result split (as_many c.args.all.now.items c.len-first.result (omega arith))
-    c.in_ok-before-in-Branch.ensures.adds c.in_ok-put_behind-in-Branch.ensures.routes)
-    c.from_residual-in_err-before-in-Branch-2.ensures.1
-    c.in_err-before-in-Branch-2.ensures.adds
-
-pub before-returns-in_ok-put_behind-in-Branch-2-clause-adds :
-    goal.before-returns-in_ok-put_behind-in-Branch-2-clause-adds
-before-returns-in_ok-put_behind-in-Branch-2-clause-adds t c =
-    let signals = signal_forms c.args.signals.now in
-    let s = c.args.target.0 in
-    let route = route_of c.args.trail in
-    let cuts : Cut → Route → List Route = λ k r. cut_routes signals s k r in
-    let whole = cuts c.args.cut.now route in
-    let old = routes_of c.args.all.now.items in
-    let one = turn_form c.new.result in
-    let those = cuts c.deref-in-Branch.result.now (route_of c.in_ok-copy-in-Branch.copy) in
-    let others = cuts c.deref-in-Branch-2.result.now route in
-    let step : Bool → StepForm = λ truth. record {
-      place = c.in-Branch.place;
-      condition = typed_tree c.in-Branch.cond.now;
-      truth = truth;
-    } in
-    let two = turn_form c.new-in-Branch.result in
-    let split : whole ≡ map (behind one) those ++ map (behind two) others =
-    ap (λ k. cuts k route) c.in-Branch.is
-    ∙ cond_true route.wants _ (route ∷ []) (search rules)
-    ∙ ways_alike (step true) (step false) one two (cuts c.in-Branch.yes.value route)
-    (cuts c.in-Branch.no.value route) those others (sym c.new.ensures)
-    (sym c.new-in-Branch.ensures)
-    (ap₂ cuts (sym c.deref-in-Branch.ensures) (sym c.in_ok-copy-in-Branch.ensures))
-    (ap (λ k. cuts k route) (sym c.deref-in-Branch-2.ensures)) in
-    forked (behind one) (behind two) old those others whole
-    (routes_of c.before-in-Branch.new.all.items) (routes_of c.put_behind.new.trails.items)
-    c.len-first.result split (as_many c.args.all.now.items c.len-first.result (omega arith))
-    c.in_ok-before-in-Branch.ensures.adds c.in_ok-put_behind-in-Branch.ensures.routes
-    (routes_of c.before-in-Branch-2.new.all.items)
-    (routes_of c.put_behind-in-Branch.new.trails.items) c.len-second.result
-    (as_many c.put_behind.new.trails.items c.len-second.result (omega arith))
-    c.in_ok-before-in-Branch-2.ensures.adds c.in_ok-put_behind-in-Branch-2.ensures.routes
 
 pub before_all-returns-in_err-before_all-in-Chain-clause-adds :
     goal.before_all-returns-in_err-before_all-in-Chain-clause-adds

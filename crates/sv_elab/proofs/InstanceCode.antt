@@ -1,7 +1,7 @@
 -- Where the walk of an instance ends, from what the code has in hand.
-use Rattle.std.proofs.Common.{◌≡◌, ℕ, suc, ◌+◌, Bool, true, false, not, List, [], ◌∷◌, ◌++◌, length}
+use Rattle.std.proofs.Common.{◌≡◌, ℕ, ◌+◌, Bool, true, false, not, List, [], ◌∷◌, ◌++◌, length}
 use Rattle.std.proofs.Common.{Option, Some, None, append_assoc, refl, sym, ap, ◌∙◌}
-use Rattle.std.specs.Prelude.{Ok, Err, ◌&&◌, nat_lt}
+use Rattle.std.specs.Prelude.{Result, Ok, Err, ◌&&◌, nat_lt}
 use Rattle.std.specs.List.{list_all, list_any}
 use Rattle.std.specs.Str.{bytes_eq}
 use Rattle.std.proofs.lemmas.List.Folds.{list_any-append}
@@ -11,91 +11,115 @@ use Rattle.sv_ast.specs.Scopes.{Number}
 use Rattle.sv_ast.specs.Shape.{is_shaped_item, is_shaped_module, are_header_parameters}
 use Rattle.sv_ast.specs.Shape.{is_shaped_parameter, are_ports, is_shaped_declaration}
 use Rattle.sv_ast.specs.Tree.{InstanceTree, ItemTree, ModuleTree}
-use Rattle.sv_ast.specs.Instances.{entry, module_named}
+use Rattle.sv_ast.specs.Instances.{module_named}
 use Rattle.sv_flat.specs.Design.{ProcessForm}
-use Rattle.sv_walk.specs.Walks.{Step, Walk, ask, done, found, ◌>>=◌}
+use Rattle.sv_walk.specs.Walks.{Step, Walk, ask, done, found, then_walk, ◌>>=◌}
 use Rattle.sv_walk.specs.Names.{Names}
-use Rattle.sv_walk.specs.Declarations.{Site, nothing_declared}
+use Rattle.sv_walk.specs.Declarations.{Site, Declared, nothing_declared, declarations_walk}
 use Rattle.sv_walk.specs.LabelSteps.{Tables}
 use Rattle.sv_walk.specs.Overrides.{overrides_walk}
-use Rattle.sv_walk.specs.Links.{links_walk}
-use Rattle.sv_walk.specs.InstanceSteps.{Built, ports_of, instance_walk, instance_names, item_walk}
-use Rattle.sv_walk.specs.InstanceSteps.{items_from, site_walk}
+use Rattle.sv_walk.specs.Links.{Ports, links_walk}
+use Rattle.sv_walk.specs.InstanceSteps.{Built, ports_of, instance_names, item_walk, items_from}
+use Rattle.sv_walk.proofs.WalkLemmas.{end_after, end_broken}
 use Rattle.sv_declare.specs.Sites.{SameSite, header_items}
-use Rattle.sv_declare.proofs.SameSites.{same_walk, same_until}
-use Rattle.sv_elab.specs.Instances.{master_walk, linked_walk, Opened, opened_walk}
-use Rattle.sv_elab.specs.Nests.{Nesting, entered, site_at}
+use Rattle.sv_elab.specs.Instances.{master_walk, set_up_walk, linked_walk, Opened, opened_walk}
 use Rattle.sv_elab.proofs.NestLemmas.{new_last}
-use Rattle.sv_elab.proofs.InstanceEnds.{links_broken, opened_broken, instance_end}
+use Rattle.sv_elab.proofs.InstanceEnds.{same_after, ports_same, opened_same, header_unopened}
 
--- sites that declare the same have the same ports
-ports_same : (base least : ℕ) (s t : Site) → SameSite s t →
-    ports_of least s base ≡ ports_of least t base
-unfolding ports_of
-ports_same base least s t same = λ j. record {
-  base = base;
-  master = same.master j;
-  scope =
-      entry (same_until base least s t same nothing_declared (header_items (same.master j))
-      j).bindings;
-}
+-- ---- an instance up to its items
 
-module _ (tables : Tables) (names : Names) (taken : List (List ℕ)) (built : Built)
-    (i : InstanceTree)
-    (nest : Nesting) (n : ℕ) (m : ModuleTree)
-    (master : (master_walk tables nest.around taken built.instances i).end ≡ Ok m)
-    (set : List (List ℕ × Number)) (sets : (overrides_walk names m i.overrides).end ≡ Ok set)
-    (there : Site)
-    (same : SameSite (record {
-      path = nest.path ++ i.name ∷ [];
-      around = i.master ∷ nest.around;
-      master = m;
-      set = set;
-    }) there)
-    (base : ℕ) (sized : length built.signals ≡ base) (levels : ℕ) (fewer : n ≡ suc levels) where
-  pub links_stop : (s : Step)
-      → (linked_walk names tables.least there base built.processes i.links).end ≡ Err s
-      → (instance_walk (site_walk n tables) tables (site_at nest) names taken built i).end ≡ Err s
-  links_stop s h =
-      links_broken tables names taken built i nest n m master set sets there same.master
-      (same_walk (length built.signals) tables.least _ there same nothing_declared)
-      (ports_same (length built.signals) tables.least _ there same) levels fewer s
-      (ap (λ b. (linked_walk names tables.least there b built.processes i.links).end) sized ∙ h)
+module _ (tables : Tables) (outer : Names) (path : List (List ℕ)) (m : ModuleTree) (built : Built)
+    (i : InstanceTree) where
+  with_links : List ProcessForm → Built
+  with_links ps =
+      record { signals = built.signals; processes = ps; instances = built.instances + 1 }
 
-  module _ (ps : List ProcessForm)
-      (links : (links_walk names (ports_of tables.least there base) built.processes i.links).end ≡
-      Ok ps) where
-    links_at : (links_walk names (ports_of tables.least there (length built.signals))
-        built.processes i.links).end ≡ Ok ps
-    links_at =
-        ap (λ b. (links_walk names (ports_of tables.least there b) built.processes i.links).end)
-        sized ∙ links
+  alone : List (List ℕ × Number) → Site
+  alone set = record { path = path; around = []; master = m; set = set }
 
-    pub opened_stop : (s : Step)
-        → (opened_walk tables there (record {
+  linked : Site → (base : ℕ) → Walk (List ProcessForm)
+  linked site base =
+      links_walk outer (ports_of tables.least site base) built.processes i.links
+
+  opening : Site → List ProcessForm → Walk Opened
+  opening site ps = opened_walk tables site (with_links ps)
+
+  linking : List (List ℕ × Number) → Walk Opened
+  linking set = linked (alone set) (length built.signals) >>= opening (alone set)
+
+  whole : set_up_walk tables outer path m built i ≡
+      (overrides_walk outer m i.overrides >>= linking)
+  unfolding set_up_walk linking linked opening alone with_links
+  whole = refl
+
+  pub unset : (s : Step) → (overrides_walk outer m i.overrides).end ≡ Err s
+      → (set_up_walk tables outer path m built i).end ≡ Err s
+  unset s h =
+      ap (λ (w : Walk Opened). w.end) whole
+      ∙ end_broken (overrides_walk outer m i.overrides) linking s h
+
+  -- from the site that the code has, which sets the same
+  module _ (set : List (List ℕ × Number)) (sets : (overrides_walk outer m i.overrides).end ≡ Ok set)
+      (there : Site)
+      (same : SameSite (record { path = path; around = []; master = m; set = set }) there)
+      (base : ℕ) (sized : length built.signals ≡ base) where
+    from_links : (set_up_walk tables outer path m built i).end
+        ≡ (linked there (length built.signals) >>= opening there).end
+    unfolding linking linked opening alone
+    from_links =
+        let n = length built.signals in
+        ap (λ (w : Walk Opened). w.end) whole
+        ∙ end_after (overrides_walk outer m i.overrides) linking set sets
+        ∙ ap (λ (p : Ports).
+        (links_walk outer p built.processes i.links >>= opening (alone set)).end)
+        (ports_same tables (alone set) there same n)
+        ∙ same_after (linked there n) (opening (alone set)) (opening there) (λ ps.
+        ap (λ (w : Walk Opened).
+        w.end) (opened_same tables (alone set) there same (with_links ps)))
+
+    header : Walk Declared
+    header =
+        declarations_walk (length built.signals) tables.least there nothing_declared
+        (header_items there.master)
+
+    pub unlinked : (s : Step)
+        → (linked_walk outer tables.least there base built.processes i.links).end ≡ Err s
+        → (set_up_walk tables outer path m built i).end ≡ Err s
+    unfolding linked opening header with_links
+    unlinked s h =
+        from_links ∙ by (linked there (length built.signals)).end
+        (ap (λ b. (linked_walk outer tables.least there b built.processes i.links).end) sized ∙ h)
+      where
+        by_header : (ps : List ProcessForm) (r : Result Declared Step) → header.end ≡ r
+            → (then_walk header.passed r (λ d. done ps)).end ≡ Err s
+            → (opening there ps).end ≡ Err s
+        by_header ps (Ok d) e k = absurd (cc k)
+        by_header ps (Err t) e k =
+            let same_step : t ≡ s = cc k in
+            header_unopened tables there (with_links ps) s
+            (e ∙ ap (λ (u : Step). Err u) same_step)
+
+        by : (r : Result (List ProcessForm) Step)
+            → (then_walk (linked there (length built.signals)).passed r (λ ps.
+            header >>= λ _. done ps)).end ≡ Err s
+            → (then_walk (linked there (length built.signals)).passed r (opening there)).end ≡
+            Err s
+        by (Ok ps) k = by_header ps header.end refl k
+        by (Err t) k = let same_step : t ≡ s = cc k in ap (λ (u : Step). Err u) same_step
+
+    pub from_opened : (ps : List ProcessForm)
+        → (links_walk outer (ports_of tables.least there base) built.processes i.links).end ≡ Ok ps
+        → (set_up_walk tables outer path m built i).end
+        ≡ (opened_walk tables there (record {
           signals = built.signals;
           processes = ps;
           instances = built.instances + 1;
-        })).end ≡ Err s
-        → (instance_walk (site_walk n tables) tables (site_at nest) names taken built i).end ≡ Err s
-    opened_stop s h =
-        opened_broken tables names taken built i nest n m master set sets there same.master
-        (same_walk (length built.signals) tables.least _ there same nothing_declared)
-        (ports_same (length built.signals) tables.least _ there same) levels fewer ps links_at s h
-
-    pub items_at : (o : Opened)
-        → (opened_walk tables there (record {
-          signals = built.signals;
-          processes = ps;
-          instances = built.instances + 1;
-        })).end ≡ Ok o
-        → (instance_walk (site_walk n tables) tables (site_at nest) names taken built i).end
-        ≡ (items_from (site_walk levels tables) tables (site_at (entered nest i.name i.master))
-        o.names o.taken o.built there.master.items).end
-    items_at o h =
-        instance_end tables names taken built i nest n m master set sets there same.master
-        (same_walk (length built.signals) tables.least _ there same nothing_declared)
-        (ports_same (length built.signals) tables.least _ there same) levels fewer ps links_at o h
+        })).end
+    unfolding linked opening with_links
+    from_opened ps h =
+        from_links
+        ∙ end_after (linked there (length built.signals)) (opening there) ps
+        (ap (λ b. (linked there b).end) sized ∙ h)
 
 pub items_shaped : (m : ModuleTree) → is_shaped_module m ≡ true →
     list_all is_shaped_item m.items ≡ true

@@ -1,6 +1,6 @@
 -- Where the walk of an instance ends.
 use Rattle.std.proofs.Common.{◌≡◌, ℕ, suc, ◌+◌, Bool, true, false, not, List, [], ◌∷◌, ◌++◌}
-use Rattle.std.proofs.Common.{length, map, Option, Some, None, refl, ap, ◌∙◌}
+use Rattle.std.proofs.Common.{length, map, Option, Some, None, refl, sym, ap, ◌∙◌}
 use Rattle.std.specs.Prelude.{Result, Ok, Err, nat_lt}
 use Rattle.std.specs.List.{list_any}
 use Rattle.std.specs.Str.{bytes_eq}
@@ -8,7 +8,7 @@ use Rattle.sv_ast.specs.Scopes.{Binding, Number}
 use Rattle.sv_ast.specs.Tree.{InstanceTree, ItemTree, parameter_item, declared, memory_item}
 use Rattle.sv_ast.specs.Tree.{continuous, released, always_item, invariant_item, instance_item}
 use Rattle.sv_ast.specs.Tree.{ModuleTree}
-use Rattle.sv_ast.specs.Instances.{all_items, module_named}
+use Rattle.sv_ast.specs.Instances.{entry, all_items, module_named}
 use Rattle.sv_ast.specs.Parts.{declarations, most_levels}
 use Rattle.sv_flat.specs.Design.{SignalForm, ProcessForm}
 use Rattle.sv_walk.specs.Walks.{Step, Walk, ask, done, found, then_walk, ◌>>=◌}
@@ -21,10 +21,12 @@ use Rattle.sv_walk.specs.Links.{Ports, links_walk}
 use Rattle.sv_walk.specs.InstanceSteps.{Built, ports_of, instance_walk, instance_names, item_walk}
 use Rattle.sv_walk.specs.InstanceSteps.{items_from, module_walk, site_walk}
 use Rattle.sv_walk.specs.Texts.{top_walk}
-use Rattle.sv_walk.proofs.WalkLemmas.{end_after, end_broken}
+use Rattle.sv_walk.proofs.WalkLemmas.{end_after, end_broken, joined_ends}
 use Rattle.sv_walk.proofs.DeclarationLemmas.{declared_in_two}
-use Rattle.sv_declare.specs.Sites.{header_items}
-use Rattle.sv_elab.specs.Instances.{master_walk, linked_walk, Opened, opened_walk}
+use Rattle.sv_declare.specs.Sites.{SameSite, header_items}
+use Rattle.sv_declare.proofs.SameSites.{same_walk, same_until}
+use Rattle.sv_elab.specs.Instances.{master_walk, set_up_walk, Opened, opened_walk, nothing_built}
+use Rattle.sv_elab.specs.Instances.{top_site}
 use Rattle.sv_elab.specs.Nests.{Nesting, entered, site_at}
 
 -- ---- the walk of items asks of a site where it stands alone
@@ -94,6 +96,15 @@ two_joined {A} {B} {C} {D} w v f more = by_first w.end
         by_second (Ok b) = refl
         by_second (Err s) = refl
 
+-- what ends alike goes on alike
+pub same_after : {X Y : Type 0} (w : Walk X) (f g : X → Walk Y) → ((x : X) → (f x).end ≡ (g x).end)
+    → (w >>= f).end ≡ (w >>= g).end
+same_after {X} {Y} w f g same = by w.end
+  where
+    by : (r : Result X Step) → (then_walk w.passed r f).end ≡ (then_walk w.passed r g).end
+    by (Ok x) = same x
+    by (Err s) = refl
+
 -- ---- all of one instance
 
 module _ (inside : Site → Built → Walk Built) (tables : Tables) (site : Site) (built : Built) where
@@ -113,74 +124,86 @@ module _ (inside : Site → Built → Walk Built) (tables : Tables) (site : Site
       } in o)
       (λ o. items_from inside tables site o.names o.taken o.built site.master.items)
 
+-- sites that declare the same have the same ports, and open the same
+module _ (tables : Tables) (s t : Site) (same : SameSite s t) where
+  pub ports_same : (base : ℕ) → ports_of tables.least s base ≡ ports_of tables.least t base
+  unfolding ports_of
+  ports_same base = λ j. record {
+    base = base;
+    master = same.master j;
+    scope =
+        entry (same_until base tables.least s t same nothing_declared
+        (header_items (same.master j)) j).bindings;
+  }
+
+  module _ (built : Built) where
+    open_with : ModuleTree → Walk Declared → Walk Opened
+    open_with m w =
+        w >>= λ all. labels_walk tables (names_of (length built.signals) all.bindings)
+        (declarations m) all.signals
+        >>= λ signals. done (record {
+          names = names_of (length built.signals) all.bindings;
+          taken = map (λ (b : List ℕ × Binding). b.0) all.bindings;
+          built = record built { signals = built.signals ++ signals };
+        })
+
+    pub opened_same : opened_walk tables s built ≡ opened_walk tables t built
+    unfolding open_with
+    opened_same =
+        ap (open_with s.master)
+        (same_walk (length built.signals) tables.least s t same nothing_declared
+        (all_items s.master))
+        ∙ ap (λ m. open_with m
+        (declarations_walk (length built.signals) tables.least t nothing_declared
+        (all_items m))) same.master
+
+-- a header that breaks a rule opens nothing
+pub header_unopened : (tables : Tables) (site : Site) (built : Built) (s : Step)
+    → (declarations_walk (length built.signals) tables.least site nothing_declared
+    (header_items site.master)).end ≡ Err s
+    → (opened_walk tables site built).end ≡ Err s
+header_unopened tables site built s h =
+    let base = length built.signals in
+    let header = declarations_walk base tables.least site nothing_declared
+    (header_items site.master) in
+    let all = declarations_walk base tables.least site nothing_declared (all_items site.master) in
+    let stops : all.end ≡ Err s =
+    declared_in_two base tables.least site (header_items site.master) site.master.items
+    nothing_declared
+    ∙ end_broken header (λ d. declarations_walk base tables.least site d site.master.items) s h in
+    end_broken all _ s stops
+
 -- the same, from a site that declares the same
-module _ (inside : Site → Built → Walk Built) (tables : Tables) (site there : Site) (built : Built)
-    (same_master : site.master ≡ there.master)
-    (walked : (items : List ItemTree) →
-    declarations_walk (length built.signals) tables.least site nothing_declared items
-    ≡ declarations_walk (length built.signals) tables.least there nothing_declared items) where
+module _ (inside : Site → Built → Walk Built) (tables : Tables) (site there : Site)
+    (same : SameSite site there) (built : Built) where
   items_of : Opened → Walk Built
   items_of o = items_from inside tables site o.names o.taken o.built site.master.items
-
-  open_with : ModuleTree → Walk Declared → Walk Opened
-  open_with m w =
-      w >>= λ all. labels_walk tables (names_of (length built.signals) all.bindings)
-      (declarations m) all.signals
-      >>= λ signals. done (record {
-        names = names_of (length built.signals) all.bindings;
-        taken = map (λ (b : List ℕ × Binding). b.0) all.bindings;
-        built = record built { signals = built.signals ++ signals };
-      })
-
-  same_opened : opened_walk tables site built ≡ opened_walk tables there built
-  unfolding open_with
-  same_opened =
-      ap (open_with site.master) (walked (all_items site.master))
-      ∙ ap (λ m. open_with m
-      (declarations_walk (length built.signals) tables.least there nothing_declared
-      (all_items m))) same_master
 
   ends_there : (module_walk inside tables site built).end ≡ (opened_walk tables there built
       >>= items_of).end
   unfolding items_of
-  ends_there = module_ends inside tables site built ∙ ap (λ w. (w >>= items_of).end) same_opened
-
-  header_walk : Walk Declared
-  header_walk =
-      declarations_walk (length built.signals) tables.least there nothing_declared
-      (header_items there.master)
-
-  pub header_stops : (s : Step)
-      → (declarations_walk (length built.signals) tables.least there nothing_declared
-      (header_items there.master)).end ≡ Err s
-      → (module_walk inside tables site built).end ≡ Err s
-  unfolding header_walk
-  header_stops s h =
-      let all = declarations_walk (length built.signals) tables.least there nothing_declared
-      (all_items there.master) in
-      let stops : all.end ≡ Err s =
-      declared_in_two (length built.signals) tables.least there (header_items there.master)
-      there.master.items nothing_declared
-      ∙ end_broken header_walk (λ d.
-      declarations_walk (length built.signals) tables.least there d there.master.items) s h in
-      ends_there ∙ end_broken (opened_walk tables there built) items_of s (end_broken all _ s stops)
+  ends_there =
+      module_ends inside tables site built
+      ∙ ap (λ (w : Walk Opened). (w >>= items_of).end) (opened_same tables site there same built)
 
   pub opened_stops : (s : Step) → (opened_walk tables there built).end ≡ Err s →
       (module_walk inside tables site built).end ≡ Err s
   opened_stops s h = ends_there ∙ end_broken (opened_walk tables there built) items_of s h
 
-  pub opened_ends : (o : Opened) → (opened_walk tables there built).end ≡ Ok o
-      → (other : Site) → site.path ≡ other.path → site.around ≡ other.around
+  pub ends_at : (other : Site) → site.path ≡ other.path → site.around ≡ other.around
       → (module_walk inside tables site built).end
-      ≡ (items_from inside tables other o.names o.taken o.built there.master.items).end
+      ≡ (opened_walk tables there built >>= λ (o : Opened).
+      items_from inside tables other o.names o.taken o.built there.master.items).end
   unfolding items_of
-  opened_ends o h other path around =
-      ends_there ∙ end_after (opened_walk tables there built) items_of o h
-      ∙ ap (λ (w : Walk Built).
+  ends_at other path around =
+      ends_there ∙ same_after (opened_walk tables there built) items_of (λ (o : Opened).
+      items_from inside tables other o.names o.taken o.built there.master.items)
+      (λ (o : Opened).
+      ap (λ (w : Walk Built).
       w.end) (items_there inside tables site other o.names path around o.taken o.built
       site.master.items)
       ∙ ap (λ (m : ModuleTree).
-      (items_from inside tables other o.names o.taken o.built m.items).end) same_master
+      (items_from inside tables other o.names o.taken o.built m.items).end) same.master)
 
 -- a level of instances more
 levels_more : (n levels : ℕ) → n ≡ suc levels → (tables : Tables) (site : Site) (built : Built)
@@ -239,144 +262,97 @@ module _ (tables : Tables) (names : Names) (taken : List (List ℕ)) (built : Bu
   unfolding the_walk the_master
   master_broken s h = start ∙ end_broken the_master setting s h
 
-  module _ (m : ModuleTree) (master : (master_walk tables nest.around taken built.instances i).end ≡
-      Ok m) where
-    pub set_broken : (s : Step) → (overrides_walk names m i.overrides).end ≡ Err s
-        → (instance_walk (site_walk n tables) tables (site_at nest) names taken built i).end ≡ Err s
-    unfolding setting the_walk the_master
-    set_broken s h =
+  module _ (m : ModuleTree)
+      (master : (master_walk tables nest.around taken built.instances i).end ≡ Ok m)
+      (levels : ℕ) (fewer : n ≡ suc levels) (path : List (List ℕ))
+      (there : nest.path ++ i.name ∷ [] ≡ path) where
+    -- the same site without what is around it
+    alone : List (List ℕ × Number) → Site
+    alone set = record { path = path; around = []; master = m; set = set }
+
+    same : (set : List (List ℕ × Number)) → SameSite (next m set) (alone set)
+    unfolding next alone
+    same set = record { path = there; master = refl; set = λ k. refl }
+
+    opening : List (List ℕ × Number) → List ProcessForm → Walk Opened
+    opening set ps = opened_walk tables (alone set) (with_links ps)
+
+    placing : List (List ℕ × Number) → Walk Opened
+    placing set =
+        links_walk names (ports_of tables.least (alone set) (length built.signals))
+        built.processes i.links >>= opening set
+
+    own_items : Opened → Walk Built
+    own_items o =
+        items_from (site_walk levels tables) tables (site_at (entered nest i.name i.master))
+        o.names o.taken o.built m.items
+
+    last_is : (set : List (List ℕ × Number)) (ps : List ProcessForm)
+        → (last m set ps).end ≡ (opening set ps >>= own_items).end
+    unfolding last opening own_items next alone
+    last_is set ps =
+        ap (λ (w : Walk Built). w.end)
+        (levels_more n levels fewer tables (next m set) (with_links ps))
+        ∙ ends_at (site_walk levels tables) tables (next m set) (alone set) (same set)
+        (with_links ps) (site_at (entered nest i.name i.master)) refl refl
+
+    linking_is : (set : List (List ℕ × Number))
+        → (linking m set).end ≡ (placing set >>= own_items).end
+    unfolding linking ports placing alone with_links
+    linking_is set =
+        let linked = λ (p : Ports). links_walk names p built.processes i.links in
+        let here = ports_of tables.least (alone set) (length built.signals) in
+        same_after (linked (ports m set)) (last m set) (λ ps. opening set ps >>= own_items)
+        (last_is set)
+        ∙ ap (λ (p : Ports). (linked p >>= λ ps. opening set ps >>= own_items).end)
+        (ports_same tables (next m set) (alone set) (same set) (length built.signals))
+        ∙ sym (joined_ends (linked here) (opening set) own_items)
+
+    whole : the_walk.end ≡ (set_up_walk tables names path m built i >>= own_items).end
+    unfolding the_master setting set_up_walk placing opening alone with_links
+    whole =
         start ∙ end_after the_master setting m master
-        ∙ end_broken (overrides_walk names m i.overrides) (linking m) s h
+        ∙ same_after (overrides_walk names m i.overrides) (linking m)
+        (λ set. placing set >>= own_items) linking_is
+        ∙ sym (joined_ends (overrides_walk names m i.overrides) placing own_items)
 
-    module _ (set : List (List ℕ × Number)) (sets : (overrides_walk names m i.overrides).end ≡
-        Ok set) (there : Site)
-        (same_master : m ≡ there.master)
-        (walked : (items : List ItemTree)
-        → declarations_walk (length built.signals) tables.least
-        (record {
-          path = nest.path ++ i.name ∷ [];
-          around = i.master ∷ nest.around;
-          master = m;
-          set = set;
-        }) nothing_declared items
-        ≡ declarations_walk (length built.signals) tables.least there nothing_declared items)
-        (ported : ports_of tables.least (record {
-          path = nest.path ++ i.name ∷ [];
-          around = i.master ∷ nest.around;
-          master = m;
-          set = set;
-        }) (length built.signals)
-        ≡ ports_of tables.least there (length built.signals))
-        (levels : ℕ) (fewer : n ≡ suc levels) where
-      linked : Walk (List ProcessForm)
-      linked =
-          links_walk names (ports_of tables.least there (length built.signals))
-          built.processes i.links
+    pub set_up_broken : (s : Step) → (set_up_walk tables names path m built i).end ≡ Err s
+        → (instance_walk (site_walk n tables) tables (site_at nest) names taken built i).end ≡ Err s
+    unfolding the_walk
+    set_up_broken s h =
+        whole ∙ end_broken (set_up_walk tables names path m built i) own_items s h
 
-      links_there : the_walk.end ≡ (linked >>= last m set).end
-      unfolding setting linking ports next linked the_master
-      links_there =
-          start ∙ end_after the_master setting m master
-          ∙ end_after (overrides_walk names m i.overrides) (linking m) set sets
-          ∙ ap (λ ps. (links_walk names ps built.processes i.links >>= last m set).end) ported
-
-      to_module : (ps : List ProcessForm) →
-          last m set ps ≡ module_walk (site_walk levels tables) tables (next m set) (with_links ps)
-      unfolding last
-      to_module ps = levels_more n levels fewer tables (next m set) (with_links ps)
-
-      inner_header : Walk Declared
-      inner_header =
-          declarations_walk (length built.signals) tables.least there nothing_declared
-          (header_items there.master)
-
-      inner_broken : (ps : List ProcessForm) (s : Step) → inner_header.end ≡ Err s →
-          (last m set ps).end ≡ Err s
-      unfolding inner_header next with_links
-      inner_broken ps s h =
-          ap (λ (w : Walk Built). w.end) (to_module ps)
-          ∙ header_stops (site_walk levels tables) tables (next m set) there (with_links ps)
-          same_master walked s h
-
-      pub links_broken : (s : Step)
-          → (linked_walk names tables.least there (length built.signals) built.processes
-          i.links).end ≡ Err s
-          → (instance_walk (site_walk n tables) tables (site_at nest) names taken built i).end ≡
-          Err s
-      unfolding linked inner_header the_walk
-      links_broken s h = links_there ∙ by linked.end h
-        where
-          by_header : (ps : List ProcessForm) (r : Result Declared Step) → inner_header.end ≡ r
-              → (then_walk inner_header.passed r (λ d. done ps)).end ≡ Err s
-              → (last m set ps).end ≡ Err s
-          by_header ps (Ok d) e k = absurd (cc k)
-          by_header ps (Err t) e k =
-              let same : t ≡ s = cc k in inner_broken ps s (e ∙ ap (λ (u : Step). Err u) same)
-
-          by : (r : Result (List ProcessForm) Step)
-              → (then_walk linked.passed r (λ ps. inner_header >>= λ _. done ps)).end ≡ Err s
-              → (then_walk linked.passed r (last m set)).end ≡ Err s
-          by (Ok ps) k = by_header ps inner_header.end refl k
-          by (Err t) k = let same : t ≡ s = cc k in ap (λ (u : Step). Err u) same
-
-      module _ (ps : List ProcessForm)
-          (links : (links_walk names (ports_of tables.least there (length built.signals))
-          built.processes i.links).end ≡ Ok ps) where
-        in_module : the_walk.end ≡
-            (module_walk (site_walk levels tables) tables (next m set) (with_links ps)).end
-        unfolding linked
-        in_module =
-            links_there ∙ end_after linked (last m set) ps links
-            ∙ ap (λ (w : Walk Built). w.end) (to_module ps)
-
-        pub opened_broken : (s : Step)
-            → (opened_walk tables there (record {
-              signals = built.signals;
-              processes = ps;
-              instances = built.instances + 1;
-            })).end ≡ Err s
-            → (instance_walk (site_walk n tables) tables (site_at nest) names taken built i).end ≡
-            Err s
-        unfolding the_walk next with_links
-        opened_broken s h =
-            in_module ∙ opened_stops (site_walk levels tables) tables (next m set) there
-            (with_links ps) same_master walked s h
-
-        pub instance_end : (o : Opened)
-            → (opened_walk tables there (record {
-              signals = built.signals;
-              processes = ps;
-              instances = built.instances + 1;
-            })).end ≡ Ok o
-            → (instance_walk (site_walk n tables) tables (site_at nest) names taken built i).end
-            ≡ (items_from (site_walk levels tables) tables (site_at (entered nest i.name i.master))
-            o.names o.taken o.built there.master.items).end
-        unfolding the_walk next with_links
-        instance_end o h =
-            in_module ∙ opened_ends (site_walk levels tables) tables (next m set) there
-            (with_links ps) same_master walked o h
-            (site_at (entered nest i.name i.master)) refl refl
+    pub instance_ends : (o : Opened) → (set_up_walk tables names path m built i).end ≡ Ok o
+        → (instance_walk (site_walk n tables) tables (site_at nest) names taken built i).end
+        ≡ (items_from (site_walk levels tables) tables (site_at (entered nest i.name i.master))
+        o.names o.taken o.built m.items).end
+    unfolding the_walk own_items
+    instance_ends o h =
+        whole ∙ end_after (set_up_walk tables names path m built i) own_items o h
 
 -- ---- the top
 
-module _ (tables : Tables) (m : ModuleTree) (there : Site) (same_master : m ≡ there.master)
-    (walked : (items : List ItemTree)
-    → declarations_walk 0 tables.least (record {
-      path = [];
-      around = m.name ∷ [];
-      master = m;
-      set = [];
-    }) nothing_declared items
-    ≡ declarations_walk 0 tables.least there nothing_declared items) where
-  top_site : Site
-  top_site = record { path = []; around = m.name ∷ []; master = m; set = [] }
+-- a header that breaks a rule, at a site that declares the same
+pub header_stops : (tables : Tables) (site there : Site) → SameSite site there
+    → (built : Built) (s : Step)
+    → (declarations_walk (length built.signals) tables.least there nothing_declared
+    (header_items there.master)).end ≡ Err s
+    → (opened_walk tables site built).end ≡ Err s
+header_stops tables site there same built s h =
+    ap (λ (w : Walk Opened). w.end) (opened_same tables site there same built)
+    ∙ header_unopened tables there built s h
 
-  top_built : Built
-  top_built = record { signals = []; processes = []; instances = 1 }
+module _ (tables : Tables) (m : ModuleTree) where
+  around_top : Site
+  around_top = record { path = []; around = m.name ∷ []; master = m; set = [] }
+
+  same_top : SameSite around_top (top_site m)
+  unfolding around_top
+  same_top = record { path = refl; master = refl; set = λ n. refl }
 
   top_module : (top_walk tables m).end ≡
-      (module_walk (site_walk 1024 tables) tables top_site top_built).end
-  unfolding top_walk top_site top_built
+      (module_walk (site_walk 1024 tables) tables around_top nothing_built).end
+  unfolding top_walk around_top
   top_module = ap (λ (w : Walk Built). w.end)
       (levels_more most_levels 1024 refl tables (record {
         path = [];
@@ -386,33 +362,19 @@ module _ (tables : Tables) (m : ModuleTree) (there : Site) (same_master : m ≡ 
       })
       (record { signals = []; processes = []; instances = 1 }))
 
-  pub top_header_broken : (s : Step)
-      → (declarations_walk 0 tables.least there nothing_declared (header_items there.master)).end ≡
-      Err s
+  pub top_broken : (s : Step) → (opened_walk tables (top_site m) nothing_built).end ≡ Err s
       → (top_walk tables m).end ≡ Err s
-  unfolding top_site top_built
-  top_header_broken s h =
-      top_module ∙ header_stops (site_walk 1024 tables) tables top_site there top_built same_master
-      walked s h
+  top_broken s h =
+      top_module ∙ opened_stops (site_walk 1024 tables) tables around_top (top_site m) same_top
+      nothing_built s h
 
-  pub top_opened_broken : (s : Step)
-      → (opened_walk tables there (record { signals = []; processes = []; instances = 1 })).end ≡
-      Err s
-      → (top_walk tables m).end ≡ Err s
-  unfolding top_site top_built
-  top_opened_broken s h =
-      top_module ∙ opened_stops (site_walk 1024 tables) tables top_site there top_built same_master
-      walked s h
-
-  pub top_end : (o : Opened)
-      → (opened_walk tables there (record { signals = []; processes = []; instances = 1 })).end ≡
-      Ok o
+  pub top_end : (o : Opened) → (opened_walk tables (top_site m) nothing_built).end ≡ Ok o
       → (top_walk tables m).end
       ≡ (items_from (site_walk 1024 tables) tables
-      (site_at (record { path = []; around = m.name ∷ [] })) o.names o.taken o.built
-      there.master.items).end
-  unfolding top_site top_built
+      (site_at (record { path = []; around = m.name ∷ [] })) o.names o.taken o.built m.items).end
+  unfolding around_top
   top_end o h =
-      top_module ∙ opened_ends (site_walk 1024 tables) tables top_site there top_built same_master
-      walked o h
+      top_module
+      ∙ ends_at (site_walk 1024 tables) tables around_top (top_site m) same_top nothing_built
       (site_at (record { path = []; around = m.name ∷ [] })) refl refl
+      ∙ end_after (opened_walk tables (top_site m) nothing_built) _ o h

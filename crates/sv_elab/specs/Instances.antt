@@ -1,5 +1,5 @@
 -- The parts of an instance's walk, as the code takes them.
-use Rattle.std.specs.Prelude.{◌≡◌, ℕ, ◌≤◌, ◌<◌, ◌^◌, not, nat_lt, List, ◌++◌, length}
+use Rattle.std.specs.Prelude.{◌≡◌, ℕ, ◌+◌, ◌≤◌, ◌<◌, ◌^◌, not, nat_lt, List, [], ◌++◌, length}
 use Rattle.std.specs.Prelude.{map, Option, Some, None, Result, Ok, IsTrue}
 use Rattle.std.specs.List.{list_any, list_all, position_from}
 use Rattle.std.specs.Str.{bytes_eq}
@@ -10,8 +10,8 @@ use Rattle.sv_ast.specs.Instances.{is_signal}
 use Rattle.sv_ast.specs.Parts.{declarations}
 use Rattle.sv_ast.specs.Scopes.{Binding}
 use Rattle.sv_ast.specs.Shape.{is_shaped_module}
-use Rattle.sv_ast.specs.Tree.{ExpressionTree, DeclarationTree, InstanceTree, LinkTrees, ModuleTree}
-use Rattle.sv_ast.specs.Tree.{PlacedName}
+use Rattle.sv_ast.specs.Tree.{ExpressionTree, DeclarationTree, InstanceTree, ItemTree, LinkTrees}
+use Rattle.sv_ast.specs.Tree.{ModuleTree, PlacedName}
 use Rattle.sv_ast.specs.Views.{declaration_tree, module_tree}
 use Rattle.sv_flat.specs.Design.{ProcessKind, combinational, clocked, ProcessForm}
 use Rattle.sv_flat.specs.Views.{signal_form, process_form}
@@ -20,6 +20,7 @@ use Rattle.sv_walk.specs.InstanceSteps as walk
 use Rattle.sv_walk.specs.LabelSteps.{Tables, labels_walk}
 use Rattle.sv_walk.specs.Links as links
 use Rattle.sv_walk.specs.Names.{Names, names_of}
+use Rattle.sv_walk.specs.Overrides.{overrides_walk}
 use Rattle.sv_walk.specs.Rules.{unknown_name, unknown_module, twice, recursive, too_many}
 use Rattle.sv_walk.specs.Rules.{wrong_link}
 use Rattle.sv_walk.specs.Walks.{Step, Walk, ask, done, found, ◌>>=◌}
@@ -27,8 +28,9 @@ use Rattle.sv_width.specs.Scopes as scopes
 use Rattle.sv_width.specs.Scopes.{Known}
 use Rattle.sv_width.specs.declared.meanings.KnownSignal.{KnownSignal}
 use Rattle.sv_width.specs.declared.meanings.Meaning.TheVariants as meaning
-use Rattle.sv_declare.specs.Sites.{header_items}
+use Rattle.sv_declare.specs.Sites.{header_items, tables_of}
 use Rattle.sv_elab.specs.Modules as modules
+use Rattle.sv_elab.specs.Nests.{Nesting, site_at}
 use Rattle.sv_elab.specs.declared.built.Built.{Built}
 use Rattle.sv_elab.specs.declared.instances.Interior.{Interior}
 use Rattle.sv_elab.specs.declared.links.Ports.{Ports}
@@ -141,6 +143,43 @@ linked_walk outer least site base processes ls = do
   more ← links.links_walk outer (walk.ports_of least site base) processes ls
   _ ← declarations_walk base least site nothing_declared (header_items site.master)
   done more
+
+-- an instance whose module is known, up to its items: what it sets, its links, and its signals
+unfoldable pub set_up_walk : Tables → (outer : Names) → (path : List (List ℕ)) → ModuleTree
+    → walk.Built → InstanceTree → Walk Opened
+set_up_walk tables outer path m built i = do
+  set ← overrides_walk outer m i.overrides
+  let site : Site = record { path = path; around = []; master = m; set = set }
+  processes ← links.links_walk outer (walk.ports_of tables.least site (length built.signals))
+      built.processes i.links
+  opened_walk tables site (record {
+    signals = built.signals;
+    processes = processes;
+    instances = built.instances + 1;
+  })
+
+-- what is built before the top's signals
+abbrev pub nothing_built : walk.Built
+nothing_built = record { signals = []; processes = []; instances = 1 }
+
+-- the top, where nothing is around it and nothing is set
+abbrev pub top_site : ModuleTree → Site
+top_site m = record { path = []; around = []; master = m; set = [] }
+
+-- where the walk of an item ends, from what the code has in hand
+abbrev pub item_end : (levels : ℕ) → Shared → Nesting → Interior → Built → ItemTree
+    → Result walk.Built Step
+item_end levels shared nest inside built item =
+    (walk.item_walk (walk.site_walk levels (tables_of shared.tables)) (tables_of shared.tables)
+    (site_at nest) (scopes.names_of inside.scope.now) (taken_in inside) (built_form built)
+    item).end
+
+-- likewise an instance
+abbrev pub instance_end : (levels : ℕ) → Shared → Nesting → Interior → Built → InstanceTree
+    → Result walk.Built Step
+instance_end levels shared nest inside built i =
+    (walk.instance_walk (walk.site_walk levels (tables_of shared.tables)) (tables_of shared.tables)
+    (site_at nest) (scopes.names_of inside.scope.now) (taken_in inside) (built_form built) i).end
 
 -- the expression names the signal as a whole
 abbrev pub IsWholeSignal : Known → ExpressionTree → KnownSignal → Type 0

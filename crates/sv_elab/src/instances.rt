@@ -7,8 +7,7 @@ ghost use Rattle.sv_ast.specs.Shape.{are_shaped_links, is_shaped_instance, is_sh
 ghost use Rattle.sv_ast.specs.Shape.{is_shaped_module};
 ghost use Rattle.sv_ast.specs.Views.{instance_tree, item_tree, link_trees, module_tree};
 ghost use Rattle.sv_flat.specs.Views.{process_form};
-ghost use Rattle.sv_walk.specs.InstanceSteps.{ports_of, instance_walk, instance_names, item_walk};
-ghost use Rattle.sv_walk.specs.InstanceSteps.{items_from, site_walk};
+ghost use Rattle.sv_walk.specs.InstanceSteps.{ports_of, instance_names, items_from, site_walk};
 ghost use Rattle.sv_walk.specs.Links.{links_walk};
 ghost use Rattle.sv_walk.specs.Texts.{top_walk};
 ghost use Rattle.sv_width.specs.Answers.{IsBreach};
@@ -18,6 +17,8 @@ ghost use Rattle.sv_walk.specs.Declarations.{declarations_walk, nothing_declared
 ghost use Rattle.sv_declare.specs.Steps.{AfterHeader};
 ghost use Rattle.sv_elab.specs.Instances.{IsReady, built_form, declared_names, taken_in};
 ghost use Rattle.sv_elab.specs.Instances.{master_walk, linked_walk, opened, opened_walk};
+ghost use Rattle.sv_elab.specs.Instances.{set_up_walk, item_end, instance_end};
+ghost use Rattle.sv_elab.specs.Instances.{nothing_built, top_site};
 ghost use Rattle.sv_elab.specs.Nests.{site_at};
 
 use crate::built::Built;
@@ -172,6 +173,43 @@ fn opened(
     Ok(scope)
 }
 
+// An instance up to its items: adds the processes of its links and its signals with their labels,
+// and answers what its names stand for. The nest is that inside it.
+fn set_up(
+    alloc: Global,
+    shared: &Shared,
+    outer: &Scope,
+    nest: &Nest,
+    master: &Module,
+    instance: &Instance,
+    built: &mut Built,
+) -> Result<Scope, Fault>
+    requires ready { IsReady shared.now }
+    requires master { IsTrue (is_shaped_module (module_tree master.now)) }
+    requires shaped { IsTrue (is_shaped_instance (instance_tree instance.now)) }
+    requires few { built.old.instances < 1024 }
+    ensures found { IfOk result (λ scope. (set_up_walk (tables_of shared.now.tables)
+        (names_of outer.now) nest.now.path (module_tree master.now) (built_form built.old)
+        (instance_tree instance.now)).end ≡ Ok (opened scope (built_form built.new))) }
+    ensures instances { OnOk result (built.new.instances ≡ built.old.instances + 1) }
+    ensures broken { IfErr result (IsBreach (set_up_walk (tables_of shared.now.tables)
+        (names_of outer.now) nest.now.path (module_tree master.now) (built_form built.old)
+        (instance_tree instance.now)).end) }
+{
+    let tables = &shared.tables;
+    let set = overrides(alloc, outer, master, &instance.overrides)?;
+    let site = Site {
+        path: nest.path(),
+        master,
+        set: &set,
+        base: built.signals.len(),
+    };
+    let links = &instance.links;
+    let declared = linked(alloc, tables, &site, outer, links, &mut built.processes)?;
+    built.instances += 1;
+    opened(alloc, tables, &site, declared, built)
+}
+
 // Walks the items of an instance in textual order, with at most so many levels of instances in it.
 #[cycle(instances)]
 fn add_items(
@@ -224,19 +262,15 @@ fn add_item(
     requires ready { IsReady shared.now }
     requires shaped { IsTrue (is_shaped_item (item_tree item.now)) }
     requires room { 1024 ≤ levels + built.old.instances }
-    ensures found { OnOk result ((item_walk (site_walk levels (tables_of shared.now.tables))
-        (tables_of shared.now.tables) (site_at nest.old) (names_of inside.old.scope.now)
-        (taken_in inside.old) (built_form built.old) (item_tree item.now)).end
-        ≡ Ok (built_form built.new)) }
+    ensures found { OnOk result (item_end levels shared.now nest.old inside.old built.old
+        (item_tree item.now) ≡ Ok (built_form built.new)) }
     ensures taken { OnOk result (taken_in inside.new
         ≡ taken_in inside.old ++ instance_names (item_tree item.now)) }
     ensures scope { OnOk result (inside.new.scope ≡ inside.old.scope) }
     ensures nest { OnOk result (nest.new ≡ nest.old) }
     ensures more { OnOk result (built.old.instances ≤ built.new.instances) }
-    ensures broken { IfErr result
-        (IsBreach (item_walk (site_walk levels (tables_of shared.now.tables))
-        (tables_of shared.now.tables) (site_at nest.old) (names_of inside.old.scope.now)
-        (taken_in inside.old) (built_form built.old) (item_tree item.now)).end) }
+    ensures broken { IfErr result (IsBreach (item_end levels shared.now nest.old inside.old
+        built.old (item_tree item.now))) }
 {
     match item {
         Item::Decl(decl) => add_value(alloc, decl, inside.scope, built),
@@ -269,40 +303,20 @@ fn add_instance(
     requires ready { IsReady shared.now }
     requires shaped { IsTrue (is_shaped_instance (instance_tree instance.now)) }
     requires room { 1024 ≤ levels + built.old.instances }
-    ensures found { OnOk result ((instance_walk (site_walk levels (tables_of shared.now.tables))
-        (tables_of shared.now.tables) (site_at nest.old) (names_of inside.old.scope.now)
-        (taken_in inside.old) (built_form built.old) (instance_tree instance.now)).end
-        ≡ Ok (built_form built.new)) }
+    ensures found { OnOk result (instance_end levels shared.now nest.old inside.old built.old
+        (instance_tree instance.now) ≡ Ok (built_form built.new)) }
     ensures taken { OnOk result (taken_in inside.new
         ≡ taken_in inside.old ++ instance.now.name ∷ []) }
     ensures scope { OnOk result (inside.new.scope ≡ inside.old.scope) }
     ensures nest { OnOk result (nest.new ≡ nest.old) }
     ensures more { OnOk result (built.old.instances ≤ built.new.instances) }
-    ensures broken { IfErr result
-        (IsBreach (instance_walk (site_walk levels (tables_of shared.now.tables))
-        (tables_of shared.now.tables) (site_at nest.old) (names_of inside.old.scope.now)
-        (taken_in inside.old) (built_form built.old) (instance_tree instance.now)).end) }
+    ensures broken { IfErr result (IsBreach (instance_end levels shared.now nest.old inside.old
+        built.old (instance_tree instance.now))) }
 {
     let master = master_of(alloc, shared, nest, inside, built, instance)?;
     add_name(alloc, &mut inside.instances, &instance.name)?;
-    let set = overrides(alloc, inside.scope, master, &instance.overrides)?;
     nest.enter(alloc, &instance.name, &instance.module)?;
-    let site = Site {
-        path: nest.path(),
-        master,
-        set: &set,
-        base: built.signals.len(),
-    };
-    let declared = linked(
-        alloc,
-        &shared.tables,
-        &site,
-        inside.scope,
-        &instance.links,
-        &mut built.processes,
-    )?;
-    built.instances += 1;
-    let scope = opened(alloc, &shared.tables, &site, declared, built)?;
+    let scope = set_up(alloc, shared, inside.scope, nest, master, instance, built)?;
     add_items(
         alloc,
         shared,
@@ -316,6 +330,61 @@ fn add_instance(
     Ok(())
 }
 
+// The top up to its items: adds its signals with their labels, and answers what its names stand
+// for.
+fn set_up_top(
+    alloc: Global,
+    shared: &Shared,
+    nest: &Nest,
+    master: &Module,
+    built: &mut Built,
+) -> Result<Scope, Fault>
+    requires ready { IsReady shared.now }
+    requires shaped { IsTrue (is_shaped_module (module_tree master.now)) }
+    requires top { nest.now.path ≡ [] }
+    requires first { built_form built.old ≡ nothing_built }
+    ensures found { IfOk result (λ scope. (opened_walk (tables_of shared.now.tables)
+        (top_site (module_tree master.now)) nothing_built).end
+        ≡ Ok (opened scope (built_form built.new))) }
+    ensures broken { IfErr result (IsBreach (opened_walk (tables_of shared.now.tables)
+        (top_site (module_tree master.now)) nothing_built).end) }
+{
+    let set = IndexMap::new(alloc);
+    let site = Site {
+        path: nest.path(),
+        master,
+        set: &set,
+        base: 0,
+    };
+    let declared = headed(alloc, &shared.tables, &site)?;
+    opened(alloc, &shared.tables, &site, declared, built)
+}
+
+// Adds the signals and processes of the top and of all instances in it.
+fn add_top(alloc: Global, shared: &Shared, master: &Module, built: &mut Built) -> Result<(), Fault>
+    requires ready { IsReady shared.now }
+    requires shaped { IsTrue (is_shaped_module (module_tree master.now)) }
+    requires first { built_form built.old ≡ nothing_built }
+    ensures found { OnOk result ((top_walk (tables_of shared.now.tables)
+        (module_tree master.now)).end ≡ Ok (built_form built.new)) }
+    ensures broken { IfErr result
+        (IsBreach (top_walk (tables_of shared.now.tables) (module_tree master.now)).end) }
+{
+    let mut nest = Nest::top(alloc, &master.name)?;
+    let scope = set_up_top(alloc, shared, &nest, master, built)?;
+    let items = &master.items;
+    add_items(
+        alloc,
+        shared,
+        &mut nest,
+        &scope,
+        items,
+        built,
+        MOST_INSTANCES,
+    )?;
+    Ok(())
+}
+
 /// The signals and processes of the top and of all instances in it, in the order of the walk.
 pub fn top_instance(alloc: Global, shared: &Shared, master: &Module) -> Result<Built, Fault>
     requires ready { IsReady shared.now }
@@ -326,29 +395,11 @@ pub fn top_instance(alloc: Global, shared: &Shared, master: &Module) -> Result<B
     ensures broken { IfErr result
         (IsBreach (top_walk (tables_of shared.now.tables) (module_tree master.now)).end) }
 {
-    let mut nest = Nest::top(alloc, &master.name)?;
-    let set = IndexMap::new(alloc);
-    let site = Site {
-        path: nest.path(),
-        master,
-        set: &set,
-        base: 0,
-    };
     let mut built = Built {
         signals: Vec::new(alloc),
         processes: Vec::new(alloc),
         instances: 1,
     };
-    let declared = headed(alloc, &shared.tables, &site)?;
-    let scope = opened(alloc, &shared.tables, &site, declared, &mut built)?;
-    add_items(
-        alloc,
-        shared,
-        &mut nest,
-        &scope,
-        &master.items,
-        &mut built,
-        MOST_INSTANCES,
-    )?;
+    add_top(alloc, shared, master, &mut built)?;
     Ok(built)
 }

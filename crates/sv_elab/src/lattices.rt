@@ -128,14 +128,22 @@ fn copies(alloc: Global, a: &Name, b: &Name) -> Result<Vec<Name>, OutOfMemory>
 }
 
 // The refusal by a rule that names two points.
-fn two_points(alloc: Global, rule: u16, place: Place, names: &[Name], a: u32, b: u32) -> Fault
-    requires a { a < length names.now }
-    requires b { b < length names.now }
+fn two_points(
+    alloc: Global,
+    rule: u16,
+    place: Place,
+    names: &IndexSet<Name>,
+    a: u32,
+    b: u32,
+) -> Fault
+    requires a { a < length names.now.keys }
+    requires b { b < length names.now.keys }
     ensures { (end : Result Order Step)
         → end ≡ Err (step rule place
-        (slice_index_or names.now a [] ∷ slice_index_or names.now b [] ∷ []))
+        (slice_index_or names.now.keys a [] ∷ slice_index_or names.now.keys b [] ∷ []))
         → IsBreach end result }
 {
+    let names = names.as_slice();
     match copies(alloc, &names[a as usize], &names[b as usize]) {
         Ok(names) => Fault::broken(rule, place, names),
         Err(error) => Fault::from(error),
@@ -165,30 +173,9 @@ fn ordered(
 {
     match Lattice::build(alloc, names.len() as u32, pairs) {
         Ok(lattice) => Ok(Points { names, lattice }),
-        Err(LatticeFault::Circle(a, b)) => Err(two_points(
-            alloc,
-            303,
-            place,
-            names.as_slice(),
-            a,
-            b,
-        )),
-        Err(LatticeFault::NoJoin(a, b)) => Err(two_points(
-            alloc,
-            304,
-            place,
-            names.as_slice(),
-            a,
-            b,
-        )),
-        Err(LatticeFault::NoMeet(a, b)) => Err(two_points(
-            alloc,
-            305,
-            place,
-            names.as_slice(),
-            a,
-            b,
-        )),
+        Err(LatticeFault::Circle(a, b)) => Err(two_points(alloc, 303, place, &names, a, b)),
+        Err(LatticeFault::NoJoin(a, b)) => Err(two_points(alloc, 304, place, &names, a, b)),
+        Err(LatticeFault::NoMeet(a, b)) => Err(two_points(alloc, 305, place, &names, a, b)),
         Err(LatticeFault::OutOfMemory) => Err(Fault::OutOfMemory),
         Err(LatticeFault::Size) => unreachable!(),
         Err(LatticeFault::Unknown(_)) => unreachable!(),

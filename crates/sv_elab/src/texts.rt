@@ -1,15 +1,20 @@
 // The flat design of a text.
-ghost use Rattle.std.specs.Prelude.{◌≡◌, ◌<◌, ◌^◌, Ok, map, length, IfSome, IfOk, IfErr, IsTrue};
+ghost use Rattle.std.specs.Prelude.{◌≡◌, ◌<◌, ◌^◌, List, Ok, map, length, IfSome, IfOk, IfErr};
+ghost use Rattle.std.specs.Prelude.{IsTrue};
 ghost use Rattle.sv_ast.specs.Shape.{is_shaped};
+ghost use Rattle.sv_ast.specs.Tree.{ModuleTree};
 ghost use Rattle.sv_ast.specs.Views.{text_tree};
 ghost use Rattle.sv_flat.specs.Soundness.{sound};
 ghost use Rattle.sv_flat.specs.Views.{design_of};
+ghost use Rattle.sv_walk.specs.Texts as texts;
 ghost use Rattle.sv_walk.specs.Texts.{walk_of};
 ghost use Rattle.sv_width.specs.Answers.{IsBreach};
+ghost use Rattle.sv_elab.specs.Instances.{built_form};
 ghost use Rattle.sv_elab.specs.Modules.{asked_name};
 
+use crate::built::Built;
 use crate::instances::top_instance;
-use crate::lattices::lattice;
+use crate::lattices::{Points, lattice};
 use crate::maps::label_maps;
 use crate::modules::{module_names, top_module};
 use crate::shared::Shared;
@@ -38,6 +43,29 @@ fn name_asked_for(alloc: Global, top: Option<&str>) -> Result<Option<Name>, OutO
     }
 }
 
+// The design of these parts.
+fn design(
+    alloc: Global,
+    points: Points,
+    maps: IndexMap<Name, LabelMap>,
+    built: Built,
+) -> Result<Flat, OutOfMemory>
+    ensures { IfOk result (λ f. (modules : List ModuleTree) → design_of f
+        ≡ texts.design_of points (texts.tables_of modules points maps.entries)
+        (built_form built)) }
+{
+    let (points, lattice) = points.into_parts(alloc)?;
+    let maps = listed(alloc, maps)?;
+    Ok(Flat {
+        signals: built.signals,
+        processes: built.processes,
+        lattice,
+        points,
+        maps,
+        invariants: Vec::new(alloc),
+    })
+}
+
 // As `elaborate`, with the name of the module that is asked for.
 fn elaborate_under(alloc: Global, text: &Text, top: Option<&Name>) -> Result<Flat, Fault>
     requires shaped { IsTrue (is_shaped (text_tree text.now)) }
@@ -62,15 +90,7 @@ fn elaborate_under(alloc: Global, text: &Text, top: Option<&Name>) -> Result<Fla
         names: &names,
     };
     let built = top_instance(alloc, &shared, master)?;
-    let (points, lattice) = points.into_parts(alloc)?;
-    Ok(Flat {
-        signals: built.signals,
-        processes: built.processes,
-        lattice,
-        points,
-        maps: listed(alloc, maps)?,
-        invariants: Vec::new(alloc),
-    })
+    Ok(design(alloc, points, maps, built)?)
 }
 
 /// The flat design that a text stands for, under the module that is asked for as its top or else

@@ -1,21 +1,19 @@
-use Rattle.std.proofs.Common.{◌≡◌, ℕ, suc, ◌+◌, ◌-◌, List, [], ◌∷◌, ◌++◌, length, map}
+use Rattle.std.proofs.Common.{◌≡◌, ℕ, suc, ◌+◌, ◌-◌, List, [], ◌∷◌, ◌++◌, map}
 use Rattle.std.proofs.Common.{drop, refl, sym, ap, ◌∙◌, arith}
 use Rattle.std.specs.List.{list_all}
 use Rattle.std.proofs.lemmas.Bool.{and_parts}
-use Rattle.std.proofs.lemmas.List.{length-map, append-nil}
+use Rattle.std.proofs.lemmas.List.{append-nil}
 use Rattle.std.proofs.lemmas.Result.{err_from_is_err_and}
 use Rattle.sv_ast.specs.Shape.{is_shaped_item}
 use Rattle.sv_ast.specs.Views.{instance_tree, item_tree, module_tree}
-use Rattle.sv_flat.specs.Views.{signal_form, process_form}
-use Rattle.sv_walk.specs.Declarations.{Site}
 use Rattle.sv_walk.specs.InstanceSteps.{item_walk, items_from, site_walk}
 use Rattle.sv_width.specs.Scopes.{Known, names_of}
-use Rattle.sv_declare.specs.Sites.{SameSite, tables_of, settings_of}
+use Rattle.sv_declare.specs.Sites.{tables_of}
 use Rattle.sv_elab.specs.Instances.{Opened, built_form, declared_names, taken_in, opened}
 use Rattle.sv_elab.specs.Nests.{Nesting, site_at}
 use Rattle.sv_elab.proofs.DeclaredLattices.{breach_on}
-use Rattle.sv_elab.proofs.InstanceEnds.{master_broken, set_broken}
-use Rattle.sv_elab.proofs.InstanceCode.{links_stop, opened_stop, items_at, items_shaped, items_none}
+use Rattle.sv_elab.proofs.InstanceEnds.{master_broken, set_up_broken, instance_ends}
+use Rattle.sv_elab.proofs.InstanceCode.{items_shaped, items_none}
 use Rattle.sv_elab.proofs.InstanceCode.{items_more, items_broken, name_free, name_taken}
 use Rattle.sv_elab.proofs.NameLemmas.{left_more, left_none}
 use Rattle.sv_elab.proofs.instances.+instances.Goals as goal
@@ -34,63 +32,6 @@ add_instance-returns-in_err-master-clause-broken t c =
     rw (p.1, p.2) (breach_on c.in_err-master.field-0.0 _ _
     (master_broken tables names taken built i nest n) c.in_err-master.ensures.broken)
 
-pub add_instance-returns-in_err-set-clause-broken :
-    goal.add_instance-returns-in_err-set-clause-broken
-add_instance-returns-in_err-set-clause-broken t c =
-    let tables = tables_of c.args.shared.now.tables in
-    let names = names_of c.args.inside.now.scope.now in
-    let taken = taken_in c.args.inside.now in
-    let built = built_form c.args.built.now in
-    let i = instance_tree c.args.instance.now in
-    let nest = c.args.nest.now in
-    let n = c.args.levels in
-    let m = module_tree c.in_ok-master.master.now in
-    let master = c.in_ok-master.ensures.found in
-    let p = err_from_is_err_and c.from_residual-in_err-set.result
-    c.from_residual-in_err-set.ensures.1 in
-    rw (p.1, p.2) (breach_on c.in_err-set.field-0.0 _ _
-    (set_broken tables names taken built i nest n m master) c.in_err-set.ensures.broken)
-
-pub add_instance-returns-in_err-declared-clause-broken :
-    goal.add_instance-returns-in_err-declared-clause-broken
-add_instance-returns-in_err-declared-clause-broken t c =
-    let tables = tables_of c.args.shared.now.tables in
-    let names = names_of c.args.inside.now.scope.now in
-    let taken = taken_in c.args.inside.now in
-    let built = built_form c.args.built.now in
-    let i = instance_tree c.args.instance.now in
-    let nest = c.args.nest.now in
-    let n = c.args.levels in
-    let m = module_tree c.in_ok-master.master.now in
-    let master = c.in_ok-master.ensures.found in
-    let set = c.in_ok-set.ensures.found.0 in
-    let sets = c.in_ok-set.ensures.found.1 in
-    let there : Site = record {
-      path = c.path.result.now;
-      around = [];
-      master = m;
-      set = settings_of c.in_ok-set.set.entries;
-    } in
-    let same : SameSite (record {
-      path = nest.path ++ i.name ∷ [];
-      around = i.master ∷ nest.around;
-      master = m;
-      set = set;
-    }) there = record {
-      path = sym (c.path.ensures ∙ ap (λ (k : Nesting). k.path) c.in_ok-enter.ensures);
-      master = refl;
-      set = c.in_ok-set.ensures.found.2;
-    } in
-    let signals = c.args.built.now.signals in
-    let sized : length (map signal_form signals.items) ≡ c.len.result =
-    omega (arith, length-map signals.items signal_form, signals.ok.0) in
-    let fewer : n ≡ suc (n - 1) = omega (arith, c.requires.room, c.in_ok-master.ensures.few) in
-    let p = err_from_is_err_and c.from_residual-in_err-declared.result
-    c.from_residual-in_err-declared.ensures.1 in
-    rw (p.1, p.2) (breach_on c.in_err-declared.field-0.0 _ _
-    (links_stop tables names taken built i nest n m master set sets there same c.len.result
-    sized (n - 1) fewer) c.in_err-declared.ensures.broken)
-
 pub add_instance-returns-in_err-scope-clause-broken :
     goal.add_instance-returns-in_err-scope-clause-broken
 add_instance-returns-in_err-scope-clause-broken t c =
@@ -103,39 +44,17 @@ add_instance-returns-in_err-scope-clause-broken t c =
     let n = c.args.levels in
     let m = module_tree c.in_ok-master.master.now in
     let master = c.in_ok-master.ensures.found in
-    let set = c.in_ok-set.ensures.found.0 in
-    let sets = c.in_ok-set.ensures.found.1 in
-    let there : Site = record {
-      path = c.path.result.now;
-      around = [];
-      master = m;
-      set = settings_of c.in_ok-set.set.entries;
-    } in
-    let same : SameSite (record {
-      path = nest.path ++ i.name ∷ [];
-      around = i.master ∷ nest.around;
-      master = m;
-      set = set;
-    }) there = record {
-      path = sym (c.path.ensures ∙ ap (λ (k : Nesting). k.path) c.in_ok-enter.ensures);
-      master = refl;
-      set = c.in_ok-set.ensures.found.2;
-    } in
-    let signals = c.args.built.now.signals in
-    let sized : length (map signal_form signals.items) ≡ c.len.result =
-    omega (arith, length-map signals.items signal_form, signals.ok.0) in
     let fewer : n ≡ suc (n - 1) = omega (arith, c.requires.room, c.in_ok-master.ensures.few) in
-    let ps = map process_form c.linked.new.processes.items in
-    let links = c.in_ok-declared.ensures.found in
+    let there = sym (ap (λ (k : Nesting). k.path) c.in_ok-enter.ensures) in
     let p = err_from_is_err_and c.from_residual-in_err-scope.result
     c.from_residual-in_err-scope.ensures.1 in
     rw (p.1, p.2) (breach_on c.in_err-scope.field-0.0 _ _
-    (opened_stop tables names taken built i nest n m master set sets there same c.len.result
-    sized (n - 1) fewer ps links) c.in_err-scope.ensures.broken)
+    (set_up_broken tables names taken built i nest n m master (n - 1) fewer _ there)
+    c.in_err-scope.ensures.broken)
 
 pub add_instance-add_items-requires : goal.add_instance-add_items-requires
 add_instance-add_items-requires t c = (
-  omega arith,
+  omega (arith, c.requires.room, c.in_ok-master.ensures.few),
   (
     c.requires.ready,
     (
@@ -158,33 +77,11 @@ add_instance-returns-in_err-add_items-clause-broken t c =
     let n = c.args.levels in
     let m = module_tree c.in_ok-master.master.now in
     let master = c.in_ok-master.ensures.found in
-    let set = c.in_ok-set.ensures.found.0 in
-    let sets = c.in_ok-set.ensures.found.1 in
-    let there : Site = record {
-      path = c.path.result.now;
-      around = [];
-      master = m;
-      set = settings_of c.in_ok-set.set.entries;
-    } in
-    let same : SameSite (record {
-      path = nest.path ++ i.name ∷ [];
-      around = i.master ∷ nest.around;
-      master = m;
-      set = set;
-    }) there = record {
-      path = sym (c.path.ensures ∙ ap (λ (k : Nesting). k.path) c.in_ok-enter.ensures);
-      master = refl;
-      set = c.in_ok-set.ensures.found.2;
-    } in
-    let signals = c.args.built.now.signals in
-    let sized : length (map signal_form signals.items) ≡ c.len.result =
-    omega (arith, length-map signals.items signal_form, signals.ok.0) in
     let fewer : n ≡ suc (n - 1) = omega (arith, c.requires.room, c.in_ok-master.ensures.few) in
-    let ps = map process_form c.linked.new.processes.items in
-    let links = c.in_ok-declared.ensures.found in
-    let o : Opened = opened c.in_ok-scope.scope (built_form c.opened.new.built) in
-    let to_items = items_at tables names taken built i nest n m master set sets there same
-    c.len.result sized (n - 1) fewer ps links o c.in_ok-scope.ensures.found
+    let there = sym (ap (λ (k : Nesting). k.path) c.in_ok-enter.ensures) in
+    let o : Opened = opened c.in_ok-scope.scope (built_form c.set_up.new.built) in
+    let to_items = instance_ends tables names taken built i nest n m master (n - 1) fewer _ there o
+    c.in_ok-scope.ensures.found
     ∙ ap (λ (k : Nesting).
     (items_from (site_walk (n - 1) tables) tables (site_at k) o.names o.taken o.built
     m.items).end) (sym c.in_ok-enter.ensures)
@@ -206,33 +103,11 @@ add_instance-returns-clause-found t c =
     let n = c.args.levels in
     let m = module_tree c.in_ok-master.master.now in
     let master = c.in_ok-master.ensures.found in
-    let set = c.in_ok-set.ensures.found.0 in
-    let sets = c.in_ok-set.ensures.found.1 in
-    let there : Site = record {
-      path = c.path.result.now;
-      around = [];
-      master = m;
-      set = settings_of c.in_ok-set.set.entries;
-    } in
-    let same : SameSite (record {
-      path = nest.path ++ i.name ∷ [];
-      around = i.master ∷ nest.around;
-      master = m;
-      set = set;
-    }) there = record {
-      path = sym (c.path.ensures ∙ ap (λ (k : Nesting). k.path) c.in_ok-enter.ensures);
-      master = refl;
-      set = c.in_ok-set.ensures.found.2;
-    } in
-    let signals = c.args.built.now.signals in
-    let sized : length (map signal_form signals.items) ≡ c.len.result =
-    omega (arith, length-map signals.items signal_form, signals.ok.0) in
     let fewer : n ≡ suc (n - 1) = omega (arith, c.requires.room, c.in_ok-master.ensures.few) in
-    let ps = map process_form c.linked.new.processes.items in
-    let links = c.in_ok-declared.ensures.found in
-    let o : Opened = opened c.in_ok-scope.scope (built_form c.opened.new.built) in
-    let to_items = items_at tables names taken built i nest n m master set sets there same
-    c.len.result sized (n - 1) fewer ps links o c.in_ok-scope.ensures.found
+    let there = sym (ap (λ (k : Nesting). k.path) c.in_ok-enter.ensures) in
+    let o : Opened = opened c.in_ok-scope.scope (built_form c.set_up.new.built) in
+    let to_items = instance_ends tables names taken built i nest n m master (n - 1) fewer _ there o
+    c.in_ok-scope.ensures.found
     ∙ ap (λ (k : Nesting).
     (items_from (site_walk (n - 1) tables) tables (site_at k) o.names o.taken o.built
     m.items).end) (sym c.in_ok-enter.ensures)

@@ -2,11 +2,10 @@ use Rattle.std.proofs.Common.{map, sym, ap, ◌∙◌}
 use Rattle.std.specs.Prelude.{Ok}
 use Rattle.std.proofs.lemmas.Result.{err_from_is_err_and}
 use Rattle.sv_ast.specs.Views.{module_tree}
-use Rattle.sv_elab.specs.Instances.{built_form}
 use Rattle.sv_elab.specs.Modules.{names_of, asked_name}
 use Rattle.sv_elab.proofs.TextCode.{maps_shaped, modules_shaped, lattice_breach, maps_breach}
 use Rattle.sv_elab.proofs.TextCode.{names_breach, top_breach, top_shaped, built_breach, whole_end}
-use Rattle.sv_elab.proofs.TextCode.{maps_few, tables_same, design_same}
+use Rattle.sv_elab.proofs.TextCode.{maps_few, tables_same}
 use Rattle.sv_elab.proofs.texts.elaborate_under.Goals as goal
 
 pub returns-in_err-points-clause-broken : goal.returns-in_err-points-clause-broken
@@ -97,8 +96,4 @@ returns-clause-found c =
     _ (tables_same c.in_ok-points.points c.in_ok-maps.maps.entries c.args.text.now.modules.items
     c.deref-4.result.now c.names-2.result.now.keys c.least.result.0 c.deref-4.ensures.value
     c.names-2.ensures.names c.least.ensures) _ c.in_ok-built.ensures.found
-    ∙ ap Ok (design_same c.in_ok-points.points c.in_ok-maps.maps.entries
-    (map module_tree c.args.text.now.modules.items) (built_form c.in_ok-built.built)
-    c.in_ok-points-2.lattice c.in_ok-points-2.points.items c.in_ok-listed.field-0.items
-    c.new.result.items c.in_ok-points-2.ensures.table c.in_ok-points-2.ensures.names
-    c.in_ok-listed.ensures c.new.ensures.items)
+    ∙ ap Ok (sym (c.in_ok-design.ensures (map module_tree c.args.text.now.modules.items)))

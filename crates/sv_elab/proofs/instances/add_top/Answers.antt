@@ -1,0 +1,58 @@
+use Rattle.std.proofs.Common.{map, sym, ap, ◌∙◌}
+use Rattle.std.specs.List.{list_all}
+use Rattle.std.proofs.lemmas.Result.{err_from_is_err_and}
+use Rattle.sv_ast.specs.Shape.{is_shaped_item}
+use Rattle.sv_ast.specs.Views.{item_tree, module_tree}
+use Rattle.sv_walk.specs.InstanceSteps.{items_from, site_walk}
+use Rattle.sv_declare.specs.Sites.{tables_of}
+use Rattle.sv_elab.specs.Instances.{Opened, built_form, opened}
+use Rattle.sv_elab.specs.Nests.{Nesting, site_at}
+use Rattle.sv_elab.proofs.DeclaredLattices.{breach_on}
+use Rattle.sv_elab.proofs.InstanceEnds.{top_broken, top_end}
+use Rattle.sv_elab.proofs.InstanceCode.{items_shaped}
+use Rattle.sv_elab.proofs.instances.add_top.Goals as goal
+
+pub set_up_top-requires-clause-top : goal.set_up_top-requires-clause-top
+set_up_top-requires-clause-top c = ap (λ (k : Nesting). k.path) c.in_ok-nest.ensures
+
+pub returns-in_err-scope-clause-broken : goal.returns-in_err-scope-clause-broken
+returns-in_err-scope-clause-broken c =
+    let p = err_from_is_err_and c.from_residual-in_err-scope.result
+    c.from_residual-in_err-scope.ensures.1 in
+    rw (p.1, p.2) (breach_on c.in_err-scope.field-0.0 _ _
+    (top_broken (tables_of c.args.shared.now.tables) (module_tree c.args.master.now))
+    c.in_err-scope.ensures.broken)
+
+pub add_items-requires-clause-shaped : goal.add_items-requires-clause-shaped
+add_items-requires-clause-shaped c =
+    ap (λ xs. list_all is_shaped_item (map item_tree xs)) c.deref.ensures.value
+    ∙ items_shaped (module_tree c.args.master.now) c.requires.shaped
+
+pub returns-in_err-add_items-clause-broken : goal.returns-in_err-add_items-clause-broken
+returns-in_err-add_items-clause-broken c =
+    let tables = tables_of c.args.shared.now.tables in
+    let m = module_tree c.args.master.now in
+    let o : Opened = opened c.in_ok-scope.scope (built_form c.set_up_top.new.built) in
+    let to_items = top_end tables m o c.in_ok-scope.ensures.found
+    ∙ ap (λ (k : Nesting).
+    (items_from (site_walk 1024 tables) tables (site_at k) o.names o.taken o.built m.items).end)
+    (sym c.in_ok-nest.ensures)
+    ∙ ap (λ xs. (items_from (site_walk 1024 tables) tables (site_at c.in_ok-nest.nest) o.names
+    o.taken o.built (map item_tree xs)).end) (sym c.deref.ensures.value) in
+    let p = err_from_is_err_and c.from_residual-in_err-add_items.result
+    c.from_residual-in_err-add_items.ensures.1 in
+    rw (p.1, p.2) (breach_on c.in_err-add_items.field-0.0 _ _ (λ s h.
+    to_items ∙ h) c.in_err-add_items.ensures.broken)
+
+pub returns-clause-found : goal.returns-clause-found
+returns-clause-found c =
+    let tables = tables_of c.args.shared.now.tables in
+    let m = module_tree c.args.master.now in
+    let o : Opened = opened c.in_ok-scope.scope (built_form c.set_up_top.new.built) in
+    let to_items = top_end tables m o c.in_ok-scope.ensures.found
+    ∙ ap (λ (k : Nesting).
+    (items_from (site_walk 1024 tables) tables (site_at k) o.names o.taken o.built m.items).end)
+    (sym c.in_ok-nest.ensures)
+    ∙ ap (λ xs. (items_from (site_walk 1024 tables) tables (site_at c.in_ok-nest.nest) o.names
+    o.taken o.built (map item_tree xs)).end) (sym c.deref.ensures.value) in
+    to_items ∙ c.in_ok-add_items.ensures.found

@@ -27,9 +27,10 @@ use Rattle.sv_walk.specs.Texts.{module_names, top_walk, tables_of, design_of, wa
 use Rattle.sv_walk.specs.Walks.{found}
 use Rattle.sv_walk.proofs.WalkLemmas.{found_some}
 use Rattle.sv_width.specs.Answers.{IsBreach}
+use Rattle.sv_elab.specs.Texts.{modules_walk}
 use Rattle.sv_elab.proofs.DeclaredLattices.{breach_on}
 use Rattle.sv_elab.proofs.TextEnds.{lattice_broken, maps_broken, names_broken, top_broken}
-use Rattle.sv_elab.proofs.TextEnds.{built_broken, text_end}
+use Rattle.sv_elab.proofs.TextEnds.{modules_end, built_broken, text_end}
 use Rattle.sv_elab.proofs.TextLemmas.{top_passes, maps_length}
 
 -- ---- shapes
@@ -125,49 +126,54 @@ module _ (text : Text) (top : Option (List ℕ)) where
       abbrev at_maps : (maps_walk order.points [] (text_tree text).maps).end ≡ Ok maps
       at_maps = ap (λ ts. (maps_walk order.points [] (map map_tree ts)).end) (sym all) ∙ mapped
 
-      pub names_breach : (ms : List Module) → ms ≡ text.modules.items → (f : Fault)
-          → IsBreach (module_names [] (map module_tree ms)).end f → whole f
-      names_breach ms same f =
-          breach_on f _ _ (λ s h. names_broken (text_tree text) top order ordered maps at_maps s
-          (ap (λ ms. (module_names [] (map module_tree ms)).end) (sym same) ∙ h))
+      pub built_breach : (f : Fault)
+          → IsBreach (modules_walk (text_tree text) top order maps).end f → whole f
+      built_breach f =
+          breach_on f _ _ (built_broken (text_tree text) top order ordered maps at_maps)
 
-      module _ (ns : List Module) (all_names : ns ≡ text.modules.items)
-          (named : (module_names [] (map module_tree ns)).end ≡ Ok tt) where
-        abbrev at_names : (module_names [] (text_tree text).modules).end ≡ Ok tt
-        at_names = ap (λ ms. (module_names [] (map module_tree ms)).end) (sym all_names) ∙ named
+      pub whole_end : (built : Built) → (modules_walk (text_tree text) top order maps).end ≡ Ok built
+          → (walk_of (text_tree text) top).end ≡
+          Ok (design_of order (tables_of (text_tree text).modules order maps) built)
+      whole_end = text_end (text_tree text) top order ordered maps at_maps
 
-        pub top_breach : (ms : List Module) → ms ≡ text.modules.items → (f : Fault)
-            → IsBreach (found (top_of (map module_tree ms) top) no_top).end f → whole f
-        top_breach ms same f =
-            breach_on f _ _ (λ s h.
-            top_broken (text_tree text) top order ordered maps at_maps at_names s
-            (ap (λ ms. (found (top_of (map module_tree ms) top) no_top).end) (sym same) ∙ h))
+-- ---- behind the lattice and the maps
 
-        module _ (ms : List Module) (all_modules : ms ≡ text.modules.items) (m : ModuleTree)
-            (topped : (found (top_of (map module_tree ms) top) no_top).end ≡ Ok m) where
-          abbrev at_top : (found (top_of (text_tree text).modules top) no_top).end ≡ Ok m
-          at_top =
-              ap (λ ms. (found (top_of (map module_tree ms) top) no_top).end) (sym all_modules)
-              ∙ topped
+module _ (text : Text) (top : Option (List ℕ)) (order : Order) (maps : List (List ℕ × MapRows))
+  where
+    pub names_breach : (ms : List Module) → ms ≡ text.modules.items → (f : Fault)
+        → IsBreach (module_names [] (map module_tree ms)).end f
+        → IsBreach (modules_walk (text_tree text) top order maps).end f
+    names_breach ms same f =
+        breach_on f _ _ (λ s h. names_broken (text_tree text) top order maps s
+        (ap (λ ms. (module_names [] (map module_tree ms)).end) (sym same) ∙ h))
 
-          pub top_shaped : IsTrue (is_shaped (text_tree text)) → IsTrue (is_shaped_module m)
-          top_shaped shaped =
-              top_passes (text_tree text).modules top m
-              (modules_shaped text text.modules.items refl shaped)
-              (found_some (top_of (text_tree text).modules top) no_top m at_top)
+    module _ (ns : List Module) (all_names : ns ≡ text.modules.items)
+        (named : (module_names [] (map module_tree ns)).end ≡ Ok tt) where
+      abbrev at_names : (module_names [] (text_tree text).modules).end ≡ Ok tt
+      at_names = ap (λ ms. (module_names [] (map module_tree ms)).end) (sym all_names) ∙ named
 
-          pub built_breach : (tables : Tables)
-              → tables ≡ tables_of (text_tree text).modules order maps → (f : Fault)
-              → IsBreach (top_walk tables m).end f → whole f
-          built_breach tables same f =
-              breach_on f _ _ (λ s h.
-              built_broken (text_tree text) top order ordered maps at_maps at_names m at_top s
-              (ap (λ t. (top_walk t m).end) (sym same) ∙ h))
+      pub top_breach : (ms : List Module) → ms ≡ text.modules.items → (f : Fault)
+          → IsBreach (found (top_of (map module_tree ms) top) no_top).end f
+          → IsBreach (modules_walk (text_tree text) top order maps).end f
+      top_breach ms same f =
+          breach_on f _ _ (λ s h. top_broken (text_tree text) top order maps at_names s
+          (ap (λ ms. (found (top_of (map module_tree ms) top) no_top).end) (sym same) ∙ h))
 
-          pub whole_end : (tables : Tables) → tables ≡ tables_of (text_tree text).modules order maps
-              → (built : Built) → (top_walk tables m).end ≡ Ok built
-              → (walk_of (text_tree text) top).end ≡
-              Ok (design_of order (tables_of (text_tree text).modules order maps) built)
-          whole_end tables same built h =
-              text_end (text_tree text) top order ordered maps at_maps at_names m at_top built
-              (ap (λ t. (top_walk t m).end) (sym same) ∙ h)
+      module _ (ms : List Module) (all_modules : ms ≡ text.modules.items) (m : ModuleTree)
+          (topped : (found (top_of (map module_tree ms) top) no_top).end ≡ Ok m) where
+        abbrev at_top : (found (top_of (text_tree text).modules top) no_top).end ≡ Ok m
+        at_top =
+            ap (λ ms. (found (top_of (map module_tree ms) top) no_top).end) (sym all_modules)
+            ∙ topped
+
+        pub top_shaped : IsTrue (is_shaped (text_tree text)) → IsTrue (is_shaped_module m)
+        top_shaped shaped =
+            top_passes (text_tree text).modules top m
+            (modules_shaped text text.modules.items refl shaped)
+            (found_some (top_of (text_tree text).modules top) no_top m at_top)
+
+        pub built_at : (tables : Tables) → tables ≡ tables_of (text_tree text).modules order maps
+            → (modules_walk (text_tree text) top order maps).end ≡ (top_walk tables m).end
+        built_at tables same =
+            modules_end (text_tree text) top order maps at_names m at_top
+            ∙ ap (λ t. (top_walk t m).end) (sym same)

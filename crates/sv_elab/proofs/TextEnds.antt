@@ -1,15 +1,26 @@
 -- Where the walk of a text ends.
-use Rattle.std.proofs.Common.{◌≡◌, ℕ, List, [], Option, refl}
+use Rattle.std.proofs.Common.{◌≡◌, ℕ, List, [], Option, refl, sym, ◌∙◌}
 use Rattle.std.specs.Prelude.{Ok, Err}
 use Rattle.sv_lattice.specs.Maps.{MapRows}
 use Rattle.sv_ast.specs.Tree.{ModuleTree, TextTree}
 use Rattle.sv_ast.specs.Instances.{top_module}
-use Rattle.sv_walk.specs.Walks.{Step, found}
+use Rattle.sv_walk.specs.Walks.{Step, Walk, done, found, ◌>>=◌}
 use Rattle.sv_walk.specs.Rules.{no_top}
 use Rattle.sv_walk.specs.Lattices.{Order, lattice_walk}
 use Rattle.sv_walk.specs.LabelMaps.{maps_walk}
 use Rattle.sv_walk.specs.InstanceSteps.{Built}
 use Rattle.sv_walk.specs.Texts.{module_names, top_walk, tables_of, design_of, walk_of}
+use Rattle.sv_walk.proofs.WalkLemmas.{end_after, end_broken, joined_ends}
+use Rattle.sv_elab.specs.Texts.{modules_walk}
+use Rattle.sv_elab.proofs.InstanceEnds.{same_after}
+
+-- three walks taken together
+three_joined : {A B C D : Type 0} (w : Walk A) (v : Walk B) (g : B → Walk C) (more : C → Walk D)
+    → (w >>= λ _. v >>= λ b. g b >>= more).end ≡ ((w >>= λ _. v >>= g) >>= more).end
+three_joined w v g more =
+    same_after w (λ _. v >>= λ b. g b >>= more) (λ _. (v >>= g) >>= more)
+    (λ _. sym (joined_ends v g more))
+    ∙ sym (joined_ends w (λ _. v >>= g) more)
 
 module _ (text : TextTree) (top : Option (List ℕ)) where
   pub lattice_broken : (s : Step) → (lattice_walk text.lattice).end ≡ Err s →
@@ -25,28 +36,37 @@ module _ (text : TextTree) (top : Option (List ℕ)) where
 
     module _ (maps : List (List ℕ × MapRows)) (mapped : (maps_walk order.points [] text.maps).end ≡
         Ok maps) where
-      pub names_broken : (s : Step) → (module_names [] text.modules).end ≡ Err s →
-          (walk_of text top).end ≡ Err s
+      rest : (walk_of text top).end
+          ≡ (modules_walk text top order maps >>= λ built.
+          done (design_of order (tables_of text.modules order maps) built)).end
       unfolding walk_of
-      names_broken s h = rw (ordered, mapped, h) refl
+      rest =
+          end_after (lattice_walk text.lattice) _ order ordered
+          ∙ end_after (maps_walk order.points [] text.maps) _ maps mapped
+          ∙ three_joined (module_names [] text.modules) (found (top_module text.modules top) no_top)
+          (top_walk (tables_of text.modules order maps))
+          (λ built. done (design_of order (tables_of text.modules order maps) built))
 
-      module _ (named : (module_names [] text.modules).end ≡ Ok tt) where
-        pub top_broken : (s : Step) → (found (top_module text.modules top) no_top).end ≡ Err s →
-            (walk_of text top).end ≡ Err s
-        unfolding walk_of
-        top_broken s h = rw (ordered, mapped, named, h) refl
+      pub built_broken : (s : Step) → (modules_walk text top order maps).end ≡ Err s
+          → (walk_of text top).end ≡ Err s
+      built_broken s h = rest ∙ end_broken (modules_walk text top order maps) _ s h
 
-        module _ (m : ModuleTree) (topped : (found (top_module text.modules top) no_top).end ≡
-            Ok m) where
-          pub built_broken : (s : Step)
-              → (top_walk (tables_of text.modules order maps) m).end ≡ Err s
-              → (walk_of text top).end ≡ Err s
-          unfolding walk_of
-          built_broken s h = rw (ordered, mapped, named, topped, h) refl
+      pub text_end : (built : Built) → (modules_walk text top order maps).end ≡ Ok built
+          → (walk_of text top).end ≡
+          Ok (design_of order (tables_of text.modules order maps) built)
+      text_end built h = rest ∙ end_after (modules_walk text top order maps) _ built h
 
-          pub text_end : (built : Built)
-              → (top_walk (tables_of text.modules order maps) m).end ≡ Ok built
-              → (walk_of text top).end ≡
-              Ok (design_of order (tables_of text.modules order maps) built)
-          unfolding walk_of
-          text_end built h = rw (ordered, mapped, named, topped, h) refl
+  module _ (order : Order) (maps : List (List ℕ × MapRows)) where
+    pub names_broken : (s : Step) → (module_names [] text.modules).end ≡ Err s →
+        (modules_walk text top order maps).end ≡ Err s
+    names_broken s h = rw h refl
+
+    module _ (named : (module_names [] text.modules).end ≡ Ok tt) where
+      pub top_broken : (s : Step) → (found (top_module text.modules top) no_top).end ≡ Err s →
+          (modules_walk text top order maps).end ≡ Err s
+      top_broken s h = rw (named, h) refl
+
+      pub modules_end : (m : ModuleTree) → (found (top_module text.modules top) no_top).end ≡ Ok m
+          → (modules_walk text top order maps).end
+          ≡ (top_walk (tables_of text.modules order maps) m).end
+      modules_end m h = rw (named, h) refl

@@ -3,3 +3,4 @@ pub mod Modules
 pub mod MapParts
 pub mod Nests
 pub mod Instances
+pub mod Texts

@@ -13,8 +13,8 @@
 //!
 //! Of its own definitions callers read `specs/Modules.antt` alone. The others are private: they say
 //! what the steps of the code have in hand, `specs/Earliest.antt` of names of points,
-//! `specs/MapParts.antt` of label maps, `specs/Nests.antt` and `specs/Instances.antt` of instances;
-//! the meaning stands in `sv_walk`.
+//! `specs/MapParts.antt` of label maps, `specs/Nests.antt` and `specs/Instances.antt` of instances,
+//! `specs/Texts.antt` of modules; the meaning stands in `sv_walk`.
 #![tactic(auto)]
 
 mod built;

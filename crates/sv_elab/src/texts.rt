@@ -11,6 +11,7 @@ ghost use Rattle.sv_walk.specs.Texts.{walk_of};
 ghost use Rattle.sv_width.specs.Answers.{IsBreach};
 ghost use Rattle.sv_elab.specs.Instances.{built_form};
 ghost use Rattle.sv_elab.specs.Modules.{asked_name};
+ghost use Rattle.sv_elab.specs.Texts.{modules_walk};
 
 use crate::built::Built;
 use crate::instances::top_instance;
@@ -66,6 +67,35 @@ fn design(
     })
 }
 
+// What is built of the top of a text with these points and maps.
+fn built_under(
+    alloc: Global,
+    text: &Text,
+    points: &Points,
+    maps: &IndexMap<Name, LabelMap>,
+    top: Option<&Name>,
+) -> Result<Built, Fault>
+    requires shaped { IsTrue (is_shaped (text_tree text.now)) }
+    requires maps { length maps.now.entries < 2 ^ 32 }
+    ensures found { IfOk result (λ built. (modules_walk (text_tree text.now)
+        (asked_name top.entry) points.now maps.now.entries).end ≡ Ok (built_form built)) }
+    ensures broken { IfErr result (IsBreach (modules_walk (text_tree text.now)
+        (asked_name top.entry) points.now maps.now.entries).end) }
+{
+    let names = module_names(alloc, &text.modules)?;
+    let master = top_module(alloc, &text.modules, &names, top)?;
+    let shared = Shared {
+        tables: Tables {
+            modules: &text.modules,
+            points: points.names(),
+            least: points.least(),
+            maps,
+        },
+        names: &names,
+    };
+    top_instance(alloc, &shared, master)
+}
+
 // As `elaborate`, with the name of the module that is asked for.
 fn elaborate_under(alloc: Global, text: &Text, top: Option<&Name>) -> Result<Flat, Fault>
     requires shaped { IsTrue (is_shaped (text_tree text.now)) }
@@ -78,18 +108,7 @@ fn elaborate_under(alloc: Global, text: &Text, top: Option<&Name>) -> Result<Fla
 {
     let points = lattice(alloc, text)?;
     let maps = label_maps(alloc, &points, &text.maps)?;
-    let names = module_names(alloc, &text.modules)?;
-    let master = top_module(alloc, &text.modules, &names, top)?;
-    let shared = Shared {
-        tables: Tables {
-            modules: &text.modules,
-            points: points.names(),
-            least: points.least(),
-            maps: &maps,
-        },
-        names: &names,
-    };
-    let built = top_instance(alloc, &shared, master)?;
+    let built = built_under(alloc, text, &points, &maps, top)?;
     Ok(design(alloc, points, maps, built)?)
 }
 

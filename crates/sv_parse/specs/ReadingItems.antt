@@ -4,12 +4,12 @@ use Rattle.sv_num.specs.declared.faults.Place.{Place}
 use Rattle.sv_num.specs.declared.operators.BinOp.TheVariants.{Mul}
 use Rattle.sv_token.specs.declared.keywords.WordKind.TheVariants as words
 use Rattle.sv_token.specs.declared.signs.SignKind.TheVariants as signs
-use Rattle.sv_token.specs.Lexemes.{Placed}
+use Rattle.sv_token.specs.Lexemes.{Placed, literal_of}
 use Rattle.sv_ast.specs.declared.declarations.DeclKind.TheVariants as kinds
 use Rattle.sv_ast.specs.Tree.{SpanTree, LabelTree, point_label, DeclarationTree, ParameterTree}
 use Rattle.sv_ast.specs.Tree.{MemoryLabelTree, memory_point, by_index, MemoryTree, OverrideTrees}
 use Rattle.sv_ast.specs.Tree.{named_overrides, ordered_overrides, InstanceTree, PlacedName}
-use Rattle.sv_ast.specs.Tree.{PairTree}
+use Rattle.sv_ast.specs.Tree.{PairTree, literal}
 use Rattle.sv_ast.specs.Views.{label_tree}
 use Rattle.sv_ast.specs.GrammarForms.{Form, ◌⨾◌, ◌or◌, given, nothing, never, optional, each}
 use Rattle.sv_ast.specs.GrammarForms.{name_at, a_word, a_sign, a_number, somewhere, binary_at}
@@ -20,6 +20,7 @@ use Rattle.sv_ast.specs.GrammarModules.{IsPlacedName, IsNamedOverride, hash_pare
 use Rattle.sv_ast.specs.GrammarModules.{IsNamedInstance, LatticeLine, IsLatticeLine, points_of}
 use Rattle.sv_ast.specs.GrammarModules.{pairs_of, IsNumber}
 use Rattle.sv_ast.specs.GrammarRules.{all_limits}
+use Rattle.sv_parse.specs.declared.label_maps.KeyRange.{KeyRange}
 use Rattle.sv_parse.specs.declared.registers.RegLabel.{RegLabel}
 use Rattle.sv_parse.specs.declared.registers.RegLabel.TheVariants as reg_label
 use Rattle.sv_parse.specs.Reading.{IsTableEnd, IsTypeOf}
@@ -144,6 +145,13 @@ pub record AreLines (points : List PlacedName) (pairs : List PairTree) (ts rest 
   pub points_are : points ≡ flat_map points_of lines
   pub pairs_are : pairs ≡ flat_map pairs_of lines
   pub are : (each IsLatticeLine lines ⨾ a_word words.Endlattice) ts rest
+
+-- the tree of a range of a label map
+abbrev pub range_tree : KeyRange → SpanTree
+range_tree r = record {
+  high = literal (literal_of r.high) r.high_place;
+  low = literal (literal_of r.low) r.low_place;
+}
 
 -- a range of a label map, behind its `[`
 abbrev pub IsOpenKeyRange : SpanTree → Form

@@ -9,10 +9,11 @@ ghost use Rattle.sv_ast.specs.Tree as tree;
 ghost use Rattle.sv_ast.specs.Tree.{DeclarationTree};
 ghost use Rattle.sv_ast.specs.Views.{expression_tree, span_tree, label_tree, declaration_tree};
 ghost use Rattle.sv_ast.specs.Views.{item_tree};
-ghost use Rattle.sv_ast.specs.GrammarForms.{◌or◌, given, a_word, optional, perhaps};
+ghost use Rattle.sv_ast.specs.GrammarForms.{◌⨾◌, ◌or◌, given, name_at, a_word, optional, perhaps};
 ghost use Rattle.sv_ast.specs.GrammarDeclarations.{equals, AreAlike, IsPortKind, IsNamedPort};
 ghost use Rattle.sv_ast.specs.GrammarDeclarations.{IsPort, ArePorts, IsNamedSignal, IsSignal};
 ghost use Rattle.sv_ast.specs.GrammarDeclarations.{AreSignals};
+ghost use Rattle.sv_ast.specs.GrammarModules.{all_as};
 ghost use Rattle.sv_ast.specs.GrammarRules.{all_limits};
 ghost use Rattle.sv_parse.specs.Reading.{IsTypeOf, IsOutputEnd, IsNamedAs, IsTypedPort, IsWireAs};
 ghost use Rattle.sv_parse.specs.ReadingItems.{IsWire, IsWireLike};
@@ -75,8 +76,8 @@ fn type_of(alloc: Global, decl: &Decl) -> Result<SignalType, AllocError>
         IsTypeOf of.signed (option_map span_tree of.span) (option_map label_tree of.label)
         (declaration_tree decl.now)) }
 {
-    let span = span_copy(alloc, &decl.span)?;
     let label = label_copy(alloc, &decl.label)?;
+    let span = span_copy(alloc, &decl.span)?;
     Ok(SignalType {
         signed: decl.signed,
         span,
@@ -187,9 +188,9 @@ fn read_named_alike<'a>(
     ensures halts { IfErr result (λ e.
         HaltsAs (outer plain_name ∷ []) (placed_tokens bytes.now tokens.now) e) }
 {
+    let (name, place, rest) = read_name(alloc, bytes, tokens)?;
     let of = type_of(alloc, before)?;
-    let (decl, rest) = read_named(alloc, bytes, before.kind, of, tokens)?;
-    Ok((decl, rest))
+    Ok((declaration(before.kind, of, name, place, None), rest))
 }
 
 // The type and the name of a port of the kind.
@@ -311,6 +312,28 @@ fn read_wire_value<'a>(
     }
 }
 
+// The name of a `wire` with its place, and the value, if one comes.
+fn read_wire_name<'a>(
+    alloc: Global,
+    bytes: &[u8],
+    tokens: &'a [Token],
+) -> Result<(Name, Place, Option<Expr>, &'a [Token]), Stop>
+    ensures is { IfOk result (λ x.
+        (name_at x.0 x.1 ⨾ perhaps (equals all_limits) (option_map expression_tree x.2))
+        (placed_tokens bytes.now tokens.now) (placed_tokens bytes.now x.3.now)) }
+    ensures shorter { IfOk result (λ x. length x.3.now < length tokens.now) }
+    ensures reads { IfOk result (λ x.
+        Reads (outer plain_name ∷ outer perhaps_value ∷ []) [] (placed_tokens bytes.now tokens.now)
+        (placed_tokens bytes.now x.3.now)) }
+    ensures halts { IfErr result (λ e.
+        HaltsAs (outer plain_name ∷ outer perhaps_value ∷ [])
+        (placed_tokens bytes.now tokens.now) e) }
+{
+    let (name, place, rest) = read_name(alloc, bytes, tokens)?;
+    let (value, rest) = read_wire_value(alloc, bytes, rest)?;
+    Ok((name, place, value, rest))
+}
+
 // A `wire` of the type.
 fn read_named_wire<'a>(
     alloc: Global,
@@ -330,8 +353,7 @@ fn read_named_wire<'a>(
         HaltsAs (outer plain_name ∷ outer perhaps_value ∷ [])
         (placed_tokens bytes.now tokens.now) e) }
 {
-    let (name, place, rest) = read_name(alloc, bytes, tokens)?;
-    let (value, rest) = read_wire_value(alloc, bytes, rest)?;
+    let (name, place, value, rest) = read_wire_name(alloc, bytes, tokens)?;
     Ok((declaration(DeclKind::Wire, of, name, place, value), rest))
 }
 
@@ -387,10 +409,10 @@ pub fn read_wires<'a>(
     alloc: Global,
     bytes: &[u8],
     tokens: &'a [Token],
-) -> Result<(Vec<Decl>, &'a [Token]), Stop>
+) -> Result<(Vec<Item>, &'a [Token]), Stop>
     ensures is { IfOk result (λ x.
-        AreSignals all_limits (map declaration_tree x.0.items) (placed_tokens bytes.now tokens.now)
-        (placed_tokens bytes.now x.1.now)) }
+        all_as tree.declared (AreSignals all_limits) (map item_tree x.0.items)
+        (placed_tokens bytes.now tokens.now) (placed_tokens bytes.now x.1.now)) }
     ensures shorter { IfOk result (λ x. length x.1.now < length tokens.now) }
     ensures reads { IsNext words.Wire (placed_tokens bytes.now tokens.now) →
         IfOk result (λ x. Reads (outer items ∷ [])
@@ -400,7 +422,8 @@ pub fn read_wires<'a>(
         IfErr result (λ e. HaltsAs (outer items ∷ []) (placed_tokens bytes.now tokens.now) e) }
 {
     let (wires, rest) = read_list::<Wires>(alloc, bytes, 0, tokens)?;
-    Ok((wires, rest))
+    let items = declared(alloc, wires)?;
+    Ok((items, rest))
 }
 
 /// Registers behind the first, which is read already.

@@ -24,9 +24,9 @@ use std::alloc::{AllocError, Global};
 use sv_ast::{Expr, Instance, Item, Links, Overrides};
 use sv_num::{Name, Place};
 use sv_read::cursor::{behind, expect_sign, read_name};
-use sv_read::expressions::read_expression;
 use sv_read::lists::{Expressions, Listed, read_list};
 use sv_read::stop::Stop;
+use sv_statement::closed::read_closed;
 use sv_token::{SignKind, Token};
 
 // The name behind a dot, and the `(` behind it.
@@ -74,8 +74,7 @@ fn read_named_override<'a>(
         outer (punctuation signs.CloseParenthesis) ∷ []) (placed_tokens bytes.now tokens.now) e) }
 {
     let (name, place, rest) = read_dotted(alloc, bytes, tokens)?;
-    let (value, rest) = read_expression(alloc, bytes, 0, rest)?;
-    let rest = expect_sign(SignKind::CloseParenthesis, rest)?;
+    let (value, rest) = read_closed(alloc, bytes, 0, SignKind::CloseParenthesis, rest)?;
     Ok(((name, place, value), rest))
 }
 
@@ -199,8 +198,7 @@ fn read_link_value<'a>(
     if let Some(rest) = behind(SignKind::CloseParenthesis, tokens) {
         return Ok((None, rest));
     }
-    let (value, rest) = read_expression(alloc, bytes, 0, tokens)?;
-    let rest = expect_sign(SignKind::CloseParenthesis, rest)?;
+    let (value, rest) = read_closed(alloc, bytes, 0, SignKind::CloseParenthesis, tokens)?;
     Ok((Some(value), rest))
 }
 

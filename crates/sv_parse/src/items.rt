@@ -8,14 +8,14 @@ ghost use Rattle.sv_ast.specs.GrammarForms.{◌⨾◌, a_sign};
 ghost use Rattle.sv_ast.specs.GrammarModules.{IsPlacedName, IsEvent, IsAlways, place_of};
 ghost use Rattle.sv_ast.specs.GrammarModules.{IsInvariant, IsListedItem, IsItem};
 ghost use Rattle.sv_ast.specs.GrammarRules.{all_limits};
-ghost use Rattle.sv_ast.specs.GrammarStatements.{IsNext};
+ghost use Rattle.sv_ast.specs.GrammarStatements.{IsNext, only};
 ghost use Rattle.sv_parse.specs.ReadingItems.{IsOpenEvent};
 ghost use Rattle.sv_grammar.specs.Symbols.{outer, punctuation, plain_name, items, event};
 ghost use Rattle.sv_grammar.specs.Symbols.{event_inside};
 ghost use Rattle.sv_grammar.specs.Reads.{Reads, NextIsNotWord};
 ghost use Rattle.sv_read.specs.Expectations.{HaltsAs};
 
-use crate::declarations::{declared, read_wires};
+use crate::declarations::read_wires;
 use crate::instances::read_instances;
 use crate::parameters::read_params;
 use crate::registers::read_registers;
@@ -150,15 +150,15 @@ fn place_of(expr: &Expr) -> Place
     }
 }
 
-// What always holds, with the place of the expression.
+// The one item that says what always holds, with the place of the expression.
 fn read_invariant<'a>(
     alloc: Global,
     bytes: &[u8],
     tokens: &'a [Token],
-) -> Result<(Item, &'a [Token]), Stop>
+) -> Result<(Vec<Item>, &'a [Token]), Stop>
     ensures is { IfOk result (λ x.
-        IsInvariant all_limits (item_tree x.0) (placed_tokens bytes.now tokens.now)
-        (placed_tokens bytes.now x.1.now)) }
+        only (IsInvariant all_limits) (map item_tree x.0.items)
+        (placed_tokens bytes.now tokens.now) (placed_tokens bytes.now x.1.now)) }
     ensures shorter { IfOk result (λ x. length x.1.now < length tokens.now) }
     ensures reads { IsNext WordKind.Invariant (placed_tokens bytes.now tokens.now) →
         IfOk result (λ x. Reads (outer items ∷ [])
@@ -169,7 +169,8 @@ fn read_invariant<'a>(
 {
     let (_place, rest) = expect_word(WordKind::Invariant, tokens)?;
     let (expr, rest) = read_expression(alloc, bytes, 0, rest)?;
-    Ok((Item::Invariant(place_of(&expr), expr), rest))
+    let item = Item::Invariant(place_of(&expr), expr);
+    Ok((one(alloc, item)?, rest))
 }
 
 // The items up to a `;`.
@@ -196,31 +197,13 @@ fn read_listed_item<'a>(
     };
     match first.kind {
         TokenKind::Word(WordKind::Parameter | WordKind::Localparam) => {
-            let (params, rest) = read_params(alloc, bytes, tokens)?;
-            Ok((params, rest))
+            read_params(alloc, bytes, tokens)
         }
-        TokenKind::Word(WordKind::Wire) => {
-            let (decls, rest) = read_wires(alloc, bytes, tokens)?;
-            let wires = declared(alloc, decls)?;
-            Ok((wires, rest))
-        }
-        TokenKind::Word(WordKind::Reg) => {
-            let (registers, rest) = read_registers(alloc, bytes, tokens)?;
-            Ok((registers, rest))
-        }
-        TokenKind::Word(WordKind::Assign) => {
-            let (assigned, rest) = read_assigned(alloc, bytes, tokens)?;
-            Ok((assigned, rest))
-        }
-        TokenKind::Word(WordKind::Invariant) => {
-            let (item, rest) = read_invariant(alloc, bytes, tokens)?;
-            let invariants = one(alloc, item)?;
-            Ok((invariants, rest))
-        }
-        TokenKind::Name => {
-            let (instances, rest) = read_instances(alloc, bytes, tokens)?;
-            Ok((instances, rest))
-        }
+        TokenKind::Word(WordKind::Wire) => read_wires(alloc, bytes, tokens),
+        TokenKind::Word(WordKind::Reg) => read_registers(alloc, bytes, tokens),
+        TokenKind::Word(WordKind::Assign) => read_assigned(alloc, bytes, tokens),
+        TokenKind::Word(WordKind::Invariant) => read_invariant(alloc, bytes, tokens),
+        TokenKind::Name => read_instances(alloc, bytes, tokens),
         _ => Err(stuck(Expected::Item, tokens)),
     }
 }

@@ -9,7 +9,7 @@ ghost use Rattle.sv_ast.specs.Views.{span_tree, key_tree, row_tree, map_tree};
 ghost use Rattle.sv_ast.specs.GrammarForms.{◌⨾◌, perhaps, each, a_word, a_sign, a_name};
 ghost use Rattle.sv_ast.specs.GrammarModules.{IsKeyRange, IsKey, IsRow, IsMap};
 ghost use Rattle.sv_ast.specs.GrammarStatements.{IsNext};
-ghost use Rattle.sv_parse.specs.ReadingItems.{IsOpenKeyRange};
+ghost use Rattle.sv_parse.specs.ReadingItems.{IsOpenKeyRange, range_tree};
 ghost use Rattle.sv_parse.specs.ReadingTexts.{EndsRows};
 ghost use Rattle.sv_grammar.specs.Symbols.{outer, punctuation, plain_name, plain_number};
 ghost use Rattle.sv_grammar.specs.Symbols.{perhaps_maps, perhaps_key_range, rows};
@@ -24,10 +24,40 @@ use sv_read::cursor::{behind, behind_word, expect_sign, expect_word, read_name, 
 use sv_read::stop::Stop;
 use sv_token::{Lit, SignKind, Token, TokenKind, WordKind};
 
+// A range of plain numbers, each with its place. It is made a tree last: a tree that is held where
+// reading may stop makes proofs costly.
+#[derive(Clone, Copy)]
+struct KeyRange {
+    high: Lit,
+    high_place: Place,
+    low: Lit,
+    low_place: Place,
+}
+
+// The tree of a range.
+fn span_of(range: KeyRange) -> Span
+    ensures { span_tree result ≡ range_tree range }
+{
+    Span {
+        high: Expr::Number(range.high, range.high_place),
+        low: Expr::Number(range.low, range.low_place),
+    }
+}
+
+// The tree of a range, if there is one.
+fn perhaps_span(range: Option<KeyRange>) -> Option<Span>
+    ensures { option_map span_tree result ≡ option_map range_tree range }
+{
+    match range {
+        Some(range) => Some(span_of(range)),
+        None => None,
+    }
+}
+
 // A range of plain numbers, behind its `[`.
-fn read_open_range(tokens: &[Token]) -> Result<(Span, &[Token]), Stop>
+fn read_open_range(tokens: &[Token]) -> Result<(KeyRange, &[Token]), Stop>
     ensures is { (bytes : List ℕ) →
-        IfOk result (λ x. IsOpenKeyRange (span_tree x.0) (placed_tokens bytes tokens.now)
+        IfOk result (λ x. IsOpenKeyRange (range_tree x.0) (placed_tokens bytes tokens.now)
         (placed_tokens bytes x.1.now)) }
     ensures shorter { IfOk result (λ x. length x.1.now < length tokens.now) }
     ensures reads { (bytes : List ℕ) →
@@ -44,17 +74,19 @@ fn read_open_range(tokens: &[Token]) -> Result<(Span, &[Token]), Stop>
     let rest = expect_sign(SignKind::Colon, rest)?;
     let (low, low_place, rest) = read_number(rest)?;
     let rest = expect_sign(SignKind::CloseBracket, rest)?;
-    let span = Span {
-        high: Expr::Number(high, high_place),
-        low: Expr::Number(low, low_place),
+    let range = KeyRange {
+        high,
+        high_place,
+        low,
+        low_place,
     };
-    Ok((span, rest))
+    Ok((range, rest))
 }
 
 // A range, which has to come.
-fn read_range(tokens: &[Token]) -> Result<(Span, &[Token]), Stop>
+fn read_range(tokens: &[Token]) -> Result<(KeyRange, &[Token]), Stop>
     ensures is { (bytes : List ℕ) →
-        IfOk result (λ x. IsKeyRange (span_tree x.0) (placed_tokens bytes tokens.now)
+        IfOk result (λ x. IsKeyRange (range_tree x.0) (placed_tokens bytes tokens.now)
         (placed_tokens bytes x.1.now)) }
     ensures shorter { IfOk result (λ x. length x.1.now < length tokens.now) }
     ensures reads { (bytes : List ℕ) →
@@ -70,14 +102,14 @@ fn read_range(tokens: &[Token]) -> Result<(Span, &[Token]), Stop>
         outer (punctuation signs.CloseBracket) ∷ []) (placed_tokens bytes tokens.now) e) }
 {
     let rest = expect_sign(SignKind::OpenBracket, tokens)?;
-    let (span, rest) = read_open_range(rest)?;
-    Ok((span, rest))
+    let (range, rest) = read_open_range(rest)?;
+    Ok((range, rest))
 }
 
 // A second range, if one comes.
-fn read_second_range(tokens: &[Token]) -> Result<(Option<Span>, &[Token]), Stop>
+fn read_second_range(tokens: &[Token]) -> Result<(Option<KeyRange>, &[Token]), Stop>
     ensures is { (bytes : List ℕ) →
-        IfOk result (λ x. perhaps IsKeyRange (option_map span_tree x.0)
+        IfOk result (λ x. perhaps IsKeyRange (option_map range_tree x.0)
         (placed_tokens bytes tokens.now) (placed_tokens bytes x.1.now)) }
     ensures shorter { IfOk result (λ x. length x.1.now ≤ length tokens.now) }
     ensures reads { (bytes : List ℕ) →
@@ -89,8 +121,8 @@ fn read_second_range(tokens: &[Token]) -> Result<(Option<Span>, &[Token]), Stop>
 {
     match behind(SignKind::OpenBracket, tokens) {
         Some(rest) => {
-            let (span, rest) = read_open_range(rest)?;
-            Ok((Some(span), rest))
+            let (range, rest) = read_open_range(rest)?;
+            Ok((Some(range), rest))
         }
         None => Ok((None, tokens)),
     }
@@ -257,7 +289,7 @@ pub fn read_label_map<'a>(
 {
     let (_word, rest) = expect_word(WordKind::Labelmap, tokens)?;
     let (name, place, rest) = read_name(alloc, bytes, rest)?;
-    let (span, rest) = read_range(rest)?;
+    let (range, rest) = read_range(rest)?;
     let (second, rest) = read_second_range(rest)?;
     let (rows, rest) = read_rows(alloc, bytes, rest)?;
     let (other, rest) = read_other(alloc, bytes, rest)?;
@@ -265,8 +297,8 @@ pub fn read_label_map<'a>(
     let map = MapText {
         name,
         place,
-        span,
-        second,
+        span: span_of(range),
+        second: perhaps_span(second),
         rows,
         other,
     };

@@ -7,10 +7,10 @@ ghost use Rattle.sv_token.specs.declared.keywords.WordKind.TheVariants as words;
 ghost use Rattle.sv_token.specs.declared.signs.SignKind.TheVariants as signs;
 ghost use Rattle.sv_ast.specs.Tree as tree;
 ghost use Rattle.sv_ast.specs.Tree.{ParameterTree};
-ghost use Rattle.sv_ast.specs.Views.{span_tree, parameter_tree, item_tree};
-ghost use Rattle.sv_ast.specs.GrammarForms.{◌or◌, a_word};
+ghost use Rattle.sv_ast.specs.Views.{expression_tree, span_tree, parameter_tree, item_tree};
+ghost use Rattle.sv_ast.specs.GrammarForms.{◌⨾◌, ◌or◌, name_at, a_sign, a_word};
 ghost use Rattle.sv_ast.specs.GrammarDeclarations.{IsParameterType, IsParameter, IsLaterParameter};
-ghost use Rattle.sv_ast.specs.GrammarDeclarations.{AreParameters, IsHeaderParameter};
+ghost use Rattle.sv_ast.specs.GrammarDeclarations.{IsValue, AreParameters, IsHeaderParameter};
 ghost use Rattle.sv_ast.specs.GrammarDeclarations.{AreHeaderParameters, parameter_word};
 ghost use Rattle.sv_ast.specs.GrammarModules.{all_as};
 ghost use Rattle.sv_ast.specs.GrammarRules.{all_limits};
@@ -26,7 +26,8 @@ ghost use Rattle.sv_parse.specs.ReadingDeclarations.{named_value, typed_value};
 
 use crate::types::{read_open_span, span_copy};
 use std::alloc::{AllocError, Global};
-use sv_ast::{Item, Param, Span};
+use sv_ast::{Expr, Item, Param, Span};
+use sv_num::{Name, Place};
 use sv_read::cursor::{behind, behind_word, expect_sign, expect_word, read_name, unexpected};
 use sv_read::expressions::read_expression;
 use sv_read::lists::{Listed, read_list};
@@ -61,7 +62,29 @@ fn read_param_type<'a>(
     Ok((false, None, tokens))
 }
 
-// The name and the value of a parameter.
+// The name of a parameter with its place, and the value.
+fn read_param_value<'a>(
+    alloc: Global,
+    bytes: &[u8],
+    tokens: &'a [Token],
+) -> Result<(Name, Place, Expr, &'a [Token]), Stop>
+    ensures is { IfOk result (λ x.
+        (name_at x.0 x.1 ⨾ a_sign signs.Equals ⨾ IsValue all_limits (expression_tree x.2))
+        (placed_tokens bytes.now tokens.now) (placed_tokens bytes.now x.3.now)) }
+    ensures shorter { IfOk result (λ x. length x.3.now < length tokens.now) }
+    ensures reads { IfOk result (λ x.
+        Reads (outside_on named_value) [] (placed_tokens bytes.now tokens.now)
+        (placed_tokens bytes.now x.3.now)) }
+    ensures halts { IfErr result (λ e.
+        HaltsAs (outside_on named_value) (placed_tokens bytes.now tokens.now) e) }
+{
+    let (name, place, rest) = read_name(alloc, bytes, tokens)?;
+    let rest = expect_sign(SignKind::Equals, rest)?;
+    let (value, rest) = read_expression(alloc, bytes, 0, rest)?;
+    Ok((name, place, value, rest))
+}
+
+// The name and the value of a parameter of the signedness and the range.
 fn read_named_param<'a>(
     alloc: Global,
     bytes: &[u8],
@@ -80,9 +103,7 @@ fn read_named_param<'a>(
     ensures halts { IfErr result (λ e.
         HaltsAs (outside_on named_value) (placed_tokens bytes.now tokens.now) e) }
 {
-    let (name, place, rest) = read_name(alloc, bytes, tokens)?;
-    let rest = expect_sign(SignKind::Equals, rest)?;
-    let (value, rest) = read_expression(alloc, bytes, 0, rest)?;
+    let (name, place, value, rest) = read_param_value(alloc, bytes, tokens)?;
     let param = Param {
         local,
         signed,

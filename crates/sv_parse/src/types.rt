@@ -22,8 +22,8 @@ use std::alloc::{AllocError, Global};
 use sv_ast::{LabelText, Span};
 use sv_num::{Name, Place};
 use sv_read::cursor::{behind, behind_word, expect_sign, read_name};
-use sv_read::expressions::read_expression;
 use sv_read::stop::Stop;
+use sv_statement::closed::read_closed;
 use sv_token::{SignKind, Token, WordKind};
 
 /// Whether `signed` comes, and the tokens behind it.
@@ -60,10 +60,8 @@ pub fn read_open_span<'a>(
     ensures halts { IfErr result (λ e.
         HaltsAs (outside_on value_range) (placed_tokens bytes.now tokens.now) e) }
 {
-    let (high, rest) = read_expression(alloc, bytes, 0, tokens)?;
-    let rest = expect_sign(SignKind::Colon, rest)?;
-    let (low, rest) = read_expression(alloc, bytes, 0, rest)?;
-    let rest = expect_sign(SignKind::CloseBracket, rest)?;
+    let (high, rest) = read_closed(alloc, bytes, 0, SignKind::Colon, tokens)?;
+    let (low, rest) = read_closed(alloc, bytes, 0, SignKind::CloseBracket, rest)?;
     Ok((Span { high, low }, rest))
 }
 

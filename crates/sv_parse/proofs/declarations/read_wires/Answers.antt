@@ -1,4 +1,5 @@
-use Rattle.std.proofs.Common.{refl, [], ◌∷◌}
+use Rattle.std.proofs.Common.{map, refl, [], ◌∷◌}
+use Rattle.sv_ast.specs.Views.{declaration_tree}
 use Rattle.sv_token.specs.declared.signs.SignKind.TheVariants as signs
 use Rattle.sv_parse.proofs.ReadingDeclarations.{wires_are}
 use Rattle.sv_read.proofs.Halting.{passed}
@@ -9,8 +10,11 @@ use Rattle.sv_grammar.proofs.ReadLists.{ends_more_wires}
 use Rattle.sv_parse.proofs.declarations.read_wires.Goals as goal
 
 pub returns-clause-is : goal.returns-clause-is
-returns-clause-is c =
-    wires_are _ _ _ c.in_ok-wires.ensures.is
+returns-clause-is c = (
+  map declaration_tree c.in_ok-wires.wires.items,
+  c.in_ok-items.ensures,
+  wires_are _ _ _ c.in_ok-wires.ensures.is,
+)
 
 pub returns-in_err-wires-clause-halts : goal.returns-in_err-wires-clause-halts
 returns-in_err-wires-clause-halts c =

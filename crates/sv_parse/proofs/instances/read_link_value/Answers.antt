@@ -1,10 +1,10 @@
 use Rattle.std.proofs.Common.{refl, [], ◌∷◌}
 use Rattle.sv_token.specs.Lexemes.{placed_tokens}
 use Rattle.sv_grammar.specs.Symbols.{outer, punctuation, expression, link}
-use Rattle.sv_grammar.proofs.ReadSteps.{reads_then, reads_before}
+use Rattle.sv_grammar.proofs.ReadSteps.{reads_then}
 use Rattle.sv_grammar.proofs.ReadRows.{sign_taken}
 use Rattle.sv_grammar.proofs.SkippedRows.{begins_link}
-use Rattle.sv_read.proofs.Halting.{passed, stops_then, stops_before}
+use Rattle.sv_read.proofs.Halting.{passed, stops_then}
 use Rattle.sv_parse.proofs.ReadingSymbols.{as_expression}
 use Rattle.sv_token.specs.declared.signs.SignKind.TheVariants as signs
 use Rattle.sv_parse.proofs.instances.read_link_value.Goals as goal
@@ -17,11 +17,7 @@ returns-in-Some-clause-is c = (
 )
 
 pub returns-clause-is : goal.returns-clause-is
-returns-clause-is c = (
-  (placed_tokens c.args.bytes.now c.in_ok-value.rest.now),
-  c.in_ok-value.ensures.is,
-  c.in_ok-rest.ensures.is c.args.bytes.now,
-)
+returns-clause-is c = c.in_ok-value.ensures.is
 
 pub returns-in-Some-clause-reads : goal.returns-in-Some-clause-reads
 returns-in-Some-clause-reads c =
@@ -34,30 +30,12 @@ returns-in_err-value-clause-halts c =
     (outer (expression 0) ∷ outer (punctuation signs.CloseParenthesis) ∷ []) _ _ _
     (as_expression (outer link ∷ []) 0 (punctuation signs.CloseParenthesis ∷ []) _
     (begins_link _ (c.in_default.ensures.none c.args.bytes.now)))
-    (stops_before (outer (expression 0) ∷ []) (outer (punctuation signs.CloseParenthesis) ∷ []) _ _
-    c.in_err-value.ensures.halts))
-
-pub returns-in_err-rest-clause-halts : goal.returns-in_err-rest-clause-halts
-returns-in_err-rest-clause-halts c =
-    passed _ _ _ c.from_residual-in_err-rest.ensures.1
-    (stops_then (outer link ∷ [])
-    (outer (expression 0) ∷ outer (punctuation signs.CloseParenthesis) ∷ []) _ _ _
-    (as_expression (outer link ∷ []) 0 (punctuation signs.CloseParenthesis ∷ []) _
-    (begins_link _ (c.in_default.ensures.none c.args.bytes.now)))
-    (stops_then (outer (expression 0) ∷ outer (punctuation signs.CloseParenthesis) ∷ [])
-    (outer (punctuation signs.CloseParenthesis) ∷ []) _ _ _
-    (reads_before (outer (expression 0) ∷ []) []
-    (outer (punctuation signs.CloseParenthesis) ∷ []) _ _ c.in_ok-value.ensures.reads)
-    (c.in_err-rest.ensures.halts c.args.bytes.now)))
+    c.in_err-value.ensures.halts)
 
 pub returns-clause-reads : goal.returns-clause-reads
 returns-clause-reads c =
-    (reads_then (outer link ∷ [])
+    reads_then (outer link ∷ [])
     (outer (expression 0) ∷ outer (punctuation signs.CloseParenthesis) ∷ []) [] _ _ _
     (as_expression (outer link ∷ []) 0 (punctuation signs.CloseParenthesis ∷ []) _
     (begins_link _ (c.in_default.ensures.none c.args.bytes.now)))
-    (reads_then (outer (expression 0) ∷ outer (punctuation signs.CloseParenthesis) ∷ [])
-    (outer (punctuation signs.CloseParenthesis) ∷ []) [] _ _ _
-    (reads_before (outer (expression 0) ∷ []) []
-    (outer (punctuation signs.CloseParenthesis) ∷ []) _ _ c.in_ok-value.ensures.reads)
-    (c.in_ok-rest.ensures.reads c.args.bytes.now refl)))
+    (c.in_ok-value.ensures.reads refl)

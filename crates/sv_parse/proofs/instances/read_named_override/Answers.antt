@@ -5,8 +5,8 @@ use Rattle.sv_token.specs.Lexemes.{placed_tokens}
 use Rattle.sv_ast.specs.Views.{expression_tree}
 use Rattle.std.proofs.Common.{[], ◌∷◌, refl}
 use Rattle.sv_grammar.specs.Symbols.{outer, punctuation, plain_name, expression}
-use Rattle.sv_grammar.proofs.ReadSteps.{reads_then, reads_before}
-use Rattle.sv_read.proofs.Halting.{passed, stops_then, stops_before}
+use Rattle.sv_read.proofs.Halting.{passed, stops_before}
+use Rattle.sv_parse.proofs.ReadingSymbols.{group_read, group_stop}
 use Rattle.sv_token.specs.declared.signs.SignKind.TheVariants as signs
 use Rattle.sv_parse.proofs.instances.read_named_override.Goals as goal
 
@@ -16,11 +16,8 @@ returns-clause-is c =
     (IsValue all_limits (expression_tree c.in_ok-value.value))
     (placed_tokens c.args.bytes.now c.args.tokens.now)
     (placed_tokens c.args.bytes.now c.in_ok-name.rest.now)
-    (placed_tokens c.args.bytes.now c.in_ok-rest.rest.now) c.in_ok-name.ensures.is (
-      (placed_tokens c.args.bytes.now c.in_ok-value.rest.now),
-      c.in_ok-value.ensures.is,
-      c.in_ok-rest.ensures.is c.args.bytes.now,
-    )
+    (placed_tokens c.args.bytes.now c.in_ok-value.rest.now) c.in_ok-name.ensures.is
+    c.in_ok-value.ensures.is
 
 pub returns-in_err-name-clause-halts : goal.returns-in_err-name-clause-halts
 returns-in_err-name-clause-halts c =
@@ -33,46 +30,14 @@ returns-in_err-name-clause-halts c =
 pub returns-in_err-value-clause-halts : goal.returns-in_err-value-clause-halts
 returns-in_err-value-clause-halts c =
     passed _ _ _ c.from_residual-in_err-value.ensures.1
-    (stops_then (outer (punctuation signs.Dot) ∷ outer plain_name ∷
-    outer (punctuation signs.OpenParenthesis) ∷ outer (expression 0) ∷
-    outer (punctuation signs.CloseParenthesis) ∷ [])
+    (group_stop (outer (punctuation signs.Dot) ∷ outer plain_name ∷
+    outer (punctuation signs.OpenParenthesis) ∷ [])
     (outer (expression 0) ∷ outer (punctuation signs.CloseParenthesis) ∷ []) _ _ _
-    (reads_before (outer (punctuation signs.Dot) ∷ outer plain_name ∷
-    outer (punctuation signs.OpenParenthesis) ∷ []) []
-    (outer (expression 0) ∷ outer (punctuation signs.CloseParenthesis) ∷ []) _ _
-    c.in_ok-name.ensures.reads)
-    (stops_before (outer (expression 0) ∷ []) (outer (punctuation signs.CloseParenthesis) ∷ []) _ _
-    c.in_err-value.ensures.halts))
-
-pub returns-in_err-rest-clause-halts : goal.returns-in_err-rest-clause-halts
-returns-in_err-rest-clause-halts c =
-    passed _ _ _ c.from_residual-in_err-rest.ensures.1
-    (stops_then (outer (punctuation signs.Dot) ∷ outer plain_name ∷
-    outer (punctuation signs.OpenParenthesis) ∷ outer (expression 0) ∷
-    outer (punctuation signs.CloseParenthesis) ∷ [])
-    (outer (expression 0) ∷ outer (punctuation signs.CloseParenthesis) ∷ []) _ _ _
-    (reads_before (outer (punctuation signs.Dot) ∷ outer plain_name ∷
-    outer (punctuation signs.OpenParenthesis) ∷ []) []
-    (outer (expression 0) ∷ outer (punctuation signs.CloseParenthesis) ∷ []) _ _
-    c.in_ok-name.ensures.reads)
-    (stops_then (outer (expression 0) ∷ outer (punctuation signs.CloseParenthesis) ∷ [])
-    (outer (punctuation signs.CloseParenthesis) ∷ []) _ _ _
-    (reads_before (outer (expression 0) ∷ []) []
-    (outer (punctuation signs.CloseParenthesis) ∷ []) _ _ c.in_ok-value.ensures.reads)
-    (c.in_err-rest.ensures.halts c.args.bytes.now)))
+    c.in_ok-name.ensures.reads c.in_err-value.ensures.halts)
 
 pub returns-clause-reads : goal.returns-clause-reads
 returns-clause-reads c =
-    (reads_then (outer (punctuation signs.Dot) ∷ outer plain_name ∷
-    outer (punctuation signs.OpenParenthesis) ∷ outer (expression 0) ∷
-    outer (punctuation signs.CloseParenthesis) ∷ [])
+    group_read (outer (punctuation signs.Dot) ∷ outer plain_name ∷
+    outer (punctuation signs.OpenParenthesis) ∷ [])
     (outer (expression 0) ∷ outer (punctuation signs.CloseParenthesis) ∷ []) [] _ _ _
-    (reads_before (outer (punctuation signs.Dot) ∷ outer plain_name ∷
-    outer (punctuation signs.OpenParenthesis) ∷ []) []
-    (outer (expression 0) ∷ outer (punctuation signs.CloseParenthesis) ∷ []) _ _
-    c.in_ok-name.ensures.reads)
-    (reads_then (outer (expression 0) ∷ outer (punctuation signs.CloseParenthesis) ∷ [])
-    (outer (punctuation signs.CloseParenthesis) ∷ []) [] _ _ _
-    (reads_before (outer (expression 0) ∷ []) []
-    (outer (punctuation signs.CloseParenthesis) ∷ []) _ _ c.in_ok-value.ensures.reads)
-    (c.in_ok-rest.ensures.reads c.args.bytes.now refl)))
+    c.in_ok-name.ensures.reads (c.in_ok-value.ensures.reads refl)

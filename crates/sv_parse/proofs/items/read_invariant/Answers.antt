@@ -7,17 +7,22 @@ use Rattle.sv_read.proofs.Halting.{passed, stops_then, stops_before}
 use Rattle.sv_parse.proofs.ReadingSymbols.{word_was_next}
 use Rattle.sv_token.specs.declared.signs.SignKind.TheVariants as signs
 use Rattle.sv_token.specs.declared.keywords.WordKind.TheVariants as words
+use Rattle.sv_ast.specs.Views.{item_tree}
+use Rattle.sv_ast.specs.GrammarModules.{IsInvariant}
+use Rattle.sv_ast.specs.GrammarRules.{all_limits}
+use Rattle.sv_read.proofs.ReadingLists.{one_is}
 use Rattle.sv_parse.proofs.items.read_invariant.Goals as goal
 
 pub returns-clause-is : goal.returns-clause-is
-returns-clause-is c = (
-  c.place_of.ensures,
-  (
-    (placed_tokens c.args.bytes.now c.in_ok-_place.rest.now),
-    (c.in_ok-_place._place, c.in_ok-_place.ensures.is c.args.bytes.now),
-    c.in_ok-expr.ensures.is,
-  ),
-)
+returns-clause-is c =
+    one_is _ _ item_tree (IsInvariant all_limits) _ _ _ _ c.in_ok-one.ensures (
+      c.place_of.ensures,
+      (
+        (placed_tokens c.args.bytes.now c.in_ok-_place.rest.now),
+        (c.in_ok-_place._place, c.in_ok-_place.ensures.is c.args.bytes.now),
+        c.in_ok-expr.ensures.is,
+      ),
+    )
 
 pub returns-in_err-_place-clause-halts : goal.returns-in_err-_place-clause-halts
 returns-in_err-_place-clause-halts c = λ is.

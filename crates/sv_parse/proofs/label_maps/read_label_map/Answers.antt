@@ -1,4 +1,8 @@
-use Rattle.std.proofs.Common.{[], ◌∷◌, refl}
+use Rattle.std.proofs.Common.{[], ◌∷◌, Option, refl, subst, sym}
+use Rattle.sv_token.specs.Lexemes.{placed_tokens}
+use Rattle.sv_ast.specs.Tree.{SpanTree}
+use Rattle.sv_ast.specs.GrammarForms.{perhaps}
+use Rattle.sv_ast.specs.GrammarModules.{IsKeyRange}
 use Rattle.sv_grammar.specs.Symbols.{outer, punctuation, plain_name, plain_number, map_name}
 use Rattle.sv_grammar.specs.Symbols.{perhaps_maps, perhaps_key_range, rows, end_of_map}
 use Rattle.sv_grammar.proofs.ReadSteps.{reads_then, reads_before}
@@ -39,9 +43,9 @@ returns-in_err-name-clause-halts c = λ is.
     outer (punctuation signs.CloseBracket) ∷ outer perhaps_key_range ∷ outer rows ∷
     outer perhaps_maps ∷ []) _ _ c.in_err-name.ensures.halts)))
 
-pub returns-in_err-span-clause-halts : goal.returns-in_err-span-clause-halts
-returns-in_err-span-clause-halts c = λ is.
-    passed _ _ _ c.from_residual-in_err-span.ensures.1
+pub returns-in_err-range-clause-halts : goal.returns-in_err-range-clause-halts
+returns-in_err-range-clause-halts c = λ is.
+    passed _ _ _ c.from_residual-in_err-range.ensures.1
     (stops_then (outer perhaps_maps ∷ [])
     (outer map_name ∷ outer perhaps_key_range ∷ outer rows ∷ outer perhaps_maps ∷ []) _ _ _
     (word_taken perhaps_maps words.Labelmap
@@ -74,7 +78,7 @@ returns-in_err-span-clause-halts c = λ is.
     outer (punctuation signs.Colon) ∷ outer plain_number ∷
     outer (punctuation signs.CloseBracket) ∷ [])
     (outer perhaps_key_range ∷ outer rows ∷ outer perhaps_maps ∷ []) _ _
-    (c.in_err-span.ensures.halts c.args.bytes.now)))))
+    (c.in_err-range.ensures.halts c.args.bytes.now)))))
 
 pub returns-in_err-second-clause-halts : goal.returns-in_err-second-clause-halts
 returns-in_err-second-clause-halts c = λ is.
@@ -115,7 +119,7 @@ returns-in_err-second-clause-halts c = λ is.
     outer (punctuation signs.Colon) ∷ outer plain_number ∷
     outer (punctuation signs.CloseBracket) ∷ []) []
     (outer perhaps_key_range ∷ outer rows ∷ outer perhaps_maps ∷ []) _ _
-    (c.in_ok-span.ensures.reads c.args.bytes.now))
+    (c.in_ok-range.ensures.reads c.args.bytes.now))
     (stops_before (outer perhaps_key_range ∷ []) (outer rows ∷ outer perhaps_maps ∷ []) _ _
     (c.in_err-second.ensures.halts c.args.bytes.now))))))
 
@@ -158,7 +162,7 @@ returns-in_err-rows-clause-halts c = λ is.
     outer (punctuation signs.Colon) ∷ outer plain_number ∷
     outer (punctuation signs.CloseBracket) ∷ []) []
     (outer perhaps_key_range ∷ outer rows ∷ outer perhaps_maps ∷ []) _ _
-    (c.in_ok-span.ensures.reads c.args.bytes.now))
+    (c.in_ok-range.ensures.reads c.args.bytes.now))
     (stops_then (outer perhaps_key_range ∷ outer rows ∷ outer perhaps_maps ∷ [])
     (outer rows ∷ outer perhaps_maps ∷ []) _ _ _
     (reads_before (outer perhaps_key_range ∷ []) [] (outer rows ∷ outer perhaps_maps ∷ []) _ _
@@ -204,7 +208,7 @@ returns-in_err-other-clause-halts c = λ is.
     outer (punctuation signs.Colon) ∷ outer plain_number ∷
     outer (punctuation signs.CloseBracket) ∷ []) []
     (outer perhaps_key_range ∷ outer rows ∷ outer perhaps_maps ∷ []) _ _
-    (c.in_ok-span.ensures.reads c.args.bytes.now))
+    (c.in_ok-range.ensures.reads c.args.bytes.now))
     (stops_then (outer perhaps_key_range ∷ outer rows ∷ outer perhaps_maps ∷ [])
     (outer rows ∷ outer perhaps_maps ∷ []) _ _ _
     (reads_before (outer perhaps_key_range ∷ []) [] (outer rows ∷ outer perhaps_maps ∷ []) _ _
@@ -254,7 +258,7 @@ returns-in_err-_last-clause-halts c = λ is.
     outer (punctuation signs.Colon) ∷ outer plain_number ∷
     outer (punctuation signs.CloseBracket) ∷ []) []
     (outer perhaps_key_range ∷ outer rows ∷ outer perhaps_maps ∷ []) _ _
-    (c.in_ok-span.ensures.reads c.args.bytes.now))
+    (c.in_ok-range.ensures.reads c.args.bytes.now))
     (stops_then (outer perhaps_key_range ∷ outer rows ∷ outer perhaps_maps ∷ [])
     (outer rows ∷ outer perhaps_maps ∷ []) _ _ _
     (reads_before (outer perhaps_key_range ∷ []) [] (outer rows ∷ outer perhaps_maps ∷ []) _ _
@@ -309,7 +313,7 @@ returns-clause-reads c = λ is.
     outer (punctuation signs.Colon) ∷ outer plain_number ∷
     outer (punctuation signs.CloseBracket) ∷ []) []
     (outer perhaps_key_range ∷ outer rows ∷ outer perhaps_maps ∷ []) _ _
-    (c.in_ok-span.ensures.reads c.args.bytes.now))
+    (c.in_ok-range.ensures.reads c.args.bytes.now))
     (reads_then (outer perhaps_key_range ∷ outer rows ∷ outer perhaps_maps ∷ [])
     (outer rows ∷ outer perhaps_maps ∷ []) (outer perhaps_maps ∷ []) _ _ _
     (reads_before (outer perhaps_key_range ∷ []) [] (outer rows ∷ outer perhaps_maps ∷ []) _ _
@@ -329,6 +333,12 @@ returns-clause-reads c = λ is.
 pub returns-clause-is : goal.returns-clause-is
 returns-clause-is c =
     map_is _ _ _ _ _ _ _ _ _ (c.in_ok-_word._word, c.in_ok-_word.ensures.is c.args.bytes.now)
-    c.in_ok-name.ensures.is (c.in_ok-span.ensures.is c.args.bytes.now)
-    (c.in_ok-second.ensures.is c.args.bytes.now) c.in_ok-rows.ensures.is
+    c.in_ok-name.ensures.is
+    (subst (λ (s : SpanTree). IsKeyRange s (placed_tokens c.args.bytes.now c.in_ok-name.rest.now)
+    (placed_tokens c.args.bytes.now c.in_ok-range.rest.now)) (sym c.span_of.ensures)
+    (c.in_ok-range.ensures.is c.args.bytes.now))
+    (subst (λ (s : Option SpanTree).
+    perhaps IsKeyRange s (placed_tokens c.args.bytes.now c.in_ok-range.rest.now)
+    (placed_tokens c.args.bytes.now c.in_ok-second.rest.now)) (sym c.perhaps_span.ensures)
+    (c.in_ok-second.ensures.is c.args.bytes.now)) c.in_ok-rows.ensures.is
     c.in_ok-other.ensures.is (c.in_ok-_last._last, c.in_ok-_last.ensures.is c.args.bytes.now)

@@ -1,5 +1,5 @@
 use Rattle.sv_token.specs.Lexemes.{placed_tokens}
-use Rattle.sv_ast.specs.Views.{span_tree}
+use Rattle.sv_parse.specs.ReadingItems.{range_tree}
 use Rattle.std.proofs.Common.{[], ◌∷◌, refl}
 use Rattle.sv_grammar.specs.Symbols.{outer, punctuation, plain_number}
 use Rattle.sv_grammar.proofs.ReadSteps.{reads_then, reads_before}
@@ -10,9 +10,9 @@ use Rattle.sv_parse.proofs.label_maps.read_range.Goals as goal
 
 pub returns-clause-is : goal.returns-clause-is
 returns-clause-is c =
-    λ bytes. key_range_is (span_tree c.in_ok-span.span) (placed_tokens bytes c.args.tokens.now)
-    (placed_tokens bytes c.in_ok-rest.rest.now) (placed_tokens bytes c.in_ok-span.rest.now)
-    (c.in_ok-rest.ensures.is bytes) (c.in_ok-span.ensures.is bytes)
+    λ bytes. key_range_is (range_tree c.in_ok-range.range) (placed_tokens bytes c.args.tokens.now)
+    (placed_tokens bytes c.in_ok-rest.rest.now) (placed_tokens bytes c.in_ok-range.rest.now)
+    (c.in_ok-rest.ensures.is bytes) (c.in_ok-range.ensures.is bytes)
 
 pub returns-in_err-rest-clause-halts : goal.returns-in_err-rest-clause-halts
 returns-in_err-rest-clause-halts c = λ bytes.
@@ -21,9 +21,9 @@ returns-in_err-rest-clause-halts c = λ bytes.
     (outer plain_number ∷ outer (punctuation signs.Colon) ∷ outer plain_number ∷
     outer (punctuation signs.CloseBracket) ∷ []) _ _ (c.in_err-rest.ensures.halts bytes))
 
-pub returns-in_err-span-clause-halts : goal.returns-in_err-span-clause-halts
-returns-in_err-span-clause-halts c = λ bytes.
-    passed _ _ _ c.from_residual-in_err-span.ensures.1
+pub returns-in_err-range-clause-halts : goal.returns-in_err-range-clause-halts
+returns-in_err-range-clause-halts c = λ bytes.
+    passed _ _ _ c.from_residual-in_err-range.ensures.1
     (stops_then (outer (punctuation signs.OpenBracket) ∷ outer plain_number ∷
     outer (punctuation signs.Colon) ∷ outer plain_number ∷
     outer (punctuation signs.CloseBracket) ∷ [])
@@ -32,7 +32,7 @@ returns-in_err-span-clause-halts c = λ bytes.
     (reads_before (outer (punctuation signs.OpenBracket) ∷ []) []
     (outer plain_number ∷ outer (punctuation signs.Colon) ∷ outer plain_number ∷
     outer (punctuation signs.CloseBracket) ∷ []) _ _ (c.in_ok-rest.ensures.reads bytes refl))
-    (c.in_err-span.ensures.halts bytes))
+    (c.in_err-range.ensures.halts bytes))
 
 pub returns-clause-reads : goal.returns-clause-reads
 returns-clause-reads c = λ bytes.
@@ -44,4 +44,4 @@ returns-clause-reads c = λ bytes.
     (reads_before (outer (punctuation signs.OpenBracket) ∷ []) []
     (outer plain_number ∷ outer (punctuation signs.Colon) ∷ outer plain_number ∷
     outer (punctuation signs.CloseBracket) ∷ []) _ _ (c.in_ok-rest.ensures.reads bytes refl))
-    (c.in_ok-span.ensures.reads bytes))
+    (c.in_ok-range.ensures.reads bytes))

@@ -1,5 +1,5 @@
 use Rattle.sv_token.specs.Lexemes.{placed_tokens}
-use Rattle.sv_ast.specs.Views.{span_tree}
+use Rattle.sv_parse.specs.ReadingItems.{range_tree}
 use Rattle.std.proofs.Common.{[], ◌∷◌, refl}
 use Rattle.sv_grammar.specs.Symbols.{outer, punctuation, plain_number, perhaps_key_range}
 use Rattle.sv_grammar.proofs.ReadSteps.{reads_then}
@@ -10,15 +10,15 @@ use Rattle.sv_parse.proofs.ReadingItems.{key_range_is}
 use Rattle.sv_token.specs.declared.signs.SignKind.TheVariants as signs
 use Rattle.sv_parse.proofs.label_maps.read_second_range.Goals as goal
 
-pub returns-in_ok-span-in-Some-clause-is : goal.returns-in_ok-span-in-Some-clause-is
-returns-in_ok-span-in-Some-clause-is c =
-    λ bytes. key_range_is (span_tree c.in_ok-span-in-Some.span)
+pub returns-in_ok-range-in-Some-clause-is : goal.returns-in_ok-range-in-Some-clause-is
+returns-in_ok-range-in-Some-clause-is c =
+    λ bytes. key_range_is (range_tree c.in_ok-range-in-Some.range)
     (placed_tokens bytes c.args.tokens.now) (placed_tokens bytes c.in-Some.rest.now)
-    (placed_tokens bytes c.in_ok-span-in-Some.rest.now) (c.in-Some.ensures.is bytes)
-    (c.in_ok-span-in-Some.ensures.is bytes)
+    (placed_tokens bytes c.in_ok-range-in-Some.rest.now) (c.in-Some.ensures.is bytes)
+    (c.in_ok-range-in-Some.ensures.is bytes)
 
-pub returns-in_err-span-in-Some-clause-halts : goal.returns-in_err-span-in-Some-clause-halts
-returns-in_err-span-in-Some-clause-halts c = λ bytes.
+pub returns-in_err-range-in-Some-clause-halts : goal.returns-in_err-range-in-Some-clause-halts
+returns-in_err-range-in-Some-clause-halts c = λ bytes.
     passed _ _ _ c.from_residual.ensures.1
     (stops_then (outer perhaps_key_range ∷ [])
     (outer plain_number ∷ outer (punctuation signs.Colon) ∷ outer plain_number ∷
@@ -26,17 +26,17 @@ returns-in_err-span-in-Some-clause-halts c = λ bytes.
     (sign_taken perhaps_key_range signs.OpenBracket
     (plain_number ∷ (punctuation signs.Colon) ∷ plain_number ∷
     (punctuation signs.CloseBracket) ∷ []) _ _ refl (c.in-Some.ensures.is bytes))
-    (c.in_err-span-in-Some.ensures.halts bytes))
+    (c.in_err-range-in-Some.ensures.halts bytes))
 
-pub returns-in_ok-span-in-Some-clause-reads : goal.returns-in_ok-span-in-Some-clause-reads
-returns-in_ok-span-in-Some-clause-reads c = λ bytes.
+pub returns-in_ok-range-in-Some-clause-reads : goal.returns-in_ok-range-in-Some-clause-reads
+returns-in_ok-range-in-Some-clause-reads c = λ bytes.
     (reads_then (outer perhaps_key_range ∷ [])
     (outer plain_number ∷ outer (punctuation signs.Colon) ∷ outer plain_number ∷
     outer (punctuation signs.CloseBracket) ∷ []) [] _ _ _
     (sign_taken perhaps_key_range signs.OpenBracket
     (plain_number ∷ (punctuation signs.Colon) ∷ plain_number ∷
     (punctuation signs.CloseBracket) ∷ []) _ _ refl (c.in-Some.ensures.is bytes))
-    (c.in_ok-span-in-Some.ensures.reads bytes))
+    (c.in_ok-range-in-Some.ensures.reads bytes))
 
 pub returns-in-None-clause-reads : goal.returns-in-None-clause-reads
 returns-in-None-clause-reads c = λ bytes.

@@ -1,26 +1,10 @@
 use Rattle.std.proofs.Common.{refl}
-use Rattle.sv_token.specs.Lexemes.{placed_tokens}
 use Rattle.sv_read.proofs.Halting.{passed}
-use Rattle.sv_parse.proofs.DeclarationRuns.{and_stop, front_stop}
 use Rattle.sv_parse.proofs.parameters.read_named_param.Goals as goal
 
 pub returns-clause-is : goal.returns-clause-is
-returns-clause-is c = (
-  (refl, refl, refl),
-  (
-    placed_tokens c.args.bytes.now c.in_ok-name.rest.now,
-    c.in_ok-name.ensures.is,
-    (
-      placed_tokens c.args.bytes.now c.in_ok-rest.rest.now,
-      c.in_ok-rest.ensures.is
-          c.args.bytes.now,
-      c.in_ok-value.ensures.is,
-    ),
-  ),
-)
+returns-clause-is c = ((refl, refl, refl), c.in_ok-name.ensures.is)
 
-pub returns-in_err-rest-clause-halts : goal.returns-in_err-rest-clause-halts
-returns-in_err-rest-clause-halts c =
-    passed _ _ _ c.from_residual-in_err-rest.ensures.1
-    (and_stop _ _ _ _ _ c.in_ok-name.ensures.reads
-    (front_stop _ _ _ _ (c.in_err-rest.ensures.halts c.args.bytes.now)))
+pub returns-in_err-name-clause-halts : goal.returns-in_err-name-clause-halts
+returns-in_err-name-clause-halts c =
+    passed _ _ _ c.from_residual.ensures.1 c.in_err-name.ensures.halts

@@ -76,8 +76,8 @@ fn read_selected_label<'a>(
     }
 }
 
-// A label, behind its brace. It is not read by `read_open_label` of `types`: the grammar has symbols
-// of its own for labels of registers, which go on at a `#` and leave behind the `}` what the label
+// A label, behind its brace. It is not read by `read_open_label` of `types`: the grammar has own
+// symbols for labels of registers, which go on at a `#` and leave behind the `}` what the label
 // allows, a memory or registers or both. One function for both would promise each clause twice, and
 // what they share, a label with selectors, is `read_table_label`.
 fn read_open_reg_label<'a>(

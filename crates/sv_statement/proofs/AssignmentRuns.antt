@@ -45,7 +45,8 @@ behind_value = outer plain_name ∷ outer (punctuation signs.CloseParenthesis) �
 
 pub release_opened : (ts a : List Placed) →
     Reads (outer (punctuation signs.OpenParenthesis) ∷ []) [] ts a →
-    Reads behind_release (outer (expression 0) ∷ outer (punctuation signs.Comma) ∷ behind_value) ts a
+    Reads behind_release (outer (expression 0) ∷ outer (punctuation signs.Comma) ∷ behind_value)
+    ts a
 release_opened ts a opens =
     reads_before (outer (punctuation signs.OpenParenthesis) ∷ []) []
     (outer (expression 0) ∷ outer (punctuation signs.Comma) ∷ behind_value) ts a opens

@@ -8,15 +8,15 @@ use Rattle.sv_ast.specs.Views.{item_tree}
 use Rattle.sv_ast.specs.GrammarForms.{Form, ◌or◌}
 use Rattle.sv_ast.specs.GrammarStatements.{only}
 use Rattle.sv_ast.specs.GrammarDeclarations.{AreParameters, AreSignals, IsMemory}
-use Rattle.sv_ast.specs.GrammarModules.{all_as, AreContinuous, IsReleased, IsInvariant, AreInstances}
-use Rattle.sv_ast.specs.GrammarModules.{IsListedItem}
+use Rattle.sv_ast.specs.GrammarModules.{all_as, AreContinuous, IsReleased, IsInvariant}
+use Rattle.sv_ast.specs.GrammarModules.{AreInstances, IsListedItem}
 use Rattle.sv_ast.specs.GrammarRules.{all_limits}
 use Rattle.sv_parse.proofs.items.read_listed_item.Goals as goal
 
 -- items of one form are items that stand up to a `;`
 listed_as : {X E : Type 0} (r : Result X E) (items : X → List ItemTree) (behind : X → List Placed)
     (ts : List Placed) (P : List ItemTree → Form)
-    → ((is : List ItemTree) (rest : List Placed) → P is ts rest → IsListedItem all_limits is ts rest)
+    → ((is : List ItemTree) (us : List Placed) → P is ts us → IsListedItem all_limits is ts us)
     → IfOk r (λ x. P (items x) ts (behind x))
     → IfOk r (λ x. IsListedItem all_limits (items x) ts (behind x))
 listed_as r items behind ts P follows read =

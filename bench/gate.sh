@@ -12,8 +12,9 @@
 #
 # gate.sh --slow NAME.. prints the ten functions of each crate that cost most instead. `rt ci` names no function, so this is
 # `rt check` with one job, and a function's cost is the processor time between the line of the one before it and its own, with the
-# lemmas that are checked on the way. `rt check` begins with what this machine kept of the same crate, and the first line says how
-# many functions were checked anew: all of them where nothing was kept.
+# lemmas and the other functions' steps that are checked on the way. So the ten modules that took longest follow, by the time from the file
+# of the one before in `out/incremental` to their own: `Lts` are the steps of a function's code, `Tie` and `Proof` its goals. `rt check`
+# begins with what this machine kept of the same crate, and the first line says how many functions were checked anew: all of them where nothing was kept.
 set -eu
 top=$(CDPATH='' cd -- "$(dirname -- "$0")/.." && pwd -P)
 work=$(mktemp -d)
@@ -194,8 +195,21 @@ def reach(every, name):
     return found
 
 
+def modules_made(name, since):
+    """The modules of a crate that were checked since then, each with the seconds since the one before."""
+    found = []
+    for at, _, files in os.walk(f"crates/{name}/out/incremental"):
+        for file in files:
+            ended = os.lstat(f"{at}/{file}").st_mtime
+            if file.endswith(".oantt") and ended > since:
+                found.append((ended, file.removesuffix(".oantt").removesuffix(".decls")))
+    found.sort()
+    return [(now - before, module) for (before, _), (now, module) in zip([(since, ""), *found], found)]
+
+
 def slow():
     for name in names[1:]:
+        began = time.time()
         child = subprocess.Popen(["rt", "check", "--jobs", "1"], cwd=f"crates/{name}", stdout=subprocess.PIPE, stderr=subprocess.STDOUT,
                                  stdin=subprocess.DEVNULL, text=True, errors="replace")
         last, costs, ends = 0.0, [], ""
@@ -208,6 +222,8 @@ def slow():
         print(f"{name}: {len(costs)} functions checked anew; {ends}")
         for seconds, function in sorted(costs, reverse=True)[:10]:
             print(f"{seconds:8.1f} s  {function}")
+        for seconds, module in sorted(modules_made(name, began), reverse=True)[:10]:
+            print(f"{seconds:8.1f} s by the clock  {module}")
         if child.wait():
             return 1
     return 0

@@ -3,6 +3,7 @@ pub mod Places
 pub mod Marks
 pub mod Clauses
 pub mod Trails
+pub mod Between
 pub mod Seeing
 pub mod Deriving
 pub mod Learned

@@ -61,19 +61,17 @@ fn see(trail: &Trail, seen: &mut LiteralList, clause: &[Literal]) -> Result<(), 
 
 // Whether the negation of some literal of the trail from one place to another is seen.
 fn is_some_seen(trail: &Trail, seen: &LiteralList, from: usize, to: usize) -> bool
+    requires from { from ≤ to }
     requires to { to ≤ length trail.now.literals }
     requires variables { seen.now.variables ≡ trail.now.variables }
     ensures some { IsTrue result → SomeSeen seen.now.literals trail.now.literals from to }
     ensures none { IsFalse result → NoneSeen seen.now.literals trail.now.literals from to }
 {
-    let mut place = to;
-    'walk: while place > from {
-        place -= 1;
-        if seen.contains(&trail.at(place).negated()) {
-            return true;
-        }
-    }
-    false
+    trail
+        .between(from, to)
+        .iter()
+        .rev()
+        .any(|literal| seen.contains(&literal.negated()))
 }
 
 // Resolution step: resolves on the literal of the trail at a place with its reason.

@@ -1,6 +1,7 @@
 // Lists of literals that tell at once whether a literal stands in them, and where.
 ghost use Rattle.std.specs.Prelude.{◌≡◌, ◌+◌, ◌-◌, ◌*◌, ◌<◌, ◌≤◌, ◌^◌, ℤ, pos, List, [], ◌∷◌, ◌++◌};
-ghost use Rattle.std.specs.Prelude.{length, take, IsTrue, IfOk, OnOk, OnErr, slice_index_or};
+ghost use Rattle.std.specs.Prelude.{length, take, drop, All, IsTrue, IfOk, OnOk, OnErr};
+ghost use Rattle.std.specs.Prelude.{slice_index_or};
 ghost use Rattle.std.specs.Bool.{IsFalse};
 ghost use Rattle.sv_clause.specs.Literals.{stands};
 ghost use Rattle.sv_solve.specs.Codes.{IsOf};
@@ -72,6 +73,16 @@ impl LiteralList {
         ensures first { IsFalse (stands result (take place self.now.literals)) }
     {
         self.literals[place]
+    }
+
+    /// The literals from one place to another.
+    pub fn between(&self, from: usize, to: usize) -> &[Literal]
+        requires from { from ≤ to }
+        requires to { to ≤ length self.now.literals }
+        ensures value { result.now ≡ take (to - from) (drop from self.now.literals) }
+        ensures of { All (IsOf self.now.variables) result.now }
+    {
+        &self.literals[from..to]
     }
 
     /// Whether a literal stands in it.

@@ -1,7 +1,8 @@
 // The trail: the literals that are true, in the order in which they became so, each with its
 // reason.
 ghost use Rattle.std.specs.Prelude.{◌≡◌, ◌+◌, ◌-◌, ◌*◌, ◌<◌, ◌≤◌, ◌^◌, ℤ, pos, List, [], ◌∷◌, ◌++◌};
-ghost use Rattle.std.specs.Prelude.{length, take, IsTrue, IfOk, OnOk, slice_index_or, slice_set};
+ghost use Rattle.std.specs.Prelude.{length, take, drop, All, IsTrue, IfOk, OnOk, slice_index_or};
+ghost use Rattle.std.specs.Prelude.{slice_set};
 ghost use Rattle.std.specs.Bool.{IsFalse};
 ghost use Rattle.sv_clause.specs.Literals.{stands};
 ghost use Rattle.sv_clause.specs.Units.{IsOpen};
@@ -67,6 +68,16 @@ impl Trail {
         ensures of { IsOf self.now.variables result }
     {
         self.assigned.at(place)
+    }
+
+    /// The literals from one place to another.
+    pub fn between(&self, from: usize, to: usize) -> &[Literal]
+        requires from { from ≤ to }
+        requires to { to ≤ length self.now.literals }
+        ensures value { result.now ≡ take (to - from) (drop from self.now.literals) }
+        ensures of { All (IsOf self.now.variables) result.now }
+    {
+        self.assigned.between(from, to)
     }
 
     /// Reason: the number of the clause that made the literal at a place true. A decision has 0.

@@ -24,6 +24,13 @@ back-preserved-then-not-contains c =
           (omega arith) (omega arith) unseen c.back.invariant.3,
     )
 
+pub is_some_seen-requires-clause-from : goal.is_some_seen-requires-clause-from
+is_some_seen-requires-clause-from c =
+    let above : c.args.mark < c.back.bound =
+    later_above c.args.clauses.now c.args.trail.now.literals c.back.seen.literals c.args.mark
+    c.back.bound c.back.invariant.3 in
+    omega arith
+
 pub returns-then-not-is_some_seen-clause-from : goal.returns-then-not-is_some_seen-clause-from
 returns-then-not-is_some_seen-clause-from c =
     let above : c.args.mark < c.back.bound =

@@ -35,6 +35,7 @@ pub mod ClockFaults
 pub mod TopTables
 pub mod FirstBreaches
 pub mod RefusalFacts
+pub mod FirstPlaces
 pub mod ClockOrder
 pub mod WholeOrders
 pub mod ReadTables

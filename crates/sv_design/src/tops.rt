@@ -67,12 +67,14 @@ fn first_of_both(first: &[bool], second: &[bool]) -> Option<SigId>
     requires few { length first.now < 2 ^ 32 }
     ensures { FindsFirstOfBoth first.now second.now (number_if_any result) }
 {
-    for s in 0..first.len() {
-        if first[s] && second[s] {
-            return Some(SigId(s as u32));
-        }
+    let found = first
+        .iter()
+        .zip(second)
+        .position(|(first, second)| *first & *second);
+    match found {
+        Some(place) => Some(SigId(place as u32)),
+        None => None,
     }
-    None
 }
 
 // An input of the top module that a clock leads up to, the first clock that leads up to one.

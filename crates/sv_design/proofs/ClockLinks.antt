@@ -6,7 +6,7 @@ use Rattle.std.specs.List.{list_any, list_all}
 use Rattle.std.proofs.lemmas.Bool.{false≢true, eqb-true, eq-eqb}
 use Rattle.std.proofs.lemmas.List.FromFn.{get_or-map-range_with_len}
 use Rattle.sv_flat.specs.declared.statements.FStmt.{FStmt}
-use Rattle.sv_flat.specs.Design.{SignalForm, PieceForm, TypedTree, FlatStatement, assign, branch}
+use Rattle.sv_flat.specs.Design.{SignalForm, PieceForm, TypedTree, assign}
 use Rattle.sv_flat.specs.Design.{ProcessKind, continuous, port_in, port_out, combinational, clocked}
 use Rattle.sv_flat.specs.Design.{release, ProcessForm, FlatDesign}
 use Rattle.sv_flat.specs.Assigned.{assigns}
@@ -56,13 +56,6 @@ module _ (design : FlatDesign) (table : List Bool) (are : AreClocks design table
         ∙ some_from (λ m. m == q.signal) (clocks design) found.0 found.1
         (eq-eqb found.0 q.signal (sym (eqb-true q.signal found.0 piece.2)))))
 
-no_link : (a b : Bool) → a ≡ false → (a && b) ≡ false
-no_link true b e = absurd (false≢true (sym e))
-no_link false b e = refl
-
-no_second : (a b : Bool) → IsTrue b → b ≡ false → (a && b) ≡ false
-no_second a b h e = absurd (false≢true (sym e ∙ h))
-
 port_body : (design : FlatDesign) (p : ProcessForm) → IsTrue (process_sound design p) →
     is_port_in p.kind ≡ true → IsTrue (is_one_assignment design.signals p.body)
 port_body design p sound port =
@@ -84,21 +77,11 @@ no_chain signals [] = refl
 no_chain signals (s ∷ stmts) = refl
 
 module _ (design : FlatDesign) (p : ProcessForm) (sound : IsTrue (process_sound design p)) where
-  pub not_port : (b : Bool) → b ≡ is_port_in p.kind → b ≡ false → false ≡ is_clock_link design p
-  not_port b is e =
-      sym (no_link (is_port_in p.kind) (list_any (assigns p.body) (clocks design)) (sym is ∙ e))
-
   pub not_block : (b : Bool) → b ≡ is_port_in p.kind → b ≡ true → (stmts : List FStmt) →
       p.body ≡ chain_of (flat_statements stmts) → false ≡ is_clock_link design p
   not_block b is e stmts same = absurd (false≢true
       (sym (no_chain design.signals stmts) ∙ ap (is_one_assignment design.signals) (sym same)
       ∙ port_body design p sound (sym is ∙ e)))
-
-  pub not_branch : (b : Bool) → b ≡ is_port_in p.kind → b ≡ true →
-      {place : _} {c : TypedTree} {s t : FlatStatement} → p.body ≡ branch place c s t →
-      false ≡ is_clock_link design p
-  not_branch b is e same = absurd (false≢true
-      (ap (is_one_assignment design.signals) (sym same) ∙ port_body design p sound (sym is ∙ e)))
 
   pub is_link : (table : List Bool) → AreClocks design table → (b : Bool) → b ≡ is_port_in p.kind
       → b ≡ true

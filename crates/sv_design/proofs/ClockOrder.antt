@@ -11,7 +11,6 @@ use Rattle.sv_flat.specs.Processes.{signals_that}
 use Rattle.sv_flat.specs.Sets.{holds, those, with_all_brought}
 use Rattle.sv_flat.proofs.LeastSets.{in_those, those_pass, holds-from_Contains}
 use Rattle.sv_flat.proofs.LeastSets.{Contains-from_holds}
-use Rattle.sv_design.proofs.SearchFacts.{below_or_at}
 use Rattle.sv_design.proofs.TableFacts.{filter_within}
 
 -- ---- sets in order
@@ -80,10 +79,3 @@ module _ (p q : ℕ → Bool) where
 
   pub none_of_both : (n : ℕ) → NoneBelow n → find q (filter p (range_with_len 0 n)) ≡ None
   none_of_both n none = none_from 0 n (λ k below. none k (omega arith))
-
-  -- one place more
-  pub none_below_more : (i : ℕ) → NoneBelow i → IsFalse (p i && q i) → NoneBelow (i + 1)
-  none_below_more i none last k below = ⊎_elim
-      (λ less. none k less)
-      (λ e. subst (λ m. IsFalse (p m && q m)) e last)
-      (below_or_at k i below)

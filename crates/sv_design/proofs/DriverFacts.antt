@@ -76,17 +76,9 @@ module _ (design : FlatDesign) where
   one_kept true p e = ap (λ t. cond (not t) (p ∷ []) []) e
   one_kept false p e = refl
 
-  none_kept : (b : Bool) (p : ProcessForm) → b ≡ true → cond (not b) (p ∷ []) [] ≡ []
-  none_kept true p e = refl
-  none_kept false p e = ap (λ t. cond (not t) (p ∷ []) []) e
-
   pub is_kept : (ps : List ProcessForm) (p : ProcessForm) → is_clock_link design p ≡ false →
       ps ++ kept_of design (p ∷ []) ≡ ps ++ p ∷ []
   is_kept ps p e = ap (λ qs. ps ++ qs) (one_kept (is_clock_link design p) p e)
-
-  pub is_left_out : (ps : List ProcessForm) (p : ProcessForm) → is_clock_link design p ≡ true →
-      ps ++ kept_of design (p ∷ []) ≡ ps
-  is_left_out ps p e = ap (λ qs. ps ++ qs) (none_kept (is_clock_link design p) p e) ∙ append-nil ps
 
   pub kept_more : (all ps rest : List ProcessForm) (p : ProcessForm)
       → all ≡ ps ++ kept_of design (p ∷ rest)

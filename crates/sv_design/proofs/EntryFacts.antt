@@ -68,10 +68,6 @@ module _ (a b : ℕ) (few : a < 2 ^ 64) where
 
 -- ---- entries
 
-or_three : (a b c : Bool) → ((a || b) || c) ≡ (a || (b || c))
-or_three true b c = refl
-or_three false b c = refl
-
 or_no : (a b : Bool) → IsFalse b → (a || b) ≡ a
 or_no true b h = refl
 or_no false b h = h
@@ -136,15 +132,6 @@ entries_are (e ∷ es) s b sorted = ⊎_elim
 
 pub nothing_in : (mask b : ℕ) → mask ≡ 0 → is_set mask b ≡ false
 nothing_in mask b none = ap (λ n. is_set n b) none ∙ ap (λ n. n == 1) (bit_at-zero b)
-
--- one entry more
-pub entry_added : (e : ℕ × ℕ) (es : List (ℕ × ℕ)) (s b : ℕ) (old new all : Bool)
-    → new ≡ (old || ((e.0 == s) && is_set e.1 b))
-    → (old || in_entries (e ∷ es) s b) ≡ all → (new || in_entries es s b) ≡ all
-entry_added e es s b old new all gains before =
-    ap (λ t. t || in_entries es s b) gains
-    ∙ or_three old ((e.0 == s) && is_set e.1 b) (in_entries es s b)
-    ∙ before
 
 -- one entry more in both sets
 both_more : (old same bit rest other here : Bool) → (IsTrue same → here ≡ other)

@@ -142,11 +142,6 @@ three_empty : {X : Type 0} (xs ys zs : List X) → xs ≡ [] → ys ≡ [] → z
 three_empty xs ys zs first second third =
     both_empty (xs ++ ys) zs (both_empty xs ys first second) third
 
-pub four_empty : {X : Type 0} (xs ys zs us : List X) → xs ≡ [] → ys ≡ [] → zs ≡ [] → us ≡ [] →
-    xs ++ ys ++ zs ++ us ≡ []
-four_empty xs ys zs us first second third fourth =
-    both_empty (xs ++ ys ++ zs) us (three_empty xs ys zs first second third) fourth
-
 module _ (design : FlatDesign) (is_sound : IsTrue (sound design)) where
   body_is_sound : (p : ProcessForm) → Contains design.processes p →
       IsTrue (statement_sound design.signals p.body)

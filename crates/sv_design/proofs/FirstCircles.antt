@@ -1,7 +1,7 @@
 -- The first of all circles is found by going through the signals that circles begin at.
 use Rattle.std.proofs.Common.{◌≡◌, ⊎_elim, ℕ, ◌+◌, ◌<◌, ◌≤◌, nat_lt, List, ◌∷◌, length}
 use Rattle.std.proofs.Common.{get_or, Option, Some, None, Vec, Global, sym, ap, ap₂, subst, ◌∙◌}
-use Rattle.std.proofs.Common.{arith, Bool, true, false, cond, ◌&&◌}
+use Rattle.std.proofs.Common.{arith, Bool, ◌&&◌}
 use Rattle.std.specs.Prelude.{IsTrue, IsFalse}
 use Rattle.std.proofs.lemmas.Bool.{false≢true}
 use Rattle.sv_num.specs.declared.faults.Place.{Place}
@@ -12,14 +12,14 @@ use Rattle.sv_flat.specs.Loops.{is_circle, loop_breach, IsLoop}
 use Rattle.sv_flat.specs.Processes.{declared_at}
 use Rattle.sv_flat.proofs.Depths.{is_below}
 use Rattle.sv_design.specs.Circles.{circle_breach, FindsCircle, IsCircleFrom, FindsCircleBelow}
-use Rattle.sv_design.specs.Circles.{precedes, IsBegin}
+use Rattle.sv_design.specs.Circles.{precedes}
 use Rattle.sv_design.specs.Marks.{is_marked}
 use Rattle.sv_design.specs.Nests.{HasBegins}
 use Rattle.sv_design.specs.Orders.{AreReads}
 use Rattle.sv_design.specs.declared.orders.Reads.{Reads}
 use Rattle.sv_flat.proofs.AdmittedFacts.{and_true}
 use Rattle.sv_flat.proofs.LeastSets.{either_way}
-use Rattle.sv_design.specs.First.{breach_of, found_before, first_found}
+use Rattle.sv_design.specs.First.{breach_of, found_before}
 use Rattle.sv_design.specs.Numbers.{numbers}
 use Rattle.sv_design.specs.declared.found.Found.{Found}
 use Rattle.sv_design.specs.declared.loops.Circle.{Circle}
@@ -54,17 +54,6 @@ not_begun design reads are begins has s below out signals circle = ⊎_elim
     ∙ and_true (is_marked begins s) (is_marked reads.combs.items s) (has s signals circle) comb))
     (λ other. no_candidate design reads are s below other signals circle)
     (either_way (is_marked reads.combs.items s))
-
--- the first of two signals with their places is one of them
-pub first_is_begin : (design : FlatDesign) (reads : Reads) (a b : Option Found)
-    → IsBegin design reads a → IsBegin design reads b → IsBegin design reads (first_found a b)
-first_is_begin design reads None b a_is b_is = b_is
-first_is_begin design reads (Some a) None a_is b_is = a_is
-first_is_begin design reads (Some a) (Some b) a_is b_is = by (found_before b a)
-  where
-    by : (earlier : Bool) → IsBegin design reads (Some (cond earlier b a))
-    by true = b_is
-    by false = a_is
 
 module _ (design : FlatDesign) where
   -- the circle's first signal, as the breach names it
@@ -181,9 +170,6 @@ module _ (design : FlatDesign) where
             ∙ stands here placed o loop e here ∙ itself here)
             (below_or_at (first_signal o) here.signal.0 lt);
       }
-
-  pub none_begin : (limit : ℕ) → limit ≡ 0 → FindsCircleBelow design limit None
-  none_begin limit zero_is = λ b loop lt. omega arith
 
   -- all circles begin below the number of signals
   pub all_passed : (limit : ℕ) (circle : Option Circle) → length design.signals ≤ limit

@@ -1,10 +1,9 @@
 -- The first of what was found in two lists is the first of both.
 use Rattle.std.proofs.Common.{◌≡◌, ◌⊎◌, inl, inr, ℕ, ◌<◌, Bool, true, false, cond, ◌&&◌, ◌||◌, ◌==◌}
-use Rattle.std.proofs.Common.{nat_lt, ltb-true, lt-ltb, List, [], ◌∷◌, ◌++◌, ⊎_elim, refl, sym}
+use Rattle.std.proofs.Common.{nat_lt, ltb-true, lt-ltb, List, [], ◌++◌, ⊎_elim, refl, sym}
 use Rattle.std.proofs.Common.{subst, ◌∙◌, arith, Some, None, Option}
 use Rattle.std.specs.Prelude.{IsTrue, IsFalse}
 use Rattle.std.proofs.lemmas.Bool.{false≢true, eqb-true, eq-eqb}
-use Rattle.sv_system.proofs.Lists.{Contains-head, Contains-nil, Contains-cases}
 use Rattle.sv_flat.specs.Breaches.{Breach, then_by, comes_before, first_signal}
 use Rattle.sv_flat.proofs.LeastSets.{or_cases, either_way}
 use Rattle.sv_flat.proofs.Depths.{first_of, second_of}
@@ -188,15 +187,3 @@ itself found =
     ∙ unequal found.place.column (nat_lt found.signal.0 found.signal.0)
     ∙ ⊎_elim (λ l. absurd (let k = ltb-true found.signal.0 found.signal.0 l in omega arith)) (λ f.
     f) (either_way (nat_lt found.signal.0 found.signal.0))
-
--- a list of one
-pub finds_one : (number : ℕ) (found : Found) →
-    FindsFirst number (breach_of number found ∷ []) (Some found)
-finds_one number found = record {
-  among = Contains-head (breach_of number found) [];
-  before = λ o at. ⊎_elim
-      (λ e. subst (λ b. IsFalse (comes_before b (breach_of number found))) e
-      (one_rule number found found ∙ itself found))
-      (λ l. absurd (Contains-nil o l))
-      (Contains-cases (breach_of number found) [] o at);
-}

@@ -8,10 +8,9 @@ use Rattle.std.specs.List.{range_with_len}
 use Rattle.std.proofs.lemmas.Bool.{false≢true, eqb-true, eq-eqb, or_left}
 use Rattle.std.proofs.lemmas.List.{get_or_append_left, get_or_push, length_push, get_or_past}
 use Rattle.std.proofs.lemmas.List.{append-nil, map-append, map-set, get_or-map, length-map}
-use Rattle.sv_flat.proofs.LeastSets.{either_way, or_cases, holds-from_Contains, Contains-from_holds}
+use Rattle.sv_flat.proofs.LeastSets.{either_way, holds-from_Contains, Contains-from_holds}
 use Rattle.sv_flat.proofs.LeastSets.{in_those, those_below, those_pass}
 use Rattle.sv_system.proofs.Lists.{Contains-head, Contains-later}
-use Rattle.sv_flat.proofs.Depths.{second_of}
 use Rattle.sv_flat.specs.Sets.{holds}
 use Rattle.sv_flat.specs.declared.signals.SigId.{SigId}
 use Rattle.sv_design.specs.Numbers.{numbers}
@@ -65,24 +64,6 @@ module _ {X : Type 0} (f : X → List ℕ) where
       (either_way (s == a))
 
 -- ---- edges
-
-module _ (old new : Graph) (from to : ℕ) (adds : AddsEdge old new from to) where
-  one_edge : (b : Bool) (c : ℕ) → holds (cond b (to ∷ []) []) c ≡ (b && (to == c))
-  one_edge true c = or_no (to == c) false refl
-  one_edge false c = refl
-
-  pub edge_gained : GainsEdges old new (λ a b. (from == a) && (to == b))
-  edge_gained a b =
-      ap (λ r. holds r b) (adds a)
-      ∙ any_append (λ m. m == b) (row old a) (cond (from == a) (to ∷ []) [])
-      ∙ ap (λ t. has_edge old a b || t) (one_edge (from == a) b)
-
-  pub still_whole : size new ≡ size old → to < size old → IsWhole old → IsWhole new
-  still_whole same below whole a b h = ⊎_elim
-      (λ before. subst (λ n. b < n) (sym same) (whole a b before))
-      (λ now. subst (λ n. b < n) (sym same)
-      (subst (λ z. z < size old) (eqb-true to b (second_of (from == a) (to == b) now)) below))
-      (or_cases (has_edge old a b) ((from == a) && (to == b)) (sym (edge_gained a b) ∙ h))
 
 -- those so far, and those that are left
 abbrev pub EdgesSoFar : (old now : Graph) → (all left : ℕ → ℕ → Bool) → Type 0

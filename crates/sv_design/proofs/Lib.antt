@@ -34,7 +34,6 @@ pub mod TopFacts
 pub mod ClockFaults
 pub mod TopTables
 pub mod FirstBreaches
-pub mod RefusalFacts
 pub mod FirstPlaces
 pub mod ClockOrder
 pub mod WholeOrders

@@ -1,25 +1,23 @@
 -- Reads that are out of phase, statement by statement.
 use Rattle.std.proofs.Common.{◌≡◌, ℕ, zero, suc, ◌+◌, ◌<◌, Bool, true, false, ◌||◌, List, [], ◌∷◌}
 use Rattle.std.proofs.Common.{◌++◌, length, get_or, drop, Option, None, refl, sym, ap, ap₂, subst}
-use Rattle.std.proofs.Common.{◌∙◌, append_assoc, arith, leb-true, Bor}
+use Rattle.std.proofs.Common.{◌∙◌, append_assoc, Bor}
 use Rattle.std.specs.Prelude.{IsTrue}
-use Rattle.std.specs.List.{list_any, list_all}
+use Rattle.std.specs.List.{list_any}
 use Rattle.std.proofs.lemmas.List.{append-nil}
 use Rattle.sv_flat.specs.Assigned.{assigns, can_assign, always_assigns, has_bit}
 use Rattle.sv_flat.specs.Breaches.{Breach}
-use Rattle.sv_flat.specs.Design.{SignalForm, TypedTree, PieceForm, FlatStatement, nothing, after}
-use Rattle.sv_flat.specs.Design.{FlatDesign}
+use Rattle.sv_flat.specs.Design.{SignalForm, PieceForm, FlatStatement, nothing, after}
 use Rattle.sv_flat.specs.Readings.{BitSet, either, Reading, readings}
-use Rattle.sv_flat.specs.Soundness.{sound, piece_fits, statement_sound}
+use Rattle.sv_flat.specs.Soundness.{statement_sound}
 use Rattle.sv_flat.specs.Views.{flat_statement, flat_statements, chain_of}
 use Rattle.sv_flat.specs.declared.statements.FStmt.{FStmt}
-use Rattle.sv_flat.proofs.Depths.{first_of, second_of}
 use Rattle.sv_design.specs.declared.bits.Bits.{Bits}
 use Rattle.sv_design.specs.declared.blocks.Asked.{Asked}
 use Rattle.sv_design.specs.declared.blocks.Asked.TheVariants.{Unassigned, Followed}
 use Rattle.sv_design.specs.declared.found.Found.{Found}
 use Rattle.sv_design.specs.declared.scopes.Scope.{Scope, Inside}
-use Rattle.sv_design.specs.BitSets.{in_bits, mask_in, has_some, AreOrdered}
+use Rattle.sv_design.specs.BitSets.{in_bits, mask_in, has_some}
 use Rattle.sv_design.specs.First.{FindsFirst, first_found}
 use Rattle.sv_design.specs.Phases.{wrong_reads, SameBits, is_early, FindsReads}
 use Rattle.sv_design.specs.Scopes.{in_scope}
@@ -27,8 +25,7 @@ use Rattle.sv_design.proofs.EntryFacts.{nothing_in}
 use Rattle.sv_design.proofs.Firsts.{finds_both}
 use Rattle.sv_design.proofs.PhaseFacts.{wrong_reads-append, both_reads}
 use Rattle.sv_design.proofs.PieceFacts.{in_scope-inside}
-use Rattle.sv_design.proofs.Sound.{next_statement, sound_first, sound_rest, piece_has_bits}
-use Rattle.sv_design.proofs.Sound.{piece_is_short}
+use Rattle.sv_design.proofs.Sound.{next_statement, sound_first, sound_rest}
 
 -- ---- soundness
 
@@ -49,23 +46,6 @@ sound_at signals stmts i stmt inside is h =
     sound_first signals (flat_statement stmt) (chain_of (flat_statements (drop (i + 1) stmts)))
     (subst (λ b. IsTrue (statement_sound signals b)) (next_statement stmts i stmt inside is)
     (sound_from signals stmts i h))
-
--- the pieces of a sound assignment have bits, all of them in a word
-pub ordered_of : (design : FlatDesign) (e : TypedTree) (pieces : List PieceForm)
-    → IsTrue (sound design)
-    → IsTrue (list_all (piece_fits design.signals e) pieces) → AreOrdered pieces
-ordered_of design e [] is_sound h k d below = absurd (omega arith)
-ordered_of design e (p ∷ pieces) is_sound h zero d below =
-    let fits = first_of (piece_fits design.signals e p)
-    (list_all (piece_fits design.signals e) pieces) h in (
-      leb-true p.low p.high (piece_has_bits design.signals e p fits),
-      piece_is_short design is_sound
-          e p fits,
-    )
-ordered_of design e (p ∷ pieces) is_sound h (suc k) d below =
-    ordered_of design e pieces is_sound
-    (second_of (piece_fits design.signals e p) (list_all (piece_fits design.signals e) pieces)
-    h) k d (omega arith)
 
 -- ---- bits
 
@@ -261,12 +241,3 @@ module _ (signals : List SignalForm) (around : BitSet) where
             ∙ or_turned (can_assign rest s b) (can_assign first s b)
             ∙ ap (λ z. can_assign z s b) (sym splits),
       )
-
-  pub backward_begin : (left : FlatStatement) (none : Bits) → left ≡ nothing
-      → ((s : ℕ) → mask_in none s ≡ 0)
-      → FindsReads signals Followed around (readings signals left) None
-      × SameBits (in_bits none) (can_assign left)
-  backward_begin left none is empty = (
-    λ body a f asks same. ap (λ z. wrong_reads false signals body (readings signals z a f)) is,
-    λ s b. nothing_in (mask_in none s) b (empty s) ∙ ap (λ z. can_assign z s b) (sym is),
-  )

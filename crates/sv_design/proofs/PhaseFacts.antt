@@ -1,7 +1,7 @@
 -- Reads that are out of phase, one after the other.
 use Rattle.std.proofs.Common.{◌≡◌, ℕ, ◌+◌, ◌<◌, Bool, true, false, cond, not, ◌&&◌, nat_le, nat_lt}
 use Rattle.std.proofs.Common.{ltb-true, lt-ltb, List, [], ◌∷◌, ◌++◌, length, map, get_or, drop}
-use Rattle.std.proofs.Common.{Option, None, refl, sym, ap, ap₂, subst, ◌∙◌, append_assoc, add-one}
+use Rattle.std.proofs.Common.{Option, refl, sym, ap, ap₂, subst, ◌∙◌, append_assoc, add-one}
 use Rattle.std.proofs.Common.{Bor}
 use Rattle.std.specs.Prelude.{IsTrue, Contains, ◌↔◌, filter}
 use Rattle.std.specs.List.{range_with_len}
@@ -179,11 +179,6 @@ ReadsSoFar signals asked around all left found =
     done ++ wrong_reads (is_early asked) signals body (left assigned follows))
 
 module _ (signals : List SignalForm) (asked : Asked) (around : BitSet) where
-  pub reads_begin : (all left : BitSet → BitSet → List Reading) →
-      ((a f : BitSet) → all a f ≡ left a f) → ReadsSoFar signals asked around all left None
-  reads_begin all left same body a f asks bits =
-      ([], refl, ap (wrong_reads (is_early asked) signals body) (same a f))
-
   pub reads_end : (all left : BitSet → BitSet → List Reading) (found : Option Found)
       → ((a f : BitSet) → left a f ≡ [])
       → ReadsSoFar signals asked around all left found → FindsReads signals asked around all found

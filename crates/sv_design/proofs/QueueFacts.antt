@@ -132,17 +132,6 @@ held_before front x s other =
     or_nothing true = refl
     or_nothing false = refl
 
-pub settle_none : (queue : Queue) → Settles queue queue []
-settle_none queue = record {
-  count = refl;
-  open_is = λ s. omega arith;
-  order_is = sym (append-nothing (ordered queue));
-}
-  where
-    append-nothing : (xs : List ℕ) → xs ++ [] ≡ xs
-    append-nothing [] = refl
-    append-nothing (x ∷ xs) = ap (λ ys. x ∷ ys) (append-nothing xs)
-
 pub still_open : (old now : Queue) (front : List ℕ) (x : ℕ) → Settles old now front →
     IsFalse (holds front x) → open_at now x ≡ open_at old x
 still_open old now front x so_far out =

@@ -6,18 +6,17 @@ use Rattle.std.proofs.lemmas.Bool.{eqb-true}
 use Rattle.sv_flat.proofs.LeastSets.{either_way, Contains-from_filter}
 use Rattle.sv_design.specs.declared.bits.Bits.{Bits}
 use Rattle.sv_flat.specs.Assigned.{can_assign}
-use Rattle.sv_flat.specs.Design.{SignalForm, FlatStatement, nothing, after, ProcessForm, FlatDesign}
+use Rattle.sv_flat.specs.Design.{SignalForm, FlatStatement, after, ProcessForm, FlatDesign}
 use Rattle.sv_flat.specs.Soundness.{sound, kind_sound, statement_sound}
 use Rattle.sv_flat.specs.Clocks.{is_clock_link, processes_of}
 use Rattle.sv_flat.proofs.Depths.{second_of}
 use Rattle.sv_flat.proofs.AdmittedFacts.{assigned_is_signal}
 use Rattle.sv_design.specs.declared.graphs.Graph.{Graph}
-use Rattle.sv_design.specs.BitSets.{has_some, in_bits, mask_in, HasTargetsBelow}
+use Rattle.sv_design.specs.BitSets.{has_some, in_bits, HasTargetsBelow}
 use Rattle.sv_design.specs.Graphs.{has_edge, GainsEdges}
 use Rattle.sv_design.specs.Phases.{SameBits}
 use Rattle.sv_design.proofs.BlockPasses.{targets_are}
-use Rattle.sv_design.proofs.EntryFacts.{nothing_in}
-use Rattle.sv_design.proofs.MarkFacts.{or_no, or_three}
+use Rattle.sv_design.proofs.MarkFacts.{or_three}
 use Rattle.sv_design.proofs.Sound.{process_is_sound}
 
 -- ---- the signals of a set
@@ -104,17 +103,6 @@ bits_more old new bits all left first rest splits same gains so_far s b =
     ap (λ t. t || can_assign rest s b) (gains s b ∙ ap (λ t. in_bits old s b || t) (same s b))
     ∙ or_three (in_bits old s b) (can_assign first s b) (can_assign rest s b)
     ∙ ap (λ z. in_bits old s b || can_assign z s b) (sym splits)
-    ∙ so_far s b
-
-pub bits_begin : (none : Bits) (all : FlatStatement) → ((s : ℕ) → mask_in none s ≡ 0) →
-    BitsSoFar none all all
-bits_begin none all empty s b =
-    ap (λ t. t || can_assign all s b) (nothing_in (mask_in none s) b (empty s))
-
-pub bits_end : (set : Bits) (all left : FlatStatement) → left ≡ nothing → BitsSoFar set all left →
-    SameBits (in_bits set) (can_assign all)
-bits_end set all left none so_far s b =
-    sym (or_no (in_bits set s b) (can_assign left s b) (ap (λ z. can_assign z s b) none))
     ∙ so_far s b
 
 -- the body of a process is sound

@@ -20,7 +20,7 @@ use Rattle.sv_flat.proofs.LeastSets.{either_way, holds-from_Contains, Contains-f
 use Rattle.sv_flat.proofs.LeastSets.{those_below, those_pass, in_those}
 use Rattle.sv_design.specs.declared.graphs.Graph.{Graph}
 use Rattle.sv_design.specs.declared.orders.Reads.{Reads}
-use Rattle.sv_design.specs.Graphs.{size, row, rows_of, has_edge, IsWhole}
+use Rattle.sv_design.specs.Graphs.{size, row, rows_of, has_edge}
 use Rattle.sv_design.specs.Graphs.{AddsSources}
 use Rattle.sv_design.specs.Marks.{is_marked, IsTable}
 use Rattle.sv_design.specs.Numbers.{numbers}
@@ -70,9 +70,6 @@ module _ (design : FlatDesign) (graph : Graph)
       (subst (λ l. l ≤ a) (sym (length-map-range_with_len (reads_for design) 0 n))
       (ltb-false a n past)))) ∙ h)))
       (either_way (nat_lt a n))
-
-  pub rows_whole : IsWhole graph
-  rows_whole a b h = subst (λ m. b < m) (sym rows_size) (rows_below a b h)
 
 module _ (combs : List Bool) (reads : Graph) where
   -- the signals are combinational, and the second is read for the first

@@ -257,23 +257,6 @@ module _ (n : ℕ) (brings : ℕ → ℕ → Bool) (starts : List ℕ) (place : 
       let lt = at.0 in
       so_far.closed some.0 k (omega arith) below (subst (λ z. IsTrue (brings z k)) (sym at.1) h))
 
--- a search that has not found anything
-pub none_found_yet : (n : ℕ) (brings : ℕ → ℕ → Bool) (starts : List ℕ) (places : List (Option ℕ))
-    → length places ≡ n
-    → count_by is_none places ≡ n → ((s : ℕ) → get_or places s None ≡ None)
-    → Searches n brings starts 0 [] [] places
-none_found_yet n brings starts places size all none = record {
-  size = size;
-  led_size = refl;
-  few = omega (arith, all);
-  known = λ s i e. absurd (false≢true (ap is_some (sym (none s) ∙ e)));
-  numbered = λ i lt. absurd (omega arith);
-  within = λ i lt. absurd (omega arith);
-  reached = λ i lt. absurd (omega arith);
-  closed = λ i b lt below h. absurd (omega arith);
-  led_on = λ i lt. absurd (omega arith);
-}
-
 -- ---- one visit
 
 module _ (old : Search) (least s from : ℕ) where

@@ -91,12 +91,6 @@ module _ (signals : List SignalForm) where
       first_of (nat_le p.low p.high) (nat_lt p.high (signal_width signals p.signal))
       (piece_is_part e p h)
 
-  pub piece_is_inside : (e : TypedTree) (p : PieceForm) → IsTrue (piece_fits signals e p) →
-      p.high < signal_width signals p.signal
-  piece_is_inside e p h = ltb-true p.high (signal_width signals p.signal)
-      (second_of (nat_le p.low p.high) (nat_lt p.high (signal_width signals p.signal))
-      (piece_is_part e p h))
-
 -- ---- designs
 
 listed : (signals : List SignalForm) (s : ℕ) → s < length signals →
@@ -127,12 +121,6 @@ module _ (design : FlatDesign) (is_sound : IsTrue (sound design)) where
   process_is_sound p at = from_all (process_sound design) design.processes p
       (second_of to_signals (list_all (process_sound design) design.processes) to_processes_is) at
 
-  pub body_is_sound : (p : ProcessForm) → Contains design.processes p →
-      IsTrue (statement_sound design.signals p.body)
-  body_is_sound p at =
-      second_of (kind_sound design p.kind p.body) (statement_sound design.signals p.body)
-      (process_is_sound p at)
-
   pub width_is_sound : (s : ℕ) → s < length design.signals →
       IsTrue (is_one_to 64 (signal_width design.signals s))
   width_is_sound s inside =
@@ -152,14 +140,6 @@ module _ (design : FlatDesign) (is_sound : IsTrue (sound design)) where
   few_bits s inside = leb-true (signal_width design.signals s) 64
       (second_of (nat_le 1 (signal_width design.signals s))
       (nat_le (signal_width design.signals s) 64) (width_is_sound s inside))
-
-  -- the highest bit of a piece
-  pub piece_is_short : (e : TypedTree) (p : PieceForm) → IsTrue (piece_fits design.signals e p) →
-      p.high < 64
-  piece_is_short e p h =
-      let inside = piece_is_inside design.signals e p h in
-      let few = few_bits p.signal (piece_is_signal design.signals e p h) in
-      omega arith
 
 -- the process at a place of a design's vector
 pub process_at : (flat : Flat) (processes : List Process) (i : ℕ) (p : Process)
@@ -209,17 +189,3 @@ pub targets_rest : (n : ℕ) (pieces : List Piece) (i : ℕ) (d : Piece) → i <
     → AreTargets n (piece_forms (drop (i + 1) pieces))
 targets_rest n pieces i d inside all =
     λ k e h. targets_at n pieces i d inside all (suc k) e (omega arith)
-
--- the pieces of a sound assignment are signals
-pub targets_of : (n : ℕ) (signals : List SignalForm) (e : TypedTree) (pieces : List PieceForm)
-    → length signals ≡ n
-    → IsTrue (list_all (piece_fits signals e) pieces) → AreTargets n pieces
-targets_of n signals e [] same h k d below = absurd (omega arith)
-targets_of n signals e (p ∷ pieces) same h zero d below =
-    subst (λ m. p.signal < m) same
-    (piece_is_signal signals e p
-    (first_of (piece_fits signals e p) (list_all (piece_fits signals e) pieces) h))
-targets_of n signals e (p ∷ pieces) same h (suc k) d below =
-    targets_of n signals e pieces same
-    (second_of (piece_fits signals e p) (list_all (piece_fits signals e) pieces) h) k d
-    (omega arith)

@@ -1,5 +1,5 @@
 -- What is used as something else than a clock.
-use Rattle.std.proofs.Common.{◌≡◌, ℕ, ◌<◌, Bool, false, ◌&&◌, ◌||◌, ◌==◌, nat_lt, List, length}
+use Rattle.std.proofs.Common.{◌≡◌, ℕ, ◌<◌, Bool, ◌&&◌, ◌||◌, ◌==◌, nat_lt, List, length}
 use Rattle.std.proofs.Common.{Option, Some, None, refl, sym, ap, ◌∙◌, ltb-true}
 use Rattle.std.specs.Prelude.{IsTrue, Contains, is_none}
 use Rattle.std.specs.List.{list_any, list_all, cons_option}
@@ -15,22 +15,11 @@ use Rattle.sv_flat.specs.Soundness.{label_sound, map_sound, signal_sound, proces
 use Rattle.sv_flat.specs.Soundness.{invariant_sound, sound}
 use Rattle.sv_flat.specs.Values.{signal_width}
 use Rattle.sv_flat.proofs.Depths.{first_of, second_of, from_all}
-use Rattle.sv_design.specs.Marks.{is_marked, Marks, reads_in}
+use Rattle.sv_design.specs.Marks.{Marks, reads_in}
 use Rattle.sv_design.specs.Selectors.{SelectsBelow, is_port}
-use Rattle.sv_design.proofs.MarkFacts.{or_no, same_marked, reads_signal-is}
+use Rattle.sv_design.proofs.MarkFacts.{same_marked, reads_signal-is}
 
 module _ (design : FlatDesign) (p : ProcessForm) where
-  none_of : (o : Option (ℕ × ℕ)) (pair : ℕ × ℕ) → Some pair ≡ o → is_none o ≡ false
-  none_of o pair e = ap is_none (sym e)
-
-  -- a link uses nothing
-  pub link_uses : (table : List Bool) (pair : ℕ × ℕ) → Some pair ≡ link_in p →
-      Marks table table (λ s. uses_as_signal design s p)
-  link_uses table pair e s below =
-      sym (or_no (is_marked table s) (uses_as_signal design s p)
-      (ap (λ b. b && (assigns p.body s || reads_signal design.signals p.body s))
-      (none_of (link_in p) pair e)))
-
   -- another process uses what it drives and reads
   pub process_uses : (old new : List Bool) → None ≡ link_in p
       → Marks old new (λ s. assigns p.body s || reads_in design.signals p.body s)

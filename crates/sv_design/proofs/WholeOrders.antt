@@ -13,7 +13,7 @@ use Rattle.std.proofs.lemmas.List.Sums.{length-filter}
 use Rattle.std.proofs.lemmas.Map.Made.{length-le_from_is_member}
 use Rattle.sv_system.proofs.Lists.{Contains-head, Contains-later, Contains-cases}
 use Rattle.sv_flat.specs.Design.{FlatDesign}
-use Rattle.sv_flat.specs.Loops.{reads_only_before, is_read_order, all_differ, HasReadOrder}
+use Rattle.sv_flat.specs.Loops.{reads_only_before, is_read_order, all_differ}
 use Rattle.sv_flat.specs.Processes.{signals_that}
 use Rattle.sv_flat.specs.Reads.{is_combinational}
 use Rattle.sv_flat.specs.Sets.{holds}
@@ -134,6 +134,3 @@ module _ (design : FlatDesign) where
       negated_is : (b : Bool) → IsFalse b → IsTrue (not b)
       negated_is true h = absurd (false≢true (sym h))
       negated_is false h = refl
-
-  pub whole_has_order : (order : List ℕ) → IsWholeOrder design order → HasReadOrder design
-  whole_has_order order whole = (order, whole.is_order)

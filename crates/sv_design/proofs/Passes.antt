@@ -7,17 +7,18 @@ use Rattle.std.specs.List.{list_any}
 use Rattle.std.proofs.lemmas.List.{append-nil}
 use Rattle.sv_flat.specs.Assigned.{assigns, can_assign, always_assigns, has_bit}
 use Rattle.sv_flat.specs.Breaches.{Breach}
-use Rattle.sv_flat.specs.Design.{SignalForm, PieceForm, FlatStatement, nothing, after}
+use Rattle.sv_flat.specs.Design.{SignalForm, FlatStatement, nothing, after}
 use Rattle.sv_flat.specs.Readings.{BitSet, either, Reading, readings}
 use Rattle.sv_flat.specs.Soundness.{statement_sound}
 use Rattle.sv_flat.specs.Views.{flat_statement, flat_statements, chain_of}
 use Rattle.sv_flat.specs.declared.statements.FStmt.{FStmt}
+use Rattle.sv_flat.specs.declared.statements.Piece.{Piece}
 use Rattle.sv_design.specs.declared.bits.Bits.{Bits}
 use Rattle.sv_design.specs.declared.blocks.Asked.{Asked}
 use Rattle.sv_design.specs.declared.blocks.Asked.TheVariants.{Unassigned, Followed}
 use Rattle.sv_design.specs.declared.found.Found.{Found}
 use Rattle.sv_design.specs.declared.scopes.Scope.{Scope, Inside}
-use Rattle.sv_design.specs.BitSets.{in_bits, mask_in, has_some}
+use Rattle.sv_design.specs.BitSets.{in_bits, mask_in, has_some, piece_forms}
 use Rattle.sv_design.specs.First.{FindsFirst, first_found}
 use Rattle.sv_design.specs.Phases.{wrong_reads, SameBits, is_early, FindsReads}
 use Rattle.sv_design.specs.Scopes.{in_scope}
@@ -50,11 +51,15 @@ sound_at signals stmts i stmt inside is h =
 -- ---- bits
 
 -- the bits of pieces alone
-pub only_pieces : (none bits : Bits) (pieces : List PieceForm) → ((s : ℕ) → mask_in none s ≡ 0)
-    → ((s b : ℕ) → in_bits bits s b ≡ (in_bits none s b || list_any (has_bit s b) pieces))
-    → (s b : ℕ) → in_bits bits s b ≡ list_any (has_bit s b) pieces
-only_pieces none bits pieces empty is s b =
-    is s b ∙ ap (λ t. t || list_any (has_bit s b) pieces) (nothing_in (mask_in none s) b (empty s))
+pub only_pieces : (none bits : Bits) (given pieces : List Piece) → given ≡ pieces
+    → ((s : ℕ) → mask_in none s ≡ 0)
+    → ((s b : ℕ) → in_bits bits s b ≡
+    (in_bits none s b || list_any (has_bit s b) (piece_forms given)))
+    → (s b : ℕ) → in_bits bits s b ≡ list_any (has_bit s b) (piece_forms pieces)
+only_pieces none bits given pieces same empty is s b =
+    is s b
+    ∙ ap₂ ◌||◌ (nothing_in (mask_in none s) b (empty s))
+    (ap (λ ps. list_any (has_bit s b) (piece_forms ps)) same)
 
 pub or_turned : (a b : Bool) → (a || b) ≡ (b || a)
 or_turned true true = refl

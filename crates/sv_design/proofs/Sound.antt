@@ -1,14 +1,15 @@
 -- What soundness says of the parts of statements and designs.
 use Rattle.std.proofs.Common.{◌≡◌, ℕ, zero, suc, ◌+◌, ◌-◌, ◌==◌, ◌<◌, ◌≤◌, Bool, ◌&&◌, nat_lt}
 use Rattle.std.proofs.Common.{nat_le, List, [], ◌∷◌, length, map, get_or, drop, sym, ap, subst, ◌∙◌}
-use Rattle.std.proofs.Common.{arith, add-one, ltb-true, leb-true, Vec, Global}
+use Rattle.std.proofs.Common.{ap₂, arith, add-one, ltb-true, leb-true, Vec, Global}
 use Rattle.std.specs.Prelude.{IsTrue, Contains}
 use Rattle.std.specs.List.{list_all}
 use Rattle.std.proofs.Math.Seq.{drop-cons}
+use Rattle.sv_num.specs.declared.faults.Place.{Place}
 use Rattle.sv_flat.specs.declared.statements.FStmt.{FStmt, Block}
 use Rattle.sv_flat.specs.declared.statements.Piece.{Piece}
 use Rattle.sv_flat.specs.Design.{SignalForm, TypedTree, PieceForm, FlatStatement, after}
-use Rattle.sv_flat.specs.Design.{ProcessForm, FlatDesign}
+use Rattle.sv_flat.specs.Design.{branch, ProcessForm, FlatDesign}
 use Rattle.sv_flat.specs.Values.{signal_of, signal_width, expression_width}
 use Rattle.sv_flat.specs.Soundness.{is_one_to, is_signal, is_part_of, piece_fits, statement_sound}
 use Rattle.sv_flat.specs.Soundness.{kind_sound, process_sound, map_sound, label_sound, signal_sound}
@@ -54,7 +55,21 @@ block_is stmt stmts items is same =
     ap flat_statement is ∙ row_chain-hidden stmts
     ∙ ap (λ ss. chain_of (flat_statements ss)) (sym same)
 
--- likewise pieces
+-- a branch has the arms that its boxes hold
+pub branch_is : (stmt first second : FStmt) {place : Place} {cond : TypedTree} {yes no : FStmt}
+    → flat_statement stmt ≡ branch place cond (flat_statement yes) (flat_statement no)
+    → first ≡ yes → second ≡ no
+    → flat_statement stmt ≡ branch place cond (flat_statement first) (flat_statement second)
+branch_is stmt first second {place} {cond} is one two =
+    is ∙ ap₂ (λ p q. branch place cond (flat_statement p) (flat_statement q)) (sym one) (sym two)
+
+-- a statement is sound as what it is
+pub sound_as : (signals : List SignalForm) {stmt other : FStmt} → stmt ≡ other
+    → IsTrue (statement_sound signals (flat_statement stmt))
+    → IsTrue (statement_sound signals (flat_statement other))
+sound_as signals is h = subst (λ z. IsTrue (statement_sound signals (flat_statement z))) is h
+
+-- the pieces from a place on are the one there and those after it
 pub piece_at : (pieces : List Piece) (i : ℕ) (d : Piece) → i < length pieces
     → piece_forms (drop i pieces) ≡ piece_form (get_or pieces i d) ∷
     piece_forms (drop (i + 1) pieces)

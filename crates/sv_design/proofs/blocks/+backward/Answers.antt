@@ -1,13 +1,11 @@
-use Rattle.std.proofs.Common.{◌&&◌}
 use Rattle.std.proofs.Common.{◌≡◌, ◌+◌, ◌-◌, ◌<◌, ◌||◌, length, get_or, drop, refl, sym, ap, ap₂}
 use Rattle.std.proofs.Common.{subst, ◌∙◌, arith, rules, Option}
+use Rattle.std.proofs.lemmas.Bool.{and_parts}
 use Rattle.std.specs.Prelude.{IsTrue, IfOk}
-use Rattle.std.specs.List.{list_any, list_all}
-use Rattle.sv_flat.specs.Assigned.{assigns, can_assign, has_bit}
+use Rattle.sv_flat.specs.Assigned.{assigns, can_assign}
 use Rattle.sv_flat.specs.Design.{assign, branch}
 use Rattle.sv_flat.specs.Readings.{readings, readings_of, either}
-use Rattle.sv_flat.specs.Soundness.{statement_sound, well_formed, piece_fits}
-use Rattle.sv_flat.proofs.Depths.{first_of, second_of}
+use Rattle.sv_flat.specs.Soundness.{statement_sound}
 use Rattle.sv_flat.specs.Views.{design_of, typed_tree, flat_statement, flat_statements, chain_of}
 use Rattle.sv_flat.specs.declared.statements.FStmt.{the_lemmas}
 use Rattle.sv_design.specs.declared.bits.Bits.{Bits}
@@ -18,37 +16,24 @@ use Rattle.sv_design.specs.Phases.{SameBits, FindsReads}
 use Rattle.sv_design.specs.Scopes.{in_scope}
 use Rattle.sv_design.proofs.Passes.{sound_at, or_turned, only_pieces, reads_inside, three_reads}
 use Rattle.sv_design.proofs.Passes.{backward_more}
-use Rattle.sv_design.proofs.Sound.{block_is, next_statement}
+use Rattle.sv_design.proofs.Sound.{branch_is, sound_as, block_is, next_statement}
 use Rattle.sv_design.proofs.blocks.+backward.Goals as goal
 
 pub backward-wrong_in-requires-clause-formed : goal.backward-wrong_in-requires-clause-formed
 backward-wrong_in-requires-clause-formed t c =
-    let signals = (design_of c.args.flat.now).signals in
-    let right = typed_tree c.in-Assign.value in
-    let pieces = piece_forms c.in-Assign.pieces.items in
-    let whole = assign pieces c.in-Assign.place c.in-Assign.blocking right in
-    let is : flat_statement c.args.stmt.now ≡ whole = ap flat_statement c.in-Assign.is in
-    first_of (well_formed signals right) (list_all (piece_fits signals right) pieces)
-    (subst (λ b. IsTrue (statement_sound signals b)) is c.requires.stmt)
+    (and_parts _ _
+    (sound_as (design_of c.args.flat.now).signals c.in-Assign.is c.requires.stmt)).0
 
 pub backward-backward-requires-in-If : goal.backward-backward-requires-in-If
 backward-backward-requires-in-If t c =
-    let signals = (design_of c.args.flat.now).signals in
-    let cond = typed_tree c.in-If.cond in
-    let first = flat_statement c.deref-in-If.result.now in
-    let second = flat_statement c.deref-in-If-2.result.now in
-    let whole = branch c.in-If.place cond first second in
-    let is : flat_statement c.args.stmt.now ≡ whole = ap flat_statement c.in-If.is
-    ∙ ap₂ (λ p q. branch c.in-If.place cond (flat_statement p) (flat_statement q))
-    (sym c.deref-in-If.ensures) (sym c.deref-in-If-2.ensures) in
-    let sound = subst (λ b. IsTrue (statement_sound signals b)) is c.requires.stmt in (
+    let signals = (design_of c.args.flat.now).signals in (
       search (rules, the_lemmas),
       (
         c.requires.sound,
         (
           c.requires.zeros,
-          second_of (well_formed signals cond && statement_sound signals first)
-              (statement_sound signals second) sound,
+          sound_as signals (sym c.deref-in-If-2.ensures)
+              (and_parts _ _ (sound_as signals c.in-If.is c.requires.stmt)).1,
         ),
       ),
     )
@@ -56,18 +41,8 @@ backward-backward-requires-in-If t c =
 pub backward-wrong_in-requires-in-If-clause-formed :
     goal.backward-wrong_in-requires-in-If-clause-formed
 backward-wrong_in-requires-in-If-clause-formed t c =
-    let signals = (design_of c.args.flat.now).signals in
-    let cond = typed_tree c.in-If.cond in
-    let first = flat_statement c.deref-in-If.result.now in
-    let second = flat_statement c.deref-in-If-2.result.now in
-    let whole = branch c.in-If.place cond first second in
-    let is : flat_statement c.args.stmt.now ≡ whole = ap flat_statement c.in-If.is
-    ∙ ap₂ (λ p q. branch c.in-If.place cond (flat_statement p) (flat_statement q))
-    (sym c.deref-in-If.ensures) (sym c.deref-in-If-2.ensures) in
-    let sound = subst (λ b. IsTrue (statement_sound signals b)) is c.requires.stmt in
-    first_of (well_formed signals cond) (statement_sound signals first)
-    (first_of (well_formed signals cond && statement_sound signals first)
-    (statement_sound signals second) sound)
+    (and_parts _ _ (and_parts _ _
+    (sound_as (design_of c.args.flat.now).signals c.in-If.is c.requires.stmt)).0).0
 
 pub backward-backward_all-requires : goal.backward-backward_all-requires
 backward-backward_all-requires t c =
@@ -78,8 +53,7 @@ backward-backward_all-requires t c =
         (
           c.requires.zeros,
           subst (λ b. IsTrue (statement_sound signals b))
-              (block_is c.args.stmt.now c.in-Block.stmts c.deref-in-Block.result.now c.in-Block.is
-              c.deref-in-Block.ensures.value)
+              (block_is _ c.in-Block.stmts _ c.in-Block.is c.deref-in-Block.ensures.value)
               c.requires.stmt,
         ),
       ),
@@ -91,8 +65,7 @@ backward-returns-in-Block t c =
     subst (λ b. IfOk c.backward_all.result (λ (both : Option Found × Bits).
     FindsReads signals Followed (in_scope c.args.around.now) (readings signals b) both.0
     × SameBits (in_bits both.1) (can_assign b)))
-    (sym (block_is c.args.stmt.now c.in-Block.stmts c.deref-in-Block.result.now c.in-Block.is
-    c.deref-in-Block.ensures.value))
+    (sym (block_is _ c.in-Block.stmts _ c.in-Block.is c.deref-in-Block.ensures.value))
     c.backward_all.ensures
 
 pub backward-returns-in_ok-found-in-Assign : goal.backward-returns-in_ok-found-in-Assign
@@ -103,10 +76,8 @@ backward-returns-in_ok-found-in-Assign t c =
     let whole = assign pieces c.in-Assign.place c.in-Assign.blocking
     (typed_tree c.in-Assign.value) in
     let is : flat_statement c.args.stmt.now ≡ whole = ap flat_statement c.in-Assign.is in
-    let bits = only_pieces c.new-bits.result c.add_pieces.new.self pieces c.new-bits.ensures
-    (λ s b. c.in_ok-add_pieces-in-Assign.ensures s b
-    ∙ ap (λ ps. in_bits c.new-bits.result s b || list_any (has_bit s b) (piece_forms ps))
-    c.deref.ensures.value) in
+    let bits = only_pieces c.new-bits.result c.add_pieces.new.self _ _ c.deref.ensures.value
+    c.new-bits.ensures c.in_ok-add_pieces-in-Assign.ensures in
     subst (λ b. FindsReads signals Followed around (readings signals b)
     c.in_ok-found-in-Assign.found × SameBits (in_bits c.add_pieces.new.self) (can_assign b))
     (sym is) (
@@ -125,9 +96,8 @@ backward-returns-in_ok-found-in-If t c =
     let first = flat_statement c.deref-in-If.result.now in
     let second = flat_statement c.deref-in-If-2.result.now in
     let whole = branch c.in-If.place cond first second in
-    let is : flat_statement c.args.stmt.now ≡ whole = ap flat_statement c.in-If.is
-    ∙ ap₂ (λ p q. branch c.in-If.place cond (flat_statement p) (flat_statement q))
-    (sym c.deref-in-If.ensures) (sym c.deref-in-If-2.ensures) in
+    let is : flat_statement c.args.stmt.now ≡ whole = branch_is c.args.stmt.now _ _
+    (ap flat_statement c.in-If.is) c.deref-in-If.ensures c.deref-in-If-2.ensures in
     let bits : SameBits (in_bits c.add_all.new.self) (can_assign whole) = λ s b.
     c.in_ok-add_all-in-If.ensures s b
     ∙ ap₂ ◌||◌ (c.in_ok-in_no-in-If.ensures.1 s b) (c.in_ok-in_yes-in-If.ensures.1 s b)

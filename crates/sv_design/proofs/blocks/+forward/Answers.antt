@@ -1,14 +1,12 @@
-use Rattle.std.proofs.Common.{◌≡◌, ◌+◌, ◌&&◌, ◌||◌, drop, refl, sym, ap, ap₂, subst, ◌∙◌, rules}
+use Rattle.std.proofs.Common.{◌≡◌, ◌+◌, ◌&&◌, drop, refl, sym, ap, ap₂, subst, ◌∙◌, rules}
 use Rattle.std.proofs.Common.{Option}
 use Rattle.std.proofs.lemmas.Bool.{and_parts}
-use Rattle.std.specs.List.{list_any, list_all}
 use Rattle.std.specs.Prelude.{IsTrue, IfOk}
 use Rattle.std.proofs.lemmas.List.{at_drop_all}
-use Rattle.sv_flat.specs.Assigned.{assigns, can_assign, always_assigns, has_bit}
+use Rattle.sv_flat.specs.Assigned.{assigns, can_assign, always_assigns}
 use Rattle.sv_flat.specs.Design.{assign, branch}
 use Rattle.sv_flat.specs.Readings.{readings, readings_of, either}
-use Rattle.sv_flat.specs.Soundness.{statement_sound, well_formed, piece_fits}
-use Rattle.sv_flat.proofs.Depths.{first_of, second_of}
+use Rattle.sv_flat.specs.Soundness.{statement_sound}
 use Rattle.sv_flat.specs.Views.{design_of, typed_tree, flat_statement, flat_statements, chain_of}
 use Rattle.sv_flat.specs.declared.statements.FStmt.{the_lemmas}
 use Rattle.sv_design.specs.declared.bits.Bits.{Bits}
@@ -19,37 +17,24 @@ use Rattle.sv_design.specs.Phases.{SameBits, FindsReads}
 use Rattle.sv_design.specs.Scopes.{in_scope}
 use Rattle.sv_design.proofs.Passes.{sound_at, only_pieces, three_reads, forward_begin, forward_more}
 use Rattle.sv_design.proofs.Passes.{forward_end}
-use Rattle.sv_design.proofs.Sound.{block_is, next_statement}
+use Rattle.sv_design.proofs.Sound.{branch_is, sound_as, block_is, next_statement}
 use Rattle.sv_design.proofs.blocks.+forward.Goals as goal
 
 pub forward-wrong_in-requires-clause-formed : goal.forward-wrong_in-requires-clause-formed
 forward-wrong_in-requires-clause-formed t c =
-    let signals = (design_of c.args.flat.now).signals in
-    let right = typed_tree c.in-Assign.value in
-    let pieces = piece_forms c.in-Assign.pieces.items in
-    let whole = assign pieces c.in-Assign.place c.in-Assign.blocking right in
-    let is : flat_statement c.args.stmt.now ≡ whole = ap flat_statement c.in-Assign.is in
-    first_of (well_formed signals right) (list_all (piece_fits signals right) pieces)
-    (subst (λ b. IsTrue (statement_sound signals b)) is c.requires.stmt)
+    (and_parts _ _
+    (sound_as (design_of c.args.flat.now).signals c.in-Assign.is c.requires.stmt)).0
 
 pub forward-forward-requires-in-If : goal.forward-forward-requires-in-If
 forward-forward-requires-in-If t c =
-    let signals = (design_of c.args.flat.now).signals in
-    let cond = typed_tree c.in-If.cond in
-    let first = flat_statement c.deref-in-If.result.now in
-    let second = flat_statement c.deref-in-If-2.result.now in
-    let whole = branch c.in-If.place cond first second in
-    let is : flat_statement c.args.stmt.now ≡ whole = ap flat_statement c.in-If.is
-    ∙ ap₂ (λ p q. branch c.in-If.place cond (flat_statement p) (flat_statement q))
-    (sym c.deref-in-If.ensures) (sym c.deref-in-If-2.ensures) in
-    let sound = subst (λ b. IsTrue (statement_sound signals b)) is c.requires.stmt in (
+    let signals = (design_of c.args.flat.now).signals in (
       search (rules, the_lemmas),
       (
         c.requires.sound,
         (
           c.requires.zeros,
-          second_of (well_formed signals cond && statement_sound signals first)
-              (statement_sound signals second) sound,
+          sound_as signals (sym c.deref-in-If-2.ensures)
+              (and_parts _ _ (sound_as signals c.in-If.is c.requires.stmt)).1,
         ),
       ),
     )
@@ -57,10 +42,8 @@ forward-forward-requires-in-If t c =
 pub forward-wrong_in-requires-in-If-clause-formed :
     goal.forward-wrong_in-requires-in-If-clause-formed
 forward-wrong_in-requires-in-If-clause-formed t c =
-    let signals = (design_of c.args.flat.now).signals in
-    let sound = subst (λ b. IsTrue (statement_sound signals b)) (ap flat_statement c.in-If.is)
-    c.requires.stmt in
-    (and_parts _ _ (and_parts _ _ sound).0).0
+    (and_parts _ _ (and_parts _ _
+    (sound_as (design_of c.args.flat.now).signals c.in-If.is c.requires.stmt)).0).0
 
 pub forward-forward_all-requires : goal.forward-forward_all-requires
 forward-forward_all-requires t c =
@@ -71,8 +54,7 @@ forward-forward_all-requires t c =
         (
           c.requires.zeros,
           subst (λ b. IsTrue (statement_sound signals b))
-              (block_is c.args.stmt.now c.in-Block.stmts c.deref-in-Block.result.now c.in-Block.is
-              c.deref-in-Block.ensures.value)
+              (block_is _ c.in-Block.stmts _ c.in-Block.is c.deref-in-Block.ensures.value)
               c.requires.stmt,
         ),
       ),
@@ -84,8 +66,7 @@ forward-returns-in-Block t c =
     subst (λ b. IfOk c.forward_all.result (λ (both : Option Found × Bits).
     FindsReads signals (Unassigned c.args.assigned) (in_scope c.args.around.now)
     (readings signals b) both.0 × SameBits (in_bits both.1) (always_assigns b)))
-    (sym (block_is c.args.stmt.now c.in-Block.stmts c.deref-in-Block.result.now c.in-Block.is
-    c.deref-in-Block.ensures.value))
+    (sym (block_is _ c.in-Block.stmts _ c.in-Block.is c.deref-in-Block.ensures.value))
     c.forward_all.ensures
 
 pub forward_all-loop-stmt-init : goal.forward_all-loop-stmt-init
@@ -144,10 +125,8 @@ forward-returns-in_ok-add_pieces-in-Assign t c =
       λ body a f asks same.
           c.in_ok-found-in-Assign.ensures (assigns whole) body a (either (can_assign whole) f)
           asks same,
-      only_pieces c.new-bits.result c.add_pieces.new.self pieces c.new-bits.ensures
-          (λ s b. c.in_ok-add_pieces-in-Assign.ensures s b
-          ∙ ap (λ ps. in_bits c.new-bits.result s b || list_any (has_bit s b) (piece_forms ps))
-          c.deref.ensures.value),
+      only_pieces c.new-bits.result c.add_pieces.new.self _ _ c.deref.ensures.value
+          c.new-bits.ensures c.in_ok-add_pieces-in-Assign.ensures,
     )
 
 pub forward-returns-in_ok-both-in-If : goal.forward-returns-in_ok-both-in-If
@@ -157,9 +136,8 @@ forward-returns-in_ok-both-in-If t c =
     let first = flat_statement c.deref-in-If.result.now in
     let second = flat_statement c.deref-in-If-2.result.now in
     let whole = branch c.in-If.place cond first second in
-    let is : flat_statement c.args.stmt.now ≡ whole = ap flat_statement c.in-If.is
-    ∙ ap₂ (λ p q. branch c.in-If.place cond (flat_statement p) (flat_statement q))
-    (sym c.deref-in-If.ensures) (sym c.deref-in-If-2.ensures) in
+    let is : flat_statement c.args.stmt.now ≡ whole = branch_is c.args.stmt.now _ _
+    (ap flat_statement c.in-If.is) c.deref-in-If.ensures c.deref-in-If-2.ensures in
     subst (λ b. FindsReads signals (Unassigned c.args.assigned) (in_scope c.args.around.now)
     (readings signals b) c.first_of-in-If.result
     × SameBits (in_bits c.in_ok-both-in-If.both) (always_assigns b)) (sym is) (

@@ -1,12 +1,11 @@
 use Rattle.std.proofs.Common.{◌≡◌, ◌+◌, ◌||◌, ◌&&◌, drop, sym, ap, ap₂, subst, ◌∙◌, rules}
+use Rattle.std.proofs.lemmas.Bool.{and_parts}
 use Rattle.std.specs.Prelude.{IsTrue, IfOk, OnOk}
-use Rattle.std.specs.List.{list_any, list_all}
 use Rattle.std.proofs.Math.ListN.{length-map}
-use Rattle.sv_flat.specs.Assigned.{assigns, can_assign, has_bit}
+use Rattle.sv_flat.specs.Assigned.{assigns, can_assign}
 use Rattle.sv_flat.specs.Design.{assign, branch}
 use Rattle.sv_flat.specs.Readings.{names_signal}
-use Rattle.sv_flat.specs.Soundness.{statement_sound, well_formed, piece_fits}
-use Rattle.sv_flat.proofs.Depths.{first_of, second_of}
+use Rattle.sv_flat.specs.Soundness.{statement_sound}
 use Rattle.sv_flat.specs.Views.{design_of, signal_form, typed_tree, flat_statement, flat_statements}
 use Rattle.sv_flat.specs.Views.{chain_of}
 use Rattle.sv_flat.specs.declared.statements.FStmt.{the_lemmas}
@@ -19,6 +18,7 @@ use Rattle.sv_design.proofs.BlockPasses.{targets_are}
 use Rattle.sv_design.proofs.GraphFacts.{edges_more}
 use Rattle.sv_design.proofs.Passes.{or_turned, only_pieces}
 use Rattle.sv_design.proofs.ReadFacts.{same_edges, both_edges, targets_below, bits_more}
+use Rattle.sv_design.proofs.Sound.{branch_is, sound_as}
 use Rattle.sv_design.proofs.Sound.{block_is, next_statement, sound_first, sound_rest}
 use Rattle.sv_design.proofs.reads.+follow.Goals as goal
 
@@ -28,44 +28,28 @@ follow-add_reads-requires-clause-targets t c =
     let pieces = piece_forms c.in-Assign.pieces.items in
     let whole = assign pieces c.in-Assign.place c.in-Assign.blocking
     (typed_tree c.in-Assign.value) in
-    let is : flat_statement c.args.stmt.now ≡ whole = ap flat_statement c.in-Assign.is in
-    let bits = only_pieces c.new-bits.result c.add_pieces.new.self pieces c.new-bits.ensures
-    (λ s b. c.in_ok-add_pieces-in-Assign.ensures s b
-    ∙ ap (λ ps. in_bits c.new-bits.result s b || list_any (has_bit s b) (piece_forms ps))
-    c.deref.ensures.value) in
     targets_below signals whole c.add_pieces.new.self _
     (length-map c.args.flat.now.signals.items signal_form ∙ sym c.requires.size)
-    (subst (λ b. IsTrue (statement_sound signals b)) is c.requires.body) bits
+    (sound_as signals c.in-Assign.is c.requires.body)
+    (only_pieces c.new-bits.result c.add_pieces.new.self _ _ c.deref.ensures.value
+    c.new-bits.ensures c.in_ok-add_pieces-in-Assign.ensures)
 
 pub follow-add_reads-requires-clause-formed : goal.follow-add_reads-requires-clause-formed
 follow-add_reads-requires-clause-formed t c =
-    let signals = (design_of c.args.flat.now).signals in
-    let right = typed_tree c.in-Assign.value in
-    let pieces = piece_forms c.in-Assign.pieces.items in
-    let whole = assign pieces c.in-Assign.place c.in-Assign.blocking right in
-    let is : flat_statement c.args.stmt.now ≡ whole = ap flat_statement c.in-Assign.is in
-    first_of (well_formed signals right) (list_all (piece_fits signals right) pieces)
-    (subst (λ b. IsTrue (statement_sound signals b)) is c.requires.body)
+    (and_parts _ _
+    (sound_as (design_of c.args.flat.now).signals c.in-Assign.is c.requires.body)).0
 
 pub follow-follow-requires-in-If : goal.follow-follow-requires-in-If
 follow-follow-requires-in-If t c =
-    let signals = (design_of c.args.flat.now).signals in
-    let cond = typed_tree c.in-If.cond in
-    let first = flat_statement c.deref-in-If.result.now in
-    let second = flat_statement c.deref-in-If-2.result.now in
-    let whole = branch c.in-If.place cond first second in
-    let is : flat_statement c.args.stmt.now ≡ whole = ap flat_statement c.in-If.is
-    ∙ ap₂ (λ p q. branch c.in-If.place cond (flat_statement p) (flat_statement q))
-    (sym c.deref-in-If.ensures) (sym c.deref-in-If-2.ensures) in
-    let sound = subst (λ b. IsTrue (statement_sound signals b)) is c.requires.body in (
+    let signals = (design_of c.args.flat.now).signals in (
       search (rules, the_lemmas),
       (
         c.requires.sound,
         (
           c.requires.zeros,
           (
-            second_of (well_formed signals cond && statement_sound signals first)
-                (statement_sound signals second) sound,
+            sound_as signals (sym c.deref-in-If-2.ensures)
+                (and_parts _ _ (sound_as signals c.in-If.is c.requires.body)).1,
             c.in_ok-by_yes-in-If.ensures.size ∙ c.requires.size,
           ),
         ),
@@ -75,18 +59,8 @@ follow-follow-requires-in-If t c =
 pub follow-add_reads-requires-in-If-clause-formed :
     goal.follow-add_reads-requires-in-If-clause-formed
 follow-add_reads-requires-in-If-clause-formed t c =
-    let signals = (design_of c.args.flat.now).signals in
-    let cond = typed_tree c.in-If.cond in
-    let first = flat_statement c.deref-in-If.result.now in
-    let second = flat_statement c.deref-in-If-2.result.now in
-    let whole = branch c.in-If.place cond first second in
-    let is : flat_statement c.args.stmt.now ≡ whole = ap flat_statement c.in-If.is
-    ∙ ap₂ (λ p q. branch c.in-If.place cond (flat_statement p) (flat_statement q))
-    (sym c.deref-in-If.ensures) (sym c.deref-in-If-2.ensures) in
-    first_of (well_formed signals cond) (statement_sound signals first)
-    (first_of (well_formed signals cond && statement_sound signals first)
-    (statement_sound signals second)
-    (subst (λ b. IsTrue (statement_sound signals b)) is c.requires.body))
+    (and_parts _ _ (and_parts _ _
+    (sound_as (design_of c.args.flat.now).signals c.in-If.is c.requires.body)).0).0
 
 pub follow-returns-in_ok-add_reads-in-Assign-clause-gains :
     goal.follow-returns-in_ok-add_reads-in-Assign-clause-gains
@@ -96,17 +70,15 @@ follow-returns-in_ok-add_reads-in-Assign-clause-gains t c =
     let whole = assign pieces c.in-Assign.place c.in-Assign.blocking
     (typed_tree c.in-Assign.value) in
     let is : flat_statement c.args.stmt.now ≡ whole = ap flat_statement c.in-Assign.is in
-    let bits = only_pieces c.new-bits.result c.add_pieces.new.self pieces c.new-bits.ensures
-    (λ s b. c.in_ok-add_pieces-in-Assign.ensures s b
-    ∙ ap (λ ps. in_bits c.new-bits.result s b || list_any (has_bit s b) (piece_forms ps))
-    c.deref.ensures.value) in
+    let bits = only_pieces c.new-bits.result c.add_pieces.new.self _ _ c.deref.ensures.value
+    c.new-bits.ensures c.in_ok-add_pieces-in-Assign.ensures in
     subst (λ b. GainsEdges c.args.graph.now c.add_reads.new.graph (feeds signals b)) (sym is)
     (same_edges c.args.graph.now c.add_reads.new.graph (λ a b.
     names_signal signals (typed_tree c.in-Assign.value) a && has_some c.add_pieces.new.self b)
     (feeds signals whole)
     (λ a b. ap (λ t. names_signal signals (typed_tree c.in-Assign.value) a && t)
     (targets_are signals whole c.add_pieces.new.self
-    (subst (λ b. IsTrue (statement_sound signals b)) is c.requires.body) bits b))
+    (sound_as signals c.in-Assign.is c.requires.body) bits b))
     c.in_ok-add_reads-in-Assign.ensures.gains)
 
 pub follow-follow_all-requires : goal.follow-follow_all-requires
@@ -119,8 +91,8 @@ follow-follow_all-requires t c =
           c.requires.zeros,
           (
             subst (λ b. IsTrue (statement_sound signals b))
-                (block_is c.args.stmt.now c.in-Block.stmts c.deref-in-Block.result.now c.in-Block.is
-                c.deref-in-Block.ensures.value) c.requires.body,
+                (block_is _ c.in-Block.stmts _ c.in-Block.is c.deref-in-Block.ensures.value)
+                c.requires.body,
             c.requires.size,
           ),
         ),
@@ -130,8 +102,7 @@ follow-follow_all-requires t c =
 pub follow-returns-in-Block-clause-bits : goal.follow-returns-in-Block-clause-bits
 follow-returns-in-Block-clause-bits t c =
     subst (λ b. IfOk c.follow_all.result (λ (bits : Bits). SameBits (in_bits bits) (can_assign b)))
-    (sym (block_is c.args.stmt.now c.in-Block.stmts c.deref-in-Block.result.now c.in-Block.is
-    c.deref-in-Block.ensures.value))
+    (sym (block_is _ c.in-Block.stmts _ c.in-Block.is c.deref-in-Block.ensures.value))
     c.follow_all.ensures.bits
 
 pub follow-returns-in-Block-clause-gains : goal.follow-returns-in-Block-clause-gains
@@ -139,8 +110,7 @@ follow-returns-in-Block-clause-gains t c =
     subst (λ b. OnOk c.follow_all.result
     (GainsEdges c.args.graph.now c.follow_all.new.graph
     (feeds (design_of c.args.flat.now).signals b)))
-    (sym (block_is c.args.stmt.now c.in-Block.stmts c.deref-in-Block.result.now c.in-Block.is
-    c.deref-in-Block.ensures.value))
+    (sym (block_is _ c.in-Block.stmts _ c.in-Block.is c.deref-in-Block.ensures.value))
     c.follow_all.ensures.gains
 
 pub follow-add_reads-requires-in-If-clause-targets :
@@ -151,9 +121,8 @@ follow-add_reads-requires-in-If-clause-targets t c =
     let first = flat_statement c.deref-in-If.result.now in
     let second = flat_statement c.deref-in-If-2.result.now in
     let whole = branch c.in-If.place cond first second in
-    let is : flat_statement c.args.stmt.now ≡ whole = ap flat_statement c.in-If.is
-    ∙ ap₂ (λ p q. branch c.in-If.place cond (flat_statement p) (flat_statement q))
-    (sym c.deref-in-If.ensures) (sym c.deref-in-If-2.ensures) in
+    let is : flat_statement c.args.stmt.now ≡ whole = branch_is c.args.stmt.now _ _
+    (ap flat_statement c.in-If.is) c.deref-in-If.ensures c.deref-in-If-2.ensures in
     let bits : SameBits (in_bits c.add_all.new.self) (can_assign whole) = λ s b.
     c.in_ok-add_all-in-If.ensures s b
     ∙ ap₂ ◌||◌ (c.in_ok-bits-in-If.ensures.bits s b) (c.in_ok-by_yes-in-If.ensures.bits s b)
@@ -172,9 +141,8 @@ follow-returns-in_ok-add_reads-in-If-clause-gains t c =
     let first = flat_statement c.deref-in-If.result.now in
     let second = flat_statement c.deref-in-If-2.result.now in
     let whole = branch c.in-If.place cond first second in
-    let is : flat_statement c.args.stmt.now ≡ whole = ap flat_statement c.in-If.is
-    ∙ ap₂ (λ p q. branch c.in-If.place cond (flat_statement p) (flat_statement q))
-    (sym c.deref-in-If.ensures) (sym c.deref-in-If-2.ensures) in
+    let is : flat_statement c.args.stmt.now ≡ whole = branch_is c.args.stmt.now _ _
+    (ap flat_statement c.in-If.is) c.deref-in-If.ensures c.deref-in-If-2.ensures in
     let bits : SameBits (in_bits c.add_all.new.self) (can_assign whole) = λ s b.
     c.in_ok-add_all-in-If.ensures s b
     ∙ ap₂ ◌||◌ (c.in_ok-bits-in-If.ensures.bits s b) (c.in_ok-by_yes-in-If.ensures.bits s b)

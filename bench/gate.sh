@@ -1,8 +1,9 @@
 #!/bin/sh
 # Runs the gate from nothing on a clone of the last commit, and prints what it cost: a crate a line, the processor minutes of
-# its proof, of its tests' proof, of its wrong bodies and of its programs, and its lines of code; then the sum, and the longest
-# chain of crates, each of which waits for the one before it. With names of crates it does so for these and those below them. The crates
-# that stood first, with the crates that hold their tests now, have a sum of their own (asked: at most 75).
+# its proof, of its tests' proof, of its second proof, over which its wrong bodies are tried, of these and of its programs, and its lines
+# of code; then the sum, the dearest wrong bodies, and the longest chain of crates, each of which waits for the one before it. With names of
+# crates it does so for these and those below them. The crates that stood first, with the crates that hold their tests now, have a sum of
+# their own (asked: at most 75).
 #
 # `rt ci` prints no times, so the processor time of each process below it is read twice a second. What a process spends after
 # the last reading is in the sum's `other`, which is the whole processor time less what was read.
@@ -26,7 +27,7 @@ import collections, os, re, resource, subprocess, sys, time
 
 work, names = sys.argv[1], sys.argv[2:]
 TICK = os.sysconf("SC_CLK_TCK")
-PARTS = ("proof", "tests", "edits", "programs")
+PARTS = ("proof", "tests", "again", "edits", "programs")
 FIRST = """sv_num sv_io sv_lattice sv_system sv_first_ast sv_first sv_first_flow sv_cli secv sv_clause sv_proof certificate_bench sv_solve
  solve_bench low_tests cli_tests solver_tests""".split()
 
@@ -87,7 +88,7 @@ def below(all_of_them, root):
 
 
 def part_of(pid):
-    """The crate and the part of the gate that a process works at, if it can be told."""
+    """The crate and the part of the gate that a process works at, and of a wrong body its number in the crate, if they can be told."""
     try:
         place = os.readlink(f"/proc/{pid}/cwd")
         with open(f"/proc/{pid}/cmdline", encoding="utf-8", errors="replace") as file:
@@ -97,13 +98,14 @@ def part_of(pid):
     if "--crate-name" not in words:
         # a linker or a compiler works in the crate's folder, and a program or its tests are named by their path
         ran = re.search(r"/crates/([a-z0-9_]+)(?:/|$)", place) or re.search(r"/rt-run-[^/]*/bin/([a-z0-9_]+?)(?:_tests)?(?: |$)", " ".join(words))
-        return (ran.group(1), "programs") if ran else None
+        return (ran.group(1), "programs", None) if ran else None
     name = words[words.index("--crate-name") + 1]
     if "/rt-edit" in place:
-        return name, "edits"
+        over = os.path.basename(words[words.index("--incremental") + 1]) if "--incremental" in words else ""
+        return (name, "again", None) if over == "seed" else (name, "edits", int(over) if over.isdigit() else None)
     if "--crate-checked" in words:
-        return name, "programs"
-    return name, "tests" if "--test" in words else "proof"
+        return name, "programs", None
+    return name, "tests" if "--test" in words else "proof", None
 
 
 def gates_here():
@@ -122,19 +124,30 @@ def gates_here():
 
 
 def note(seen, roots, seconds, knows):
-    """Notes what each process below the roots has spent, and what it works at."""
-    for pid in {pid for root in roots for pid in below(seen, root)}:
-        key = pid, seen[pid][2]
-        knows[key] = part_of(pid) or knows.get(key)
-        seconds[key] = seen[pid][1]
+    """Notes what each process below the roots has spent, and what it works at: what its parent does, where its own words do not tell."""
+    for pid in dict.fromkeys(pid for root in roots for pid in below(seen, root)):
+        parent, spent, started, _ = seen[pid]
+        key = pid, started
+        knows[key] = part_of(pid) or knows.get(key) or (knows.get((parent, seen[parent][2])) if parent in seen else None)
+        seconds[key] = spent
 
 
 def told_of(seconds, knows):
-    told = collections.Counter()
+    told, tries = collections.Counter(), collections.Counter()
     for key, spent in seconds.items():
         if knows[key]:
-            told[knows[key]] += spent
-    return told
+            name, part, number = knows[key]
+            told[name, part] += spent
+            if number is not None:
+                tries[name, number] += spent
+    return told, tries
+
+
+def dearest(tries):
+    """The wrong bodies that cost most, each with its seconds: the gate numbers those of a crate by their names' order."""
+    for (name, number), spent in tries.most_common(20):
+        edits = sorted(it for it in os.listdir(f"crates/{name}/must-fail") if it.endswith(".edit"))
+        yield f"{spent:.0f} s {name}/{edits[number].removesuffix('.edit') if number < len(edits) else number}"
 
 
 def beside():
@@ -144,7 +157,7 @@ def beside():
             note(processes(), gates_here(), seconds, knows)
             time.sleep(0.5)
     except KeyboardInterrupt:
-        table(told_of(seconds, knows), sum(seconds.values()), time.time() - start)
+        table(*told_of(seconds, knows), sum(seconds.values()), time.time() - start)
     return 0
 
 
@@ -158,7 +171,7 @@ def gate():
     used = resource.getrusage(resource.RUSAGE_CHILDREN)
     log.seek(0)
     said = log.read()
-    table(told_of(seconds, knows), used.ru_utime + used.ru_stime, time.time() - start)
+    table(*told_of(seconds, knows), used.ru_utime + used.ru_stime, time.time() - start)
     last = said.rstrip("\n").rpartition("\n")[2]
     print(last)
     if child.returncode:
@@ -166,7 +179,7 @@ def gate():
     return child.returncode
 
 
-def table(told, whole, passed):
+def table(told, tries, whole, passed):
     every = {name: deps for name, deps in crates().items() if any(told[name, part] for part in PARTS)}
     every = {name: [dep for dep in deps if dep in every] for name, deps in every.items()}
     row = "{:<20}" + "{:>10}" * (len(PARTS) + 1) + "{:>8}"
@@ -179,6 +192,7 @@ def table(told, whole, passed):
     first = sum(told[name, part] for name in FIRST for part in PARTS) / 60
     print(f"the crates that stood first, with their tests: {first:.1f} of at most 75")
     print(f"other {whole / 60 - sum(sums):.1f}, in all {whole / 60:.1f} processor minutes in {passed / 60:.1f} minutes on {os.cpu_count()} processors")
+    print("dearest wrong bodies:", "; ".join(dearest(tries)))
     # a crate waits for the proofs of those below it, and its own proof and tests run side by side
     longest = {}
     for name in sorted(every, key=lambda it: len(reach(every, it))):

@@ -151,6 +151,25 @@ def builds(at):
     compare("through a link, without a kit", (answer.stdout, answer.returncode), (b"made of three: e\n", 3))
 
 
+def replaced(at):
+    """It builds again where another build left a program of other sources, and keeps what a gate left where no source is newer."""
+    program, stamp = (os.path.join(at.top, "crates", "secv", "out", name) for name in ("secv", "built-from"))
+    at.run()
+    with open(program, "a", encoding="ascii") as file:
+        file.write("# of other sources\n")
+    at.write("crates/low/src/lib.rt", "one")
+    at.calls()
+    compare("another build's program", (at.run()[1:], "run" in at.calls()), ((BUILDING, 3), True))
+    os.remove(stamp)
+    compare("a gate's program", (at.run(), at.calls()), (("made of one: \n", "", 3), []))
+    at.write("crates/low/src/lib.rt", "one")
+    compare("a gate's program, and a touched file", (at.run(), at.calls()), (("made of one: \n", "", 3), []))
+    os.remove(stamp)
+    at.write("crates/low/src/lib.rt", "two")
+    os.utime(program, (time.time() - 60, time.time() - 60))
+    compare("a source that changed while a gate ran", (at.run()[1:], "run" in at.calls()), ((BUILDING, 3), True))
+
+
 def at_once(at):
     """Of two first builds the second waits, says so, and builds nothing."""
     at.then('while [ ! -e "$KIT/go" ]; do sleep 0.05; done\n')
@@ -258,7 +277,7 @@ def not_writable(at):
 
 
 def main():
-    for group in (builds, at_once, stopped, fails, without_a_kit, without_a_tool, not_writable):
+    for group in (builds, replaced, at_once, stopped, fails, without_a_kit, without_a_tool, not_writable):
         with tempfile.TemporaryDirectory() as folder:
             os.chmod(folder, 0o755)
             group(Checkout(folder))

@@ -32,7 +32,7 @@ SYNTAX = [(b"module m; \x80", b"refused 101 bad-byte 1:11\n"), (b"8'q1", b"refus
 HELP = b"""secv checks designs in SecVerilog: Verilog in which every signal has a security label.
 
 usage:
-  secv check FILE [--top MODULE]    say whether a secret can reach a public signal
+  secv check FILE [--top MODULE]    say whether the labels of a design keep every secret
   secv list FILE [--top MODULE]     list the obligations of a design, a line each
   secv sim FILE [--level POINT] [--order NUMBER] [--top MODULE]
                                     simulate a design on the stimulus of standard input
@@ -169,7 +169,7 @@ def words_and_faults():
     compare("--version", (version.stdout, version.stderr, version.returncode), (b"secv 0.1.0\n", b"", 0))
     answer = run(["sim", "--help"])
     compare("sim --help", (answer.stdout, answer.stderr, answer.returncode), (SIM_HELP, b"", 0))
-    for word, what in (("check", "Say whether a secret can reach a public signal"), ("list", "List the obligations of a design, one a line")):
+    for word, what in (("check", "Say whether the labels of a design keep every secret"), ("list", "List the obligations of a design, one a line")):
         answer = run([word, "--help"])
         compare(f"{word} --help", (answer.stdout.decode(), answer.stderr, answer.returncode), (SHORT_HELP.format(word=word, what=what), b"", 0))
     wrong = "`check` does not take these words; usage: secv check FILE [--top MODULE] (`secv check --help` says more)"

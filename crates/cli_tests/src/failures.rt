@@ -74,8 +74,8 @@ const INVERTED_0: &str = "0 a=0 y=1 p=1 q=0\n";
 
 const WRONG: &str = "inputs a\n0\nx\n";
 
-// The lines of a trace are there as soon as those of the stimulus are. A wrong line is told once its
-// last byte is taken.
+// The lines of a trace are there as soon as those of the stimulus are. A wrong line is told once
+// its last byte is taken.
 const CUTS: [Cut; 6] = [
     (COUNTER, STIMULUS, 1, 26, 4, ""),
     (COUNTER, STIMULUS, 27, 30, 4, LINE_0),

@@ -22,7 +22,7 @@ const HELP: &str =
     "secv checks designs in SecVerilog: Verilog in which every signal has a security label.
 
 usage:
-  secv check FILE [--top MODULE]    say whether a secret can reach a public signal
+  secv check FILE [--top MODULE]    say whether the labels of a design keep every secret
   secv list FILE [--top MODULE]     list the obligations of a design, a line each
   secv sim FILE [--level POINT] [--order NUMBER] [--top MODULE]
                                     simulate a design on the stimulus of standard input

@@ -41,7 +41,7 @@ fn check_line<'a>(alloc: Global) -> Result<clap::Command<'a>, AllocError>
         alloc,
         "check",
         "secv check",
-        "Say whether a secret can reach a public signal",
+        "Say whether the labels of a design keep every secret",
     )?
     .arg(file_word(alloc))?
     .arg(top_option(alloc))

@@ -86,8 +86,8 @@ passed bytes (suc i) within none =
     let P : ℕ → Type 0 = λ k. close_length bytes ≡ option_map (λ n.
     k + n) (close_length (drop k bytes)) in
     let next : i + 1 ≡ suc i = omega arith in
-    subst P next (close_more bytes i (omega arith) other (passed bytes i (omega arith) (λ k low high.
-    none k low (omega arith))))
+    let before = passed bytes i (omega arith) (λ k low high. none k low (omega arith)) in
+    subst P next (close_more bytes i (omega arith) other before)
 
 -- what a search for `*/` says
 pub closes_where : (bytes : List ℕ) (place : Option ℕ) →
@@ -100,7 +100,8 @@ closes_where bytes None none =
 closes_where bytes (Some k) found =
     let first = found.0 in
     let before = passed bytes k (omega (arith, first.high)) first.before in
-    sym (before ∙ ap (option_map (λ n. k + n)) (closes (drop k bytes) (stands_here bytes k found.1)))
+    sym (before
+    ∙ ap (option_map (λ n. k + n)) (closes (drop k bytes) (stands_here bytes k found.1)))
 
 -- a directive by the tests of its name
 pub directive_is : (bytes rest : List ℕ) (n : ℕ) (t v : Bool) → rest ≡ drop 1 bytes →

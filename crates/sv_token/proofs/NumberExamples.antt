@@ -6,7 +6,7 @@ use Rattle.sv_token.specs.Lexed.{lexed, tokens}
 use Rattle.sv_token.proofs.Computed.{computed, the_name, the_sign, the_operator, sized, unsized}
 use Rattle.sv_token.proofs.Computed.{refused_at, left_out_at}
 
--- a plain decimal has 32 bits and a sign
+-- a plain decimal has 32 bits and is signed
 pub plain_decimals :
     lexed (codes "12 1_000 007 4294967295") ≡
     tokens
@@ -46,7 +46,7 @@ pub bases :
 unfolding computed
 bases = refl
 
--- only `s` and `S` give a sign
+-- only `s` and `S` make a number signed
 pub signed_literals :
     lexed (codes "4'sb1111 4'Sd9 'so7 4'd9") ≡
     tokens

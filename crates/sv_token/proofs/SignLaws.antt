@@ -2,15 +2,15 @@
 use Rattle.std.proofs.Common.{◌≡◌, ℕ, suc, ◌+◌, ◌-◌, ◌<◌, ◌≤◌, Bool, true, false, cond, List, []}
 use Rattle.std.proofs.Common.{◌∷◌, ◌++◌, take, length, map, Option, Some, None, refl, sym, ap, ◌∙◌}
 use Rattle.std.proofs.Common.{arith, not, ◌||◌, ◌⊎◌, inl, inr}
-use Rattle.std.specs.Prelude.{option_map, max, min, nat_le, nat_lt, is_some, find, position}
+use Rattle.std.specs.Prelude.{option_map, max, nat_le, nat_lt, is_some, find, position}
 use Rattle.std.specs.Prelude.{if◌then◌else◌, unwrap_or}
 use Rattle.std.specs.List.{list_any, list_all, fold, position_or_len}
-use Rattle.std.specs.Option.{option_map_or}
+use Rattle.std.specs.Option.{option_map_or, option_or, MatchOption}
 use Rattle.std.specs.Str.{bytes_eq}
 use Rattle.std.proofs.lemmas.List.{length-take-le, length-take}
 use Rattle.std.proofs.lemmas.Cmp.{nat_list_eq_equiv}
 use Rattle.std.proofs.lemmas.Bool.{cases_lt, lt-ltb, le-ltb, and_parts, or_left, or_right, or_cases}
-use Rattle.std.proofs.lemmas.Bool.{leb-true, false≢true}
+use Rattle.std.proofs.lemmas.Bool.{leb-true, le-leb, lt-leb, cond-true, cond-false, false≢true}
 use Rattle.std.proofs.lemmas.Slice.Eq.{bytes_eq-Decides}
 use Rattle.std.proofs.lemmas.List.Folds.{list_any-append}
 use Rattle.sv_token.specs.Bytes.{begin_with, entry}
@@ -19,7 +19,10 @@ use Rattle.sv_token.specs.Lexemes.{sign}
 use Rattle.sv_token.specs.Signs.{longest, sign_spellings, sign_of, sign_text, sign_at, spellings}
 use Rattle.sv_token.specs.Signs.{left_out_signs, punctuation, binary_spellings, unary_spellings}
 use Rattle.sv_token.specs.Signs.{operator_of, row_of}
-use Rattle.sv_token.specs.Views.{spelled}
+use Rattle.sv_token.specs.Views.{spelled, front_of}
+use Rattle.sv_token.specs.declared.fronts.Breach.TheVariants.{BadByte}
+use Rattle.sv_token.specs.declared.fronts.Front.{Front as CodeFront}
+use Rattle.sv_token.specs.declared.fronts.Front.TheVariants as code_front
 
 -- the length of the longest that begins the bytes, or so many where they are more
 abbrev pub longest_from : ℕ → List (List ℕ) → List ℕ → ℕ
@@ -272,7 +275,7 @@ sign_front bytes =
     joined f g (Some x) p = refl
 
 -- the sign of the longest text that spells one
-pub sign_is : (bytes : List ℕ) (n : ℕ) (f : Front) → n ≤ length bytes →
+sign_is : (bytes : List ℕ) (n : ℕ) (f : Front) → n ≤ length bytes →
     Some f ≡ spelled (take n bytes) → NoneFrom n bytes →
     f ≡ sign_at bytes
 unfolding sign_text
@@ -289,25 +292,87 @@ unfolding sign_of
 nothing = refl
 
 -- no text spells a sign
-pub no_sign : (bytes : List ℕ) → NoneFrom 0 bytes → bad_byte ≡ sign_at bytes
+no_sign : (bytes : List ℕ) → NoneFrom 0 bytes → bad_byte ≡ sign_at bytes
 unfolding sign_text
 no_sign bytes none =
     let count : longest sign_spellings bytes ≡ 0 = omega (arith, longest-le bytes 0 none) in
     sym (sign_front bytes ∙ ap (λ (k : ℕ). unwrap_or (spelled (take k bytes)) bad_byte) count
     ∙ ap (λ (o : Option Front). unwrap_or o bad_byte) nothing)
 
-pub none_above : (bytes : List ℕ) → NoneFrom (min (length bytes) 3) bytes
-none_above bytes k more within few = absurd (omega arith)
+-- what so many bytes at the front spell, where there are so many
+abbrev pub spelled_by : ℕ → List ℕ → Option Front
+spelled_by n bytes = if nat_le n (length bytes) then spelled (take n bytes) else None
 
-pub none_more : (bytes : List ℕ) (n : ℕ) → NoneFrom n bytes → None ≡ spelled (take n bytes) →
-    NoneFrom (n - 1) bytes
-none_more bytes n none here k more within few = step (cases_lt n k)
+fewer : (bytes : List ℕ) (n m : ℕ) → m ≡ n + 1 → NoneFrom m bytes → None ≡ spelled_by m bytes →
+    NoneFrom n bytes
+fewer bytes n m next none here k more within few = step (cases_lt m k)
   where
-    step : (n < k) ⊎ (k ≤ n) → spelled (take k bytes) ≡ None
+    step : (m < k) ⊎ (k ≤ m) → spelled (take k bytes) ≡ None
     step (inl above) = none k above within few
     step (inr below) =
-        let same : k ≡ n = omega arith in
-        ap (λ (j : ℕ). spelled (take j bytes)) same ∙ sym here
+        let same : k ≡ m = omega arith in
+        ap (λ (j : ℕ). spelled (take j bytes)) same
+        ∙ sym (here ∙ cond-true (nat_le m (length bytes)) (spelled (take m bytes)) None
+        (le-leb m (length bytes) (omega arith)))
+
+-- the sign of so many bytes, where more spell none
+found : (bytes : List ℕ) (n : ℕ) (f : Front) → Some f ≡ spelled_by n bytes → NoneFrom n bytes →
+    f ≡ sign_at bytes
+found bytes n f is none = step (cases_lt (length bytes) n)
+  where
+    step : (length bytes < n) ⊎ (n ≤ length bytes) → f ≡ sign_at bytes
+    step (inl past) =
+        absurd (false≢true (sym (ap is_some (is ∙ cond-false (nat_le n (length bytes))
+        (spelled (take n bytes)) None (lt-leb n (length bytes) past)))))
+    step (inr within) =
+        sign_is bytes n f within (is
+        ∙ cond-true (nat_le n (length bytes)) (spelled (take n bytes)) None
+        (le-leb n (length bytes) within)) none
+
+-- the first of three, two and one bytes that spell a sign
+longest_first : (bytes : List ℕ) →
+    unwrap_or (option_or (option_or (spelled_by 3 bytes) (spelled_by 2 bytes))
+    (spelled_by 1 bytes)) bad_byte ≡ sign_at bytes
+longest_first bytes =
+    by (spelled_by 3 bytes) (spelled_by 2 bytes) (spelled_by 1 bytes) refl refl refl
+  where
+    above : NoneFrom 3 bytes
+    above k more within few = absurd (omega arith)
+
+    by : (three two one : Option Front) → three ≡ spelled_by 3 bytes → two ≡ spelled_by 2 bytes →
+        one ≡ spelled_by 1 bytes →
+        unwrap_or (option_or (option_or three two) one) bad_byte ≡ sign_at bytes
+    by (Some f) two one is₃ is₂ is₁ = found bytes 3 f is₃ above
+    by None (Some f) one is₃ is₂ is₁ = found bytes 2 f is₂ (fewer bytes 2 3 refl above is₃)
+    by None None (Some f) is₃ is₂ is₁ =
+        found bytes 1 f is₁ (fewer bytes 1 2 refl (fewer bytes 2 3 refl above is₃) is₂)
+    by None None None is₃ is₂ is₁ =
+        no_sign bytes (fewer bytes 0 1 refl
+        (fewer bytes 1 2 refl (fewer bytes 2 3 refl above is₃) is₂) is₁)
+
+-- what the code finds, where it looks for a shorter sign only where it found none
+pub first_found : (bytes : List ℕ) (three two one : Option CodeFront) →
+    option_map (front_of bytes) three ≡ spelled_by 3 bytes →
+    MatchOption three (option_map (front_of bytes) two ≡ spelled_by 2 bytes) (λ f. two ≡ Some f) →
+    MatchOption two (option_map (front_of bytes) one ≡ spelled_by 1 bytes) (λ f. one ≡ Some f) →
+    front_of bytes (unwrap_or one (code_front.Broken BadByte)) ≡ sign_at bytes
+first_found bytes three two one is₃ is₂ is₁ =
+    let by_two = next three two 2 is₂ ∙ ap (λ o. option_or o (spelled_by 2 bytes)) is₃ in
+    let by_one = next two one 1 is₁ ∙ ap (λ o. option_or o (spelled_by 1 bytes)) by_two in
+    unwrapped one ∙ ap (λ o. unwrap_or o bad_byte) by_one ∙ longest_first bytes
+  where
+    next : (o r : Option CodeFront) (n : ℕ) →
+        MatchOption o (option_map (front_of bytes) r ≡ spelled_by n bytes) (λ f. r ≡ Some f) →
+        option_map (front_of bytes) r ≡
+        option_or (option_map (front_of bytes) o) (spelled_by n bytes)
+    next None r n is = is
+    next (Some f) r n is = ap (option_map (front_of bytes)) is
+
+    unwrapped : (o : Option CodeFront) →
+        front_of bytes (unwrap_or o (code_front.Broken BadByte)) ≡
+        unwrap_or (option_map (front_of bytes) o) bad_byte
+    unwrapped None = refl
+    unwrapped (Some f) = refl
 
 -- a row's spelling beside a text
 placed : {R : Type 0} (spelling : R → List ℕ) (rows : List R) (text : List ℕ) →

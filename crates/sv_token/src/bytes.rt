@@ -4,6 +4,8 @@ ghost use Rattle.std.specs.List.{prefix_len, position_or_len};
 ghost use Rattle.sv_token.specs.Bytes.{is_blank, is_digit, is_line_feed, begins_name};
 ghost use Rattle.sv_token.specs.Bytes.{continues_name, next_is};
 
+use memchr::memchr;
+
 /// Whether the byte is a blank (IEEE 1364-2005, clause 3).
 pub fn is_blank(byte: u8) -> bool
     ensures { result ≡ is_blank byte }
@@ -54,9 +56,9 @@ pub fn name_is_next(bytes: &[u8]) -> bool
 }
 
 /// How many bytes stand before the line feed, or how many there are where there is none.
-#[tactic(auto, using(crate::proofs::LineLaws::before_line_feed))]
+#[tactic(auto, using(crate::proofs::LineLaws::line_end))]
 pub fn rest_of_line(bytes: &[u8]) -> usize
     ensures { result ≡ position_or_len is_line_feed bytes.now }
 {
-    bytes.iter().take_while(|byte| **byte != b'\n').count()
+    memchr(b'\n', bytes).unwrap_or(bytes.len())
 }

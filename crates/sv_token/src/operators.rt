@@ -1,5 +1,6 @@
 // Signs by their texts.
-ghost use Rattle.std.specs.Prelude.{◌≡◌, ◌<◌, ◌≤◌, length, take, option_map};
+ghost use Rattle.std.specs.Prelude.{◌≡◌, ◌<◌, ◌≤◌, length, take, option_map, None, nat_le};
+ghost use Rattle.std.specs.Prelude.{if◌then◌else◌};
 ghost use Rattle.sv_token.specs.Bytes.{entry};
 ghost use Rattle.sv_token.specs.Signs.{punctuation, row_of, binary_spellings, unary_spellings};
 ghost use Rattle.sv_token.specs.Signs.{operator_of, left_out_signs, sign_of, sign_at};
@@ -90,13 +91,13 @@ fn form_of(text: &[u8]) -> Option<Form>
     }
 }
 
-// What so many bytes at the front are, where they spell a sign.
+// What so many bytes at the front are, where there are so many and they spell a sign.
 fn spelled(bytes: &[u8], count: usize) -> Option<Front>
-    requires some { 1 ≤ count }
-    requires within { count ≤ length bytes.now }
-    ensures { option_map (front_of bytes.now) result ≡ spelled (take count bytes.now) }
+    requires { 1 ≤ count }
+    ensures { option_map (front_of bytes.now) result ≡
+        (if nat_le count (length bytes.now) then spelled (take count bytes.now) else None) }
 {
-    let text = &bytes[..count];
+    let text = bytes.get(..count)?;
     if let Some(form) = form_of(text) {
         return Some(Front::left_out(form));
     }
@@ -109,10 +110,8 @@ pub fn sign_at(bytes: &[u8]) -> Front
     requires { 0 < length bytes.now }
     ensures { front_of bytes.now result ≡ sign_at bytes.now }
 {
-    for count in (1..=bytes.len().min(3)).rev() {
-        if let Some(front) = spelled(bytes, count) {
-            return front;
-        }
-    }
-    Front::Broken(Breach::BadByte)
+    spelled(bytes, 3)
+        .or_else(|| spelled(bytes, 2))
+        .or_else(|| spelled(bytes, 1))
+        .unwrap_or(Front::Broken(Breach::BadByte))
 }

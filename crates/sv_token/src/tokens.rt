@@ -1,5 +1,4 @@
 // Tokens.
-
 use crate::keywords::WordKind;
 use crate::signs::SignKind;
 use sv_num::{Bits, Place};

@@ -1,22 +1,19 @@
-use Rattle.std.proofs.Common.{◌≡◌, ℕ, subst, arith}
+use Rattle.std.proofs.Common.{◌≡◌, ◌∙◌, ap, rules, List, ℕ}
+use Rattle.std.specs.Prelude.{option_map, Some}
+use Rattle.std.specs.Option.{MatchOption}
 use Rattle.sv_token.specs.Views.{front_of}
-use Rattle.sv_token.proofs.SignLaws.{NoneFrom, sign_is, no_sign, none_more}
+use Rattle.sv_token.proofs.SignLaws.{spelled_by, first_found}
 use Rattle.sv_token.proofs.operators.sign_at.Goals as goal
-
-pub loop-count-init : goal.loop-count-init
-loop-count-init c more above within few = absurd (omega arith)
-
-pub loop-count-preserved : goal.loop-count-preserved
-loop-count-preserved c =
-    none_more c.args.bytes.now c.loop-count.count c.loop-count.invariant c.in_default.ensures
 
 pub returns : goal.returns
 returns c =
-    let none : c.loop-count.count ≡ 0 = omega arith in
-    let P : ℕ → Type 0 = λ n. NoneFrom n c.args.bytes.now in
-    no_sign c.args.bytes.now (subst P none c.loop-count.invariant)
-
-pub returns-in-Some : goal.returns-in-Some
-returns-in-Some c =
-    sign_is c.args.bytes.now c.loop-count.count (front_of c.args.bytes.now c.in-Some.front)
-    (omega arith) c.in-Some.ensures c.loop-count.invariant
+    let bytes : List ℕ = c.args.bytes.now in
+    let two : MatchOption c.spelled.result
+    (option_map (front_of bytes) c.or_else.result ≡ spelled_by 2 bytes)
+    (λ f. c.or_else.result ≡ Some f) = search rules in
+    let one : MatchOption c.or_else.result
+    (option_map (front_of bytes) c.or_else-2.result ≡ spelled_by 1 bytes)
+    (λ f. c.or_else-2.result ≡ Some f) = search rules in
+    ap (front_of bytes) c.unwrap_or.ensures
+    ∙ first_found bytes c.spelled.result c.or_else.result c.or_else-2.result
+    c.spelled.ensures two one

@@ -34,7 +34,7 @@ span high low = Some (record { high = high; low = low })
 abbrev placed : List ℕ → ℕ → PlacedName
 placed x n = record { name = x; place = at n }
 
--- a declaration without sign, range, label and value
+-- a declaration without signedness, range, label and value
 abbrev plainly : DeclKind → List ℕ → ℕ → DeclarationTree
 plainly k x n =
     record {
@@ -57,7 +57,7 @@ pub no_ports : text_of (codes "module m(); endmodule") ≡ Some (module_m [] [] 
 unfolding read
 no_ports = refl
 
--- a name alone takes kind, sign, range and label of the port before it
+-- a name alone takes kind, signedness, range and label of the port before it
 pub ports : text_of (codes "module m(output signed [1:0] {H} a, b, input c); endmodule")
     ≡ Some (module_m []
     (record {
@@ -84,8 +84,8 @@ pub ports : text_of (codes "module m(output signed [1:0] {H} a, b, input c); end
 unfolding read
 ports = refl
 
--- a parameter without the word takes sign and range of the one before it; with the word and no
--- range it has none
+-- a parameter without the word takes signedness and range of the one before it; with the word and
+-- no range it has none
 pub header_parameters :
     text_of (codes "module m #(parameter signed [3:0] A = 1, B = 2, parameter C = 3); endmodule")
     ≡ Some (module_m

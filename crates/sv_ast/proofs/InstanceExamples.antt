@@ -131,7 +131,7 @@ pub without_a_range_as_it_is : parameter_value [] no_scope
 unfolding value signed_of
 without_a_range_as_it_is = refl
 
--- parameter [7:0] S = 4'shf is ff: the sign of the value fills
+-- parameter [7:0] S = 4'shf is ff: the highest bit of the value fills
 pub the_sign_of_the_value_fills : parameter_value [] no_scope
     (parameter_with false false (bits 8) "S" (sized_of 4 true 15))
     ≡ record { width = 8; signed = false; value = 255 }

@@ -161,7 +161,7 @@ the_least_stands_last = refl
 pub one_point_is_least : least (with_lattice ("A" ∷ []) []) ≡ codes "A"
 one_point_is_least = refl
 
--- a key is read by its own sign: 1'sb1 is -1
+-- a key is read by its own signedness: 1'sb1 is -1
 pub a_negative_key :
     is_key (record {
       value = record { width = 1; signed = true; value = 1; sized = true };

@@ -8,6 +8,7 @@ use Rattle.sv_ast.specs.Parts.{Path, same_path}
 use Rattle.std.specs.Prelude.{codes, ◌==◌, ◌-◌, option_map}
 use Rattle.sv_num.specs.declared.faults.Place.{Place}
 use Rattle.sv_num.specs.declared.operators.BinOp.{BinOp}
+use Rattle.sv_system.specs.System.{Environment}
 use Rattle.sv_ast.specs.declared.declarations.DeclKind.{DeclKind}
 use Rattle.sv_ast.specs.declared.declarations.DeclKind.TheVariants as kind
 use Rattle.sv_ast.specs.Tree.{ExpressionTree, literal, named, binary, ExpressionTrees}
@@ -95,7 +96,7 @@ signals_are ((t, width) ∷ ss) n =
     cond (bytes_eq n (codes t)) (Some (signal width false)) (signals_are ss n)
 
 -- 0 for all other names
-abbrev pub values_are : List (String × ℕ) → List ℕ → ℕ
+abbrev pub values_are : List (String × ℕ) → Environment (List ℕ)
 values_are [] n = 0
 values_are ((t, v) ∷ vs) n = cond (bytes_eq n (codes t)) v (values_are vs n)
 

@@ -5,6 +5,7 @@ use Rattle.std.specs.Str.{bytes_eq}
 use Rattle.sv_num.specs.declared.faults.Place.{Place}
 use Rattle.sv_num.specs.declared.operators.UnOp.TheVariants as unop
 use Rattle.sv_num.specs.declared.operators.BinOp.TheVariants as binop
+use Rattle.sv_system.specs.System.{Environment}
 use Rattle.sv_ast.specs.Scopes.{Scope, signal}
 use Rattle.sv_ast.specs.Tree.{ExpressionTree, literal, named, bit_of, unary, binary, join}
 use Rattle.sv_ast.specs.Tree.{no_expressions, more_expressions}
@@ -33,7 +34,7 @@ abbrev b : ExpressionTree
 b = named (codes "b") somewhere
 
 -- a is ff, all else 1
-abbrev values : List ℕ → ℕ
+abbrev values : Environment (List ℕ)
 values n = cond (bytes_eq n (codes "a")) 255 1
 
 -- 9 bits of a + b keep the carry

@@ -30,7 +30,7 @@ abbrev pub bound_at_own : (length : ℕ) → (signed : Bool) → (value : ℕ �
 bound_at_own n s v = natural (at_own n s v)
 
 -- the environment of constants, in which no signal has a value
-abbrev pub nowhere : List ℕ → ℕ
+abbrev pub nowhere : Environment (List ℕ)
 nowhere n = 0
 
 -- Operators.

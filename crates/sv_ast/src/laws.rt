@@ -1,5 +1,4 @@
 // What follows from the definitions of texts, as contracts of functions that do nothing.
-
 ghost use Rattle.std.specs.Prelude.{◌≡◌, ℕ, List};
 ghost use Rattle.sv_ast.specs.GrammarMeaning.{Means, BreaksSyntax};
 ghost use Rattle.sv_ast.specs.Tree.{TextTree};

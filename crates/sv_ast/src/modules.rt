@@ -127,6 +127,18 @@ pub struct Text {
     pub modules: Vec<Module>,
 }
 
+impl Overrides {
+    /// A second tree that is equal. It fails where memory runs out.
+    pub fn copy(&self, alloc: Global) -> Result<Overrides, AllocError>
+        ensures { IfOk result (λ copy. override_trees copy ≡ override_trees self.now) }
+    {
+        match self {
+            Overrides::Named(values) => Ok(Overrides::Named(values.copy(alloc)?)),
+            Overrides::Ordered(values) => Ok(Overrides::Ordered(values.copy(alloc)?)),
+        }
+    }
+}
+
 impl Module {
     /// A second tree that is equal. It fails where memory runs out.
     pub fn copy(&self, alloc: Global) -> Result<Module, AllocError>
@@ -192,10 +204,7 @@ impl Copied for Overrides {
     ghost form = { override_trees };
 
     fn copy(&self, alloc: Global) -> Result<Overrides, AllocError> {
-        match self {
-            Overrides::Named(values) => Ok(Overrides::Named(values.copy(alloc)?)),
-            Overrides::Ordered(values) => Ok(Overrides::Ordered(values.copy(alloc)?)),
-        }
+        Overrides::copy(self, alloc)
     }
 }
 

@@ -282,7 +282,7 @@ b_wires l ts rest (
       ),
     )
 
--- ---- behind sign and range of a `reg`
+-- ---- behind signedness and range of a `reg`
 
 -- names, or one name and the range of a memory
 abbrev names_form : Limits → Form
@@ -447,7 +447,7 @@ f_memory_behind l (Some (by_index x p)) ts mid m m1 rest
       ),
     )
 
--- back: what stands behind sign and range
+-- back: what stands behind signedness and range
 abbrev RegBehind : Limits → List Placed → List Placed → Type 0
 RegBehind l ts rest = registers_behind l ts rest ⊎ memory_behind ts rest
 

@@ -1,5 +1,4 @@
 // What follows from the grammar for all tokens, as the contract of a function that does nothing.
-
 ghost use Rattle.std.specs.Prelude.{◌≡◌, ℕ, List, ◌⊎◌, IsTrue};
 ghost use Rattle.sv_num.specs.declared.faults.Place.{Place};
 ghost use Rattle.sv_token.specs.Lexemes.{Placed};

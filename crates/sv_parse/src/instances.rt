@@ -5,7 +5,7 @@ ghost use Rattle.sv_token.specs.Lexemes.{placed_tokens};
 ghost use Rattle.sv_token.specs.declared.signs.SignKind.TheVariants as signs;
 ghost use Rattle.sv_ast.specs.Tree as tree;
 ghost use Rattle.sv_ast.specs.Tree.{NamedOverride, NamedLink, InstanceTree};
-ghost use Rattle.sv_ast.specs.Views.{expression_tree, expression_trees, named_override};
+ghost use Rattle.sv_ast.specs.Views.{expression_tree, named_override};
 ghost use Rattle.sv_ast.specs.Views.{override_trees, named_link, link_trees, instance_tree};
 ghost use Rattle.sv_ast.specs.Views.{item_tree};
 ghost use Rattle.sv_ast.specs.GrammarForms.{◌⨾◌, given, perhaps, name_at, a_sign};
@@ -358,42 +358,6 @@ fn read_named_instance<'a>(
     Ok((instance, rest))
 }
 
-// Second expressions that are equal.
-fn expressions_copy(alloc: Global, exprs: &[Expr]) -> Result<Vec<Expr>, AllocError>
-    ensures { IfOk result (λ copies. expression_trees copies.items ≡ expression_trees exprs.now) }
-{
-    let mut copies = Vec::with_capacity(alloc, exprs.len())?;
-    for expr in exprs {
-        copies.push(expr.copy(alloc)?)?;
-    }
-    Ok(copies)
-}
-
-// Second values that are equal.
-fn named_copy(
-    alloc: Global,
-    values: &[(Name, Place, Expr)],
-) -> Result<Vec<(Name, Place, Expr)>, AllocError>
-    ensures { IfOk result (λ copies.
-        map named_override copies.items ≡ map named_override values.now) }
-{
-    let mut copies = Vec::with_capacity(alloc, values.len())?;
-    for (name, place, value) in values {
-        copies.push((name.copy(alloc)?, *place, value.copy(alloc)?))?;
-    }
-    Ok(copies)
-}
-
-// Second overrides that are equal.
-fn overrides_copy(alloc: Global, overrides: &Overrides) -> Result<Overrides, AllocError>
-    ensures { IfOk result (λ copy. override_trees copy ≡ override_trees overrides.now) }
-{
-    match overrides {
-        Overrides::Named(values) => Ok(Overrides::Named(named_copy(alloc, values)?)),
-        Overrides::Ordered(values) => Ok(Overrides::Ordered(expressions_copy(alloc, values)?)),
-    }
-}
-
 // Instances of one module.
 struct Instances;
 
@@ -439,7 +403,7 @@ impl Listed for Instances {
         tokens: &'a [Token],
     ) -> Result<(Instance, &'a [Token]), Stop> {
         let module = before.module.copy(alloc)?;
-        let overrides = overrides_copy(alloc, &before.overrides)?;
+        let overrides = before.overrides.copy(alloc)?;
         let (instance, rest) = read_named_instance(
             alloc,
             bytes,

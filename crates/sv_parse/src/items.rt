@@ -4,13 +4,12 @@ ghost use Rattle.std.specs.Option.{option_map};
 ghost use Rattle.sv_token.specs.Lexemes.{placed_tokens};
 ghost use Rattle.sv_token.specs.declared.signs.SignKind.TheVariants as signs;
 ghost use Rattle.sv_ast.specs.Views.{expression_tree, placed_name, item_tree};
-ghost use Rattle.sv_ast.specs.GrammarForms.{◌⨾◌, a_sign};
-ghost use Rattle.sv_ast.specs.GrammarModules.{IsPlacedName, IsEvent, IsAlways, place_of};
+ghost use Rattle.sv_ast.specs.GrammarModules.{IsEvent, IsAlways, place_of};
 ghost use Rattle.sv_ast.specs.GrammarModules.{IsInvariant, IsListedItem, IsItem};
 ghost use Rattle.sv_ast.specs.GrammarRules.{all_limits};
 ghost use Rattle.sv_ast.specs.GrammarStatements.{IsNext, only};
 ghost use Rattle.sv_parse.specs.ReadingItems.{IsOpenEvent};
-ghost use Rattle.sv_grammar.specs.Symbols.{outer, punctuation, plain_name, items, event};
+ghost use Rattle.sv_grammar.specs.Symbols.{outer, punctuation, items, event};
 ghost use Rattle.sv_grammar.specs.Symbols.{event_inside};
 ghost use Rattle.sv_grammar.specs.Reads.{Reads, NextIsNotWord};
 ghost use Rattle.sv_read.specs.Expectations.{HaltsAs};
@@ -22,38 +21,15 @@ use crate::registers::read_registers;
 use std::alloc::Global;
 use sv_ast::{Expr, Item};
 use sv_num::{BinOp, Name, Place};
-use sv_read::cursor::{
-    behind, behind_word, expect_sign, expect_word, read_name, stuck, unexpected,
-};
+use sv_read::cursor::{behind, behind_word, expect_sign, expect_word, stuck, unexpected};
 use sv_read::expressions::read_expression;
 use sv_read::lists::one;
 use sv_read::operators::operator_at;
 use sv_read::stop::{Expected, Stop};
 use sv_statement::assignments::read_assigned;
+use sv_statement::closed::read_closed_name;
 use sv_statement::statements::read_statement;
 use sv_token::{SignKind, Token, TokenKind, WordKind};
-
-// The clock of a process, behind its `posedge`.
-fn read_clock<'a>(
-    alloc: Global,
-    bytes: &[u8],
-    tokens: &'a [Token],
-) -> Result<((Name, Place), &'a [Token]), Stop>
-    ensures is { IfOk result (λ x.
-        (IsPlacedName (placed_name x.0) ⨾ a_sign signs.CloseParenthesis)
-        (placed_tokens bytes.now tokens.now) (placed_tokens bytes.now x.1.now)) }
-    ensures shorter { IfOk result (λ x. length x.1.now < length tokens.now) }
-    ensures reads { IfOk result (λ x.
-        Reads (outer plain_name ∷ outer (punctuation signs.CloseParenthesis) ∷ []) []
-        (placed_tokens bytes.now tokens.now) (placed_tokens bytes.now x.1.now)) }
-    ensures halts { IfErr result (λ e.
-        HaltsAs (outer plain_name ∷ outer (punctuation signs.CloseParenthesis) ∷ [])
-        (placed_tokens bytes.now tokens.now) e) }
-{
-    let (name, place, rest) = read_name(alloc, bytes, tokens)?;
-    let rest = expect_sign(SignKind::CloseParenthesis, rest)?;
-    Ok(((name, place), rest))
-}
 
 // What wakes a process, behind its `@` and `(`.
 fn read_open_event<'a>(
@@ -72,8 +48,8 @@ fn read_open_event<'a>(
         HaltsAs (outer event_inside ∷ []) (placed_tokens bytes.now tokens.now) e) }
 {
     if let Some(rest) = behind_word(WordKind::Posedge, tokens) {
-        let (clock, rest) = read_clock(alloc, bytes, rest)?;
-        return Ok((Some(clock), rest));
+        let (name, place, rest) = read_closed_name(alloc, bytes, rest)?;
+        return Ok((Some((name, place)), rest));
     }
     match operator_at(BinOp::Mul, tokens) {
         Some(rest) => {

@@ -12,7 +12,7 @@ use sv_num::{BINARY, BinOp, BinRow, Place, UNARY, UnOp};
 use sv_token::{Operator, SignKind, Token, TokenKind};
 
 /// The loosest precedence of a binary operator.
-pub const LOOSEST: u8 = 10;
+pub(crate) const LOOSEST: u8 = 10;
 
 // The row of a binary operator.
 fn binary_row(row: u8) -> Option<&'static BinRow>
@@ -22,7 +22,7 @@ fn binary_row(row: u8) -> Option<&'static BinRow>
 }
 
 /// The binary operator of the spelling, if it is one between operands.
-pub fn binary_operator(operator: Operator) -> Option<BinOp>
+pub(crate) fn binary_operator(operator: Operator) -> Option<BinOp>
     ensures { result ≡ binary_operator operator }
 {
     let row = binary_row(operator.binary?)?;
@@ -46,7 +46,7 @@ fn unary_operator(operator: Operator) -> Option<UnOp>
 }
 
 /// The binary operator that comes, its precedence and its place, and the tokens behind it.
-pub fn binary_at(tokens: &[Token]) -> Option<(BinOp, u8, Place, &[Token])>
+pub(crate) fn binary_at(tokens: &[Token]) -> Option<(BinOp, u8, Place, &[Token])>
     ensures is { (bytes : List ℕ) →
         IfSome result (λ x. binary_at x.0 x.2 (placed_tokens bytes tokens.now)
         (placed_tokens bytes x.3.now)) }
@@ -69,7 +69,7 @@ pub fn binary_at(tokens: &[Token]) -> Option<(BinOp, u8, Place, &[Token])>
 }
 
 /// The unary operator that comes, its place, and the tokens behind it.
-pub fn unary_at(tokens: &[Token]) -> Option<(UnOp, Place, &[Token])>
+pub(crate) fn unary_at(tokens: &[Token]) -> Option<(UnOp, Place, &[Token])>
     ensures is { (bytes : List ℕ) →
         IfSome result (λ x. unary_at x.0 x.1 (placed_tokens bytes tokens.now)
         (placed_tokens bytes x.2.now)) }
@@ -89,7 +89,7 @@ pub fn unary_at(tokens: &[Token]) -> Option<(UnOp, Place, &[Token])>
 }
 
 /// The binary operator of this precedence that comes, its place, and the tokens behind it.
-pub fn binary_of(precedence: u8, tokens: &[Token]) -> Option<(BinOp, Place, &[Token])>
+pub(crate) fn binary_of(precedence: u8, tokens: &[Token]) -> Option<(BinOp, Place, &[Token])>
     ensures is { (bytes : List ℕ) →
         IfSome result (λ x. binary_at x.0 x.1 (placed_tokens bytes tokens.now)
         (placed_tokens bytes x.2.now)) }

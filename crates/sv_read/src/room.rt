@@ -12,7 +12,7 @@ use crate::stop::{Breach, Stop};
 use sv_token::{SignKind, Token};
 
 /// How many levels may be open at once.
-pub const MOST_LEVELS: usize = 64;
+pub(crate) const MOST_LEVELS: usize = 64;
 
 /// How many tokens an expression may have.
 pub const MOST_TOKENS: usize = 1024;

@@ -1,5 +1,4 @@
 // Why reading stops, and where.
-
 ghost use Rattle.std.specs.Prelude.{◌≡◌};
 ghost use Rattle.sv_read.specs.declared.stop.Stop.TheVariants.{OutOfMemory};
 

@@ -11,4 +11,4 @@ mod arms;
 pub mod assignments;
 pub mod closed;
 pub mod statements;
-pub mod targets;
+mod targets;

@@ -15,18 +15,18 @@ pub returns-in-Some-clause-is : goal.returns-in-Some-clause-is
 returns-in-Some-clause-is c = (
   (placed_tokens c.args.bytes.now c.in-Some.rest.now),
   (c.in-Some.ensures.is c.args.bytes.now),
-  c.in_ok-clock.ensures.is,
+  c.in_ok-name.ensures.is,
 )
 
-pub returns-in_err-clock-clause-halts : goal.returns-in_err-clock-clause-halts
-returns-in_err-clock-clause-halts c =
+pub returns-in_err-name-clause-halts : goal.returns-in_err-name-clause-halts
+returns-in_err-name-clause-halts c =
     passed _ _ _ c.from_residual.ensures.1
     (stops_then (outer event_inside ∷ [])
     (outer plain_name ∷ outer (punctuation signs.CloseParenthesis) ∷ []) _ _ _
     (word_taken event_inside words.Posedge
     (plain_name ∷ (punctuation signs.CloseParenthesis) ∷ []) _ _ refl
     (c.in-Some.ensures.is c.args.bytes.now))
-    c.in_err-clock.ensures.halts)
+    c.in_err-name.ensures.halts)
 
 pub returns-in-Some-clause-reads : goal.returns-in-Some-clause-reads
 returns-in-Some-clause-reads c =
@@ -35,7 +35,7 @@ returns-in-Some-clause-reads c =
     (word_taken event_inside words.Posedge
     (plain_name ∷ (punctuation signs.CloseParenthesis) ∷ []) _ _ refl
     (c.in-Some.ensures.is c.args.bytes.now))
-    c.in_ok-clock.ensures.reads)
+    c.in_ok-name.ensures.reads)
 
 pub returns-in-None-clause-halts : goal.returns-in-None-clause-halts
 returns-in-None-clause-halts c =

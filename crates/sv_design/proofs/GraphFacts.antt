@@ -1,13 +1,13 @@
 -- Graphs over signals.
-use Rattle.std.proofs.Common.{◌≡◌, ◌≢◌, ◌⊎◌, ⊎_elim, ℕ, zero, suc, ◌-◌, ◌<◌, Bool, true, false}
+use Rattle.std.proofs.Common.{◌≡◌, ⊎_elim, ℕ, zero, suc, ◌-◌, ◌<◌, Bool, true, false}
 use Rattle.std.proofs.Common.{cond, not, ◌&&◌, ◌||◌, Option, Some, None, Vec, Global, ◌==◌, List}
 use Rattle.std.proofs.Common.{[], ◌∷◌, ◌++◌, length, map, get_or, set, refl, sym, ap, subst, ◌∙◌}
 use Rattle.std.proofs.Common.{arith, get_or-set_same, get_or-set_other}
 use Rattle.std.specs.Prelude.{IsTrue, IsFalse, Contains, slice_get, option_map, filter}
-use Rattle.std.specs.List.{range_with_len}
+use Rattle.std.specs.List.{AllByRecursion, range_with_len}
 use Rattle.std.proofs.lemmas.Bool.{false≢true, eqb-true, eq-eqb, or_left}
-use Rattle.std.proofs.lemmas.List.{get_or_append_left, get_or_push, length_push, get_or_past}
-use Rattle.std.proofs.lemmas.List.{append-nil, map-append, map-set, get_or-map, length-map}
+use Rattle.std.proofs.lemmas.List.{length_push}
+use Rattle.std.proofs.lemmas.List.{append-nil, map-set, get_or-map, length-map}
 use Rattle.sv_flat.proofs.LeastSets.{either_way, holds-from_Contains, Contains-from_holds}
 use Rattle.sv_flat.proofs.LeastSets.{in_those, those_below, those_pass}
 use Rattle.sv_system.proofs.Lists.{Contains-head, Contains-later}
@@ -23,25 +23,12 @@ use Rattle.sv_design.proofs.BitFacts.{same_answer}
 -- ---- rows
 
 module _ {X : Type 0} (f : X → List ℕ) where
-  -- a row without edges behind rows without edges
-  pub empty_more : (xs : List X) (x : X) → f x ≡ [] → ((a : ℕ) → get_or (map f xs) a [] ≡ [])
-      → (a : ℕ) → get_or (map f (xs ++ x ∷ [])) a [] ≡ []
-  empty_more xs x is none a = ⊎_elim
-      (λ same. ap (λ rs. get_or rs a []) (map-append f xs (x ∷ []))
-      ∙ get_or_push (map f xs) (f x) [] a (sym (eqb-true a (length (map f xs)) same)) ∙ is)
-      (λ other. ap (λ rs. get_or rs a []) (map-append f xs (x ∷ [])) ∙ left a other)
-      (either_way (a == length (map f xs)))
-    where
-      left : (a : ℕ) → IsFalse (a == length (map f xs)) → get_or (map f xs ++ f x ∷ []) a [] ≡ []
-      left a other = ⊎_elim
-          (λ l. get_or_append_left (map f xs) (f x ∷ []) [] a l ∙ none a)
-          (λ m. get_or_past (map f xs ++ f x ∷ []) a [] (let s = length_push (map f xs) (f x) in
-          omega arith))
-          (apart a (length (map f xs)) (λ e.
-          false≢true (sym other ∙ eq-eqb a (length (map f xs)) e)))
-        where
-          apart : (a n : ℕ) → a ≢ n → (a < n) ⊎ (n < a)
-          apart a n ne = grind arith
+  -- no row has edges
+  pub empty_rows : (xs : List X) → AllByRecursion (λ x. f x ≡ []) xs
+      → (a : ℕ) → get_or (map f xs) a [] ≡ []
+  empty_rows [] all a = refl
+  empty_rows (x ∷ xs) all zero = all.0
+  empty_rows (x ∷ xs) all (suc a) = empty_rows xs all.1 a
 
   -- one more number in a row
   pub row_more : (xs : List X) (s to : ℕ) (v d : X) → s < length xs

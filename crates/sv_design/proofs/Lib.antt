@@ -35,6 +35,7 @@ pub mod ClockFaults
 pub mod TopTables
 pub mod FirstBreaches
 pub mod FirstPlaces
+pub mod FindMap
 pub mod ClockOrder
 pub mod WholeOrders
 pub mod ReadTables

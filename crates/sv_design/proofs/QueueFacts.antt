@@ -1,5 +1,5 @@
 -- The tables that orders are found with, and the signals that go into an order.
-use Rattle.std.proofs.Common.{◌≡◌, ◌≢◌, ℕ, zero, suc, ◌+◌, ◌-◌, ◌<◌, ◌≤◌, Bool, true, false, cond}
+use Rattle.std.proofs.Common.{◌≡◌, ◌≢◌, ℕ, suc, ◌+◌, ◌-◌, ◌<◌, ◌≤◌, Bool, true, false, cond}
 use Rattle.std.proofs.Common.{not, ◌&&◌, ◌||◌, ◌==◌, List, [], ◌∷◌, ◌++◌, length, take, drop}
 use Rattle.std.proofs.Common.{get_or, ⊎_elim, refl, sym, ap, ap₂, subst, ◌∙◌, arith, append_assoc}
 use Rattle.std.proofs.Common.{get_or-set_same, get_or-set_other}
@@ -95,18 +95,18 @@ pub number_at : (signals : List SigId) (i : ℕ) (d : SigId) → i < length sign
     get_or (numbers signals) i 0 ≡ (get_or signals i d).0
 number_at signals i d inside = get_or-map (λ (s : SigId). s.0) signals i d 0 inside
 
--- as many signals pass a test as there are at most
-pub counted_below : (test : ℕ → Bool) (signals : List SigId) (i : ℕ) →
-    length (filter test (numbers (take i signals))) ≤ i
-counted_below test [] zero = omega arith
-counted_below test [] (suc i) = omega arith
-counted_below test (x ∷ xs) zero = omega arith
-counted_below test (x ∷ xs) (suc i) =
-    kept (test x.0) x.0 (filter test (numbers (take i xs))) (counted_below test xs i)
+-- as many signals pass a test as their numbers do
+pub counted : (test : ℕ → Bool) (signals : List SigId) →
+    length (filter (λ (s : SigId). test s.0) signals) ≡ length (filter test (numbers signals))
+counted test [] = refl
+counted test (x ∷ xs) =
+    kept (test x.0) (filter (λ (s : SigId). test s.0) xs) (filter test (numbers xs))
+    (counted test xs)
   where
-    kept : (b : Bool) (k : ℕ) (ks : List ℕ) → length ks ≤ i → length (cond b (k ∷ ks) ks) ≤ suc i
-    kept true k ks le = omega arith
-    kept false k ks le = omega arith
+    kept : (b : Bool) (ss : List SigId) (ks : List ℕ) → length ss ≡ length ks
+        → length (cond b (x ∷ ss) ss) ≡ length (cond b (x.0 ∷ ks) ks)
+    kept true ss ks same = ap suc same
+    kept false ss ks same = same
 
 pub differs : (s t : ℕ) → IsFalse (s == t) → t ≢ s
 differs s t h e = false≢true (sym h ∙ eq-eqb s t (sym e))

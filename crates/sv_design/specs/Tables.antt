@@ -5,7 +5,7 @@ use Rattle.sv_flat.specs.Views.{process_form}
 use Rattle.sv_flat.specs.Processes.{signal_numbers}
 use Rattle.sv_flat.specs.Clocks.{is_clock, processes_of}
 use Rattle.sv_flat.specs.FlatSystem.{combinational_processes, clocked_processes}
-use Rattle.sv_flat.specs.SignalLists.{seen as seen_of, inputs as inputs_of}
+use Rattle.sv_flat.specs.SignalLists.{system_signals, inputs as inputs_of}
 use Rattle.sv_flat.specs.SignalLists.{registers as registers_of, top_clock, driver_of}
 use Rattle.sv_flat.specs.Reads.{reads_for, order as order_of}
 use Rattle.sv_design.specs.declared.tables.Tables.{Tables}
@@ -16,7 +16,7 @@ pub record AreTables (design : FlatDesign) (tables : Tables) : Type 0 where
   pub processes_are : map process_form tables.processes.items ≡ processes_of design
   pub clock_is : number_if_any tables.clock ≡ top_clock design
   pub clocks_are : tables.clocks.items ≡ map (is_clock design) (signal_numbers design)
-  pub seen_are : numbers tables.seen.items ≡ seen_of design
+  pub seen_are : numbers tables.seen.items ≡ system_signals design
   pub inputs_are : numbers tables.inputs.items ≡ inputs_of design
   pub registers_are : numbers tables.registers.items ≡ registers_of design
   pub order_is : numbers tables.order.items ≡ order_of design

@@ -107,11 +107,7 @@ fn read_tables(
 fn comb_count(combs: &[bool]) -> usize
     ensures { result ≡ count_by (λ (b : Bool). b) combs.now }
 {
-    let mut count = 0;
-    for is_comb in combs {
-        count += usize::from(*is_comb);
-    }
-    count
+    combs.iter().filter(|is_comb| **is_comb).count()
 }
 
 // Whether a longest order has all combinational signals: else there is a circle, and its fault.

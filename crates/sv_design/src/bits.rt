@@ -13,7 +13,7 @@ use sv_flat::{Piece, SigId, Signal};
 /// A set of bits of signals: for each signal with a bit in it, those bits as a number.
 #[derive(Drop)]
 pub struct Bits {
-    pub(crate) masks: BTreeMap<u32, u64>,
+    pub masks: BTreeMap<u32, u64>,
 }
 
 /// The bits from high down to low, as a number.

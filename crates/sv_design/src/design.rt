@@ -4,7 +4,8 @@ ghost use Rattle.std.specs.Str.{bytes_eq};
 ghost use Rattle.sv_flat.specs.Views.{design_of, process_form};
 ghost use Rattle.sv_flat.specs.Clocks.{is_clock, processes_of};
 ghost use Rattle.sv_flat.specs.FlatSystem.{combinational_processes, clocked_processes};
-ghost use Rattle.sv_flat.specs.SignalLists.{seen, inputs, registers, top_clock, driver_of};
+ghost use Rattle.sv_flat.specs.SignalLists.{system_signals, inputs, registers, top_clock};
+ghost use Rattle.sv_flat.specs.SignalLists.{driver_of};
 ghost use Rattle.sv_flat.specs.Reads.{reads_for, order};
 ghost use Rattle.sv_design.specs.Designs.{IsDesign};
 ghost use Rattle.sv_design.specs.Numbers.{numbers, number_if_any};
@@ -104,7 +105,7 @@ impl Design {
 
     /// All signals but the clocks, in order.
     pub fn seen(&self) -> &[SigId]
-        ensures seen { numbers result.now ≡ seen (design_of self.now) }
+        ensures seen { numbers result.now ≡ system_signals (design_of self.now) }
         ensures design { IsDesign (design_of self.now) }
     {
         self.tables.seen.as_slice()

@@ -11,7 +11,7 @@ use sv_flat::SigId;
 /// A graph over signals: for each signal, by its number, those that its edges lead to.
 #[derive(Drop)]
 pub struct Graph {
-    pub(crate) rows: Vec<Vec<SigId>>,
+    pub rows: Vec<Vec<SigId>>,
 }
 
 impl Graph {
@@ -20,12 +20,7 @@ impl Graph {
         ensures size { IfOk result (λ graph. size graph ≡ count) }
         ensures edges { IfOk result (λ graph. (a : ℕ) → row graph a ≡ []) }
     {
-        let mut rows = Vec::with_capacity(alloc, count)?;
-        for signal in 0..count {
-            // names what the loop's invariant counts by
-            let _ = signal;
-            rows.push(Vec::new(alloc))?;
-        }
+        let rows = vec![in alloc; Vec::new(alloc); count]?;
         Ok(Graph { rows })
     }
 

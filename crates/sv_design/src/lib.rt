@@ -5,17 +5,21 @@
 //! its registers, its combinational signals by depth, its processes without links to clocks, each
 //! signal's driver, and the signals read for each signal.
 //!
-//! Promises that each part is its definition in `sv_flat` (`Admission`, `Assignments`, `Clocks`,
-//! `Drivers`, `Blocks`, `Loops`, `Processes`, `Reads`, `SignalLists`), and that what is found first
-//! is the first by number, then place, then signal (`First`, `Circles`, `Faults`). A contract sees
-//! an admitted design as the flat design that was admitted: `Designs` says what holds of it,
-//! `Tables` what its lists are, and `Numbers` has the words for signals by their numbers.
+//! Promises that each part is its definition in `sv_flat` (`specs/Admission.antt`,
+//! `Assignments.antt`, `Clocks.antt`, `Drivers.antt`, `Blocks.antt`, `Loops.antt`,
+//! `Processes.antt`, `Reads.antt`, `SignalLists.antt`), and that what is found first is the first
+//! by number, then place, then signal (here `specs/First.antt`, `Circles.antt`, `Faults.antt`). A
+//! contract sees an admitted design as the flat design that was admitted: `Designs.antt` says what
+//! holds of it, `Tables.antt` what its lists are, and `Numbers.antt` has the words for signals by
+//! their numbers.
 //!
-//! Private to the crate, for the contracts of its parts: `BitSets`, `ClockTables`, `Depths`,
-//! `DriverTables`, `Feeds`, `Graphs`, `Links`, `Marks`, `Nests`, `Orders`, `Phases`, `Queues`,
-//! `ReadForms`, `Refusals`, `Scopes`, `Searches`, `Selectors`, `Tops`, `WrongAssigns`. `components`
-//! and `nests` promise no more than to end safely: what circles there are is the same by any order
-//! that they find, and only the time to find the first one is not.
+//! `BitSets.antt`, `ClockTables.antt`, `Depths.antt`, `DriverTables.antt`, `Feeds.antt`,
+//! `Graphs.antt`, `Links.antt`, `Marks.antt`, `Nests.antt`, `Orders.antt`, `Phases.antt`,
+//! `Queues.antt`, `ReadForms.antt`, `Refusals.antt`, `Scopes.antt`, `Searches.antt`,
+//! `Selectors.antt`, `Tops.antt` and `WrongAssigns.antt` are private: they say how the code goes;
+//! the meaning stands in the files before. `components` and `nests` promise no more than to end
+//! safely: what circles there are is the same by any order that they find, and only the time to
+//! find the first one is not.
 #![tactic(auto)]
 
 mod admit;

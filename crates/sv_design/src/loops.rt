@@ -56,12 +56,11 @@ fn circle_from(alloc: Global, reads: &Reads, first: SigId) -> Result<Option<Vec<
 {
     let readers = search_from(alloc, &reads.readers, first.0 as usize + 1, &[first])?;
     let row = reads.reads.rows[first.0 as usize].as_slice();
-    for read in row {
-        if let Some(place) = readers.places[read.0 as usize] {
-            return Ok(Some(circle_of(alloc, &readers, first, place)?));
-        }
-    }
-    Ok(None)
+    let found = row.iter().find_map(|read| readers.places[read.0 as usize]);
+    let Some(place) = found else {
+        return Ok(None);
+    };
+    Ok(Some(circle_of(alloc, &readers, first, place)?))
 }
 
 // Whether the signal is combinational and a circle can begin at it.

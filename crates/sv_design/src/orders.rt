@@ -14,6 +14,7 @@ ghost use Rattle.sv_design.specs.Queues.{open_at, Begins, SettlesOne, Settles};
 
 use crate::graphs::Graph;
 use crate::lists::push_if;
+use crate::marks::has_mark;
 use std::alloc::{AllocError, Global};
 use sv_flat::SigId;
 
@@ -119,17 +120,13 @@ impl Queue {
 }
 
 // How many of some signals are combinational.
-fn comb_count(combs: &[bool], signals: &[SigId]) -> usize
-    requires { (k : ℕ) → Contains (numbers signals.now) k → k < length combs.now }
+fn comb_count_among(combs: &[bool], signals: &[SigId]) -> usize
     ensures { result ≡ length (filter (is_marked combs.now) (numbers signals.now)) }
 {
-    let mut count = 0;
-    for signal in signals {
-        if combs[signal.0 as usize] {
-            count += 1;
-        }
-    }
-    count
+    signals
+        .iter()
+        .filter(|signal| has_mark(combs, **signal))
+        .count()
 }
 
 // The combinational signals that read no combinational one.
@@ -140,7 +137,7 @@ fn first_queue(alloc: Global, reads: &Reads) -> Result<Queue, AllocError>
     let mut order = Vec::new(alloc);
     let mut counts = Vec::new(alloc);
     for (s, row) in reads.reads.rows.iter().enumerate() {
-        let count = comb_count(&reads.combs, row);
+        let count = comb_count_among(&reads.combs, row);
         counts.push(count)?;
         let is_first = reads.combs[s] & (count == 0);
         push_if(is_first, SigId(s as u32), &mut order)?;

@@ -20,8 +20,8 @@ pub struct Step {
 /// What a search found, in the order in which it was found; and for each signal its place there.
 #[derive(Drop)]
 pub struct Search {
-    pub(crate) steps: Vec<Step>,
-    pub(crate) places: Vec<Option<usize>>,
+    pub steps: Vec<Step>,
+    pub places: Vec<Option<usize>>,
 }
 
 impl Search {

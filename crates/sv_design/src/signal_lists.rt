@@ -1,7 +1,7 @@
 // The lists of signals of a design.
 ghost use Rattle.std.specs.Prelude.{◌≡◌, ◌&&◌, not, length, IsTrue, IfOk};
 ghost use Rattle.sv_flat.specs.Processes.{is_register};
-ghost use Rattle.sv_flat.specs.SignalLists.{seen, inputs, registers, top_clock};
+ghost use Rattle.sv_flat.specs.SignalLists.{system_signals, inputs, registers, top_clock};
 ghost use Rattle.sv_flat.specs.Soundness.{sound};
 ghost use Rattle.sv_flat.specs.Views.{design_of};
 ghost use Rattle.sv_design.specs.DriverTables.{AreClocks};
@@ -17,7 +17,7 @@ use sv_flat::{Flat, SigId};
 pub fn seen_of(alloc: Global, flat: &Flat, clocks: &[bool]) -> Result<Vec<SigId>, AllocError>
     requires sound { IsTrue (sound (design_of flat.now)) }
     requires clocks { AreClocks (design_of flat.now) clocks.now }
-    ensures { IfOk result (λ signals. numbers signals.items ≡ seen (design_of flat.now)) }
+    ensures { IfOk result (λ signals. numbers signals.items ≡ system_signals (design_of flat.now)) }
 {
     let mut table = Vec::with_capacity(alloc, clocks.len())?;
     for s in 0..clocks.len() {

@@ -1,5 +1,4 @@
 // What is worked out of a design once, when it is admitted.
-
 use sv_flat::{Process, SigId};
 
 /// The tables of an admitted design.

@@ -5,7 +5,7 @@ ghost use Rattle.sv_flat.specs.ByNumber.{by_number};
 ghost use Rattle.sv_flat.specs.FlatSystem.{flat_system};
 ghost use Rattle.sv_flat.specs.Schedules.{numbered_run, after_schedule, is_quiet, process_count};
 ghost use Rattle.sv_flat.specs.Schedules.{IsRoundCount, after_rounds, is_order, after_tick};
-ghost use Rattle.sv_flat.specs.SignalLists.{seen, inputs as inputs_of};
+ghost use Rattle.sv_flat.specs.SignalLists.{system_signals, inputs as inputs_of};
 ghost use Rattle.sv_flat.specs.Views.{design_of};
 ghost use Rattle.sv_system.specs.Schedules.{IsTheSettled, combinational};
 ghost use Rattle.sv_sim.specs.Given.{FitListed, with_given};
@@ -83,9 +83,10 @@ impl<'a> Event<'a> {
     /// Gives each signal that is no clock its value.
     pub fn put_values(&mut self, values: &[u64])
         requires { let design = design_of self.old.design in
-            FitListed design.signals (seen design) values.now }
+            FitListed design.signals (system_signals design) values.now }
         ensures values { by_number self.new.values ≡
-            with_given (seen (design_of self.old.design)) values.now (by_number self.old.values) }
+            with_given (system_signals (design_of self.old.design)) values.now
+            (by_number self.old.values) }
         ensures design { self.new.design ≡ self.old.design }
     {
         put_listed(
@@ -201,7 +202,7 @@ impl<'a> Event<'a> {
 
     /// The value of a signal that is no clock.
     pub fn value(&self, s: SigId) -> u64
-        requires { Contains (seen (design_of self.now.design)) s.0 }
+        requires { Contains (system_signals (design_of self.now.design)) s.0 }
         ensures { result ≡ by_number self.now.values s.0 }
     {
         let values = self.values.as_slice();

@@ -7,9 +7,11 @@
 //! Promises that each call does what `sv_flat/specs/Schedules.antt` says of it, that every list of
 //! runs after which no run would change anything has come to the one settled environment, as every
 //! list of enough rounds has, and that all orders of the clocked processes give the registers the
-//! same values. `Events` says what a contract sees, and `Rests` where lists of numbers end.
+//! same values. `specs/Events.antt` says what a contract sees, and `Rests.antt` where lists of
+//! numbers end.
 //!
-//! Private to the crate, for the contracts of its parts: `Places` and `Seen`.
+//! `Places.antt` and `Seen.antt` are private: they say how the code goes; the meaning stands in the
+//! files before.
 #![tactic(auto)]
 
 mod draws;

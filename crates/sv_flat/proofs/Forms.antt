@@ -9,7 +9,7 @@ use Rattle.sv_flat.specs.Design.{nothing, after, assign, ProcessKind, ProcessFor
 abbrev pub at : (line column : ℕ) → Place
 at l c = record { line = l; column = c }
 
--- a signal without sign, with the least point as its label
+-- an unsigned signal, with the least point as its label
 abbrev pub declares : (name : List ℕ) → (width : ℕ) → SigKind → Place → SignalForm
 declares n w k p =
     record {

@@ -49,37 +49,37 @@ few_of n w high low h =
     leb-true (high + 1 - low) w
     (second_of (nat_le low high && nat_lt high n) (nat_le (high + 1 - low) w) h)
 
-width_of : (w : ℕ) (sign : Bool) (e : TypedTree) → IsTrue (has_type w sign e) →
+width_of : (w : ℕ) (signed : Bool) (e : TypedTree) → IsTrue (has_type w signed e) →
     expression_width e ≡ w
-width_of w sign e h =
+width_of w signed e h =
     eqb-true (expression_width e) w
-    (first_of (expression_width e == w) (beq (expression_signed e) sign) h)
+    (first_of (expression_width e == w) (beq (expression_signed e) signed) h)
 
 -- the length of what an operator gives
-unary_few : (op : UnOp) (w : ℕ) (sign : Bool) (e : TypedTree) → 1 ≤ w
-    → IsTrue (unary_typed op w sign e)
+unary_few : (op : UnOp) (w : ℕ) (signed : Bool) (e : TypedTree) → 1 ≤ w
+    → IsTrue (unary_typed op w signed e)
     → cond (gives_one_bit op) 1 (expression_width e) ≤ w
-unary_few op w sign e some h = by_length (gives_one_bit op) h
+unary_few op w signed e some h = by_length (gives_one_bit op) h
   where
-    by_length : (b : Bool) → IsTrue (b || has_type w sign e) → cond b 1 (expression_width e) ≤ w
+    by_length : (b : Bool) → IsTrue (b || has_type w signed e) → cond b 1 (expression_width e) ≤ w
     by_length true h = some
-    by_length false h = let is = width_of w sign e h in omega (arith, is)
+    by_length false h = let is = width_of w signed e h in omega (arith, is)
 
-binary_few : (class : OpClass) (w : ℕ) (sign : Bool) (a b : TypedTree) → 1 ≤ w
-    → IsTrue (binary_typed class w sign a b)
+binary_few : (class : OpClass) (w : ℕ) (signed : Bool) (a b : TypedTree) → 1 ≤ w
+    → IsTrue (binary_typed class w signed a b)
     → result_width class (expression_width a) ≤ w
-binary_few Context w sign a b some h =
-    let is = width_of w sign a (first_of (has_type w sign a) (has_type w sign b) h) in
+binary_few Context w signed a b some h =
+    let is = width_of w signed a (first_of (has_type w signed a) (has_type w signed b) h) in
     omega (arith, is)
-binary_few Compare w sign a b some h = some
-binary_few Logical w sign a b some h = some
-binary_few Shift w sign a b some h = let is = width_of w sign a h in omega (arith, is)
+binary_few Compare w signed a b some h = some
+binary_few Logical w signed a b some h = some
+binary_few Shift w signed a b some h = let is = width_of w signed a h in omega (arith, is)
 
 -- ---- nodes
 
-module _ (signals : List SignalForm) (w : ℕ) (sign : Bool) where
+module _ (signals : List SignalForm) (w : ℕ) (signed : Bool) where
   abbrev pub Formed : NodeTree → Type 0
-  Formed node = IsTrue (node_well_formed signals w sign node)
+  Formed node = IsTrue (node_well_formed signals w signed node)
 
   pub part_few : (node : NodeTree) (s : ℕ) (p : Place) (high low : ℕ) →
       node ≡ read_part s p high low → Formed node → high + 1 - low ≤ w
@@ -104,15 +104,15 @@ module _ (signals : List SignalForm) (w : ℕ) (sign : Bool) where
   pub unary_gives : (node : NodeTree) (op : UnOp) (e : TypedTree) → 1 ≤ w → node ≡ unary op e
       → Formed node
       → cond (gives_one_bit op) 1 (expression_width e) ≤ w
-  unary_gives node op e some is h = unary_few op w sign e some
-      (first_of (unary_typed op w sign e) (well_formed signals e) (subst Formed is h))
+  unary_gives node op e some is h = unary_few op w signed e some
+      (first_of (unary_typed op w signed e) (well_formed signals e) (subst Formed is h))
 
   pub binary_gives : (node : NodeTree) (op : BinOp) (a b : TypedTree) → 1 ≤ w → node ≡ binary op a b
       → Formed node
       → result_width (class_of op) (expression_width a) ≤ w
   binary_gives node op a b some is h =
-      let typed = binary_typed (class_of op) w sign a b in
-      binary_few (class_of op) w sign a b some (second_of (not (is_division op)) typed
+      let typed = binary_typed (class_of op) w signed a b in
+      binary_few (class_of op) w signed a b some (second_of (not (is_division op)) typed
       (first_of (not (is_division op) && typed) (well_formed signals a)
       (first_of (not (is_division op) && typed && well_formed signals a) (well_formed signals b)
       (subst Formed is h))))

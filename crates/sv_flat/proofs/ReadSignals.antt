@@ -52,24 +52,24 @@ module _ (signals : List SignalForm) where
         → IsTrue (node_well_formed signals w s node) → (r : ReadForm)
         → Contains (node_reads signals node) r
         → IsTrue (is_signal signals r.signal)
-    node_reads_signals (constant n) w sign h r at = absurd (Contains-nil r at)
-    node_reads_signals (read s p) w sign h r at =
+    node_reads_signals (constant n) w signed h r at = absurd (Contains-nil r at)
+    node_reads_signals (read s p) w signed h r at =
         one_read r (whole_read signals s p)
         (first_of (is_signal signals s) (nat_le (signal_width signals s) w) h) at
-    node_reads_signals (read_bit s p i) w sign h r at = ⊎_elim
+    node_reads_signals (read_bit s p i) w signed h r at = ⊎_elim
         (λ e. subst (λ y. IsTrue (is_signal signals y.signal)) e
         (indexed_signal (is_constant i) s p i
         (first_of (is_signal signals s) (well_formed signals i) h)))
         (λ later. reads_signals i (second_of (is_signal signals s) (well_formed signals i) h)
         r later)
         (Contains-cases (indexed_read signals s p i) (reads signals i) r at)
-    node_reads_signals (read_part s p high low) w sign h r at =
+    node_reads_signals (read_part s p high low) w signed h r at =
         one_read r (record { signal = s; place = p; high = high; low = low })
         (first_of (is_signal signals s) (is_part_of (signal_width signals s) w high low) h) at
-    node_reads_signals (unary op t) w sign h r at =
-        reads_signals t (second_of (unary_typed op w sign t) (well_formed signals t) h) r at
-    node_reads_signals (binary op a b) w sign h r at =
-        let kind = not (is_division op) && binary_typed (class_of op) w sign a b in
+    node_reads_signals (unary op t) w signed h r at =
+        reads_signals t (second_of (unary_typed op w signed t) (well_formed signals t) h) r at
+    node_reads_signals (binary op a b) w signed h r at =
+        let kind = not (is_division op) && binary_typed (class_of op) w signed a b in
         ⊎_elim
         (λ l. reads_signals a
         (second_of kind (well_formed signals a)
@@ -77,8 +77,8 @@ module _ (signals : List SignalForm) where
         (λ m. reads_signals b
         (second_of (kind && well_formed signals a) (well_formed signals b) h) r m)
         (Contains-either (reads signals a) (reads signals b) r at)
-    node_reads_signals (choice p c a b) w sign h r at =
-        let types = has_type w sign a && has_type w sign b in
+    node_reads_signals (choice p c a b) w signed h r at =
+        let types = has_type w signed a && has_type w signed b in
         let front = first_of (types && well_formed signals c && well_formed signals a)
         (well_formed signals b) h in
         ⊎_elim
@@ -93,16 +93,16 @@ module _ (signals : List SignalForm) where
         (second_of (types && well_formed signals c && well_formed signals a)
         (well_formed signals b) h) r m)
         (Contains-either (reads signals c ++ reads signals a) (reads signals b) r at)
-    node_reads_signals (join es) w sign h r at = parts_reads_signals es
+    node_reads_signals (join es) w signed h r at = parts_reads_signals es
         (second_of (nat_le (parts_width es) w) (parts_well_formed signals es) h) r at
-    node_reads_signals (replication count es) w sign h r at =
+    node_reads_signals (replication count es) w signed h r at =
         parts_reads_signals es
         (second_of (is_one_to 64 count && nat_le (count * parts_width es) w)
         (parts_well_formed signals es) h) r at
-    node_reads_signals (held s t) w sign h r at =
+    node_reads_signals (held s t) w signed h r at =
         reads_signals t (second_of (is_signal signals s && nat_le (signal_width signals s) w)
         (well_formed signals t) h) r at
-    node_reads_signals (held_bit s p t i) w sign h r at = ⊎_elim
+    node_reads_signals (held_bit s p t i) w signed h r at = ⊎_elim
         (λ l. reads_signals t
         (second_of (is_signal signals s) (well_formed signals t)
         (first_of (is_signal signals s && well_formed signals t) (well_formed signals i) h)) r l)
@@ -110,10 +110,10 @@ module _ (signals : List SignalForm) where
         (second_of (is_signal signals s && well_formed signals t)
         (well_formed signals i) h) r m)
         (Contains-either (reads signals t) (reads signals i) r at)
-    node_reads_signals (held_part s p t high low) w sign h r at =
+    node_reads_signals (held_part s p t high low) w signed h r at =
         reads_signals t (second_of (is_signal signals s
         && is_part_of (signal_width signals s) w high low) (well_formed signals t) h) r at
-    node_reads_signals (mend s t high low piece) w sign h r at =
+    node_reads_signals (mend s t high low piece) w signed h r at =
         let front = is_signal signals s && nat_le (signal_width signals s) w
         && is_part_of (signal_width signals s) (expression_width piece) high low in
         ⊎_elim
@@ -123,7 +123,7 @@ module _ (signals : List SignalForm) where
         (λ m. reads_signals piece
         (second_of (front && well_formed signals t) (well_formed signals piece) h) r m)
         (Contains-either (reads signals t) (reads signals piece) r at)
-    node_reads_signals (slice t high low) w sign h r at =
+    node_reads_signals (slice t high low) w signed h r at =
         reads_signals t (second_of (is_part_of (expression_width t) w high low)
         (well_formed signals t) h) r at
 

@@ -156,13 +156,13 @@ module _ (signals : List SignalForm) where
           → (e f : Environment ℕ)
           → AllSame e f (node_reads signals node)
           → node_value signals e w s node ≡ node_value signals f w s node
-      same_node (constant n) w sign h e f same = refl
-      same_node (read s p) w sign h e f same =
-          ap (extended sign (signal_width signals s) w)
+      same_node (constant n) w signed h e f same = refl
+      same_node (read s p) w signed h e f same =
+          ap (extended signed (signal_width signals s) w)
           (same_whole e f s p (positive s
           (first_of (is_signal signals s) (nat_le (signal_width signals s) w) h))
           (same (whole_read signals s p) (Contains-head (whole_read signals s p) [])))
-      same_node (read_bit s p i) w sign h e f same =
+      same_node (read_bit s p i) w signed h e f same =
           let i_is = second_of (is_signal signals s) (well_formed signals i) h in
           indexed (is_constant i) e f s p (number_of signals e i) (number_of signals f i)
           (number_of signals (λ t. 0) i)
@@ -172,7 +172,7 @@ module _ (signals : List SignalForm) where
           same r (Contains-later (indexed_read signals s p i) (reads signals i) r at)))
           (same (indexed_read signals s p i)
           (Contains-head (indexed_read signals s p i) (reads signals i)))
-      same_node (read_part s p high low) w sign h e f same =
+      same_node (read_part s p high low) w signed h e f same =
           let n = signal_width signals s in
           let both = first_of (nat_le low high && nat_lt high n) (nat_le (high + 1 - low) w)
           (second_of (is_signal signals s) (is_part_of n w high low) h) in
@@ -181,20 +181,20 @@ module _ (signals : List SignalForm) where
           (ltb-true high n (second_of (nat_le low high) (nat_lt high n) both))
           (same (record { signal = s; place = p; high = high; low = low })
           (Contains-head (record { signal = s; place = p; high = high; low = low }) []))
-      same_node (unary op t) w sign h e f same =
+      same_node (unary op t) w signed h e f same =
           ap (unary_value op (expression_width t) (expression_signed t))
-          (same_value t (second_of (unary_typed op w sign t) (well_formed signals t) h) e f same)
-      same_node (binary op a b) w sign h e f same =
-          let kind = not (is_division op) && binary_typed (class_of op) w sign a b in
+          (same_value t (second_of (unary_typed op w signed t) (well_formed signals t) h) e f same)
+      same_node (binary op a b) w signed h e f same =
+          let kind = not (is_division op) && binary_typed (class_of op) w signed a b in
           ap₂ (binary_value op (expression_width a) (expression_signed a))
           (same_value a (second_of kind (well_formed signals a)
           (first_of (kind && well_formed signals a) (well_formed signals b) h)) e f
           (same_left e f (reads signals a) (reads signals b) same))
           (same_value b (second_of (kind && well_formed signals a) (well_formed signals b) h) e f
           (same_right e f (reads signals a) (reads signals b) same))
-      same_node (choice p c a b) w sign h e f same =
+      same_node (choice p c a b) w signed h e f same =
           let both = same_left e f (reads signals c ++ reads signals a) (reads signals b) same in
-          let types = has_type w sign a && has_type w sign b in
+          let types = has_type w signed a && has_type w signed b in
           let front = first_of (types && well_formed signals c && well_formed signals a)
           (well_formed signals b) h in
           chosen_same (value signals e c) (value signals f c) (value signals e a)
@@ -209,29 +209,29 @@ module _ (signals : List SignalForm) where
           (same_value b (second_of (types && well_formed signals c && well_formed signals a)
           (well_formed signals b) h) e f
           (same_right e f (reads signals c ++ reads signals a) (reads signals b) same))
-      same_node (join es) w sign h e f same = same_joined es
+      same_node (join es) w signed h e f same = same_joined es
           (second_of (nat_le (parts_width es) w) (parts_well_formed signals es) h) e f same
-      same_node (replication count es) w sign h e f same = ap (repeated count (parts_width es))
+      same_node (replication count es) w signed h e f same = ap (repeated count (parts_width es))
           (same_joined es (second_of (is_one_to 64 count && nat_le (count * parts_width es) w)
           (parts_well_formed signals es) h) e f same)
-      same_node (held s t) w sign h e f same = ap (extended sign (signal_width signals s) w)
+      same_node (held s t) w signed h e f same = ap (extended signed (signal_width signals s) w)
           (same_cut t s (second_of (is_signal signals s && nat_le (signal_width signals s) w)
           (well_formed signals t) h) e f same)
-      same_node (held_bit s p t i) w sign h e f same = ap₂ (bit_or_zero (signal_width signals s))
+      same_node (held_bit s p t i) w signed h e f same = ap₂ (bit_or_zero (signal_width signals s))
           (same_cut t s (second_of (is_signal signals s) (well_formed signals t)
           (first_of (is_signal signals s && well_formed signals t) (well_formed signals i) h)) e f
           (same_left e f (reads signals t) (reads signals i) same))
           (same_number i (second_of (is_signal signals s && well_formed signals t)
           (well_formed signals i) h) e f
           (same_right e f (reads signals t) (reads signals i) same))
-      same_node (held_part s p t high low) w sign h e f same = ap (bits_between high low)
+      same_node (held_part s p t high low) w signed h e f same = ap (bits_between high low)
           (same_cut t s (second_of (is_signal signals s
           && is_part_of (signal_width signals s) w high low)
           (well_formed signals t) h) e f same)
-      same_node (mend s t high low piece) w sign h e f same =
+      same_node (mend s t high low piece) w signed h e f same =
           let front = is_signal signals s && nat_le (signal_width signals s) w
           && is_part_of (signal_width signals s) (expression_width piece) high low in
-          ap (extended sign (signal_width signals s) w)
+          ap (extended signed (signal_width signals s) w)
           (ap₂ (replaced_bits (signal_width signals s) high low)
           (same_value t (second_of front (well_formed signals t)
           (first_of (front && well_formed signals t) (well_formed signals piece) h)) e f
@@ -239,7 +239,7 @@ module _ (signals : List SignalForm) where
           (same_value piece (second_of (front && well_formed signals t)
           (well_formed signals piece) h) e f
           (same_right e f (reads signals t) (reads signals piece) same)))
-      same_node (slice t high low) w sign h e f same = ap (bits_between high low)
+      same_node (slice t high low) w signed h e f same = ap (bits_between high low)
           (same_value t (second_of (is_part_of (expression_width t) w high low)
           (well_formed signals t) h) e f same)
 
@@ -263,6 +263,6 @@ module _ (signals : List SignalForm) where
       same_cut : (t : TypedTree) (s : ℕ) → IsTrue (well_formed signals t) → (e f : Environment ℕ)
           → AllSame e f (reads signals t)
           → cut_value signals e s t ≡ cut_value signals f s t
-      same_cut (typed w sign node) s h e f same = ap (λ z. z % 2 ^ signal_width signals s)
-          (same_node node w sign
-          (second_of (is_one_to 64 w) (node_well_formed signals w sign node) h) e f same)
+      same_cut (typed w signed node) s h e f same = ap (λ z. z % 2 ^ signal_width signals s)
+          (same_node node w signed
+          (second_of (is_one_to 64 w) (node_well_formed signals w signed node) h) e f same)

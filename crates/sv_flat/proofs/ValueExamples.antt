@@ -44,7 +44,7 @@ pub signed_shift : shows
     (typed 16 true (binary binop.SignShr (typed 16 true (read 1 here)) (number 32 true 1))) 65472
 signed_shift = refl
 
--- {8'sh80} >>> 1: a concatenation has no sign
+-- {8'sh80} >>> 1: a concatenation is unsigned
 pub joined_shift : shows
     (typed 8 false (binary binop.SignShr
     (typed 8 false (join (more_parts (number 8 true 128) no_parts))) (number 32 true 1))) 64
@@ -56,7 +56,7 @@ pub inverted_first :
     (binary binop.Eq (typed 8 false (unary unop.Invert (number 8 false 0))) (number 8 false 255))) 1
 inverted_first = refl
 
--- a signed signal is extended with its sign where the type is signed, else with zeros
+-- a signed signal is extended with its highest bit where the type is signed, else with zeros
 pub extended_signed : shows (typed 16 true (read 1 here)) 65408
 extended_signed = refl
 
@@ -89,7 +89,7 @@ bit_above = refl
 pub bit_below : shows (typed 1 false (read_bit 0 here (number 3 true 7))) 0
 bit_below = refl
 
--- the same three bits read without sign stand for 7, which is outside as well; of the signal with 8
+-- the same three bits read unsigned stand for 7, which is outside as well; of the signal with 8
 -- bits it is the highest bit
 pub bit_by_unsigned : shows (typed 1 false (read_bit 1 here (number 3 false 7))) 1
 bit_by_unsigned = refl
@@ -105,7 +105,7 @@ part = refl
 pub reduction : shows (typed 8 false (unary unop.Nand (typed 4 false (read 0 here)))) 1
 reduction = refl
 
--- an amount of a shift is read without sign: -1 of 2 bits is 3
+-- an amount of a shift is read unsigned: -1 of 2 bits is 3
 pub amount : shows (typed 8 false (binary binop.Shl (number 8 false 1) (number 2 true 3))) 8
 amount = refl
 
@@ -125,7 +125,7 @@ pub choice_of_first :
     (choice here (typed 1 false (read 2 here)) (typed 4 false (read 0 here)) (number 4 false 3))) 10
 choice_of_first = refl
 
--- what was put in for the signal of 8 signed bits is cut to them, and read with its sign
+-- what was put in for the signal of 8 signed bits is cut to them, and read as signed
 pub held_with_sign : shows (typed 16 true (held 1 (number 9 false 384))) 65408
 held_with_sign = refl
 

@@ -7,8 +7,8 @@ use Rattle.sv_flat.specs.Clocks.{clocks, processes_of}
 use Rattle.sv_flat.specs.FlatSystem.{flat_system}
 
 -- all signals but clocks, in order
-abbrev pub seen : FlatDesign → List ℕ
-seen design = (flat_system design).signals
+abbrev pub system_signals : FlatDesign → List ℕ
+system_signals design = (flat_system design).signals
 
 abbrev pub inputs : FlatDesign → List ℕ
 inputs design = signals_that design (flat_system design).is_input

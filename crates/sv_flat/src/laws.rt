@@ -1,5 +1,4 @@
 // What follows for flat designs, as contracts of functions that do nothing.
-
 ghost use Rattle.std.specs.Prelude.{IsTrue};
 ghost use Rattle.sv_flat.specs.Admission.{IsAdmitted};
 ghost use Rattle.sv_flat.specs.Design.{FlatDesign};

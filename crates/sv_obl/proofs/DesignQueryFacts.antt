@@ -20,7 +20,7 @@ use Rattle.std.specs.List.{list_all}
 use Rattle.sv_flat.specs.Assigned.{assigns}
 use Rattle.sv_flat.specs.Readings.{ReadForm, reads, names_signal}
 use Rattle.sv_flat.specs.Processes.{is_clocked, is_register, signal_numbers, drivers}
-use Rattle.sv_flat.specs.SignalLists.{seen}
+use Rattle.sv_flat.specs.SignalLists.{system_signals}
 use Rattle.sv_flat.specs.Clocks.{is_clock, processes_of}
 use Rattle.sv_flat.specs.Admission.{IsAdmitted}
 use Rattle.sv_flat.proofs.Members.{Contains-either}
@@ -129,9 +129,9 @@ module _ (signals : List SignalForm) where
     ways_formed : (pieces : List PieceForm) (right : TypedTree) (route : Route)
         → IsTrue (well_formed signals right) → StepsFormed route.steps
         → RoutesFormed (with_ways signals s pieces right route)
-    ways_formed pieces (typed w sign (choice p c a b)) route h formed =
-        let types = has_type w sign a && has_type w sign b in
-        let node = second_of (is_one_to 64 w) (node_well_formed signals w sign (choice p c a b))
+    ways_formed pieces (typed w signed (choice p c a b)) route h formed =
+        let types = has_type w signed a && has_type w signed b in
+        let node = second_of (is_one_to 64 w) (node_well_formed signals w signed (choice p c a b))
         h in
         let front = first_of (types && well_formed signals c && well_formed signals a)
         (well_formed signals b) node in
@@ -244,7 +244,7 @@ module _ (design : FlatDesign) (is_sound : IsTrue (sound design))
         (no_steps signals) route.0 route.1 step
         (from_reversed (route.0).steps step (subst (λ ss. Contains ss step) steps step_at))
 
-    read_seen : (t : ℕ) → Contains (reads_of design q) t → Contains (seen design) t
+    read_seen : (t : ℕ) → Contains (reads_of design q) t → Contains (system_signals design) t
     read_seen t t_at = read_is_seen design is_sound admitted p s at assigned q from t t_at
 
     step_of_design : (step : StepForm) → Contains q.steps step → IsStepOf design step
@@ -275,7 +275,7 @@ module _ (design : FlatDesign) (is_sound : IsTrue (sound design))
     path_is_one = record {
       facts = All-nil (IsExpressionOf design);
       path = contained_all (IsStepOf design) q.steps step_of_design;
-      reads = contained_all (Contains (seen design)) (reads_of design q) read_seen;
+      reads = contained_all (Contains (system_signals design)) (reads_of design q) read_seen;
       ascending = range_ascends (path_names signals q) 0 count;
       goal = (
         in_system design is_sound admitted p s at assigned s below
@@ -311,8 +311,9 @@ module _ (design : FlatDesign) (is_sound : IsTrue (sound design))
       subst (IsQueryOf design) made.2 (record {
         facts = All-nil (IsExpressionOf design);
         path = All-nil (IsStepOf design);
-        reads = All-cons (Contains (seen design)) t [] (selector_is_seen design is_sound admitted s
-            (lt-ltb s count inside_of) t selects) (All-nil (Contains (seen design)));
+        reads = All-cons (Contains (system_signals design)) t []
+            (selector_is_seen design is_sound admitted s
+            (lt-ltb s count inside_of) t selects) (All-nil (Contains (system_signals design)));
         ascending = (All-nil (λ m. t < m), tt);
         goal = (
           selected_is_seen design is_sound admitted s inside_of t selects,
@@ -372,7 +373,7 @@ all_placed design = contained_all IsPlaced (obligations [] design) (λ o o_at. �
 -- ---- what a line names
 
 module _ (design : FlatDesign) where
-  seen_below : (s : ℕ) → Contains (seen design) s → s < length design.signals
+  seen_below : (s : ℕ) → Contains (system_signals design) s → s < length design.signals
   seen_below s at =
       those_below (length design.signals) (λ z. not (is_clock design z)) s at
 
@@ -385,6 +386,6 @@ module _ (design : FlatDesign) where
   pub query_among : (o : Obligation) → IsQueryOf design o → IsAmong (length design.signals) o
   query_among o is = record {
     reads = contained_all (λ s. s < length design.signals) o.reads (λ s at.
-        seen_below s (all_contained (Contains (seen design)) o.reads is.reads s at));
+        seen_below s (all_contained (Contains (system_signals design)) o.reads is.reads s at));
     goal = goal_among o o.goal is.goal;
   }

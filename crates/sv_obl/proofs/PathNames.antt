@@ -21,7 +21,8 @@ use Rattle.sv_flat.proofs.Depths.{first_of, second_of}
 use Rattle.sv_flat.proofs.ReadSignals.{reads_signals}
 use Rattle.sv_obl.specs.Exchange.{name, content}
 use Rattle.sv_obl.specs.Wanted.{with_copies, copy_of, is_copy, original, mark, marked_tree, marked}
-use Rattle.sv_obl.specs.Wanted.{wanted_name, piece_value, with_piece_put, put_value, put, put_in}
+use Rattle.sv_obl.specs.Wanted.{wanted_name, piece_value, with_piece_put, put_value, pieces_put}
+use Rattle.sv_obl.specs.Wanted.{put_in}
 use Rattle.sv_obl.specs.Paths.{StepForm, Path, under, step_with, Way, way_under, ways, covers_name}
 use Rattle.sv_obl.specs.Paths.{name_itself, ways_taken, with_way, path_names, is_taken, open_path}
 use Rattle.sv_obl.specs.Paths.{before}
@@ -88,7 +89,7 @@ module _ (signals : List SignalForm) (in_block : Bool) (s : ℕ) (Served : ℕ �
 
   ways_fine : (right : TypedTree) → Fine right → (way : Way) → Contains (ways right) way →
       StepsFine way.steps × Fine way.right
-  ways_fine (typed w sign (choice p c a b)) fine way at =
+  ways_fine (typed w signed (choice p c a b)) fine way at =
       let front = fine_left (reads both c ++ reads both a) (reads both b) fine in
       let fine_c = fine_left (reads both c) (reads both a) front in
       ⊎_elim
@@ -153,14 +154,15 @@ module _ (signals : List SignalForm) (in_block : Bool) (s : ℕ) (Served : ℕ �
   put_in_fine : (pieces : List PieceForm) (way t : TypedTree) → Fine way → Fine t →
       Fine (put_in signals pieces way t)
   put_in_fine pieces way t fine_way fine_t r at =
-      let from = exchanged_names both both (put signals pieces way) t r.signal (r, at, refl) in
+      let from = exchanged_names both both (pieces_put signals pieces way) t r.signal
+      (r, at, refl) in
       let q = from.0 in
       let named = fine_t q from.1 in
       by_test q named (is_copy signals q.signal)
       (list_any (λ (p : PieceForm). p.signal == original signals q.signal) pieces) refl from.2
     where
       by_test : (q : ReadForm) → NameFine q.signal → (c d : Bool) → is_copy signals q.signal ≡ c
-          → Comes both both (put signals pieces way) r.signal
+          → Comes both both (pieces_put signals pieces way) r.signal
           (cond (c && d) (content (original signals q.signal)
           (put_value signals pieces way (original signals q.signal) q.place)) (name q.signal))
           → NameFine r.signal

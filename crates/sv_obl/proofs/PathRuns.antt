@@ -23,7 +23,7 @@ use Rattle.sv_flat.proofs.LeastSets.{either_way, from_some}
 use Rattle.sv_flat.proofs.Depths.{first_of, second_of}
 use Rattle.sv_obl.specs.Exchange.{name, content}
 use Rattle.sv_obl.specs.Wanted.{with_copies, is_copy, original, mark, marked_tree, wanted_name}
-use Rattle.sv_obl.specs.Wanted.{piece_value, with_piece_put, put_value, put, put_in}
+use Rattle.sv_obl.specs.Wanted.{piece_value, with_piece_put, put_value, pieces_put, put_in}
 use Rattle.sv_obl.specs.Paths.{StepForm, Path, step_with, Way, way_under, ways, covers_name}
 use Rattle.sv_obl.specs.Paths.{name_itself, ways_taken}
 use Rattle.sv_obl.proofs.PathLists.{same_truth, truth_same, both_true, cond_true, cond_false, only}
@@ -218,7 +218,7 @@ module _ (signals : List SignalForm) where
 
   ways_held : (right : TypedTree) → Held right → (way : Way) → Contains (ways right) way →
       HeldSteps way.steps × Held way.right
-  ways_held (typed w sign (choice p c a b)) h way at =
+  ways_held (typed w signed (choice p c a b)) h way at =
       let front = first_of (held_below n c && held_below n a) (held_below n b) h in
       let held_c = first_of (held_below n c) (held_below n a) front in
       ⊎_elim
@@ -280,9 +280,10 @@ module _ (signals : List SignalForm) where
       → ((p : PieceForm) → Contains pieces p → IsTrue (is_signal signals p.signal))
       → Held way → (t : TypedTree) → Held t → Held (put_in signals pieces way t)
   put_in_held pieces right way known h t held_t =
-      exchanged_held both (put signals pieces way) n t held_t (λ r at. below r)
+      exchanged_held both (pieces_put signals pieces way) n t held_t (λ r at. below r)
     where
-      below : (r : ReadForm) → Below both (put signals pieces way) n (put signals pieces way r)
+      below : (r : ReadForm)
+          → Below both (pieces_put signals pieces way) n (pieces_put signals pieces way r)
       below r =
           by_test (is_copy signals r.signal && list_any (λ (p : PieceForm).
           p.signal == original signals r.signal) pieces) refl
@@ -290,7 +291,8 @@ module _ (signals : List SignalForm) where
           by_test : (c : Bool)
               → (is_copy signals r.signal && list_any (λ (p : PieceForm).
               p.signal == original signals r.signal) pieces) ≡ c
-              → Below both (put signals pieces way) n (cond c (content (original signals r.signal)
+              → Below both (pieces_put signals pieces way) n
+              (cond c (content (original signals r.signal)
               (put_value signals pieces way (original signals r.signal) r.place)) (name r.signal))
           by_test true e =
               let s = original signals r.signal in

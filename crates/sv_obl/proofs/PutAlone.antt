@@ -21,7 +21,7 @@ use Rattle.sv_flat.proofs.ReadSignals.{reads_signals}
 use Rattle.sv_obl.specs.Exchange.{Instead, name, content, for_whole, for_bit, for_part}
 use Rattle.sv_obl.proofs.PathLists.{only}
 use Rattle.sv_obl.specs.Wanted.{with_copies, copy_of, is_copy, original, wanted_name, piece_value}
-use Rattle.sv_obl.specs.Wanted.{with_piece_put, put_value, put, put_in, close, closed_tree}
+use Rattle.sv_obl.specs.Wanted.{with_piece_put, put_value, pieces_put, put_in, close, closed_tree}
 use Rattle.sv_obl.specs.Paths.{StepForm, step_with, name_itself, pieces_of, puts_in}
 use Rattle.sv_obl.proofs.PutFacts.{copy_is_copy, original_of_copy, signal_is_settled}
 use Rattle.sv_obl.specs.Routes.{signals_of_reads, names_in}
@@ -86,7 +86,7 @@ module _ (signals : List SignalForm) (s : ℕ) where
 
   pub put_leaves : (pieces : List PieceForm) (right t : TypedTree) → Settled t →
       put_in signals pieces right t ≡ t
-  put_leaves pieces right t settled = exchanged_itself both (put signals pieces right) t
+  put_leaves pieces right t settled = exchanged_itself both (pieces_put signals pieces right) t
       (λ r at. ap (λ b. cond (b && list_any (λ (piece : PieceForm).
       piece.signal == original signals r.signal) pieces)
       (content (original signals r.signal)
@@ -122,21 +122,21 @@ module _ (signals : List SignalForm) (s : ℕ) where
   none_some : (t : ℕ) → None ≡ Some t → ⊥
   none_some t e = cc
 
-  bit_alone : (w : ℕ) (sign : Bool) (i : Instead) (p : Place) (index : TypedTree) →
-      NotAlone (typed w sign (for_bit i p index))
-  bit_alone w sign (name x) p index t is = absurd (none_some t is)
-  bit_alone w sign (content x e) p index t is = absurd (none_some t is)
+  bit_alone : (w : ℕ) (signed : Bool) (i : Instead) (p : Place) (index : TypedTree) →
+      NotAlone (typed w signed (for_bit i p index))
+  bit_alone w signed (name x) p index t is = absurd (none_some t is)
+  bit_alone w signed (content x e) p index t is = absurd (none_some t is)
 
-  part_alone : (w : ℕ) (sign : Bool) (i : Instead) (p : Place) (high low : ℕ) →
-      NotAlone (typed w sign (for_part i p high low))
-  part_alone w sign (name x) p high low t is = absurd (none_some t is)
-  part_alone w sign (content x e) p high low t is = absurd (none_some t is)
+  part_alone : (w : ℕ) (signed : Bool) (i : Instead) (p : Place) (high low : ℕ) →
+      NotAlone (typed w signed (for_part i p high low))
+  part_alone w signed (name x) p high low t is = absurd (none_some t is)
+  part_alone w signed (content x e) p high low t is = absurd (none_some t is)
 
   settled_alone : (e : TypedTree) → Settled e → NotAlone e
-  settled_alone (typed w sign (read x p)) settled t is =
+  settled_alone (typed w signed (read x p)) settled t is =
       subst (λ k. IsFalse (is_copy signals k)) (some_same x t is)
       (settled (whole_read both x p) (Contains-head (whole_read both x p) []))
-  settled_alone (typed w sign (held x e)) settled t is = settled_alone e settled t is
+  settled_alone (typed w signed (held x e)) settled t is = settled_alone e settled t is
   settled_alone e settled t is = absurd (none_some t is)
 
   pub value_alone : (way : TypedTree) → Settled way → (piece : PieceForm) →
@@ -176,7 +176,7 @@ module _ (signals : List SignalForm) (s : ℕ) where
   put_there : (pieces : List PieceForm) (way : TypedTree)
       → IsTrue (some_piece signals both way s pieces)
       → (r : ReadForm) → r.signal ≡ copy_of signals s
-      → put signals pieces way r ≡ content s (put_value signals pieces way s r.place)
+      → pieces_put signals pieces way r ≡ content s (put_value signals pieces way s r.place)
   put_there pieces way some r is =
       ap (λ x. cond (is_copy signals x && list_any (λ (piece : PieceForm).
       piece.signal == original signals x) pieces)
@@ -192,31 +192,31 @@ module _ (signals : List SignalForm) (s : ℕ) where
   pub put_alone : (pieces : List PieceForm) (way : TypedTree) → Settled way
       → IsTrue (some_piece signals both way s pieces)
       → (e : TypedTree) → MayBe e → NotAlone (put_in signals pieces way e)
-  put_alone pieces way settled some (typed w sign (read x p)) may =
+  put_alone pieces way settled some (typed w signed (read x p)) may =
       ⊎_elim settled_case copy_case (may x refl)
     where
       r : ReadForm
       r = whole_read both x p
 
       settled_case : IsFalse (is_copy signals x)
-          → NotAlone (put_in signals pieces way (typed w sign (read x p)))
+          → NotAlone (put_in signals pieces way (typed w signed (read x p)))
       settled_case h = subst NotAlone
-          (sym (put_leaves pieces way (typed w sign (read x p))
+          (sym (put_leaves pieces way (typed w signed (read x p))
           (λ z at. subst (λ (y : ReadForm). IsFalse (is_copy signals y.signal)) (only r z at) h)))
           (λ t is. subst (λ k. IsFalse (is_copy signals k)) (some_same x t is) h)
 
       copy_case : x ≡ copy_of signals s
-          → NotAlone (put_in signals pieces way (typed w sign (read x p)))
-      copy_case h = subst (λ (i : Instead). NotAlone (typed w sign (for_whole i p)))
+          → NotAlone (put_in signals pieces way (typed w signed (read x p)))
+      copy_case h = subst (λ (i : Instead). NotAlone (typed w signed (for_whole i p)))
           (sym (put_there pieces way some r h))
           (all_alone way settled pieces (wanted_name signals s p) (inl some))
-  put_alone pieces way settled some (typed w sign (held x e)) may =
+  put_alone pieces way settled some (typed w signed (held x e)) may =
       put_alone pieces way settled some e may
-  put_alone pieces way settled some (typed w sign (read_bit x p i)) may =
-      bit_alone w sign (put signals pieces way (indexed_read both x p i)) p
+  put_alone pieces way settled some (typed w signed (read_bit x p i)) may =
+      bit_alone w signed (pieces_put signals pieces way (indexed_read both x p i)) p
       (put_in signals pieces way i)
-  put_alone pieces way settled some (typed w sign (read_part x p high low)) may =
-      part_alone w sign (put signals pieces way (record {
+  put_alone pieces way settled some (typed w signed (read_part x p high low)) may =
+      part_alone w signed (pieces_put signals pieces way (record {
         signal = x;
         place = p;
         high = high;
@@ -240,7 +240,7 @@ module _ (signals : List SignalForm) (s : ℕ) where
         (fold (piece_names signals both way (original signals x))
         (copy_of signals (original signals x) ∷ []) pieces) (x ∷ [])
 
-    put_is : (r : ReadForm) → stands both (put signals pieces way r) ≡ put_names r.signal
+    put_is : (r : ReadForm) → stands both (pieces_put signals pieces way r) ≡ put_names r.signal
     put_is r = by_test (is_copy signals r.signal && some_of (original signals r.signal))
       where
         by_test : (c : Bool)
@@ -276,8 +276,9 @@ module _ (signals : List SignalForm) (s : ℕ) where
         → names_in both (put_in signals pieces way e)
         ≡ fold (piece_names signals both way s) (copy_of signals s ∷ []) pieces ++ rest
     names_put e rest some are settled =
-        exchanged_in both both (put signals pieces way) e
-        ∙ by_signals (λ r. stands both (put signals pieces way r)) put_names put_is (reads both e)
+        exchanged_in both both (pieces_put signals pieces way) e
+        ∙ by_signals (λ r. stands both (pieces_put signals pieces way r)) put_names put_is
+        (reads both e)
         ∙ ap (flat_map put_names) are
         ∙ ap₂ (λ a b. a ++ b) (target_put some) (settled_put rest settled)
 

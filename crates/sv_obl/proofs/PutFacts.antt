@@ -30,7 +30,7 @@ use Rattle.sv_flat.proofs.ReplacedBits.{replaced_below}
 use Rattle.sv_flat.proofs.SameRuns.{or_none_left, or_none_right, piece_lies_inside}
 use Rattle.sv_obl.specs.Exchange.{Instead, name, content}
 use Rattle.sv_obl.specs.Wanted.{with_copies, copy_of, is_copy, original, wanted_name, piece_value}
-use Rattle.sv_obl.specs.Wanted.{with_piece_put, put_value, put, put_in}
+use Rattle.sv_obl.specs.Wanted.{with_piece_put, put_value, pieces_put, put_in}
 use Rattle.sv_obl.specs.Paths.{pieces_of}
 use Rattle.sv_obl.proofs.PathLists.{same_truth, cond_true, cond_false, none_kept}
 use Rattle.sv_obl.proofs.TreeFacts.{held_below, exchanged_value, Good}
@@ -64,10 +64,10 @@ at_target false p s y g f is = refl
 -- ---- numbers
 
 -- a value at its own length is itself, cut
-pub extended_same : (sign : Bool) (w x : ℕ) → extended sign w w x ≡ x % 2 ^ w
-extended_same sign w x =
-    let (k, _, e) = as_shift (is_negative w sign x) w x in
-    reduced_is w (number_at w (is_negative w sign x) x) k x e
+pub extended_same : (signed : Bool) (w x : ℕ) → extended signed w w x ≡ x % 2 ^ w
+extended_same signed w x =
+    let (k, _, e) = as_shift (is_negative w signed x) w x in
+    reduced_is w (number_at w (is_negative w signed x) x) k x e
 
 mod_twice : (x w : ℕ) → x % 2 ^ w % 2 ^ w ≡ x % 2 ^ w
 mod_twice x w = mod-eq_of_lt (mod-lt x (pow_pos w))
@@ -330,13 +330,13 @@ module _ (signals : List SignalForm) where
               (mend s old_tree p.high p.low (piece_value right p))) % 2 ^ w
               ≡ with_piece signals p v old % 2 ^ w
           part =
-              let sign = (signal_of signals s).signed in
+              let signed = (signal_of signals s).signed in
               let x = value both E old_tree in
               let y = value both E (piece_value right p) in
               let lies_here = subst (λ k. p.high < signal_width signals k) is lies.1 in
-              ap (λ k. extended sign k w (replaced_bits k p.high p.low x y) % 2 ^ w)
+              ap (λ k. extended signed k w (replaced_bits k p.high p.low x y) % 2 ^ w)
               (width_settled s inside)
-              ∙ ap (λ k. k % 2 ^ w) (extended_same sign w (replaced_bits w p.high p.low x y))
+              ∙ ap (λ k. k % 2 ^ w) (extended_same signed w (replaced_bits w p.high p.low x y))
               ∙ mod_twice (replaced_bits w p.high p.low x y) w
               ∙ ap (λ k. k % 2 ^ w) (replaced_same w p.high p.low x old y (v / 2 ^ p.from)
               (let a = lies.0 in let b = lies_here in omega arith) same (piece_gives p lies.0))
@@ -382,9 +382,9 @@ module _ (signals : List SignalForm) where
       wanted_gives : (place : Place) (old : ℕ) → E (copy_of signals s) ≡ old →
           value both E (wanted_name signals s place) % 2 ^ w ≡ old % 2 ^ w
       wanted_gives place old is =
-          let sign = (signal_of signals s).signed in
-          ap (λ k. extended sign k w (E (copy_of signals s)) % 2 ^ w) (width_copy s)
-          ∙ ap (λ k. k % 2 ^ w) (extended_same sign w (E (copy_of signals s)))
+          let signed = (signal_of signals s).signed in
+          ap (λ k. extended signed k w (E (copy_of signals s)) % 2 ^ w) (width_copy s)
+          ∙ ap (λ k. k % 2 ^ w) (extended_same signed w (E (copy_of signals s)))
           ∙ mod_twice (E (copy_of signals s)) w
           ∙ ap (λ k. k % 2 ^ w) is
 
@@ -444,7 +444,8 @@ module _ (signals : List SignalForm) where
       on piece = piece.signal == s
 
       abbrev GoodFor : Instead → Type 0
-      GoodFor i = Good both both (put signals pieces way) E F (length signals) (λ k low. refl) r i
+      GoodFor i =
+          Good both both (pieces_put signals pieces way) E F (length signals) (λ k low. refl) r i
 
       copied : IsTrue (is_copy signals t) → IsTrue (list_any on pieces) →
           GoodFor (content s (put_value signals pieces way s r.place))
@@ -489,7 +490,7 @@ module _ (signals : List SignalForm) where
       by_test true copy false none = untouched copy none
       by_test false no_copy d e = settled no_copy
 
-      put_good : GoodFor (put signals pieces way r)
+      put_good : GoodFor (pieces_put signals pieces way r)
       put_good = by_test (is_copy signals t) refl (list_any on pieces) refl
 
     -- with the assignment put in, an expression has the value that it has after the run
@@ -497,5 +498,5 @@ module _ (signals : List SignalForm) where
         → value both (beside z (running b now)) (put_in signals pieces way t) ≡
         value both (beside z (running b later)) t
     put_same t held =
-        exchanged_value both both (put signals pieces way) E F (length signals) (λ s low.
+        exchanged_value both both (pieces_put signals pieces way) E F (length signals) (λ s low.
         refl) t held (λ r at. put_good r)

@@ -64,7 +64,7 @@ module _ (A B : List SignalForm) (instead : ReadForm → Instead) where
   mutual
     -- the names in the expression are those in what stands for the names that were in it
     pub exchanged_in : (t : TypedTree) → names_in B (exchanged A instead t) ≡ stand_for (reads A t)
-    exchanged_in (typed w sign node) = exchanged_in_node node
+    exchanged_in (typed w signed node) = exchanged_in_node node
 
     exchanged_in_node : (node : NodeTree) →
         signals_of_reads (node_reads B (exchanged_node A instead node))

@@ -379,21 +379,21 @@ module _ (signals : List SignalForm) (s : ℕ) (inside : s < length signals) whe
 
   -- ---- right sides
 
-  choice_condition : (w : ℕ) (sign : Bool) (place : Place) (c a b : TypedTree)
-      → Settled signals s (typed w sign (choice place c a b)) → Settled signals s c
-  choice_condition w sign place c a b settled r at =
+  choice_condition : (w : ℕ) (signed : Bool) (place : Place) (c a b : TypedTree)
+      → Settled signals s (typed w signed (choice place c a b)) → Settled signals s c
+  choice_condition w signed place c a b settled r at =
       settled r (Contains-left (reads both c ++ reads both a) (reads both b) r
       (Contains-left (reads both c) (reads both a) r at))
 
-  choice_first : (w : ℕ) (sign : Bool) (place : Place) (c a b : TypedTree)
-      → Settled signals s (typed w sign (choice place c a b)) → Settled signals s a
-  choice_first w sign place c a b settled r at =
+  choice_first : (w : ℕ) (signed : Bool) (place : Place) (c a b : TypedTree)
+      → Settled signals s (typed w signed (choice place c a b)) → Settled signals s a
+  choice_first w signed place c a b settled r at =
       settled r (Contains-left (reads both c ++ reads both a) (reads both b) r
       (Contains-right (reads both c) (reads both a) r at))
 
-  choice_second : (w : ℕ) (sign : Bool) (place : Place) (c a b : TypedTree)
-      → Settled signals s (typed w sign (choice place c a b)) → Settled signals s b
-  choice_second w sign place c a b settled r at =
+  choice_second : (w : ℕ) (signed : Bool) (place : Place) (c a b : TypedTree)
+      → Settled signals s (typed w signed (choice place c a b)) → Settled signals s b
+  choice_second w signed place c a b settled r at =
       settled r (Contains-right (reads both c ++ reads both a) (reads both b) r at)
 
   module _ (pieces : List PieceForm) (right : TypedTree) (settled_right : Settled signals s right)
@@ -424,15 +424,16 @@ module _ (signals : List SignalForm) (s : ℕ) (inside : s < length signals) whe
     ways_match : IsTrue (is_all signals s pieces r) → (e : TypedTree) → Settled signals s e
         → AllMatch (map (with_way signals s pieces right p) (ways e))
         (with_ways signals s pieces e r)
-    ways_match all (typed w sign (choice place c a b)) settled =
-        let c_settled = choice_condition w sign place c a b settled in
+    ways_match all (typed w signed (choice place c a b)) settled =
+        let c_settled = choice_condition w signed place c a b settled in
         let yes = ways_under (step_of place c true) c_settled (ways a)
         (with_ways signals s pieces a r)
-        (ways_match all a (choice_first w sign place c a b settled)) in
+        (ways_match all a (choice_first w signed place c a b settled)) in
         let no = ways_under (step_of place c false) c_settled (ways b)
         (with_ways signals s pieces b r)
-        (ways_match all b (choice_second w sign place c a b settled)) in
-        subst (λ ps. AllMatch ps (with_ways signals s pieces (typed w sign (choice place c a b)) r))
+        (ways_match all b (choice_second w signed place c a b settled)) in
+        subst
+        (λ ps. AllMatch ps (with_ways signals s pieces (typed w signed (choice place c a b)) r))
         (sym (map-append (with_way signals s pieces right p)
         (map (way_under (step_of place c true)) (ways a))
         (map (way_under (step_of place c false)) (ways b))))

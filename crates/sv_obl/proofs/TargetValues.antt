@@ -525,11 +525,11 @@ module _ (design : FlatDesign) (is_sound : IsTrue (sound design))
         ≡ running b last s % 2 ^ signal_width design.signals s
     target_after =
         let w = signal_width design.signals s in
-        let sign = (signal_of design.signals s).signed in
+        let signed = (signal_of design.signals s).signed in
         let copy = copy_of design.signals s in
         let env = here design.signals (is_block p.kind) b s e last in
-        ap (λ k. extended sign k w (env copy)) (width_copy design.signals s)
-        ∙ extended_same sign w (env copy)
+        ap (λ k. extended signed k w (env copy)) (width_copy design.signals s)
+        ∙ extended_same signed w (env copy)
         ∙ ap (λ k. k % 2 ^ w)
         (cond_true (is_copy design.signals copy) (running b last (original design.signals copy))
         (e copy) (copy_is_copy design.signals s)

@@ -30,7 +30,7 @@ use Rattle.sv_obl.proofs.PathLists.{both_true}
 
 abbrev mutual
   pub held_below : ℕ → TypedTree → Bool
-  held_below n (typed w sign node) = node_held_below n node
+  held_below n (typed w signed node) = node_held_below n node
 
   pub node_held_below : ℕ → NodeTree → Bool
   node_held_below n (constant k) = true
@@ -60,28 +60,28 @@ module _ (signals : List SignalForm) where
   mutual
     pub well_held : (t : TypedTree) → IsTrue (well_formed signals t) →
         IsTrue (held_below (length signals) t)
-    well_held (typed w sign node) h =
-        node_well_held node w sign
-        (second_of (is_one_to 64 w) (node_well_formed signals w sign node) h)
+    well_held (typed w signed node) h =
+        node_well_held node w signed
+        (second_of (is_one_to 64 w) (node_well_formed signals w signed node) h)
 
-    node_well_held : (node : NodeTree) (w : ℕ) (sign : Bool)
-        → IsTrue (node_well_formed signals w sign node)
+    node_well_held : (node : NodeTree) (w : ℕ) (signed : Bool)
+        → IsTrue (node_well_formed signals w signed node)
         → IsTrue (node_held_below (length signals) node)
-    node_well_held (constant k) w sign h = refl
-    node_well_held (read s p) w sign h = refl
-    node_well_held (read_bit s p i) w sign h =
+    node_well_held (constant k) w signed h = refl
+    node_well_held (read s p) w signed h = refl
+    node_well_held (read_bit s p i) w signed h =
         well_held i (second_of (is_signal signals s) (well_formed signals i) h)
-    node_well_held (read_part s p high low) w sign h = refl
-    node_well_held (unary op a) w sign h =
-        well_held a (second_of (unary_typed op w sign a) (well_formed signals a) h)
-    node_well_held (binary op a b) w sign h =
-        let kind = not (is_division op) && binary_typed (class_of op) w sign a b in
+    node_well_held (read_part s p high low) w signed h = refl
+    node_well_held (unary op a) w signed h =
+        well_held a (second_of (unary_typed op w signed a) (well_formed signals a) h)
+    node_well_held (binary op a b) w signed h =
+        let kind = not (is_division op) && binary_typed (class_of op) w signed a b in
         both_true (held_below n_of a) (held_below n_of b)
         (well_held a (second_of kind (well_formed signals a)
         (first_of (kind && well_formed signals a) (well_formed signals b) h)))
         (well_held b (second_of (kind && well_formed signals a) (well_formed signals b) h))
-    node_well_held (choice p c a b) w sign h =
-        let types = has_type w sign a && has_type w sign b in
+    node_well_held (choice p c a b) w signed h =
+        let types = has_type w signed a && has_type w signed b in
         let front = first_of (types && well_formed signals c && well_formed signals a)
         (well_formed signals b) h in
         both_true (held_below n_of c && held_below n_of a) (held_below n_of b)
@@ -91,19 +91,19 @@ module _ (signals : List SignalForm) where
         (well_held a (second_of (types && well_formed signals c) (well_formed signals a) front)))
         (well_held b (second_of (types && well_formed signals c && well_formed signals a)
         (well_formed signals b) h))
-    node_well_held (join es) w sign h =
+    node_well_held (join es) w signed h =
         parts_well_held es (second_of (nat_le (parts_width es) w) (parts_well_formed signals es) h)
-    node_well_held (replication count es) w sign h =
+    node_well_held (replication count es) w signed h =
         parts_well_held es (second_of (is_one_to 64 count && nat_le (count * parts_width es) w)
         (parts_well_formed signals es) h)
-    node_well_held (held s e) w sign h =
+    node_well_held (held s e) w signed h =
         both_true (nat_lt s n_of) (held_below n_of e)
         (first_of (is_signal signals s) (nat_le (signal_width signals s) w)
         (first_of (is_signal signals s && nat_le (signal_width signals s) w)
         (well_formed signals e) h))
         (well_held e (second_of (is_signal signals s && nat_le (signal_width signals s) w)
         (well_formed signals e) h))
-    node_well_held (held_bit s p e i) w sign h =
+    node_well_held (held_bit s p e i) w signed h =
         let front = first_of (is_signal signals s && well_formed signals e)
         (well_formed signals i) h in
         both_true (nat_lt s n_of && held_below n_of e) (held_below n_of i)
@@ -112,13 +112,13 @@ module _ (signals : List SignalForm) where
         (well_held e (second_of (is_signal signals s) (well_formed signals e) front)))
         (well_held i (second_of (is_signal signals s && well_formed signals e)
         (well_formed signals i) h))
-    node_well_held (held_part s p e high low) w sign h =
+    node_well_held (held_part s p e high low) w signed h =
         let part = is_part_of (signal_width signals s) w high low in
         both_true (nat_lt s n_of) (held_below n_of e)
         (first_of (is_signal signals s) part
         (first_of (is_signal signals s && part) (well_formed signals e) h))
         (well_held e (second_of (is_signal signals s && part) (well_formed signals e) h))
-    node_well_held (mend s e high low piece) w sign h =
+    node_well_held (mend s e high low piece) w signed h =
         let part = is_part_of (signal_width signals s) (expression_width piece) high low in
         let shape = is_signal signals s && nat_le (signal_width signals s) w && part in
         let front = first_of (shape && well_formed signals e) (well_formed signals piece) h in
@@ -129,7 +129,7 @@ module _ (signals : List SignalForm) where
         (first_of shape (well_formed signals e) front)))
         (well_held e (second_of shape (well_formed signals e) front)))
         (well_held piece (second_of (shape && well_formed signals e) (well_formed signals piece) h))
-    node_well_held (slice e high low) w sign h =
+    node_well_held (slice e high low) w signed h =
         well_held e (second_of (is_part_of (expression_width e) w high low)
         (well_formed signals e) h)
 
@@ -174,7 +174,7 @@ module _ (A : List SignalForm) (instead : ReadForm → Instead) (n : ℕ) where
   mutual
     pub exchanged_held : (t : TypedTree) → IsTrue (held_below n t) → AllBelow (reads A t) →
         IsTrue (held_below n (exchanged A instead t))
-    exchanged_held (typed w sign node) h below = node_exchanged_held node h below
+    exchanged_held (typed w signed node) h below = node_exchanged_held node h below
 
     node_exchanged_held : (node : NodeTree) → IsTrue (node_held_below n node)
         → AllBelow (node_reads A node)
@@ -256,7 +256,7 @@ module _ (A : List SignalForm) (instead : ReadForm → Instead) (n : ℕ) where
 
 cut_is : (B : List SignalForm) (E : Environment ℕ) (s : ℕ) (t : TypedTree) →
     cut_value B E s t ≡ value B E t % 2 ^ signal_width B s
-cut_is B E s (typed w sign node) = refl
+cut_is B E s (typed w signed node) = refl
 
 chosen_same : (c d a b x y : ℕ) → c ≡ d → a ≡ b → x ≡ y →
     cond (is_true c) a x ≡ cond (is_true d) b y
@@ -284,37 +284,37 @@ module _ (A B : List SignalForm) (instead : ReadForm → Instead) (E F : Environ
   good_right : (xs ys : List ReadForm) → AllGood (xs ++ ys) → AllGood ys
   good_right xs ys good r at = good r (Contains-right xs ys r at)
 
-  whole_value : (i : Instead) (r : ReadForm) (w : ℕ) (sign : Bool) (p : Place) → Good r i
-      → node_value B E w sign (for_whole i p) ≡
-      extended sign (signal_width A r.signal) w (F r.signal)
-  whole_value (name t) r w sign p good = ap₂ (λ k x. extended sign k w x) good.0 good.1
-  whole_value (content s e) r w sign p good =
-      ap₂ (λ k x. extended sign k w x) good.0 (cut_is B E s e ∙ good.1)
+  whole_value : (i : Instead) (r : ReadForm) (w : ℕ) (signed : Bool) (p : Place) → Good r i
+      → node_value B E w signed (for_whole i p) ≡
+      extended signed (signal_width A r.signal) w (F r.signal)
+  whole_value (name t) r w signed p good = ap₂ (λ k x. extended signed k w x) good.0 good.1
+  whole_value (content s e) r w signed p good =
+      ap₂ (λ k x. extended signed k w x) good.0 (cut_is B E s e ∙ good.1)
 
-  bit_value : (i : Instead) (r : ReadForm) (w : ℕ) (sign : Bool) (p : Place) (index : TypedTree)
+  bit_value : (i : Instead) (r : ReadForm) (w : ℕ) (signed : Bool) (p : Place) (index : TypedTree)
       (j : ℤ) → Good r i
       → number_of B E index ≡ j
-      → node_value B E w sign (for_bit i p index) ≡
+      → node_value B E w signed (for_bit i p index) ≡
       bit_or_zero (signal_width A r.signal) (F r.signal) j
-  bit_value (name t) r w sign p index j good same =
+  bit_value (name t) r w signed p index j good same =
       ap (λ k. bit_or_zero k (E t) (number_of B E index)) good.0
       ∙ bit_same_index (signal_width A r.signal) (E t) (F r.signal) (number_of B E index) j
       good.1 same
-  bit_value (content s e) r w sign p index j good same =
+  bit_value (content s e) r w signed p index j good same =
       ap (λ k. bit_or_zero k (cut_value B E s e) (number_of B E index)) good.0
       ∙ bit_same_index (signal_width A r.signal) (cut_value B E s e) (F r.signal)
       (number_of B E index) j (cut_is B E s e ∙ good.1) same
 
-  part_value : (i : Instead) (r : ReadForm) (w : ℕ) (sign : Bool) (p : Place) (high low : ℕ)
+  part_value : (i : Instead) (r : ReadForm) (w : ℕ) (signed : Bool) (p : Place) (high low : ℕ)
       → Good r i
-      → node_value B E w sign (for_part i p high low) ≡ bits_between high low (F r.signal)
-  part_value (name t) r w sign p high low good = ap (bits_between high low) good.1
-  part_value (content s e) r w sign p high low good =
+      → node_value B E w signed (for_part i p high low) ≡ bits_between high low (F r.signal)
+  part_value (name t) r w signed p high low good = ap (bits_between high low) good.1
+  part_value (content s e) r w signed p high low good =
       ap (bits_between high low) (cut_is B E s e ∙ good.1)
 
   parts_same_width : (es : TypedTrees) → parts_width (exchanged_parts A instead es) ≡ parts_width es
   parts_same_width no_parts = refl
-  parts_same_width (more_parts (typed w sign node) es) = ap (λ k. w + k) (parts_same_width es)
+  parts_same_width (more_parts (typed w signed node) es) = ap (λ k. w + k) (parts_same_width es)
 
   width_at : (s : ℕ) → IsTrue (nat_lt s n) → signal_width B s ≡ signal_width A s
   width_at s h = widths s (ltb-true s n h)
@@ -330,34 +330,36 @@ module _ (A B : List SignalForm) (instead : ReadForm → Instead) (E F : Environ
     -- the expression has the value that it had
     pub exchanged_value : (t : TypedTree) → IsTrue (held_below n t) → AllGood (reads A t) →
         value B E (exchanged A instead t) ≡ value A F t
-    exchanged_value (typed w sign node) h good = exchanged_node_value node w sign h good
+    exchanged_value (typed w signed node) h good = exchanged_node_value node w signed h good
 
-    exchanged_node_value : (node : NodeTree) (w : ℕ) (sign : Bool) → IsTrue (node_held_below n node)
+    exchanged_node_value : (node : NodeTree) (w : ℕ) (signed : Bool)
+        → IsTrue (node_held_below n node)
         → AllGood (node_reads A node)
-        → node_value B E w sign (exchanged_node A instead node) ≡ node_value A F w sign node
-    exchanged_node_value (constant k) w sign h good = refl
-    exchanged_node_value (read s p) w sign h good =
-        let r = whole_read A s p in whole_value (instead r) r w sign p (good r (Contains-head r []))
-    exchanged_node_value (read_bit s p i) w sign h good =
+        → node_value B E w signed (exchanged_node A instead node) ≡ node_value A F w signed node
+    exchanged_node_value (constant k) w signed h good = refl
+    exchanged_node_value (read s p) w signed h good =
+        let r = whole_read A s p in
+        whole_value (instead r) r w signed p (good r (Contains-head r []))
+    exchanged_node_value (read_bit s p i) w signed h good =
         let r = indexed_read A s p i in
         let is = index_signal (is_constant i) s p (number_of A (λ t. 0) i) in
-        subst (λ k. node_value B E w sign (for_bit (instead r) p (exchanged A instead i)) ≡
+        subst (λ k. node_value B E w signed (for_bit (instead r) p (exchanged A instead i)) ≡
         bit_or_zero (signal_width A k) (F k) (number_of A F i)) is
-        (bit_value (instead r) r w sign p (exchanged A instead i) (number_of A F i)
+        (bit_value (instead r) r w signed p (exchanged A instead i) (number_of A F i)
         (good r (Contains-head r (reads A i)))
         (exchanged_number i h (λ z at. good z (Contains-later r (reads A i) z at))))
-    exchanged_node_value (read_part s p high low) w sign h good =
+    exchanged_node_value (read_part s p high low) w signed h good =
         let r : ReadForm = record { signal = s; place = p; high = high; low = low } in
-        part_value (instead r) r w sign p high low (good r (Contains-head r []))
-    exchanged_node_value (unary op (typed v q m)) w sign h good =
+        part_value (instead r) r w signed p high low (good r (Contains-head r []))
+    exchanged_node_value (unary op (typed v q m)) w signed h good =
         ap (unary_value op v q) (exchanged_node_value m v q h good)
-    exchanged_node_value (binary op (typed v q l) (typed u o m)) w sign h good =
+    exchanged_node_value (binary op (typed v q l) (typed u o m)) w signed h good =
         ap₂ (binary_value op v q)
         (exchanged_node_value l v q (first_of (node_held_below n l) (node_held_below n m) h)
         (good_left (node_reads A l) (node_reads A m) good))
         (exchanged_node_value m u o (second_of (node_held_below n l) (node_held_below n m) h)
         (good_right (node_reads A l) (node_reads A m) good))
-    exchanged_node_value (choice p c a b) w sign h good =
+    exchanged_node_value (choice p c a b) w signed h good =
         let front = first_of (held_below n c && held_below n a) (held_below n b) h in
         let both = good_left (reads A c ++ reads A a) (reads A b) good in
         chosen_same (value B E (exchanged A instead c)) (value A F c)
@@ -369,14 +371,14 @@ module _ (A B : List SignalForm) (instead : ReadForm → Instead) (E F : Environ
         (good_right (reads A c) (reads A a) both))
         (exchanged_value b (second_of (held_below n c && held_below n a) (held_below n b) h)
         (good_right (reads A c ++ reads A a) (reads A b) good))
-    exchanged_node_value (join es) w sign h good = exchanged_joined es h good
-    exchanged_node_value (replication count es) w sign h good =
+    exchanged_node_value (join es) w signed h good = exchanged_joined es h good
+    exchanged_node_value (replication count es) w signed h good =
         ap₂ (repeated count) (parts_same_width es) (exchanged_joined es h good)
-    exchanged_node_value (held s e) w sign h good =
-        ap₂ (λ k x. extended sign k w x) (width_at s (first_of (nat_lt s n) (held_below n e) h))
+    exchanged_node_value (held s e) w signed h good =
+        ap₂ (λ k x. extended signed k w x) (width_at s (first_of (nat_lt s n) (held_below n e) h))
         (exchanged_cut e s (first_of (nat_lt s n) (held_below n e) h)
         (second_of (nat_lt s n) (held_below n e) h) good)
-    exchanged_node_value (held_bit s p e i) w sign h good =
+    exchanged_node_value (held_bit s p e i) w signed h good =
         let front = first_of (nat_lt s n && held_below n e) (held_below n i) h in
         let known = first_of (nat_lt s n) (held_below n e) front in
         ap (λ k. bit_or_zero k (cut_value B E s (exchanged A instead e))
@@ -386,22 +388,22 @@ module _ (A B : List SignalForm) (instead : ReadForm → Instead) (E F : Environ
         (good_left (reads A e) (reads A i) good))
         (exchanged_number i (second_of (nat_lt s n && held_below n e) (held_below n i) h)
         (good_right (reads A e) (reads A i) good))
-    exchanged_node_value (held_part s p e high low) w sign h good =
+    exchanged_node_value (held_part s p e high low) w signed h good =
         ap (bits_between high low)
         (exchanged_cut e s (first_of (nat_lt s n) (held_below n e) h)
         (second_of (nat_lt s n) (held_below n e) h) good)
-    exchanged_node_value (mend s e high low piece) w sign h good =
+    exchanged_node_value (mend s e high low piece) w signed h good =
         let front = first_of (nat_lt s n && held_below n e) (held_below n piece) h in
         let known = width_at s (first_of (nat_lt s n) (held_below n e) front) in
-        ap (λ k. extended sign k w
+        ap (λ k. extended signed k w
         (replaced_bits k high low (value B E (exchanged A instead e))
         (value B E (exchanged A instead piece)))) known
-        ∙ ap (extended sign (signal_width A s) w) (ap₂ (replaced_bits (signal_width A s) high low)
+        ∙ ap (extended signed (signal_width A s) w) (ap₂ (replaced_bits (signal_width A s) high low)
         (exchanged_value e (second_of (nat_lt s n) (held_below n e) front)
         (good_left (reads A e) (reads A piece) good))
         (exchanged_value piece (second_of (nat_lt s n && held_below n e) (held_below n piece) h)
         (good_right (reads A e) (reads A piece) good)))
-    exchanged_node_value (slice e high low) w sign h good =
+    exchanged_node_value (slice e high low) w signed h good =
         ap (bits_between high low) (exchanged_value e h good)
 
     exchanged_joined : (es : TypedTrees) → IsTrue (parts_held_below n es)
@@ -419,14 +421,14 @@ module _ (A B : List SignalForm) (instead : ReadForm → Instead) (E F : Environ
 
     exchanged_number : (t : TypedTree) → IsTrue (held_below n t) → AllGood (reads A t)
         → number_of B E (exchanged A instead t) ≡ number_of A F t
-    exchanged_number (typed w sign node) h good =
-        ap (as_number w sign) (exchanged_node_value node w sign h good)
+    exchanged_number (typed w signed node) h good =
+        ap (as_number w signed) (exchanged_node_value node w signed h good)
 
     exchanged_cut : (t : TypedTree) (s : ℕ) → IsTrue (nat_lt s n) → IsTrue (held_below n t)
         → AllGood (reads A t)
         → cut_value B E s (exchanged A instead t) ≡ cut_value A F s t
-    exchanged_cut (typed w sign node) s known h good =
-        ap₂ (λ x k. x % 2 ^ k) (exchanged_node_value node w sign h good) (width_at s known)
+    exchanged_cut (typed w signed node) s known h good =
+        ap₂ (λ x k. x % 2 ^ k) (exchanged_node_value node w signed h good) (width_at s known)
 
 -- ---- names
 
@@ -500,7 +502,7 @@ module _ (A B : List SignalForm) (instead : ReadForm → Instead) where
     -- the names in the expression come from what stands for the names that were in it
     pub exchanged_names : (t : TypedTree) (x : ℕ) → NamesIn (reads B (exchanged A instead t)) x →
         From (reads A t) x
-    exchanged_names (typed w sign node) x named = exchanged_node_names node x named
+    exchanged_names (typed w signed node) x named = exchanged_node_names node x named
 
     exchanged_node_names : (node : NodeTree) (x : ℕ) →
         NamesIn (node_reads B (exchanged_node A instead node)) x → From (node_reads A node) x

@@ -31,7 +31,8 @@ module _ (A : List SignalForm) (instead : ReadForm → Instead) where
 
   mutual
     pub exchanged_itself : (t : TypedTree) → AllThemselves (reads A t) → exchanged A instead t ≡ t
-    exchanged_itself (typed w sign node) same = ap (typed w sign) (exchanged_node_itself node same)
+    exchanged_itself (typed w signed node) same =
+        ap (typed w signed) (exchanged_node_itself node same)
 
     exchanged_node_itself : (node : NodeTree) → AllThemselves (node_reads A node) →
         exchanged_node A instead node ≡ node

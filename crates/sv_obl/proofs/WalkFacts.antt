@@ -48,7 +48,7 @@ module _ (signals : List SignalForm) (s : ℕ) where
 
   some_ways : (pieces : List PieceForm) (right : TypedTree) (route : Route) →
       1 ≤ length (with_ways signals s pieces right route)
-  some_ways pieces (typed w sign (choice place c a b)) route =
+  some_ways pieces (typed w signed (choice place c a b)) route =
       some_both _ _ (with_ways signals s pieces a route) (with_ways signals s pieces b route)
       (some_ways pieces a route)
   some_ways pieces right route = omega arith

@@ -6,7 +6,7 @@ use Rattle.sv_flat.specs.Values.{signal_of}
 use Rattle.sv_flat.specs.Soundness.{well_formed}
 use Rattle.sv_flat.specs.Readings.{names_signal}
 use Rattle.sv_flat.specs.Reads.{is_combinational}
-use Rattle.sv_flat.specs.SignalLists.{seen, registers}
+use Rattle.sv_flat.specs.SignalLists.{system_signals, registers}
 use Rattle.sv_obl.specs.declared.frames.Frame.{Frame}
 use Rattle.sv_obl.specs.declared.frames.Frame.TheVariants.{Now, Next}
 use Rattle.sv_obl.specs.Paths.{StepForm}
@@ -20,7 +20,8 @@ Ascends (n ∷ ns) = All (λ m. n < m) ns × Ascends ns
 -- the expression is well formed, and names signals alone that are no clocks
 pub record IsExpressionOf (design : FlatDesign) (e : TypedTree) : Type 0 where
   pub formed : IsTrue (well_formed design.signals e)
-  pub names : (s : ℕ) → IsTrue (names_signal design.signals e s) → Contains (seen design) s
+  pub names : (s : ℕ) → IsTrue (names_signal design.signals e s)
+      → Contains (system_signals design) s
 
 abbrev pub IsStepOf : FlatDesign → StepForm → Type 0
 IsStepOf design step = IsExpressionOf design step.condition
@@ -40,15 +41,15 @@ pub record AsksSelector (design : FlatDesign) (o : Obligation) (s : ℕ) : Type 
 
 abbrev pub IsGoalOf : FlatDesign → Obligation → GoalForm → Type 0
 IsGoalOf design o (flow target frame) =
-    Contains (seen design) target × IsTargetIn design target frame
+    Contains (system_signals design) target × IsTargetIn design target frame
 IsGoalOf design o (holds e frame) = IsExpressionOf design e
-IsGoalOf design o (selector s) = Contains (seen design) s × AsksSelector design o s
+IsGoalOf design o (selector s) = Contains (system_signals design) s × AsksSelector design o s
 
 -- all signals in it are those of the design, clocks left out, and all expressions are well formed
 pub record IsQueryOf (design : FlatDesign) (o : Obligation) : Type 0 where
   pub facts : All (IsExpressionOf design) o.facts
   pub path : All (IsStepOf design) o.path
-  pub reads : All (Contains (seen design)) o.reads
+  pub reads : All (Contains (system_signals design)) o.reads
   pub ascending : Ascends o.reads
   pub goal : IsGoalOf design o o.goal
 

@@ -93,15 +93,15 @@ put_value signals pieces right s place =
     fold (with_piece_put signals right s) (wanted_name signals s place) pieces
 
 -- an assignment puts its pieces for all wanted names at once
-abbrev pub put : List SignalForm → List PieceForm → (right : TypedTree) → ReadForm → Instead
-put signals pieces right r =
+abbrev pub pieces_put : List SignalForm → List PieceForm → (right : TypedTree) → ReadForm → Instead
+pieces_put signals pieces right r =
     let s = original signals r.signal in
     if is_copy signals r.signal && list_any (λ (piece : PieceForm). piece.signal == s) pieces
     then content s (put_value signals pieces right s r.place)
     else name r.signal
 
 abbrev pub put_in : List SignalForm → List PieceForm → (right : TypedTree) → TypedTree → TypedTree
-put_in signals pieces right e = exchanged (with_copies signals) (put signals pieces right) e
+put_in signals pieces right e = exchanged (with_copies signals) (pieces_put signals pieces right) e
 
 -- ---- the beginning of a process
 

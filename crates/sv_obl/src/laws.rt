@@ -1,5 +1,4 @@
 // What paths and valid obligations mean, as contracts of functions that do nothing.
-
 ghost use Rattle.std.specs.Prelude.{◌≡◌, ℕ, IsTrue, IsFalse, List, [], Contains};
 ghost use Rattle.sv_flat.specs.Assigned.{assigns};
 ghost use Rattle.sv_flat.specs.Clocks.{processes_of};

@@ -18,7 +18,8 @@
 //! earlier one, `Shorts.antt` statements in short, each part with what it assigns, `Cuts.antt` what
 //! of such a statement is walked for a target, `Trails.antt` ties routes to what is walked,
 //! `Driven.antt` paths to the target whose they are, and `Written.antt` lines to what is written;
-//! those six are private. `ListParts.antt` cites `Shorts.antt` for what a `Listing` holds.
+//! those six are private: they say how the code goes; the meaning stands in the files before.
+//! `ListParts.antt` cites `Shorts.antt` for what a `Listing` holds.
 #![tactic(auto)]
 
 mod cuts;

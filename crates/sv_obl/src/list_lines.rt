@@ -167,8 +167,8 @@ pub fn push_turn(line: &mut Vec<u8>, truth: bool, place: Place) -> Result<(), Al
     ensures { OnOk result (line.new.items ≡ line.old.items
         ++ codes " " ++ ((if truth then codes "+" else codes "-") ++ place_text place)) }
 {
-    let sign: &[u8] = if truth { b"+" } else { b"-" };
-    push_word(line, sign)?;
+    let mark: &[u8] = if truth { b"+" } else { b"-" };
+    push_word(line, mark)?;
     push_place(line, place)?;
     Ok(())
 }

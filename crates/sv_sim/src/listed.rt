@@ -1,6 +1,7 @@
 // Values of listed signals.
 ghost use Rattle.std.specs.Prelude.{◌≡◌, ◌↔◌, ℕ, ◌<◌, ◌^◌, IsTrue, length, slice_index};
 ghost use Rattle.sv_flat.specs.ByNumber.{signal_forms, by_number, FitSignals};
+ghost use Rattle.sv_flat.specs.Values.{signal_width};
 ghost use Rattle.sv_design.specs.Numbers.{numbers};
 ghost use Rattle.sv_sim.specs.Given.{FitListed, with_given};
 
@@ -13,16 +14,19 @@ pub fn fits(values: &[u64], listed: &[SigId], signals: &[Signal]) -> bool
     ensures { IsTrue result ↔
         FitListed (signal_forms signals.now) (numbers listed.now) values.now }
 {
-    if values.len() != listed.len() {
-        return false;
-    }
-    for k in 0..listed.len() {
-        let signal = listed[k].0 as usize;
-        if !has_room(values[k], signals[signal].width) {
-            return false;
-        }
-    }
-    true
+    values.len() == listed.len()
+        && values
+            .iter()
+            .zip(listed)
+            .all(|(value, signal)| fits_signal(*value, *signal, signals))
+}
+
+// Whether a value has no more bits than the signal.
+fn fits_signal(value: u64, signal: SigId, signals: &[Signal]) -> bool
+    requires { signal.0 < length signals.now }
+    ensures { IsTrue result ↔ (value < 2 ^ signal_width (signal_forms signals.now) signal.0) }
+{
+    has_room(value, signals[signal.0 as usize].width)
 }
 
 /// Whether a value has no more bits than the width.

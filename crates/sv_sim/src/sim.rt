@@ -4,7 +4,7 @@ ghost use Rattle.std.specs.Prelude.{replicate};
 ghost use Rattle.sv_flat.specs.ByNumber.{by_number, FitSignals};
 ghost use Rattle.sv_flat.specs.Clocks.{is_clock};
 ghost use Rattle.sv_flat.specs.FlatSystem.{flat_system};
-ghost use Rattle.sv_flat.specs.SignalLists.{seen, inputs as inputs_of, registers};
+ghost use Rattle.sv_flat.specs.SignalLists.{system_signals, inputs as inputs_of, registers};
 ghost use Rattle.sv_flat.specs.Views.{design_of};
 ghost use Rattle.sv_system.specs.Schedules.{IsTheSettled};
 ghost use Rattle.sv_system.specs.System.{IsStill};
@@ -168,7 +168,7 @@ impl<'a> Sim<'a> {
     /// The value of a signal that is no clock.
     pub fn value(&self, s: SigId) -> u64
         requires settled { IsTrue self.now.is_settled }
-        requires seen { Contains (seen (design_of self.now.design)) s.0 }
+        requires seen { Contains (system_signals (design_of self.now.design)) s.0 }
         ensures { result ≡ by_number self.now.values s.0 }
     {
         let values = self.values.as_slice();

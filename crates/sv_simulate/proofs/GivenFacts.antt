@@ -17,7 +17,7 @@ use Rattle.sv_flat.specs.Clocks.{is_clock}
 use Rattle.sv_flat.specs.Design.{SignalForm, FlatDesign}
 use Rattle.sv_flat.specs.Processes.{is_register, is_top_input}
 use Rattle.sv_flat.specs.Schedules.{starting}
-use Rattle.sv_flat.specs.SignalLists.{seen, inputs, registers}
+use Rattle.sv_flat.specs.SignalLists.{system_signals, inputs, registers}
 use Rattle.sv_flat.specs.Soundness.{sound}
 use Rattle.sv_flat.specs.Values.{signal_width}
 use Rattle.sv_flat.specs.declared.signals.SigId.{SigId}
@@ -123,7 +123,7 @@ module _ (design : FlatDesign) where
   pub listed_input : (s : ℕ) → Contains (inputs design) s → IsTrue (is_input_of s)
   listed_input s at = those_pass (length design.signals) is_input_of s at
 
-  pub input_seen : (s : ℕ) → Contains (inputs design) s → Contains (seen design) s
+  pub input_seen : (s : ℕ) → Contains (inputs design) s → Contains (system_signals design) s
   input_seen s at =
       in_those (length design.signals) (λ z. not (is_clock design z)) s
       (those_below (length design.signals) is_input_of s at)
@@ -155,7 +155,7 @@ no_value false m none = refl
 
 module _ (design : FlatDesign) (is_sound : IsTrue (sound design))
     (admitted : IsAdmitted design) where
-  register_seen : (s : ℕ) → Contains (registers design) s → Contains (seen design) s
+  register_seen : (s : ℕ) → Contains (registers design) s → Contains (system_signals design) s
   register_seen s at =
       in_those (length design.signals) (λ z. not (is_clock design z)) s
       (those_below (length design.signals) (is_register design) s at)
@@ -176,15 +176,17 @@ module _ (design : FlatDesign) (is_sound : IsTrue (sound design))
 
   -- values that are given to all seen signals make the starting environment
   pub started_is : (values : List ℕ) (e : Environment ℕ) → OthersAreZero design e → (s : ℕ)
-      → with_given (seen design) (map (given (registers design) values) (seen design)) e s
+      → with_given (system_signals design)
+      (map (given (registers design) values) (system_signals design)) e s
       ≡ starting design (given (registers design) values) s
   started_is values e zeros s =
       let f : Environment ℕ = given (registers design) values in
-      contained_or_not (with_given (seen design) (map f (seen design)) e s) (starting design f s)
-      (Contains (seen design) s)
-      (λ at. mapped_value (seen design) f e s at ∙ seen_start values s)
+      contained_or_not (with_given (system_signals design) (map f (system_signals design)) e s)
+      (starting design f s)
+      (Contains (system_signals design) s)
+      (λ at. mapped_value (system_signals design) f e s at ∙ seen_start values s)
       (λ none.
-      other_value (seen design) (map f (seen design)) s (e s) none
+      other_value (system_signals design) (map f (system_signals design)) s (e s) none
       ∙ zeros s none
       ∙ sym (no_value (is_register design s) (f s)
       (other_value (registers design) values s 0 (λ at. none (register_seen s at)))))
@@ -204,26 +206,26 @@ module _ (design : FlatDesign) (is_sound : IsTrue (sound design))
 -- they have their signals' widths
 pub seen_fit : (design : FlatDesign) (start : List ℕ)
     → FitListed design.signals (registers design) start
-    → FitListed design.signals (seen design)
-    (map (given (registers design) start) (seen design))
+    → FitListed design.signals (system_signals design)
+    (map (given (registers design) start) (system_signals design))
 seen_fit design start fit =
     let f : Environment ℕ = given (registers design) start in
     record {
-      count = length-map (seen design) f;
+      count = length-map (system_signals design) f;
       each = λ k inside.
-          let s = slice_index (seen design) k in
+          let s = slice_index (system_signals design) k in
           subst (λ v. v < 2 ^ signal_width design.signals s)
-          (sym (get_or-map f (seen design) k 0 0 inside))
+          (sym (get_or-map f (system_signals design) k 0 0 inside))
           (given_to_fits design.signals (registers design) start s fit);
     }
 
 -- and leave the clocks as they are
 pub seen_keep_zeros : (design : FlatDesign) (values : List ℕ) (old new : Environment ℕ)
-    → new ≡ with_given (seen design) values old → OthersAreZero design old
+    → new ≡ with_given (system_signals design) values old → OthersAreZero design old
     → OthersAreZero design new
 seen_keep_zeros design values old new is zeros s unseen =
     ap (λ (e : Environment ℕ). e s) is
-    ∙ other_value (seen design) values s (old s) unseen ∙ zeros s unseen
+    ∙ other_value (system_signals design) values s (old s) unseen ∙ zeros s unseen
 
 -- ---- listed signals
 
@@ -234,9 +236,11 @@ listed_inside ss ns is k inside =
     subst (λ n. k < n) (sym (length-map ss (λ (s : SigId). s.0)) ∙ ap length is) inside
 
 -- the seen signals are signals
-pub seen_number : (design : FlatDesign) (ss : List SigId) → numbers ss ≡ seen design → (k : ℕ)
+pub seen_number : (design : FlatDesign) (ss : List SigId) → numbers ss ≡ system_signals design
+    → (k : ℕ)
     → k < length ss → (get_or ss k (record { 0 = 0 })).0 < length design.signals
 seen_number design ss is k inside =
-    subst (λ s. s < length design.signals) (number_at ss (seen design) is k inside)
-    (listed_within (length design.signals) (λ z. not (is_clock design z)) (seen design) refl k
-    (listed_inside ss (seen design) is k inside))
+    subst (λ s. s < length design.signals) (number_at ss (system_signals design) is k inside)
+    (listed_within (length design.signals) (λ z. not (is_clock design z)) (system_signals design)
+    refl k
+    (listed_inside ss (system_signals design) is k inside))

@@ -9,7 +9,7 @@ use Rattle.sv_lattice.specs.declared.points.Point.{Point}
 use Rattle.sv_system.specs.System.{Environment, Fits}
 use Rattle.sv_flat.specs.Design.{FlatDesign}
 use Rattle.sv_flat.specs.FlatSystem.{flat_system}
-use Rattle.sv_flat.specs.SignalLists.{seen}
+use Rattle.sv_flat.specs.SignalLists.{system_signals}
 use Rattle.sv_flat.specs.Values.{signal_width}
 use Rattle.sv_sim.specs.Given.{FitListed}
 use Rattle.sv_trace.specs.Forms.{name_in}
@@ -27,12 +27,12 @@ line_is design (Some level) cycle e = refl
 
 -- the values of an environment that fits are one for each signal, of its width
 pub seen_fit : (design : FlatDesign) (e : Environment ℕ) → Fits (flat_system design) e
-    → FitListed design.signals (seen design) (map e (seen design))
+    → FitListed design.signals (system_signals design) (map e (system_signals design))
 seen_fit design e fits = record {
-  count = length-map (seen design) e;
+  count = length-map (system_signals design) e;
   each = λ k inside.
-      subst (λ v. v < 2 ^ signal_width design.signals (slice_index (seen design) k))
-      (sym (get_or-map e (seen design) k 0 0 inside))
+      subst (λ v. v < 2 ^ signal_width design.signals (slice_index (system_signals design) k))
+      (sym (get_or-map e (system_signals design) k 0 0 inside))
       (fits k 0 inside);
 }
 

@@ -10,7 +10,7 @@ use Rattle.sv_system.specs.System.{HasOneTrace}
 use Rattle.sv_flat.specs.Admission.{IsAdmitted}
 use Rattle.sv_flat.specs.Design.{FlatDesign}
 use Rattle.sv_flat.specs.FlatSystem.{flat_system}
-use Rattle.sv_flat.specs.SignalLists.{seen, inputs, registers}
+use Rattle.sv_flat.specs.SignalLists.{system_signals, inputs, registers}
 use Rattle.sv_flat.specs.Soundness.{sound}
 use Rattle.sv_design.specs.Designs.{IsDesign}
 use Rattle.sv_sim.specs.Given.{given}
@@ -52,7 +52,7 @@ module _ (design : FlatDesign) (is_sound : IsTrue (sound design))
   line_same level cycle e f same =
       ap (λ text. decimal cycle ++ text ++ codes "\n") (pairs level)
     where
-      at : (t : ℕ) → Contains (seen design) t → e t ≡ f t
+      at : (t : ℕ) → Contains (system_signals design) t → e t ≡ f t
       at t within = All-contains (λ s. e s ≡ f s) system.signals t same within
 
       texts : (shown : Option Point)

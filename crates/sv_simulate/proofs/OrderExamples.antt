@@ -15,7 +15,7 @@ use Rattle.sv_flat.specs.Design.{continuous, FlatDesign}
 use Rattle.sv_flat.specs.FlatSystem.{flat_system}
 use Rattle.sv_flat.specs.Schedules.{IsRoundCount, is_quiet, after_rounds, after_tick, tick_order}
 use Rattle.sv_flat.specs.Schedules.{starting, with_inputs}
-use Rattle.sv_flat.specs.SignalLists.{seen, inputs, registers}
+use Rattle.sv_flat.specs.SignalLists.{system_signals, inputs, registers}
 use Rattle.sv_flat.specs.Values.{signal_width}
 use Rattle.sv_flat.proofs.Forms.{at, declares, sets, named, process}
 use Rattle.sv_flat.proofs.Forms.{over_two_points}
@@ -58,7 +58,8 @@ stays target value e is s = put_same ◌==◌ eqb-true (λ n. eq-eqb n n refl) t
 
 -- no signal is a register
 settles : (state e : Environment ℕ) → All (λ s. e s < 2 ^ signal_width inverters.signals s)
-    (seen inverters) → IsStill (flat_system inverters) e → Settled (flat_system inverters) state e e
+    (system_signals inverters) → IsStill (flat_system inverters) e
+    → Settled (flat_system inverters) state e e
 settles state e fits still = record {
   registers = λ s is. absurd (false≢true is);
   inputs_are = λ s is. refl;
@@ -72,12 +73,14 @@ Stays e run = (s : ℕ) → run e s ≡ e s
 
 lowered_settles : (state : Environment ℕ)
     → Settled (flat_system inverters) state lowered lowered
-lowered_settles state = settles state lowered (fitting inverters lowered (seen inverters) refl)
+lowered_settles state =
+    settles state lowered (fitting inverters lowered (system_signals inverters) refl)
     (All-from_recursion (Stays lowered) (flat_system inverters).processes
     (stays 1 1 lowered refl, (stays 3 0 lowered refl, (stays 2 1 lowered refl, tt))))
 
 raised_settles : (state : Environment ℕ) → Settled (flat_system inverters) state raised raised
-raised_settles state = settles state raised (fitting inverters raised (seen inverters) refl)
+raised_settles state =
+    settles state raised (fitting inverters raised (system_signals inverters) refl)
     (All-from_recursion (Stays raised) (flat_system inverters).processes
     (stays 1 0 raised refl, (stays 3 1 raised refl, (stays 2 0 raised refl, tt))))
 

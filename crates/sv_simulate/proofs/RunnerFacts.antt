@@ -22,7 +22,7 @@ use Rattle.sv_flat.specs.Reads.{is_combinational}
 use Rattle.sv_flat.specs.Runs.{updates_of}
 use Rattle.sv_flat.specs.Schedules.{numbered_run, after_schedule, round, process_count}
 use Rattle.sv_flat.specs.Schedules.{state_after, after_rounds, clocked_count, tick_order}
-use Rattle.sv_flat.specs.SignalLists.{seen, inputs}
+use Rattle.sv_flat.specs.SignalLists.{system_signals, inputs}
 use Rattle.sv_flat.specs.Soundness.{sound}
 use Rattle.sv_flat.specs.Views.{design_of}
 use Rattle.sv_flat.proofs.AdmittedFacts.{body_is_sound, assigned_is_signal, assigns_no_clock}
@@ -50,7 +50,7 @@ module _ (design : FlatDesign) (is_sound : IsTrue (sound design))
 
   -- ---- clocks, and what is no signal
 
-  module _ (s : ℕ) (unseen : Contains (seen design) s → ⊥) where
+  module _ (s : ℕ) (unseen : Contains (system_signals design) s → ⊥) where
     -- no run of a process changes them
     run_leaves_other : (k : ℕ) → k < process_count design → (e : Environment ℕ) →
         numbered_run design k e s ≡ e s

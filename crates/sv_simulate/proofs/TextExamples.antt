@@ -15,7 +15,7 @@ use Rattle.sv_flat.specs.Design.{typed, read, assign, nothing, branch}
 use Rattle.sv_flat.specs.Design.{clocked, FlatDesign}
 use Rattle.sv_flat.specs.FlatSystem.{flat_system}
 use Rattle.sv_flat.specs.Processes.{is_register}
-use Rattle.sv_flat.specs.SignalLists.{seen}
+use Rattle.sv_flat.specs.SignalLists.{system_signals}
 use Rattle.sv_flat.specs.Values.{signal_width}
 use Rattle.sv_flat.proofs.Depths.{first_of, second_of}
 use Rattle.sv_flat.proofs.Forms.{at, declares, part, later, named, sequence, process}
@@ -111,13 +111,13 @@ all_lines = refl
 -- a cycle is settled where its values fit
 runs_on : (before : Environment ℕ) (given : List ℕ)
     → IsTrue (list_all (λ s. nat_lt (next_cycle before given s)
-    (2 ^ signal_width held.signals s)) (seen held))
+    (2 ^ signal_width held.signals s)) (system_signals held))
     → Settled (flat_system held) ((flat_system held).next before) (next_cycle before given)
     (next_cycle before given)
 runs_on before given fits = record {
   registers = λ s is. cond-true (is_register held s) _ _ is;
   inputs_are = λ s is. refl;
-  fits = fitting held (next_cycle before given) (seen held) fits;
+  fits = fitting held (next_cycle before given) (system_signals held) fits;
   still = All-nil _;
 }
 
@@ -142,7 +142,7 @@ low_text = (
         record {
           registers = λ s is. refl;
           inputs_are = λ s is. refl;
-          fits = fitting held cycle_0 (seen held) refl;
+          fits = fitting held cycle_0 (system_signals held) refl;
           still = All-nil _;
         },
         (

@@ -6,7 +6,7 @@ use Rattle.sv_io.specs.Sink.{WritesFront}
 use Rattle.sv_system.specs.System.{Environment, IsTrace}
 use Rattle.sv_flat.specs.Design.{FlatDesign}
 use Rattle.sv_flat.specs.FlatSystem.{flat_system}
-use Rattle.sv_flat.specs.SignalLists.{seen, inputs, registers}
+use Rattle.sv_flat.specs.SignalLists.{system_signals, inputs, registers}
 use Rattle.sv_flat.specs.Views.{design_of}
 use Rattle.sv_design.specs.Designs.{IsDesign}
 use Rattle.sv_sim.specs.Given.{given}
@@ -29,7 +29,7 @@ pub record IsSimulating (s : Simulation) : Type 0 where
   pub orders : IsRunner s.runner
   pub form : s.reader.form ≡ form_of (flat_of s)
   pub level : ForSome s.level (λ point. point.0 < length s.design.now.lattice)
-  pub room : vec_len s.values ≡ length (seen (flat_of s))
+  pub room : vec_len s.values ≡ length (system_signals (flat_of s))
   pub begun : s.is_started ≡ true → s.reader.said.begun ≡ true
 
 -- what no call changes

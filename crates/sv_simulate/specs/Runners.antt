@@ -8,7 +8,7 @@ use Rattle.sv_flat.specs.declared.designs.Flat.{Flat}
 use Rattle.sv_flat.specs.ByNumber.{by_number}
 use Rattle.sv_flat.specs.Design.{FlatDesign}
 use Rattle.sv_flat.specs.Schedules.{IsRoundCount, after_rounds, clocked_count, with_inputs}
-use Rattle.sv_flat.specs.SignalLists.{seen, inputs}
+use Rattle.sv_flat.specs.SignalLists.{system_signals, inputs}
 use Rattle.sv_flat.specs.Views.{design_of}
 use Rattle.sv_sim.specs.Given.{given}
 use Rattle.sv_simulate.specs.declared.runners.Drawn.{Drawn}
@@ -41,7 +41,7 @@ pub record AreTickOrders (design : FlatDesign) (run : Drawn) : Type 0 where
 -- the clocks, and what is no signal, have the value 0
 abbrev pub OthersAreZero : FlatDesign → Environment ℕ → Type 0
 OthersAreZero design environment =
-    (s : ℕ) → (Contains (seen design) s → ⊥) → environment s ≡ 0
+    (s : ℕ) → (Contains (system_signals design) s → ⊥) → environment s ≡ 0
 
 -- what holds of every design that runs in drawn orders
 pub record IsDrawn (run : Drawn) : Type 0 where

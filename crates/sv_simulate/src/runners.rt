@@ -6,7 +6,7 @@ ghost use Rattle.sv_design.specs.Designs.{IsDesign};
 ghost use Rattle.sv_flat.specs.FlatSystem.{flat_system};
 ghost use Rattle.sv_flat.specs.ByNumber.{by_number};
 ghost use Rattle.sv_flat.specs.Schedules.{starting, after_tick, tick_order};
-ghost use Rattle.sv_flat.specs.SignalLists.{seen, inputs as inputs_of, registers};
+ghost use Rattle.sv_flat.specs.SignalLists.{system_signals, inputs as inputs_of, registers};
 ghost use Rattle.sv_flat.specs.Views.{design_of};
 ghost use Rattle.sv_sim.specs.Given.{FitListed, given};
 ghost use Rattle.sv_system.specs.System.{Settled};
@@ -42,7 +42,7 @@ pub struct Drawn<'a> {
 
 impl<'a> Runner<'a> {
     /// A runner of the design, by an order number if there is one.
-    pub(crate) fn new(
+    pub fn new(
         alloc: Global,
         design: &'a Design,
         order: Option<u64>,
@@ -59,12 +59,7 @@ impl<'a> Runner<'a> {
     }
 
     /// Gives each register its value.
-    pub(crate) fn load(
-        &mut self,
-        alloc: Global,
-        design: &Design,
-        start: &[u64],
-    ) -> Result<(), AllocError>
+    pub fn load(&mut self, alloc: Global, design: &Design, start: &[u64]) -> Result<(), AllocError>
         requires made { IsRunner self.old }
         requires design { design_in self.old ≡ design.now }
         requires fit { let flat = design_of design.now in
@@ -87,7 +82,7 @@ impl<'a> Runner<'a> {
     }
 
     /// Gives each input its value, and each other signal that of the settled environment.
-    pub(crate) fn settle(&mut self, cycle: u64, inputs: &[u64])
+    pub fn settle(&mut self, cycle: u64, inputs: &[u64])
         requires made { IsRunner self.old }
         requires fit { let flat = design_of (design_in self.old) in
             FitListed flat.signals (inputs_of flat) inputs.now }
@@ -111,7 +106,7 @@ impl<'a> Runner<'a> {
 
     /// Gives each register its next value. In a drawn order the clocked processes run in ascending
     /// order in even cycles, and in descending order in odd ones.
-    pub(crate) fn tick(&mut self, cycle: u64)
+    pub fn tick(&mut self, cycle: u64)
         requires made { IsRunner self.old }
         requires settled { IsReady self.old }
         ensures made { IsRunner self.new }
@@ -131,8 +126,8 @@ impl<'a> Runner<'a> {
     }
 
     /// The value of a signal that is no clock.
-    pub(crate) fn value(&self, s: SigId) -> u64
-        requires seen { Contains (seen (design_of (design_in self.now))) s.0 }
+    pub fn value(&self, s: SigId) -> u64
+        requires seen { Contains (system_signals (design_of (design_in self.now))) s.0 }
         requires settled { IsReady self.now }
         ensures { result ≡ values_in self.now s.0 }
     {
@@ -143,7 +138,7 @@ impl<'a> Runner<'a> {
     }
 
     /// How many rounds were run, where there is an order.
-    pub(crate) fn rounds(&self) -> Option<u64>
+    pub fn rounds(&self) -> Option<u64>
         ensures { result ≡ rounds_in self.now }
     {
         match self {
@@ -252,7 +247,7 @@ fn started(alloc: Global, design: &Design, start: &[u64]) -> Result<Vec<u64>, Al
     requires fit { let flat = design_of design.now in
         FitListed flat.signals (registers flat) start.now }
     ensures values { let flat = design_of design.now in IfOk result (λ values.
-        values.items ≡ map (given (registers flat) start.now) (seen flat)) }
+        values.items ≡ map (given (registers flat) start.now) (system_signals flat)) }
     ensures design { IsDesign (design_of design.now) }
 {
     let seen = design.seen();

@@ -3,7 +3,7 @@ ghost use Rattle.std.specs.Prelude.{◌≡◌, ℕ, ◌+◌, ◌*◌, ◌<◌, �
 ghost use Rattle.std.specs.Prelude.{true};
 ghost use Rattle.std.specs.Prelude.{length, map, Ok, IfOk, OnOk, OnErr, IfSome, IsErrOf, IsFalse};
 ghost use Rattle.std.specs.Option.{ForSome};
-ghost use Rattle.sv_flat.specs.SignalLists.{seen, inputs as inputs_of};
+ghost use Rattle.sv_flat.specs.SignalLists.{system_signals, inputs as inputs_of};
 ghost use Rattle.sv_flat.specs.Views.{design_of};
 ghost use Rattle.sv_design.specs.Designs.{IsDesign};
 ghost use Rattle.sv_io.specs.Count.{Rose};
@@ -43,7 +43,7 @@ pub struct Simulation<'a> {
 
 impl<'a> Simulation<'a> {
     /// A simulation of which nothing was read.
-    pub(crate) fn new(
+    pub fn new(
         alloc: Global,
         design: &'a Design,
         level: Option<Point>,
@@ -73,7 +73,7 @@ impl<'a> Simulation<'a> {
 
     /// Reads the next piece of the stimulus, and writes the lines of its cycles. It gives the
     /// ending where a line is wrong.
-    pub(crate) fn read<K: Sink>(
+    pub fn read<K: Sink>(
         &mut self,
         alloc: Global,
         out: &mut K,
@@ -108,7 +108,7 @@ impl<'a> Simulation<'a> {
     }
 
     /// Reads the end of the stimulus, and writes the line of a cycle that it brings.
-    pub(crate) fn end<K: Sink>(&mut self, alloc: Global, out: &mut K) -> Result<Ending, SimFault>
+    pub fn end<K: Sink>(&mut self, alloc: Global, out: &mut K) -> Result<Ending, SimFault>
         requires made { IsSimulating self.old }
         requires open { IsFalse self.old.reader.finished }
         requires within { LeavesRoom 0 (K.accepted out.old) self.old }
@@ -134,7 +134,7 @@ impl<'a> Simulation<'a> {
     }
 
     /// How many rounds were run, where there is an order.
-    pub(crate) fn rounds(&self) -> Option<u64>
+    pub fn rounds(&self) -> Option<u64>
         ensures { result ≡ rounds_in self.now.runner }
     {
         self.runner.rounds()
@@ -252,8 +252,8 @@ fn cycle_after(cycle: u64) -> u64
 fn take_values(design: &Design, runner: &Runner<'_>, values: &mut [u64])
     requires runner { design_in runner.now ≡ design.now }
     requires ready { IsReady runner.now }
-    requires room { length values.old ≡ length (seen (design_of design.now)) }
-    ensures { values.new ≡ map (values_in runner.now) (seen (design_of design.now)) }
+    requires room { length values.old ≡ length (system_signals (design_of design.now)) }
+    ensures { values.new ≡ map (values_in runner.now) (system_signals (design_of design.now)) }
 {
     let seen = design.seen();
     for k in 0..seen.len() {

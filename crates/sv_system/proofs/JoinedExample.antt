@@ -18,13 +18,13 @@ input_number zero = true
 input_number (suc zero) = true
 input_number (suc (suc n)) = false
 
-abbrev number_label : ℕ → (ℕ → ℕ) → Bool
+abbrev number_label : ℕ → Environment ℕ → Bool
 number_label zero e = false
 number_label (suc zero) e = eqb (e 0) 1
 number_label (suc (suc zero)) e = eqb (e 0) 1
 number_label (suc (suc (suc n))) e = true
 
-abbrev copy_number : (ℕ → ℕ) → (ℕ → ℕ)
+abbrev copy_number : Environment ℕ → Environment ℕ
 copy_number e = put eqb 2 (e 1) e
 
 abbrev numbered : System ℕ Bool

@@ -21,7 +21,7 @@ use Rattle.sv_flat.specs.ByNumber.{by_number, FitSignals}
 use Rattle.sv_flat.specs.Clocks.{is_clock}
 use Rattle.sv_flat.specs.Design.{SignalForm, FlatDesign}
 use Rattle.sv_flat.specs.FlatSystem.{flat_system, label_in}
-use Rattle.sv_flat.specs.SignalLists.{seen}
+use Rattle.sv_flat.specs.SignalLists.{system_signals}
 use Rattle.sv_flat.specs.Soundness.{sound, is_signal, label_sound, selector_fits}
 use Rattle.sv_flat.specs.Soundness.{second_fits}
 use Rattle.sv_flat.specs.Values.{signal_of, signal_width}
@@ -127,15 +127,15 @@ all_kept (s ∷ ss) = ap (λ ts. s ∷ ts) (all_kept ss)
 
 pub shown_text : (design : FlatDesign) (level : Option Point) (environment : Environment ℕ)
     → flat_map (pair_text design) (shown design level environment)
-    ≡ flat_map (text_of_signal design level environment) (seen design)
+    ≡ flat_map (text_of_signal design level environment) (system_signals design)
 shown_text design None environment =
     ap (λ ss. flat_map (pair_text design) (map (λ s. (s, environment s)) ss))
-    (sym (all_kept (seen design)))
-    ∙ text_over design None environment (λ s. true) (seen design) (λ s. refl)
+    (sym (all_kept (system_signals design)))
+    ∙ text_over design None environment (λ s. true) (system_signals design) (λ s. refl)
 shown_text design (Some level) environment =
     text_over design (Some level) environment
     (λ s. (flat_system design).flows ((flat_system design).label s environment) level)
-    (seen design) (λ s. refl)
+    (system_signals design) (λ s. refl)
 
 -- ---- environments that agree on the signals of the system
 
@@ -161,7 +161,7 @@ label_agrees maps (Table map s (Some t)) first second same =
 
 shown_agrees : (design : FlatDesign) → IsTrue (sound design) → IsAdmitted design
     → (level : Option Point) (first second : Environment ℕ)
-    → ((t : ℕ) → Contains (seen design) t → first t ≡ second t)
+    → ((t : ℕ) → Contains (system_signals design) t → first t ≡ second t)
     → (s : ℕ) → s < length design.signals
     → is_shown design level first s ≡ is_shown design level second s
 shown_agrees design is admitted None first second same s inside = refl
@@ -173,12 +173,12 @@ shown_agrees design is admitted (Some level) first second same s inside =
 
 pub texts_agree : (design : FlatDesign) → IsTrue (sound design) → IsAdmitted design
     → (level : Option Point) (first second : Environment ℕ)
-    → ((t : ℕ) → Contains (seen design) t → first t ≡ second t)
-    → flat_map (text_of_signal design level first) (seen design)
-    ≡ flat_map (text_of_signal design level second) (seen design)
+    → ((t : ℕ) → Contains (system_signals design) t → first t ≡ second t)
+    → flat_map (text_of_signal design level first) (system_signals design)
+    ≡ flat_map (text_of_signal design level second) (system_signals design)
 texts_agree design is admitted level first second same =
     same_texts (text_of_signal design level first) (text_of_signal design level second)
-    (seen design)
+    (system_signals design)
     (λ s at.
     ap (λ b. cond b (pair_text design (s, first s)) [])
     (shown_agrees design is admitted level first second same s
@@ -265,12 +265,12 @@ point_at flat signals maps s x values es em is inside some =
 
 pub line_agrees : (design : FlatDesign) → IsTrue (sound design) → IsAdmitted design
     → (level : Option Point) (environment : Environment ℕ) (values table : List ℕ)
-    → map environment (seen design) ≡ values
-    → ((s : ℕ) → by_number table s ≡ given (seen design) values s)
+    → map environment (system_signals design) ≡ values
+    → ((s : ℕ) → by_number table s ≡ given (system_signals design) values s)
     → flat_map (pair_text design) (shown design level (by_number table))
     ≡ flat_map (pair_text design) (shown design level environment)
 line_agrees design is admitted level environment values table e g =
     shown_text design level (by_number table)
     ∙ texts_agree design is admitted level (by_number table) environment
-    (λ t at. g t ∙ given_agrees (seen design) values environment e t at)
+    (λ t at. g t ∙ given_agrees (system_signals design) values environment e t at)
     ∙ sym (shown_text design level environment)

@@ -7,7 +7,7 @@ use Rattle.sv_lattice.specs.declared.points.Point.{Point}
 use Rattle.sv_system.specs.System.{Environment, view}
 use Rattle.sv_flat.specs.Design.{FlatDesign}
 use Rattle.sv_flat.specs.FlatSystem.{flat_system}
-use Rattle.sv_flat.specs.SignalLists.{seen}
+use Rattle.sv_flat.specs.SignalLists.{system_signals}
 use Rattle.sv_trace.specs.Forms.{name_in}
 
 -- in lower case, without leading zeros
@@ -21,7 +21,7 @@ pair_text design pair =
 
 -- the signals of a cycle with their values: all of them, or what a level sees
 abbrev pub shown : FlatDesign → Option Point → Environment ℕ → List (ℕ × ℕ)
-shown design None environment = map (λ s. (s, environment s)) (seen design)
+shown design None environment = map (λ s. (s, environment s)) (system_signals design)
 shown design (Some level) environment = view (flat_system design) level environment
 
 -- the line of a cycle: its number from 0, and the signals

@@ -11,7 +11,8 @@
 //! [`trace_line`] gives the line of a cycle, with a level the view of that level
 //! (`specs/Traces.antt`).
 //!
-//! `specs/Steps.antt` is private: it says how the code goes, line by line.
+//! `specs/Steps.antt` is private: it says how the code goes, line by line; the meaning stands in
+//! `Stimulus.antt` and `Reading.antt`.
 #![tactic(auto)]
 
 mod cycles;

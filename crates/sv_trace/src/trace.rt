@@ -4,7 +4,7 @@ ghost use Rattle.std.specs.Prelude.{decimal, IfOk, OnOk};
 ghost use Rattle.std.specs.Option.{ForSome};
 ghost use Rattle.sv_system.specs.System.{Environment};
 ghost use Rattle.sv_flat.specs.ByNumber.{by_number as values_by_number, FitSignals};
-ghost use Rattle.sv_flat.specs.SignalLists.{seen};
+ghost use Rattle.sv_flat.specs.SignalLists.{system_signals};
 ghost use Rattle.sv_flat.specs.Views.{design_of};
 ghost use Rattle.sv_design.specs.Designs.{IsDesign};
 ghost use Rattle.sv_sim.specs.Given.{FitListed, given};
@@ -29,10 +29,10 @@ pub fn trace_line(
     level: Option<Point>,
 ) -> Result<Vec<u8>, AllocError>
     requires fit { let flat = design_of design.now in
-        FitListed flat.signals (seen flat) values.now }
+        FitListed flat.signals (system_signals flat) values.now }
     requires level { ForSome level (λ point. point.0 < length design.now.lattice) }
     ensures { IfOk result (λ line. (environment : Environment ℕ) →
-        map environment (seen (design_of design.now)) ≡ values.now →
+        map environment (system_signals (design_of design.now)) ≡ values.now →
         line.items ≡ line_of (design_of design.now) cycle level environment) }
 {
     let table = by_number(alloc, design, values)?;
@@ -45,10 +45,11 @@ pub fn trace_line(
 
 // One value for each signal, by the signals' numbers; 0 for a clock.
 fn by_number(alloc: Global, design: &Design, values: &[u64]) -> Result<Vec<u64>, AllocError>
-    requires { let flat = design_of design.now in FitListed flat.signals (seen flat) values.now }
+    requires { let flat = design_of design.now in
+        FitListed flat.signals (system_signals flat) values.now }
     ensures fit { IfOk result (λ table. FitSignals (design_of design.now).signals table.items) }
     ensures given { IfOk result (λ table. (s : ℕ) → values_by_number table.items s ≡
-        given (seen (design_of design.now)) values.now s) }
+        given (system_signals (design_of design.now)) values.now s) }
     ensures design { IfOk result (λ table. IsDesign (design_of design.now)) }
 {
     let signals = design.signals();

@@ -1,5 +1,4 @@
 // What the comparison of two runs finds.
-
 use sv_flat::SigId;
 
 /// What the comparison of two runs finds at a level. Cycles are counted from 0.

@@ -6,11 +6,11 @@
 //! signal in which a level sees two things.
 //!
 //! Promises that the view is that of `sv_system/specs/System.antt`, and that `compare` finds what
-//! `Comparisons` says of the traces of both runs, which is one thing; and that for a design whose
-//! obligations are all valid it never finds that what was given looks alike and the views do not.
-//! `Forms` has the plain forms of views, and the runs that stimuli ask for.
+//! `specs/Comparisons.antt` says of the traces of both runs, which is one thing; and that for a
+//! design whose obligations are all valid it never finds that what was given looks alike and the
+//! views do not. `Forms.antt` has the plain forms of views, and the runs that stimuli ask for.
 //!
-//! Private to the crate, for the contracts of its parts: `Sights`.
+//! `Sights.antt` is private: it says how the code goes; the meaning stands in the files before.
 #![tactic(auto)]
 
 mod checked;

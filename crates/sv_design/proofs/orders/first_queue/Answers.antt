@@ -3,32 +3,14 @@ use Rattle.std.proofs.Common.{ap, ap₂, subst, ◌∙◌, arith}
 use Rattle.std.specs.Prelude.{filter}
 use Rattle.std.specs.List.{range_with_len}
 use Rattle.std.proofs.lemmas.List.{get_or_default}
-use Rattle.sv_flat.specs.Sets.{holds}
-use Rattle.sv_flat.proofs.LeastSets.{holds-from_Contains}
 use Rattle.sv_design.specs.Graphs.{size, row}
 use Rattle.sv_design.specs.Marks.{is_marked}
 use Rattle.sv_design.specs.Numbers.{numbers}
 use Rattle.sv_design.specs.Queues.{comb_count}
 use Rattle.sv_design.proofs.DriverFacts.{filter_more}
 use Rattle.sv_design.proofs.GraphFacts.{row_is}
-use Rattle.sv_design.proofs.QueueFacts.{reads_size, edges_inside, counts_more}
+use Rattle.sv_design.proofs.QueueFacts.{reads_size, counts_more}
 use Rattle.sv_design.proofs.orders.first_queue.Goals as goal
-
-pub comb_count-count-requires : goal.comb_count-count-requires
-comb_count-count-requires c = λ k at.
-    let are = c.requires.1 in
-    let reads = c.args.reads.now in
-    let s = c.loop-s.s in
-    let v = c.row-item.result in
-    let items = c.deref-row-items.ensures.value in
-    let inside : s < size reads.reads =
-    subst (λ rows. s < length rows) items c.loop-s-test.true in
-    let is : numbers c.deref-in-loop-s.result.now ≡ row reads.reads s =
-    ap numbers c.deref-in-loop-s.ensures.value
-    ∙ row_is reads.reads s v inside (subst (λ rows. v ≡ get_or rows s v) items c.row-item.is) in
-    subst (λ n. k < n) (sym (are.combs_are.0) ∙ sym (ap length c.deref.ensures.value))
-    (edges_inside c.requires.0 reads are s k (ap (λ r. holds r k) (sym is)
-    ∙ holds-from_Contains (numbers c.deref-in-loop-s.result.now) k at))
 
 pub index-requires : goal.index-requires
 index-requires c =
@@ -63,16 +45,16 @@ loop-s-preserved c =
     let is : numbers c.deref-in-loop-s.result.now ≡ row reads.reads s =
     ap numbers c.deref-in-loop-s.ensures.value
     ∙ row_is reads.reads s v inside (subst (λ rows. v ≡ get_or rows s v) items c.row-item.is) in
-    let count : c.comb_count-count.result ≡ comb_count reads s =
-    c.comb_count-count.ensures
+    let count : c.comb_count_among-count.result ≡ comb_count reads s =
+    c.comb_count_among-count.ensures
     ∙ ap₂ (λ cs r. length (filter (is_marked cs) r)) c.deref.ensures.value is in
     let within : s < length combs =
     subst (λ n. s < n) (reads_size c.requires.0 reads are ∙ sym (are.combs_are.0)) inside in
     let marked : c.index.result.now ≡ is_marked combs s =
     c.index.ensures ∙ get_or_default combs s c.index.result.now false within in
     let counts = counts_more c.loop-s.counts.items c.push.new.self.items s
-    c.comb_count-count.result (comb_count reads) c.loop-s.invariant.0 c.loop-s.invariant.1 count
-    c.in_ok-push.ensures.items in (
+    c.comb_count_among-count.result (comb_count reads) c.loop-s.invariant.0
+    c.loop-s.invariant.1 count c.in_ok-push.ensures.items in (
       counts.0,
       counts.1,
       c.in_ok-push_if.ensures

@@ -3,7 +3,7 @@ use Rattle.std.proofs.Common.{sym, ap, subst, ◌∙◌}
 use Rattle.std.specs.Prelude.{slice_index}
 use Rattle.std.proofs.lemmas.List.{take_more, map-append, get_or_default}
 use Rattle.sv_system.specs.System.{Environment}
-use Rattle.sv_flat.specs.SignalLists.{seen, registers}
+use Rattle.sv_flat.specs.SignalLists.{system_signals, registers}
 use Rattle.sv_flat.specs.Views.{design_of}
 use Rattle.sv_sim.specs.Given.{given}
 use Rattle.sv_sim.proofs.Simulated.{number_at}
@@ -30,14 +30,16 @@ loop-s-preserved c =
     let known : s < length table.items =
     subst (λ n. s < n) (sym c.in_ok-table.ensures.count ∙ table.ok.0)
     (seen_number design ss c.seen-seen.ensures.seen k c.loop-s-test.true) in
-    let is : value ≡ f (slice_index (seen design) k) =
+    let is : value ≡ f (slice_index (system_signals design) k) =
     c.index.ensures
     ∙ get_or_default table.items s value 0 known
     ∙ ap (λ (e : Environment ℕ). e s) c.in_ok-table.ensures.values
-    ∙ ap f (sym (number_at ss (seen design) c.seen-seen.ensures.seen k c.loop-s-test.true)) in
+    ∙ ap f (sym (number_at ss (system_signals design) c.seen-seen.ensures.seen k
+    c.loop-s-test.true)) in
     c.in_ok-push.ensures.items
     ∙ ap (λ (vs : List ℕ). vs ++ value ∷ []) c.loop-s.invariant
-    ∙ ap (λ v. map f (take k (seen design)) ++ v ∷ []) is
-    ∙ sym (map-append f (take k (seen design)) (slice_index (seen design) k ∷ []))
-    ∙ ap (map f) (sym (take_more (seen design) k 0
-    (listed_inside ss (seen design) c.seen-seen.ensures.seen k c.loop-s-test.true)))
+    ∙ ap (λ v. map f (take k (system_signals design)) ++ v ∷ []) is
+    ∙ sym (map-append f (take k (system_signals design))
+    (slice_index (system_signals design) k ∷ []))
+    ∙ ap (map f) (sym (take_more (system_signals design) k 0
+    (listed_inside ss (system_signals design) c.seen-seen.ensures.seen k c.loop-s-test.true)))

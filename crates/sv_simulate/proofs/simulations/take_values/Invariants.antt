@@ -1,5 +1,5 @@
 use Rattle.std.proofs.Common.{◌≡◌, ℕ, ◌<◌, get_or}
-use Rattle.sv_flat.specs.SignalLists.{seen}
+use Rattle.sv_flat.specs.SignalLists.{system_signals}
 use Rattle.sv_flat.specs.Views.{design_of}
 use Rattle.sv_simulate.specs.Runners.{values_in}
 use Rattle.sv_simulate.proofs.simulations.take_values.Given as goal
@@ -8,4 +8,4 @@ use Rattle.sv_simulate.proofs.simulations.take_values.Given as goal
 abbrev pub invariant-loop-k : goal.invariant-loop-k
 invariant-loop-k l =
     (j : ℕ) → j < l.k →
-    get_or l.values j 0 ≡ values_in l.runner (get_or (seen (design_of l.design)) j 0)
+    get_or l.values j 0 ≡ values_in l.runner (get_or (system_signals (design_of l.design)) j 0)

@@ -5,7 +5,7 @@ use Rattle.sv_flat.specs.declared.signals.SigId.{SigId}
 use Rattle.sv_flat.specs.ByNumber.{by_number}
 use Rattle.sv_flat.specs.Clocks.{is_clock}
 use Rattle.sv_flat.specs.FlatSystem.{flat_system}
-use Rattle.sv_flat.specs.SignalLists.{seen}
+use Rattle.sv_flat.specs.SignalLists.{system_signals}
 use Rattle.sv_flat.specs.Views.{design_of}
 use Rattle.sv_design.specs.Numbers.{numbers}
 use Rattle.sv_tworun.specs.Forms.{pair_form}
@@ -20,7 +20,7 @@ loop-signal-init c =
     ++ told (λ s. true && system.flows (system.label s e) c.args.level) e ss)
     c.new-pairs.ensures.items
     (c.seen-signal-items.ensures.seen
-    ∙ ap (λ (d : Flat). seen (design_of d)) c.design-design.ensures)
+    ∙ ap (λ (d : Flat). system_signals (design_of d)) c.design-design.ensures)
 
 pub sight-requires-clause-signal : goal.sight-requires-clause-signal
 sight-requires-clause-signal c =

@@ -1,18 +1,30 @@
-use Rattle.std.proofs.Common.{◌≡◌, ℕ, ◌+◌, [], length, map, get_or, ap, subst, sym, ◌∙◌, Vec}
-use Rattle.std.proofs.Common.{Global, List}
-use Rattle.std.proofs.lemmas.List.{length_push}
+use Rattle.std.proofs.Common.{◌≡◌, ◌⊎◌, inl, inr, [], ◌∷◌, List, ap, refl, ◌∙◌, Vec, Global}
+use Rattle.std.specs.List.{AllZip, AllByRecursion}
 use Rattle.sv_flat.specs.declared.signals.SigId.{SigId}
 use Rattle.sv_design.specs.Numbers.{numbers}
-use Rattle.sv_design.proofs.GraphFacts.{empty_more}
+use Rattle.sv_design.proofs.GraphFacts.{empty_rows}
 use Rattle.sv_design.proofs.graphs.Graph.new.Goals as goal
 
-pub loop-signal-preserved : goal.loop-signal-preserved
-loop-signal-preserved c =
-    let f = λ (row : Vec SigId Global). numbers row.items in (
-      ap length c.in_ok-push.ensures.items ∙ length_push c.loop-signal.rows.items c.new.result
-          ∙ ap (λ n. n + 1) c.loop-signal.invariant.0,
-      subst (λ (rows : List (Vec SigId Global)).
-          (a : ℕ) → get_or (map f rows) a [] ≡ []) (sym c.in_ok-push.ensures.items)
-          (empty_more f c.loop-signal.rows.items c.new.result (ap numbers c.new.ensures.items)
-          c.loop-signal.invariant.1),
-    )
+module _ (R : SigId → SigId → Type 0) (S : Vec SigId Global → Type 0) where
+  no_clones : (xs ys : List SigId) → xs ≡ [] → AllZip R xs ys → numbers ys ≡ []
+  no_clones [] [] none clones = refl
+  no_clones [] (y ∷ ys) none clones = absurd clones
+  no_clones (x ∷ xs) ys none clones = cc
+
+  -- clones of a list without signals have none
+  each_empty : (empty : Vec SigId Global) → empty.items ≡ [] → (rows : List (Vec SigId Global))
+      → AllByRecursion (λ row. (row ≡ empty) ⊎ (AllZip R empty.items row.items × S row)) rows
+      → AllByRecursion (λ row. numbers row.items ≡ []) rows
+  each_empty empty none [] all = tt
+  each_empty empty none (row ∷ rows) (inl same, rest) = (
+    ap (λ (v : Vec SigId Global). numbers v.items) same ∙ ap numbers none,
+    each_empty empty none rows rest,
+  )
+  each_empty empty none (row ∷ rows) (inr clone, rest) =
+      (no_clones empty.items row.items none clone.0, each_empty empty none rows rest)
+
+pub returns-clause-edges : goal.returns-clause-edges
+returns-clause-edges c =
+    let rows = c.in_ok-rows.rows.items in
+    empty_rows (λ (row : Vec SigId Global). numbers row.items) rows
+    (each_empty _ _ c.new.result c.new.ensures.items rows c.in_ok-rows.ensures.items)

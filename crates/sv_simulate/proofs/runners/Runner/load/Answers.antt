@@ -3,7 +3,7 @@ use Rattle.sv_system.specs.System.{Environment}
 use Rattle.sv_flat.specs.declared.designs.Flat.{Flat}
 use Rattle.sv_flat.specs.ByNumber.{by_number}
 use Rattle.sv_flat.specs.Schedules.{starting}
-use Rattle.sv_flat.specs.SignalLists.{seen, registers}
+use Rattle.sv_flat.specs.SignalLists.{system_signals, registers}
 use Rattle.sv_flat.specs.Views.{design_of}
 use Rattle.sv_sim.specs.Given.{FitListed, with_given, given}
 use Rattle.sv_simulate.specs.Runners.{IsDrawn, IsRunner, OthersAreZero, design_in}
@@ -39,9 +39,9 @@ pub put_values-requires : goal.put_values-requires
 put_values-requires c =
     let design = design_of c.args.design.now in
     subst (λ (flat : Flat).
-    FitListed (design_of flat).signals (seen (design_of flat)) c.deref.result.now)
+    FitListed (design_of flat).signals (system_signals (design_of flat)) c.deref.result.now)
     (sym (drawn_design (goal.at.put_values-requires c).In_ok-started-in-Drawn))
-    (subst (FitListed design.signals (seen design))
+    (subst (FitListed design.signals (system_signals design))
     (sym (c.deref.ensures.value ∙ c.in_ok-started-in-Drawn.ensures.values))
     (seen_fit design c.args.start.now c.requires.fit))
 
@@ -68,8 +68,9 @@ starts c s =
     let made = drawn_made here in
     let fine = c.started.ensures.design in
     ap (λ (e : Environment ℕ). e s) c.put_values.ensures.values
-    ∙ ap (λ (flat : Flat). with_given (seen (design_of flat)) c.deref.result.now old s) same
-    ∙ ap (λ vs. with_given (seen design) vs old s)
+    ∙ ap (λ (flat : Flat). with_given (system_signals (design_of flat)) c.deref.result.now old s)
+    same
+    ∙ ap (λ vs. with_given (system_signals design) vs old s)
     (c.deref.ensures.value ∙ c.in_ok-started-in-Drawn.ensures.values)
     ∙ started_is design fine.is_sound fine.is_admitted c.args.start.now old
     (subst (λ (flat : Flat). OthersAreZero (design_of flat) old) same made.others) s

@@ -1,6 +1,6 @@
 use Rattle.std.proofs.Common.{refl, ◌∙◌}
 use Rattle.std.proofs.lemmas.Bool.{false≢true}
-use Rattle.sv_flat.specs.SignalLists.{seen}
+use Rattle.sv_flat.specs.SignalLists.{system_signals}
 use Rattle.sv_flat.specs.Views.{design_of}
 use Rattle.sv_simulate.proofs.StepFacts.{come_new}
 use Rattle.sv_simulate.proofs.ValueFacts.{count_is}
@@ -16,7 +16,7 @@ returns-clause-made c =
       form = c.in_ok-new.ensures.form;
       level = c.requires;
       room = c.in_ok-vec.ensures.len
-          ∙ count_is c.seen-count.result.now (seen flat) c.seen-count.ensures.seen;
+          ∙ count_is c.seen-count.result.now (system_signals flat) c.seen-count.ensures.seen;
       begun = λ started. absurd (false≢true started);
     }
 

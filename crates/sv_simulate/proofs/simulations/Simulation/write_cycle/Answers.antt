@@ -3,7 +3,7 @@ use Rattle.std.specs.Prelude.{IfSome}
 use Rattle.std.proofs.lemmas.Result.{on_ok_weaker, on_err_weaker}
 use Rattle.sv_flat.specs.declared.designs.Flat.{Flat}
 use Rattle.sv_flat.specs.FlatSystem.{flat_system}
-use Rattle.sv_flat.specs.SignalLists.{seen, inputs}
+use Rattle.sv_flat.specs.SignalLists.{system_signals, inputs}
 use Rattle.sv_flat.specs.Views.{design_of}
 use Rattle.sv_sim.specs.Given.{FitListed, given}
 use Rattle.sv_sim.proofs.Simulated.{written}
@@ -29,7 +29,7 @@ trace_line-requires-clause-fit g c =
     let s = c.args.self.now in
     let flat = flat_of s in
     let r = c.settle.new.self in
-    let values : c.deref.result.now ≡ map (values_in r) (seen flat) =
+    let values : c.deref.result.now ≡ map (values_in r) (system_signals flat) =
     c.deref.ensures.value
     ∙ written s.values.len c.take_values.new.values s.values.items
     (c.take_values.auto.values ∙ c.deref_mut.ensures.len)
@@ -38,7 +38,7 @@ trace_line-requires-clause-fit g c =
     (λ (d : Flat). Settled (flat_system (design_of d)) (values_in s.runner)
     (given (inputs (design_of d)) c.args.inputs.now) (values_in r))
     c.requires.made.runner c.settle.ensures.settled in
-    subst (λ vs. FitListed flat.signals (seen flat) vs) (sym values)
+    subst (λ vs. FitListed flat.signals (system_signals flat) vs) (sym values)
     (seen_fit flat (values_in r) settled.fits)
 
 pub returns-in_err-line-clause-made : goal.returns-in_err-line-clause-made
@@ -78,7 +78,7 @@ returns-clause-ran g c = on_ok_weaker c.put_line.result (λ put. λ taken before
     let s = c.args.self.now in
     let r = c.settle.new.self in
     let us = c.args.inputs.now in
-    let values : map (values_in r) (seen (flat_of s)) ≡ c.deref.result.now =
+    let values : map (values_in r) (system_signals (flat_of s)) ≡ c.deref.result.now =
     sym (c.deref.ensures.value
     ∙ written s.values.len c.take_values.new.values s.values.items
     (c.take_values.auto.values ∙ c.deref_mut.ensures.len)
@@ -99,7 +99,7 @@ returns-clause-front g c = on_err_weaker c.put_line.result (λ wrote. λ taken b
     let s = c.args.self.now in
     let r = c.settle.new.self in
     let us = c.args.inputs.now in
-    let values : map (values_in r) (seen (flat_of s)) ≡ c.deref.result.now =
+    let values : map (values_in r) (system_signals (flat_of s)) ≡ c.deref.result.now =
     sym (c.deref.ensures.value
     ∙ written s.values.len c.take_values.new.values s.values.items
     (c.take_values.auto.values ∙ c.deref_mut.ensures.len)

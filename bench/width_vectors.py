@@ -1,6 +1,6 @@
 #!/usr/bin/env python3
 """Writes the expressions whose values `crates/width_bench` compares with its own: every operator at seven lengths and both
-signs, nested mixes of signed and unsigned operands, and constants.
+signednesses, nested mixes of signed and unsigned operands, and constants.
 
     width_vectors.py > crates/width_bench/stdin
 
@@ -8,14 +8,14 @@ The answers are those of Icarus Verilog (`iverilog` and `vvp`), which is to be i
 left out: a division by zero, or a bit outside of its vector. What is asked of such bits and of rules was worked by hand, and each
 operator at the edges of the seven lengths is worked out here with whole numbers, without Icarus Verilog. The lines are
 
-    signal NAME LENGTH SIGN          a signal, with the value 0
-    parameter NAME LENGTH SIGN VALUE
+    signal NAME LENGTH SIGNEDNESS    a signal, with the value 0
+    parameter NAME LENGTH SIGNEDNESS VALUE
     set NAME VALUE                   the signal's value from here on
     typed TARGET VALUE EXPRESSION    the value for a target of so many bits
-    constant LENGTH SIGN VALUE EXPRESSION
+    constant LENGTH SIGNEDNESS VALUE EXPRESSION
     refused RULE COLUMN EXPRESSION   the rule that the expression breaks, and the column in it
 
-with `signed` or `unsigned` for a sign; values are as read without sign.
+with `signed` or `unsigned` for a signedness; values are as read unsigned.
 """
 import os
 import random
@@ -24,7 +24,7 @@ import sys
 import tempfile
 
 LENGTHS = (1, 2, 31, 32, 33, 63, 64)
-SIGNS = ("unsigned", "signed")
+SIGNEDNESSES = ("unsigned", "signed")
 UNARY = "+ - ! ~ & ~& | ~| ^ ~^ ^~".split()
 BINARY = "+ - * << >> <<< >>> < <= > >= == != & ^ ~^ ^~ | && ||".split()
 DIVISIONS = "/ %".split()
@@ -50,13 +50,13 @@ REFUSED = [
 DRAW = random.Random(20051364)
 
 
-def name(letter, length, sign):
-    return f"{letter}{length}{sign[0]}"
+def name(letter, length, signedness):
+    return f"{letter}{length}{signedness[0]}"
 
 
-SIGNALS = [(name(letter, length, sign), length, sign) for letter in "ab" for length in LENGTHS for sign in SIGNS]
+SIGNALS = [(name(letter, length, signedness), length, signedness) for letter in "ab" for length in LENGTHS for signedness in SIGNEDNESSES]
 SIGNALS += [("v", 4, "unsigned"), ("i", 3, "unsigned")]
-PARAMETERS = [(f"p{length}{sign[0]}", length, sign, DRAW.getrandbits(length) | 1) for length in LENGTHS for sign in SIGNS]
+PARAMETERS = [(f"p{length}{signedness[0]}", length, signedness, DRAW.getrandbits(length) | 1) for length in LENGTHS for signedness in SIGNEDNESSES]
 
 
 def a_value(length):
@@ -66,17 +66,17 @@ def a_value(length):
     return max(0, DRAW.choice(ends)) & most if DRAW.random() < 0.5 else DRAW.getrandbits(length)
 
 
-def literal(length, sign, bits=0):
+def literal(length, signedness, bits=0):
     """A literal of any value in which these bits are set."""
-    mark = "'sh" if sign == "signed" else "'h"
+    mark = "'sh" if signedness == "signed" else "'h"
     return f"{length}{mark}{a_value(length) | bits:x}"
 
 
 def operators(letters):
-    """Every operator, both operands of the same length and sign."""
+    """Every operator, both operands of the same length and signedness."""
     for length in LENGTHS:
-        for sign in SIGNS:
-            left, right = (name(letter, length, sign) for letter in letters)
+        for signedness in SIGNEDNESSES:
+            left, right = (name(letter, length, signedness) for letter in letters)
             for op in UNARY:
                 yield f"{op} {left}"
             for op in BINARY:
@@ -86,39 +86,39 @@ def operators(letters):
 def divisions():
     """Divisions of literals and parameters, by something else than zero at times."""
     for length in LENGTHS:
-        for sign in SIGNS:
+        for signedness in SIGNEDNESSES:
             for op in DIVISIONS:
                 for _ in range(4):
-                    yield f"{literal(length, sign)} {op} {literal(length, sign)}"
-                    yield f"p{length}{sign[0]} {op} {literal(length, sign)}"
+                    yield f"{literal(length, signedness)} {op} {literal(length, signedness)}"
+                    yield f"p{length}{signedness[0]} {op} {literal(length, signedness)}"
 
 
 def operand():
     kind = DRAW.random()
-    length, sign = DRAW.choice(LENGTHS), DRAW.choice(SIGNS)
+    length, signedness = DRAW.choice(LENGTHS), DRAW.choice(SIGNEDNESSES)
     if kind < 0.6:
-        return name(DRAW.choice("ab"), length, sign)
+        return name(DRAW.choice("ab"), length, signedness)
     if kind < 0.75:
-        return literal(length, sign)
+        return literal(length, signedness)
     if kind < 0.85:
-        return f"p{length}{sign[0]}"
+        return f"p{length}{signedness[0]}"
     if kind < 0.95:
         high = DRAW.randrange(31)
-        return f"{name(DRAW.choice('ab'), 31, sign)}[{high}:{DRAW.randrange(high + 1)}]"
-    return f"{name(DRAW.choice('ab'), 64, sign)}[{name(DRAW.choice('ab'), 2, DRAW.choice(SIGNS))}]"
+        return f"{name(DRAW.choice('ab'), 31, signedness)}[{high}:{DRAW.randrange(high + 1)}]"
+    return f"{name(DRAW.choice('ab'), 64, signedness)}[{name(DRAW.choice('ab'), 2, DRAW.choice(SIGNEDNESSES))}]"
 
 
 def constant_operand():
-    length, sign = DRAW.choice(LENGTHS), DRAW.choice(SIGNS)
-    return literal(length, sign) if DRAW.random() < 0.7 else f"p{length}{sign[0]}"
+    length, signedness = DRAW.choice(LENGTHS), DRAW.choice(SIGNEDNESSES)
+    return literal(length, signedness) if DRAW.random() < 0.7 else f"p{length}{signedness[0]}"
 
 
 def short_operand():
     """Of at most 10 bits, for a join."""
     choices = (
-        name(DRAW.choice("ab"), DRAW.choice((1, 2)), DRAW.choice(SIGNS)),
-        literal(DRAW.choice((1, 2, 3, 8)), DRAW.choice(SIGNS)),
-        f"{name(DRAW.choice('ab'), 63, DRAW.choice(SIGNS))}[{DRAW.randrange(20, 29)}:20]",
+        name(DRAW.choice("ab"), DRAW.choice((1, 2)), DRAW.choice(SIGNEDNESSES)),
+        literal(DRAW.choice((1, 2, 3, 8)), DRAW.choice(SIGNEDNESSES)),
+        f"{name(DRAW.choice('ab'), 63, DRAW.choice(SIGNEDNESSES))}[{DRAW.randrange(20, 29)}:20]",
     )
     return DRAW.choice(choices)
 
@@ -148,7 +148,7 @@ def mixed(depth, leaf, joins=True, constants=False):
     if kind < 0.8:
         return f"({DRAW.choice(UNARY)} {again()})"
     if constants and kind < 0.9:
-        return f"({again()} {DRAW.choice(DIVISIONS)} {literal(DRAW.choice(LENGTHS), DRAW.choice(SIGNS), 1)})"
+        return f"({again()} {DRAW.choice(DIVISIONS)} {literal(DRAW.choice(LENGTHS), DRAW.choice(SIGNEDNESSES), 1)})"
     return f"({again()} {DRAW.choice(BINARY)} {again()})"
 
 
@@ -169,14 +169,14 @@ def constants():
         yield mixed(DRAW.randrange(1, 4), constant_operand, joins=False, constants=True)
 
 
-def read(value, length, sign):
+def read(value, length, signedness):
     """The whole number that the bits stand for."""
-    return value - (1 << length) if sign == "signed" and value >> (length - 1) else value
+    return value - (1 << length) if signedness == "signed" and value >> (length - 1) else value
 
 
-def binary_value(op, a, b, length, sign):
-    """What the operator gives of operands of one length and sign, b not 0, before it is cut to the length."""
-    left, right = read(a, length, sign), read(b, length, sign)
+def binary_value(op, a, b, length, signedness):
+    """What the operator gives of operands of one length and signedness, b not 0, before it is cut to the length."""
+    left, right = read(a, length, signedness), read(b, length, signedness)
     quotient = abs(left) // abs(right) * (1 if (left < 0) == (right < 0) else -1)
     return {"*": left * right, "/": quotient, "%": left - quotient * right, "+": left + right, "-": left - right,
             "<<": a << b if b < 64 else 0, "<<<": a << b if b < 64 else 0, ">>": a >> b, ">>>": left >> b,
@@ -204,26 +204,26 @@ def edges():
     """Each operator on literals at the edges of each length: the length, the value and the expression."""
     for length in LENGTHS:
         most = (1 << length) - 1
-        for sign in SIGNS:
-            mark = f"{length}'{'s' if sign == 'signed' else ''}h"
+        for signedness in SIGNEDNESSES:
+            mark = f"{length}'{'s' if signedness == 'signed' else ''}h"
             for a, b in operand_edges(length):
                 for op in BINARY + DIVISIONS:
-                    yield length, int(binary_value(op, a, b, length, sign)) & most, f"{mark}{a:x} {op} {mark}{b:x}"
+                    yield length, int(binary_value(op, a, b, length, signedness)) & most, f"{mark}{a:x} {op} {mark}{b:x}"
             for a in sorted({0, 1, (1 << length) // 3, 1 << (length - 1), most}):
                 for op in UNARY:
                     yield length, int(unary_value(op, a, length)) & most, f"{op} {mark}{a:x}"
 
 
-def declared(sign, length):
-    return f"{'signed ' if sign == 'signed' else ''}[{length - 1}:0]"
+def declared(signedness, length):
+    return f"{'signed ' if signedness == 'signed' else ''}[{length - 1}:0]"
 
 
 def module(all_rounds, all_constants):
     lines = ["module vectors;"]
-    for parameter, length, sign, value in PARAMETERS:
-        lines.append(f"localparam {declared(sign, length)} {parameter} = {length}'h{value:x};")
-    for signal, length, sign in SIGNALS:
-        lines.append(f"reg {declared(sign, length)} {signal};")
+    for parameter, length, signedness, value in PARAMETERS:
+        lines.append(f"localparam {declared(signedness, length)} {parameter} = {length}'h{value:x};")
+    for signal, length, signedness in SIGNALS:
+        lines.append(f"reg {declared(signedness, length)} {signal};")
     steps = []
     for at, (values, asked) in enumerate(all_rounds):
         steps += [f"{signal} = 64'h{value:x};" for signal, value in values] + ["#1;"]
@@ -252,8 +252,8 @@ def answers(text):
 def main():
     all_rounds, all_constants = list(rounds()), list(constants())
     told = iter(answers(module(all_rounds, all_constants)))
-    out = [f"signal {signal} {length} {sign}" for signal, length, sign in SIGNALS]
-    out += [f"parameter {parameter} {length} {sign} {value}" for parameter, length, sign, value in PARAMETERS]
+    out = [f"signal {signal} {length} {signedness}" for signal, length, signedness in SIGNALS]
+    out += [f"parameter {parameter} {length} {signedness} {value}" for parameter, length, signedness, value in PARAMETERS]
     for values, asked in all_rounds:
         out += [f"set {signal} {value}" for signal, value in values]
         for target, text in asked:
@@ -261,9 +261,9 @@ def main():
             if "x" not in answer.lower():
                 out.append(f"typed {target} {int(answer, 16)} {text}")
     for text in all_constants:
-        length, sign, answer = next(told).split()
+        length, signedness, answer = next(told).split()
         if "x" not in answer.lower():
-            out.append(f"constant {length} {SIGNS[int(sign)]} {int(answer, 16)} {text}")
+            out.append(f"constant {length} {SIGNEDNESSES[int(signedness)]} {int(answer, 16)} {text}")
     out += [f"set {signal} {value}" for signal, value in OUTSIDE_VALUES]
     out += [f"typed 1 0 {text}" for text in OUTSIDE]
     out += [f"refused {rule} {column} {text}" for rule, column, text in REFUSED]

@@ -33,7 +33,7 @@ abbrev signal_form : String → ℕ → SigKind → ℕ → SignalForm
 signal_form n w k c =
     record { name = codes n; width = w; signed = false; kind = k; label = low; place = at c }
 
--- a signal at a length, without sign
+-- an unsigned signal at a length
 abbrev reads : (width signal column : ℕ) → TypedTree
 reads w s c = typed w false (read s (at c))
 
@@ -227,7 +227,7 @@ pub a_carry_passes_the_own_bits : processes carried ≡ Some (process 34 combina
 unfolding computing
 a_carry_passes_the_own_bits = refl
 
--- A division of constants stands as its value at the pushed length and sign.
+-- A division of constants stands as its value at the pushed length and signedness.
 
 -- module m(input [7:0] a, output [8:0] y); assign y = a + 8'd255 / 8'd2; wire [31:0] w = -7 / 2;
 -- endmodule

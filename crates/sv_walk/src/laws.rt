@@ -1,5 +1,4 @@
 // What follows from the definitions of the walk, as contracts of functions that do nothing.
-
 ghost use Rattle.std.specs.Prelude.{ℕ, List, All};
 ghost use Rattle.sv_lattice.specs.Flows.{IsKnown};
 ghost use Rattle.sv_lattice.specs.Tables.{IsTableOf};

@@ -225,7 +225,8 @@ module _ (names : Names) (lengths : HaveLengths names.scope) (c : Bool) (known :
 
   pub means_at : (declared : AllDeclared names) (signals : List SignalForm)
       (has_signals : HaveSignals names signals)
-      (by_name : List ℕ → ℕ) (by_number : Environment ℕ) → HaveValues names by_name by_number
+      (by_name : Environment (List ℕ)) (by_number : Environment ℕ)
+      → HaveValues names by_name by_number
       → (width n : ℕ) (s : Bool) (f : FExpr) → width ≤ 64 → n ≡ max (own_form t).width width
       → s ≡ (own_form t).signed
       → IsPushed t n s f → flat_value signals by_number (typed_tree f) ≡

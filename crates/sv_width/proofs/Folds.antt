@@ -153,12 +153,12 @@ module _ (own : OwnForm) (op : BinOp) (place : Place) (A B : MeasuredTree) (n : 
       (value_of right)
       → IsFolded (measured.binary own op place A B) n s bits
   unfolding folded_of joined_from divisors_of divisors_in
-  binary_folded left right bits first second asked width sign value = (
+  binary_folded left right bits first second asked width signed value = (
     passes_on (divisors_of A (left_at op n A B) (left_as op s A B)) _ _ (left_end ∙ first.0)
         (passes_on (divisors_of B (right_at op n A B) (right_as op s A B)) _ _ (right_end
         ∙ second.0) (zero_end right second.3 ∙ asked)),
     width,
-    sign,
+    signed,
     value
         ∙ ap (λ x. binary_value op x (is_signed left) (value_of left) (value_of right)) (first.1
         ∙ lefts)

@@ -1,4 +1,4 @@
--- What the second walk finds of an operand at a length and sign.
+-- What the second walk finds of an operand at a length and signedness.
 use Rattle.std.proofs.Common.{◌≡◌, ℕ, ◌≤◌, Bool, List, refl, sym, ap, subst, ◌∙◌, arith}
 use Rattle.std.specs.Prelude.{IsTrue, Result}
 use Rattle.sv_num.specs.declared.faults.Fault.{Fault}

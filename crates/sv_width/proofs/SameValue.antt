@@ -37,7 +37,7 @@ pub either : {R : Type 0} (b : Bool) → (b ≡ true → R) → (b ≡ false →
 either true f g = f refl
 either false f g = g refl
 
--- ---- the length and sign of a typed form are those that are pushed
+-- ---- the length and signedness of a typed form are those that are pushed
 
 abbrev own_typed : Names → ExpressionTree → TypedTree
 own_typed names e = typed_of names e (length_of names.scope e) (signed_of names.scope e)
@@ -131,7 +131,8 @@ number_of_typed : (signals : List SignalForm) (by_number : Environment ℕ) (t :
     as_number (expression_width t) (expression_signed t) (flat_value signals by_number t)
 number_of_typed signals by_number (typed n s node) = refl
 
--- an operator's result, where each operand stands at the length and sign that its class gives it
+-- an operator's result, where each operand stands at the length and signedness that its class
+-- gives it
 pub result_at : (op : BinOp) (n : ℕ) (s : Bool) (a b : Operand)
     → binary_value op (left_length (class_of op) n a.length b.length)
     (left_signed (class_of op) s a.signed b.signed)
@@ -221,7 +222,7 @@ module _ (names : Names) (declared : AllDeclared names) where
   mutual
     unfolding value joined_value Sound SoundParts names_signal some_names_signal
 
-    pub constant_value : (environment : List ℕ → ℕ) (c : Bool) (e : ExpressionTree)
+    pub constant_value : (environment : Environment (List ℕ)) (c : Bool) (e : ExpressionTree)
         → Sound names c e → names_signal names.scope e ≡ false
         → (n : ℕ) (s : Bool) → value names.scope environment e n s ≡ value names.scope nowhere e n s
     constant_value env c (literal l p) q h n s = refl
@@ -271,7 +272,7 @@ module _ (names : Names) (declared : AllDeclared names) where
         ap (λ x. repeated (natural (whole_number names.scope k)) (joined_length names.scope es) x)
         (constant_parts env c es q.2 parts.1)
 
-    pub constant_parts : (environment : List ℕ → ℕ) (c : Bool) (es : ExpressionTrees)
+    pub constant_parts : (environment : Environment (List ℕ)) (c : Bool) (es : ExpressionTrees)
         → SoundParts names c es
         → some_names_signal names.scope es ≡ false
         → joined_value names.scope environment es ≡ joined_value names.scope nowhere es
@@ -288,7 +289,7 @@ module _ (names : Names) (declared : AllDeclared names) where
   -- ---- typed forms
 
   module _ (signals : List SignalForm) (has_signals : HaveSignals names signals)
-      (by_name : List ℕ → ℕ) (by_number : Environment ℕ)
+      (by_name : Environment (List ℕ)) (by_number : Environment ℕ)
       (has_values : HaveValues names by_name by_number) where
     -- a name's node has the value of what it stands for
     named_value : (m : List ℕ) (p : Place) (n : ℕ) (s : Bool) (b : Option Binding)
@@ -402,16 +403,16 @@ module _ (names : Names) (declared : AllDeclared names) where
         (at_own (length_of names.scope i) (signed_of names.scope i) (value names.scope by_name i))
     bit_same m p i there same =
         let own : ℕ = length_of names.scope i in
-        let sign : Bool = signed_of names.scope i in
+        let signed : Bool = signed_of names.scope i in
         let known = signal_there m (names.scope m) refl there in
         let index : number_of signals by_number (typed_own i) ≡
-        as_number own sign (value names.scope by_name i own sign) =
+        as_number own signed (value names.scope by_name i own signed) =
         number_of_typed signals by_number (typed_own i)
         ∙ ap (λ x. as_number x (expression_signed (typed_own i))
-        (flat_value signals by_number (typed_own i))) (type_of_typed names i own sign).0
+        (flat_value signals by_number (typed_own i))) (type_of_typed names i own signed).0
         ∙ ap (λ x. as_number own x (flat_value signals by_number (typed_own i)))
-        (type_of_typed names i own sign).1
-        ∙ ap (λ x. as_number own sign x) same in
+        (type_of_typed names i own signed).1
+        ∙ ap (λ x. as_number own signed x) same in
         ap (λ x. bit_or_zero x (by_number (names.number m))
         (number_of signals by_number (typed_own i))) known.0
         ∙ ap (λ x. bit_or_zero (width_of (names.scope m)) x

@@ -148,7 +148,7 @@ module _ (names : Names) (declared : AllDeclared names) (lengths : HaveLengths n
       typed_formed names declared lengths signals has_signals c e (passed_sound names c e passes)
       shape numbers n s fits long
 
-  -- a typed form of a length and sign
+  -- a typed form of a length and signedness
   abbrev IsTyped : (n : ℕ) → (s : Bool) → TypedTree → Type 0
   IsTyped n s e =
       (well_formed signals e ≡ true) × (expression_width e ≡ n) × (expression_signed e ≡ s)

@@ -201,7 +201,7 @@ module _ (names : Names) (declared : AllDeclared names) (lengths : HaveLengths n
       (length_of names.scope b) (signed_of names.scope a) (signed_of names.scope b))
       left right))
 
-  -- at its own length and sign
+  -- at its own length and signedness
   alone : (c : Bool) (e : ExpressionTree) → Sound names c e → IsTrue (is_shaped_expression e)
       → NumbersHaveLengths e
       → ((n : ℕ) (s : Bool) → length_of names.scope e ≤ n → IsLength n

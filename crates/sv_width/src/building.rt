@@ -1,13 +1,14 @@
 // One step of the first walk: an expression from its measured operands.
 ghost use Rattle.std.specs.Prelude.{◌≡◌, ◌≤◌, ◌*◌, ◌↔◌, ◌<◌, false, true, Ok, IfOk, OnOk, IfErr};
-ghost use Rattle.std.specs.Prelude.{IsSome, IfSome, IsTrue};
+ghost use Rattle.std.specs.Prelude.{IsSome, IfSome, IsTrue, Some, None, if◌then◌else◌};
 ghost use Rattle.sv_num.specs.Vectors.{width_of, is_signed, value_of, number_of};
-ghost use Rattle.sv_ast.specs.Views.{expression_trees, parts_of as tree_parts};
+ghost use Rattle.sv_ast.specs.Views.{expression_tree, expression_trees, parts_of as tree_parts};
 ghost use Rattle.sv_ast.specs.Values.{natural};
 ghost use Rattle.sv_num.specs.Parts.{span_of};
 ghost use Rattle.sv_walk.specs.Walks.{ask};
+ghost use Rattle.sv_walk.specs.Names.{place_of};
 ghost use Rattle.sv_walk.specs.Rules.{bad_select};
-ghost use Rattle.sv_walk.specs.ExpressionSteps.{is_below, is_part, sized_parts};
+ghost use Rattle.sv_walk.specs.ExpressionSteps.{is_below, is_part, is_sized, sized_parts};
 ghost use Rattle.sv_width.specs.Answers.{IsBreach};
 ghost use Rattle.sv_width.specs.Measured as measured;
 ghost use Rattle.sv_width.specs.Measured.{own_form};
@@ -298,21 +299,27 @@ pub fn replication(
 }
 
 // Rule 407 refuses a number without a written length that stands directly in a join or replication.
-#[tactic(auto, unfolding(sv_walk::specs::ExpressionSteps::sized_parts))]
 fn sized_parts(alloc: Global, parts: &[Expr]) -> Result<(), Fault>
     ensures asked { OnOk result ((sized_parts (tree_parts (expression_trees parts.now))).end ≡
         Ok tt) }
     ensures broken { IfErr result
         (IsBreach (sized_parts (tree_parts (expression_trees parts.now))).end) }
 {
-    for part in parts {
-        if let Expr::Number(number, place) = part
-            && !number.sized
-        {
-            return Err(refusal(alloc, 407, *place));
-        }
+    match parts.iter().find_map(unsized_place) {
+        Some(place) => Err(refusal(alloc, 407, place)),
+        None => Ok(()),
     }
-    Ok(())
+}
+
+// The place of a number without a written length.
+fn unsized_place(part: &Expr) -> Option<Place>
+    ensures { let tree = expression_tree part.now in
+        result ≡ (if is_sized tree then None else Some (place_of tree)) }
+{
+    match part {
+        Expr::Number(number, place) if !number.sized => Some(*place),
+        _ => None,
+    }
 }
 
 // Whether one of the operands names a signal.

@@ -13,8 +13,8 @@ use sv_num::{BinOp, Bits, Place, UnOp};
 /// An expression's own length and signedness, and whether it names a signal.
 #[derive(Clone, Copy, Debug, PartialEq, Eq)]
 pub struct Own {
-    pub(crate) of_type: BitType,
-    pub(crate) names_signal: bool,
+    pub of_type: BitType,
+    pub names_signal: bool,
 }
 
 /// An expression that breaks no rule but perhaps 405, each operand with its own length and
@@ -35,7 +35,7 @@ pub enum Measured {
 
 impl Measured {
     /// What the expression is by itself.
-    pub(crate) fn own(&self) -> Own
+    pub fn own(&self) -> Own
         ensures { plain_own result ≡ own_form (measured_tree self.now) }
     {
         match self {
@@ -52,7 +52,7 @@ impl Measured {
     }
 
     /// The expression's own length and signedness.
-    pub(crate) fn own_type(&self) -> BitType
+    pub fn own_type(&self) -> BitType
         ensures width { result.width ≡ (own_form (measured_tree self.now)).width }
         ensures signed { result.signed ≡ (own_form (measured_tree self.now)).signed }
     {
@@ -60,7 +60,7 @@ impl Measured {
     }
 
     /// Whether a signal is named in the expression.
-    pub(crate) fn names_some_signal(&self) -> bool
+    pub fn names_some_signal(&self) -> bool
         ensures { result ≡ (own_form (measured_tree self.now)).names_signal }
     {
         self.own().names_signal

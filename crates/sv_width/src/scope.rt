@@ -98,7 +98,7 @@ impl Scope {
     }
 
     /// Whether the name is announced as a signal.
-    pub fn is_announced(&self, name: &Name) -> bool
+    pub(crate) fn is_announced(&self, name: &Name) -> bool
         ensures { result ≡ list_any (bytes_eq name.now) self.now.announced }
     {
         self.announced.contains(name)

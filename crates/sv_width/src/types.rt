@@ -11,9 +11,9 @@ use sv_num::{BinOp, Bits, OpClass, class_of};
 /// A length of 1 to 64 bits, and a signedness.
 #[derive(Clone, Copy, Debug, PartialEq, Eq)]
 pub struct BitType {
-    pub(crate) width: u8,
-    pub(crate) signed: bool,
-    pub(crate) ghost in_range: { (1 ≤ width) × (width ≤ 64) },
+    pub width: u8,
+    pub signed: bool,
+    pub ghost in_range: { (1 ≤ width) × (width ≤ 64) },
 }
 
 /// One unsigned bit.

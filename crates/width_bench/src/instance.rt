@@ -1,9 +1,8 @@
 // Signals with values, and what names stand for.
-ghost use Rattle.std.specs.Prelude.{◌^◌, ◌<◌, length, slice_index, IsTrue};
+ghost use Rattle.std.specs.Prelude.{◌^◌, ◌<◌, IsTrue};
 ghost use Rattle.sv_ast.specs.Shape.{is_shaped_expression};
 ghost use Rattle.sv_ast.specs.Views.{expression_tree};
 ghost use Rattle.sv_flat.specs.ByNumber.{signal_forms, FitSignals};
-ghost use Rattle.sv_flat.specs.Values.{signal_width};
 
 use anyhow::{Context, Result, bail, ensure};
 use std::alloc::{AllocError, Global};
@@ -26,7 +25,7 @@ pub struct Instance {
 
 impl Instance {
     /// Nothing yet.
-    pub(crate) fn new(alloc: Global) -> Instance {
+    pub fn new(alloc: Global) -> Instance {
         Instance {
             alloc,
             scope: Scope::new(alloc),
@@ -36,7 +35,7 @@ impl Instance {
     }
 
     /// Adds a signal, with the value 0.
-    pub(crate) fn add_signal(&mut self, name: &str, width: u8, signed: bool) -> Result<()> {
+    pub fn add_signal(&mut self, name: &str, width: u8, signed: bool) -> Result<()> {
         ensure!(1 <= width && width <= 64, "a signal has 1 to 64 bits");
         let number = self.signals.len();
         ensure!(number < 4_294_967_295, "too many signals");
@@ -59,14 +58,14 @@ impl Instance {
     }
 
     /// Adds a parameter.
-    pub(crate) fn add_parameter(&mut self, name: &str, bits: Bits) -> Result<()> {
+    pub fn add_parameter(&mut self, name: &str, bits: Bits) -> Result<()> {
         let name = Name::new(self.alloc, name.as_bytes())?;
         self.scope.add_param(name, bits, NOWHERE)?;
         Ok(())
     }
 
     /// Gives the signal of a name another value.
-    pub(crate) fn set(&mut self, name: &str, value: u64) -> Result<()> {
+    pub fn set(&mut self, name: &str, value: u64) -> Result<()> {
         let name = Name::new(self.alloc, name.as_bytes())?;
         let Some(Meaning::Signal(known)) = self.scope.find(&name) else {
             bail!("no signal has this name");
@@ -80,7 +79,7 @@ impl Instance {
     }
 
     /// The typed form of an expression for a target of so many bits.
-    pub(crate) fn typed(&self, expr: &Expr, target: u8) -> Result<FExpr>
+    pub fn typed(&self, expr: &Expr, target: u8) -> Result<FExpr>
         requires { IsTrue (is_shaped_expression (expression_tree expr.now)) }
     {
         ensure!(target <= 64, "a target has at most 64 bits");
@@ -88,7 +87,7 @@ impl Instance {
     }
 
     /// Types an expression so many times.
-    pub(crate) fn type_times(&self, expr: &Expr, target: u8, times: u32) -> Result<()>
+    pub fn type_times(&self, expr: &Expr, target: u8, times: u32) -> Result<()>
         requires { IsTrue (is_shaped_expression (expression_tree expr.now)) }
     {
         for _ in 0..times {
@@ -99,7 +98,7 @@ impl Instance {
 
     /// The rule that an expression breaks where no length is asked for, and the column where it
     /// does.
-    pub(crate) fn broken_rule(&self, expr: &Expr) -> Option<(u16, u32)>
+    pub fn broken_rule(&self, expr: &Expr) -> Option<(u16, u32)>
         requires { IsTrue (is_shaped_expression (expression_tree expr.now)) }
     {
         match typed(self.alloc, expr, &self.scope, 0) {
@@ -109,14 +108,14 @@ impl Instance {
     }
 
     /// The value of a constant.
-    pub(crate) fn constant(&self, expr: &Expr) -> Result<Bits>
+    pub fn constant(&self, expr: &Expr) -> Result<Bits>
         requires { IsTrue (is_shaped_expression (expression_tree expr.now)) }
     {
         Ok(constant(self.alloc, expr, &self.scope)?)
     }
 
     /// The value of a typed expression, cut to a target of so many bits.
-    pub(crate) fn value(&self, expr: &FExpr, target: u8) -> Result<u64> {
+    pub fn value(&self, expr: &FExpr, target: u8) -> Result<u64> {
         let is_formed = well_formed(expr, &self.signals);
         ensure!(is_formed, "the typed form is not well formed");
         let do_fit = do_values_fit(&self.signals, &self.values);
@@ -126,7 +125,7 @@ impl Instance {
 
     /// The values of a typed expression, each after a step of the signals, all joined by exclusive
     /// or.
-    pub(crate) fn evaluate(&mut self, expr: &FExpr, times: u32) -> Result<u64> {
+    pub fn evaluate(&mut self, expr: &FExpr, times: u32) -> Result<u64> {
         let signals = self.signals.as_slice();
         let is_formed = well_formed(expr, signals);
         ensure!(is_formed, "the typed form is not well formed");
@@ -163,23 +162,16 @@ fn cut(value: u64, width: u8) -> u64 {
 fn do_values_fit(signals: &[Signal], values: &[u64]) -> bool
     ensures { IsTrue result → FitSignals (signal_forms signals.now) values.now }
 {
-    if values.len() != signals.len() {
-        return false;
-    }
-    for place in 0..values.len() {
-        if !does_value_fit(signals, values, place) {
-            return false;
-        }
-    }
-    true
+    values.len() == signals.len()
+        && signals
+            .iter()
+            .zip(values)
+            .all(|(signal, value)| does_value_fit(signal, *value))
 }
 
-// Whether the value at a place is one of the signal's width.
-fn does_value_fit(signals: &[Signal], values: &[u64], place: usize) -> bool
-    requires signal { place < length signals.now }
-    requires value { place < length values.now }
-    ensures { IsTrue result →
-        slice_index values.now place < 2 ^ signal_width (signal_forms signals.now) place }
+// Whether a value is one of the signal's width.
+fn does_value_fit(signal: &Signal, value: u64) -> bool
+    ensures { IsTrue result → value < 2 ^ signal.now.width }
 {
-    Bits::new(signals[place].width, false, values[place]).is_some()
+    Bits::new(signal.width, false, value).is_some()
 }

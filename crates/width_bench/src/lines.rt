@@ -1,26 +1,25 @@
 // Lines of the input.
-
 use anyhow::{Context, Result, bail};
 
 /// A length and a signedness.
 #[derive(Clone, Copy, PartialEq, Eq)]
 pub struct Kind {
-    pub(crate) width: u8,
-    pub(crate) signed: bool,
+    pub width: u8,
+    pub signed: bool,
 }
 
 /// What a line says.
 #[derive(Drop)]
 pub enum Line<'a> {
-    /// `signal NAME LENGTH SIGN`
+    /// `signal NAME LENGTH SIGNEDNESS`
     Signal(&'a str, Kind),
-    /// `parameter NAME LENGTH SIGN VALUE`
+    /// `parameter NAME LENGTH SIGNEDNESS VALUE`
     Parameter(&'a str, Kind, u64),
     /// `set NAME VALUE`
     Set(&'a str, u64),
     /// `typed TARGET VALUE EXPRESSION`
     Typed(u8, u64, &'a str),
-    /// `constant LENGTH SIGN VALUE EXPRESSION`
+    /// `constant LENGTH SIGNEDNESS VALUE EXPRESSION`
     Constant(Kind, u64, &'a str),
     /// `refused RULE COLUMN EXPRESSION`
     Refused(u16, u32, &'a str),
@@ -92,10 +91,10 @@ fn word(text: &str) -> Result<(&str, &str)> {
 // A length and a signedness, and what is behind them; nothing where the line ends there.
 fn read_kind(text: &str) -> Result<(Kind, &str)> {
     let (width, rest) = word(text)?;
-    let (sign, rest) = rest.split_once(' ').unwrap_or((rest, ""));
+    let (signedness, rest) = rest.split_once(' ').unwrap_or((rest, ""));
     let kind = Kind {
         width: width.parse::<u8>()?,
-        signed: sign == "signed",
+        signed: signedness == "signed",
     };
     Ok((kind, rest))
 }

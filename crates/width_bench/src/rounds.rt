@@ -1,5 +1,4 @@
 // Expressions, typed or evaluated again and again.
-
 use crate::instance::Instance;
 use crate::lines::{Line, read_line};
 use crate::reading::expression;

@@ -1,5 +1,4 @@
 // Values that Icarus Verilog gave, and rules that are broken, against those of this program.
-
 use crate::instance::Instance;
 use crate::lines::{Kind, Line, read_line};
 use crate::reading::expression;

@@ -373,7 +373,7 @@ def simulations():
             answer = run(["sim", path], stdout=full, given=stimulus.encode())
         compare("sim to a full device", (answer.stderr.decode(), answer.returncode), (FULL, 5))
         answer = run(["sim", path], before=lambda: os.close(0))
-        compare("sim without an input", (answer.stdout, answer.stderr, answer.returncode), (b"", b"secv: the input could not be read\n", 4))
+        compare("sim without an input", (answer.stdout, answer.stderr, answer.returncode), (b"", b"secv: the input could not be read: Bad file descriptor (os error 9)\n", 4))
         program = subprocess.Popen([SECV, "sim", path], stdin=subprocess.PIPE, stdout=subprocess.PIPE)
         program.stdin.write(b"inputs en d\n1 3\n")
         program.stdin.flush()

@@ -37,7 +37,7 @@ SAID = {101: "no token begins with this byte", 102: "this is no number, or too l
         603: "this signal has a driver already, or is an input of the top", 604: "nothing drives this signal",
         605: "this block does not assign the signal on every path", 606: "this signal is read before its block has assigned it for good",
         607: "the signals named read each other in a circle"}
-UNDECIDED = "secv: only modules of one-bit signals are decided so far; docs/language.md says which\n"
+UNDECIDED = "secv: only simple modules of one-bit signals are decided so far; docs/language.md says which\n"
 SUM = "module s #(parameter P = 1, Q = 2) (input [3:0] i, output [3:0] o);\n  localparam R = 3;\n  assign o = i + P + Q + R;\nendmodule\n"
 USE = "module t(input [3:0] a, output [3:0] y);\n"
 V = "module m(input a, input [3:0] v, output [7:0] y);\n  "

@@ -179,7 +179,7 @@ def inputs(folder):
     folder_read = os.open(folder, os.O_RDONLY)
     answer = run(folder, SUM, None, stdin=folder_read)
     os.close(folder_read)
-    compare("a folder as the input", (answer.stdout, answer.stderr, answer.returncode), (b"", b"secv: the input could not be read\n", 4))
+    compare("a folder as the input", (answer.stdout, answer.stderr, answer.returncode), (b"", b"secv: the input could not be read: Is a directory (os error 21)\n", 4))
     with open("/dev/null", "rb") as empty:
         answer = run(folder, SUM, None, stdin=empty)
     compare("an empty device as the input", (answer.stdout, answer.returncode), (b"refused stimulus input 1 header\n", 1))

@@ -1,6 +1,5 @@
 // Copies of a text and of a flat design, and of all that stands in them, once with ample memory.
 // That a copy is equal is proved.
-
 use std::alloc::{AllocError, Global};
 use std::test::Fail;
 use sv_ast::{Expr, Item, Module, Stmt, Text};

@@ -107,7 +107,9 @@ fn an_input_that_breaks_is_a_fault(rt: HostRuntime) {
     assert_eq!(rt; input.take(&mut buf), Ok(1));
     assert_eq!(rt; input.take(&mut buf), Ok(0));
     assert_eq!(rt; input.take(&mut buf), Ok(1));
+    assert!(rt; input.last_error().is_none());
     assert_eq!(rt; input.take(&mut buf), Err(Failed));
+    assert_eq!(rt; cause(input.last_error()), Some(ErrorKind::BrokenPipe));
 }
 
 #[test]

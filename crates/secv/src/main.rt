@@ -6,12 +6,13 @@
 //! contract.
 #![tactic(auto)]
 
+ghost use Rattle.std.specs.Prelude.{◌≡◌};
 ghost use Rattle.sv_words.specs.Words.{words_of};
 ghost use Rattle.secv.specs.Ends.{IsShown, Shows, Prints, Ends, traffic};
 
 mod messages;
 
-use messages::{explain, explain_output, explain_words};
+use messages::{Causes, explain, explain_memory, explain_output, explain_words};
 use std::io::{self, ErrorKind, Stdin, Stdout};
 use std::process::ExitCode;
 use sv_cli::run;
@@ -55,7 +56,7 @@ fn main(rt: HostRuntime) -> ExitCode {
             explain_words(&rt, "an argument is not UTF-8");
             print(&rt, &mut out, "usage words\n", WRONG_WORDS)
         }
-        Err(_) => OUT_OF_MEMORY,
+        Err(_) => end_without_memory(&rt),
     };
     ExitCode::from(status)
 }
@@ -95,7 +96,7 @@ fn print_help(rt: &HostRuntime, out: &mut StdSink<Stdout>, name: CommandName) ->
 {
     match help_text(rt.alloc(), name) {
         Ok(text) => print(rt, out, text.as_str(), DONE),
-        Err(_) => OUT_OF_MEMORY,
+        Err(_) => end_without_memory(rt),
     }
 }
 
@@ -110,8 +111,16 @@ fn print(rt: &HostRuntime, out: &mut StdSink<Stdout>, text: &str, status: u8) ->
             explain_output(rt, out.last_error());
             WRITE_FAULT
         }
-        Err(PutFault::OutOfMemory) => OUT_OF_MEMORY,
+        Err(PutFault::OutOfMemory) => end_without_memory(rt),
     }
+}
+
+// Says that memory ran out, and gives the status of that.
+fn end_without_memory(rt: &HostRuntime) -> u8
+    ensures { result ≡ 6 }
+{
+    explain_memory(rt);
+    OUT_OF_MEMORY
 }
 
 // The status of what `run` answers.
@@ -126,6 +135,11 @@ fn command(
         (traffic cabinet.new input.new out.new) result }
 {
     let outcome = run(rt.alloc(), words, cabinet, input, out);
-    explain(rt, words, &outcome, cabinet.last_error(), out.last_error());
+    let causes = Causes {
+        file: cabinet.last_error(),
+        input: input.last_error(),
+        output: out.last_error(),
+    };
+    explain(rt, words, &outcome, &causes);
     outcome.status()
 }

@@ -1,40 +1,44 @@
 // What is said to a person on standard error, one line each. Where it cannot be said nothing else
 // changes.
-
 use std::io;
 use sv_cli::{Broken, Outcome, UsageKind};
 use sv_num::{Place, Refusal};
 use sv_words::{Command, read_words};
 
 const UNDECIDED: &str =
-    "secv: only modules of one-bit signals are decided so far; docs/language.md says which";
+    "secv: only simple modules of one-bit signals are decided so far; docs/language.md says which";
 
 const UNBUILT: &str =
     "secv: memories, invariants and released values are not built; docs/language.md says more";
 
 const MEMORY: &str = "secv: memory ran out";
 
+/// The system's error at the last call that failed, of the files, of the input and of the output.
+#[derive(Drop)]
+pub struct Causes<'a> {
+    pub file: Option<&'a io::Error>,
+    pub input: Option<&'a io::Error>,
+    pub output: Option<&'a io::Error>,
+}
+
 /// What stood in the way of a verdict, or what else than the printed answer a person may want to
 /// know.
-pub fn explain(
-    rt: &HostRuntime,
-    words: &[String],
-    outcome: &Outcome,
-    file_error: Option<&io::Error>,
-    output_error: Option<&io::Error>,
-) {
+pub fn explain(rt: &HostRuntime, words: &[String], outcome: &Outcome, causes: &Causes) {
     match outcome {
         Outcome::Done => {}
         Outcome::Refused(Broken::Rule(refusal)) => explain_rule(rt, words, refusal),
         Outcome::Refused(_) => {}
         Outcome::Usage(kind) => explain_usage(rt, words, *kind),
-        Outcome::ReadFault => explain_file(rt, words, file_error),
-        Outcome::WriteFault => explain_output(rt, output_error),
-        Outcome::OutOfMemory => {
-            // not used: where this cannot be written, the status tells of it
-            let _ = rt.eprintln(MEMORY);
-        }
+        Outcome::ReadFault => explain_read(rt, words, causes),
+        Outcome::WriteFault => explain_output(rt, causes.output),
+        Outcome::OutOfMemory => explain_memory(rt),
     }
+}
+
+/// That memory ran out.
+pub fn explain_memory(rt: &HostRuntime) {
+    // not used: where this cannot be written, the status tells of it
+    let _ = rt.eprintln(MEMORY);
 }
 
 // What is said of each rule.
@@ -131,7 +135,7 @@ fn fault_of(number: u16) -> Option<&'static str> {
     FAULTS.iter().find(|row| row.0 == number).map(|row| row.1)
 }
 
-// What the words ask for, if they ask for something and memory does not run out.
+// What the words ask for; None where memory runs out, or they ask for nothing.
 fn command_of(rt: &HostRuntime, words: &[String]) -> Option<Command> {
     read_words(rt.alloc(), words).ok()
 }
@@ -147,7 +151,7 @@ fn file_in(command: &Command) -> &str {
 // What is wrong at the place of a broken rule.
 fn explain_rule(rt: &HostRuntime, words: &[String], refusal: &Refusal) {
     let Some(command) = command_of(rt, words) else {
-        return;
+        return explain_memory(rt);
     };
     let Some(fault) = fault_of(refusal.number) else {
         let is_check = matches!(command, Command::Check { .. });
@@ -200,16 +204,30 @@ pub fn explain_words(rt: &HostRuntime, fault: &str) {
     );
 }
 
+// Why the system did not read the file, or else the input.
+fn explain_read(rt: &HostRuntime, words: &[String], causes: &Causes) {
+    match causes.file {
+        Some(error) => explain_file(rt, words, error),
+        None => explain_input(rt, causes.input),
+    }
+}
+
 // The file and why the system did not read it. Control characters of the name are escaped.
-fn explain_file(rt: &HostRuntime, words: &[String], error: Option<&io::Error>) {
+fn explain_file(rt: &HostRuntime, words: &[String], error: &io::Error) {
     let Some(command) = command_of(rt, words) else {
-        return;
+        return explain_memory(rt);
     };
     let name = file_in(&command).escape_debug();
     // not used: where this cannot be written, the status tells of it
+    let _ = eprintln!(rt; "secv: {name}: {error}");
+}
+
+// Why the system did not read the input.
+fn explain_input(rt: &HostRuntime, error: Option<&io::Error>) {
+    // not used: where this cannot be written, the status tells of it
     let _ = match error {
-        Some(error) => eprintln!(rt; "secv: {name}: {error}"),
-        None => eprintln!(rt; "secv: the input could not be read"),
+        Some(error) => eprintln!(rt; "secv: the input could not be read: {error}"),
+        None => rt.eprintln("secv: the input could not be read"),
     };
 }
 

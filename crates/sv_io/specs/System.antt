@@ -19,7 +19,8 @@ file_faults cabinet = cabinet.faults
 abbrev pub file_failed : {R F O : Type 0} → FileCabinet R F O → Bool
 file_failed cabinet = is_some cabinet.last_error
 
--- the reader, the bytes that were given, whether the end was shown, and how often the system failed
+-- the reader, the bytes that were given, whether the end was shown, how often the system failed,
+-- and whether it failed so far
 abbrev pub source_reader : {R : Type 0} → StdSource R → R
 source_reader source = source.reader
 
@@ -31,6 +32,9 @@ source_ended source = source.ended
 
 abbrev pub source_faults : {R : Type 0} → StdSource R → ℕ
 source_faults source = source.faults
+
+abbrev pub source_failed : {R : Type 0} → StdSource R → Bool
+source_failed source = is_some source.last_error
 
 -- the writer, the bytes that were accepted, how often the system failed,
 -- and whether it failed so far

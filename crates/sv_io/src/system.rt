@@ -134,12 +134,14 @@ fn read_front(files: &impl Files, name: &str, most: u64, bytes: &mut Vec<u8>) ->
 pub struct StdSource<R: Read> {
     reader: R,
     faults: u64,
+    last_error: Option<io::Error>,
     ended: bool,
     given: Passed,
 }
 
 impl<R: Read> StdSource<R> {
     ghost use Rattle.sv_io.specs.System.{source_reader, source_given, source_ended, source_faults};
+    ghost use Rattle.sv_io.specs.System.{source_failed};
 
     /// Over a reader, as the runtime's `stdin()`.
     pub fn new(reader: R) -> StdSource<R>
@@ -147,18 +149,29 @@ impl<R: Read> StdSource<R> {
         ensures none_given { source_given result ≡ [] }
         ensures not_ended { source_ended result ≡ false }
         ensures no_fault { source_faults result ≡ 0 }
+        ensures no_error { source_failed result ≡ false }
     {
         StdSource {
             reader,
             faults: 0,
+            last_error: None,
             ended: false,
             given: Passed::new(),
         }
+    }
+
+    /// The error of the system at the last take that failed, None where none did. It is there for
+    /// the messages that a program shows to a person.
+    pub fn last_error(&self) -> Option<&io::Error>
+        ensures { is_some result ≡ source_failed self.now }
+    {
+        self.last_error.as_ref()
     }
 }
 
 impl<R: Read> Source for StdSource<R> {
     ghost use Rattle.sv_io.specs.System.{source_reader, source_given, source_ended, source_faults};
+    ghost use Rattle.sv_io.specs.System.{source_failed};
 
     ghost given = { source_given };
 
@@ -189,6 +202,7 @@ impl<R: Read> Source for StdSource<R> {
             IsAtEnd (R.remaining (source_reader self.new))) }
         ensures none_read { OnErr result
             (Keeps (R.remaining (source_reader self.old)) (R.remaining (source_reader self.new))) }
+        ensures cause { IsErr result → IsTrue (source_failed self.new) }
     {
         match read_some(&mut self.reader, buf) {
             Ok(count) => {
@@ -198,8 +212,9 @@ impl<R: Read> Source for StdSource<R> {
                 self.ended = self.ended || shows_end(count, buf);
                 Ok(count)
             }
-            Err(_) => {
+            Err(error) => {
                 self.faults = self.faults.saturating_add(1);
+                self.last_error = Some(error);
                 Err(Failed)
             }
         }

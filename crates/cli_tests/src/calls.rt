@@ -1,5 +1,4 @@
 // Calls of `run` over files and streams in memory.
-
 use std::alloc::{AllocError, Global};
 use sv_cli::run;
 use sv_io::{MemCabinet, MemSink, MemSource, Sink, Source};

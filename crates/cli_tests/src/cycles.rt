@@ -1,5 +1,4 @@
 // A million cycles, of which nothing is kept: the source repeats a line and the sink counts bytes.
-
 use crate::calls::status_of;
 use crate::texts::INVERTERS;
 use std::alloc::{AllocError, Global};

@@ -1,5 +1,4 @@
 // What is left of an output where a stream fails.
-
 use crate::calls::{Streams, called};
 use crate::texts::{COUNTER, GATE, INVERTERS, TURN};
 use std::alloc::Global;

@@ -1,5 +1,4 @@
 // What follows from the meaning of texts, as contracts of functions that do nothing.
-
 ghost use Rattle.std.specs.Prelude.{◌≡◌, ◌↔◌, ◌⊎◌, ℕ, List, Option, IsTrue};
 ghost use Rattle.sv_cli.specs.Answer.{Answer, IsVerdict, IsListing, AreCircles};
 ghost use Rattle.sv_first_ast.specs.Form.{is_first_form};

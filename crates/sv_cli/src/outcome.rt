@@ -1,5 +1,4 @@
 // What a call of the program comes to.
-
 ghost use Rattle.std.specs.Prelude.{◌≡◌};
 ghost use Rattle.sv_cli.specs.Answer.{status_of};
 

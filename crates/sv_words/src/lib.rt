@@ -6,7 +6,7 @@
 //!
 //! Which words a command takes is said in `specs/Lines.antt`, in the words of `clap`'s own
 //! specification of a simple command, and what they ask for in `specs/Words.antt`. `Found.antt` is
-//! private: it says how the code goes.
+//! private: it says how the code goes; the meaning stands in those two.
 #![tactic(auto)]
 
 mod command;

@@ -1,5 +1,4 @@
 // The list of a design's obligations, with the line of each.
-
 use crate::texts::design;
 use std::alloc::Global;
 use std::test::Fail;

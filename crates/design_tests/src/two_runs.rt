@@ -1,5 +1,4 @@
 // What a level sees of a run, and two runs of one design, compared at the public level.
-
 use crate::texts::design;
 use std::alloc::Global;
 use std::process::Abort;

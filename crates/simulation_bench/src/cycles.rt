@@ -1,5 +1,4 @@
 // Many cycles of a design.
-
 use anyhow::{Result, ensure};
 use std::alloc::Global;
 use sv_design::Design;

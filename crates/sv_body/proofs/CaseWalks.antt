@@ -113,7 +113,7 @@ module _ (names : Names) (e : ExpressionTree) (o : Measured) (is : IsOperandOf n
       (all_signed_is names items each ∙ ap (items_signed names) all
       ∙ sym (arms_sign_items names arms))
 
--- ---- the walk of a case, at a length and sign that are the common ones
+-- ---- the walk of a case, at a length and signedness that are the common ones
 
 module _ (names : Names) (p : Place) (e : ExpressionTree) (arms : ArmTrees) (n : ℕ) (s : Bool)
     (length_is : n ≡ common_length names e arms) (sign_is : s ≡ common_signed names e arms) where

@@ -23,16 +23,16 @@ use sv_width::{Operand, Scope};
 /// A length of 1 to 64 bits and a signedness, at which the selector and all items of a case stand.
 #[derive(Clone, Copy, Debug)]
 pub struct CaseType {
-    pub(crate) width: u8,
-    pub(crate) signed: bool,
-    pub(crate) ghost in_range: { (1 ≤ width) × (width ≤ 64) },
+    pub width: u8,
+    pub signed: bool,
+    pub ghost in_range: { (1 ≤ width) × (width ≤ 64) },
 }
 
 /// An item of a case, with its operand unless it breaks a rule of the first walk.
 #[derive(Debug, Drop)]
 pub struct Item<'a> {
-    pub(crate) expr: &'a Expr,
-    pub(crate) operand: Option<Operand>,
+    pub expr: &'a Expr,
+    pub operand: Option<Operand>,
 }
 
 // The operand of an item, unless it breaks a rule.

@@ -16,9 +16,9 @@ use sv_num::{BinOp, OutOfMemory, Place};
 /// arm without items is the default.
 #[derive(Debug, Drop)]
 pub struct FlatArm {
-    pub(crate) place: Place,
-    pub(crate) items: Vec<FExpr>,
-    pub(crate) body: FStmt,
+    pub place: Place,
+    pub items: Vec<FExpr>,
+    pub body: FStmt,
 }
 
 /// A statement that does nothing.

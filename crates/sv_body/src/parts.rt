@@ -8,11 +8,11 @@ use sv_num::Place;
 /// target's name.
 #[derive(Clone, Copy, Debug)]
 pub struct Part {
-    pub(crate) signal: SigId,
-    pub(crate) place: Place,
-    pub(crate) high: u8,
-    pub(crate) low: u8,
-    pub(crate) ghost in_order: { (low ≤ high) × (high < 64) },
+    pub signal: SigId,
+    pub place: Place,
+    pub high: u8,
+    pub low: u8,
+    pub ghost in_order: { (low ≤ high) × (high < 64) },
 }
 
 impl Part {
@@ -21,7 +21,7 @@ impl Part {
     ghost use Rattle.sv_body.specs.Targets.{piece_at};
 
     /// How many bits there are, 1 to 64.
-    pub(crate) fn width(self) -> u8
+    pub fn width(self) -> u8
         ensures width { result ≡ span_of self.high self.low }
         ensures few { result ≤ 64 }
     {
@@ -29,7 +29,7 @@ impl Part {
     }
 
     /// The piece of a value that gives these bits its own, from so many up.
-    pub(crate) fn piece(self, from: u8) -> Piece
+    pub fn piece(self, from: u8) -> Piece
         ensures { piece_form result ≡ piece_at from self }
     {
         Piece {

@@ -22,7 +22,7 @@ use Rattle.sv_walk.specs.LabelMaps.{default_walk}
 use Rattle.sv_elab.specs.MapParts.{bits_in, is_row_key, IsValue, IsTable, IsRow, IsWrongRow}
 use Rattle.sv_elab.specs.MapParts.{table_point}
 
--- a value at its own length and sign is itself
+-- a value at its own length and signedness is itself
 own_value_kept : (n v : ℕ) (s : Bool) → v < 2 ^ n → reduced n (as_number n s v) ≡ v
 own_value_kept n v s low = by (is_negative n s v)
   where

@@ -131,7 +131,8 @@ module _ (text : Text) (top : Option (List ℕ)) where
       built_breach f =
           breach_on f _ _ (built_broken (text_tree text) top order ordered maps at_maps)
 
-      pub whole_end : (built : Built) → (modules_walk (text_tree text) top order maps).end ≡ Ok built
+      pub whole_end : (built : Built)
+          → (modules_walk (text_tree text) top order maps).end ≡ Ok built
           → (walk_of (text_tree text) top).end ≡
           Ok (design_of order (tables_of (text_tree text).modules order maps) built)
       whole_end = text_end (text_tree text) top order ordered maps at_maps

@@ -7,9 +7,9 @@ use sv_flat::{Process, Signal};
 /// how many instances there are: at most 4,096 signals and 1,024 instances.
 #[derive(Drop)]
 pub struct Built {
-    pub(crate) signals: Vec<Signal>,
-    pub(crate) processes: Vec<Process>,
-    pub(crate) instances: u32,
+    pub signals: Vec<Signal>,
+    pub processes: Vec<Process>,
+    pub instances: u32,
     ghost few_signals: { length signals.items ≤ 4096 },
     ghost few_instances: { instances ≤ 1024 },
 }

@@ -28,7 +28,7 @@ impl Model for Nest {
 
 impl Nest {
     /// The top, an instance of the module of this name.
-    pub(crate) fn top(alloc: Global, master: &Name) -> Result<Nest, OutOfMemory>
+    pub fn top(alloc: Global, master: &Name) -> Result<Nest, OutOfMemory>
         ensures { IfOk result (λ nest. nest ≡ record { path = []; around = master.now ∷ [] }) }
     {
         let mut around = IndexSet::new(alloc);
@@ -40,26 +40,21 @@ impl Nest {
     }
 
     /// The names of the instances below the top.
-    pub(crate) fn path(&self) -> &[Name]
+    pub fn path(&self) -> &[Name]
         ensures { result.now ≡ self.now.path }
     {
         self.path.as_slice()
     }
 
     /// Whether an instance of the module of this name is among them.
-    pub(crate) fn is_around(&self, master: &Name) -> bool
+    pub fn is_around(&self, master: &Name) -> bool
         ensures { result ≡ list_any (bytes_eq master.now) self.now.around }
     {
         self.around.contains(master)
     }
 
     /// Goes into an instance of a module that is none of theirs.
-    pub(crate) fn enter(
-        &mut self,
-        alloc: Global,
-        name: &Name,
-        master: &Name,
-    ) -> Result<(), OutOfMemory>
+    pub fn enter(&mut self, alloc: Global, name: &Name, master: &Name) -> Result<(), OutOfMemory>
         requires { list_any (bytes_eq master.now) self.old.around ≡ false }
         ensures { OnOk result (self.new ≡ entered self.old name.now master.now) }
     {
@@ -69,7 +64,7 @@ impl Nest {
     }
 
     /// Goes out of the last instance.
-    pub(crate) fn leave(&mut self)
+    pub fn leave(&mut self)
         ensures { (outer : Nesting) (name master : List ℕ) → self.old ≡ entered outer name master
             → self.new ≡ outer }
     {

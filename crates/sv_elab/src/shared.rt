@@ -7,6 +7,6 @@ use sv_num::Name;
 /// its module.
 #[derive(Clone, Copy)]
 pub struct Shared<'a> {
-    pub(crate) tables: Tables<'a>,
-    pub(crate) names: &'a IndexSet<Name>,
+    pub tables: Tables<'a>,
+    pub names: &'a IndexSet<Name>,
 }

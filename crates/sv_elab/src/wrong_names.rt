@@ -19,8 +19,8 @@ use sv_width::refusal_naming;
 /// A name that breaks rule 302, with its place.
 #[derive(Clone, Copy)]
 pub struct WrongName<'a> {
-    pub(crate) name: &'a Name,
-    pub(crate) place: Place,
+    pub name: &'a Name,
+    pub place: Place,
 }
 
 // Whether a place stands before another one.

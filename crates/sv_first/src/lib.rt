@@ -6,7 +6,7 @@
 //!
 //! Bytes become tokens (`lexer`), and tokens a tree, from left to right. `Signs.antt`,
 //! `Identifiers.antt`, `Tokens.antt`, `Reading.antt`, `Values.antt` and `Items.antt` here are
-//! private: they say how that is done, and are no part of what the crate promises.
+//! private: they say how the code goes; the meaning stands in `Spelling.antt`.
 #![tactic(auto)]
 
 mod declarations;

@@ -15,7 +15,7 @@ use Rattle.sv_first_ast.specs.Meaning.{flows, system}
 use Rattle.sv_first_ast.specs.Form.{reads_of, target_of, targets, is_first_form}
 use Rattle.sv_first_ast.specs.Obligations.{Obligation, reads_for, obligations, flow_holds}
 use Rattle.sv_first_ast.specs.Spelling.{is_shaped}
-use Rattle.sv_system.specs.System.{IsStill, Noninterferent}
+use Rattle.sv_system.specs.System.{Environment, IsStill, Noninterferent}
 use Rattle.sv_system.specs.Facts.{IsCombinational, Guarded}
 use Rattle.sv_system.proofs.Lists.{Contains-nil, Contains-filter, Contains-map}
 use Rattle.sv_system.proofs.Noninterference.{noninterference}
@@ -109,13 +109,13 @@ module _ (m : ModuleTree) (shaped : IsTrue (is_shaped m)) (first : FirstForm m) 
       (reads_lower m (processes m) [] first.ordered first.targets_differ p read.0.among none
       t read.1)
 
-  assigned_same : (e f : List ℕ → ℕ) (s : List ℕ) →
+  assigned_same : (e f : Environment (List ℕ)) (s : List ℕ) →
       ((t : List ℕ) → Contains (reads_for m s) t → e t ≡ f t) → (p : Process) →
       Contains (processes m) p → target_of p.body ≡ s → assigned p.body e ≡ assigned p.body f
   assigned_same e f s agree p at target =
       assigned_agrees p.body e f (λ n read. agree n (read_used m first p at s target n read))
 
-  signal_same : (e f : List ℕ → ℕ) (s : List ℕ) → IsCombinational (system m) s →
+  signal_same : (e f : Environment (List ℕ)) (s : List ℕ) → IsCombinational (system m) s →
       IsStill (system m) e → IsStill (system m) f →
       ((t : List ℕ) → Contains (reads_for m s) t → e t ≡ f t) → e s ≡ f s
   signal_same e f s combinational e_still f_still agree =
@@ -126,7 +126,7 @@ module _ (m : ModuleTree) (shaped : IsTrue (is_shaped m)) (first : FirstForm m) 
       ∙ assigned_same e f s agree p driver.0.among driver.0.target
       ∙ sym (assign_value m shaped f f_still p driver.0.among driver.1))
 
-  register_same : (e f : List ℕ → ℕ) (s : List ℕ) → Contains (signals m) s →
+  register_same : (e f : Environment (List ℕ)) (s : List ℕ) → Contains (signals m) s →
       IsTrue (is_register m s) → ((t : List ℕ) → Contains (reads_for m s) t → e t ≡ f t) →
       (system m).next e s ≡ (system m).next f s
   register_same e f s at register agree =

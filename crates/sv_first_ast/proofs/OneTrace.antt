@@ -11,7 +11,7 @@ use Rattle.sv_first_ast.specs.Tree.{ModuleTree}
 use Rattle.sv_first_ast.specs.Meaning.{Process, processes, signals, is_input, is_register, system}
 use Rattle.sv_first_ast.specs.Form.{target_of, is_first_form}
 use Rattle.sv_first_ast.specs.Spelling.{is_shaped}
-use Rattle.sv_system.specs.System.{IsStill, HasOneTrace}
+use Rattle.sv_system.specs.System.{Environment, IsStill, HasOneTrace}
 use Rattle.sv_system.specs.Facts.{IsCombinational, Driver, Ordered}
 use Rattle.sv_system.proofs.Lists.{Contains-filter, Contains-map, Contains-from_map}
 use Rattle.sv_system.proofs.OneTarget.{Puts, OneTarget, one_still_targets, one_targets_still}
@@ -66,7 +66,7 @@ module _ (m : ModuleTree) where
     puts : (p : Process) → Contains assigns p → Puts bytes_eq (driver_of p) (run_of p.body)
     puts p at e s =
         let assign = assign_at p at in
-        ap (λ (h : (List ℕ → ℕ) → (List ℕ → ℕ)).
+        ap (λ (h : Environment (List ℕ) → Environment (List ℕ)).
         h e s) (run_blocking p.body (has_its_statement m shaped p assign.0 ∙ assign.1))
 
     one_target : OneTarget (system m) bytes_eq drivers
@@ -89,7 +89,7 @@ module _ (m : ModuleTree) where
     }
 
     -- at rest the target of an `assign` has its value
-    pub assign_value : (e : List ℕ → ℕ) → IsStill (system m) e → (p : Process) →
+    pub assign_value : (e : Environment (List ℕ)) → IsStill (system m) e → (p : Process) →
         Contains (processes m) p → IsTrue (is_none p.clock) →
         e (target_of p.body) ≡ assigned p.body e
     assign_value e still p at none =
@@ -123,7 +123,8 @@ module _ (m : ModuleTree) where
         (Contains-filter (λ (p : Process).
         is_none p.clock) (processes m) drives.0.process drives.0.among drives.1)))
 
-    driver_fits : (d : Driver (List ℕ)) → Contains drivers d → (e : List ℕ → ℕ) → d.value e < 2 ^ 1
+    driver_fits : (d : Driver (List ℕ)) → Contains drivers d → (e : Environment (List ℕ))
+        → d.value e < 2 ^ 1
     driver_fits d at e =
         let found = from d at in
         subst (λ (c : Driver (List ℕ)).
@@ -132,7 +133,7 @@ module _ (m : ModuleTree) where
     -- the value of a driver is that of an expression whose reads are given or targets of drivers
     -- before
     earlier_agree : (before after : List (Driver (List ℕ))) (d : Driver (List ℕ))
-        → drivers ≡ before ++ d ∷ after → (e f : List ℕ → ℕ)
+        → drivers ≡ before ++ d ∷ after → (e f : Environment (List ℕ))
         → ((s : List ℕ) → IsTrue (is_input m s) → e s ≡ f s)
         → ((s : List ℕ) → IsTrue (is_register m s) → e s ≡ f s)
         → ((s : List ℕ) → Contains (driver_targets_of before) s → e s ≡ f s) → d.value e ≡ d.value f
@@ -147,7 +148,8 @@ module _ (m : ModuleTree) where
         (λ lower. ⊎_elim (λ none. absurd (false≢true none)) (targets n) lower)
         (assign.known n read)))
 
-    next_agrees : (e f : List ℕ → ℕ) → ((t : List ℕ) → Contains (signals m) t → e t ≡ f t) →
+    next_agrees : (e f : Environment (List ℕ))
+        → ((t : List ℕ) → Contains (signals m) t → e t ≡ f t) →
         (p : Process) → Contains (processes m) p → assigned p.body e ≡ assigned p.body f
     next_agrees e f agree p at =
         assigned_agrees p.body e f (λ n read. agree n (read_signal m first p at n read))

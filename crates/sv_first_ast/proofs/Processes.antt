@@ -15,7 +15,7 @@ use Rattle.sv_first_ast.specs.Meaning.{unary_value, binary_value, value, run, Pr
 use Rattle.sv_first_ast.specs.Meaning.{processes, last_update}
 use Rattle.sv_first_ast.specs.Form.{reads, target_of, reads_of}
 use Rattle.sv_first_ast.specs.Spelling.{is_name, is_expression, is_statement, is_item, is_shaped}
-use Rattle.sv_system.specs.System.{put}
+use Rattle.sv_system.specs.System.{Environment, put}
 use Rattle.sv_system.specs.Facts.{Driver}
 use Rattle.sv_system.proofs.Lists.{Contains-head, Contains-later, Contains-cases, Contains-nil}
 use Rattle.sv_first_ast.proofs.Lists.{Contains-from_filter_map, list_all-at, name_same, name_itself}
@@ -27,11 +27,11 @@ abbrev pub is_blocking : StatementTree → Bool
 is_blocking (assignment target blocking x) = blocking
 
 -- the value that a statement computes
-abbrev pub assigned : StatementTree → (List ℕ → ℕ) → ℕ
+abbrev pub assigned : StatementTree → Environment (List ℕ) → ℕ
 assigned s e = value (expression_of s) e
 
 -- an expression depends on its reads alone
-pub value_agrees : (x : ExpressionTree) (e f : List ℕ → ℕ) →
+pub value_agrees : (x : ExpressionTree) (e f : Environment (List ℕ)) →
     ((n : List ℕ) → Contains (reads x) n → e n ≡ f n) → value x e ≡ value x f
 value_agrees (named n) e f agree = ap (λ v. v % 2 ^ 1) (agree n (Contains-head n []))
 value_agrees (unary op x) e f agree = ap (λ v. unary_value op v % 2 ^ 1) (value_agrees x e f agree)
@@ -39,7 +39,7 @@ value_agrees (binary op x y) e f agree = ap₂ (λ v w. binary_value op v w % 2 
     (value_agrees x e f (λ n at. agree n (Contains-append_left (reads x) (reads y) n at)))
     (value_agrees y e f (λ n at. agree n (Contains-append_right (reads x) (reads y) n at)))
 
-pub assigned_agrees : (s : StatementTree) (e f : List ℕ → ℕ) →
+pub assigned_agrees : (s : StatementTree) (e f : Environment (List ℕ)) →
     ((n : List ℕ) → Contains (reads_of s) n → e n ≡ f n) → assigned s e ≡ assigned s f
 assigned_agrees (assignment target blocking x) e f agree = value_agrees x e f agree
 
@@ -47,16 +47,16 @@ one_bit : (v : ℕ) → v % 2 ^ 1 < 2 ^ 1
 one_bit v = omega arith
 
 -- a value has one bit
-pub value_fits : (x : ExpressionTree) (e : List ℕ → ℕ) → value x e < 2 ^ 1
+pub value_fits : (x : ExpressionTree) (e : Environment (List ℕ)) → value x e < 2 ^ 1
 value_fits (named n) e = one_bit (e n)
 value_fits (unary op x) e = one_bit (unary_value op (value x e))
 value_fits (binary op x y) e = one_bit (binary_value op (value x e) (value y e))
 
 -- what a run makes of an environment, and what a driver makes of it
-abbrev pub run_of : StatementTree → (List ℕ → ℕ) → (List ℕ → ℕ)
+abbrev pub run_of : StatementTree → Environment (List ℕ) → Environment (List ℕ)
 run_of s = λ e. (run s (e, [])).0
 
-abbrev pub put_of : Driver (List ℕ) → (List ℕ → ℕ) → (List ℕ → ℕ)
+abbrev pub put_of : Driver (List ℕ) → Environment (List ℕ) → Environment (List ℕ)
 put_of d = λ e. put bytes_eq d.target (d.value e) e
 
 abbrev pub driver_of : Process → Driver (List ℕ)
@@ -69,7 +69,7 @@ run_blocking (assignment target true x) blocking = refl
 run_blocking (assignment target false x) blocking = absurd (false≢true blocking)
 
 -- a nonblocking one adds one update
-pub run_nonblocking : (s : StatementTree) → is_blocking s ≡ false → (e : List ℕ → ℕ) →
+pub run_nonblocking : (s : StatementTree) → is_blocking s ≡ false → (e : Environment (List ℕ)) →
     (run s (e, [])).1 ≡ (target_of s, assigned s e) ∷ []
 run_nonblocking (assignment target true x) nonblocking e = absurd (false≢true (sym nonblocking))
 run_nonblocking (assignment target false x) nonblocking e = refl
@@ -125,13 +125,13 @@ driver_targets (p ∷ ps) = ap (λ ts. target_of p.body ∷ ts) (driver_targets 
 
 -- Updates of the clocked processes.
 
-abbrev pub updates_of : (List ℕ → ℕ) → List Process → List (List ℕ × ℕ)
+abbrev pub updates_of : Environment (List ℕ) → List Process → List (List ℕ × ℕ)
 updates_of e ps =
     flat_map (λ (p : Process).
     (run p.body (e, [])).1) (filter (λ (p : Process). is_some p.clock) ps)
 
 update_more : (p : Process) (ps : List Process) → HasItsStatement p → IsTrue (is_some p.clock)
-    → is_none p.clock ≡ false → (e : List ℕ → ℕ)
+    → is_none p.clock ≡ false → (e : Environment (List ℕ))
     → updates_of e (p ∷ ps) ≡ (target_of p.body, assigned p.body e) ∷ updates_of e ps
 update_more p ps statement some none e =
     ap (λ b. flat_map (λ (q : Process).
@@ -140,7 +140,8 @@ update_more p ps statement some none e =
     (filter (λ (q : Process). is_some q.clock) ps))) some
     ∙ ap (λ us. us ++ updates_of e ps) (run_nonblocking p.body (statement ∙ none) e)
 
-update_same : (p : Process) (ps : List Process) → is_some p.clock ≡ false → (e : List ℕ → ℕ) →
+update_same : (p : Process) (ps : List Process) → is_some p.clock ≡ false
+    → (e : Environment (List ℕ)) →
     updates_of e (p ∷ ps) ≡ updates_of e ps
 update_same p ps none e =
     ap (λ b. flat_map (λ (q : Process).
@@ -156,7 +157,8 @@ module _ (s : List ℕ) where
   -- a value of one bit remains one
   pub last_fits : (ps : List Process)
       → ((p : Process) → Contains ps p → is_blocking p.body ≡ is_none p.clock)
-      → (e : List ℕ → ℕ) (old : ℕ) → old < 2 ^ 1 → last_update s old (updates_of e ps) < 2 ^ 1
+      → (e : Environment (List ℕ)) (old : ℕ) → old < 2 ^ 1
+      → last_update s old (updates_of e ps) < 2 ^ 1
   last_fits [] statement e old fits = fits
   last_fits (p ∷ ps) statement e old fits = ⊎_elim
       (λ none. subst (λ us. last_update s old us < 2 ^ 1) (sym (update_same p ps none.1 e))
@@ -171,7 +173,7 @@ module _ (s : List ℕ) where
       value_fits (expression_of p.body) e) (λ miss. fits))))
       (is_one_kind p.clock)
 
-  module _ (e f : List ℕ → ℕ) where
+  module _ (e f : Environment (List ℕ)) where
     abbrev Agrees : List Process → Type 0
     Agrees ps =
         (p : Process) → Contains ps p → IsTrue (is_some p.clock) → target_of p.body ≡ s →

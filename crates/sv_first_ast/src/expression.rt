@@ -1,5 +1,4 @@
 // Expressions.
-
 use sv_num::{BinOp, Name, UnOp};
 
 /// An expression (IEEE 1364-2005, clause 5).

@@ -1,5 +1,4 @@
 // What follows from the meaning of modules, as contracts of functions that do nothing.
-
 ghost use Rattle.sv_system.specs.System.{HasOneTrace, Noninterferent};
 ghost use Rattle.sv_first_ast.specs.declared.module.Point.{Point};
 ghost use Rattle.sv_first_ast.specs.Form.{is_first_form};

@@ -1,5 +1,4 @@
 // Modules, their declarations and their processes.
-
 use crate::expression::Expr;
 use sv_num::Name;
 

@@ -146,11 +146,7 @@ impl<'a> Scope<'a> {
     }
 
     /// What the obligations come to.
-    pub(crate) fn finding(
-        &self,
-        alloc: Global,
-        targets: &IndexSet<Name>,
-    ) -> Result<Finding, OutOfMemory>
+    pub fn finding(&self, alloc: Global, targets: &IndexSet<Name>) -> Result<Finding, OutOfMemory>
         requires first_form { IsTrue (form.is_first_form (module_tree self.now)) }
         requires keys { targets.now.keys ≡ form.targets (module_tree self.now) }
         ensures { IfOk result (λ finding. IsFinding (module_tree self.now) finding) }

@@ -53,7 +53,7 @@ impl<'a> Scope<'a> {
     }
 
     /// Whether all names that processes use are declared.
-    pub(crate) fn declares_all_uses(&self) -> bool
+    pub fn declares_all_uses(&self) -> bool
         ensures { result ≡
             list_all (form.uses_declared (module_tree self.now))
             (meaning.processes (module_tree self.now)) }
@@ -74,7 +74,7 @@ impl<'a> Scope<'a> {
     }
 
     /// Whether each `assign` drives an output or a wire, and each clocked process a register.
-    pub(crate) fn fits_all_targets(&self) -> bool
+    pub fn fits_all_targets(&self) -> bool
         ensures { result ≡
             list_all (form.target_fits (module_tree self.now))
             (meaning.processes (module_tree self.now)) }
@@ -111,7 +111,7 @@ impl<'a> Scope<'a> {
 
     /// The targets in order; None where a signal has two drivers, or an `assign` reads the target
     /// of a later one.
-    pub(crate) fn targets(&self, alloc: Global) -> Result<Option<IndexSet<Name>>, OutOfMemory>
+    pub fn targets(&self, alloc: Global) -> Result<Option<IndexSet<Name>>, OutOfMemory>
         ensures keys { IfOk result
             (λ found. IfSome found
             (λ targets. targets.keys ≡ form.targets (module_tree self.now))) }
@@ -133,7 +133,7 @@ impl<'a> Scope<'a> {
     }
 
     /// Whether each output, wire and register is one of the targets.
-    pub(crate) fn drives_all(&self, targets: &IndexSet<Name>) -> bool
+    pub fn drives_all(&self, targets: &IndexSet<Name>) -> bool
         ensures { result ≡
             list_all (is_driven targets.now.keys) (meaning.declarations (module_tree self.now)) }
     {
@@ -143,7 +143,7 @@ impl<'a> Scope<'a> {
     }
 
     /// The clock of the first clocked process.
-    pub(crate) fn first_clock(&self) -> Option<&'a Name>
+    pub fn first_clock(&self) -> Option<&'a Name>
         ensures { option_copied result ≡ slice_get (meaning.clocks (module_tree self.now)) 0 }
     {
         self.processes()
@@ -179,7 +179,7 @@ impl<'a> Scope<'a> {
     }
 
     /// Whether all clocked processes name one clock, which is one.
-    pub(crate) fn fits_clocks(&self) -> bool
+    pub fn fits_clocks(&self) -> bool
         ensures { result ≡ has_clocks (module_tree self.now) }
     {
         match self.first_clock() {
@@ -189,10 +189,7 @@ impl<'a> Scope<'a> {
     }
 
     /// The targets in order; None where the module is not of the first form.
-    pub(crate) fn first_form_targets(
-        &self,
-        alloc: Global,
-    ) -> Result<Option<IndexSet<Name>>, OutOfMemory>
+    pub fn first_form_targets(&self, alloc: Global) -> Result<Option<IndexSet<Name>>, OutOfMemory>
         requires { IsTrue (has_names (module_tree self.now)) }
         ensures keys { IfOk result
             (λ found. IfSome found

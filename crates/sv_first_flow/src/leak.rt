@@ -1,5 +1,4 @@
 // What the obligations of a module come to.
-
 use sv_num::Name;
 
 /// The first obligation that fails, with what a report of it names.

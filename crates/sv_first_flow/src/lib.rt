@@ -2,8 +2,8 @@
 //!
 //! [`check`] takes a module and gives what its obligations come to. It stands on the words of
 //! `sv_first_ast`: a module is seen as its tree, and the answers are those of `is_first_form` and
-//! `obligations`. What a [`Finding`] says is in `specs/Leak.antt`; `specs/Scope.antt` says how the
-//! private functions go, and is no part of what the crate promises.
+//! `obligations`. What a [`Finding`] says is in `specs/Leak.antt`. `Scope.antt` is private: it says
+//! how the code goes; the meaning stands in `Form.antt` and `Obligations.antt` of `sv_first_ast`.
 #![tactic(auto)]
 
 mod answer;

@@ -13,10 +13,10 @@ use sv_num::{Name, OutOfMemory};
 /// A process with one assignment, which `blocking` tells from a nonblocking one.
 #[derive(Clone, Copy)]
 pub struct Process<'a> {
-    pub(crate) clock: Option<&'a Name>,
-    pub(crate) target: &'a Name,
-    pub(crate) blocking: bool,
-    pub(crate) value: &'a Expr,
+    pub clock: Option<&'a Name>,
+    pub target: &'a Name,
+    pub blocking: bool,
+    pub value: &'a Expr,
 }
 
 /// Whether the expression reads the name.

@@ -99,7 +99,7 @@ fn distinct_names(
 
 impl<'a> Scope<'a> {
     /// The scope of a module; None where a name is declared twice, or more than 4,096 are.
-    pub(crate) fn new(alloc: Global, module: &'a Module) -> Result<Option<Scope<'a>>, OutOfMemory>
+    pub fn new(alloc: Global, module: &'a Module) -> Result<Option<Scope<'a>>, OutOfMemory>
         ensures some { IfOk result (λ found. IfSome found (λ scope. scope ≡ «module».now)) }
         ensures named { IfOk result
             (λ found. IfSome found (λ scope. IsTrue (has_names (module_tree «module».now)))) }
@@ -123,14 +123,14 @@ impl<'a> Scope<'a> {
     }
 
     /// The declarations, in order.
-    pub(crate) fn declarations(&self) -> &[&'a Decl]
+    pub fn declarations(&self) -> &[&'a Decl]
         ensures { plain_declarations result.now ≡ meaning.declarations (module_tree self.now) }
     {
         self.declarations.as_slice()
     }
 
     /// The processes, in order.
-    pub(crate) fn processes(&self) -> &[Process<'a>]
+    pub fn processes(&self) -> &[Process<'a>]
         ensures { plain_processes result.now ≡ meaning.processes (module_tree self.now) }
     {
         self.processes.as_slice()
@@ -145,14 +145,14 @@ impl<'a> Scope<'a> {
     }
 
     /// Whether the name is declared.
-    pub(crate) fn declares(&self, name: &Name) -> bool
+    pub fn declares(&self, name: &Name) -> bool
         ensures { result ≡ holds (form.names (module_tree self.now)) name.now }
     {
         self.names.contains(name)
     }
 
     /// Whether the name is declared as an input.
-    pub(crate) fn is_input(&self, name: &Name) -> bool
+    pub fn is_input(&self, name: &Name) -> bool
         ensures { result ≡
             meaning.declared_as meaning.is_input_kind (module_tree self.now) name.now }
     {
@@ -163,7 +163,7 @@ impl<'a> Scope<'a> {
     }
 
     /// Whether the name is declared as a register.
-    pub(crate) fn is_register(&self, name: &Name) -> bool
+    pub fn is_register(&self, name: &Name) -> bool
         ensures { result ≡
             meaning.declared_as meaning.is_register_kind (module_tree self.now) name.now }
     {
@@ -174,7 +174,7 @@ impl<'a> Scope<'a> {
     }
 
     /// Whether the name is declared as an output or a wire that an `assign` drives.
-    pub(crate) fn is_net(&self, name: &Name) -> bool
+    pub fn is_net(&self, name: &Name) -> bool
         ensures { result ≡ meaning.declared_as form.is_net_kind (module_tree self.now) name.now }
     {
         match self.declaration(name) {
@@ -184,7 +184,7 @@ impl<'a> Scope<'a> {
     }
 
     /// The point of a name: the least one where it has no label.
-    pub(crate) fn label(&self, name: &Name) -> Point
+    pub fn label(&self, name: &Name) -> Point
         ensures { result ≡ meaning.label_of (module_tree self.now) name.now }
     {
         match self.declaration(name) {

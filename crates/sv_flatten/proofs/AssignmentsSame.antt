@@ -46,7 +46,8 @@ typed_found names e n s t h =
 
 module _ (names : Names) (signals : List SignalForm) (declared : AllDeclared names)
     (listed : HaveSignals names signals)
-    (by_name : List ℕ → ℕ) (by_num : Environment ℕ) (values : HaveValues names by_name by_num) where
+    (by_name : Environment (List ℕ)) (by_num : Environment ℕ)
+    (values : HaveValues names by_name by_num) where
   -- the typed form has the value of its source
   pub typed_same : (e : ExpressionTree) (n : ℕ) (s : Bool) (t : TypedTree)
       → (typed_walk names e n s).end ≡ Ok t

@@ -248,7 +248,8 @@ module _ (signals : List SignalForm) (flat : Environment ℕ × Updates) (select
 
 module _ (names : Names) (signals : List SignalForm) (declared : AllDeclared names)
     (listed : HaveSignals names signals)
-    (by_name : List ℕ → ℕ) (by_num : Environment ℕ) (values : HaveValues names by_name by_num) where
+    (by_name : Environment (List ℕ)) (by_num : Environment ℕ)
+    (values : HaveValues names by_name by_num) where
   pub among_same : (n : ℕ) (s : Bool) (v w : ℕ) → v ≡ w → (es : List ExpressionTree)
       → ItemsPass names es
       → is_among signals by_num v (map (λ (e : ExpressionTree). typed_of names e n s) es) ≡

@@ -12,6 +12,7 @@ use Rattle.sv_ast.specs.Values.{nowhere, length_of, signed_of, value}
 use Rattle.sv_ast.specs.Instances.{is_signal}
 use Rattle.sv_ast.specs.Runs.{has_item}
 use Rattle.sv_num.specs.Parts.{extended}
+use Rattle.sv_system.specs.System.{Environment}
 use Rattle.sv_flat.proofs.LeastSets.{range_has}
 use Rattle.sv_flat.proofs.Depths.{from_all}
 use Rattle.sv_walk.specs.Names.{Names, is_parameter}
@@ -79,7 +80,7 @@ both_true : (b c : Bool) → (elim b [ true ↦ c | false ↦ false ]) ≡ true 
 both_true true c h = (refl, h)
 both_true false c h = absurd (cc h)
 
-module _ (names : Names) (declared : AllDeclared names) (environment : List ℕ → ℕ)
+module _ (names : Names) (declared : AllDeclared names) (environment : Environment (List ℕ))
     (fit : (n : List ℕ) →
     value_of (names.scope n) (environment n) < 2 ^ width_of (names.scope n)) where
   -- items have the same values everywhere

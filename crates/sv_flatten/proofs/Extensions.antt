@@ -25,7 +25,7 @@ extended_as : (t : Bool) (s : Bool) (m n v : ℕ) → is_negative m s v ≡ t �
     extended s m n v ≡ reduced n (number_at m t v)
 extended_as t s m n v is = ap (λ b. reduced n (number_at m b v)) is
 
--- a value whose highest bit is no sign stays
+-- a value whose highest bit does not make it negative stays
 pub extended_above : (s : Bool) (m n v : ℕ) → m ≤ n → v < 2 ^ m → is_negative m s v ≡ false →
     extended s m n v ≡ v
 extended_above s m n v wider low is = extended_as false s m n v is ∙ wider_above m n v wider low
@@ -42,7 +42,7 @@ negative_some zero v low is = absurd (no_bits (leb-true (2 ^ (0 - 1)) v is))
     no_bits h = omega (arith, h, low)
 negative_some (suc m) v low is = (omega arith, leb-true (2 ^ (suc m - 1)) v is)
 
--- without sign a value stays
+-- an unsigned value stays
 pub unsigned_extended : (m n v : ℕ) → m ≤ n → v < 2 ^ m → extended false m n v ≡ v
 unsigned_extended m n v wider low = extended_above false m n v wider low refl
 

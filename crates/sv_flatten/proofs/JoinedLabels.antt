@@ -188,7 +188,7 @@ module _ (text : TextTree) (top : Option (List ℕ)) (design : FlatDesign)
       (e : Environment ℕ) (f : Environment Path)
       (agree : Agree (flat_system design) (source_system text top design side)
       (path_to text top design side) e f) where
-    abbrev values : List ℕ → ℕ
+    abbrev values : Environment (List ℕ)
     values = values_in p f
 
     -- a signal that is no clock has its value on both sides

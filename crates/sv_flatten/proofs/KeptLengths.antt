@@ -16,6 +16,7 @@ use Rattle.sv_num.specs.Vectors.{is_true}
 use Rattle.sv_num.specs.Parts.{extended}
 use Rattle.sv_num.specs.UnaryValues.{gives_one_bit, unary_value}
 use Rattle.sv_num.proofs.NumberLemmas.{shift_above}
+use Rattle.sv_system.specs.System.{Environment}
 use Rattle.sv_ast.specs.Scopes.{Scope, width_of, value_of}
 use Rattle.sv_ast.specs.Tree.{ExpressionTree, literal, named, bit_of, part_of, unary, binary}
 use Rattle.sv_ast.specs.Tree.{choice, join, replication}
@@ -27,12 +28,12 @@ use Rattle.sv_flatten.proofs.ValuesLow.{value_low}
 use Rattle.sv_flatten.proofs.Extensions.{unsigned_extended, extended_same, extended_twice}
 use Rattle.sv_flatten.proofs.Extensions.{extended_and, extended_or, extended_xor}
 
--- what is no signed type is taken without sign
+-- what is no signed type is taken as unsigned
 taken_unsigned : (s : Bool) → (s ≡ true → false ≡ true) → s ≡ false
 taken_unsigned true h = absurd (cc (h refl))
 taken_unsigned false h = refl
 
--- a value that is the same at both lengths, without sign
+-- a value that is the same at both lengths, unsigned
 stays_same : (s : Bool) (m n v : ℕ) → (s ≡ true → false ≡ true) → m ≤ n → v < 2 ^ m →
     v ≡ extended s m n v
 stays_same s m n v h wider low =
@@ -41,32 +42,32 @@ stays_same s m n v h wider low =
 both_signed : (a b : Bool) → (a && b) ≡ true → (a ≡ true) × (b ≡ true)
 both_signed a b h = and_parts a b h
 
-unary_kept : (op : UnOp) (own m n : ℕ) (sign s kept : Bool) (f : ℕ → Bool → ℕ)
+unary_kept : (op : UnOp) (own m n : ℕ) (signed s kept : Bool) (f : ℕ → Bool → ℕ)
     → (gives_one_bit op || keeps_operand op && kept) ≡ true
-    → (s ≡ true → (if gives_one_bit op then false else sign) ≡ true)
+    → (s ≡ true → (if gives_one_bit op then false else signed) ≡ true)
     → (if gives_one_bit op then 1 else own) ≤ m → m ≤ n
-    → (kept ≡ true → (s ≡ true → sign ≡ true) → own ≤ m → f n s ≡ extended s m n (f m s))
-    → (if gives_one_bit op then unary_value op own sign (f own sign)
+    → (kept ≡ true → (s ≡ true → signed ≡ true) → own ≤ m → f n s ≡ extended s m n (f m s))
+    → (if gives_one_bit op then unary_value op own signed (f own signed)
     else unary_value op n s (f n s))
-    ≡ extended s m n (if gives_one_bit op then unary_value op own sign (f own sign)
+    ≡ extended s m n (if gives_one_bit op then unary_value op own signed (f own signed)
     else unary_value op m s (f m s))
-unary_kept unop.Plus own m n sign s kept f keeps signs fits wider same = same keeps signs fits
-unary_kept unop.Minus own m n sign s kept f keeps signs fits wider same = absurd (cc keeps)
-unary_kept unop.Invert own m n sign s kept f keeps signs fits wider same = absurd (cc keeps)
-unary_kept unop.LogicNot own m n sign s kept f keeps signs fits wider same =
-    stays_same s m n _ signs wider (bit_low unop.LogicNot refl m own sign (f own sign) fits)
-unary_kept unop.And own m n sign s kept f keeps signs fits wider same =
-    stays_same s m n _ signs wider (bit_low unop.And refl m own sign (f own sign) fits)
-unary_kept unop.Nand own m n sign s kept f keeps signs fits wider same =
-    stays_same s m n _ signs wider (bit_low unop.Nand refl m own sign (f own sign) fits)
-unary_kept unop.Or own m n sign s kept f keeps signs fits wider same =
-    stays_same s m n _ signs wider (bit_low unop.Or refl m own sign (f own sign) fits)
-unary_kept unop.Nor own m n sign s kept f keeps signs fits wider same =
-    stays_same s m n _ signs wider (bit_low unop.Nor refl m own sign (f own sign) fits)
-unary_kept unop.Xor own m n sign s kept f keeps signs fits wider same =
-    stays_same s m n _ signs wider (bit_low unop.Xor refl m own sign (f own sign) fits)
-unary_kept unop.Xnor own m n sign s kept f keeps signs fits wider same =
-    stays_same s m n _ signs wider (bit_low unop.Xnor refl m own sign (f own sign) fits)
+unary_kept unop.Plus own m n signed s kept f keeps signs fits wider same = same keeps signs fits
+unary_kept unop.Minus own m n signed s kept f keeps signs fits wider same = absurd (cc keeps)
+unary_kept unop.Invert own m n signed s kept f keeps signs fits wider same = absurd (cc keeps)
+unary_kept unop.LogicNot own m n signed s kept f keeps signs fits wider same =
+    stays_same s m n _ signs wider (bit_low unop.LogicNot refl m own signed (f own signed) fits)
+unary_kept unop.And own m n signed s kept f keeps signs fits wider same =
+    stays_same s m n _ signs wider (bit_low unop.And refl m own signed (f own signed) fits)
+unary_kept unop.Nand own m n signed s kept f keeps signs fits wider same =
+    stays_same s m n _ signs wider (bit_low unop.Nand refl m own signed (f own signed) fits)
+unary_kept unop.Or own m n signed s kept f keeps signs fits wider same =
+    stays_same s m n _ signs wider (bit_low unop.Or refl m own signed (f own signed) fits)
+unary_kept unop.Nor own m n signed s kept f keeps signs fits wider same =
+    stays_same s m n _ signs wider (bit_low unop.Nor refl m own signed (f own signed) fits)
+unary_kept unop.Xor own m n signed s kept f keeps signs fits wider same =
+    stays_same s m n _ signs wider (bit_low unop.Xor refl m own signed (f own signed) fits)
+unary_kept unop.Xnor own m n signed s kept f keeps signs fits wider same =
+    stays_same s m n _ signs wider (bit_low unop.Xnor refl m own signed (f own signed) fits)
 
 choice_kept : (t : Bool) (s : Bool) (m n an am bn bm : ℕ) → an ≡ extended s m n am
     → bn ≡ extended s m n bm
@@ -74,7 +75,7 @@ choice_kept : (t : Bool) (s : Bool) (m n an am bn bm : ℕ) → an ≡ extended 
 choice_kept true s m n an am bn bm p q = p
 choice_kept false s m n an am bn bm p q = q
 
--- bits moved down: of a value without sign
+-- bits moved down: of an unsigned value
 moved_kept : (m n x y k : ℕ) → x ≡ extended false m n y → m ≤ n → y < 2 ^ m →
     x / 2 ^ k ≡ extended false m n (y / 2 ^ k)
 moved_kept m n x y k is wider low =
@@ -82,7 +83,7 @@ moved_kept m n x y k is wider low =
     ap (λ z. z / 2 ^ k) (is ∙ unsigned_extended m n y wider low)
     ∙ sym (unsigned_extended m n (y / 2 ^ k) wider (omega (arith, less, low)))
 
-module _ (scope : Scope) (environment : List ℕ → ℕ)
+module _ (scope : Scope) (environment : Environment (List ℕ))
     (fit : (n : List ℕ) → value_of (scope n) (environment n) < 2 ^ width_of (scope n)) where
   -- what the lemma says of an expression
   abbrev Keeps : ExpressionTree → Bool → ℕ → ℕ → Type 0
@@ -96,7 +97,7 @@ module _ (scope : Scope) (environment : List ℕ → ℕ)
       → f x y ≡ extended s m n (f a b)
   pair_kept f s m n x y a b p q r = ap (λ z. f z y) p ∙ ap (λ z. f (extended s m n a) z) q ∙ r
 
-  -- an expression without sign whose value is the same at both lengths
+  -- an unsigned expression whose value is the same at both lengths
   flat_kept : (e : ExpressionTree) (s : Bool) (m n : ℕ) → (s ≡ true → false ≡ true)
       → length_of scope e ≤ m → m ≤ n
       → value scope environment e m s ≡ extended s m n (value scope environment e m s)

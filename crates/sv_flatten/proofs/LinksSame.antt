@@ -52,7 +52,7 @@ pub input_link_same : (signals : List SignalForm) (outer : Names) → AllDeclare
     → (ports : Ports) (d : DeclarationTree) (e : ExpressionTree) (process : ProcessForm)
     → (input_link outer ports d e).end ≡ Ok process
     → 1 ≤ port_width ports d → signal_width signals (port_number ports d.name) ≡ port_width ports d
-    → (by_name : List ℕ → ℕ) (by_num : Environment ℕ) → HaveValues outer by_name by_num
+    → (by_name : Environment (List ℕ)) (by_num : Environment ℕ) → HaveValues outer by_name by_num
     → run_alone signals process.body by_num
     ≡ put ◌==◌ (port_number ports d.name)
     (assigned_value outer.scope by_name (port_width ports d) e) by_num
@@ -92,7 +92,7 @@ port_same : (signals : List SignalForm) (inner : Names) → HaveSignals inner si
     → (ports : Ports) (d : DeclarationTree) (width : ℕ) (p : Place)
     → inner.scope d.name ≡ Some (signal (port_width ports d) d.signed)
     → inner.number d.name ≡ port_number ports d.name
-    → (by_name : List ℕ → ℕ) (by_num : Environment ℕ) → HaveValues inner by_name by_num
+    → (by_name : Environment (List ℕ)) (by_num : Environment ℕ) → HaveValues inner by_name by_num
     → value signals by_num (port_value ports d width p)
     ≡ source_value inner.scope by_name (named d.name d.place)
     (max (length_of inner.scope (named d.name d.place)) width)
@@ -117,7 +117,7 @@ pub output_link_same : (signals : List SignalForm) (outer inner : Names) → IsN
     → (output_link outer ports d e).end ≡ Ok process
     → inner.scope d.name ≡ Some (signal (port_width ports d) d.signed)
     → inner.number d.name ≡ port_number ports d.name
-    → (by_name : List ℕ → ℕ) (by_num : Environment ℕ) → HaveValues inner by_name by_num
+    → (by_name : Environment (List ℕ)) (by_num : Environment ℕ) → HaveValues inner by_name by_num
     → (n : List ℕ) × (whole_signal outer.scope e ≡ Some n)
     × (run_alone signals process.body by_num
     ≡ put ◌==◌ (outer.number n)

@@ -19,7 +19,7 @@ use Rattle.sv_walk.specs.Names.{Names}
 use Rattle.sv_flatten.specs.Numbering.{IsNumbering}
 use Rattle.sv_flatten.specs.SameStates.{ValuesFit, IsUpdate, by_number, AreSame}
 
--- a signal has a length and a sign
+-- a signal has a length and a signedness
 pub signal_known : (scope : Scope) (n : List ℕ) → IsTrue (is_signal (scope n))
     → (width : ℕ) × (signed : Bool) × (scope n ≡ Some (signal width signed))
 signal_known scope n = by (scope n) refl
@@ -50,7 +50,8 @@ module _ (names : Names) (signals : List SignalForm) (numbering : IsNumbering na
           ((bytes_eq-Decides m n).1 (numbering.apart m n p q same)))
 
   -- a signal's value fits, also where it is read of a parameter's
-  pub bound_fits : (environment : List ℕ → ℕ) → ValuesFit names.scope environment → (n : List ℕ)
+  pub bound_fits : (environment : Environment (List ℕ)) → ValuesFit names.scope environment
+      → (n : List ℕ)
       → value_of (names.scope n) (environment n) < 2 ^ width_of (names.scope n)
   bound_fits environment fits n = by (names.scope n) refl
     where

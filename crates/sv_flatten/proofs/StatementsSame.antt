@@ -148,11 +148,11 @@ module _ (names : Names) (signals : List SignalForm) (numbering : IsNumbering na
     abbrev length : ℕ
     length = common_length names e arms
 
-    abbrev sign : Bool
-    sign = common_signed names e arms
+    abbrev signedness : Bool
+    signedness = common_signed names e arms
 
     abbrev chosen : ℕ
-    chosen = source_value names.scope source.environment e length sign
+    chosen = source_value names.scope source.environment e length signedness
 
     abbrev default : Running
     default = run_default names.scope arms source
@@ -160,49 +160,49 @@ module _ (names : Names) (signals : List SignalForm) (numbering : IsNumbering na
     abbrev kept : List FlatArm
     kept = filter has_items found
 
-    module _ (walked : (arms_walk names length sign arms).end ≡ Ok found)
+    module _ (walked : (arms_walk names length signedness arms).end ≡ Ok found)
         (selected : value signals flat.0 selector ≡ chosen)
         (chained : (other : FlatStatement) (otherwise : Running)
         → AreSame names (run signals other flat) otherwise
         → AreSame names (run signals (chain selector kept other) flat)
-        (run_arms names.scope length sign chosen arms otherwise source)) where
+        (run_arms names.scope length signedness chosen arms otherwise source)) where
       -- where the items are complete, some arm is taken
-      complete_taken : is_complete names.scope e (arm_items arms) length sign ≡ true →
+      complete_taken : is_complete names.scope e (arm_items arms) length signedness ≡ true →
           some_taken signals flat selector kept ≡ true
       complete_taken complete =
-          any_taken flat source before length sign selector chosen selected arms found walked
+          any_taken flat source before length signedness selector chosen selected arms found walked
           ∙ complete_has_item names numbering.declared source.environment
           (bound_fits names signals numbering source.environment before.fits) e (arm_items arms)
-          length sign numbers
+          length signedness numbers
           (λ signed. (and_parts (signed_of names.scope e) (arms_signed names arms) signed).0)
-          (omega arith) (arms_pass names length sign arms found walked) complete
+          (omega arith) (arms_pass names length signedness arms found walked) complete
 
       chosen_same : (complete : Bool)
-          → is_complete names.scope e (arm_items arms) length sign ≡ complete
+          → is_complete names.scope e (arm_items arms) length signedness ≡ complete
           → (o : Option FlatStatement) → IsDefault flat source o default
           → AreSame names (run signals (case_chain selector complete kept o) flat)
-          (run_arms names.scope length sign chosen arms default source)
+          (run_arms names.scope length signedness chosen arms default source)
       chosen_same complete is (Some other) d = chained other default d
       chosen_same false is None d =
           chained nothing default (subst (λ (end : Running). AreSame names flat end) d before)
       chosen_same true is None d =
           subst (λ (z : Environment ℕ × Updates).
-          AreSame names z (run_arms names.scope length sign chosen arms default source))
+          AreSame names z (run_arms names.scope length signedness chosen arms default source))
           (sym (closed_same signals flat selector kept (complete_taken is)))
           (chained nothing default (subst (λ (end : Running). AreSame names flat end) d before))
 
       -- the source takes the type of all items
       case_same : (p : Place) → IsDefault flat source (default_of found) default
           → AreSame names (run signals
-          (case_chain selector (is_complete names.scope e (arm_items arms) length sign) kept
+          (case_chain selector (is_complete names.scope e (arm_items arms) length signedness) kept
           (default_of found)) flat)
           (source_run names.scope (case_of p e arms) source)
       unfolding source_run
       case_same p d =
           let f : FlatStatement =
-          case_chain selector (is_complete names.scope e (arm_items arms) length sign) kept
+          case_chain selector (is_complete names.scope e (arm_items arms) length signedness) kept
           (default_of found) in
-          let type = arms_type names length sign arms found walked in
+          let type = arms_type names length signedness arms found walked in
           subst (λ k. AreSame names (run signals f flat)
           (run_arms names.scope k (case_signed names.scope e arms)
           (source_value names.scope source.environment e k (case_signed names.scope e arms)) arms
@@ -211,7 +211,7 @@ module _ (names : Names) (signals : List SignalForm) (numbering : IsNumbering na
           (subst (λ b. AreSame names (run signals f flat) (run_arms names.scope length b
           (source_value names.scope source.environment e length b) arms default source))
           (ap (λ b. signed_of names.scope e && b) type.1)
-          (chosen_same (is_complete names.scope e (arm_items arms) length sign) refl
+          (chosen_same (is_complete names.scope e (arm_items arms) length signedness) refl
           (default_of found) d))
 
   mutual
@@ -344,7 +344,7 @@ module _ (names : Names) (signals : List SignalForm) (numbering : IsNumbering na
   -- a run with nothing pending
   pub body_same : (statement : StatementTree) (f : FlatStatement)
       → (statement_walk names statement).end ≡ Ok f → SelectorsFit statement
-      → (by_name : List ℕ → ℕ) (by_num : Environment ℕ) → HaveValues names by_name by_num
+      → (by_name : Environment (List ℕ)) (by_num : Environment ℕ) → HaveValues names by_name by_num
       → ValuesFit names.scope by_name
       → HaveValues names (source_run names.scope statement (record {
         environment = by_name;

@@ -16,6 +16,7 @@ use Rattle.sv_num.specs.Parts.{bit_or_zero, repeated}
 use Rattle.sv_num.specs.UnaryValues.{gives_one_bit, unary_value}
 use Rattle.sv_num.specs.BinaryValues.{class_of}
 use Rattle.sv_num.proofs.BitsLemmas.{joined_low}
+use Rattle.sv_system.specs.System.{Environment}
 use Rattle.sv_ast.specs.Scopes.{Scope, Number, width_of}
 use Rattle.sv_ast.specs.Tree.{ExpressionTree, ExpressionTrees, literal, named, bit_of, part_of}
 use Rattle.sv_ast.specs.Tree.{unary, binary, choice, join, replication, no_expressions}
@@ -50,11 +51,11 @@ truth_low n true some = one_low n 1 some (omega arith)
 truth_low n false some = one_low n 0 some (omega arith)
 
 unary_result_low : (op : UnOp) (b : Bool) → gives_one_bit op ≡ b
-    → (own n : ℕ) (sign s : Bool) (x y : ℕ)
+    → (own n : ℕ) (signed s : Bool) (x y : ℕ)
     → (if b then 1 else own) ≤ n → (own ≤ n → y < 2 ^ n)
-    → (if b then unary_value op own sign x else unary_value op n s y) < 2 ^ n
-unary_result_low op true is own n sign s x y fits low = bit_low op is n own sign x fits
-unary_result_low op false is own n sign s x y fits low = unary_low op is n s y (low fits)
+    → (if b then unary_value op own signed x else unary_value op n s y) < 2 ^ n
+unary_result_low op true is own n signed s x y fits low = bit_low op is n own signed x fits
+unary_result_low op false is own n signed s x y fits low = unary_low op is n s y (low fits)
 
 -- each operand that stands at the pushed length fits it
 binary_result_low : (op : BinOp) (n : ℕ) (s : Bool) (a b : Operand)
@@ -90,7 +91,7 @@ binary_result_low Or n s a b fits p q =
 binary_result_low LogicAnd n s a b fits p q = truth_low n _ fits
 binary_result_low LogicOr n s a b fits p q = truth_low n _ fits
 
-module _ (scope : Scope) (environment : List ℕ → ℕ) where
+module _ (scope : Scope) (environment : Environment (List ℕ)) where
   mutual
     unfolding length_of joined_length value joined_value
 

@@ -44,9 +44,9 @@ module _ (a b : Bits) (widths : width_of a ≡ width_of b) where
       ∙ product_is (width_of a) (negative a) (negative b) (value_of a) (value_of b) a.in_range.2
       second_low
 
--- ---- by sign
+-- ---- where a number is below 0, and where not
 
--- a number, where its sign is known
+-- a number, where it is known whether it is below 0
 pub number_when : (a : Bits) (t : Bool) → negative a ≡ t →
     number_of a ≡ number_at (width_of a) t (value_of a)
 number_when a t h = ap (λ s. number_at (width_of a) s (value_of a)) h

@@ -191,7 +191,7 @@ product_is n true true a b p q =
     ∙ ap (λ z. reduced n (negsuc (gap_of n a) *ℤ z)) (below_zero n b q)
     ∙ product_both n a b p q
 
--- ---- by sign and size
+-- ---- by size, below 0 and not
 
 abbrev pub is_below : ℤ → Bool
 is_below (pos a) = false

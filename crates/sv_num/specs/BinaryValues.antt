@@ -72,8 +72,9 @@ result_signed Logical signed = false
 result_signed Shift signed = signed
 
 -- what an operator gives for the values a and b, where a has n bits and is signed or not. Division
--- truncates towards zero, a remainder has the sign of its first operand, `>>>` fills with the sign
--- bit of a signed value, and the amount of a shift is read as unsigned
+-- truncates towards zero, a remainder is negative or 0 where its first operand is negative and
+-- positive or 0 elsewhere, `>>>` fills with the highest bit of a signed value, and the amount of a
+-- shift is read as unsigned
 abbrev pub binary_value : BinOp → ℕ → Bool → ℕ → ℕ → ℕ
 binary_value Mul n signed a b = reduced n (as_number n signed a *ℤ as_number n signed b)
 binary_value Div n signed a b = reduced n (int_div (as_number n signed a) (as_number n signed b))

@@ -39,8 +39,8 @@ pub record SearchState : Type 0 where
   pub watching : Watching
   pub propagated : ℕ
 
--- the clauses are watched; what was propagated is settled; and every level stands on clauses at
--- rest
+-- the clauses are watched; what was propagated is settled; and every decision level stands on
+-- clauses at rest
 pub record IsSearching (state : SearchState) : Type 0 where
   pub small : state.known.variables < 2 ^ 31
   pub trail_variables : state.trail.variables ≡ state.known.variables

@@ -1,5 +1,5 @@
 -- The walk of an instance adds a signal for each declaration in it and in all inside it, in order,
--- with the declaration's full name, sign and place. Scopes play no part in it.
+-- with the declaration's full name, signedness and place. Scopes play no part in it.
 use Rattle.std.proofs.Common.{◌≡◌, ℕ, zero, suc, ◌+◌, Bool, true, List, [], ◌∷◌, ◌++◌}
 use Rattle.std.proofs.Common.{map, length, Option, Some, None, refl, sym, ap, subst, ◌∙◌}
 use Rattle.std.specs.Prelude.{not, nat_lt, flat_map, option_map, Ok}
@@ -36,7 +36,7 @@ use Rattle.sv_flatten.proofs.PartsDeclared.{same_ok, walked, forms, form_in}
 use Rattle.sv_flatten.proofs.PartsNamed.{item_declarations}
 use Rattle.sv_text_laws.specs.Signals.{dotted}
 
--- full name, sign and place
+-- full name, signedness and place
 abbrev pub Plain : Type 0
 Plain = List ℕ × Bool × Place
 

@@ -15,7 +15,7 @@ use Rattle.sv_text_laws.specs.Sizes.{source_nodes, all_source_nodes}
 abbrev signals : Names
 signals = names_of 0 ((codes "a", signal 8 false) ∷ [])
 
--- the typed form where 8 bits without sign are wanted
+-- the typed form where 8 unsigned bits are wanted
 abbrev typed_size : ExpressionTree → ℕ
 typed_size e = nodes_in (typed_of signals e 8 false)
 

@@ -277,6 +277,8 @@ def not_writable(at):
 
 
 def main():
+    # What is begun in the background may have INT ignored, and a shell that has it so from the start cannot take it back.
+    signal.signal(signal.SIGINT, signal.default_int_handler)
     for group in (builds, replaced, at_once, stopped, fails, without_a_kit, without_a_tool, not_writable):
         with tempfile.TemporaryDirectory() as folder:
             os.chmod(folder, 0o755)

@@ -8,7 +8,7 @@ ghost use Rattle.sv_flat.specs.Schedules.{IsRoundCount, after_rounds, is_order, 
 ghost use Rattle.sv_flat.specs.SignalLists.{system_signals, inputs as inputs_of};
 ghost use Rattle.sv_flat.specs.Views.{design_of};
 ghost use Rattle.sv_system.specs.Schedules.{IsTheSettled, combinational};
-ghost use Rattle.sv_sim.specs.Given.{FitListed, with_given};
+ghost use Rattle.sv_flat.specs.Given.{FitListed, with_given};
 
 use crate::orders::is_order;
 use crate::places::places_of;

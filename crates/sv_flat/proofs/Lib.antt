@@ -22,3 +22,5 @@ pub mod FlatScheduled
 pub mod BlockFacts
 pub mod RunsFit
 pub mod SameUpdates
+pub mod SelectorBounds
+pub mod SelectorFacts

@@ -1,6 +1,7 @@
--- What is contained in two lists one after the other.
-use Rattle.std.proofs.Common.{List, [], ◌∷◌, ◌++◌, ◌⊎◌, inl, inr, ⊎_elim, subst}
-use Rattle.std.specs.Prelude.{Contains}
+-- What is contained in two lists one after the other, in one element, and in all elements.
+use Rattle.std.proofs.Common.{◌≡◌, List, [], ◌∷◌, ◌++◌, ◌⊎◌, inl, inr, ⊎_elim, subst}
+use Rattle.std.specs.Prelude.{Contains, All}
+use Rattle.std.proofs.lemmas.List.Elements.{Contains-get_or}
 use Rattle.sv_system.proofs.Lists.{Contains-head, Contains-later, Contains-nil, Contains-cases}
 
 module _ {X : Type 0} where
@@ -23,3 +24,12 @@ module _ {X : Type 0} where
       (λ inside. ⊎_elim (λ l. inl (Contains-later z xs x l)) (λ r.
       inr r) (Contains-either xs ys x inside))
       (Contains-cases z (xs ++ ys) x at)
+
+  pub only : (x y : X) → Contains (x ∷ []) y → x ≡ y
+  only x y at = ⊎_elim (λ is. is) (λ none. absurd (Contains-nil y none)) (Contains-cases x [] y at)
+
+  pub all_contained : (P : X → Type 0) (xs : List X) → All P xs → (x : X) → Contains xs x → P x
+  all_contained P xs each x at = subst P at.2 (each at.0 x at.1)
+
+  pub contained_all : (P : X → Type 0) (xs : List X) → ((x : X) → Contains xs x → P x) → All P xs
+  contained_all P xs each k d inside = each _ (Contains-get_or xs k d inside)

@@ -9,12 +9,14 @@ pub mod Design
 pub mod Views
 pub mod Drivers
 pub mod FlatSystem
+pub mod Given
 pub mod Loops
 pub mod Processes
 pub mod Readings
 pub mod Reads
 pub mod Runs
 pub mod Schedules
+pub mod Selectors
 pub mod Sets
 pub mod SignalLists
 pub mod Soundness

@@ -12,8 +12,9 @@
 //! processes may run. `Admission.antt` says which designs have a meaning, by rules that
 //! `Assignments.antt`, `Clocks.antt`, `Drivers.antt`, `Blocks.antt` and `Loops.antt` define, in the
 //! order of `Breaches.antt`; `Assigned.antt`, `Readings.antt`, `Reads.antt`, `Processes.antt` and
-//! `SignalLists.antt` say what a design assigns, reads and lists. `Sets.antt` and `ByNumber.antt`
-//! have words for these. None is private.
+//! `SignalLists.antt` say what a design assigns, reads and lists. `Given.antt` says which values fit
+//! listed signals and what environment they give, and `Selectors.antt` which signals select a label.
+//! `Sets.antt` and `ByNumber.antt` have words for these. None is private.
 #![tactic(auto)]
 
 mod bits;

@@ -34,19 +34,22 @@ use Rattle.sv_obl.specs.declared.frames.Frame.{Frame}
 use Rattle.sv_obl.specs.declared.frames.Frame.TheVariants.{Now, Next}
 use Rattle.sv_obl.specs.Paths.{StepForm, Path, path_names, open_path, before, closed, paths}
 use Rattle.sv_obl.specs.Obligations.{GoalForm, flow, holds, selector, Obligation, frame_of}
-use Rattle.sv_obl.specs.Obligations.{place_of, path_obligation, target_obligations, selectors_of}
-use Rattle.sv_obl.specs.Obligations.{always_flows, selector_obligation, selector_obligations}
+use Rattle.sv_flat.specs.Selectors.{selectors_of}
+use Rattle.sv_obl.specs.Obligations.{place_of, path_obligation, target_obligations}
+use Rattle.sv_flat.specs.Selectors.{always_flows}
+use Rattle.sv_obl.specs.Obligations.{selector_obligation, selector_obligations}
 use Rattle.sv_obl.specs.Obligations.{obligations}
 use Rattle.sv_obl.specs.Routes.{Route, open_route, behind, is_all, with_put, with_ways, with_right}
 use Rattle.sv_obl.specs.Routes.{routes_before}
 use Rattle.sv_obl.specs.Views.{IsGoalAmong, IsAmong}
 use Rattle.sv_obl.specs.DesignQueries.{Ascends, IsExpressionOf, IsStepOf, IsTargetIn}
 use Rattle.sv_obl.specs.DesignQueries.{IsGoalOf, IsQueryOf, HasPlace, IsPlaced}
-use Rattle.sv_obl.proofs.PathLists.{only, from_flat_map, contained_all, all_contained}
+use Rattle.sv_flat.proofs.Members.{only, contained_all, all_contained}
+use Rattle.sv_obl.proofs.PathLists.{from_flat_map}
 use Rattle.sv_obl.proofs.PathRuns.{step_of}
 use Rattle.sv_obl.proofs.RoutePaths.{Matches, AllMatch}
 use Rattle.sv_obl.proofs.RouteObligations.{steps_same, paths_are, all_match}
-use Rattle.sv_obl.proofs.SelectorFacts.{selector_is_seen, selected_is_seen}
+use Rattle.sv_flat.proofs.SelectorFacts.{selector_is_seen, selected_is_seen}
 use Rattle.sv_obl.proofs.TargetReads.{reads_of, Origin, origin, inside, in_system, read_is_seen}
 
 -- ---- lists

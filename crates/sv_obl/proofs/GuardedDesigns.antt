@@ -31,20 +31,22 @@ use Rattle.sv_flat.proofs.FlatScheduled.{parts_of, of_system}
 use Rattle.sv_obl.specs.declared.frames.Frame.{Frame}
 use Rattle.sv_obl.specs.declared.frames.Frame.TheVariants.{Now, Next}
 use Rattle.sv_obl.specs.Paths.{StepForm, Path, paths}
-use Rattle.sv_obl.specs.Obligations.{Obligation, selectors_of, always_flows, frame_of}
+use Rattle.sv_flat.specs.Selectors.{selectors_of, always_flows}
+use Rattle.sv_obl.specs.Obligations.{Obligation, frame_of}
 use Rattle.sv_obl.specs.Obligations.{path_obligation, target_obligations, selector_obligation}
 use Rattle.sv_obl.specs.Obligations.{selector_obligations, obligations}
 use Rattle.sv_obl.specs.PathValues.{is_true_in, Holds}
 use Rattle.sv_obl.specs.Validity.{Valuation, MeetsFacts, IsInFrame, IsValid, AllValid}
 use Rattle.sv_obl.specs.Noninterference.{IsChecked, NoninterferentUnder}
-use Rattle.sv_obl.proofs.PathLists.{same_truth, cond_true, cond_false, all_contained, contained_all}
+use Rattle.sv_flat.proofs.Members.{all_contained, contained_all}
+use Rattle.sv_obl.proofs.PathLists.{same_truth, cond_true, cond_false}
 use Rattle.sv_obl.proofs.PathLists.{in_flat_map, from_flat_map}
 use Rattle.sv_obl.proofs.PathRuns.{step_holds, steps_hold}
 use Rattle.sv_obl.proofs.TargetReads.{reads_of, Origin, origin, read_cases, read_is_seen}
 use Rattle.sv_obl.proofs.TargetReads.{steps_same, result_same}
 use Rattle.sv_obl.proofs.TargetValues.{path_gives_value, some_value_path, path_gives_next}
 use Rattle.sv_obl.proofs.TargetValues.{some_next_path}
-use Rattle.sv_obl.proofs.SelectorFacts.{label_selected, selector_is_seen, always_is_right}
+use Rattle.sv_flat.proofs.SelectorFacts.{label_selected, selector_is_seen, always_is_right}
 use Rattle.sv_obl.proofs.LatticeFacts.{flows_on}
 use Rattle.sv_obl.proofs.Watched.{watched, rests, meets_facts, trace_there}
 

@@ -22,8 +22,6 @@ pub mod ReadValues
 pub mod RouteNames
 pub mod RouteObligations
 pub mod RoutePaths
-pub mod SelectorBounds
-pub mod SelectorFacts
 pub mod ShortFacts
 pub mod StatementFacts
 pub mod TakenPaths

@@ -44,15 +44,6 @@ neither false b h = inl refl
 -- ---- lists
 
 module _ {X : Type 0} where
-  pub only : (x y : X) → Contains (x ∷ []) y → x ≡ y
-  only x y at = ⊎_elim (λ is. is) (λ none. absurd (Contains-nil y none)) (Contains-cases x [] y at)
-
-  pub all_contained : (P : X → Type 0) (xs : List X) → All P xs → (x : X) → Contains xs x → P x
-  all_contained P xs each x at = subst P at.2 (each at.0 x at.1)
-
-  pub contained_all : (P : X → Type 0) (xs : List X) → ((x : X) → Contains xs x → P x) → All P xs
-  contained_all P xs each k d inside = each _ (Contains-get_or xs k d inside)
-
   -- an element of a list that a test chooses
   pub from_cond : (c : Bool) (xs ys : List X) (x : X) → Contains (cond c xs ys) x
       → (IsTrue c × Contains xs x) ⊎ (IsFalse c × Contains ys x)

@@ -26,7 +26,8 @@ use Rattle.sv_obl.specs.Wanted.{put_in}
 use Rattle.sv_obl.specs.Paths.{StepForm, Path, under, step_with, Way, way_under, ways, covers_name}
 use Rattle.sv_obl.specs.Paths.{name_itself, ways_taken, with_way, path_names, is_taken, open_path}
 use Rattle.sv_obl.specs.Paths.{before}
-use Rattle.sv_obl.proofs.PathLists.{only, cond_false, from_cond, from_flat_map}
+use Rattle.sv_flat.proofs.Members.{only}
+use Rattle.sv_obl.proofs.PathLists.{cond_false, from_cond, from_flat_map}
 use Rattle.sv_obl.proofs.PutFacts.{copy_is, copy_is_copy, signal_is_settled}
 use Rattle.sv_obl.proofs.PathTells.{marked_assigns}
 use Rattle.sv_obl.proofs.PathRuns.{step_of, whole_way}

@@ -26,7 +26,8 @@ use Rattle.sv_obl.specs.Wanted.{with_copies, is_copy, original, mark, marked_tre
 use Rattle.sv_obl.specs.Wanted.{piece_value, with_piece_put, put_value, pieces_put, put_in}
 use Rattle.sv_obl.specs.Paths.{StepForm, Path, step_with, Way, way_under, ways, covers_name}
 use Rattle.sv_obl.specs.Paths.{name_itself, ways_taken}
-use Rattle.sv_obl.proofs.PathLists.{same_truth, truth_same, both_true, cond_true, cond_false, only}
+use Rattle.sv_flat.proofs.Members.{only}
+use Rattle.sv_obl.proofs.PathLists.{same_truth, truth_same, both_true, cond_true, cond_false}
 use Rattle.sv_obl.proofs.PathLists.{from_cond}
 use Rattle.sv_obl.proofs.TreeFacts.{held_below, well_held, exchanged_held, Below}
 

@@ -24,7 +24,8 @@ use Rattle.sv_obl.specs.Wanted.{with_copies, copy_of, is_copy, original, marked_
 use Rattle.sv_obl.specs.Wanted.{put_in}
 use Rattle.sv_obl.specs.Paths.{StepForm, Path, under, step_with, Way, ways, covers_name}
 use Rattle.sv_obl.specs.Paths.{name_itself, ways_taken, with_way, path_names, is_taken, before}
-use Rattle.sv_obl.proofs.PathLists.{same_truth, truth_same, both_true, cond_true, cond_false, only}
+use Rattle.sv_flat.proofs.Members.{only}
+use Rattle.sv_obl.proofs.PathLists.{same_truth, truth_same, both_true, cond_true, cond_false}
 use Rattle.sv_obl.proofs.PathLists.{from_cond, in_first, in_second, all_left, all_right, all_joined}
 use Rattle.sv_obl.proofs.PathLists.{in_flat_map, from_flat_map}
 use Rattle.sv_obl.proofs.PutFacts.{State, all_are, running, running_leaves, beside, put_same}

@@ -19,7 +19,7 @@ use Rattle.sv_flat.specs.Soundness.{is_whole, well_formed}
 use Rattle.sv_flat.specs.Readings.{ReadForm, whole_read, indexed_read, reads}
 use Rattle.sv_flat.proofs.ReadSignals.{reads_signals}
 use Rattle.sv_obl.specs.Exchange.{Instead, name, content, for_whole, for_bit, for_part}
-use Rattle.sv_obl.proofs.PathLists.{only}
+use Rattle.sv_flat.proofs.Members.{only}
 use Rattle.sv_obl.specs.Wanted.{with_copies, copy_of, is_copy, original, wanted_name, piece_value}
 use Rattle.sv_obl.specs.Wanted.{with_piece_put, put_value, pieces_put, put_in, close, closed_tree}
 use Rattle.sv_obl.specs.Paths.{StepForm, step_with, name_itself, pieces_of, puts_in}

@@ -34,7 +34,7 @@ use Rattle.sv_obl.specs.Routes.{Route, open_route, routes_before, names_in, name
 use Rattle.sv_obl.specs.Routes.{route_obligation}
 use Rattle.sv_obl.specs.Wanted.{with_copies, copy_of, is_copy, original, close, closed_tree, marked}
 use Rattle.sv_obl.proofs.NumberSets.{filter_alike}
-use Rattle.sv_obl.proofs.PathLists.{contained_all, only}
+use Rattle.sv_flat.proofs.Members.{contained_all, only}
 use Rattle.sv_obl.proofs.PutFacts.{copy_is_copy, original_of_copy, settled_is_signal}
 use Rattle.sv_obl.proofs.PutAlone.{Settled, AllSettled, kept_each, by_signals, close_leaves}
 use Rattle.sv_obl.proofs.PutAlone.{steps_stay, here, settled_names}

@@ -31,7 +31,8 @@ use Rattle.sv_obl.specs.Routes.{Route, open_route, behind, is_all, times_put, fi
 use Rattle.sv_obl.specs.Routes.{names_in, with_names, with_put, with_ways, with_right}
 use Rattle.sv_obl.specs.Routes.{routes_before}
 use Rattle.sv_obl.proofs.NumberSets.{put_held}
-use Rattle.sv_obl.proofs.PathLists.{both_true, only}
+use Rattle.sv_flat.proofs.Members.{only}
+use Rattle.sv_obl.proofs.PathLists.{both_true}
 use Rattle.sv_obl.proofs.PathRuns.{step_of, whole_way}
 use Rattle.sv_obl.proofs.PutFacts.{copy_is_copy, original_of_copy}
 use Rattle.sv_obl.proofs.RouteNames.{names_alike, held_name, some_piece, LeftOf, left_of}

@@ -15,7 +15,8 @@ use Rattle.sv_flat.proofs.AdmittedFacts.{assigns_no_clock}
 use Rattle.sv_obl.specs.Paths.{StepForm, Path, paths}
 use Rattle.sv_obl.specs.PathValues.{is_true_in, Holds, IsTaken}
 use Rattle.sv_obl.specs.Noninterference.{IsChecked}
-use Rattle.sv_obl.proofs.PathLists.{same_truth, truth_same, all_contained, contained_all, all_from}
+use Rattle.sv_flat.proofs.Members.{all_contained, contained_all}
+use Rattle.sv_obl.proofs.PathLists.{same_truth, truth_same, all_from}
 use Rattle.sv_obl.proofs.PathRuns.{step_holds, steps_hold}
 use Rattle.sv_obl.proofs.TargetReads.{inside, in_system}
 use Rattle.sv_obl.proofs.TargetValues.{path_gives_value, some_value_path, one_value_path}

@@ -51,7 +51,8 @@ use Rattle.sv_obl.specs.Wanted.{wanted_name}
 use Rattle.sv_obl.specs.Paths.{Path, open_path, before, closed, paths}
 use Rattle.sv_obl.proofs.BlockSettles.{Settles, block_settles}
 use Rattle.sv_obl.proofs.Closing.{closed_value, closed_steps}
-use Rattle.sv_obl.proofs.PathLists.{both_true, cond_true, cond_false, all_contained, only}
+use Rattle.sv_flat.proofs.Members.{all_contained, only}
+use Rattle.sv_obl.proofs.PathLists.{both_true, cond_true, cond_false}
 use Rattle.sv_obl.proofs.PathNames.{PathFine, paths_fine, open_fine}
 use Rattle.sv_obl.proofs.PathRuns.{steps_hold, Tidy}
 use Rattle.sv_obl.proofs.PathTells.{here, Follows, path_tells, some_path, one_path, stays_tidy}

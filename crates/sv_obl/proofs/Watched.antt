@@ -11,7 +11,8 @@ use Rattle.sv_flat.specs.FlatSystem.{flat_system}
 use Rattle.sv_flat.proofs.Depths.{from_all}
 use Rattle.sv_obl.specs.PathValues.{is_true_in}
 use Rattle.sv_obl.specs.Validity.{MeetsFacts}
-use Rattle.sv_obl.proofs.PathLists.{cond_true, all_contained, contained_all, all_from}
+use Rattle.sv_flat.proofs.Members.{all_contained, contained_all}
+use Rattle.sv_obl.proofs.PathLists.{cond_true, all_from}
 
 module _ (facts : List TypedTree) (design : FlatDesign) where
   abbrev meets : Environment ℕ → Bool

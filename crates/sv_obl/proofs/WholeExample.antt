@@ -23,7 +23,7 @@ use Rattle.sv_obl.specs.Validity.{Valuation, Falsifies, IsValid, AllValid}
 use Rattle.sv_obl.specs.Noninterference.{IsChecked}
 use Rattle.sv_obl.proofs.ListExamples.{turns, maps, point}
 use Rattle.sv_obl.proofs.GuardedDesigns.{noninterferent_plain}
-use Rattle.sv_obl.proofs.PathLists.{only, all_contained}
+use Rattle.sv_flat.proofs.Members.{only, all_contained}
 
 -- ---- L flows to H
 

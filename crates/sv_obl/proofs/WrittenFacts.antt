@@ -30,7 +30,7 @@ use Rattle.sv_obl.specs.Views.{IsAmong}
 use Rattle.sv_obl.specs.ListParts.{obligations_before, obligations_from, lines_left, AreCounted}
 use Rattle.sv_obl.specs.Written.{Writes, CountsTargets}
 use Rattle.sv_obl.proofs.DesignQueryFacts.{all_are, query_among}
-use Rattle.sv_obl.proofs.PathLists.{all_contained, contained_all}
+use Rattle.sv_flat.proofs.Members.{all_contained, contained_all}
 use Rattle.sv_obl.proofs.TargetFacts.{length_mapped, obligation_count}
 use Rattle.sv_obl.proofs.TargetWalks.{next_number, range_at, none_at, told_at}
 

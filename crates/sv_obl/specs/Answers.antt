@@ -11,7 +11,8 @@ use Rattle.sv_obl.specs.declared.queries.Query.{Query}
 use Rattle.sv_lattice.specs.Labels.{map_of}
 use Rattle.sv_flat.specs.Values.{signal_of}
 use Rattle.sv_obl.specs.Obligations.{Obligation, target_obligations, obligations}
-use Rattle.sv_obl.specs.Obligations.{selector_obligation, flows_to_rows, rows_of, selectors_of}
+use Rattle.sv_flat.specs.Selectors.{flows_to_rows, rows_of, selectors_of}
+use Rattle.sv_obl.specs.Obligations.{selector_obligation}
 use Rattle.sv_lattice.specs.declared.labels.Label.{Label}
 use Rattle.sv_obl.specs.Views.{obligation_of}
 use Rattle.sv_obl.specs.declared.faults.OblFault.{OblFault}

@@ -10,7 +10,8 @@ use Rattle.sv_flat.specs.SignalLists.{system_signals, registers}
 use Rattle.sv_obl.specs.declared.frames.Frame.{Frame}
 use Rattle.sv_obl.specs.declared.frames.Frame.TheVariants.{Now, Next}
 use Rattle.sv_obl.specs.Paths.{StepForm}
-use Rattle.sv_obl.specs.Obligations.{GoalForm, flow, holds, selector, Obligation, selectors_of}
+use Rattle.sv_flat.specs.Selectors.{selectors_of}
+use Rattle.sv_obl.specs.Obligations.{GoalForm, flow, holds, selector, Obligation}
 
 -- each number is below those after it
 abbrev pub Ascends : List ℕ → Type 0

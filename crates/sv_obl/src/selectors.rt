@@ -9,7 +9,8 @@ ghost use Rattle.sv_lattice.specs.Labels.{map_of};
 ghost use Rattle.sv_lattice.specs.Tables.{flow_test};
 ghost use Rattle.sv_lattice.specs.declared.points.Point.{Point};
 ghost use Rattle.sv_obl.specs.Answers.{asked_of, asked_by};
-ghost use Rattle.sv_obl.specs.Obligations.{flows_to_rows, selector_obligation};
+ghost use Rattle.sv_flat.specs.Selectors.{flows_to_rows};
+ghost use Rattle.sv_obl.specs.Obligations.{selector_obligation};
 ghost use Rattle.sv_obl.specs.Obligations.{selector_obligations};
 ghost use Rattle.sv_obl.specs.Views.{obligation_of};
 

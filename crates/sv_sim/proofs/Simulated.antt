@@ -45,7 +45,7 @@ use Rattle.sv_flat.proofs.LeastSets.{either_way, some_from, in_those, those_pass
 use Rattle.sv_flat.proofs.Orders.{order_only}
 use Rattle.sv_flat.proofs.SameRuns.{none_found}
 use Rattle.sv_design.specs.Numbers.{numbers}
-use Rattle.sv_sim.specs.Given.{with_given, given}
+use Rattle.sv_flat.specs.Given.{with_given, given}
 use Rattle.sv_sim.specs.Settling.{process_at, IsDriver, SameOthers}
 use Rattle.sv_sim.specs.Simulations.{IsSimulation}
 use Rattle.sv_sim.proofs.AtPlace.{idle, is_among}

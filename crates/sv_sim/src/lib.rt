@@ -9,7 +9,7 @@
 //! the inputs, and that `tick` gives each register its next value, as `sv_system/specs/System.antt`
 //! says it of the system in `sv_flat/specs/FlatSystem.antt`; and that each fitting start and list
 //! of inputs of an admitted design has exactly one trace. `Simulations.antt` says what a contract
-//! sees of a simulation, and `Given.antt` how values are given to signals. `Settling.antt` is
+//! sees of a simulation; how values are given to signals stands in `sv_flat`. `Settling.antt` is
 //! private: it says how settling and the edge go; the meaning stands in the files before. Of it
 //! public contracts cite `process_at` alone, the process of `run_at` and `update_at`.
 //!

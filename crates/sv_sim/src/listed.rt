@@ -3,7 +3,7 @@ ghost use Rattle.std.specs.Prelude.{◌≡◌, ◌↔◌, ℕ, ◌<◌, ◌^◌,
 ghost use Rattle.sv_flat.specs.ByNumber.{signal_forms, by_number, FitSignals};
 ghost use Rattle.sv_flat.specs.Values.{signal_width};
 ghost use Rattle.sv_design.specs.Numbers.{numbers};
-ghost use Rattle.sv_sim.specs.Given.{FitListed, with_given};
+ghost use Rattle.sv_flat.specs.Given.{FitListed, with_given};
 
 use sv_flat::{SigId, Signal};
 

@@ -8,7 +8,7 @@ ghost use Rattle.sv_flat.specs.SignalLists.{system_signals, inputs as inputs_of,
 ghost use Rattle.sv_flat.specs.Views.{design_of};
 ghost use Rattle.sv_system.specs.Schedules.{IsTheSettled};
 ghost use Rattle.sv_system.specs.System.{IsStill};
-ghost use Rattle.sv_sim.specs.Given.{FitListed, with_given, given};
+ghost use Rattle.sv_flat.specs.Given.{FitListed, with_given, given};
 
 use crate::edges::clock_edge;
 use crate::listed::{fits, put_listed};

@@ -8,7 +8,7 @@ use Rattle.sv_flat.specs.FlatSystem.{flat_system}
 use Rattle.sv_flat.specs.Schedules.{after_tick, tick_order}
 use Rattle.sv_flat.specs.SignalLists.{inputs}
 use Rattle.sv_flat.specs.Views.{design_of}
-use Rattle.sv_sim.specs.Given.{given}
+use Rattle.sv_flat.specs.Given.{given}
 use Rattle.sv_trace.specs.Forms.{StimForm}
 use Rattle.sv_trace.specs.Stimulus.{LinesRead}
 use Rattle.sv_trace.specs.Traces.{trace_line}

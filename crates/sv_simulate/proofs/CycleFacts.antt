@@ -20,7 +20,7 @@ use Rattle.sv_flat.proofs.AdmittedFacts.{assigned_is_signal, body_is_sound, cloc
 use Rattle.sv_flat.proofs.Depths.{first_of, second_of}
 use Rattle.sv_flat.proofs.LeastSets.{from_some, in_those}
 use Rattle.sv_design.specs.Designs.{IsDesign}
-use Rattle.sv_sim.specs.Given.{given}
+use Rattle.sv_flat.specs.Given.{given}
 use Rattle.sv_simulate.specs.declared.runners.Runner.{Runner}
 use Rattle.sv_simulate.specs.declared.runners.Runner.TheVariants as runner
 use Rattle.sv_simulate.specs.Runners.{CountsRounds, values_in, order_in, rounds_in}

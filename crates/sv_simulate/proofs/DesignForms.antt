@@ -21,7 +21,7 @@ use Rattle.sv_flat.specs.Soundness.{sound}
 use Rattle.sv_flat.proofs.AdmittedFacts.{assigned_is_signal, body_is_sound, clocked_is_process}
 use Rattle.sv_flat.proofs.Depths.{first_of, second_of}
 use Rattle.sv_flat.proofs.LeastSets.{from_some, in_those}
-use Rattle.sv_sim.specs.Given.{FitListed, given}
+use Rattle.sv_flat.specs.Given.{FitListed, given}
 use Rattle.sv_sim.proofs.OneDesign.{register_no_clock}
 use Rattle.sv_sim.proofs.Simulated.{input_listed}
 use Rattle.sv_trace.specs.Forms.{StimForm, form_of, name_in}

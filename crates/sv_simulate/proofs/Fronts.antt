@@ -13,7 +13,7 @@ use Rattle.sv_flat.specs.Design.{FlatDesign}
 use Rattle.sv_flat.specs.FlatSystem.{flat_system}
 use Rattle.sv_flat.specs.SignalLists.{inputs, registers}
 use Rattle.sv_flat.specs.Soundness.{sound}
-use Rattle.sv_sim.specs.Given.{given}
+use Rattle.sv_flat.specs.Given.{given}
 use Rattle.sv_trace.specs.Forms.{StimForm, form_of, name_in}
 use Rattle.sv_trace.specs.Stimulus.{LinesRead, start_of, cycles_of}
 use Rattle.sv_simulate.specs.declared.endings.Ending.{Ending}

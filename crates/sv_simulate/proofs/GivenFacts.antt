@@ -26,7 +26,7 @@ use Rattle.sv_flat.proofs.LeastSets.{either_way, Contains-from_filter, in_those,
 use Rattle.sv_flat.proofs.LeastSets.{those_pass}
 use Rattle.sv_flat.proofs.SameRuns.{put_there}
 use Rattle.sv_design.specs.Numbers.{numbers}
-use Rattle.sv_sim.specs.Given.{FitListed, with_given, given}
+use Rattle.sv_flat.specs.Given.{FitListed, with_given, given}
 use Rattle.sv_sim.proofs.GivenValues.{listed_value, other_value, listed_within}
 use Rattle.sv_sim.proofs.OneDesign.{register_no_clock}
 use Rattle.sv_sim.proofs.Simulated.{number_at, input_listed}

@@ -11,7 +11,7 @@ use Rattle.sv_flat.specs.Design.{FlatDesign}
 use Rattle.sv_flat.specs.FlatSystem.{flat_system}
 use Rattle.sv_flat.specs.SignalLists.{system_signals}
 use Rattle.sv_flat.specs.Values.{signal_width}
-use Rattle.sv_sim.specs.Given.{FitListed}
+use Rattle.sv_flat.specs.Given.{FitListed}
 use Rattle.sv_trace.specs.Forms.{name_in}
 use Rattle.sv_trace.specs.Traces.{trace_line}
 use Rattle.sv_simulate.specs.Runs.{PutsFront, lines_of}

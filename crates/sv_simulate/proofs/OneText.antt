@@ -13,7 +13,7 @@ use Rattle.sv_flat.specs.FlatSystem.{flat_system}
 use Rattle.sv_flat.specs.SignalLists.{system_signals, inputs, registers}
 use Rattle.sv_flat.specs.Soundness.{sound}
 use Rattle.sv_design.specs.Designs.{IsDesign}
-use Rattle.sv_sim.specs.Given.{given}
+use Rattle.sv_flat.specs.Given.{given}
 use Rattle.sv_sim.proofs.OneDesign.{design_has_one_trace}
 use Rattle.sv_trace.specs.Forms.{StimForm, form_of, name_in}
 use Rattle.sv_trace.specs.Stimulus.{LinesRead, read_front, read_whole, start_of, cycles_of}

@@ -19,7 +19,7 @@ use Rattle.sv_flat.specs.SignalLists.{system_signals, inputs, registers}
 use Rattle.sv_flat.specs.Values.{signal_width}
 use Rattle.sv_flat.proofs.Forms.{at, declares, sets, named, process}
 use Rattle.sv_flat.proofs.Forms.{over_two_points}
-use Rattle.sv_sim.specs.Given.{given}
+use Rattle.sv_flat.specs.Given.{given}
 use Rattle.sv_trace.specs.declared.faults.StimKind.TheVariants.{Value}
 use Rattle.sv_trace.specs.Forms.{name_in}
 use Rattle.sv_trace.specs.Stimulus.{LinesRead}

@@ -22,7 +22,7 @@ use Rattle.sv_flat.specs.Soundness.{sound}
 use Rattle.sv_flat.specs.Values.{signal_width}
 use Rattle.sv_flat.proofs.LeastSets.{either_way, those_below}
 use Rattle.sv_flat.proofs.RunsFit.{edge_fits}
-use Rattle.sv_sim.specs.Given.{FitListed, given}
+use Rattle.sv_flat.specs.Given.{FitListed, given}
 use Rattle.sv_sim.proofs.NextValues.{next_same, unclocked_values, unclocked_fit, seen_same}
 use Rattle.sv_event.proofs.CycleOrders.{tick_order_is_order}
 use Rattle.sv_event.proofs.RoundFacts.{rounds_quiet, rounds_settled}

@@ -10,7 +10,7 @@ use Rattle.sv_system.specs.System.{Environment, IsTrace}
 use Rattle.sv_flat.specs.Design.{FlatDesign}
 use Rattle.sv_flat.specs.FlatSystem.{flat_system}
 use Rattle.sv_flat.specs.SignalLists.{inputs, registers}
-use Rattle.sv_sim.specs.Given.{given}
+use Rattle.sv_flat.specs.Given.{given}
 use Rattle.sv_trace.specs.Forms.{StimForm, form_of}
 use Rattle.sv_trace.specs.Reading.{HaveRead}
 use Rattle.sv_trace.specs.Stimulus.{LinesRead, read_front, start_of, cycles_of}

@@ -29,7 +29,7 @@ use Rattle.sv_flat.proofs.AdmittedFacts.{body_is_sound, assigned_is_signal, assi
 use Rattle.sv_flat.proofs.FlatScheduled.{to_system}
 use Rattle.sv_flat.proofs.LeastSets.{Contains-from_filter}
 use Rattle.sv_flat.proofs.SameRuns.{none_found}
-use Rattle.sv_sim.specs.Given.{with_given, given}
+use Rattle.sv_flat.specs.Given.{with_given, given}
 use Rattle.sv_sim.proofs.AtPlace.{idle}
 use Rattle.sv_sim.proofs.EdgeFacts.{last_untouched, all_touch, run_touch}
 use Rattle.sv_sim.proofs.InOrder.{run_keeps_given}

@@ -9,7 +9,7 @@ use Rattle.sv_flat.specs.FlatSystem.{flat_system}
 use Rattle.sv_flat.specs.SignalLists.{system_signals, inputs, registers}
 use Rattle.sv_flat.specs.Views.{design_of}
 use Rattle.sv_design.specs.Designs.{IsDesign}
-use Rattle.sv_sim.specs.Given.{given}
+use Rattle.sv_flat.specs.Given.{given}
 use Rattle.sv_trace.specs.Forms.{form_of}
 use Rattle.sv_trace.specs.Reading.{HasFed, HasRead}
 use Rattle.sv_trace.specs.Stimulus.{LinesRead, start_of, cycles_of}

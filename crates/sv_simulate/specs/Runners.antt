@@ -10,7 +10,7 @@ use Rattle.sv_flat.specs.Design.{FlatDesign}
 use Rattle.sv_flat.specs.Schedules.{IsRoundCount, after_rounds, clocked_count, with_inputs}
 use Rattle.sv_flat.specs.SignalLists.{system_signals, inputs}
 use Rattle.sv_flat.specs.Views.{design_of}
-use Rattle.sv_sim.specs.Given.{given}
+use Rattle.sv_flat.specs.Given.{given}
 use Rattle.sv_simulate.specs.declared.runners.Drawn.{Drawn}
 use Rattle.sv_simulate.specs.declared.runners.Runner.{Runner}
 use Rattle.sv_simulate.specs.declared.runners.Runner.TheVariants as runner

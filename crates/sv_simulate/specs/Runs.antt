@@ -10,7 +10,7 @@ use Rattle.sv_flat.specs.Design.{FlatDesign}
 use Rattle.sv_flat.specs.FlatSystem.{flat_system}
 use Rattle.sv_flat.specs.Schedules.{IsOrderedRun, starting, after_tick, tick_order}
 use Rattle.sv_flat.specs.SignalLists.{inputs, registers}
-use Rattle.sv_sim.specs.Given.{given}
+use Rattle.sv_flat.specs.Given.{given}
 use Rattle.sv_trace.specs.declared.faults.StimFault.{StimFault}
 use Rattle.sv_trace.specs.declared.faults.StimFault.TheVariants as stim
 use Rattle.sv_trace.specs.Forms.{name_in}

@@ -11,7 +11,7 @@ use Rattle.sv_flat.specs.Design.{FlatDesign}
 use Rattle.sv_flat.specs.FlatSystem.{flat_system}
 use Rattle.sv_flat.specs.Schedules.{OrderedRun}
 use Rattle.sv_flat.specs.SignalLists.{inputs, registers}
-use Rattle.sv_sim.specs.Given.{given}
+use Rattle.sv_flat.specs.Given.{given}
 use Rattle.sv_trace.specs.declared.faults.StimKind.{StimKind}
 use Rattle.sv_trace.specs.declared.faults.StimKind.TheVariants as kinds
 use Rattle.sv_trace.specs.Forms.{StimForm, form_of, name_in}

@@ -8,7 +8,7 @@ ghost use Rattle.sv_flat.specs.ByNumber.{by_number};
 ghost use Rattle.sv_flat.specs.Schedules.{starting, after_tick, tick_order};
 ghost use Rattle.sv_flat.specs.SignalLists.{system_signals, inputs as inputs_of, registers};
 ghost use Rattle.sv_flat.specs.Views.{design_of};
-ghost use Rattle.sv_sim.specs.Given.{FitListed, given};
+ghost use Rattle.sv_flat.specs.Given.{FitListed, given};
 ghost use Rattle.sv_system.specs.System.{Settled};
 ghost use Rattle.sv_simulate.specs.Runners.{design_in, values_in, order_in, rounds_in};
 ghost use Rattle.sv_simulate.specs.Runners.{IsDrawn, IsRunner, IsReady, RunsRounds};

@@ -7,7 +7,7 @@ ghost use Rattle.sv_flat.specs.SignalLists.{system_signals, inputs as inputs_of}
 ghost use Rattle.sv_flat.specs.Views.{design_of};
 ghost use Rattle.sv_design.specs.Designs.{IsDesign};
 ghost use Rattle.sv_io.specs.Count.{Rose};
-ghost use Rattle.sv_sim.specs.Given.{FitListed};
+ghost use Rattle.sv_flat.specs.Given.{FitListed};
 ghost use Rattle.sv_trace.specs.Reading.{HasFed, HasRead, answer_of};
 ghost use Rattle.sv_trace.specs.Stimulus.{LinesRead, read_front, read_whole};
 ghost use Rattle.sv_simulate.specs.Progress.{IsSimulating, IsSameAs, HasRunCycles, HasRoom};

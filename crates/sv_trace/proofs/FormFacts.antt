@@ -10,7 +10,7 @@ use Rattle.sv_flat.specs.declared.signals.Signal.{Signal}
 use Rattle.sv_flat.specs.Processes.{signals_that}
 use Rattle.sv_flat.specs.Views.{design_of}
 use Rattle.sv_design.specs.Numbers.{numbers}
-use Rattle.sv_obl.proofs.SelectorBounds.{same_there}
+use Rattle.sv_flat.proofs.SelectorBounds.{same_there}
 use Rattle.sv_sim.proofs.Simulated.{numbers_within}
 
 -- a listed signal is among the signals

@@ -27,14 +27,14 @@ use Rattle.sv_flat.specs.Soundness.{second_fits}
 use Rattle.sv_flat.specs.Values.{signal_of, signal_width}
 use Rattle.sv_flat.proofs.Depths.{first_of, second_of}
 use Rattle.sv_flat.proofs.LeastSets.{those_below}
-use Rattle.sv_obl.proofs.SelectorBounds.{label_is_sound, rows_are_points, label_map}
-use Rattle.sv_obl.proofs.SelectorBounds.{label_here}
+use Rattle.sv_flat.proofs.SelectorBounds.{label_is_sound, rows_are_points, label_map}
+use Rattle.sv_flat.proofs.SelectorBounds.{label_here}
 use Rattle.sv_flat.specs.declared.designs.Flat.{Flat}
 use Rattle.sv_flat.specs.declared.signals.Signal.{Signal}
 use Rattle.sv_flat.specs.Views.{design_of, signal_form}
-use Rattle.sv_obl.proofs.SelectorFacts.{selector_is_seen}
-use Rattle.sv_obl.specs.Obligations.{selectors_of}
-use Rattle.sv_sim.specs.Given.{given, with_given}
+use Rattle.sv_flat.proofs.SelectorFacts.{selector_is_seen}
+use Rattle.sv_flat.specs.Selectors.{selectors_of}
+use Rattle.sv_flat.specs.Given.{given, with_given}
 use Rattle.sv_trace.specs.Traces.{pair_text, shown, is_shown, text_of_signal}
 
 -- ---- labels are read

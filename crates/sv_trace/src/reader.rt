@@ -6,7 +6,7 @@ ghost use Rattle.std.specs.Option.{option_copied};
 ghost use Rattle.sv_flat.specs.Design.{FlatDesign};
 ghost use Rattle.sv_flat.specs.SignalLists.{registers, inputs};
 ghost use Rattle.sv_flat.specs.Views.{design_of};
-ghost use Rattle.sv_sim.specs.Given.{FitListed};
+ghost use Rattle.sv_flat.specs.Given.{FitListed};
 ghost use Rattle.sv_trace.specs.Forms.{form_of};
 ghost use Rattle.sv_trace.specs.Reading.{HasFed, HasRead, HaveReadFront, answer_of, UnlessFull};
 ghost use Rattle.sv_trace.specs.Reading.{IfFull, KeepsCycles};

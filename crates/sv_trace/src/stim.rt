@@ -2,7 +2,7 @@
 ghost use Rattle.std.specs.Prelude.{map, All, IfOk, IfErr};
 ghost use Rattle.sv_flat.specs.SignalLists.{inputs, registers};
 ghost use Rattle.sv_flat.specs.Views.{design_of};
-ghost use Rattle.sv_sim.specs.Given.{FitListed};
+ghost use Rattle.sv_flat.specs.Given.{FitListed};
 ghost use Rattle.sv_trace.specs.Forms.{form_of};
 ghost use Rattle.sv_trace.specs.Reading.{IsStim, IsFaultOf};
 ghost use Rattle.sv_trace.specs.Stimulus.{read_whole};

@@ -7,7 +7,7 @@ ghost use Rattle.sv_flat.specs.ByNumber.{by_number as values_by_number, FitSigna
 ghost use Rattle.sv_flat.specs.SignalLists.{system_signals};
 ghost use Rattle.sv_flat.specs.Views.{design_of};
 ghost use Rattle.sv_design.specs.Designs.{IsDesign};
-ghost use Rattle.sv_sim.specs.Given.{FitListed, given};
+ghost use Rattle.sv_flat.specs.Given.{FitListed, given};
 ghost use Rattle.sv_trace.specs.Traces.{hexadecimal, pair_text, shown, text_of_signal};
 ghost use Rattle.sv_trace.specs.Traces.{trace_line as line_of, is_shown as is_shown_in};
 

@@ -9,7 +9,7 @@ use Rattle.sv_flat.specs.SignalLists.{inputs, registers}
 use Rattle.sv_obl.specs.Noninterference.{IsChecked}
 use Rattle.sv_obl.specs.Validity.{AllValid}
 use Rattle.sv_obl.proofs.GuardedDesigns.{noninterferent_plain}
-use Rattle.sv_sim.specs.Given.{given}
+use Rattle.sv_flat.specs.Given.{given}
 use Rattle.sv_tworun.specs.declared.compared.Compared.{Compared}
 use Rattle.sv_tworun.specs.declared.compared.Compared.TheVariants.{Equal, InputsDiffer}
 use Rattle.sv_tworun.specs.declared.compared.Compared.TheVariants.{ViewsDiffer, LengthsDiffer}

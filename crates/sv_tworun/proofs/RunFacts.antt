@@ -21,8 +21,8 @@ use Rattle.sv_flat.proofs.AdmittedFacts.{assigned_is_signal, clocked_is_process,
 use Rattle.sv_flat.proofs.Depths.{first_of, second_of}
 use Rattle.sv_flat.proofs.LeastSets.{from_some, in_those, those_below}
 use Rattle.sv_design.specs.Designs.{IsDesign}
-use Rattle.sv_obl.proofs.SelectorFacts.{label_selected, selector_is_seen}
-use Rattle.sv_sim.specs.Given.{FitListed, with_given, given}
+use Rattle.sv_flat.proofs.SelectorFacts.{label_selected, selector_is_seen}
+use Rattle.sv_flat.specs.Given.{FitListed, with_given, given}
 use Rattle.sv_sim.proofs.GivenValues.{listed_value}
 use Rattle.sv_sim.proofs.OneDesign.{design_ordered}
 use Rattle.sv_tworun.specs.declared.compared.Compared.{Compared}

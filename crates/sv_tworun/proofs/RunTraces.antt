@@ -15,7 +15,7 @@ use Rattle.sv_flat.specs.SignalLists.{inputs, registers}
 use Rattle.sv_flat.specs.Values.{signal_width}
 use Rattle.sv_flat.proofs.RunsFit.{last_update_fits}
 use Rattle.sv_design.specs.Designs.{IsDesign}
-use Rattle.sv_sim.specs.Given.{FitListed, given}
+use Rattle.sv_flat.specs.Given.{FitListed, given}
 use Rattle.sv_sim.proofs.OneDesign.{design_has_one_trace}
 use Rattle.sv_tworun.specs.declared.compared.Compared.{Compared}
 use Rattle.sv_tworun.specs.Comparisons.{IsFound, IsComparison}

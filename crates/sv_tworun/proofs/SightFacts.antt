@@ -22,7 +22,7 @@ use Rattle.sv_flat.specs.Values.{signal_of, signal_width}
 use Rattle.sv_flat.specs.Views.{signal_form, design_of}
 use Rattle.sv_flat.proofs.Depths.{first_of, second_of}
 use Rattle.sv_design.specs.Designs.{IsDesign}
-use Rattle.sv_obl.proofs.SelectorBounds.{label_here, label_is_sound, rows_are_points, label_map}
+use Rattle.sv_flat.proofs.SelectorBounds.{label_here, label_is_sound, rows_are_points, label_map}
 
 -- the label that a list of values gives is that of their environment
 pub same_label : (maps : List MapRows) (label : Label) (values : List ℕ) →

@@ -14,7 +14,7 @@ use Rattle.sv_flat.specs.FlatSystem.{flat_system}
 use Rattle.sv_flat.specs.SignalLists.{inputs}
 use Rattle.sv_flat.specs.Views.{design_of}
 use Rattle.sv_design.specs.Designs.{IsDesign}
-use Rattle.sv_sim.specs.Given.{FitListed, given}
+use Rattle.sv_flat.specs.Given.{FitListed, given}
 use Rattle.sv_trace.specs.declared.stim.Stim.{Stim}
 use Rattle.sv_tworun.specs.Forms.{run_of, FitsRun}
 use Rattle.sv_tworun.proofs.RunFacts.{HasReached, HasInCycle, in_cycle, goes_on}

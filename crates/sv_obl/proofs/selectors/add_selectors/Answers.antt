@@ -3,7 +3,7 @@ use Rattle.std.specs.Prelude.{IsTrue}
 use Rattle.sv_flat.specs.Soundness.{label_sound}
 use Rattle.sv_flat.specs.Values.{signal_of}
 use Rattle.sv_flat.specs.Views.{design_of, signal_form}
-use Rattle.sv_obl.proofs.SelectorBounds.{label_here, label_is_sound}
+use Rattle.sv_flat.proofs.SelectorBounds.{label_here, label_is_sound}
 use Rattle.sv_obl.proofs.TargetFacts.{length_mapped}
 use Rattle.sv_obl.proofs.selectors.add_selectors.Goals as goal
 

@@ -13,7 +13,7 @@ use Rattle.sv_flat.specs.Design.{SignalForm}
 use Rattle.sv_flat.specs.ByNumber.{signal_forms}
 use Rattle.sv_flat.specs.Values.{signal_width}
 use Rattle.sv_design.specs.Numbers.{numbers}
-use Rattle.sv_sim.specs.Given.{FitListed}
+use Rattle.sv_flat.specs.Given.{FitListed}
 use Rattle.sv_sim.proofs.listed.fits.Goals as goal
 
 -- a value and the number of its signal

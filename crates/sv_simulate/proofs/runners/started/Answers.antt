@@ -5,7 +5,7 @@ use Rattle.std.proofs.lemmas.List.{take_more, map-append, get_or_default}
 use Rattle.sv_system.specs.System.{Environment}
 use Rattle.sv_flat.specs.SignalLists.{system_signals, registers}
 use Rattle.sv_flat.specs.Views.{design_of}
-use Rattle.sv_sim.specs.Given.{given}
+use Rattle.sv_flat.specs.Given.{given}
 use Rattle.sv_sim.proofs.Simulated.{number_at}
 use Rattle.sv_simulate.proofs.GivenFacts.{listed_inside, seen_number}
 use Rattle.sv_simulate.proofs.runners.started.Goals as goal

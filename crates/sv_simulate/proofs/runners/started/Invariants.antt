@@ -1,7 +1,7 @@
 use Rattle.std.proofs.Common.{◌≡◌, map, take}
 use Rattle.sv_flat.specs.SignalLists.{system_signals, registers}
 use Rattle.sv_flat.specs.Views.{design_of}
-use Rattle.sv_sim.specs.Given.{given}
+use Rattle.sv_flat.specs.Given.{given}
 use Rattle.sv_simulate.proofs.runners.started.Given as goal
 
 abbrev pub invariant-loop-s : goal.invariant-loop-s

@@ -7,7 +7,7 @@ use Rattle.sv_flat.specs.ByNumber.{by_number, FitSignals, signal_forms}
 use Rattle.sv_flat.specs.Processes.{is_register}
 use Rattle.sv_flat.specs.SignalLists.{registers}
 use Rattle.sv_flat.specs.Views.{design_of, signal_form}
-use Rattle.sv_sim.specs.Given.{with_given}
+use Rattle.sv_flat.specs.Given.{with_given}
 use Rattle.sv_sim.proofs.Simulated.{numbers_within, written, zeros_fit}
 use Rattle.sv_simulate.proofs.RunnerFacts.{all_zero}
 use Rattle.sv_simulate.proofs.runners.starting_table.Goals as goal

@@ -1,7 +1,7 @@
 use Rattle.std.proofs.Common.{◌≡◌, None, All, length, map}
 use Rattle.sv_flat.specs.SignalLists.{inputs}
 use Rattle.sv_flat.specs.Views.{design_of}
-use Rattle.sv_sim.specs.Given.{FitListed}
+use Rattle.sv_flat.specs.Given.{FitListed}
 use Rattle.sv_trace.specs.Forms.{form_of}
 use Rattle.sv_trace.specs.Reading.{HasRead}
 use Rattle.sv_trace.specs.Stimulus.{read_whole}

@@ -4,7 +4,7 @@ use Rattle.std.proofs.lemmas.List.{length-map}
 use Rattle.sv_flat.specs.ByNumber.{by_number, signal_forms}
 use Rattle.sv_flat.specs.Clocks.{is_clock}
 use Rattle.sv_flat.specs.Views.{design_of, signal_form}
-use Rattle.sv_sim.specs.Given.{with_given}
+use Rattle.sv_flat.specs.Given.{with_given}
 use Rattle.sv_sim.proofs.Simulated.{numbers_within, written}
 use Rattle.sv_trace.proofs.Shown.{zeros_fit, given_zeros}
 use Rattle.sv_trace.proofs.trace.by_number.Goals as goal

@@ -5,7 +5,7 @@ use Rattle.sv_flat.specs.ByNumber.{by_number}
 use Rattle.sv_flat.specs.FlatSystem.{flat_system}
 use Rattle.sv_flat.specs.SignalLists.{registers}
 use Rattle.sv_flat.specs.Views.{design_of}
-use Rattle.sv_sim.specs.Given.{with_given}
+use Rattle.sv_flat.specs.Given.{with_given}
 use Rattle.sv_tworun.specs.Forms.{run_of}
 use Rattle.sv_tworun.specs.Sights.{IsDifference}
 use Rattle.sv_tworun.proofs.LeakFacts.{no_leak}

@@ -4,7 +4,7 @@ use Rattle.sv_flat.specs.ByNumber.{by_number, signal_forms, FitSignals}
 use Rattle.sv_flat.specs.Processes.{is_register}
 use Rattle.sv_flat.specs.Views.{design_of}
 use Rattle.sv_design.specs.Numbers.{numbers}
-use Rattle.sv_sim.specs.Given.{with_given}
+use Rattle.sv_flat.specs.Given.{with_given}
 use Rattle.sv_sim.specs.Simulations.{IsSimulation}
 use Rattle.sv_sim.proofs.OneDesign.{register_no_clock}
 use Rattle.sv_sim.proofs.Simulated.{written, numbers_within, given_simulation}

@@ -6,7 +6,7 @@ use Rattle.sv_flat.specs.FlatSystem.{flat_system}
 use Rattle.sv_flat.specs.SignalLists.{inputs as inputs_of}
 use Rattle.sv_flat.specs.Views.{design_of}
 use Rattle.sv_design.specs.Numbers.{numbers}
-use Rattle.sv_sim.specs.Given.{with_given, given}
+use Rattle.sv_flat.specs.Given.{with_given, given}
 use Rattle.sv_sim.specs.Settling.{SameOthers}
 use Rattle.sv_sim.specs.Simulations.{Simulation, IsSimulation}
 use Rattle.sv_sim.proofs.Simulated.{written, numbers_within, given_simulation, input_no_clock}

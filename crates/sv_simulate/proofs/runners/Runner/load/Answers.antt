@@ -5,7 +5,7 @@ use Rattle.sv_flat.specs.ByNumber.{by_number}
 use Rattle.sv_flat.specs.Schedules.{starting}
 use Rattle.sv_flat.specs.SignalLists.{system_signals, registers}
 use Rattle.sv_flat.specs.Views.{design_of}
-use Rattle.sv_sim.specs.Given.{FitListed, with_given, given}
+use Rattle.sv_flat.specs.Given.{FitListed, with_given, given}
 use Rattle.sv_simulate.specs.Runners.{IsDrawn, IsRunner, OthersAreZero, design_in}
 use Rattle.sv_simulate.proofs.GivenFacts.{own_values, registers_apart, seen_fit, seen_keep_zeros}
 use Rattle.sv_simulate.proofs.GivenFacts.{started_is, started_registers}

@@ -2,7 +2,7 @@ use Rattle.std.proofs.Common.{◌≡◌, ℕ, refl, sym, subst, ◌∙◌}
 use Rattle.std.specs.Prelude.{IfSome}
 use Rattle.sv_flat.specs.SignalLists.{registers}
 use Rattle.sv_flat.specs.Schedules.{starting}
-use Rattle.sv_sim.specs.Given.{FitListed, given}
+use Rattle.sv_flat.specs.Given.{FitListed, given}
 use Rattle.sv_simulate.specs.Progress.{flat_of}
 use Rattle.sv_simulate.specs.Runners.{values_in, order_in}
 use Rattle.sv_simulate.proofs.GivenFacts.{own_values, registers_apart}

@@ -5,7 +5,7 @@ use Rattle.sv_flat.specs.declared.designs.Flat.{Flat}
 use Rattle.sv_flat.specs.FlatSystem.{flat_system}
 use Rattle.sv_flat.specs.SignalLists.{system_signals, inputs}
 use Rattle.sv_flat.specs.Views.{design_of}
-use Rattle.sv_sim.specs.Given.{FitListed, given}
+use Rattle.sv_flat.specs.Given.{FitListed, given}
 use Rattle.sv_sim.proofs.Simulated.{written}
 use Rattle.sv_system.specs.System.{Settled}
 use Rattle.sv_trace.specs.Traces.{trace_line}

@@ -2,7 +2,7 @@ use Rattle.std.proofs.Common.{◌≡◌, ◌+◌, ◌≤◌, ◌++◌, ◌∷◌
 use Rattle.std.proofs.Common.{◌∙◌, refl, arith, length-append}
 use Rattle.std.proofs.lemmas.Result.{on_err_weaker}
 use Rattle.sv_flat.specs.SignalLists.{inputs}
-use Rattle.sv_sim.specs.Given.{FitListed}
+use Rattle.sv_flat.specs.Given.{FitListed}
 use Rattle.sv_trace.specs.Reading.{Reading, HasFed, HasRead}
 use Rattle.sv_simulate.specs.declared.simulations.Simulation.{Simulation}
 use Rattle.sv_simulate.specs.Progress.{flat_of, HasRunCycles}

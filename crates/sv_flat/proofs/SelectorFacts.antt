@@ -35,8 +35,8 @@ use Rattle.sv_flat.proofs.ReplacedBits.{beside_below}
 use Rattle.sv_flat.proofs.SameRuns.{none_found}
 use Rattle.sv_flat.proofs.AdmittedFacts.{empty_left, empty_right, none_pass, negated_false}
 use Rattle.sv_flat.proofs.AdmittedFacts.{negated_true, signal_is_sound}
-use Rattle.sv_obl.specs.Obligations.{selectors_of, flows_to_rows, rows_of, always_flows}
-use Rattle.sv_obl.proofs.PathLists.{only}
+use Rattle.sv_flat.specs.Selectors.{selectors_of, flows_to_rows, rows_of, always_flows}
+use Rattle.sv_flat.proofs.Members.{only}
 
 -- the label is made from its selectors
 pub label_selected : (maps : List MapRows) (label : Label) (e f : Environment ℕ)

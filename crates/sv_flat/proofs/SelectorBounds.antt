@@ -18,9 +18,8 @@ use Rattle.sv_flat.specs.Soundness.{label_sound, signal_sound, map_sound, proces
 use Rattle.sv_flat.specs.Soundness.{invariant_sound}
 use Rattle.sv_flat.specs.Views.{signal_form}
 use Rattle.sv_flat.proofs.Depths.{first_of, second_of, from_all}
-use Rattle.sv_obl.specs.Obligations.{selectors_of, flows_to_rows, selector_obligation}
-use Rattle.sv_obl.specs.Answers.{asked_of}
-use Rattle.sv_obl.proofs.PathLists.{contained_all}
+use Rattle.sv_flat.specs.Selectors.{selectors_of, flows_to_rows}
+use Rattle.sv_flat.proofs.Members.{contained_all}
 
 -- an element by its place does not depend on what else is given
 pub same_there : {X : Type 0} (xs : List X) (k : ℕ) (d e : X) → k < length xs →
@@ -122,21 +121,3 @@ module _ (design : FlatDesign) where
       IfSome second (λ t. t < length design.signals)
   label_rest k first None h = tt
   label_rest k first (Some t) h = label_second k first t h
-
-  -- those of the first selector, and then those of the second
-  pub asked_both : (s k first : ℕ) (rest : List ℕ)
-      → asked_of design s k (first ∷ []) ++ asked_of design s k rest
-      ≡ asked_of design s k (first ∷ rest)
-  asked_both s k first rest = by_test (not (flows_to_rows design.lattice (map_of design.maps k)
-      (signal_of design.signals first).label))
-    where
-      by_test : (c : Bool)
-          → map (selector_obligation [] s) (cond c (first ∷ []) [])
-          ++ asked_of design s k rest
-          ≡ map (selector_obligation [] s) (cond c (first ∷ filter (λ t.
-          not (flows_to_rows design.lattice (map_of design.maps k)
-          (signal_of design.signals t).label)) rest) (filter (λ t.
-          not (flows_to_rows design.lattice (map_of design.maps k)
-          (signal_of design.signals t).label)) rest))
-      by_test true = refl
-      by_test false = refl

@@ -7,6 +7,7 @@ use Rattle.sv_flat.specs.Design.{TypedTree, ProcessKind, ProcessForm, FlatDesign
 use Rattle.sv_flat.specs.Values.{signal_of}
 use Rattle.sv_flat.specs.Processes.{is_clocked, signal_numbers, signals_that, drivers}
 use Rattle.sv_flat.specs.Clocks.{is_port_in, is_port_out, processes_of}
+use Rattle.sv_flat.specs.Selectors.{selectors_of, always_flows}
 use Rattle.sv_obl.specs.declared.frames.Frame.{Frame}
 use Rattle.sv_obl.specs.declared.frames.Frame.TheVariants.{Now, Next}
 use Rattle.sv_obl.specs.Paths.{StepForm, Path, paths, path_names}

@@ -1,15 +1,16 @@
 #!/bin/sh
 # Runs the gate from nothing on a clone of the last commit, and prints what it cost: a crate a line, the processor minutes of
-# its proof, of its tests' proof, of its second proof, over which its wrong bodies are tried, of these and of its programs, and its lines
-# of code; then the sum, the dearest wrong bodies, and the longest chain of crates, each of which waits for the one before it. With names of
-# crates it does so for these and those below them. The crates that stood first, with the crates that hold their tests now, have a sum of
-# their own (asked: at most 75).
+# its proof, of its tests' proof, of its second proof, over which its wrong bodies are tried, of these and of its programs, all as a ratio to the proofs of
+# sv_num, sv_io and sv_lattice too, and its lines of code; then the sum, the dearest wrong bodies, and the longest chain of crates, each of which
+# waits for the one before it. With names of crates it does so for these and those below them.
+#
+# What was read is written into bench/gate-cost.md: each figure in place of the one that stood there, and those of crates that were not read stay.
 #
 # `rt ci` prints no times, so the processor time of each process below it is read twice a second. What a process spends after
 # the last reading is in the sum's `other`, which is the whole processor time less what was read.
 #
-# gate.sh --beside reads the runs of `rt ci` that go on anywhere on this machine instead, until it is interrupted, and prints the same
-# table: so the cost of a gate from nothing is told where its crates were proved in several runs, none of them twice.
+# gate.sh --beside reads the runs of `rt ci` that go on anywhere on this machine instead, until it is interrupted (INT or TERM), and prints and writes the
+# same: so the cost of a gate from nothing is told where its crates were proved in several runs, none of them twice.
 #
 # gate.sh --slow NAME.. prints the ten functions of each crate that cost most instead. `rt ci` names no function, so this is
 # `rt check` with one job, and a function's cost is the processor time between the line of the one before it and its own, with the
@@ -18,18 +19,15 @@
 # begins with what this machine kept of the same crate, and the first line says how many functions were checked anew: all of them where nothing was kept.
 set -eu
 top=$(CDPATH='' cd -- "$(dirname -- "$0")/.." && pwd -P)
-work=$(mktemp -d)
-trap 'rm -rf "$work"' EXIT
-git clone -q "$top" "$work/copy"
-cd "$work/copy"
-python3 - "$work" "$@" <<'PY'
-import collections, os, re, resource, subprocess, sys, time
+exec python3 - "$top" "$@" <<'PY'
+import collections, os, re, resource, signal, subprocess, sys, tempfile, time
 
-work, names = sys.argv[1], sys.argv[2:]
+top, names = sys.argv[1], sys.argv[2:]
 TICK = os.sysconf("SC_CLK_TCK")
 PARTS = ("proof", "tests", "again", "edits", "programs")
-FIRST = """sv_num sv_io sv_lattice sv_system sv_first_ast sv_first sv_first_flow sv_cli secv sv_clause sv_proof certificate_bench sv_solve
- solve_bench low_tests cli_tests solver_tests""".split()
+COST = os.path.join(top, "bench", "gate-cost.md")
+# The proofs that the budget counts in, and how many times these the whole may cost (docs/CONTRIBUTING.md), now and for all that is to come.
+MEASURE, NOW, BUDGET = ("sv_num", "sv_io", "sv_lattice"), 31, 38
 
 
 def crates():
@@ -91,9 +89,11 @@ def part_of(pid):
     """The crate and the part of the gate that a process works at, and of a wrong body its number in the crate, if they can be told."""
     try:
         place = os.readlink(f"/proc/{pid}/cwd")
-        with open(f"/proc/{pid}/cmdline", encoding="utf-8", errors="replace") as file:
-            words = file.read().split("\0")
     except OSError:
+        return None
+    words = words_of(pid)
+    if not any(words):
+        # (it is ending)
         return None
     if "--crate-name" not in words:
         # a linker or a compiler works in the crate's folder, and a program or its tests are named by their path
@@ -108,18 +108,23 @@ def part_of(pid):
     return name, "tests" if "--test" in words else "proof", None
 
 
-def gates_here():
-    """The runs of `rt ci` on this machine."""
+def words_of(pid):
+    """The words that a process was begun with, or none where it has ended."""
+    try:
+        with open(f"/proc/{pid}/cmdline", encoding="utf-8", errors="replace") as file:
+            return file.read().split("\0")
+    except OSError:
+        return []
+
+
+def gates_here(seen):
+    """The runs of `rt ci` on this machine, but for those that `tools/wrong-bodies` began."""
     found = []
-    for entry in os.listdir("/proc"):
-        if entry.isdigit():
-            try:
-                with open(f"/proc/{entry}/cmdline", encoding="utf-8", errors="replace") as file:
-                    words = file.read().split("\0")
-            except OSError:
-                continue
-            if "ci" in words and any(os.path.basename(word) == "rt" for word in words):
-                found.append(int(entry))
+    for pid, (parent, *_) in seen.items():
+        words = words_of(pid)
+        if "ci" in words and any(os.path.basename(word) == "rt" for word in words):
+            if not any(os.path.basename(word) == "wrong-bodies" for word in words_of(parent)):
+                found.append(pid)
     return found
 
 
@@ -146,15 +151,20 @@ def told_of(seconds, knows):
 def dearest(tries):
     """The wrong bodies that cost most, each with its seconds: the gate numbers those of a crate by their names' order."""
     for (name, number), spent in tries.most_common(20):
-        edits = sorted(it for it in os.listdir(f"crates/{name}/must-fail") if it.endswith(".edit"))
+        folder = f"crates/{name}/must-fail"
+        edits = sorted(it for it in os.listdir(folder) if it.endswith(".edit")) if os.path.isdir(folder) else []
         yield f"{spent:.0f} s {name}/{edits[number].removesuffix('.edit') if number < len(edits) else number}"
 
 
 def beside():
+    # (where it was begun in the background, INT is ignored)
+    for it in (signal.SIGINT, signal.SIGTERM):
+        signal.signal(it, signal.default_int_handler)
     start, seconds, knows = time.time(), {}, {}
     try:
         while True:
-            note(processes(), gates_here(), seconds, knows)
+            seen = processes()
+            note(seen, gates_here(seen), seconds, knows)
             time.sleep(0.5)
     except KeyboardInterrupt:
         table(*told_of(seconds, knows), sum(seconds.values()), time.time() - start)
@@ -162,7 +172,7 @@ def beside():
 
 
 def gate():
-    log = open(f"{work}/log", "w+", encoding="utf-8", errors="replace")
+    log = tempfile.TemporaryFile("w+", encoding="utf-8", errors="replace")
     child = subprocess.Popen(["rt", "ci", *names, "--anew"], stdout=log, stderr=subprocess.STDOUT, stdin=subprocess.DEVNULL)
     start, seconds, knows = time.time(), {}, {}
     while child.poll() is None:
@@ -181,25 +191,91 @@ def gate():
 
 def table(told, tries, whole, passed):
     every = {name: deps for name, deps in crates().items() if any(told[name, part] for part in PARTS)}
-    every = {name: [dep for dep in deps if dep in every] for name, deps in every.items()}
-    row = "{:<20}" + "{:>10}" * (len(PARTS) + 1) + "{:>8}"
-    print(row.format("processor minutes", *PARTS, "all", "lines"))
+    minutes = {name: {part: told[name, part] / 60 for part in PARTS} for name in every}
+    three = measure(minutes)
+    row = "{:<20}" + "{:>10}" * (len(PARTS) + 2) + "{:>8}"
+    print(row.format("processor minutes", *PARTS, "all", "times", "lines"))
     for name in every:
-        spent = [told[name, part] / 60 for part in PARTS]
-        print(row.format(name, *(f"{it:.1f}" for it in spent), f"{sum(spent):.1f}", lines_of(name)))
-    sums = [sum(told[name, part] for name in every) / 60 for part in PARTS]
-    print(row.format("sum", *(f"{it:.1f}" for it in sums), f"{sum(sums):.1f}", sum(lines_of(name) for name in every)))
-    first = sum(told[name, part] for name in FIRST for part in PARTS) / 60
-    print(f"the crates that stood first, with their tests: {first:.1f} of at most 75")
+        spent = sum(minutes[name].values())
+        print(row.format(name, *(f"{it:.1f}" for it in minutes[name].values()), f"{spent:.1f}", times(spent, three), lines_of(name)))
+    sums = [sum(it[part] for it in minutes.values()) for part in PARTS]
+    print(row.format("sum", *(f"{it:.1f}" for it in sums), f"{sum(sums):.1f}", times(sum(sums), three), sum(lines_of(name) for name in every)))
     print(f"other {whole / 60 - sum(sums):.1f}, in all {whole / 60:.1f} processor minutes in {passed / 60:.1f} minutes on {os.cpu_count()} processors")
     print("dearest wrong bodies:", "; ".join(dearest(tries)))
-    # a crate waits for the proofs of those below it, and its own proof and tests run side by side
+    print(chain_of(minutes))
+    write_cost(minutes, time.strftime("%Y-%m-%d", time.gmtime()))
+
+
+def measure(minutes):
+    """The processor minutes of the proofs that the budget counts in, or None where one of them was not read."""
+    read = [minutes[name]["proof"] for name in MEASURE if name in minutes]
+    return sum(read) if len(read) == len(MEASURE) and all(read) else None
+
+
+def times(spent, three):
+    return f"{spent / three:.2f}" if three else "-"
+
+
+def chain_of(minutes):
+    """The longest chain of crates: a crate waits for the proofs of those below it, and its own proof and tests run side by side."""
+    every = {name: [dep for dep in deps if dep in minutes] for name, deps in crates().items() if name in minutes}
     longest = {}
     for name in sorted(every, key=lambda it: len(reach(every, it))):
         before = max((longest[dep] for dep in every[name]), default=(0, []))
-        longest[name] = before[0] + told[name, "proof"] / 60, before[1] + [name]
-    minutes, chain = max(longest.values(), default=(0, []))
-    print(f"longest chain {minutes:.1f} processor minutes of proofs: {' '.join(chain)}")
+        longest[name] = before[0] + minutes[name]["proof"], before[1] + [name]
+    spent, chain = max(longest.values(), default=(0, []))
+    return f"longest chain {spent:.1f} processor minutes of proofs: {' '.join(chain)}"
+
+
+def read_cost():
+    """The figures that stand in bench/gate-cost.md: for each crate its minutes by part, and the day on which it was last read."""
+    found = {}
+    if os.path.isfile(COST):
+        with open(COST, encoding="utf-8") as file:
+            for line in file:
+                cells = [it.strip() for it in line.strip().strip("|").split("|")]
+                if len(cells) == len(PARTS) + 4 and re.fullmatch(r"`\w+`", cells[0]):
+                    spent = [0.0 if it == "-" else float(it) for it in cells[1 : len(PARTS) + 1]]
+                    found[cells[0].strip("`")] = dict(zip(PARTS, spent)), cells[-1]
+    return found
+
+
+def write_cost(read, day):
+    """Writes what was read over what stood there, for the crates that there are; a crate without wrong bodies in the gate has no second proof."""
+    before, after = read_cost(), {}
+    for name in crates():
+        old, its_day = before.get(name, (dict.fromkeys(PARTS, 0.0), day))
+        spent = {part: read.get(name, old)[part] or old[part] for part in PARTS}
+        if not os.path.isdir(f"crates/{name}/must-fail"):
+            spent["again"] = spent["edits"] = 0.0
+        if name in read or name in before:
+            after[name] = spent, day if name in read else its_day
+    minutes = {name: spent for name, (spent, _) in after.items()}
+    with open(f"{COST}.new", "w", encoding="utf-8") as file:
+        file.write(cost_text(after, minutes, measure(minutes)))
+    os.replace(f"{COST}.new", COST)
+
+
+def cost_text(after, minutes, three):
+    cell = lambda it: f"{it:.1f}" if it else "-"
+    sums = {part: sum(it[part] for it in minutes.values()) for part in PARTS}
+    whole, bodies = sum(sums.values()), sums["again"] + sums["edits"]
+    days = sorted({day for _, day in after.values()})
+    unread = [it for it in crates() if it not in after]
+    untried = [it for it in minutes if os.path.isdir(f"crates/{it}/must-fail") and not (minutes[it]["again"] or minutes[it]["edits"])]
+    lines = ["# What the gate costs", "", "Written by `bench/gate.sh`, none of it by hand: processor minutes of the gate from nothing, each as it was last read, on the day in its row;"]
+    lines += ["'times' is all of the row over the proofs of " + ", ".join(f"`{it}`" for it in MEASURE) + " as they stand here. `docs/CONTRIBUTING.md` has the budget.", ""]
+    lines.append(f"- The whole: {whole:.1f}, which is {times(whole, three)} times those three proofs ({cell(three or 0)}); it is to be at most {NOW} times now, and {BUDGET} with all that is to come.")
+    lines.append(f"- Second proofs and wrong bodies: {bodies:.1f}, which is {100 * bodies / whole if whole else 0:.0f} parts in 100; they are to be at most 15.")
+    lines.append(f"- Read on {' to '.join(dict.fromkeys((days[0], days[-1]))) if days else 'no day'}; {chain_of(minutes)}.")
+    lines += [f"- Not read yet: {', '.join(f'`{it}`' for it in unread)}."] * bool(unread)
+    lines += [f"- Second proof and wrong bodies not read yet: {', '.join(f'`{it}`' for it in untried)}."] * bool(untried)
+    lines += ["", "| Crate | Proof | Tests | Second proof | Wrong bodies | Programs | All | Times | Read |", "|---|" + "--:|" * (len(PARTS) + 2) + "---|"]
+    for name, (spent, day) in after.items():
+        cells = [*(cell(spent[part]) for part in PARTS), cell(sum(spent.values())), times(sum(spent.values()), three)]
+        lines.append(f"| `{name}` | {' | '.join(cells)} | {day} |")
+    lines.append(f"| all | {' | '.join([*(cell(sums[part]) for part in PARTS), cell(whole), times(whole, three)])} | |")
+    return "\n".join(lines) + "\n"
 
 
 def reach(every, name):
@@ -243,5 +319,10 @@ def slow():
     return 0
 
 
-sys.exit(slow() if names[:1] == ["--slow"] else beside() if names[:1] == ["--beside"] else gate())
+with tempfile.TemporaryDirectory(prefix="gate-") as work:
+    subprocess.run(["git", "clone", "-q", top, f"{work}/copy"], check=True)
+    os.chdir(f"{work}/copy")
+    status = slow() if names[:1] == ["--slow"] else beside() if names[:1] == ["--beside"] else gate()
+    os.chdir("/")
+sys.exit(status)
 PY

@@ -4,13 +4,14 @@
 # sv_num, sv_io and sv_lattice too, and its lines of code; then the sum, the dearest wrong bodies, and the longest chain of crates, each of which
 # waits for the one before it. With names of crates it does so for these and those below them.
 #
-# What was read is written into bench/gate-cost.md: each figure in place of the one that stood there, and those of crates that were not read stay.
+# What was read is written into bench/gate-cost.md, in place of what stood there of these crates; the others stay.
 #
 # `rt ci` prints no times, so the processor time of each process below it is read twice a second. What a process spends after
 # the last reading is in the sum's `other`, which is the whole processor time less what was read.
 #
 # gate.sh --beside reads the runs of `rt ci` that go on anywhere on this machine instead, until it is interrupted (INT or TERM), and prints and writes the
-# same: so the cost of a gate from nothing is told where its crates were proved in several runs, none of them twice.
+# same, but for parts of a crate that it did not see, which stay: so the cost of a gate from nothing is told where its crates were proved in several
+# runs, none of them twice.
 #
 # gate.sh --slow NAME.. prints the ten functions of each crate that cost most instead. `rt ci` names no function, so this is
 # `rt check` with one job, and a function's cost is the processor time between the line of the one before it and its own, with the
@@ -167,7 +168,7 @@ def beside():
             note(seen, gates_here(seen), seconds, knows)
             time.sleep(0.5)
     except KeyboardInterrupt:
-        table(*told_of(seconds, knows), sum(seconds.values()), time.time() - start)
+        table(*told_of(seconds, knows), sum(seconds.values()), time.time() - start, is_whole=False)
     return 0
 
 
@@ -181,7 +182,7 @@ def gate():
     used = resource.getrusage(resource.RUSAGE_CHILDREN)
     log.seek(0)
     said = log.read()
-    table(*told_of(seconds, knows), used.ru_utime + used.ru_stime, time.time() - start)
+    table(*told_of(seconds, knows), used.ru_utime + used.ru_stime, time.time() - start, is_whole=True)
     last = said.rstrip("\n").rpartition("\n")[2]
     print(last)
     if child.returncode:
@@ -189,7 +190,7 @@ def gate():
     return child.returncode
 
 
-def table(told, tries, whole, passed):
+def table(told, tries, whole, passed, is_whole):
     every = {name: deps for name, deps in crates().items() if any(told[name, part] for part in PARTS)}
     minutes = {name: {part: told[name, part] / 60 for part in PARTS} for name in every}
     three = measure(minutes)
@@ -203,7 +204,7 @@ def table(told, tries, whole, passed):
     print(f"other {whole / 60 - sum(sums):.1f}, in all {whole / 60:.1f} processor minutes in {passed / 60:.1f} minutes on {os.cpu_count()} processors")
     print("dearest wrong bodies:", "; ".join(dearest(tries)))
     print(chain_of(minutes))
-    write_cost(minutes, time.strftime("%Y-%m-%d", time.gmtime()))
+    write_cost(minutes, time.strftime("%Y-%m-%d", time.gmtime()), is_whole)
 
 
 def measure(minutes):
@@ -240,12 +241,13 @@ def read_cost():
     return found
 
 
-def write_cost(read, day):
-    """Writes what was read over what stood there, for the crates that there are; a crate without wrong bodies in the gate has no second proof."""
+def write_cost(read, day, is_whole):
+    """Writes what was read over what stood there, for the crates that there are. Of a crate that was not read whole, from nothing, the parts that were not read
+    stay; one without wrong bodies in the gate has no second proof."""
     before, after = read_cost(), {}
     for name in crates():
         old, its_day = before.get(name, (dict.fromkeys(PARTS, 0.0), day))
-        spent = {part: read.get(name, old)[part] or old[part] for part in PARTS}
+        spent = {part: read.get(name, old)[part] or (0.0 if is_whole and name in read else old[part]) for part in PARTS}
         if not os.path.isdir(f"crates/{name}/must-fail"):
             spent["again"] = spent["edits"] = 0.0
         if name in read or name in before:

@@ -149,11 +149,16 @@ def told_of(seconds, knows):
     return told, tries
 
 
+def edits_of(name):
+    """The wrong bodies of a crate that the gate tries."""
+    folder = f"crates/{name}/must-fail"
+    return sorted(it for it in os.listdir(folder) if it.endswith(".edit")) if os.path.isdir(folder) else []
+
+
 def dearest(tries):
     """The wrong bodies that cost most, each with its seconds: the gate numbers those of a crate by their names' order."""
     for (name, number), spent in tries.most_common(20):
-        folder = f"crates/{name}/must-fail"
-        edits = sorted(it for it in os.listdir(folder) if it.endswith(".edit")) if os.path.isdir(folder) else []
+        edits = edits_of(name)
         yield f"{spent:.0f} s {name}/{edits[number].removesuffix('.edit') if number < len(edits) else number}"
 
 
@@ -248,7 +253,7 @@ def write_cost(read, day, is_whole):
     for name in crates():
         old, its_day = before.get(name, (dict.fromkeys(PARTS, 0.0), day))
         spent = {part: read.get(name, old)[part] or (0.0 if is_whole and name in read else old[part]) for part in PARTS}
-        if not os.path.isdir(f"crates/{name}/must-fail"):
+        if not edits_of(name):
             spent["again"] = spent["edits"] = 0.0
         if name in read or name in before:
             after[name] = spent, day if name in read else its_day
@@ -264,7 +269,7 @@ def cost_text(after, minutes, three):
     whole, bodies = sum(sums.values()), sums["again"] + sums["edits"]
     days = sorted({day for _, day in after.values()})
     unread = [it for it in crates() if it not in after]
-    untried = [it for it in minutes if os.path.isdir(f"crates/{it}/must-fail") and not (minutes[it]["again"] or minutes[it]["edits"])]
+    untried = [it for it in minutes if edits_of(it) and not (minutes[it]["again"] or minutes[it]["edits"])]
     lines = ["# What the gate costs", "", "Written by `bench/gate.sh`, none of it by hand: processor minutes of the gate from nothing, each as it was last read, on the day in its row;"]
     lines += ["'times' is all of the row over the proofs of " + ", ".join(f"`{it}`" for it in MEASURE) + " as they stand here. `docs/CONTRIBUTING.md` has the budget.", ""]
     lines.append(f"- The whole: {whole:.1f}, which is {times(whole, three)} times those three proofs ({cell(three or 0)}); it is to be at most {NOW} times now, and {BUDGET} with all that is to come.")

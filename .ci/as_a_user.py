@@ -399,8 +399,9 @@ def rules(title, least):
 
 
 def main():
-    if run(["--version"]).returncode:
-        sys.exit("secv could not be built:\n" + run(["--version"]).stderr.decode(errors="replace"))
+    ready = run(["--path"])
+    if ready.returncode:
+        sys.exit("secv could not be built:\n" + ready.stderr.decode(errors="replace"))
     examples()
     shown_in_readme()
     words_and_faults()

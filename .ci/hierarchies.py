@@ -144,7 +144,7 @@ def statements(folder):
 
 def main():
     # the first run builds the program, which takes more than a run may
-    subprocess.run([SECV, "--version"], stdout=subprocess.DEVNULL, check=True)
+    subprocess.run([SECV, "--path"], stdout=subprocess.DEVNULL, check=True)
     with tempfile.TemporaryDirectory() as folder:
         for group in (signals, instances, astronomical, labels, nest, statements):
             group(folder)

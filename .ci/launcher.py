@@ -1,8 +1,9 @@
 #!/usr/bin/env python3
 """Tries the launcher ./secv on a small checkout of three crates, with a stand-in for the kit that proves nothing: when it builds and when
-not, two first builds at once, a build that is stopped or fails, a kit or a tool that is missing, and a checkout that cannot be written. The
-last line is 'N passed, M failed'.
+not, two first builds at once, a build that is stopped or fails, a kit or a tool that is missing, and a checkout that cannot be written; when
+the program of release/ is used and when not, and tools/release, which makes it. The last line is 'N passed, M failed'.
 """
+import gzip
 import os
 import re
 import shutil
@@ -21,13 +22,25 @@ STOPPED = "secv: the build was stopped; what it has proved is kept\n"
 KIT = r"""#!/bin/sh
 echo "$*" >>"$KIT/calls"
 case $1 in
-  version) echo rattle-kit ;;
+  version) cat "$KIT/version" ;;
   all | run)
-    [ "$1 $2" = "run --" ] && [ -e "$KIT/checked" ] || sh -c 'echo $$ >"$KIT/child"; . "$KIT/then"' || exit
-    [ "$1" = all ] && touch "$KIT/checked" && exit
-    mkdir -p out && printf '#!/bin/sh\necho "made of $(cat "%s/low/src/lib.rt"): $*"; exit 3\n' "$(cd .. && pwd)" >out/secv && chmod +x out/secv ;;
+    [ "$1" = run ] && [ -e "$KIT/checked" ] || sh -c 'echo $$ >"$KIT/child"; . "$KIT/then"' || exit
+    [ "$1" = all ] && cp BUILD.bazel "$KIT/checked" && exit
+    mkdir -p out && printf '#!/bin/sh\necho "made of $(cat "%s/low/src/lib.rt"): $*$(cat)"; exit 3\n' "$(cd .. && pwd)" >out/secv && chmod +x out/secv ;;
 esac
 """
+# The program's texts stand in its source so.
+MAIN = r'''const HELP: &str =
+    "secv checks.
+
+usage:
+  secv --version
+";
+
+const VERSION: &str = "secv 1.2\n";
+
+fn main() {}
+'''
 OPEN = """checked low::f, 1 of 1
 note: src/lib.rt:9:16: it is not proved that the product fits its type; values at which this goal is false
 fn low::f: no proof: expected answers in ./proofs/f/Answers.antt
@@ -53,9 +66,12 @@ class Checkout:
         for crate in ("low", "other", "secv"):
             os.makedirs(os.path.join(self.top, "crates", crate, "src"))
             self.write(f"crates/{crate}/src/lib.rt", "one")
+        self.write("crates/secv/src/main.rt", MAIN)
         self.write("crates.txt", "# crates, lowest first\nlow: thiserror\nother: low\nsecv: low\n")
         shutil.copy(os.path.join(TOP, "secv"), self.top)
+        shutil.copytree(os.path.join(TOP, "tools"), os.path.join(self.top, "tools"))
         os.mkdir(self.kit)
+        self.of_kit("rattle-kit")
         with open(os.path.join(self.kit, "rt"), "w", encoding="ascii") as file:
             file.write(KIT)
         os.chmod(os.path.join(self.kit, "rt"), 0o755)
@@ -69,9 +85,13 @@ class Checkout:
         with open(os.path.join(self.kit, "then"), "w", encoding="ascii") as file:
             file.write(text)
 
-    def start(self, *words, path=None, **more):
-        return subprocess.Popen([os.path.join(self.top, "secv"), *words], stdin=subprocess.DEVNULL, stdout=subprocess.PIPE, stderr=subprocess.PIPE, text=True,
-                                env={**os.environ, "KIT": self.kit, "PATH": path or f"{self.kit}:{os.environ['PATH']}"}, **more)
+    def of_kit(self, line):
+        with open(os.path.join(self.kit, "version"), "w", encoding="ascii") as file:
+            file.write(f"{line}\n")
+
+    def start(self, *words, path=None, env=None, tool="secv", stdin=subprocess.DEVNULL, **more):
+        env = {**os.environ, "KIT": self.kit, "PATH": path or f"{self.kit}:{os.environ['PATH']}", **(env or {})}
+        return subprocess.Popen([os.path.join(self.top, tool), *words], stdin=stdin, stdout=subprocess.PIPE, stderr=subprocess.PIPE, text=True, env=env, **more)
 
     def run(self, *words, **more):
         """What it prints, what it says without the times, and its status."""
@@ -86,6 +106,11 @@ class Checkout:
                 told = [line.split()[0] for line in file if not line.startswith("version")]
             os.remove(path)
         return told
+
+    def below(self):
+        """The libraries that were proved side by side."""
+        with open(os.path.join(self.kit, "checked"), encoding="ascii") as file:
+            return re.findall("//crates/([a-z_]+)", file.read())
 
     def logs(self):
         out = os.path.join(self.top, "crates", "secv", "out")
@@ -131,6 +156,7 @@ def builds(at):
     """It builds the first time and where a source changed, also while it built; a touched file or another crate is no reason."""
     compare("a first build", at.run("a", "b c"), ("made of one: a b c\n", BUILDING, 3))
     compare("one build of the program", at.calls()[-1:], ["run"])
+    compare("the libraries below the last crates are proved first", at.below(), ["low"])
     compare("its log", len(at.logs()), 1)
     compare("no second build", (at.run("d"), at.calls()), (("made of one: d\n", "", 3), []))
     for crate, text in (("low", "one"), ("other", "two")):
@@ -139,7 +165,7 @@ def builds(at):
     at.write("crates/low/src/lib.rt", "two")
     compare("a build for a change", at.run(), ("made of two: \n", BUILDING, 3))
     compare("a log of its own", len(at.logs()), 2)
-    at.then('echo three >"$(cd .. && pwd)/low/src/lib.rt"\n')
+    at.then(f"echo three >'{at.top}/crates/low/src/lib.rt'\n")
     at.write("crates/low/src/lib.rt", "2")
     at.run()
     at.then("")
@@ -276,10 +302,203 @@ def not_writable(at):
     allow(0o755)
 
 
+RELEASED = "secv: this is the program of release/, made from commit {}; 'rt ci' or './secv --build' proves and builds it again\n"
+BROKEN = "secv: release/secv.gz is broken, and not used: it does not hold the bytes that release/ABOUT names\n"
+NO_RUN = "secv: the program of release/ does not run on this machine, and is not used\n"
+NO_TEXT = "secv: this text is the program's, which is not built, and release/ is not of these sources; './secv --build' builds it\n"
+
+
+def git(at, *words):
+    """What git prints in the checkout."""
+    words = ["git", "-c", "user.name=a", "-c", "user.email=a@b", *words]
+    return subprocess.run(words, cwd=at.top, stdout=subprocess.PIPE, stderr=subprocess.DEVNULL, text=True, check=True).stdout.strip()
+
+
+def out_of(at, *name):
+    return os.path.join(at.top, "crates", "secv", "out", *name)
+
+
+def gate(at):
+    """Does what the gate does where all passes: leaves the program, and what it was made from."""
+    at.run("--build")
+    at.calls()
+    here = 'top=$1; . "$1/tools/sources.sh"; printf "sources: %s\nkit: %s\nsha256: %s\n" "$(sum_of_sources)" "$(kit_here)" "$(sum_of <"$1/crates/secv/out/secv")"'
+    told = subprocess.run(["sh", "-c", here, "sh", at.top], stdout=subprocess.PIPE, text=True, check=True,
+                          env={**os.environ, "KIT": at.kit, "PATH": f"{at.kit}:{os.environ['PATH']}"}).stdout
+    at.write("crates/secv/out/passed", told)
+
+
+def release(at):
+    """Makes release/ by tools/release from what a gate left, and removes what was built. Gives the commit."""
+    at.write(".gitignore", "out/\n")
+    for words in (["init"], ["add", "."], ["commit", "-m", "one"]):
+        git(at, *words)
+    gate(at)
+    compare("release/ is made", at.run(tool="tools/release")[2], 0)
+    shutil.rmtree(out_of(at))
+    at.calls()
+    return git(at, "rev-parse", "HEAD")
+
+
+def released(at):
+    """The program of release/ is unpacked once, is used without a kit and is said once; what is built goes before it."""
+    commit = release(at)
+    tools = tools_but(at, "rt")
+    with open(os.path.join(at.top, ".gitignore"), encoding="ascii") as file:
+        compare("the first answer", (at.run("a", "b c", path=tools, stdin=file), at.calls()), (("made of one: a b cout/\n", RELEASED.format(commit), 3), []))
+    compare("the second", (at.run("a", path=tools), at.calls()), (("made of one: a\n", "", 3), []))
+    compare("where it stands", at.run("--path"), (out_of(at, "released") + "\n", "", 0))
+    at.write("crates/low/src/lib.rt", "one")
+    compare("a touched file", (at.run("a"), at.calls()), (("made of one: a\n", "", 3), []))
+    for word in ("--help", "--version"):
+        compare(word, at.run(word), (f"made of one: {word}\n", "", 3))
+    at.write("release/ABOUT", open(os.path.join(at.top, "release", "ABOUT"), encoding="ascii").read())
+    compare("a touched release/", at.run("a"), ("made of one: a\n", "", 3))
+    with open(out_of(at, "released"), "a", encoding="ascii") as file:
+        file.write("# of other bytes\n")
+    at.write("crates/low/src/lib.rt", "one")
+    compare("other bytes where it was unpacked", at.run("a"), ("made of one: a\n", RELEASED.format(commit), 3))
+    build = at.run("--build")
+    compare("--build gives its bytes", build, ("", f"{BUILDING}secv: built {out_of(at, 'secv')}; its bytes are those of release/\n", 0))
+    compare("it was built", "run" in at.calls(), True)
+    compare("what is built goes first", at.run("--path"), (out_of(at, "secv") + "\n", "", 0))
+    at.write("crates/low/src/lib.rt", "two")
+    compare("other sources", (at.run("a"), "run" in at.calls()), (("made of two: a\n", BUILDING, 3), True))
+    compare("--build of other sources", at.run("--build"),
+            ("", f"{BUILDING}secv: built {out_of(at, 'secv')}; release/ is of other sources or another kit\n", 0))
+    at.write("crates/low/src/lib.rt", "one")
+    shutil.rmtree(out_of(at))
+    compare("the first sources again", at.run("a"), ("made of one: a\n", RELEASED.format(commit), 3))
+
+
+def not_released(at):
+    """Another kit, another kind of machine, a broken file, a program that does not run and other bytes: each is told where it is a fault, and it builds."""
+    release(at)
+    built = ("made of one: a\n", BUILDING, 3)
+
+    def anew(what, wanted, **more):
+        shutil.rmtree(out_of(at), ignore_errors=True)
+        compare(what, (at.run("a", **more), "run" in at.calls()), (wanted, True))
+
+    at.of_kit("another-kit")
+    anew("another kit", built)
+    at.of_kit("rattle-kit")
+    for answer in ("Linux aarch64", "Darwin x86_64"):
+        with open(os.path.join(at.kit, "uname"), "w", encoding="ascii") as file:
+            file.write(f'#!/bin/sh\nset -- "$1" {answer}\n[ "$1" = -s ] && echo "$2" || echo "$3"\n')
+        os.chmod(os.path.join(at.kit, "uname"), 0o755)
+        anew(answer, built)
+    os.remove(os.path.join(at.kit, "uname"))
+    path = os.path.join(at.top, "release", "secv.gz")
+    with open(path, "rb") as file:
+        whole = file.read()
+    for what, data in (("half a file", whole[: len(whole) // 2]), ("other bytes", gzip.compress(b"#!/bin/sh\n")), ("no packed file", b"")):
+        with open(path, "wb") as file:
+            file.write(data)
+        anew(what, ("made of one: a\n", BROKEN + BUILDING, 3))
+        compare(f"{what}: what was unpacked is removed", [name for name in os.listdir(out_of(at)) if name.startswith("released")], [])
+    os.remove(path)
+    anew("a packed file that is missing", ("made of one: a\n", BROKEN + BUILDING, 3))
+    with open(path, "wb") as file:
+        file.write(gzip.compress(b"#!/nowhere/sh\n"))
+    about = os.path.join(at.top, "release", "ABOUT")
+    with open(about, encoding="ascii") as file:
+        text = file.read()
+    other = subprocess.run(["sha256sum"], input=b"#!/nowhere/sh\n", stdout=subprocess.PIPE, check=True).stdout.split()[0].decode()
+    at.write("release/ABOUT", re.sub("(?m)^sha256: .*$", f"sha256: {other}", text))
+    anew("a program that does not run here", ("made of one: a\n", NO_RUN + BUILDING, 3))
+    said = f"{BUILDING}secv: built {out_of(at, 'secv')}; its bytes are NOT those of release/, which is of the same sources and the same kit\n"
+    compare("--build with other bytes", at.run("--build"), ("", said, 71))
+    os.remove(about)
+    anew("no release/ABOUT", built)
+
+
+def makes_release(at):
+    """tools/release takes only what a gate passed, of these sources, this kit and this commit, and leaves what is the same."""
+    def refuses(what, why):
+        out, said, status = at.run(tool="tools/release")
+        compare(what, (out, said, status, os.path.exists(os.path.join(at.top, "release"))), ("", f"tools/release: {why}\n", 1, False))
+
+    at.write(".gitignore", "out/\n")
+    for words in (["init"], ["add", "."], ["commit", "-m", "one"]):
+        git(at, *words)
+    refuses("no gate", "no gate has passed here: run .ci/run first")
+    at.run()
+    refuses("a build and no gate", "no gate has passed here: run .ci/run first")
+    gate(at)
+    at.of_kit("another-kit")
+    refuses("another kit", "the gate that passed here was of another kit: run .ci/run again")
+    at.of_kit("rattle-kit")
+    at.write("crates/low/src/lib.rt", "two")
+    refuses("other sources", "the gate that passed here was of other sources: run .ci/run again")
+    gate(at)
+    refuses("sources of no commit", "the sources are not those of the last commit: commit them first")
+    git(at, "commit", "-am", "two")
+    with open(out_of(at, "secv"), "a", encoding="ascii") as file:
+        file.write("# of other bytes\n")
+    refuses("other bytes", "crates/secv/out/secv is not what the gate built: run .ci/run again")
+    gate(at)
+    commit = git(at, "rev-parse", "HEAD")
+    compare("made", at.run(tool="tools/release"), (f"release/ is of commit {commit}; commit it, and run .ci/run again, which takes what it has kept\n", "", 0))
+    compare("two files", sorted(os.listdir(os.path.join(at.top, "release"))), ["ABOUT", "secv.gz"])
+    git(at, "add", ".")
+    git(at, "commit", "-m", "release")
+    compare("made again", at.run(tool="tools/release"), ("release/ is of these sources already\n", "", 0))
+    compare("it is left as it is", git(at, "status", "--porcelain"), "")
+
+
+def texts(at):
+    """No text about the program is a reason to build; where no program stands, it is the one of the source."""
+    help_text = MAIN.partition('"')[2].partition('";')[0]
+    for _ in range(2):
+        compare("--help", (at.run("--help"), at.calls()), ((help_text, "", 0), []))
+        compare("--version", (at.run("--version"), at.calls()), (("secv 1.2\n", "", 0), []))
+        compare("check --help", (at.run("check", "--help"), at.calls()), (("", NO_TEXT, 70), []))
+        at.write("crates/secv/out/secv" if os.path.isdir(out_of(at)) else "crates/low/src/lib.rt", "of other sources")
+    at.write("crates/secv/src/main.rt", MAIN.replace("checks.", "checks \\u{41}."))
+    compare("a text that is not plain", (at.run("--help"), at.calls()), (("", NO_TEXT, 70), []))
+    at.run()
+    compare("--help, once it is built", at.run("--help"), ("made of of other sources: --help\n", "", 3))
+    compare("more words than --help", at.run("--help", "a"), ("made of of other sources: --help a\n", "", 3))
+
+
+def in_own_place(at):
+    """Where the checkout cannot be written the released program is unpacked into a folder of the user's own, and into none that others can write."""
+    commit = release(at)
+    more = {"user": NOBODY, "group": NOBODY, "extra_groups": []} if os.geteuid() == 0 else {}
+    cache, rest = os.path.join(at.kit, "cache"), os.path.join(at.kit, "rest")
+    for folder in (cache, rest):
+        os.mkdir(folder)
+        os.chmod(folder, 0o777)
+    folders = [folder for folder, _, _ in os.walk(at.top)]
+    for folder in folders:
+        os.chmod(folder, 0o555)
+    env = {"XDG_CACHE_HOME": cache, "TMPDIR": rest}
+    for what, given, at_folder in (("the cache", env, cache), ("no cache", {**env, "XDG_CACHE_HOME": "/dev/null"}, rest)):
+        compare(f"{what}, first", (at.run("a", env=given, **more), at.calls()), (("made of one: a\n", RELEASED.format(commit), 3), []))
+        compare(f"{what}, then", (at.run("a", env=given, **more), at.calls()), (("made of one: a\n", "", 3), []))
+        path = at.run("--path", env=given, **more)[0]
+        compare(f"{what}, its place", (path.startswith(at_folder + os.sep), os.stat(os.path.dirname(path.strip())).st_mode & 0o777), (True, 0o700))
+    os.chmod(os.path.join(cache, "secv"), 0o777)
+    compare("a cache that others can write", at.run("--path", env=env, **more)[0].startswith(rest + os.sep), True)
+    said = f"secv: it has to be built, and {out_of(at)} cannot be written, so it cannot be built here\n"
+    compare("no place at all", at.run(env={"XDG_CACHE_HOME": "/dev/null", "TMPDIR": "/dev/null"}, **more), ("", said, 70))
+    for folder in folders:
+        os.chmod(folder, 0o755)
+
+
+def stop_all(number, _):
+    sys.exit(128 + number)
+
+
 def main():
-    # What is begun in the background may have INT ignored, and a shell that has it so from the start cannot take it back.
-    signal.signal(signal.SIGINT, signal.default_int_handler)
-    for group in (builds, replaced, at_once, stopped, fails, without_a_kit, without_a_tool, not_writable):
+    # However this was begun, as by nohup or in the background, what it starts takes these signals: a shell that has one ignored from the start cannot
+    # take it back. A handler is not handed on.
+    for number in (signal.SIGINT, signal.SIGTERM, signal.SIGHUP):
+        signal.signal(number, stop_all)
+    signal.pthread_sigmask(signal.SIG_SETMASK, [])
+    for group in (builds, replaced, at_once, stopped, fails, without_a_kit, without_a_tool, not_writable, released, not_released, makes_release, texts,
+                  in_own_place):
         with tempfile.TemporaryDirectory() as folder:
             os.chmod(folder, 0o755)
             group(Checkout(folder))

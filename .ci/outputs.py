@@ -211,7 +211,7 @@ def run(folder, words, text, stimulus):
 
 def main():
     # the first run builds the program, which takes more than a run may
-    subprocess.run([SECV, "--version"], stdout=subprocess.DEVNULL, check=True)
+    subprocess.run([SECV, "--path"], stdout=subprocess.DEVNULL, check=True)
     with tempfile.TemporaryDirectory() as folder:
         for words, text, stimulus, wanted in rows():
             compare(f"secv {words}: {text[:80]!r} {stimulus!r}", run(folder, words, text, stimulus), (wanted, status_of(words, wanted)))

@@ -165,7 +165,7 @@ def check(number, marked, words, names, folder):
 
 def main():
     # the first run builds the program, which takes more than a run may
-    subprocess.run([SECV, "--version"], stdout=subprocess.DEVNULL, check=True)
+    subprocess.run([SECV, "--path"], stdout=subprocess.DEVNULL, check=True)
     with tempfile.TemporaryDirectory() as folder:
         for row in TEXTS + ADMISSION:
             check(*row, folder)

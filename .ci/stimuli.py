@@ -187,7 +187,7 @@ def inputs(folder):
 
 def main():
     # the first run builds the program, which takes more than a run may
-    subprocess.run([SECV, "--version"], stdout=subprocess.DEVNULL, check=True)
+    subprocess.run([SECV, "--path"], stdout=subprocess.DEVNULL, check=True)
     with tempfile.TemporaryDirectory() as folder:
         for group in (line_ends, long_lines, values, starts, headers, most_bytes, inputs, outputs):
             group(folder)

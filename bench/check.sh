@@ -11,7 +11,7 @@ fi
 top=$(CDPATH='' cd -- "$(dirname -- "$0")/.." && pwd -P)
 work=$(mktemp -d)
 trap 'rm -rf "$work"' EXIT
-"$top/secv" --version >/dev/null
+"$top/secv" --path >/dev/null
 python3 - "$top" "$work" <<'PY'
 import os, random, re, shutil, subprocess, sys, time
 

@@ -13,12 +13,11 @@ fi
 top=$(CDPATH='' cd -- "$(dirname -- "$0")/.." && pwd -P)
 work=$(mktemp -d)
 trap 'rm -rf "$work"' EXIT
-"$top/secv" --version >/dev/null
-python3 - "$top" "$work" <<'PY'
+program=$("$top/secv" --path)
+python3 - "$program" "$work" <<'PY'
 import os, random, re, shutil, subprocess, sys, time
 
-top, work = sys.argv[1], sys.argv[2]
-secv = os.path.join(top, "crates", "secv", "out", "secv")
+secv, work = sys.argv[1], sys.argv[2]
 LIMIT = 1048576
 OPERATORS = ["+", "-", "&", "|", "^", "==", "<", "<<", "&&", "*"]
 

@@ -13,10 +13,8 @@ fi
 top=$(CDPATH='' cd -- "$(dirname -- "$0")/.." && pwd -P)
 work=$(mktemp -d)
 trap 'rm -rf "$work"' EXIT
-if [ -z "${SECV:-}" ]; then
-    "$top/secv" --version >/dev/null
-fi
-python3 - "${SECV:-$top/crates/secv/out/secv}" "$work" <<'PY'
+program=${SECV:-$("$top/secv" --path)}
+python3 - "$program" "$work" <<'PY'
 import os, re, subprocess, sys, time
 
 secv, work = sys.argv[1], sys.argv[2]

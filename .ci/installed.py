@@ -1,0 +1,160 @@
+#!/usr/bin/env python3
+"""Tries tools/install, holds the page and the completions of share/ to the program's own help, and looks that the launcher prints the program's texts
+where no program stands. The last line is 'N passed, M failed'.
+"""
+import os
+import re
+import shutil
+import subprocess
+import sys
+import tempfile
+
+TOP = os.path.dirname(os.path.dirname(os.path.abspath(__file__)))
+SECV = os.path.join(TOP, "secv")
+INSTALLED = ["bin/secv", "share/bash-completion/completions/secv", "share/fish/vendor_completions.d/secv.fish", "share/man/man1/secv.1",
+             "share/zsh/site-functions/_secv"]
+# Asks a file of completions what stands behind these words, the last of which is begun.
+ASK = 'source "$1"; shift; COMP_WORDS=("$@"); COMP_CWORD=$(($# - 1)); _secv; printf "%s\\n" "${COMPREPLY[@]}"'
+passed = failed = 0
+
+
+def compare(what, got, wanted):
+    global passed, failed
+    if got == wanted:
+        passed += 1
+        return
+    failed += 1
+    print(f"{what}\n  wanted {wanted!r}\n  got    {got!r}")
+
+
+def run(*words, **more):
+    return subprocess.run(words, stdin=subprocess.DEVNULL, stdout=subprocess.PIPE, text=True, check=True, **more).stdout
+
+
+def read(*path):
+    with open(os.path.join(TOP, *path), encoding="utf-8") as file:
+        return file.read()
+
+
+class Help:
+    """What the program itself says of its words."""
+
+    def __init__(self):
+        text = run(SECV, "--help")
+        self.version = run(SECV, "--version").strip()
+        usage, _, ends = text.partition("usage:\n")[2].partition("\nexit status: ")
+        found = re.findall(r"^  (secv(?: \S+)+)(?:  +|\n {10,})(.*)$", usage, re.M)
+        self.usages = [line for line, _ in found]
+        # What each first word does: a command's name, or an option that stands alone.
+        self.words = {line.split()[1]: what for line, what in found if "COMMAND" not in line}
+        self.options = {}
+        for name in [word for word in self.words if not word.startswith("-")]:
+            rows = re.findall(r"^ +(--[a-z]+) <([A-Z]+)> +(\S.*)$", run(SECV, name, "--help"), re.M)
+            self.options[name] = {option: (value, what) for option, value, what in rows}
+        self.statuses = re.findall(r"([0-9]) ([a-z ,]+?)(?:, (?=[0-9])|$)", re.sub(r",?\s*\n\s*", ", ", ends.strip()))
+
+    def of(self, name):
+        return {option: what for option, (_, what) in self.options[name].items()}
+
+
+def installs():
+    with tempfile.TemporaryDirectory() as folder:
+        for _ in range(2):
+            run(os.path.join(TOP, "tools", "install"), "a place", cwd=folder)
+        place = os.path.join(folder, "a place")
+        found = sorted(os.path.relpath(os.path.join(at, name), place) for at, _, names in os.walk(place) for name in names)
+        compare("what is installed", found, INSTALLED)
+        with open(os.path.join(place, "bin", "secv"), "rb") as file, open(run(SECV, "--path").strip(), "rb") as other:
+            compare("its program", file.read() == other.read(), True)
+        compare("it runs by itself", run(os.path.join(place, "bin", "secv"), "--version", cwd=folder, env={}), run(SECV, "--version"))
+        answer = subprocess.run([os.path.join(TOP, "tools", "install")], stderr=subprocess.PIPE, text=True, check=False)
+        compare("no PREFIX", (answer.stderr, answer.returncode), ("usage: tools/install PREFIX\n", 2))
+
+
+def page(told):
+    text = read("share", "secv.1").replace("\\-", "-")
+    parts = dict(re.findall(r"^\.SH ([A-Z ]+)\n(.*?)(?=^\.SH|\Z)", text, re.M | re.S))
+    compare("the page's version", re.search(r'^\.TH SECV 1 "" "(.*?)"', text)[1], told.version)
+    # `.RB [ --top` sets its words without spaces.
+    lines = [("" if len(macro) > 1 else " ").join(words.split()) for macro, words in re.findall(r"^\.([A-Z]{1,2}) (.*)$", parts["SYNOPSIS"].replace(".br", ".B \n"), re.M)]
+    usages = [re.sub(r" +", " ", it).strip() for it in re.split(r"(?:^|(?<= ))(?=secv)", " ".join(lines)) if it.strip()]
+    compare("the page's synopsis", usages, told.usages)
+    compare("the page's commands", re.findall(r"^\.TP\n\.B (\S+)\n", parts["COMMANDS"], re.M), list(told.options))
+    rows = re.findall(r'^\.TP\n\.BI (--[a-z]+) " ([A-Z]+)"\n(.*?)\.\n', parts["OPTIONS"], re.M)
+    wanted = {(option, value, what) for options in told.options.values() for option, (value, what) in options.items()}
+    compare("the page's options", sorted(rows), sorted(wanted))
+    compare("the page's statuses", re.findall(r"^\.TP\n\.B ([0-9])\n(.*)$", parts["EXIT STATUS"], re.M), told.statuses)
+
+
+def bash(told):
+    if not shutil.which("bash"):
+        return
+    file = os.path.join(TOP, "share", "secv.bash")
+    with tempfile.TemporaryDirectory() as folder:
+        for name in ("a.v", "b.txt"):
+            open(os.path.join(folder, name), "w", encoding="ascii").close()
+        os.mkdir(os.path.join(folder, "sub"))
+
+        def behind(*words):
+            return sorted(run("bash", "-c", ASK, "bash", file, "secv", *words, cwd=folder).split())
+
+        compare("bash: the first word", behind(""), sorted(told.words))
+        for name, options in told.options.items():
+            compare(f"bash: {name} --", behind(name, "--"), sorted([*options, "--help"]))
+            compare(f"bash: {name} a.v --", behind(name, "a.v", "--"), sorted(options))
+            compare(f"bash: {name}", behind(name, ""), ["a.v", "sub/"])
+            for option in options:
+                compare(f"bash: {name} {option}", behind(name, option, ""), [])
+        compare("bash: no command", behind("other", "--"), [])
+
+
+def zsh(told):
+    text = read("share", "secv.zsh")
+    compare("zsh: the first word", dict(re.findall(r"^      '([a-z-]+):(.*)'$", text, re.M)), told.words)
+    for name, value in re.findall(r"^  local (\w+)='(.*)'$", text, re.M):
+        text = text.replace(f"${name} ", f"'{value}' ")
+    arms = dict(re.findall(r"^    ([a-z]+)\)\s(.*?);;$", text, re.M | re.S))
+    found = {name: dict(re.findall(r"'(--[a-z]+)=\[(.*?)\]:[a-z]+: '", arm)) for name, arm in arms.items()}
+    compare("zsh: options", found, {name: told.of(name) for name in told.options})
+    compare("zsh: --help", [name for name, arm in arms.items() if "'(-)--help[" not in arm], [])
+    if shutil.which("zsh"):
+        compare("zsh reads it", run("zsh", "-n", os.path.join(TOP, "share", "secv.zsh")), "")
+
+
+def fish(told):
+    rows = re.findall(r"^complete -c secv -n (?:'.*?_from ([a-z ]+)'|__fish_use_subcommand)(?: -f -a| -l) (\S+)( -x)? -d '(.*)'$", read("share", "secv.fish"), re.M)
+    first = {word if word in told.options else f"--{word}": what for names, word, _, what in rows if not names}
+    compare("fish: the first word", first, told.words)
+    found = {name: {f"--{word}": what for names, word, takes, what in rows if takes and name in names.split()} for name in told.options}
+    compare("fish: options", found, {name: told.of(name) for name in told.options})
+    compare("fish: --help", [names.split() for names, word, takes, _ in rows if names and not takes and word == "help"], [list(told.options)])
+    if shutil.which("fish"):
+        compare("fish reads it", run("fish", "--no-execute", os.path.join(TOP, "share", "secv.fish")), "")
+
+
+def texts_of_source():
+    """Where no program stands and none is released, the launcher prints the program's texts, from its source."""
+    with tempfile.TemporaryDirectory() as folder:
+        os.makedirs(os.path.join(folder, "crates", "secv"))
+        for name in ("secv", "crates.txt"):
+            shutil.copy(os.path.join(TOP, name), folder)
+        for name in ("tools", "crates/secv/src"):
+            shutil.copytree(os.path.join(TOP, name), os.path.join(folder, name))
+        for word in ("--help", "--version"):
+            compare(f"{word} of the source", run(os.path.join(folder, "secv"), word), run(SECV, word))
+
+
+def main():
+    run(SECV, "--path")
+    installs()
+    told = Help()
+    page(told)
+    bash(told)
+    zsh(told)
+    fish(told)
+    texts_of_source()
+    print(f"{passed} passed, {failed} failed")
+    sys.exit(1 if failed else 0)
+
+
+main()

@@ -1,0 +1,11 @@
+# Completions of secv for fish.
+complete -c secv -n __fish_use_subcommand -f -a check -d 'say whether the labels of a design keep every secret'
+complete -c secv -n __fish_use_subcommand -f -a list -d 'list the obligations of a design, a line each'
+complete -c secv -n __fish_use_subcommand -f -a sim -d 'simulate a design on the stimulus of standard input'
+complete -c secv -n __fish_use_subcommand -l help -d 'print this text'
+complete -c secv -n __fish_use_subcommand -l version -d 'print the version'
+complete -c secv -n '__fish_seen_subcommand_from check list sim' -l top -x -d 'The module to take as the top'
+complete -c secv -n '__fish_seen_subcommand_from sim' -l level -x -d 'Show only the signals whose labels flow to this point'
+complete -c secv -n '__fish_seen_subcommand_from sim' -l order -x -d 'Run the processes in the order of this number'
+complete -c secv -n '__fish_seen_subcommand_from check list sim' -l help -d 'Say more of this command'
+complete -c secv -n '__fish_seen_subcommand_from check list sim' -k -x -a '(__fish_complete_suffix .v)'

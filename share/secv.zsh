@@ -1,0 +1,34 @@
+#compdef secv
+# Completions of secv for zsh.
+
+_secv() {
+  local top='--top=[The module to take as the top]:module: '
+  local help='(-)--help[Say more of this command]'
+  local file='*:file:_files -g "*.v"'
+  if (( CURRENT == 2 )); then
+    local -a commands
+    commands=(
+      'check:say whether the labels of a design keep every secret'
+      'list:list the obligations of a design, a line each'
+      'sim:simulate a design on the stimulus of standard input'
+      '--help:print this text'
+      '--version:print the version'
+    )
+    _describe command commands
+    return
+  fi
+  local command=$words[2]
+  shift words
+  (( CURRENT-- ))
+  case $command in
+    check) _arguments $top $help $file ;;
+    list) _arguments $top $help $file ;;
+    sim)
+      _arguments $top $help $file \
+        '--level=[Show only the signals whose labels flow to this point]:point: ' \
+        '--order=[Run the processes in the order of this number]:number: '
+      ;;
+  esac
+}
+
+_secv "$@"

@@ -1,5 +1,5 @@
 #!/usr/bin/env python3
-"""Tries the launcher ./secv on a small checkout of three crates, with a stand-in for the kit that proves nothing: when it builds and when
+"""Tries the launcher ./secv on a small checkout of four crates, with a stand-in for the kit that proves nothing: when it builds and when
 not, two first builds at once, a build that is stopped or fails, a kit or a tool that is missing, and a checkout that cannot be written; when
 the program of release/ is used and when not, and tools/release, which makes it. The last line is 'N passed, M failed'.
 """
@@ -23,9 +23,10 @@ KIT = r"""#!/bin/sh
 echo "$*" >>"$KIT/calls"
 case $1 in
   version) cat "$KIT/version" ;;
-  all | run)
-    [ "$1" = run ] && [ -e "$KIT/checked" ] || sh -c 'echo $$ >"$KIT/child"; . "$KIT/then"' || exit
+  all | lib | run)
+    [ "$1" != all ] && [ -e "$KIT/checked" ] || sh -c 'echo $$ >"$KIT/child"; . "$KIT/then"' || exit
     [ "$1" = all ] && cp BUILD.bazel "$KIT/checked" && exit
+    [ "$1" = lib ] && exit
     mkdir -p out && printf '#!/bin/sh\necho "made of $(cat "%s/low/src/lib.rt"): $*$(cat)"; exit 3\n' "$(cd .. && pwd)" >out/secv && chmod +x out/secv ;;
 esac
 """
@@ -59,17 +60,19 @@ def compare(what, got, wanted):
 
 
 class Checkout:
-    """A checkout of the launcher and three crates, of which the program stands on two, and the stand-in."""
+    """A checkout of the launcher and four crates, of which the program stands on three, and the stand-in."""
 
     def __init__(self, folder):
         self.top, self.kit = os.path.join(folder, "a checkout"), os.path.join(folder, "kit")
-        for crate in ("low", "other", "secv"):
+        for crate in ("low", "other", "sv_cli", "secv"):
             os.makedirs(os.path.join(self.top, "crates", crate, "src"))
             self.write(f"crates/{crate}/src/lib.rt", "one")
         self.write("crates/secv/src/main.rt", MAIN)
-        self.write("crates.txt", "# crates, lowest first\nlow: thiserror\nother: low\nsecv: low\n")
+        self.write("crates.txt", "# crates, lowest first\nlow: thiserror\nother: low\nsv_cli: low\nsecv: low sv_cli\n")
         shutil.copy(os.path.join(TOP, "secv"), self.top)
         shutil.copytree(os.path.join(TOP, "tools"), os.path.join(self.top, "tools"))
+        os.mkdir(os.path.join(self.top, ".ci"))
+        shutil.copy(os.path.join(TOP, ".ci", "release.py"), os.path.join(self.top, ".ci"))
         os.mkdir(self.kit)
         self.of_kit("rattle-kit")
         with open(os.path.join(self.kit, "rt"), "w", encoding="ascii") as file:
@@ -155,8 +158,11 @@ def goes(number):
 def builds(at):
     """It builds the first time and where a source changed, also while it built; a touched file or another crate is no reason."""
     compare("a first build", at.run("a", "b c"), ("made of one: a b c\n", BUILDING, 3))
-    compare("one build of the program", at.calls()[-1:], ["run"])
-    compare("the libraries below the last crates are proved first", at.below(), ["low"])
+    calls = at.calls()
+    compare("one build of the program", calls[-1:], ["run"])
+    # With one job all is one call.
+    if calls != ["run"]:
+        compare("the last crates come last", (calls, at.below()), (["all", "lib", "run"], ["low"]))
     compare("its log", len(at.logs()), 1)
     compare("no second build", (at.run("d"), at.calls()), (("made of one: d\n", "", 3), []))
     for crate, text in (("low", "one"), ("other", "two")):
@@ -447,6 +453,39 @@ def makes_release(at):
     compare("it is left as it is", git(at, "status", "--porcelain"), "")
 
 
+def looks(at):
+    """The gate's look at release/ passes where it is of these sources and this kit and has the bytes that were built, and else says what to do."""
+    renew = "run tools/release, commit release/, and run .ci/run again\n"
+
+    def look(what, passes, fails):
+        out, _, status = at.run(tool=".ci/release.py")
+        wanted = (f"{passes} passed, {fails} failed", not fails or f"release/ has to be renewed: {renew}" in out, 1 if fails else 0)
+        compare(f"the look at {what}", (out.splitlines()[-1], not fails or f"release/ has to be renewed: {renew}" in out, status), wanted)
+
+    compare("the look at no release/", at.run(tool=".ci/release.py"), (f"there is no release/ of the program: {renew}0 passed, 1 failed\n", "", 1))
+    release(at)
+    gate(at)
+    look("one of the same", 6, 0)
+    at.of_kit("another-kit")
+    look("one of another kit", 5, 1)
+    at.of_kit("rattle-kit")
+    at.write("crates/other/src/lib.rt", "two")
+    look("one of the same, where another crate changed", 6, 0)
+    at.write("crates/low/src/lib.rt", "two")
+    look("one of other sources", 4, 2)
+    at.write("crates/low/src/lib.rt", "one")
+    with open(out_of(at, "secv"), "a", encoding="ascii") as file:
+        file.write("# of other bytes\n")
+    look("one of other bytes", 4, 2)
+    gate(at)
+    path = os.path.join(at.top, "release", "secv.gz")
+    with open(path, "rb") as file:
+        whole = file.read()
+    with open(path, "wb") as file:
+        file.write(whole[: len(whole) // 2])
+    look("a broken one", 5, 1)
+
+
 def texts(at):
     """No text about the program is a reason to build; where no program stands, it is the one of the source."""
     help_text = MAIN.partition('"')[2].partition('";')[0]
@@ -455,6 +494,9 @@ def texts(at):
         compare("--version", (at.run("--version"), at.calls()), (("secv 1.2\n", "", 0), []))
         compare("check --help", (at.run("check", "--help"), at.calls()), (("", NO_TEXT, 70), []))
         at.write("crates/secv/out/secv" if os.path.isdir(out_of(at)) else "crates/low/src/lib.rt", "of other sources")
+    with open("/dev/full", "wb") as full:
+        answer = subprocess.run([os.path.join(at.top, "secv"), "--version"], stdout=full, stderr=subprocess.PIPE, check=False)
+        compare("--version to a full device", (answer.stderr, answer.returncode), (b"secv: the output could not be written\n", 5))
     at.write("crates/secv/src/main.rt", MAIN.replace("checks.", "checks \\u{41}."))
     compare("a text that is not plain", (at.run("--help"), at.calls()), (("", NO_TEXT, 70), []))
     at.run()
@@ -487,17 +529,14 @@ def in_own_place(at):
         os.chmod(folder, 0o755)
 
 
-def stop_all(number, _):
-    sys.exit(128 + number)
-
-
 def main():
-    # However this was begun, as by nohup or in the background, what it starts takes these signals: a shell that has one ignored from the start cannot
-    # take it back. A handler is not handed on.
+    # What was begun by nohup or in the background has signals ignored, and a shell that has one so from the start cannot take it back. They stay without
+    # effect here, by a handler, which what is started does not get.
     for number in (signal.SIGINT, signal.SIGTERM, signal.SIGHUP):
-        signal.signal(number, stop_all)
+        if signal.getsignal(number) == signal.SIG_IGN:
+            signal.signal(number, lambda *_: None)
     signal.pthread_sigmask(signal.SIG_SETMASK, [])
-    for group in (builds, replaced, at_once, stopped, fails, without_a_kit, without_a_tool, not_writable, released, not_released, makes_release, texts,
+    for group in (builds, replaced, at_once, stopped, fails, without_a_kit, without_a_tool, not_writable, released, not_released, makes_release, looks, texts,
                   in_own_place):
         with tempfile.TemporaryDirectory() as folder:
             os.chmod(folder, 0o755)

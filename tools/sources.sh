@@ -16,7 +16,7 @@ sum_of_sources() {
   (
     cd "$top" || exit
     find $(folders) -type f 2>/dev/null | LC_ALL=C sort | tr '\n' '\0' | xargs -0 sha256sum
-    for crate in $(needed); do grep "^${crate}[ :]" crates.txt; done
+    needed | sed 's/.*/^&[ :]/' | grep -f - crates.txt
   ) | sum_of
 }
 

@@ -18,6 +18,10 @@ NOBODY = 65534
 MOST_SECONDS = 60
 BUILDING = "secv: building, once: every function is proved to meet its contract before the program is made, which takes up to an hour\n"
 STOPPED = "secv: the build was stopped; what it has proved is kept\n"
+RELEASED = "secv: this is the program of release/, made from commit {}; 'rt ci' or './secv --build' proves and builds it again\n"
+BROKEN = "secv: release/secv.gz is broken, and not used: it does not hold the bytes that release/ABOUT names\n"
+NO_RUN = "secv: the program of release/ does not run on this machine, and is not used\n"
+NO_TEXT = "secv: this text is the program's, which is not built, and release/ is not of these sources; './secv --build' builds it\n"
 # Keeps each call of it. What it does behind a check is what the file `then` says: nothing, or to wait, or to fail with these lines.
 KIT = r"""#!/bin/sh
 echo "$*" >>"$KIT/calls"
@@ -308,12 +312,6 @@ def not_writable(at):
     allow(0o755)
 
 
-RELEASED = "secv: this is the program of release/, made from commit {}; 'rt ci' or './secv --build' proves and builds it again\n"
-BROKEN = "secv: release/secv.gz is broken, and not used: it does not hold the bytes that release/ABOUT names\n"
-NO_RUN = "secv: the program of release/ does not run on this machine, and is not used\n"
-NO_TEXT = "secv: this text is the program's, which is not built, and release/ is not of these sources; './secv --build' builds it\n"
-
-
 def git(at, *words):
     """What git prints in the checkout."""
     words = ["git", "-c", "user.name=a", "-c", "user.email=a@b", *words]
@@ -328,7 +326,7 @@ def gate(at):
     """Does what the gate does where all passes: leaves the program, and what it was made from."""
     at.run("--build")
     at.calls()
-    here = 'top=$1; . "$1/tools/sources.sh"; printf "sources: %s\nkit: %s\nsha256: %s\n" "$(sum_of_sources)" "$(kit_here)" "$(sum_of <"$1/crates/secv/out/secv")"'
+    here = 'top=$1; . "$1/tools/sources.sh"; stamp_of "$(sum_of_sources)" "$(kit_here)" "$1/crates/secv/out/secv"'
     told = subprocess.run(["sh", "-c", here, "sh", at.top], stdout=subprocess.PIPE, text=True, check=True,
                           env={**os.environ, "KIT": at.kit, "PATH": f"{at.kit}:{os.environ['PATH']}"}).stdout
     at.write("crates/secv/out/passed", told)
@@ -358,7 +356,7 @@ def released(at):
     compare("a touched file", (at.run("a"), at.calls()), (("made of one: a\n", "", 3), []))
     for word in ("--help", "--version"):
         compare(word, at.run(word), (f"made of one: {word}\n", "", 3))
-    at.write("release/ABOUT", open(os.path.join(at.top, "release", "ABOUT"), encoding="ascii").read())
+    os.utime(os.path.join(at.top, "release", "ABOUT"))
     compare("a touched release/", at.run("a"), ("made of one: a\n", "", 3))
     with open(out_of(at, "released"), "a", encoding="ascii") as file:
         file.write("# of other bytes\n")

@@ -26,6 +26,9 @@ sum_of() { sha256sum | cut -d ' ' -f 1; }
 # The line of the kit that is installed here, if one is.
 kit_here() { rt version 2>/dev/null | head -n 1; }
 
+# What says of a program by which it can be known again: a sum of its sources, the line of its kit, and a sum of its bytes.
+stamp_of() { printf 'sources: %s\nkit: %s\nsha256: %s\n' "$1" "$2" "$(sum_of <"$3")"; }
+
 # What kind of machine this is.
 machine_here() { printf '%s %s\n' "$(uname -s)" "$(uname -m)"; }
 

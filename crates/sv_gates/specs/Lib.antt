@@ -1,0 +1,4 @@
+pub mod Formulas
+pub mod NormalForms
+pub mod Gates
+pub mod Extending

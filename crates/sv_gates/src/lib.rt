@@ -1,0 +1,2 @@
+//! Gates: variables and the clauses that fix their values.
+#![tactic(auto)]

@@ -1,1 +1,5 @@
+pub mod NormalLaws
+pub mod Valuations
+pub mod GateLaws
+pub mod ExtendingLaws
 mod GateExamples

@@ -1,5 +1,5 @@
 -- What formulas that grow keep, and what a piece of encoding makes.
-use Rattle.std.specs.Prelude.{◌≡◌, ℕ, suc, ◌≤◌, Bool, true, List, ℤ, length, take}
+use Rattle.std.specs.Prelude.{◌≡◌, ℕ, suc, ◌≤◌, Bool, true, length, take}
 use Rattle.sv_gates.specs.Formulas.{Formula, meets, IsClosed}
 
 -- values agree on the variables up to this one

@@ -1,7 +1,8 @@
 -- Gates: each takes the next variable, with clauses that hold exactly where the variable has the
 -- gate's value. Every function gives the formula with the gate, and the gate's literal.
-use Rattle.std.specs.Prelude.{ℕ, suc, ℤ, pos, neg_ℤ, List, [], ◌∷◌}
-use Rattle.sv_gates.specs.Formulas.{Formula}
+use Rattle.std.specs.Prelude.{◌≡◌, ◌↔◌, ℕ, suc, Bool, IsTrue, ℤ, pos, neg_ℤ, List, [], ◌∷◌}
+use Rattle.sv_clause.specs.Literals.{literal_true}
+use Rattle.sv_gates.specs.Formulas.{Formula, meets}
 use Rattle.sv_gates.specs.NormalForms.{with_clause, with_clauses}
 
 -- the start: variable 1, which is true
@@ -69,3 +70,9 @@ with_unit literal formula = record {
   variables = formula.variables;
   clauses = with_clause (literal ∷ []) formula.clauses;
 }
+
+-- the gate has a value: values meet the formula with the gate exactly where they meet the one
+-- before it and give the gate's literal this value
+abbrev pub GateHas : Formula → Formula × ℤ → ((ℕ → Bool) → Bool) → Type 0
+GateHas old made value = (values : ℕ → Bool) → IsTrue (meets values (made.0).clauses)
+    ↔ (IsTrue (meets values old.clauses) × (literal_true values made.1 ≡ value values))

@@ -1,4 +1,5 @@
 pub mod NormalLaws
+mod Puts
 pub mod Valuations
 pub mod GateLaws
 pub mod ExtendingLaws

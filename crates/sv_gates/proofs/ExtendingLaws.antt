@@ -25,15 +25,15 @@ front_and_rest xs ys e =
 pub front_from : {X : Type 0} (xs ys more : List X) → ys ≡ xs ++ more → take (length xs) ys ≡ xs
 front_from xs ys more e = ap (take (length xs)) e ∙ take-append_seam xs more
 
-pub Begins-same : (old : Formula) → Begins old old
-Begins-same old = record {
+pub begins_none : (old : Formula) → Begins old old
+begins_none old = record {
   grows = omega arith;
   front = front_from old.clauses old.clauses [] (sym (append-nil old.clauses));
 }
 
-pub Begins-trans : (first second third : Formula) → Begins first second → Begins second third →
+pub begins_trans : (first second third : Formula) → Begins first second → Begins second third →
     Begins first third
-Begins-trans first second third p q = record {
+begins_trans first second third p q = record {
   grows = omega arith;
   front = front_from first.clauses third.clauses
       (drop (length first.clauses) second.clauses ++ drop (length second.clauses) third.clauses)
@@ -59,18 +59,18 @@ meets-begins old new values b e =
     (drop (length old.clauses) new.clauses))
     ∙ ap (meets values) (sym (front_and_rest old.clauses new.clauses b.front)) ∙ e)).0
 
-pub Extends-same : (old : Formula) → IsClosed old → Extends old old
-Extends-same old closed = record {
-  begins = Begins-same old;
+pub extends_none : (old : Formula) → IsClosed old → Extends old old
+extends_none old closed = record {
+  begins = begins_none old;
   closed = closed;
   onward = λ values e. (values, (λ n small. refl), e);
   unique = λ one other e f agree. agree;
 }
 
-pub Extends-trans : (first second third : Formula) → Extends first second → Extends second third →
+pub extends_trans : (first second third : Formula) → Extends first second → Extends second third →
     Extends first third
-Extends-trans first second third p q = record {
-  begins = Begins-trans first second third p.begins q.begins;
+extends_trans first second third p q = record {
+  begins = begins_trans first second third p.begins q.begins;
   closed = q.closed;
   onward = λ values e.
       let more = p.onward values e in
@@ -137,7 +137,7 @@ pub makes_at_once : {A : Type 0} (old : Formula) (a : A) (Inside : ℕ → A →
     ((values : ℕ → Bool) → meets values old.clauses ≡ true → Means values a) →
     Makes old (old, a) Inside Means
 makes_at_once old a Inside Means closed within says = record {
-  extends = Extends-same old closed;
+  extends = extends_none old closed;
   within = within;
   says = says;
 }
@@ -149,7 +149,7 @@ pub makes_then : {A B : Type 0} (old : Formula) (first : Formula × A) (second :
     Makes first.0 second Within Says →
     Makes old second Within (λ values b. Means values first.1 × Says values b)
 makes_then old first second Inside Within Means Says p q = record {
-  extends = Extends-trans old first.0 second.0 p.extends q.extends;
+  extends = extends_trans old first.0 second.0 p.extends q.extends;
   within = q.within;
   says = λ values e. (
     p.says values (meets-begins first.0 second.0 values q.extends.begins e),

@@ -1,4 +1,5 @@
 -- Each gate's clauses hold exactly where its variable has the gate's value.
+use Rattle.std.proofs.Common.{IsTrue}
 use Rattle.std.proofs.Common.{◌≡◌, ◌↔◌, ℕ, suc, ◌<◌, ◌≤◌, Bool, true, false, not, ◌||◌, ◌&&◌, ℤ}
 use Rattle.std.proofs.Common.{pos, neg_ℤ, unsigned_abs, List, [], ◌∷◌, refl, sym, ap, ◌∙◌, subst, arith}
 use Rattle.std.proofs.Common.{if◌then◌else◌, ⊎_elim}
@@ -340,3 +341,12 @@ pub unit_closed : (a : ℤ) (old : Formula) → IsClosed old → IsLiteral old.v
     IsClosed (with_unit a old)
 unit_closed a old closed is_a =
     with_clause_within old.variables (a ∷ []) old.clauses (is_a, tt) closed
+
+pub unit_has : (a : ℤ) (old : Formula) (values : ℕ → Bool) → IsLiteral old.variables a →
+    IsTrue (meets values (with_unit a old).clauses)
+    ↔ (IsTrue (meets values old.clauses) × IsTrue (literal_true values a))
+unit_has a old values is_a =
+    let says = unit_says values a old is_a in (
+      λ e. and_parts (meets values old.clauses) (literal_true values a) (sym says ∙ e),
+      λ p. says ∙ and_from (meets values old.clauses) (literal_true values a) p.0 p.1,
+    )

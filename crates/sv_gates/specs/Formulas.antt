@@ -30,3 +30,13 @@ IsWithin variables clause =
 -- the clauses of a formula speak of its variables alone
 abbrev pub IsClosed : Formula → Type 0
 IsClosed formula = All (IsWithin formula.variables) formula.clauses
+
+-- the most variables that a formula of gates may have
+abbrev pub most_variables : ℕ
+most_variables = 4194304
+
+-- a formula of gates: 1 to the most variables, and clauses that speak of these alone
+pub record IsProper (formula : Formula) : Type 0 where
+  pub some : 0 < formula.variables
+  pub few : formula.variables ≤ most_variables
+  pub closed : IsClosed formula

@@ -23,16 +23,20 @@ fresh_variable formula = (
   pos (suc formula.variables),
 )
 
+-- one more clause, as it is written down
+abbrev pub with_raw : List ℤ → Formula → Formula
+with_raw raw formula =
+    record { variables = formula.variables; clauses = with_clause raw formula.clauses }
+
+-- more clauses, one after another
+abbrev pub with_raws : List (List ℤ) → Formula → Formula
+with_raws raws formula =
+    record { variables = formula.variables; clauses = with_clauses raws formula.clauses }
+
 -- one more variable with its clauses, which name it
 abbrev pub with_gate : (ℤ → List (List ℤ)) → Formula → Formula × ℤ
 with_gate clauses_of formula =
-    let gate = pos (suc formula.variables) in (
-      record {
-        variables = suc formula.variables;
-        clauses = with_clauses (clauses_of gate) formula.clauses;
-      },
-      gate,
-    )
+    let fresh = fresh_variable formula in (with_raws (clauses_of fresh.1) fresh.0, fresh.1)
 
 -- a and b
 abbrev pub and_clauses : ℤ → ℤ → ℤ → List (List ℤ)
@@ -66,10 +70,7 @@ mux_gate c a b formula = with_gate (mux_clauses c a b) formula
 
 -- the clause that is one literal alone
 abbrev pub with_unit : ℤ → Formula → Formula
-with_unit literal formula = record {
-  variables = formula.variables;
-  clauses = with_clause (literal ∷ []) formula.clauses;
-}
+with_unit literal formula = with_raw (literal ∷ []) formula
 
 -- the gate has a value: values meet the formula with the gate exactly where they meet the one
 -- before it and give the gate's literal this value

@@ -4,7 +4,8 @@ ghost use Rattle.sv_gates.specs.Extending.{Begins, cut_back};
 ghost use Rattle.sv_gates.specs.Formulas.{IsLiteral, IsProper, most_variables, value_of};
 ghost use Rattle.sv_gates.specs.Formulas.{IsWithin};
 ghost use Rattle.sv_gates.specs.Formulas.{meets};
-ghost use Rattle.sv_gates.specs.Gates.{start, fresh_variable, and_gate, xor_gate, mux_gate, with_unit};
+ghost use Rattle.sv_gates.specs.Gates.{start, fresh_variable, and_gate, or_gate, xor_gate};
+ghost use Rattle.sv_gates.specs.Gates.{mux_gate, with_unit};
 ghost use Rattle.sv_gates.specs.Gates.{with_raw, with_raws, and_clauses, xor_clauses, mux_clauses};
 ghost use Rattle.sv_gates.specs.declared.gates.GateFault.TheVariants.{OutOfMemory};
 
@@ -121,9 +122,11 @@ impl Gates {
         self.clauses.truncate(mark.clauses);
     }
 
-    // Takes the next variable.
-    fn next_variable(&mut self) -> Result<Literal, GateFault>
+    /// One more variable, which no clause names yet.
+    pub fn fresh_literal(&mut self) -> Result<Literal, GateFault>
         ensures made { IfOk result (λ g. fresh_variable self.old ≡ (self.new, g)) }
+        ensures within { IfOk result (IsLiteral self.new.variables) }
+        ensures grows { self.old.variables ≤ self.new.variables }
         ensures full { IsErrOf result GateFault.Full ↔ (self.old.variables ≡ most_variables) }
         ensures unchanged { OnErr result (self.new ≡ self.old) }
     {
@@ -151,20 +154,20 @@ impl Gates {
 
     // Adds the clauses of an AND.
     #[tactic(auto, using(crate::proofs::ExtendingLaws::begins_trans))]
-    fn add_and(&mut self, g: &Literal, a: &Literal, b: &Literal) -> Result<(), AllocError>
-        requires g { IsLiteral self.old.variables g.now }
-        requires a { IsLiteral self.old.variables a.now }
-        requires b { IsLiteral self.old.variables b.now }
-        ensures ok { OnOk result (self.new ≡ with_raws (and_clauses a.now b.now g.now) self.old) }
+    fn add_and(&mut self, g: Literal, a: Literal, b: Literal) -> Result<(), AllocError>
+        requires g { IsLiteral self.old.variables g }
+        requires a { IsLiteral self.old.variables a }
+        requires b { IsLiteral self.old.variables b }
+        ensures ok { OnOk result (self.new ≡ with_raws (and_clauses a b g) self.old) }
         ensures begins { Begins self.old self.new }
     {
-        self.add(&[g.negated(), *a])?;
-        self.add(&[g.negated(), *b])?;
-        self.add(&[*g, a.negated(), b.negated()])
+        self.add(&[g.negated(), a])?;
+        self.add(&[g.negated(), b])?;
+        self.add(&[g, a.negated(), b.negated()])
     }
 
     /// A gate that is `a` and `b`.
-    pub fn and(&mut self, a: i32, b: i32) -> Result<i32, GateFault>
+    pub fn and_gate(&mut self, a: Literal, b: Literal) -> Result<Literal, GateFault>
         requires a { IsLiteral self.old.variables a }
         requires b { IsLiteral self.old.variables b }
         ensures made { IfOk result (λ g. and_gate a b self.old ≡ (self.new, g)) }
@@ -174,11 +177,9 @@ impl Gates {
         ensures unchanged { OnErr result (self.new ≡ self.old) }
     {
         let mark = self.mark();
-        let gate = self.next_variable()?;
-        let a = Literal::from_signed(a);
-        let b = Literal::from_signed(b);
-        match self.add_and(&gate, &a, &b) {
-            Ok(()) => Ok(gate.signed()),
+        let gate = self.fresh_literal()?;
+        match self.add_and(gate, a, b) {
+            Ok(()) => Ok(gate),
             Err(fault) => {
                 self.back_to(&mark);
                 Err(fault.into())
@@ -186,23 +187,36 @@ impl Gates {
         }
     }
 
+    /// A gate that is `a` or `b`: the negation of one that is neither.
+    pub fn or_gate(&mut self, a: Literal, b: Literal) -> Result<Literal, GateFault>
+        requires a { IsLiteral self.old.variables a }
+        requires b { IsLiteral self.old.variables b }
+        ensures made { IfOk result (λ g. or_gate a b self.old ≡ (self.new, g)) }
+        ensures within { IfOk result (IsLiteral self.new.variables) }
+        ensures grows { self.old.variables ≤ self.new.variables }
+        ensures full { IsErrOf result GateFault.Full ↔ (self.old.variables ≡ most_variables) }
+        ensures unchanged { OnErr result (self.new ≡ self.old) }
+    {
+        Ok(self.and_gate(a.negated(), b.negated())?.negated())
+    }
+
     // Adds the clauses of an XOR.
     #[tactic(auto, using(crate::proofs::ExtendingLaws::begins_trans))]
-    fn add_xor(&mut self, g: &Literal, a: &Literal, b: &Literal) -> Result<(), AllocError>
-        requires g { IsLiteral self.old.variables g.now }
-        requires a { IsLiteral self.old.variables a.now }
-        requires b { IsLiteral self.old.variables b.now }
-        ensures ok { OnOk result (self.new ≡ with_raws (xor_clauses a.now b.now g.now) self.old) }
+    fn add_xor(&mut self, g: Literal, a: Literal, b: Literal) -> Result<(), AllocError>
+        requires g { IsLiteral self.old.variables g }
+        requires a { IsLiteral self.old.variables a }
+        requires b { IsLiteral self.old.variables b }
+        ensures ok { OnOk result (self.new ≡ with_raws (xor_clauses a b g) self.old) }
         ensures begins { Begins self.old self.new }
     {
-        self.add(&[g.negated(), *a, *b])?;
+        self.add(&[g.negated(), a, b])?;
         self.add(&[g.negated(), a.negated(), b.negated()])?;
-        self.add(&[*g, a.negated(), *b])?;
-        self.add(&[*g, *a, b.negated()])
+        self.add(&[g, a.negated(), b])?;
+        self.add(&[g, a, b.negated()])
     }
 
     /// A gate that is whether `a` and `b` differ.
-    pub fn xor(&mut self, a: i32, b: i32) -> Result<i32, GateFault>
+    pub fn xor_gate(&mut self, a: Literal, b: Literal) -> Result<Literal, GateFault>
         requires a { IsLiteral self.old.variables a }
         requires b { IsLiteral self.old.variables b }
         ensures made { IfOk result (λ g. xor_gate a b self.old ≡ (self.new, g)) }
@@ -212,11 +226,9 @@ impl Gates {
         ensures unchanged { OnErr result (self.new ≡ self.old) }
     {
         let mark = self.mark();
-        let gate = self.next_variable()?;
-        let a = Literal::from_signed(a);
-        let b = Literal::from_signed(b);
-        match self.add_xor(&gate, &a, &b) {
-            Ok(()) => Ok(gate.signed()),
+        let gate = self.fresh_literal()?;
+        match self.add_xor(gate, a, b) {
+            Ok(()) => Ok(gate),
             Err(fault) => {
                 self.back_to(&mark);
                 Err(fault.into())
@@ -226,29 +238,22 @@ impl Gates {
 
     // Adds the clauses of a multiplexer.
     #[tactic(auto, using(crate::proofs::ExtendingLaws::begins_trans))]
-    fn add_mux(
-        &mut self,
-        g: &Literal,
-        c: &Literal,
-        a: &Literal,
-        b: &Literal,
-    ) -> Result<(), AllocError>
-        requires g { IsLiteral self.old.variables g.now }
-        requires c { IsLiteral self.old.variables c.now }
-        requires a { IsLiteral self.old.variables a.now }
-        requires b { IsLiteral self.old.variables b.now }
-        ensures ok { OnOk result
-            (self.new ≡ with_raws (mux_clauses c.now a.now b.now g.now) self.old) }
+    fn add_mux(&mut self, g: Literal, c: Literal, a: Literal, b: Literal) -> Result<(), AllocError>
+        requires g { IsLiteral self.old.variables g }
+        requires c { IsLiteral self.old.variables c }
+        requires a { IsLiteral self.old.variables a }
+        requires b { IsLiteral self.old.variables b }
+        ensures ok { OnOk result (self.new ≡ with_raws (mux_clauses c a b g) self.old) }
         ensures begins { Begins self.old self.new }
     {
-        self.add(&[g.negated(), c.negated(), *a])?;
-        self.add(&[g.negated(), *c, *b])?;
-        self.add(&[*g, c.negated(), a.negated()])?;
-        self.add(&[*g, *c, b.negated()])
+        self.add(&[g.negated(), c.negated(), a])?;
+        self.add(&[g.negated(), c, b])?;
+        self.add(&[g, c.negated(), a.negated()])?;
+        self.add(&[g, c, b.negated()])
     }
 
     /// The multiplexer: a gate that is `a` where `c` holds, and `b` elsewhere.
-    pub fn mux(&mut self, c: i32, a: i32, b: i32) -> Result<i32, GateFault>
+    pub fn mux_gate(&mut self, c: Literal, a: Literal, b: Literal) -> Result<Literal, GateFault>
         requires c { IsLiteral self.old.variables c }
         requires a { IsLiteral self.old.variables a }
         requires b { IsLiteral self.old.variables b }
@@ -259,12 +264,9 @@ impl Gates {
         ensures unchanged { OnErr result (self.new ≡ self.old) }
     {
         let mark = self.mark();
-        let gate = self.next_variable()?;
-        let c = Literal::from_signed(c);
-        let a = Literal::from_signed(a);
-        let b = Literal::from_signed(b);
-        match self.add_mux(&gate, &c, &a, &b) {
-            Ok(()) => Ok(gate.signed()),
+        let gate = self.fresh_literal()?;
+        match self.add_mux(gate, c, a, b) {
+            Ok(()) => Ok(gate),
             Err(fault) => {
                 self.back_to(&mark);
                 Err(fault.into())
@@ -272,25 +274,13 @@ impl Gates {
         }
     }
 
-    /// One more variable, which no clause names yet.
-    pub fn fresh(&mut self) -> Result<i32, GateFault>
-        ensures made { IfOk result (λ g. fresh_variable self.old ≡ (self.new, g)) }
-        ensures within { IfOk result (IsLiteral self.new.variables) }
-        ensures grows { self.old.variables ≤ self.new.variables }
-        ensures full { IsErrOf result GateFault.Full ↔ (self.old.variables ≡ most_variables) }
-        ensures unchanged { OnErr result (self.new ≡ self.old) }
-    {
-        Ok(self.next_variable()?.signed())
-    }
-
-    /// Adds the clause that is `a` alone.
-    pub fn unit(&mut self, a: i32) -> Result<(), AllocError>
+    /// Adds the clause that is a literal alone.
+    pub fn unit_clause(&mut self, a: Literal) -> Result<(), AllocError>
         requires { IsLiteral self.old.variables a }
         ensures ok { OnOk result (self.new ≡ with_unit a self.old) }
         ensures unchanged { OnErr result (self.new ≡ self.old) }
     {
-        let _mark = self.mark();
-        self.add(&[Literal::from_signed(a)])
+        self.add(&[a])
     }
 
     /// How many variables there are, and the clauses in the order in which they were added. Takes

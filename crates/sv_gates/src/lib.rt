@@ -16,6 +16,7 @@ mod gates;
 mod laws;
 mod literal;
 mod normal;
+mod signed;
 mod values;
 
 pub use gates::{GateFault, Gates, MOST_VARIABLES, Mark};
@@ -23,4 +24,5 @@ pub use laws::{
     extending_goes_on, fresh_variables_are_free, gates_extend, gates_have_their_values,
     normal_form_says_the_same, units_are_true,
 };
+pub use literal::Literal;
 pub use std::alloc::AllocError as OutOfMemory;

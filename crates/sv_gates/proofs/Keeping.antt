@@ -1,14 +1,14 @@
 -- What a formula of gates keeps as it grows.
 use Rattle.std.proofs.Common.{◌≡◌, ℕ, ◌≤◌, true, false, ℤ, pos, List, [], ◌∷◌, All}
-use Rattle.std.proofs.Common.{◌++◌, refl, ap, arith}
+use Rattle.std.proofs.Common.{sym, subst, length, ◌++◌, refl, ap, arith}
 use Rattle.std.proofs.lemmas.List.Elements.{recursion_from_All, All-weaker}
 use Rattle.sv_gates.specs.Formulas.{Formula, IsLiteral, IsProper}
 use Rattle.sv_gates.specs.NormalForms.{put, ascending, clashes}
 use Rattle.sv_gates.specs.Gates.{start, with_raw}
 use Rattle.sv_gates.proofs.NormalLaws.{with_clause_within, with_clause-clash, with_clause-apart}
-use Rattle.sv_gates.specs.Extending.{Begins}
+use Rattle.sv_gates.specs.Extending.{Begins, cut_back}
 use Rattle.sv_gates.proofs.Valuations.{with_clause_front}
-use Rattle.sv_gates.proofs.ExtendingLaws.{start_closed, front_from}
+use Rattle.sv_gates.proofs.ExtendingLaws.{start_closed, front_from, cut_back-begins}
 
 -- the start, as it is made
 pub first_clause : ascending (pos 1 ∷ []) ≡ pos 1 ∷ []
@@ -52,3 +52,9 @@ raw_begins raw old =
       grows = omega arith;
       front = front_from old.clauses (with_raw raw old).clauses front.0 front.1;
     }
+
+-- a formula that begins with a proper one, cut back to that one, is proper
+pub cut_back_proper : (old new : Formula) → Begins old new → IsProper old →
+    IsProper (cut_back old.variables (length old.clauses) new)
+cut_back_proper old new begins proper =
+    subst IsProper (sym (cut_back-begins old new begins)) proper

@@ -3,5 +3,5 @@ mod Puts
 pub mod Valuations
 pub mod GateLaws
 pub mod ExtendingLaws
-mod Keeping
+pub mod Keeping
 mod GateExamples

@@ -126,7 +126,7 @@ impl Gates {
     pub fn fresh_literal(&mut self) -> Result<Literal, GateFault>
         ensures made { IfOk result (λ g. fresh_variable self.old ≡ (self.new, g)) }
         ensures within { IfOk result (IsLiteral self.new.variables) }
-        ensures grows { self.old.variables ≤ self.new.variables }
+        ensures begins { Begins self.old self.new }
         ensures full { IsErrOf result GateFault.Full ↔ (self.old.variables ≡ most_variables) }
         ensures unchanged { OnErr result (self.new ≡ self.old) }
     {
@@ -172,7 +172,7 @@ impl Gates {
         requires b { IsLiteral self.old.variables b }
         ensures made { IfOk result (λ g. and_gate a b self.old ≡ (self.new, g)) }
         ensures within { IfOk result (IsLiteral self.new.variables) }
-        ensures grows { self.old.variables ≤ self.new.variables }
+        ensures begins { Begins self.old self.new }
         ensures full { IsErrOf result GateFault.Full ↔ (self.old.variables ≡ most_variables) }
         ensures unchanged { OnErr result (self.new ≡ self.old) }
     {
@@ -193,7 +193,7 @@ impl Gates {
         requires b { IsLiteral self.old.variables b }
         ensures made { IfOk result (λ g. or_gate a b self.old ≡ (self.new, g)) }
         ensures within { IfOk result (IsLiteral self.new.variables) }
-        ensures grows { self.old.variables ≤ self.new.variables }
+        ensures begins { Begins self.old self.new }
         ensures full { IsErrOf result GateFault.Full ↔ (self.old.variables ≡ most_variables) }
         ensures unchanged { OnErr result (self.new ≡ self.old) }
     {
@@ -221,7 +221,7 @@ impl Gates {
         requires b { IsLiteral self.old.variables b }
         ensures made { IfOk result (λ g. xor_gate a b self.old ≡ (self.new, g)) }
         ensures within { IfOk result (IsLiteral self.new.variables) }
-        ensures grows { self.old.variables ≤ self.new.variables }
+        ensures begins { Begins self.old self.new }
         ensures full { IsErrOf result GateFault.Full ↔ (self.old.variables ≡ most_variables) }
         ensures unchanged { OnErr result (self.new ≡ self.old) }
     {
@@ -259,7 +259,7 @@ impl Gates {
         requires b { IsLiteral self.old.variables b }
         ensures made { IfOk result (λ g. mux_gate c a b self.old ≡ (self.new, g)) }
         ensures within { IfOk result (IsLiteral self.new.variables) }
-        ensures grows { self.old.variables ≤ self.new.variables }
+        ensures begins { Begins self.old self.new }
         ensures full { IsErrOf result GateFault.Full ↔ (self.old.variables ≡ most_variables) }
         ensures unchanged { OnErr result (self.new ≡ self.old) }
     {
@@ -278,6 +278,7 @@ impl Gates {
     pub fn unit_clause(&mut self, a: Literal) -> Result<(), AllocError>
         requires { IsLiteral self.old.variables a }
         ensures ok { OnOk result (self.new ≡ with_unit a self.old) }
+        ensures begins { Begins self.old self.new }
         ensures unchanged { OnErr result (self.new ≡ self.old) }
     {
         self.add(&[a])

@@ -1,5 +1,6 @@
 // Gates over signed numbers, as clauses have them.
 ghost use Rattle.std.specs.Prelude.{◌≡◌, ◌↔◌, ◌≤◌, IfOk, OnOk, OnErr, IsErrOf};
+ghost use Rattle.sv_gates.specs.Extending.{Begins};
 ghost use Rattle.sv_gates.specs.Formulas.{IsLiteral, most_variables};
 ghost use Rattle.sv_gates.specs.Gates.{fresh_variable, and_gate, xor_gate, mux_gate, with_unit};
 
@@ -12,7 +13,7 @@ impl Gates {
     pub fn fresh(&mut self) -> Result<i32, GateFault>
         ensures made { IfOk result (λ g. fresh_variable self.old ≡ (self.new, g)) }
         ensures within { IfOk result (IsLiteral self.new.variables) }
-        ensures grows { self.old.variables ≤ self.new.variables }
+        ensures begins { Begins self.old self.new }
         ensures full { IsErrOf result GateFault.Full ↔ (self.old.variables ≡ most_variables) }
         ensures unchanged { OnErr result (self.new ≡ self.old) }
     {
@@ -25,7 +26,7 @@ impl Gates {
         requires b { IsLiteral self.old.variables b }
         ensures made { IfOk result (λ g. and_gate a b self.old ≡ (self.new, g)) }
         ensures within { IfOk result (IsLiteral self.new.variables) }
-        ensures grows { self.old.variables ≤ self.new.variables }
+        ensures begins { Begins self.old self.new }
         ensures full { IsErrOf result GateFault.Full ↔ (self.old.variables ≡ most_variables) }
         ensures unchanged { OnErr result (self.new ≡ self.old) }
     {
@@ -40,7 +41,7 @@ impl Gates {
         requires b { IsLiteral self.old.variables b }
         ensures made { IfOk result (λ g. xor_gate a b self.old ≡ (self.new, g)) }
         ensures within { IfOk result (IsLiteral self.new.variables) }
-        ensures grows { self.old.variables ≤ self.new.variables }
+        ensures begins { Begins self.old self.new }
         ensures full { IsErrOf result GateFault.Full ↔ (self.old.variables ≡ most_variables) }
         ensures unchanged { OnErr result (self.new ≡ self.old) }
     {
@@ -56,7 +57,7 @@ impl Gates {
         requires b { IsLiteral self.old.variables b }
         ensures made { IfOk result (λ g. mux_gate c a b self.old ≡ (self.new, g)) }
         ensures within { IfOk result (IsLiteral self.new.variables) }
-        ensures grows { self.old.variables ≤ self.new.variables }
+        ensures begins { Begins self.old self.new }
         ensures full { IsErrOf result GateFault.Full ↔ (self.old.variables ≡ most_variables) }
         ensures unchanged { OnErr result (self.new ≡ self.old) }
     {
@@ -70,6 +71,7 @@ impl Gates {
     pub fn unit(&mut self, a: i32) -> Result<(), AllocError>
         requires { IsLiteral self.old.variables a }
         ensures ok { OnOk result (self.new ≡ with_unit a self.old) }
+        ensures begins { Begins self.old self.new }
         ensures unchanged { OnErr result (self.new ≡ self.old) }
     {
         let a = self.literal(a);

@@ -7,6 +7,8 @@ mod certificates;
 #[cfg(test)]
 mod clauses;
 #[cfg(test)]
+mod gates;
+#[cfg(test)]
 mod logs;
 #[cfg(test)]
 mod solving;

@@ -1,13 +1,16 @@
 -- The tokens so far, and those of the bytes that are left.
 use Rattle.std.proofs.Common.{◌≡◌, ℕ, suc, ◌+◌, ◌-◌, ◌<◌, ◌≤◌, List, [], ◌∷◌, ◌++◌, take, drop}
 use Rattle.std.proofs.Common.{length, get_or, refl, sym, ap, subst, ◌∙◌, arith}
+use Rattle.std.proofs.Math.Seq.{take-add}
 use Rattle.std.proofs.lemmas.List.{drop-drop, drop_more, drop_all, length-drop}
+use Rattle.std.proofs.lemmas.List.Sums.{fold-append}
 use Rattle.sv_num.specs.declared.faults.Place.{Place}
 use Rattle.sv_num.specs.declared.faults.Fault.{Fault}
 use Rattle.sv_num.specs.declared.faults.Fault.TheVariants.{Rule, OutOfMemory}
 use Rattle.sv_num.specs.Faults.{Refuses}
 use Rattle.sv_token.specs.declared.fronts.Front.{Front as CodeFront}
-use Rattle.sv_token.specs.Views.{front_of, IsFaultOf}
+use Rattle.sv_token.specs.Faults.{IsFaultOf}
+use Rattle.sv_token.specs.Views.{front_of}
 use Rattle.sv_token.proofs.WithinLaws.{IsWithin, front_within}
 use Rattle.sv_token.specs.declared.tokens.Token.{Token}
 use Rattle.sv_token.specs.declared.tokens.TokenKind.{TokenKind}
@@ -16,7 +19,8 @@ use Rattle.sv_token.specs.Fronts.{gap, token, broken}
 use Rattle.sv_token.specs.Lexed.{Lexed, before, lexed_from, lexed}
 use Rattle.sv_token.specs.Lexemes.{Lexeme, Placed, lexeme_of, placed_of, placed_tokens, identifier}
 use Rattle.sv_token.specs.Spans.{IsAtSpan, AreInOrder}
-use Rattle.sv_token.specs.Tokens.{front_at, first_place, place_behind, AreTokensOf, BreaksLexis}
+use Rattle.sv_token.specs.Tokens.{front_at, first_place, next_place, place_behind, AreTokensOf}
+use Rattle.sv_token.specs.Tokens.{BreaksLexis}
 use Rattle.sv_token.proofs.Agreement.{gap_passed, token_passed, break_met, all_before}
 use Rattle.sv_token.proofs.Agreement.{all_before_tokens, all_before_refused, found_are_tokens}
 use Rattle.sv_token.proofs.Agreement.{found_is_broken}
@@ -55,6 +59,19 @@ rest_is : (bytes : List ℕ) (position n : ℕ) →
 rest_is bytes position n =
     let sum : (position + 1) + n ≡ position + n + 1 = omega arith in
     drop-drop n (position + 1) bytes ∙ ap (λ (k : ℕ). drop k bytes) sum
+
+-- the place behind so many bytes of the text and the bytes of a front
+pub place_later : (bytes : List ℕ) (position n : ℕ) (place : Place) →
+    place ≡ place_behind first_place (take position bytes) →
+    place_behind place (take (n + 1) (drop position bytes)) ≡
+    place_behind first_place (take (position + n + 1) bytes)
+place_later bytes position n place is =
+    let text = take (n + 1) (drop position bytes) in
+    let sum : position + (n + 1) ≡ position + n + 1 = omega arith in
+    ap (λ (p : Place). place_behind p text) is
+    ∙ sym (fold-append next_place first_place (take position bytes) text)
+    ∙ ap (place_behind first_place) (sym (take-add position (n + 1) bytes))
+    ∙ ap (λ (k : ℕ). place_behind first_place (take k bytes)) sum
 
 -- past a gap
 pub read_gap : (bytes : List ℕ) (ts : List Placed) (position : ℕ) (place : Place) (n : ℕ) →

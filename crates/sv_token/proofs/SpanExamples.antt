@@ -4,7 +4,7 @@ use Rattle.std.specs.Prelude.{codes}
 use Rattle.sv_token.specs.declared.signs.SignKind.TheVariants.{Operator}
 use Rattle.sv_token.specs.declared.tokens.Token.{Token}
 use Rattle.sv_token.specs.declared.tokens.TokenKind.TheVariants.{Name, Sign}
-use Rattle.sv_token.specs.Spans.{IsAtSpan, AreInOrder}
+use Rattle.sv_token.specs.Spans.{IsAtSpan, IsAtPlace, AreInOrder}
 use Rattle.sv_token.proofs.Computed.{computed}
 
 -- `ab` and `<=` in the text `ab <=`
@@ -26,6 +26,9 @@ name_at_its_span = (97, codes "b <=", refl, refl)
 pub sign_at_its_span : IsAtSpan (codes "ab <=") second_token
 unfolding computed
 sign_at_its_span = (60, codes "=", refl, refl)
+
+pub sign_at_its_place : IsAtPlace (codes "ab <=") second_token
+sign_at_its_place = refl
 
 pub one_behind_the_other : AreInOrder 0 (first_token ∷ second_token ∷ [])
 one_behind_the_other = (lit≤ tt, lit< tt, (lit≤ tt, lit< tt, tt))

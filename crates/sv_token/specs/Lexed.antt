@@ -1,4 +1,5 @@
--- The plain program that finds the tokens of a text, or the place where it breaks a rule on tokens.
+-- Private: how the code goes. The plain program that finds the tokens of a text, or the place where
+-- it breaks a rule on tokens; the meaning stands in Tokens.antt.
 use Rattle.std.specs.Prelude.{ℕ, zero, suc, List, [], ◌∷◌}
 use Rattle.sv_num.specs.declared.faults.Place.{Place}
 use Rattle.sv_token.specs.Fronts.{Front, gap, token, broken}

@@ -7,5 +7,6 @@ pub mod Numerals
 pub mod Signs
 pub mod Tokens
 pub mod Spans
+pub mod Faults
 pub mod Lexed
 pub mod Views

@@ -1,9 +1,7 @@
--- What the fronts of the code say.
+-- Private: how the code goes. What its fronts say; the meaning stands in `Front` of Fronts.antt.
 use Rattle.std.specs.Prelude.{◌≡◌, ℕ, ◌+◌, ◌-◌, not, ◌||◌, nat_le, if◌then◌else◌, List, [], ◌∷◌}
 use Rattle.std.specs.Prelude.{length, drop, Option, Some, None, option_map, codes}
 use Rattle.std.specs.Option.{option_map_or}
-use Rattle.sv_num.specs.declared.faults.Fault.{Fault}
-use Rattle.sv_num.specs.declared.faults.Fault.TheVariants.{Rule, OutOfMemory}
 use Rattle.sv_token.specs.declared.fronts.Form.{Form}
 use Rattle.sv_token.specs.declared.fronts.Form.TheVariants.{SystemName, Directive, EscapedName}
 use Rattle.sv_token.specs.declared.fronts.Form.TheVariants.{Text, Real, FourState, CaseEquality}
@@ -20,7 +18,6 @@ use Rattle.sv_token.specs.declared.numerals.Head.{Head as CodeHead}
 use Rattle.sv_token.specs.Lexemes.{lexeme_of, sign}
 use Rattle.sv_token.specs.Numerals.{Head, value_in, are_digits_in, value_bound}
 use Rattle.sv_token.specs.Signs.{left_out_signs, sign_of}
-use Rattle.sv_token.specs.Tokens.{BreaksLexis}
 use Rattle.sv_token.specs.Words.{word_of}
 
 -- the word for a form that is left out
@@ -76,9 +73,3 @@ abbrev pub spelled : List ℕ → Option Front
 spelled text =
     let known = option_map (λ s. token (sign s) (length text - 1)) (sign_of text) in
     option_map_or (λ form. Some (unsupported form)) (entry left_out_signs text) known
-
--- a text that breaks a rule is refused for the first that it breaks, where it breaks it. Memory may
--- run out at any text
-abbrev pub IsFaultOf : List ℕ → Fault → Type 0
-IsFaultOf bytes (Rule refusal) = BreaksLexis refusal.number refusal.names.items refusal.place bytes
-IsFaultOf bytes OutOfMemory = Unit {0}

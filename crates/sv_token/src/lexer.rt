@@ -3,8 +3,9 @@ ghost use Rattle.std.specs.Prelude.{◌≡◌, ◌+◌, ◌-◌, ◌^◌, ◌<�
 ghost use Rattle.std.specs.Prelude.{All, IfOk, IfErr};
 ghost use Rattle.sv_token.specs.Tokens.{AreTokensOf, front_at, next_place, place_behind};
 ghost use Rattle.sv_token.specs.Lexemes.{placed_tokens};
-ghost use Rattle.sv_token.specs.Spans.{IsAtSpan, AreInOrder};
-ghost use Rattle.sv_token.specs.Views.{front_of, IsFaultOf};
+ghost use Rattle.sv_token.specs.Spans.{IsAtSpan, IsAtPlace, AreInOrder};
+ghost use Rattle.sv_token.specs.Faults.{IsFaultOf};
+ghost use Rattle.sv_token.specs.Views.{front_of};
 
 use crate::bytes::{begins_name, is_blank, is_digit, rest_of_line};
 use crate::fronts::{Form, Front};
@@ -107,6 +108,7 @@ pub fn lex(alloc: Global, bytes: &[u8]) -> Result<Vec<Token>, Fault>
     ensures tokens { IfOk result (λ tokens.
         AreTokensOf bytes.now (placed_tokens bytes.now tokens.items)) }
     ensures spans { IfOk result (λ tokens. All (IsAtSpan bytes.now) tokens.items) }
+    ensures places { IfOk result (λ tokens. All (IsAtPlace bytes.now) tokens.items) }
     ensures order { IfOk result (λ tokens. AreInOrder 0 tokens.items) }
     ensures refusal { IfErr result (λ fault. IsFaultOf bytes.now fault) }
 {

@@ -2,11 +2,11 @@ use Rattle.std.proofs.Common.{◌+◌, arith}
 use Rattle.std.proofs.lemmas.List.{take_rest}
 use Rattle.std.proofs.lemmas.List.Elements.{All-push}
 use Rattle.sv_token.specs.Lexemes.{lexeme_of, placed_tokens}
-use Rattle.sv_token.specs.Spans.{IsAtSpan}
+use Rattle.sv_token.specs.Spans.{IsAtSpan, IsAtPlace}
 use Rattle.sv_token.specs.Views.{rule_number, rule_names}
 use Rattle.sv_token.proofs.LexLaws.{front_here, gap_fits, token_fits, token_here, read_gap}
 use Rattle.sv_token.proofs.LexLaws.{read_token, read_break, read_all, at_span, placed_push}
-use Rattle.sv_token.proofs.LexLaws.{order_push, order_later, in_order, fault_is}
+use Rattle.sv_token.proofs.LexLaws.{order_push, order_later, in_order, fault_is, place_later}
 use Rattle.sv_token.proofs.lexer.lex.Goals as goal
 
 pub behind-here-requires-clause-within : goal.behind-here-requires-clause-within
@@ -110,6 +110,11 @@ loop-here-preserved-in-Gap c =
           );
       read = rw (c.behind-here.ensures.position, c.behind-here.ensures.place) next;
       spans = c.loop-here.invariant.spans;
+      place =
+          rw (c.behind-here.ensures.position, c.behind-here.ensures.place)
+          (place_later c.args.bytes.now c.loop-here.here.position c.in-Gap.more
+          c.loop-here.here.place c.loop-here.invariant.place);
+      places = c.loop-here.invariant.places;
       order =
           order_later 0 c.loop-here.tokens.items c.loop-here.here.position
           c.behind-here.result.position (omega (arith, c.behind-here.ensures.position))
@@ -162,6 +167,14 @@ loop-here-preserved c =
           rw (c.in_ok-push-in-Token.ensures.items, c.behind-next.ensures.position)
           (All-push (IsAtSpan c.args.bytes.now) c.loop-here.tokens.items _
           c.loop-here.invariant.spans spanned);
+      place =
+          rw (c.behind-next.ensures.position, c.behind-next.ensures.place)
+          (place_later c.args.bytes.now c.loop-here.here.position c.in-Token.more
+          c.loop-here.here.place c.loop-here.invariant.place);
+      places =
+          rw (c.in_ok-push-in-Token.ensures.items, c.behind-next.ensures.position)
+          (All-push (IsAtPlace c.args.bytes.now) c.loop-here.tokens.items _
+          c.loop-here.invariant.places c.loop-here.invariant.place);
       order =
           rw c.in_ok-push-in-Token.ensures.items
           (order_push 0 c.loop-here.tokens.items c.loop-here.here.position _ (omega arith)

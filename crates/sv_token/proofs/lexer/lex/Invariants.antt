@@ -1,7 +1,8 @@
-use Rattle.std.proofs.Common.{◌+◌, ◌-◌, ◌≤◌, length}
+use Rattle.std.proofs.Common.{◌≡◌, ◌+◌, ◌-◌, ◌≤◌, length, take}
 use Rattle.std.specs.Prelude.{All}
 use Rattle.sv_token.specs.Lexemes.{placed_tokens}
-use Rattle.sv_token.specs.Spans.{IsAtSpan}
+use Rattle.sv_token.specs.Spans.{IsAtSpan, IsAtPlace}
+use Rattle.sv_token.specs.Tokens.{first_place, place_behind}
 use Rattle.sv_token.proofs.LexLaws.{IsRead, AreInOrderUpTo}
 use Rattle.sv_token.proofs.lexer.lex.Given as goal
 
@@ -13,6 +14,8 @@ invariant-loop-here l =
       column : l.here.place.column ≤ l.here.position + 1;
       read : IsRead l.bytes (placed_tokens l.bytes l.tokens.items) l.here.position l.here.place;
       spans : All (IsAtSpan l.bytes) l.tokens.items;
+      place : l.here.place ≡ place_behind first_place (take l.here.position l.bytes);
+      places : All (IsAtPlace l.bytes) l.tokens.items;
       order : AreInOrderUpTo 0 l.tokens.items l.here.position;
     }
 

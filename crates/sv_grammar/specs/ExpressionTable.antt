@@ -1,4 +1,4 @@
--- What a token does to each symbol of an expression.
+-- Private: how the code goes. What a token does to each symbol of an expression.
 use Rattle.std.specs.Prelude.{ℕ, ◌+◌, Bool, true, false, List, [], ◌∷◌, ◌++◌, Option, Some, None}
 use Rattle.sv_num.specs.declared.operators.UnOp.{UnOp}
 use Rattle.sv_num.specs.declared.operators.BinOp.{BinOp}

@@ -1,4 +1,5 @@
--- A run over tokens: what is still to come, token by token, and where no text goes on.
+-- Private: how the code goes. A run over tokens: what is still to come, token by token, and where
+-- no text goes on.
 use Rattle.std.specs.Prelude.{ℕ, ◌+◌, ◌-◌, max, Bool, true, false, ◌&&◌, List, [], ◌∷◌, ◌++◌, map}
 use Rattle.std.specs.Prelude.{length}
 use Rattle.sv_token.specs.Lexemes.{Lexeme, Placed}

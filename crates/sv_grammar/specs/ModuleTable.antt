@@ -1,4 +1,5 @@
--- What a token does to each symbol of a module, a lattice or a label map.
+-- Private: how the code goes. What a token does to each symbol of a module, a lattice or a label
+-- map.
 use Rattle.std.specs.Prelude.{ℕ, Bool, true, false, List, [], ◌∷◌}
 use Rattle.sv_token.specs.declared.keywords.WordKind.TheVariants as words
 use Rattle.sv_token.specs.declared.signs.SignKind.TheVariants as signs

@@ -1,4 +1,4 @@
--- What a token does to each symbol of a statement.
+-- Private: how the code goes. What a token does to each symbol of a statement.
 use Rattle.std.specs.Prelude.{ℕ, suc, zero, ◌+◌, Bool, true, false, List, [], ◌∷◌, Option, Some}
 use Rattle.sv_num.specs.declared.operators.BinOp.{BinOp}
 use Rattle.sv_num.specs.declared.operators.BinOp.TheVariants.{Le, Mul}

@@ -1,4 +1,5 @@
--- What may still have to come at a place of a text, and what the next token does to it.
+-- Private: how the code goes. What may still have to come at a place of a text, and what the next
+-- token does to it.
 use Rattle.std.specs.Prelude.{ℕ, Bool, true, false, List, ◌++◌}
 use Rattle.sv_token.specs.declared.signs.SignKind.{SignKind}
 

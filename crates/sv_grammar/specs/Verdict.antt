@@ -1,4 +1,5 @@
--- The number and the names of the rule that tokens break where a run fails.
+-- Private: how the code goes. The number and the names of the rule that tokens break where a run
+-- fails.
 use Rattle.std.specs.Prelude.{ℕ, nat_eq, Bool, true, false, ◌&&◌, List, [], ◌∷◌, Option, Some, None}
 use Rattle.std.specs.Prelude.{codes}
 use Rattle.sv_token.specs.declared.keywords.WordKind.{WordKind}

@@ -22,7 +22,8 @@ use Rattle.sv_grammar.proofs.Breaks.{failure_breaks}
 use Rattle.sv_read.specs.declared.stop.Breach.{Breach}
 use Rattle.sv_read.specs.declared.stop.Stop.{Stop}
 use Rattle.sv_read.specs.declared.stop.Stop.TheVariants as stops
-use Rattle.sv_read.specs.Expectations.{failure_of, HaltsAs, RefusesAt, IsRefusalOf}
+use Rattle.sv_read.specs.Expectations.{failure_of, HaltsAs, RefusesAt}
+use Rattle.sv_read.specs.Faults.{IsRefusalOf}
 use Rattle.sv_parse.specs.ReadingTexts.{Fails, FailsAs}
 
 -- ---- runs that fail

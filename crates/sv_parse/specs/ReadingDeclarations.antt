@@ -1,4 +1,5 @@
--- What still has to come, symbol by symbol, behind parts of declarations.
+-- Private: how the code goes. What still has to come, symbol by symbol, behind parts of
+-- declarations.
 use Rattle.std.specs.Prelude.{List, [], ◌∷◌, ◌++◌}
 use Rattle.sv_token.specs.declared.signs.SignKind.TheVariants as signs
 use Rattle.sv_grammar.specs.Symbols.{Outer, punctuation, plain_name, perhaps_signed, perhaps_range}

@@ -1,4 +1,5 @@
--- What the private functions say of what they read of items, modules, lattices and label maps.
+-- Private: how the code goes. What the private functions say of what they read of items, modules,
+-- lattices and label maps.
 use Rattle.std.specs.Prelude.{◌≡◌, ℕ, Bool, List, [], ◌++◌, flat_map, Option, Some, None}
 use Rattle.sv_num.specs.declared.faults.Place.{Place}
 use Rattle.sv_num.specs.declared.operators.BinOp.TheVariants.{Mul}

@@ -1,5 +1,5 @@
--- What the private functions say of the machine where they read whole texts and the ends of label
--- maps.
+-- Private: how the code goes. What the private functions say of the machine where they read whole
+-- texts and the ends of label maps.
 use Rattle.std.specs.Prelude.{◌≡◌, ◌⊎◌, ℕ, List, length}
 use Rattle.sv_token.specs.declared.keywords.WordKind.TheVariants as words
 use Rattle.sv_token.specs.Lexemes.{Placed}

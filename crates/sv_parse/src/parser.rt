@@ -6,7 +6,7 @@ ghost use Rattle.sv_ast.specs.Tree.{TextTree};
 ghost use Rattle.sv_ast.specs.Views.{text_tree};
 ghost use Rattle.sv_ast.specs.GrammarRules.{TokensMean};
 ghost use Rattle.sv_ast.specs.GrammarMeaning.{end_place};
-ghost use Rattle.sv_read.specs.Expectations.{IsRefusalOf};
+ghost use Rattle.sv_read.specs.Faults.{IsRefusalOf};
 
 use crate::modules::text;
 use std::alloc::Global;

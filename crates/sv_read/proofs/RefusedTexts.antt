@@ -16,7 +16,8 @@ use Rattle.sv_read.specs.declared.stop.Breach.{Breach}
 use Rattle.sv_grammar.specs.Machine.{text_state}
 use Rattle.sv_grammar.specs.Reads.{Halts}
 use Rattle.sv_grammar.specs.Verdict.{rule_number, rule_names, rule_place}
-use Rattle.sv_read.specs.Expectations.{failure_of, RefusesAt, IsRefusalOf}
+use Rattle.sv_read.specs.Expectations.{failure_of, RefusesAt}
+use Rattle.sv_read.specs.Faults.{IsRefusalOf}
 use Rattle.sv_grammar.proofs.Breaks.{halting_breaks}
 
 refusal_of : (fault : Fault) (number : ℕ) (place : Place) (names : List (List ℕ)) (stop : Place)

@@ -1,13 +1,12 @@
--- What the code says of the end of a run, as the definitions say it.
+-- Private: how the code goes. What the code says of the end of a run, as the definitions say it.
 use Rattle.std.specs.Prelude.{◌≡◌, ℕ, List, length, Option, option_map}
 use Rattle.std.specs.Borrow.{Bor}
 use Rattle.sv_num.specs.declared.faults.Place.{Place}
 use Rattle.sv_num.specs.declared.faults.Fault.{Fault}
-use Rattle.sv_num.specs.declared.faults.Fault.TheVariants.{Rule, OutOfMemory}
 use Rattle.sv_num.specs.Faults.{Refuses}
 use Rattle.sv_token.specs.declared.tokens.Token.{Token}
 use Rattle.sv_token.specs.Lexemes.{Placed}
-use Rattle.sv_ast.specs.GrammarRules.{Part, header, body, outside, BreaksGrammar}
+use Rattle.sv_ast.specs.GrammarRules.{Part, header, body, outside}
 use Rattle.sv_read.specs.declared.forms.Part.{Part as CodePart}
 use Rattle.sv_read.specs.declared.forms.Part.TheVariants as code_part
 use Rattle.sv_read.specs.declared.stop.Expected.{Expected as CodeExpected}
@@ -67,9 +66,3 @@ word_bytes w = option_map (λ x. x.now) w
 abbrev pub RefusesAt : Fault → Failure → (stop : Place) → (before rest : List Placed) → Type 0
 RefusesAt fault f stop before rest =
     Refuses fault (rule_number f before rest) (rule_place stop rest) (rule_names f before rest)
-
--- the fault refuses a text of the tokens that ends at the place `stop` for the rule of the grammar
--- that they break first. Memory may run out at any text
-abbrev pub IsRefusalOf : (stop : Place) → List Placed → Fault → Type 0
-IsRefusalOf stop tokens (Rule r) = BreaksGrammar r.number r.names.items r.place stop tokens
-IsRefusalOf stop tokens OutOfMemory = Unit {0}

@@ -1,5 +1,5 @@
--- What the private functions say of what they read: from the tokens that they are handed to those
--- that they give back stands a form of the grammar.
+-- Private: how the code goes. What the private functions say of what they read: from the tokens
+-- that they are handed to those that they give back stands a form of the grammar.
 use Rattle.std.specs.Prelude.{◌≡◌, ℕ, nat_le, IsTrue, List, ◌∷◌, Option, Some, None}
 use Rattle.sv_token.specs.declared.signs.SignKind.TheVariants as signs
 use Rattle.sv_token.specs.Lexemes.{Placed}

@@ -9,8 +9,8 @@
 //! (`is`) or that it does not (`none`). The crates above read statements and modules by these
 //! functions.
 //!
-//! `specs/Reading.antt` and `Expectations.antt` are private: they say how reading goes; what it
-//! means stands in `sv_ast`.
+//! `specs/Faults.antt` says what the fault of tokens says. `Reading.antt` and `Expectations.antt`
+//! are private: they say how reading goes; what it means stands in `sv_ast`.
 #![tactic(auto)]
 
 pub mod cursor;

@@ -1,4 +1,5 @@
--- What is still to come of an arm of a case, as the table of statements has it.
+-- Private: how the code goes. What is still to come of an arm of a case, as the table of statements
+-- has it.
 use Rattle.std.specs.Prelude.{ℕ, ◌+◌, ◌<◌, Bool, List, [], ◌∷◌}
 use Rattle.sv_token.specs.declared.keywords.WordKind.TheVariants as words
 use Rattle.sv_token.specs.Lexemes.{Placed}

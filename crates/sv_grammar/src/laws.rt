@@ -10,13 +10,19 @@ ghost use Rattle.sv_ast.specs.GrammarMeaning.{Means, BreaksSyntax};
 ghost use Rattle.sv_ast.specs.GrammarRules.{TokensMean, BreaksGrammar};
 
 /// Tokens mean a text, or else they break a rule of 201 to 204 first at some place (this project's
-/// profile, over the grammar of IEEE 1364-2005). With the laws of `sv_ast` on what breaks no rule
-/// and is broken once, it is the one or the other, and one rule.
+/// profile, over the grammar of IEEE 1364-2005).
 pub fn tokens_mean_a_text_or_break_a_rule()
     ensures { (tokens : List Placed) (stop : Place) →
         ((text : TextTree) × TokensMean tokens text)
         ⊎ ((number : ℕ) × (names : List (List ℕ)) × (place : Place)
         × BreaksGrammar number names place stop tokens) }
+{}
+
+/// Tokens that mean a text break no rule of 201 to 204.
+pub fn tokens_that_mean_a_text_break_no_rule()
+    ensures { (tokens : List Placed) (text : TextTree) → TokensMean tokens text →
+        (number : ℕ) (names : List (List ℕ)) (place stop : Place) →
+        BreaksGrammar number names place stop tokens → ⊥ }
 {}
 
 /// Tokens break one rule of 201 to 204 first, with one list of names, at one place.
@@ -28,8 +34,9 @@ pub fn tokens_break_one_rule()
         (number ≡ other) × (names ≡ others) × (place ≡ elsewhere) }
 {}
 
-/// Bytes mean a text, or else they break a rule on tokens or on the grammar, and one rule first,
-/// with one list of names, at one place.
+/// Bytes mean a text, and one alone, or else they break a rule on tokens or on the grammar, and one
+/// rule first, with one list of names, at one place. Memories, invariants and releases are parts of
+/// the text here.
 pub fn bytes_mean_a_text_or_break_one_rule()
     ensures means_or_breaks { (bytes : List ℕ) →
         ((text : TextTree) × Means bytes text)
@@ -38,6 +45,8 @@ pub fn bytes_mean_a_text_or_break_one_rule()
     ensures never_both { (bytes : List ℕ) (text : TextTree) → Means bytes text →
         (number : ℕ) (names : List (List ℕ)) (place : Place) →
         BreaksSyntax number names place bytes → ⊥ }
+    ensures one_text { (bytes : List ℕ) (one other : TextTree) →
+        Means bytes one → Means bytes other → one ≡ other }
     ensures one_rule { (bytes : List ℕ) (number other : ℕ) (names others : List (List ℕ))
         (place elsewhere : Place) →
         BreaksSyntax number names place bytes → BreaksSyntax other others elsewhere bytes →

@@ -16,5 +16,6 @@ mod laws;
 
 pub use laws::{
     bytes_mean_a_text_or_break_one_rule, tokens_break_one_rule, tokens_mean_a_text_or_break_a_rule,
-    tokens_mean_at_most_one_text, what_tokens_mean_is_shaped,
+    tokens_mean_at_most_one_text, tokens_that_mean_a_text_break_no_rule,
+    what_tokens_mean_is_shaped,
 };

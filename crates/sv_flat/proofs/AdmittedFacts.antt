@@ -327,7 +327,7 @@ module _ (design : FlatDesign) (is_sound : IsTrue (sound design))
 
   -- ---- clocks
 
-  proper : (s : ℕ) → IsTrue (is_clock design s) → IsTrue (is_proper_clock design s)
+  pub proper : (s : ℕ) → IsTrue (is_clock design s) → IsTrue (is_proper_clock design s)
   proper s clock = negated_false (is_proper_clock design s)
       (none_pass (λ z. breach 602 (declared_at design z) z) (λ z.
       not (is_proper_clock design z)) (clocks design) no_clock_faults s

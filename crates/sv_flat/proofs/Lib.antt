@@ -24,3 +24,4 @@ pub mod RunsFit
 pub mod SameUpdates
 pub mod SelectorBounds
 pub mod SelectorFacts
+pub mod TopClocks

@@ -1,7 +1,7 @@
 -- The points, maps and selectors of a sound label are there.
-use Rattle.std.proofs.Common.{◌≡◌, ℕ, zero, suc, ◌<◌, Bool, true, false, ◌&&◌, ◌==◌, nat_lt}
+use Rattle.std.proofs.Common.{◌≡◌, ℕ, zero, suc, ◌<◌, Bool, ◌&&◌, ◌==◌, nat_lt}
 use Rattle.std.proofs.Common.{List, [], ◌∷◌, length, map, get_or, Option, Some, None, All, ap}
-use Rattle.std.proofs.Common.{option_to_list, ◌++◌, IfSome, cond, not, filter}
+use Rattle.std.proofs.Common.{option_to_list, IfSome}
 use Rattle.std.proofs.Common.{refl, arith, ltb-true}
 use Rattle.std.specs.Prelude.{IsTrue}
 use Rattle.std.specs.List.{list_all}
@@ -18,7 +18,7 @@ use Rattle.sv_flat.specs.Soundness.{label_sound, signal_sound, map_sound, proces
 use Rattle.sv_flat.specs.Soundness.{invariant_sound}
 use Rattle.sv_flat.specs.Views.{signal_form}
 use Rattle.sv_flat.proofs.Depths.{first_of, second_of, from_all}
-use Rattle.sv_flat.specs.Selectors.{selectors_of, flows_to_rows}
+use Rattle.sv_flat.specs.Selectors.{selectors_of}
 use Rattle.sv_flat.proofs.Members.{contained_all}
 
 -- an element by its place does not depend on what else is given

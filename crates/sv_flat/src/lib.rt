@@ -31,7 +31,7 @@ mod values;
 
 pub use designs::{Flat, ProcKind, Process};
 pub use expressions::{FExpr, FNode};
-pub use laws::admitted_designs_are_scheduled;
+pub use laws::{admitted_designs_are_scheduled, clocks_lead_up_to_a_top_clock};
 pub use runs::{run_body, update_body};
 pub use signals::{SigId, SigKind, Signal};
 pub use soundness::sound;

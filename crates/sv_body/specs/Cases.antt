@@ -1,4 +1,5 @@
--- What the code holds of the items of a case before their turn comes (IEEE 1364-2005, clause 9.5).
+-- Private: how the code goes. What the code holds of the items of a case before their turn comes
+-- (IEEE 1364-2005, clause 9.5).
 use Rattle.std.specs.Prelude.{◌≡◌, ℕ, ◌^◌, ◌<◌, Bool, ◌==◌, ◌&&◌, true, false, max, List, [], ◌∷◌}
 use Rattle.std.specs.Prelude.{map, length, slice_index_or, MatchOption, Result, Ok, Err}
 use Rattle.std.specs.Option.{option_map_or}

@@ -1,5 +1,5 @@
--- The chain of a case as the code builds it, from the last arm to the first (IEEE 1364-2005, clause
--- 9.5).
+-- Private: how the code goes. The chain of a case as the code builds it, from the last arm to the
+-- first (IEEE 1364-2005, clause 9.5).
 use Rattle.std.specs.Prelude.{ℕ, Bool, false, not, List, [], ◌∷◌, map, Option, Some, None}
 use Rattle.sv_num.specs.declared.operators.BinOp.TheVariants.{LogicOr}
 use Rattle.sv_ast.specs.Instances.{is_empty}

@@ -1,5 +1,5 @@
--- What the code holds of an assignment's targets on the way to their pieces (IEEE 1364-2005, clause
--- 9.2).
+-- Private: how the code goes. What the code holds of an assignment's targets on the way to their
+-- pieces (IEEE 1364-2005, clause 9.2).
 use Rattle.std.specs.Prelude.{◌≡◌, ℕ, ◌+◌, ◌≤◌, ◌<◌, List, [], ◌∷◌, map, Ok}
 use Rattle.sv_num.specs.Parts.{span_of}
 use Rattle.sv_ast.specs.Scopes.{width_of}

@@ -1,4 +1,4 @@
--- What ranges give.
+-- Private: how the code goes. What ranges give.
 use Rattle.std.specs.Prelude.{◌≡◌, ℕ, ◌+◌, ◌≤◌, Bool, true, Option, Some, None, option_map}
 use Rattle.std.specs.Prelude.{unwrap_or, ℤ, Ok}
 use Rattle.sv_num.specs.Parts.{extended}

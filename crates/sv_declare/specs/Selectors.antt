@@ -1,4 +1,4 @@
--- Selectors of labels, and the maps that they select rows of.
+-- Private: how the code goes. Selectors of labels, and the maps that they select rows of.
 use Rattle.std.specs.Prelude.{◌≡◌, ℕ, List, Option, Some, None, position}
 use Rattle.std.specs.Str.{bytes_eq}
 use Rattle.sv_lattice.specs.Labels.{map_of}

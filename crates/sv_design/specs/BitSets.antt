@@ -1,4 +1,4 @@
--- Sets of bits of signals, as numbers by signal.
+-- Private: how the code goes. Sets of bits of signals, as numbers by signal.
 use Rattle.std.specs.Prelude.{◌≡◌, ◌<◌, ◌≤◌, ℕ, Bool, ◌==◌, ◌&&◌, not, nat_le, List, map, unwrap_or}
 use Rattle.std.specs.Prelude.{All, IsTrue, IsFalse}
 use Rattle.std.specs.List.{list_any, list_all}

@@ -1,4 +1,4 @@
--- What rule 602 asks of each signal, as tables.
+-- Private: how the code goes. What rule 602 asks of each signal, as tables.
 use Rattle.std.specs.Prelude.{ℕ, Bool, ◌==◌, not, length}
 use Rattle.std.specs.List.{list_any}
 use Rattle.sv_flat.specs.Clocks.{links_in, agrees_with_earlier, is_clock_alone}

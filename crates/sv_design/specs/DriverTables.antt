@@ -1,4 +1,4 @@
--- The first two processes that assign each signal.
+-- Private: how the code goes. The first two processes that assign each signal.
 use Rattle.std.specs.Prelude.{◌≡◌, ℕ, ◌+◌, ◌<◌, Bool, List, [], ◌∷◌, ◌++◌, length, map, slice_get}
 use Rattle.std.specs.Prelude.{slice_index_or, Option, Some, None, ◌==◌, ◌||◌, All, IsTrue, not}
 use Rattle.std.specs.Prelude.{filter, if◌then◌else◌}

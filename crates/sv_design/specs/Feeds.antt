@@ -1,4 +1,4 @@
--- What is read for what in a statement.
+-- Private: how the code goes. What is read for what in a statement.
 use Rattle.std.specs.Prelude.{List, ℕ, Bool, false, ◌&&◌, ◌||◌}
 use Rattle.std.specs.List.{list_any}
 use Rattle.sv_flat.specs.Assigned.{assigns}

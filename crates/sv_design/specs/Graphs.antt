@@ -1,4 +1,4 @@
--- Graphs over signals, by number.
+-- Private: how the code goes. Graphs over signals, by number.
 use Rattle.std.specs.Prelude.{◌≡◌, ◌<◌, ℕ, Bool, ◌==◌, ◌||◌, ◌&&◌, List, [], ◌∷◌, ◌++◌, length, map}
 use Rattle.std.specs.Prelude.{filter, slice_index_or, slice_get, Option, Some, None, false, not}
 use Rattle.std.specs.Prelude.{◌-◌, IsTrue, if◌then◌else◌}

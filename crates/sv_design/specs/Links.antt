@@ -1,4 +1,4 @@
--- Links of ports by whole names.
+-- Private: how the code goes. Links of ports by whole names.
 use Rattle.std.specs.Prelude.{◌<◌, ℕ, Bool, false, ◌==◌, ◌&&◌, List, Option, Some, None, option_map}
 use Rattle.std.specs.List.{filter_map}
 use Rattle.sv_flat.specs.Clocks.{link_in, link_out}

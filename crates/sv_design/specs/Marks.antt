@@ -1,4 +1,4 @@
--- Tables that say of each signal whether it is marked.
+-- Private: how the code goes. Tables that say of each signal whether it is marked.
 use Rattle.std.specs.Prelude.{◌≡◌, ◌<◌, ℕ, Bool, false, ◌||◌, List, length, slice_index_or}
 use Rattle.sv_flat.specs.Design.{SignalForm, FlatStatement, nothing, after, assign, branch}
 use Rattle.sv_flat.specs.Design.{ProcessKind, clocked}

@@ -1,4 +1,5 @@
--- Orders of combinational signals, and the tables that they are found with.
+-- Private: how the code goes. Orders of combinational signals, and the tables that they are found
+-- with.
 use Rattle.std.specs.Prelude.{◌≡◌, ◌<◌, ◌^◌, ◌&&◌, ℕ, List, [], Contains, IsTrue, length, map}
 use Rattle.sv_flat.specs.Design.{FlatDesign}
 use Rattle.sv_flat.specs.Processes.{signal_numbers}

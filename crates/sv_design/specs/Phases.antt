@@ -1,4 +1,4 @@
--- Rules 605 and 606 in parts.
+-- Private: how the code goes. Rules 605 and 606 in parts.
 use Rattle.std.specs.Prelude.{◌≡◌, ℕ, Bool, true, false, ◌&&◌, List, map, filter, flat_map, Option}
 use Rattle.sv_flat.specs.Design.{SignalForm, FlatStatement, ProcessForm, FlatDesign}
 use Rattle.sv_flat.specs.Assigned.{assigns}

@@ -1,4 +1,5 @@
--- Signals in an order, and how many of the reads of each are still open.
+-- Private: how the code goes. Signals in an order, and how many of the reads of each are still
+-- open.
 use Rattle.std.specs.Prelude.{◌≡◌, ◌<◌, ◌-◌, ◌&&◌, ◌==◌, ℕ, List, [], ◌∷◌, ◌++◌, length, filter}
 use Rattle.std.specs.Prelude.{slice_index, slice_set, if◌then◌else◌}
 use Rattle.std.specs.List.{range_with_len}

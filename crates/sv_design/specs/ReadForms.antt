@@ -1,4 +1,4 @@
--- Names in expressions, in their plain forms.
+-- Private: how the code goes. Names in expressions, in their plain forms.
 use Rattle.std.specs.Prelude.{◌≡◌, ℕ, List, map, length, slice_index}
 use Rattle.sv_flat.specs.Readings.{ReadForm}
 use Rattle.sv_design.specs.declared.names.Read.{Read}

@@ -1,4 +1,4 @@
--- The breaches of a design, and the names in a refusal, part by part.
+-- Private: how the code goes. The breaches of a design, and the names in a refusal, part by part.
 use Rattle.std.specs.Prelude.{ℕ, List, ◌++◌, map}
 use Rattle.sv_num.specs.declared.faults.Place.{Place}
 use Rattle.sv_flat.specs.declared.signals.SigId.{SigId}

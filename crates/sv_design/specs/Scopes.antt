@@ -1,4 +1,4 @@
--- Bits of a block and of the blocks around it.
+-- Private: how the code goes. Bits of a block and of the blocks around it.
 use Rattle.std.specs.Prelude.{false, ◌||◌}
 use Rattle.sv_flat.specs.Readings.{BitSet}
 use Rattle.sv_design.specs.declared.scopes.Scope.{Scope, fold-Scope}

@@ -1,4 +1,4 @@
--- Searches through graphs.
+-- Private: how the code goes. Searches through graphs.
 use Rattle.std.specs.Prelude.{◌≡◌, ◌<◌, ◌⊎◌, ◌+◌, ℕ, Bool, ◌&&◌, ◌||◌, nat_lt, nat_le, List, []}
 use Rattle.std.specs.Prelude.{◌∷◌, ◌++◌, length, map, slice_set, slice_index_or, Option, Some, None}
 use Rattle.std.specs.Prelude.{is_some, is_none, count_by, IsTrue, Contains, if◌then◌else◌}

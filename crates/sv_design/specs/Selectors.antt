@@ -1,4 +1,4 @@
--- The selectors of labels, and the ports of links.
+-- Private: how the code goes. The selectors of labels, and the ports of links.
 use Rattle.std.specs.Prelude.{ℕ, ◌<◌, Bool, false, ◌==◌, Option, Some, None}
 use Rattle.sv_lattice.specs.declared.labels.Label.{Label}
 use Rattle.sv_lattice.specs.declared.labels.Label.TheVariants.{Point as Declared, Table}

@@ -1,4 +1,4 @@
--- The inputs of the top module that clocks lead up to.
+-- Private: how the code goes. The inputs of the top module that clocks lead up to.
 use Rattle.std.specs.Prelude.{◌≡◌, ◌<◌, ℕ, Bool, ◌==◌, ◌&&◌, ◌||◌, not, List, length, Option, Some}
 use Rattle.std.specs.Prelude.{None, false, IsTrue, IsFalse, Contains}
 use Rattle.std.specs.List.{list_any, range_with_len}

@@ -1,4 +1,4 @@
--- Rule 601 in parts.
+-- Private: how the code goes. Rule 601 in parts.
 use Rattle.std.specs.Prelude.{List, map, filter}
 use Rattle.sv_flat.specs.Design.{FlatStatement, ProcessKind, FlatDesign}
 use Rattle.sv_flat.specs.Breaches.{Breach}

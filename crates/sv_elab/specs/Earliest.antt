@@ -1,6 +1,6 @@
--- How the code finds the broken question that stands first in the text, without sorting the
--- questions. What it is to find is said by `in_textual_order` of the walk (`sv_walk`,
--- `specs/Lattices.antt`).
+-- Private: how the code goes. How the code finds the broken question that stands first in the text,
+-- without sorting the questions. What it is to find is said by `in_textual_order` of the walk
+-- (`sv_walk`, `specs/Lattices.antt`).
 use Rattle.std.specs.Prelude.{ℕ, map, List, [], ◌∷◌, ◌++◌, Option, Some, None, option_map}
 use Rattle.std.specs.Prelude.{if◌then◌else◌}
 use Rattle.sv_num.specs.declared.faults.Place.{Place}

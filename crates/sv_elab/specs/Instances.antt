@@ -1,4 +1,4 @@
--- The parts of an instance's walk, as the code takes them.
+-- Private: how the code goes. The parts of an instance's walk, as the code takes them.
 use Rattle.std.specs.Prelude.{◌≡◌, ℕ, ◌+◌, ◌≤◌, ◌<◌, ◌^◌, not, nat_lt, List, [], ◌++◌, length}
 use Rattle.std.specs.Prelude.{map, Option, Some, None, Result, Ok, IsTrue}
 use Rattle.std.specs.List.{list_any, list_all, position_from}

@@ -1,4 +1,4 @@
--- The parts of a label map's walk, and the table that its rows fill.
+-- Private: how the code goes. The parts of a label map's walk, and the table that its rows fill.
 use Rattle.std.specs.Prelude.{◌≡◌, ℕ, ◌+◌, ◌^◌, ◌<◌, ◌≤◌, Bool, true, ◌&&◌, ◌||◌, nat_le, List, []}
 use Rattle.std.specs.Prelude.{map, Option, Some, None, option_map, unwrap_or, is_some, length}
 use Rattle.std.specs.Prelude.{slice_index_or, pos, Ok}

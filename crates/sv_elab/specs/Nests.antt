@@ -1,4 +1,4 @@
--- The instances that one stands in, as the code holds them.
+-- Private: how the code goes. The instances that one stands in, as the code holds them.
 use Rattle.std.specs.Prelude.{ℕ, List, [], ◌∷◌, ◌++◌}
 use Rattle.sv_walk.specs.Declarations.{Site}
 

@@ -1,4 +1,4 @@
--- The walk of a text behind its lattice and its maps.
+-- Private: how the code goes. The walk of a text behind its lattice and its maps.
 use Rattle.std.specs.Prelude.{ℕ, List, [], Option}
 use Rattle.sv_lattice.specs.Maps.{MapRows}
 use Rattle.sv_ast.specs.Instances.{top_module}

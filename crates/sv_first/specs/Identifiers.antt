@@ -1,4 +1,4 @@
--- What a word is.
+-- Private: how the code goes. What a word is.
 use Rattle.std.specs.Prelude.{ℕ, if◌then◌else◌, List, codes}
 use Rattle.std.specs.Str.{bytes_eq}
 use Rattle.sv_first_ast.specs.Names.{holds}

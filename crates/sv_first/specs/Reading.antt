@@ -1,5 +1,5 @@
--- How tokens are read from left to right: what was read, and the tokens behind it; `None` where it
--- does not stand there.
+-- Private: how the code goes. How tokens are read from left to right: what was read, and the tokens
+-- behind it; `None` where it does not stand there.
 use Rattle.std.specs.Prelude.{◌≡◌, ℕ, Bool, nat_eq, if◌then◌else◌, List, [], ◌∷◌, Option, Some}
 use Rattle.std.specs.Prelude.{None, Result, Ok, Err}
 use Rattle.sv_first.specs.declared.token.TokenKind.{TokenKind}

@@ -1,4 +1,5 @@
--- The token that begins a text, and what the tokens of a text are as kinds with texts.
+-- Private: how the code goes. The token that begins a text, and what the tokens of a text are as
+-- kinds with texts.
 use Rattle.std.specs.Prelude.{◌≡◌, ℕ, if◌then◌else◌, IsTrue, List, [], ◌∷◌, map, take, Option, Some}
 use Rattle.std.specs.Prelude.{None}
 use Rattle.std.specs.Option.{option_map_or}

@@ -1,4 +1,4 @@
--- How an expression is read, token by token, up to its `;`.
+-- Private: how the code goes. How an expression is read, token by token, up to its `;`.
 use Rattle.std.specs.Prelude.{ℕ, zero, suc, ◌+◌, if◌then◌else◌, List, [], ◌∷◌, Option, Some, None}
 use Rattle.sv_num.specs.declared.operators.UnOp.TheVariants as unop
 use Rattle.sv_num.specs.declared.operators.BinOp.{BinOp}

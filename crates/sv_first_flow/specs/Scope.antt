@@ -1,5 +1,5 @@
--- A module as the code walks over it: references to its declarations and processes, and its names
--- in a set.
+-- Private: how the code goes. A module as the code walks over it: references to its declarations
+-- and processes, and its names in a set.
 use Rattle.std.specs.Prelude.{◌≡◌, ℕ, Bool, false, not, ◌&&◌, ◌||◌, nat_le, Some, is_some}
 use Rattle.std.specs.Prelude.{if◌then◌else◌, filter, slice_get, [], List, map, length}
 use Rattle.std.specs.Borrow.{Bor}

@@ -1,4 +1,4 @@
--- What a call of a cabinet adds to its exchanges.
+-- Private: how the code goes. What a call of a cabinet adds to its exchanges.
 use Rattle.sv_io.specs.declared.history.Call.{Call}
 use Rattle.sv_io.specs.declared.history.Call.TheVariants.{Fetch, Store}
 use Rattle.sv_io.specs.Exchange.{Exchange, fetched, stored, fetched_of, is_done}

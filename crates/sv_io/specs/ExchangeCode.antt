@@ -1,4 +1,4 @@
--- How the logic stores the exchanges of a cabinet.
+-- Private: how the code goes. How the logic stores the exchanges of a cabinet.
 use Rattle.std.specs.Prelude.{◌≡◌, ℕ, true, false, List, [], cond, ◌==◌, refl}
 use Rattle.std.specs.Coded.{Coded, code_by, coded×, coded_ℕ, coded_list}
 use Rattle.sv_io.specs.Exchange.{whole, too_long, nothing, Exchange, fetched, stored}

@@ -10,8 +10,8 @@
 //! What a cabinet holds and what passes it is said in `specs/Cabinet.antt` and `Exchange.antt`,
 //! what a source gives before its end in `Source.antt`, what a sink accepts in `Sink.antt`, and
 //! that a count rose in `Count.antt`. `Mem.antt`, `Sure.antt`, `Large.antt` and `System.antt` name
-//! what the objects remember, and `Repeated.antt` what a repeated line is. `Called.antt`,
-//! `ExchangeCode.antt` and `Files.antt` are private: they say how the code goes; the meaning stands
+//! what the objects remember, over `Files.antt`, and `Repeated.antt` what a repeated line is.
+//! `Called.antt` and `ExchangeCode.antt` are private: they say how the code goes; the meaning stands
 //! in the files before.
 #![tactic(auto)]
 

@@ -1,4 +1,4 @@
--- What is read of a certificate on the way, and where it stops.
+-- Private: how the code goes. What is read of a certificate on the way, and where it stops.
 use Rattle.std.specs.Prelude.{◌≡◌, ◌⊎◌, ℕ, ◌+◌, ◌<◌, ◌^◌, List, ◌∷◌, ◌++◌, map, length, All}
 use Rattle.sv_clause.specs.Logs.{Step}
 use Rattle.sv_proof.specs.Certificate.{step_line, log_line, log_lines, text_of, IsWritable}

@@ -1,4 +1,4 @@
--- Literals as numbers that index tables.
+-- Private: how the code goes. Literals as numbers that index tables.
 use Rattle.std.specs.Prelude.{◌≡◌, ℕ, zero, suc, ◌+◌, ◌*◌, ◌/◌, ◌%◌, ◌<◌, ◌≤◌, nat_eq, ℤ, pos}
 use Rattle.std.specs.Prelude.{negsuc, neg_ℤ, unsigned_abs, if◌then◌else◌}
 use Rattle.std.proofs.Common.{ap, ◌∙◌, ⊎_elim, arith}

@@ -1,5 +1,5 @@
--- What a false clause teaches: a clause of which one literal is left once the newest decision is
--- taken back.
+-- Private: how the code goes. What a false clause teaches: a clause of which one literal is left
+-- once the newest decision is taken back.
 use Rattle.std.specs.Prelude.{◌≡◌, ◌≢◌, ℕ, ◌-◌, ◌<◌, ◌≤◌, IsTrue, ℤ, pos, neg_ℤ, List, length, take}
 use Rattle.std.specs.Prelude.{Option, Some, None, slice_index_or, All, Contains}
 use Rattle.std.specs.Bool.{IsFalse}

@@ -1,4 +1,4 @@
--- A clause that is false.
+-- Private: how the code goes. A clause that is false.
 use Rattle.std.specs.Prelude.{ℕ, ◌<◌, ℤ, List, [], length, slice_index_or}
 use Rattle.sv_solve.specs.Search.{AllFalse}
 

@@ -1,4 +1,5 @@
--- What the solver knows: the clauses that it was given, and the steps that it learned.
+-- Private: how the code goes. What the solver knows: the clauses that it was given, and the steps
+-- that it learned.
 use Rattle.std.specs.Prelude.{◌≡◌, ℕ, ℤ, List, ◌++◌, take, All, Some, slice_get}
 use Rattle.sv_clause.specs.Logs.{Step, clauses_of, AllDerived}
 use Rattle.sv_clause.specs.Units.{IsNew}

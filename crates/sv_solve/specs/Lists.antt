@@ -1,4 +1,5 @@
--- Lists of literals that grow and shrink at their end, with tables beside them.
+-- Private: how the code goes. Lists of literals that grow and shrink at their end, with tables
+-- beside them.
 use Rattle.std.specs.Prelude.{◌≡◌, ℕ, ◌+◌, ◌*◌, ◌<◌, ◌≤◌, Bool, false, not, IsTrue, ℤ, pos, neg_ℤ}
 use Rattle.std.specs.Prelude.{List, length, take, count_by, slice_index_or, ◌⊎◌}
 use Rattle.std.specs.Bool.{IsFalse}

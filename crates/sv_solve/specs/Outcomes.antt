@@ -1,4 +1,4 @@
--- What a search comes to.
+-- Private: how the code goes. What a search comes to.
 use Rattle.std.specs.Prelude.{◌≡◌, ℕ, ◌+◌, ◌^◌, ◌<◌, ℤ, List, [], length, All}
 use Rattle.sv_clause.specs.Logs.{plain_log, Refutes}
 use Rattle.sv_clause.specs.Units.{IsAtRest, IsSpentLog}

@@ -1,5 +1,5 @@
--- What the search for values keeps: clauses, what is false under a list of literals, and what a
--- clause makes true.
+-- Private: how the code goes. What the search for values keeps: clauses, what is false under a list
+-- of literals, and what a clause makes true.
 use Rattle.std.specs.Prelude.{◌≡◌, ◌≢◌, ℕ, ◌<◌, ◌≤◌, ◌&&◌, ◌||◌, IsTrue, ℤ, pos, neg_ℤ}
 use Rattle.std.specs.Prelude.{unsigned_abs, List, length, take, Some, slice_index_or, ◌⊎◌}
 use Rattle.std.specs.Bool.{IsFalse}

@@ -1,4 +1,4 @@
--- What the search holds at each moment.
+-- Private: how the code goes. What the search holds at each moment.
 use Rattle.std.specs.Prelude.{◌≡◌, ℕ, ◌<◌, ◌≤◌, ◌^◌, ℤ, List, length, take, All, AllPairs, Contains}
 use Rattle.std.specs.Prelude.{Option, ◌⊎◌}
 use Rattle.sv_clause.specs.Units.{IsAtRest}

@@ -1,4 +1,4 @@
--- The values of variables under a trail.
+-- Private: how the code goes. The values of variables under a trail.
 use Rattle.std.specs.Prelude.{◌≡◌, ℕ, ◌+◌, ◌<◌, Bool, false, pos, List, length, slice_index_or}
 use Rattle.sv_clause.specs.Literals.{stands}
 use Rattle.sv_solve.specs.Lists.{Assigned}

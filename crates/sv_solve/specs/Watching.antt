@@ -1,5 +1,5 @@
--- Watched literals: two of each clause that has two or more, and for each literal the clauses that
--- watch it.
+-- Private: how the code goes. Watched literals: two of each clause that has two or more, and for
+-- each literal the clauses that watch it.
 use Rattle.std.specs.Prelude.{◌≡◌, ◌≢◌, ℕ, ◌+◌, ◌*◌, ◌<◌, ◌≤◌, ◌⊎◌, nat_eq, IsTrue, ℤ, neg_ℤ, List}
 use Rattle.std.specs.Prelude.{[], length, take, All, count_by, Option, Some, None, slice_index_or}
 use Rattle.std.specs.Prelude.{if◌then◌else◌}

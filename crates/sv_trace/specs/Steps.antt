@@ -1,4 +1,4 @@
--- How the lines are read, one by one: words for the code. What a stimulus says stands in
+-- Private: how the code goes. How the lines are read, one by one. What a stimulus says stands in
 -- Stimulus.antt.
 use Rattle.std.specs.Prelude.{◌≡◌, ℕ, ◌+◌, ◌<◌, Bool, true, if◌then◌else◌, slice_set, List, [], ◌∷◌}
 use Rattle.std.specs.Prelude.{◌++◌, length, Option, Some, None}

@@ -1,5 +1,5 @@
--- Words for the search for the first signal that tells two views apart. What it means is said in
--- Comparisons.antt.
+-- Private: how the code goes. Words for the search for the first signal that tells two views apart.
+-- What it means is said in Comparisons.antt.
 use Rattle.std.specs.Prelude.{◌≡◌, ℕ, ◌<◌, Bool, cond, not, nat_eq, min, IsTrue, IsFalse}
 use Rattle.std.specs.Prelude.{Option, Some, None, option_map, MatchOption}
 use Rattle.std.specs.Option.{option_eq}

@@ -1,4 +1,5 @@
--- Says only how the code goes, of a line that was read; the meaning stands in `Words.antt`.
+-- Private: how the code goes. What was found in a line that was read; the meaning stands in
+-- `Words.antt`.
 use Rattle.std.specs.Prelude.{◌≡◌, ℕ, List, Some, codes, is_some, true, ⊤}
 use Rattle.clap.specs.Words.{Text, first_value, found_of, one_text, rows_of}
 use Rattle.clap.specs.Values.{IsUnsignedIn}

@@ -6,6 +6,9 @@
 //! `specs/FlattenedTexts.antt` says which texts the laws speak of, `Numbering.antt` when names of
 //! an instance have numbers of their own, `Numbers.antt` when numbers fit, and `SameStates.antt`
 //! when two states of a run are the same. None is private.
+//!
+//! Of memories and invariants, which are not built yet, neither the walk nor the meaning takes
+//! anything: of a text with such an item the laws speak as of the same text without it.
 #![tactic(auto)]
 
 mod bodies;

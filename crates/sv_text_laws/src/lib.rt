@@ -13,6 +13,9 @@
 //! expressions are no larger than their sources (`specs/Sizes.antt`), and that the signals of the
 //! design and its label maps are those declared (`specs/Signals.antt`, `specs/LabelRows.antt`).
 //! None of these files is private.
+//!
+//! Of memories and invariants, which are not built yet, neither the walk nor the meaning takes
+//! anything: of a text with such an item the laws speak as of the same text without it.
 #![tactic(auto)]
 
 mod meanings;
@@ -79,7 +82,7 @@ pub fn admitted_texts_have_one_trace()
 
 /// For bytes that mean a text which releases nothing, whose flat design is admitted and whose
 /// obligations are all valid, every level and any two traces of the text that look alike to the
-/// level, the level's whole view is equal at every cycle.
+/// level, the level's whole view is equal at every cycle. Its memories are left out.
 pub fn valid_bytes_are_noninterferent()
     ensures { (bytes : List ℕ) (text : TextTree) (asked : Option (List ℕ)) (design : FlatDesign)
         → Means bytes text → EachItem ReleasesNothing text
@@ -88,7 +91,7 @@ pub fn valid_bytes_are_noninterferent()
 {}
 
 /// A text of bytes that releases nothing, and whose flat design is admitted, has exactly one trace
-/// for each start and each list of inputs, all of them fitting.
+/// for each start and each list of inputs, all of them fitting. Its memories are left out.
 pub fn admitted_bytes_have_one_trace()
     ensures { (bytes : List ℕ) (text : TextTree) (asked : Option (List ℕ)) (design : FlatDesign)
         → Means bytes text → EachItem ReleasesNothing text

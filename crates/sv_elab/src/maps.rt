@@ -14,7 +14,7 @@ ghost use Rattle.sv_walk.specs.ExpressionSteps.{is_below};
 ghost use Rattle.sv_walk.specs.LabelMaps.{no_names, is_map_range, rows_walk, default_walk};
 ghost use Rattle.sv_walk.specs.LabelMaps.{map_walk, maps_walk, key_value};
 ghost use Rattle.sv_width.specs.Answers.{IsBreach};
-ghost use Rattle.sv_width.specs.Outcomes.{whole_part};
+ghost use Rattle.sv_width.specs.Answers.{whole_part};
 ghost use Rattle.sv_elab.specs.MapParts.{first_width, second_width, bits_of, bits_in, has_ranges};
 ghost use Rattle.sv_elab.specs.MapParts.{IsRange, HasWidths, is_row_key, IsPart, IsValue};
 ghost use Rattle.sv_elab.specs.MapParts.{IsWrongRow, IsRow, IsTable, AreFilled, is_whole};

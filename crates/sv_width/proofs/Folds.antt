@@ -30,7 +30,8 @@ use Rattle.sv_width.specs.Measured.{OwnForm, MeasuredTree, MeasuredTrees}
 use Rattle.sv_width.specs.Measured as measured
 use Rattle.sv_width.specs.Pushed.{behind, behind_times, folded_of, joined_from, divisors_of}
 use Rattle.sv_width.specs.Pushed.{divisors_in, left_at, left_as, right_at, right_as}
-use Rattle.sv_width.specs.Outcomes.{IsFolded, zero_steps, whole_part}
+use Rattle.sv_width.specs.Outcomes.{IsFolded, zero_steps}
+use Rattle.sv_width.specs.Answers.{whole_part}
 use Rattle.sv_width.proofs.Measures.{breach_after, passes_on}
 
 -- ---- words

@@ -12,7 +12,7 @@ use Rattle.sv_num.proofs.NumberLemmas.{reduced_is, below_zero, number_at}
 use Rattle.sv_num.proofs.BitsLemmas.{number_when}
 use Rattle.sv_ast.specs.Values.{natural}
 use Rattle.sv_walk.specs.ExpressionSteps.{is_below, is_part}
-use Rattle.sv_width.specs.Outcomes.{whole_part}
+use Rattle.sv_width.specs.Answers.{whole_part}
 
 pub negative_number : (bits : Bits) →
     is_negative (width_of bits) (is_signed bits) (value_of bits) ≡ true →

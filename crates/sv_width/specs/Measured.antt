@@ -1,7 +1,6 @@
--- Private: how the code goes. A source expression after the first walk: each operand with its own
--- length and signedness (IEEE 1364-2005, clauses 5.4 and 5.5), numbers for names of signals, values
--- for parameters, bounds and counts; the meaning stands in `asked` of
--- sv_walk/specs/ExpressionSteps.antt.
+-- A source expression after the first walk: each operand with its own length and signedness (IEEE
+-- 1364-2005, clauses 5.4 and 5.5), numbers for names of signals, values for parameters, bounds and
+-- counts.
 use Rattle.std.specs.Prelude.{ℕ, Bool, Option, Some, None}
 use Rattle.sv_num.specs.declared.faults.Place.{Place}
 use Rattle.sv_num.specs.declared.operators.UnOp.{UnOp}

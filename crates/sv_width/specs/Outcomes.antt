@@ -1,7 +1,7 @@
 -- Private: how the code goes. What its steps find; the meaning stands in `asked` and `divisors` of
 -- sv_walk/specs/ExpressionSteps.antt.
-use Rattle.std.specs.Prelude.{◌≡◌, ℕ, Bool, true, false, not, ◌||◌, ◌==◌, List, Option, Some, None}
-use Rattle.std.specs.Prelude.{if◌then◌else◌, ℤ, pos, negsuc, max, nat_le, ◌&&◌, ◌*◌, Ok}
+use Rattle.std.specs.Prelude.{◌≡◌, ℕ, Bool, true, false, not, ◌||◌, ◌==◌, List}
+use Rattle.std.specs.Prelude.{if◌then◌else◌, ℤ, max, nat_le, ◌&&◌, ◌*◌, Ok}
 use Rattle.sv_num.specs.declared.faults.Place.{Place}
 use Rattle.sv_num.specs.declared.operators.UnOp.{UnOp}
 use Rattle.sv_num.specs.declared.operators.BinOp.{BinOp}
@@ -131,8 +131,3 @@ replication_steps place at count parts es = do
   _ ← ask (nat_le (natural count * joined_width es) 64) (too_wide place)
   _ ← sized_parts parts
   ask (is_count count) (bad_count at)
-
--- the number that a value stands for, if it is not negative
-abbrev pub whole_part : ℤ → Option ℕ
-whole_part (pos n) = Some n
-whole_part (negsuc n) = None

@@ -1,4 +1,4 @@
--- Private: how the code goes. The plain form of a measured expression, as Measured.antt has it.
+-- The plain form of a measured expression, as Measured.antt has it.
 use Rattle.std.specs.Prelude.{List, [], ◌∷◌, map}
 use Rattle.sv_num.specs.Vectors.{width_of, value_of}
 use Rattle.sv_width.specs.declared.measured.Own.{Own}

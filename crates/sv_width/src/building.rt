@@ -14,7 +14,7 @@ ghost use Rattle.sv_width.specs.Measured as measured;
 ghost use Rattle.sv_width.specs.Measured.{own_form};
 ghost use Rattle.sv_width.specs.Outcomes.{some_named, unary_own, binary_own, choice_own, join_own};
 ghost use Rattle.sv_width.specs.Outcomes.{division_steps, join_steps, replication_steps};
-ghost use Rattle.sv_width.specs.Outcomes.{whole_part};
+ghost use Rattle.sv_width.specs.Answers.{whole_part};
 ghost use Rattle.sv_width.specs.Pushed.{joined_width};
 ghost use Rattle.sv_width.specs.Scopes.{Known};
 ghost use Rattle.sv_width.specs.Settings.{names_in, is_constant};

@@ -10,11 +10,11 @@
 //! `specs/Values.antt` of `sv_ast` gives them.
 //!
 //! `specs/Scopes.antt` says what a scope knows, `Answers.antt` what a call answers for a walk,
-//! `Operands.antt` what an operand is, `Agreement.antt` when signals and an environment are those
-//! of some names, and `WrittenLengths.antt` that written numbers have 1 to 64 bits.
-//! `Settings.antt`, `Measured.antt`, `Pushed.antt`, `Outcomes.antt` and `Views.antt` are private,
-//! but for `whole_part` of `Outcomes.antt`, which `natural` gives: they say how the code goes; the
-//! meaning stands in those files of `sv_walk`.
+//! `Operands.antt` what an operand is, over what an expression is after the first walk
+//! (`Measured.antt`, `Views.antt`), `Agreement.antt` when signals and an environment are those of
+//! some names, and `WrittenLengths.antt` that written numbers have 1 to 64 bits. `Settings.antt`,
+//! `Pushed.antt` and `Outcomes.antt` are private: they say how the code goes; the meaning stands in
+//! those files of `sv_walk`.
 #![tactic(auto)]
 
 mod building;

@@ -3,7 +3,7 @@ use Rattle.std.proofs.Common.{◌≡◌, ℕ, ◌≤◌, List, length, Option, S
 use Rattle.sv_obl.specs.Limits.{Excess, excess}
 use Rattle.sv_obl.specs.ListLines.{list_text}
 use Rattle.sv_cli.specs.Text.{refusal_text, limit_text}
-use Rattle.sv_cli.specs.Answer.{Answer, done, rule_broken, limit_passed, falsified, misused}
+use Rattle.sv_cli.specs.Answer.{Answer, done, rule_broken, limit_exceeded, falsified, misused}
 use Rattle.sv_cli.specs.Answer.{stimulus_refused, largest_file, Passes, IsVerdict, IsListing}
 use Rattle.sv_cli.specs.Answer.{limit_number, limit_names, AreCircles, BreaksFirst}
 use Rattle.sv_cli.specs.Answer.{IsUndecided, IsNotBuilt}
@@ -16,7 +16,7 @@ module _ (top : Option (List ℕ)) (text : List ℕ) where
 
   -- of a text that breaks no rule, by the limit that its design passes
   by_limit : length text ≤ largest_file → (passes : Passes top text)
-      → (passed : Option Excess) → excess passes.design ≡ passed → HasListing
+      → (exceeded : Option Excess) → excess passes.design ≡ exceeded → HasListing
   by_limit within passes None few = (
     done,
     list_text passes.design,
@@ -24,12 +24,12 @@ module _ (top : Option (List ℕ)) (text : List ℕ) where
   )
   by_limit within passes (Some e) first =
       let names = limit_names passes.design.signals e in (
-        limit_passed (limit_number e) names,
+        limit_exceeded (limit_number e) names,
         limit_text (limit_number e) names,
         inr (record {
           within = within;
           passes = passes;
-          passed = e;
+          exceeded = e;
           first = first;
           numbered = refl;
           named = refl;
@@ -53,7 +53,7 @@ module _ (top : Option (List ℕ)) (text : List ℕ) where
       )
       by_rule (inr undecided) =
           by_limit v.within undecided.0.0 (excess undecided.0.0.design) refl
-  by_verdict (limit_passed n ns) printed v = (limit_passed n ns, printed, inl v)
+  by_verdict (limit_exceeded n ns) printed v = (limit_exceeded n ns, printed, inl v)
   by_verdict (falsified n values) printed v =
       by_limit v.form.within v.form.passes (excess v.form.passes.design) refl
   by_verdict (stimulus_refused source line kind) printed v = absurd v

@@ -20,7 +20,7 @@ use Rattle.sv_first_ast.specs.Obligations.{obligations, flow_holds, zeros}
 use Rattle.sv_first_ast.proofs.Leak.{leak_falsifies}
 use Rattle.sv_first.proofs.Readings.{MeansOne, MeansNone, one_or_none}
 use Rattle.sv_cli.specs.Text.{accepted_text, refusal_text, limit_text, leak_text}
-use Rattle.sv_cli.specs.Answer.{Answer, done, rule_broken, limit_passed, falsified}
+use Rattle.sv_cli.specs.Answer.{Answer, done, rule_broken, limit_exceeded, falsified}
 use Rattle.sv_cli.specs.Answer.{largest_file, has_unbuilt_item, StandsFor, BreaksFirst, Passes}
 use Rattle.sv_cli.specs.Answer.{IsFirstForm, IsUndecided, IsVerdict, AreCircles}
 use Rattle.sv_cli.proofs.Deciders.{admitted_or_refused}
@@ -214,7 +214,7 @@ module _ (top : Option (List ℕ)) where
     where
       by_size : (length text ≤ largest_file) ⊎ (largest_file < length text) → HasVerdict text
       by_size (inl within) = by_syntax text within (text_or_rule text)
-      by_size (inr large) = (limit_passed 701 [], limit_text 701 [], (large, refl, refl, refl))
+      by_size (inr large) = (limit_exceeded 701 [], limit_text 701 [], (large, refl, refl, refl))
 
   pub one_verdict : (text : List ℕ) → (answer : Answer) × (printed : List ℕ)
       × IsVerdict top text answer printed

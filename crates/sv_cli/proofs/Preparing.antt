@@ -19,7 +19,7 @@ use Rattle.sv_cli.specs.declared.prepared.Prepared.TheVariants.{Whole, Lines, Si
 use Rattle.sv_cli.specs.declared.report.Report.{Report}
 use Rattle.sv_cli.specs.Command.{top_in}
 use Rattle.sv_cli.specs.Text.{usage_text, refusal_text, limit_text}
-use Rattle.sv_cli.specs.Answer.{Answer, answer_of, done, rule_broken, limit_passed}
+use Rattle.sv_cli.specs.Answer.{Answer, answer_of, done, rule_broken, limit_exceeded}
 use Rattle.sv_cli.specs.Answer.{misused, largest_file, StandsFor, BreaksFirst, Passes}
 use Rattle.sv_cli.specs.Answer.{limit_number, limit_names, IsListing, IsSimulation}
 use Rattle.sv_cli.specs.Answer.{Simulates, IsAnswerBy, IsAnswer, AreCircles}
@@ -102,32 +102,32 @@ module _ (text : List ℕ) (n : ℕ) (p : Place) (ns : List (List ℕ))
 
 module _ (text : List ℕ) (large : largest_file < length text) where
   large_stands : (request : Request) (s : List ℕ)
-      → IsAnswerBy request text s (limit_passed 701 []) (limit_text 701 [])
+      → IsAnswerBy request text s (limit_exceeded 701 []) (limit_text 701 [])
   large_stands (check file top) s = (large, refl, refl, refl)
   large_stands (list file top) s = inl (large, refl, refl, refl)
   large_stands (sim file level order top) s = inl (large, refl, refl, refl)
 
   large_alone : (request : Request) (s : List ℕ) (other : Answer) (others : List ℕ)
-      → IsAnswerBy request text s other others → IsOwn (limit_passed 701 []) other
+      → IsAnswerBy request text s other others → IsOwn (limit_exceeded 701 []) other
   large_alone (check file top) s other others is =
-      own top (limit_passed 701 []) other (limit_text 701 []) others
-      (verdict_is_one top text (limit_passed 701 []) (limit_text 701 [])
+      own top (limit_exceeded 701 []) other (limit_text 701 []) others
+      (verdict_is_one top text (limit_exceeded 701 []) (limit_text 701 [])
       (large_stands (check file top) s) other others is)
   large_alone (list file top) s other others is =
-      own top (limit_passed 701 []) other (limit_text 701 []) others
-      (listing_is_one top text (limit_passed 701 []) (limit_text 701 [])
+      own top (limit_exceeded 701 []) other (limit_text 701 []) others
+      (listing_is_one top text (limit_exceeded 701 []) (limit_text 701 [])
       (large_stands (list file top) s) other others is)
   large_alone (sim file level order top) s other others is =
-      own top (limit_passed 701 []) other (limit_text 701 []) others
+      own top (limit_exceeded 701 []) other (limit_text 701 []) others
       (large_only level order top text s 701 [] (limit_text 701 []) (large, refl, refl, refl)
       other others is)
 
   pub large_prepared : (request : Request) (report : Report)
-      → answer_of report.outcome ≡ Some (limit_passed 701 [])
+      → answer_of report.outcome ≡ Some (limit_exceeded 701 [])
       → report.text.items ≡ limit_text 701 [] → PreparesFor request text (Whole report)
   large_prepared request report gives prints =
-      whole_prepared (IsAnswerBy request text) _ report (limit_passed 701 []) gives
-      (λ s. subst (λ (t : List ℕ). IsAnswerBy request text s (limit_passed 701 []) t) (sym prints)
+      whole_prepared (IsAnswerBy request text) _ report (limit_exceeded 701 []) gives
+      (λ s. subst (λ (t : List ℕ). IsAnswerBy request text s (limit_exceeded 701 []) t) (sym prints)
       (large_stands request s))
       (large_alone request)
 
@@ -153,23 +153,24 @@ module _ (file : List ℕ) (top : Option (List ℕ)) (text : List ℕ) where
       limit_prepared : (report : Report) → TellsLimit (design_of design) report
           → PreparesFor (list file top) text (Whole report)
       limit_prepared report told =
-          let number = limit_number told.passed in
-          let names = limit_names (design_of design).signals told.passed in
-          let is : IsListing top text (limit_passed number names) report.text.items =
+          let number = limit_number told.exceeded in
+          let names = limit_names (design_of design).signals told.exceeded in
+          let is : IsListing top text (limit_exceeded number names) report.text.items =
           inr (record {
             within = within;
             passes = passes;
-            passed = told.passed;
+            exceeded = told.exceeded;
             first = told.first;
             numbered = refl;
             named = refl;
             prints = told.text;
           }) in
-          whole_prepared (IsAnswerBy (list file top) text) _ report (limit_passed number names)
+          whole_prepared (IsAnswerBy (list file top) text) _ report (limit_exceeded number names)
           told.answer (λ s. is)
           (λ s other others w.
-          own top (limit_passed number names) other report.text.items others
-          (listing_is_one top text (limit_passed number names) report.text.items is other others w))
+          own top (limit_exceeded number names) other report.text.items others
+          (listing_is_one top text (limit_exceeded number names) report.text.items is other others
+          w))
 
       listed_prepared : (prepared : Prepared) → ListsDesign (design_of design) prepared
           → PreparesFor (list file top) text prepared

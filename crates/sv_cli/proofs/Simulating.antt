@@ -12,7 +12,7 @@ use Rattle.sv_text_laws.proofs.TextLaws.{read_flattened}
 use Rattle.sv_text_laws.proofs.TextSimulations.{written_alike}
 use Rattle.sv_cli.specs.declared.prepared.Prepared.{Prepared}
 use Rattle.sv_cli.specs.declared.prepared.Prepared.TheVariants.{Whole, Lines, Simulation}
-use Rattle.sv_cli.specs.Answer.{Answer, answer_by, done, rule_broken, limit_passed, falsified}
+use Rattle.sv_cli.specs.Answer.{Answer, answer_by, done, rule_broken, limit_exceeded, falsified}
 use Rattle.sv_cli.specs.Answer.{stimulus_refused, misused, largest_file, StandsFor, IsTooLarge}
 use Rattle.sv_cli.specs.Answer.{IsRefusedByRule, IsSimulatedText, IsSimulation, Simulates}
 use Rattle.sv_cli.specs.Answer.{WritesCycles}
@@ -62,10 +62,10 @@ module _ (level : Option (List ℕ)) (order : Option ℕ) (top : Option (List �
   refused_only n p ns printed v (rule_broken m q ms) others w =
       refused_alike top n m p q ns ms printed others
       (one_first top text m n q p ms ns w.broken v.broken) v.prints w.prints
-  refused_only n p ns printed v (limit_passed m ms) others (inl w) =
+  refused_only n p ns printed v (limit_exceeded m ms) others (inl w) =
       let a = v.within in let b = w.0 in absurd (omega arith)
-  refused_only n p ns printed v (limit_passed m ms) others (inr w) =
-      absurd (no_rule (limit_passed m ms) others w n p ns printed v)
+  refused_only n p ns printed v (limit_exceeded m ms) others (inr w) =
+      absurd (no_rule (limit_exceeded m ms) others w n p ns printed v)
   refused_only n p ns printed v done others w = absurd (no_rule done others w n p ns printed v)
   refused_only n p ns printed v (falsified m values) others w =
       absurd (no_rule (falsified m values) others w n p ns printed v)
@@ -82,13 +82,13 @@ module _ (level : Option (List ℕ)) (order : Option ℕ) (top : Option (List �
   pub large_only : (n : ℕ) (ns : List (List ℕ)) (printed : List ℕ)
       → IsTooLarge text n ns printed → (other : Answer) (others : List ℕ)
       → IsSimulation level order top text stimulus other others
-      → IsOneAnswer top (limit_passed n ns) other printed others
+      → IsOneAnswer top (limit_exceeded n ns) other printed others
   large_only n ns printed v (rule_broken m q ms) others w =
       let a = w.within in let b = v.0 in absurd (omega arith)
-  large_only n ns printed v (limit_passed m ms) others (inl w) =
+  large_only n ns printed v (limit_exceeded m ms) others (inl w) =
       inl (two_large top text m n ms ns others printed w v)
-  large_only n ns printed v (limit_passed m ms) others (inr w) =
-      absurd (not_large (limit_passed m ms) others w v.0)
+  large_only n ns printed v (limit_exceeded m ms) others (inr w) =
+      absurd (not_large (limit_exceeded m ms) others w v.0)
   large_only n ns printed v done others w = absurd (not_large done others w v.0)
   large_only n ns printed v (falsified m values) others w =
       absurd (not_large (falsified m values) others w v.0)
@@ -144,10 +144,10 @@ module _ (level : Option (List ℕ)) (order : Option ℕ) (top : Option (List �
           stands = stands;
           admitted = admitted;
         }) n p ns w.broken)
-    simulation_back (limit_passed n ns) printed (inl w) =
+    simulation_back (limit_exceeded n ns) printed (inl w) =
         let a = within in let b = w.0 in absurd (omega arith)
-    simulation_back (limit_passed n ns) printed (inr w) =
-        simulated_back (limit_passed n ns) printed w
+    simulation_back (limit_exceeded n ns) printed (inr w) =
+        simulated_back (limit_exceeded n ns) printed w
     simulation_back done printed w = simulated_back done printed w
     simulation_back (falsified n values) printed w =
         simulated_back (falsified n values) printed w

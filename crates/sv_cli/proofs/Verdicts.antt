@@ -20,7 +20,7 @@ use Rattle.sv_first_ast.specs.Obligations.{Obligation, Values, obligations, flow
 use Rattle.sv_first_ast.specs.Obligations.{zeros}
 use Rattle.sv_first.proofs.Readings.{one_module}
 use Rattle.sv_cli.specs.Text.{accepted_text, refusal_text, limit_text, leak_text}
-use Rattle.sv_cli.specs.Answer.{Answer, done, rule_broken, limit_passed, falsified, misused}
+use Rattle.sv_cli.specs.Answer.{Answer, done, rule_broken, limit_exceeded, falsified, misused}
 use Rattle.sv_cli.specs.Answer.{stimulus_refused}
 use Rattle.sv_cli.specs.Answer.{has_unbuilt_item, HasUnbuiltItem, IsNotBuilt, BreaksElaboration}
 use Rattle.sv_cli.specs.Answer.{StandsFor, BreaksAdmission, BreaksFirst, Passes, IsFirstForm}
@@ -353,7 +353,7 @@ module _ (top : Option (List ℕ)) where
       inl (refl, two_accepted text others printed w v)
   one_accepted text printed v (rule_broken number place names) others w =
       absurd (no_refused text v.tree v.form number place names others w)
-  one_accepted text printed v (limit_passed number names) others w =
+  one_accepted text printed v (limit_exceeded number names) others w =
       let a = v.form.within in let b = w.0 in absurd (omega arith)
   one_accepted text printed v (falsified number values) others w =
       absurd (accepted_falsified text printed number values others v w)
@@ -368,24 +368,24 @@ module _ (top : Option (List ℕ)) where
       absurd (no_refused text w.tree w.form n p ns printed v)
   one_refused text n p ns printed v (rule_broken m q ms) others w =
       two_refused text n m p q ns ms printed others v w
-  one_refused text n p ns printed v (limit_passed number names) others w =
+  one_refused text n p ns printed v (limit_exceeded number names) others w =
       let a = v.within in let b = w.0 in absurd (omega arith)
   one_refused text n p ns printed v (falsified number values) others w =
       absurd (no_refused text w.tree w.form n p ns printed v)
   one_refused text n p ns printed v (stimulus_refused source line kind) others w = absurd w
   one_refused text n p ns printed v (misused kind) others w = absurd w
 
-  -- what is asked of a text that passes a limit
+  -- what is asked of a text that exceeds a limit
   abbrev pub IsLarge : List ℕ → ℕ → List (List ℕ) → List ℕ → Type 0
-  IsLarge text number names printed = IsVerdict top text (limit_passed number names) printed
+  IsLarge text number names printed = IsVerdict top text (limit_exceeded number names) printed
 
   pub two_large : (text : List ℕ) (n m : ℕ) (ns ms : List (List ℕ)) (printed printed' : List ℕ)
       → IsLarge text n ns printed → IsLarge text m ms printed'
-      → (limit_passed n ns ≡ limit_passed m ms) × (printed ≡ printed')
+      → (limit_exceeded n ns ≡ limit_exceeded m ms) × (printed ≡ printed')
   two_large text n m ns ms printed printed' v w =
       let number_is : n ≡ m = v.1 ∙ sym w.1 in
       let names_are : ns ≡ ms = v.2 ∙ sym w.2 in (
-        two limit_passed n m ns ms number_is names_are,
+        two limit_exceeded n m ns ms number_is names_are,
         v.3
             ∙ two limit_text n m ns ms number_is names_are ∙ sym w.3,
       )
@@ -393,12 +393,12 @@ module _ (top : Option (List ℕ)) where
   one_large : (text : List ℕ) (n : ℕ) (ns : List (List ℕ)) (printed : List ℕ)
       → IsLarge text n ns printed
       → (other : Answer) (others : List ℕ) → IsVerdict top text other others
-      → IsOneAnswer (limit_passed n ns) other printed others
+      → IsOneAnswer (limit_exceeded n ns) other printed others
   one_large text n ns printed v done others w =
       let a = w.form.within in let b = v.0 in absurd (omega arith)
   one_large text n ns printed v (rule_broken number place names) others w =
       let a = w.within in let b = v.0 in absurd (omega arith)
-  one_large text n ns printed v (limit_passed m ms) others w =
+  one_large text n ns printed v (limit_exceeded m ms) others w =
       inl (two_large text m n ms ns others printed w v)
   one_large text n ns printed v (falsified number values) others w =
       let a = w.form.within in let b = v.0 in absurd (omega arith)
@@ -413,7 +413,7 @@ module _ (top : Option (List ℕ)) where
       absurd (accepted_falsified text others n values printed w v)
   one_falsified text n values printed v (rule_broken number place names) others w =
       absurd (no_refused text v.tree v.form number place names others w)
-  one_falsified text n values printed v (limit_passed number names) others w =
+  one_falsified text n values printed v (limit_exceeded number names) others w =
       let a = v.form.within in let b = w.0 in absurd (omega arith)
   one_falsified text n values printed v (falsified m values') others w =
       inl (two_falsified text m n values' values others printed w v)
@@ -428,7 +428,7 @@ module _ (top : Option (List ℕ)) where
   verdict_is_one text done printed v other others w = one_accepted text printed v other others w
   verdict_is_one text (rule_broken n p ns) printed v other others w =
       one_refused text n p ns printed v other others w
-  verdict_is_one text (limit_passed n ns) printed v other others w =
+  verdict_is_one text (limit_exceeded n ns) printed v other others w =
       one_large text n ns printed v other others w
   verdict_is_one text (falsified n values) printed v other others w =
       one_falsified text n values printed v other others w

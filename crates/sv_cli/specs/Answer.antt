@@ -51,7 +51,7 @@ status_of outcome.OutOfMemory = 6
 pub data Answer : Type 0 where
   done : Answer
   rule_broken : ℕ → Place → List (List ℕ) → Answer
-  limit_passed : ℕ → List (List ℕ) → Answer
+  limit_exceeded : ℕ → List (List ℕ) → Answer
   falsified : ℕ → Values → Answer
   stimulus_refused : StimSource → (line : ℕ) → StimKind → Answer
   misused : UsageKind → Answer
@@ -64,7 +64,7 @@ values_of v =
 abbrev pub answer_of : Outcome → Option Answer
 answer_of outcome.Done = Some done
 answer_of (outcome.Refused (broken.Rule r)) = Some (rule_broken r.number r.place r.names.items)
-answer_of (outcome.Refused (broken.Limit number names)) = Some (limit_passed number names.items)
+answer_of (outcome.Refused (broken.Limit number names)) = Some (limit_exceeded number names.items)
 answer_of (outcome.Refused (broken.Fails number v)) = Some (falsified number (values_of v))
 answer_of (outcome.Refused (broken.Stimulus source line kind)) =
     Some (stimulus_refused source line kind)
@@ -198,7 +198,7 @@ abbrev pub IsVerdict : (top : Option (List ℕ)) → (text : List ℕ) → Answe
 IsVerdict top text done printed = IsAccepted top text printed
 IsVerdict top text (rule_broken number place names) printed =
     IsRefused top text number place names printed
-IsVerdict top text (limit_passed number names) printed = IsTooLarge text number names printed
+IsVerdict top text (limit_exceeded number names) printed = IsTooLarge text number names printed
 IsVerdict top text (falsified number v) printed = IsFalsified top text number v printed
 IsVerdict top text (stimulus_refused source line kind) printed = ⊥
 IsVerdict top text (misused kind) printed = ⊥
@@ -223,18 +223,18 @@ limit_names signals (many_paths target) = name_of signals target ∷ []
 limit_names signals (large_path target) = name_of signals target ∷ []
 limit_names signals many_obligations = []
 
--- The text breaks no rule, and this is the first limit on obligations that its design passes.
-pub record PassesLimit (top : Option (List ℕ)) (text : List ℕ) (number : ℕ)
+-- The text breaks no rule, and this is the first limit on obligations that its design exceeds.
+pub record ExceedsLimit (top : Option (List ℕ)) (text : List ℕ) (number : ℕ)
     (names : List (List ℕ)) (printed : List ℕ) : Type 0 where
   pub within : length text ≤ largest_file
   pub passes : Passes top text
-  pub passed : Excess
-  pub first : excess passes.design ≡ Some passed
-  pub numbered : number ≡ limit_number passed
-  pub named : names ≡ limit_names passes.design.signals passed
+  pub exceeded : Excess
+  pub first : excess passes.design ≡ Some exceeded
+  pub numbered : number ≡ limit_number exceeded
+  pub named : names ≡ limit_names passes.design.signals exceeded
   pub prints : printed ≡ limit_text number names
 
--- The text breaks no rule and its design passes no limit: each obligation has its line, in order.
+-- The text breaks no rule and its design exceeds no limit: each obligation has its line, in order.
 pub record IsListed (top : Option (List ℕ)) (text printed : List ℕ) : Type 0 where
   pub within : length text ≤ largest_file
   pub passes : Passes top text
@@ -246,8 +246,8 @@ abbrev pub IsListing : (top : Option (List ℕ)) → (text : List ℕ) → Answe
 IsListing top text done printed = IsListed top text printed
 IsListing top text (rule_broken number place names) printed =
     IsRefusedByRule top text number place names printed
-IsListing top text (limit_passed number names) printed =
-    IsTooLarge text number names printed ⊎ PassesLimit top text number names printed
+IsListing top text (limit_exceeded number names) printed =
+    IsTooLarge text number names printed ⊎ ExceedsLimit top text number names printed
 IsListing top text (falsified number v) printed = ⊥
 IsListing top text (stimulus_refused source line kind) printed = ⊥
 IsListing top text (misused kind) printed = ⊥
@@ -257,8 +257,8 @@ IsListing top text (misused kind) printed = ⊥
 -- what is answered where a simulation ends so
 abbrev pub answer_by : Ending → Answer
 answer_by endings.Done = done
-answer_by endings.NoLevel = limit_passed 707 []
-answer_by endings.TooLarge = limit_passed 704 []
+answer_by endings.NoLevel = limit_exceeded 707 []
+answer_by endings.TooLarge = limit_exceeded 704 []
 answer_by (endings.WrongLine line kind) = stimulus_refused Input line kind
 
 -- The text breaks no rule. Its own cycle meaning is simulated on the stimulus, and what is printed
@@ -277,9 +277,9 @@ abbrev pub IsSimulation : (level : Option (List ℕ)) → (order : Option ℕ) �
     (top : Option (List ℕ)) → (text stimulus : List ℕ) → Answer → List ℕ → Type 0
 IsSimulation level order top text stimulus (rule_broken number place names) printed =
     IsRefusedByRule top text number place names printed
-IsSimulation level order top text stimulus (limit_passed number names) printed =
+IsSimulation level order top text stimulus (limit_exceeded number names) printed =
     IsTooLarge text number names printed
-    ⊎ IsSimulatedText level order top text stimulus (limit_passed number names) printed
+    ⊎ IsSimulatedText level order top text stimulus (limit_exceeded number names) printed
 IsSimulation level order top text stimulus answer printed =
     IsSimulatedText level order top text stimulus answer printed
 

@@ -1,4 +1,5 @@
--- What is prepared of a text before the stimulus is taken, as the code holds it.
+-- Private: how the code goes. What is prepared of a text before the stimulus is taken, as the code
+-- holds it.
 use Rattle.std.specs.Prelude.{◌≡◌, ◌⊎◌, ℕ, List, Option, Some, None, IsSome, option_map}
 use Rattle.std.specs.Prelude.{string_bytes, ⊤, ◌++◌, Bool, IsTrue, IfSome, IfNone}
 use Rattle.sv_io.specs.Sink.{WritesFront}
@@ -13,7 +14,7 @@ use Rattle.sv_cli.specs.declared.prepared.Prepared.{Prepared}
 use Rattle.sv_cli.specs.declared.prepared.Prepared.TheVariants.{Whole, Lines, Simulation}
 use Rattle.sv_cli.specs.declared.report.Report.{Report}
 use Rattle.sv_cli.specs.Text.{limit_text}
-use Rattle.sv_cli.specs.Answer.{Answer, answer_of, answer_by, done, limit_passed, limit_number}
+use Rattle.sv_cli.specs.Answer.{Answer, answer_of, answer_by, done, limit_exceeded, limit_number}
 use Rattle.sv_cli.specs.Answer.{limit_names, AreCircles, IsAnswerBy, IsAnswer, Simulates}
 
 -- what was accepted grew by all of the text but what is left
@@ -99,14 +100,14 @@ abbrev pub PreparesWords : (words : List (List ℕ)) → (text : List ℕ) → P
 PreparesWords words text prepared =
     Prepares (IsAnswer words text) (Simulates words text) prepared
 
--- the report tells of the first limit that the design passes
+-- the report tells of the first limit that the design exceeds
 pub record TellsLimit (design : FlatDesign) (report : Report) : Type 0 where
-  pub passed : Excess
-  pub first : excess design ≡ Some passed
+  pub exceeded : Excess
+  pub first : excess design ≡ Some exceeded
   pub answer : answer_of report.outcome
-      ≡ Some (limit_passed (limit_number passed) (limit_names design.signals passed))
+      ≡ Some (limit_exceeded (limit_number exceeded) (limit_names design.signals exceeded))
   pub text : report.text.items
-      ≡ limit_text (limit_number passed) (limit_names design.signals passed)
+      ≡ limit_text (limit_number exceeded) (limit_names design.signals exceeded)
 
 -- what is prepared of an admitted design to list its obligations
 abbrev pub ListsDesign : FlatDesign → Prepared → Type 0

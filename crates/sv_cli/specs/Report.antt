@@ -1,4 +1,4 @@
--- What a report has to be.
+-- Private: how the code goes. What a report has to be.
 use Rattle.std.specs.Prelude.{◌≡◌, ◌⊎◌, ℕ, IsTrue, IsFalse, List, Option, Some}
 use Rattle.std.specs.Prelude.{length, replicate}
 use Rattle.sv_num.specs.declared.faults.Place.{Place}

@@ -1,4 +1,4 @@
--- The rules that a text can break, and the limits that it can pass, by their numbers.
+-- The rules that a text can break, and the limits that it can exceed, by their numbers.
 use Rattle.std.specs.Prelude.{ℕ, nat_eq, List, [], ◌∷◌, find, codes}
 use Rattle.std.specs.Option.{option_map_or}
 

@@ -32,7 +32,7 @@ refusal_text number place names =
     codes "refused " ++ decimal number ++ codes " " ++ rule_name number ++ codes " "
     ++ decimal place.line ++ codes ":" ++ decimal place.column ++ names_text names ++ codes "\n"
 
--- a limit that is passed
+-- a limit that is exceeded
 abbrev pub limit_text : ℕ → List (List ℕ) → List ℕ
 limit_text number names =
     codes "refused " ++ decimal number ++ codes " " ++ rule_name number ++ names_text names

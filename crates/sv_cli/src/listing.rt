@@ -29,7 +29,7 @@ pub fn lines_of_design(alloc: Global, design: Design) -> Result<Prepared, AllocE
     }
 }
 
-// The report of the first limit that a design passes.
+// The report of the first limit that a design exceeds.
 fn report_of_fault(alloc: Global, design: &Design, fault: OblFault) -> Result<Report, AllocError>
     requires { Told (excess (design_of design.now)) fault }
     ensures { IfOk result (TellsLimit (design_of design.now)) }
@@ -52,7 +52,7 @@ fn name_alone(alloc: Global, design: &Design, signal: SigId) -> Result<Vec<Name>
     Ok(vec![in alloc; name]?)
 }
 
-/// Puts the lines of the obligations of a design that passes no limit, each target's as they are
+/// Puts the lines of the obligations of a design that exceeds no limit, each target's as they are
 /// made. Refused, the front of all lines was accepted.
 pub fn put_lines<K: Sink>(alloc: Global, out: &mut K, design: &Design) -> Result<(), PutFault>
     requires { excess (design_of design.now) ≡ None }

@@ -34,7 +34,7 @@ pub enum StimSource {
 pub enum Broken {
     /// The text breaks a rule.
     Rule(Refusal),
-    /// A limit is passed: the rule's number and its names.
+    /// A limit is exceeded: the rule's number and its names.
     Limit(u16, Vec<Name>),
     /// The obligation of this number, from 1, fails at these values.
     Fails(u32, Valuation),

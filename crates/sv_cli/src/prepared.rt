@@ -21,7 +21,7 @@ use sv_words::Command;
 pub enum Prepared {
     /// To write what is answered.
     Whole(Report),
-    /// To write the line of each obligation of the design, which passes no limit.
+    /// To write the line of each obligation of the design, which exceeds no limit.
     Lines(Design),
     /// To simulate the design, with the level and the order that are asked for.
     Simulation(Design, Option<String>, Option<u64>),

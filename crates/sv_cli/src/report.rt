@@ -1,7 +1,7 @@
 // What is answered, and the text that says so.
 ghost use Rattle.std.specs.Prelude.{◌≡◌, ◌≤◌, [], Some, IfOk, length, replicate};
 ghost use Rattle.sv_cli.specs.Text.{usage_text, accepted_text, refusal_text, limit_text, flow_text};
-ghost use Rattle.sv_cli.specs.Answer.{answer_of, done, rule_broken, limit_passed, falsified};
+ghost use Rattle.sv_cli.specs.Answer.{answer_of, done, rule_broken, limit_exceeded, falsified};
 ghost use Rattle.sv_cli.specs.Answer.{misused, largest_file, Passes};
 ghost use Rattle.sv_cli.specs.Report.{Decides, zeros_for};
 ghost use Rattle.std.specs.Option.{option_copied};
@@ -34,10 +34,10 @@ pub fn report_of_misuse(alloc: Global, kind: UsageKind) -> Result<Report, AllocE
     })
 }
 
-/// Of a limit that is passed, with the names that go with it.
+/// Of a limit that is exceeded, with the names that go with it.
 pub fn report_of_limit(alloc: Global, number: u16, names: Vec<Name>) -> Result<Report, AllocError>
     ensures answer { IfOk result
-        (λ report. answer_of report.outcome ≡ Some (limit_passed number names.items)) }
+        (λ report. answer_of report.outcome ≡ Some (limit_exceeded number names.items)) }
     ensures text { IfOk result (λ report. report.text.items ≡ limit_text number names.items) }
 {
     let text = text::limit_text(alloc, number, &names)?;
@@ -49,7 +49,8 @@ pub fn report_of_limit(alloc: Global, number: u16, names: Vec<Name>) -> Result<R
 
 /// Of a file that is larger than the largest.
 pub fn report_of_large_file(alloc: Global) -> Result<Report, AllocError>
-    ensures answer { IfOk result (λ report. answer_of report.outcome ≡ Some (limit_passed 701 [])) }
+    ensures answer { IfOk result
+        (λ report. answer_of report.outcome ≡ Some (limit_exceeded 701 [])) }
     ensures text { IfOk result (λ report. report.text.items ≡ limit_text 701 []) }
 {
     report_of_limit(alloc, 701, Vec::new(alloc))

@@ -67,7 +67,7 @@ pub fn refusal_text(alloc: Global, refusal: &Refusal) -> Result<Vec<u8>, AllocEr
     Ok(text)
 }
 
-/// A limit that is passed, and the names that go with it.
+/// A limit that is exceeded, and the names that go with it.
 pub fn limit_text(alloc: Global, number: u16, names: &[Name]) -> Result<Vec<u8>, AllocError>
     ensures { IfOk result (λ text. text.items ≡ limit_text number names.now) }
 {

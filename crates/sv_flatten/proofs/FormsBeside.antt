@@ -2,7 +2,7 @@
 use Rattle.std.proofs.Common.{◌≡◌, ℕ, ◌<◌, Bool, List, map, length, Some, refl, sym, ap, subst}
 use Rattle.std.proofs.Common.{◌∙◌}
 use Rattle.std.specs.Prelude.{IsTrue}
-use Rattle.std.specs.List.{AllZip}
+use Rattle.std.specs.List.{slice_get, AllZip}
 use Rattle.std.proofs.lemmas.Bool.{lt-ltb}
 use Rattle.std.proofs.lemmas.List.{length-map}
 use Rattle.sv_ast.specs.Scopes.{signal, width_of}
@@ -13,7 +13,9 @@ use Rattle.sv_flat.specs.Values.{signal_width}
 use Rattle.sv_walk.specs.Names.{Names}
 use Rattle.sv_walk.specs.LabelSteps.{Tables}
 use Rattle.sv_width.specs.Agreement.{HaveSignals}
+use Rattle.sv_flatten.specs.Numbering.{IsNumbering}
 use Rattle.sv_flatten.proofs.PartsLists.{zip_length, zip_left, get_below, index_is}
+use Rattle.sv_flatten.proofs.PartsMaps.{same_some}
 use Rattle.sv_flatten.proofs.PartsNamed.{IsNamed}
 use Rattle.sv_flatten.proofs.PartsGrown.{IsForm, IsNumberOf, source_of_name, number_of_name}
 
@@ -51,3 +53,24 @@ module _ (tables : Tables) (sources : List PartSignal) (everything : List Part)
     names_listed n width signed e =
         let w = name_width n width signed e in
         (lt-ltb (names.number n) (length signals) w.0, w.1)
+
+    pub names_number : IsNumbering names signals
+    names_number = record {
+      declared = named.declared;
+      listed = names_listed;
+      apart = λ n m n_is m_is same.
+          let first = source_of_name tables sources everything p names named n n_is in
+          let second = source_of_name tables sources everything p names named m m_is in
+          let one : record { part = p; declaration = first.0 } ≡ record {
+            part = p;
+            declaration = second.0;
+          } =
+          same_some (slice_get sources (names.number n)) (record {
+            part = p;
+            declaration = first.0;
+          }) (record { part = p; declaration = second.0 })
+          first.3 (ap (slice_get sources) same ∙ second.3) in
+          sym first.1 ∙ ap (λ (s : PartSignal). s.declaration.name) one ∙ second.1;
+      widths = λ n width signed e. (named.widths n width signed e).0;
+      parameters = named.parameters;
+    }

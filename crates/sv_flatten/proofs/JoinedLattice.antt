@@ -267,7 +267,7 @@ module _ (text : TextTree) (order : Order) (is : IsOrderFrom (points text) (pair
         ),
       )
 
-  known_points : HasKnownPoints text
+  pub known_points : HasKnownPoints text
   known_points x y at =
       let place = contains_get (pairs text) (x, y) at in
       let n = zip_left (IsPair order.points) (pairs text) is.numbers is.numbered place.0 (x, y)

@@ -3,12 +3,12 @@ use Rattle.std.proofs.Common.{◌≡◌, ℕ, zero, suc, ◌-◌, ◌^◌, ◌<�
 use Rattle.std.proofs.Common.{[], ◌∷◌, ◌++◌, map, length, Option, Some, None, refl, sym, ap, subst}
 use Rattle.std.proofs.Common.{◌∙◌, arith, ⊎_elim}
 use Rattle.std.specs.Prelude.{not, ◌==◌, ◌&&◌, nat_le, find, unwrap_or, slice_index}
-use Rattle.std.specs.Prelude.{bit_and, Contains, Ok}
+use Rattle.std.specs.Prelude.{bit_and, Contains, Ok, codes}
 use Rattle.std.specs.Int.{bit_at}
 use Rattle.std.specs.List.{slice_get, list_all}
 use Rattle.std.specs.Str.{bytes_eq}
 use Rattle.std.proofs.lemmas.Bool.{not-true, both_ways, and_parts, and_from, eq-eqb, eqb-true}
-use Rattle.std.proofs.lemmas.Bool.{leb-true, cases_eq}
+use Rattle.std.proofs.lemmas.Bool.{leb-true, cases_eq, false≢true}
 use Rattle.std.proofs.lemmas.Nat.Bits.{bit_at_ones}
 use Rattle.std.proofs.lemmas.Nat.{pow_pos}
 use Rattle.sv_system.proofs.Lists.{Contains-head, Contains-later, Contains-cases, Contains-nil}
@@ -304,3 +304,16 @@ least_number text order is = by_lattice text.lattice refl
         (two_points_are order h)
         (subst (λ l. IsPointNumber two_points.points (least_from (points_in l) (pairs_in l))
         (least_point two_points.table)) (sym e) refl)
+
+-- no point is declared twice
+pub points_apart : (l : Option LatticeTree) (order : Order) → (lattice_walk l).end ≡ Ok order
+    → AllDiffer order.points
+points_apart (Some t) order h = (checked_from t order h).differ
+points_apart None order h =
+    subst (λ (o : Order). AllDiffer o.points) (two_points_are order h) (
+      λ at. ⊎_elim
+          (λ is. false≢true (subst (λ x. bytes_eq (codes "H") x ≡ true) is refl))
+          (λ none. Contains-nil (codes "L") none)
+          (Contains-cases (codes "H") [] (codes "L") at),
+      (λ at. Contains-nil (codes "H") at, tt),
+    )

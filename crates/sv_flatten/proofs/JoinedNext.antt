@@ -33,6 +33,7 @@ use Rattle.sv_flat.proofs.ReadSignals.{readings_signals}
 use Rattle.sv_ast.specs.TextSystem.{text_clocks}
 use Rattle.sv_flatten.specs.SameStates.{by_number}
 use Rattle.sv_flatten.proofs.PartsLists.{zip_right, contains_get}
+use Rattle.sv_flatten.proofs.PartsMaps.{map_twice_same}
 use Rattle.sv_flatten.proofs.PartsGrown.{IsBody, IsFlat, number_of_name}
 use Rattle.sv_flatten.proofs.PartsPaths.{from_flat_map}
 use Rattle.sv_flatten.proofs.PartsTexts.{SideBySide, sources_of}
@@ -53,14 +54,6 @@ flat_map_same f g [] same = refl
 flat_map_same f g (x ∷ xs) same =
     ap (λ ys. ys ++ flat_map f xs) (same x (Contains-head x xs))
     ∙ ap (λ ys. g x ++ ys) (flat_map_same f g xs (λ y at. same y (Contains-later x xs y at)))
-
-map_twice_same : {X Y Z : Type 0} (f : X → Y) (g : Y → Z) (h : X → Z) (xs : List X)
-    → ((x : X) → Contains xs x → g (f x) ≡ h x)
-    → map g (map f xs) ≡ map h xs
-map_twice_same f g h [] same = refl
-map_twice_same f g h (x ∷ xs) same =
-    ap (λ y. y ∷ map g (map f xs)) (same x (Contains-head x xs))
-    ∙ ap (λ ys. h x ∷ ys) (map_twice_same f g h xs (λ z at. same z (Contains-later x xs z at)))
 
 clocked_test : ProcessForm → Bool
 clocked_test p = is_clocked p.kind

@@ -1,17 +1,18 @@
 -- Each flat process that is not clocked has a process of the source that does the same, and the
 -- other way round.
-use Rattle.std.proofs.Common.{◌≡◌, ℕ, ◌≤◌, true, false, cond, List}
-use Rattle.std.proofs.Common.{[], length, Option, Some, refl, sym, ap, subst}
+use Rattle.std.proofs.Common.{◌≡◌, ℕ, ◌≤◌, Bool, true, false, cond, List}
+use Rattle.std.proofs.Common.{[], ◌∷◌, map, length, Option, Some, None, refl, sym, ap, subst}
 use Rattle.std.proofs.Common.{◌∙◌, ⊎_elim}
-use Rattle.std.specs.Prelude.{not, ◌==◌, Contains, IsTrue}
+use Rattle.std.specs.Prelude.{not, ◌==◌, filter, Contains, IsTrue}
 use Rattle.std.specs.Prelude.{option_map}
-use Rattle.std.specs.List.{list_any, filter_map}
+use Rattle.std.specs.List.{list_any, filter_map, cons_option, AllZip}
 use Rattle.std.proofs.lemmas.Bool.{false≢true, both_ways, and_parts, and_from, and_left}
 use Rattle.std.proofs.lemmas.Bool.{or_left, or_cases, eqb-true, eq-eqb, cond-false}
 use Rattle.std.proofs.lemmas.Bool.{ltb-true, false_from_ne_true, not-true}
 use Rattle.sv_system.specs.System.{System, Environment, Run, put}
 use Rattle.sv_system.specs.Joining.{Agree, SameRun}
-use Rattle.sv_system.proofs.Lists.{Contains-map, Contains-from_map, Contains-filter}
+use Rattle.sv_system.proofs.Lists.{Contains-head, Contains-later, Contains-map, Contains-from_map}
+use Rattle.sv_system.proofs.Lists.{Contains-filter}
 use Rattle.sv_ast.specs.Scopes.{signal, width_of}
 use Rattle.sv_ast.specs.Tree.{TextTree, named}
 use Rattle.sv_ast.specs.Values.{assigned_value}
@@ -429,3 +430,114 @@ module _ (text : TextTree) (top : Option (List ℕ)) (design : FlatDesign)
         subst (λ (r : Run Path). SameRun (flat_system design) second toward (run_of design f.0) r)
             (ap seen_run same ∙ change.2) runs.2,
       )
+
+  -- ---- in order
+
+  abbrev Same : Run ℕ → Run Path → Type 0
+  Same run other = SameRun (flat_system design) second toward run other
+
+  abbrev flat_runs : List ProcessForm → List (Run ℕ)
+  flat_runs fs = map (run_of design) (filter (λ (p : ProcessForm). not (is_clocked p.kind)) fs)
+
+  abbrev source_runs : List Process → List (Run Path)
+  source_runs qs = map seen_run (filter_map change_of qs)
+
+  -- a process of the text is left out just where the flat one is
+  left_out : (q : Process) (f : ProcessForm) → Flat q f → Contains (processes text top) q
+      → Contains design.processes f
+      → not (links_one_of (text_clocks text top) q) ≡ not (is_clock_link design f)
+  left_out q f flat at listed =
+      same_bool (not (links_one_of (text_clocks text top) q)) (not (is_clock_link design f))
+      (λ h.
+      (Contains-from_filter (λ z. not (is_clock_link design z)) design.processes f
+      (kept_flat q f flat listed
+      (Contains-filter (λ p. not (links_one_of (text_clocks text top) p)) (processes text top) q
+      at h))).0)
+      (λ h.
+      (Contains-from_filter (λ p. not (links_one_of (text_clocks text top) p))
+      (processes text top) q
+      (kept_source q f flat at
+      (Contains-filter (λ z. not (is_clock_link design z)) design.processes f listed h))).0)
+
+  module _ (q : Process) (f : ProcessForm) (fs : List ProcessForm) (qs : List Process)
+      (rest : AllZip Same (flat_runs fs) (source_runs qs)) where
+    abbrev OneMore : Bool → Option (Run Path) → Type 0
+    OneMore b o =
+        AllZip Same
+        (map (run_of design)
+        (cond b (f ∷ filter (λ (p : ProcessForm). not (is_clocked p.kind)) fs)
+        (filter (λ (p : ProcessForm). not (is_clocked p.kind)) fs)))
+        (map seen_run (cons_option o (filter_map change_of qs)))
+
+    both_run : not (is_clocked f.kind) ≡ true → PairRuns q f
+        → OneMore (not (is_clocked f.kind)) (change_of q)
+    both_run free runs =
+        subst (λ b. OneMore b (change_of q)) (sym free)
+        (subst (OneMore true) (sym runs.1) (runs.2, rest))
+
+    none_runs : not (is_clocked f.kind) ≡ false → change_of q ≡ None
+        → OneMore (not (is_clocked f.kind)) (change_of q)
+    none_runs clocked_f none =
+        subst (λ b. OneMore b (change_of q)) (sym clocked_f) (subst (OneMore false) (sym none) rest)
+
+  one_more : (q : Process) (f : ProcessForm) → Flat q f → Contains (processes_of design) f
+      → (fs : List ProcessForm) (qs : List Process)
+      → AllZip Same (flat_runs fs) (source_runs qs)
+      → AllZip Same (flat_runs (f ∷ fs)) (source_runs (q ∷ qs))
+  one_more (combinational p s) f flat inside fs qs rest =
+      let free = ap not flat.1 in
+      both_run (combinational p s) f fs qs rest free
+      (pair_runs (combinational p s) f flat
+      (Contains-filter (λ (z : ProcessForm). not (is_clocked z.kind)) (processes_of design) f inside
+      free))
+  one_more (clocked p s) f flat inside fs qs rest =
+      none_runs (clocked p s) f fs qs rest (ap not flat.1) refl
+  one_more (linking l) f flat inside fs qs rest =
+      let free = ap not (link_unclocked l f flat) in
+      both_run (linking l) f fs qs rest free
+      (pair_runs (linking l) f flat
+      (Contains-filter (λ (z : ProcessForm). not (is_clocked z.kind)) (processes_of design) f inside
+      free))
+
+  abbrev unlinked : List ProcessForm → List ProcessForm
+  unlinked fs = filter (λ z. not (is_clock_link design z)) fs
+
+  abbrev unlinked_sources : List Process → List Process
+  unlinked_sources qs = filter (λ p. not (links_one_of (text_clocks text top) p)) qs
+
+  module _ (q : Process) (f : ProcessForm) (flat : Flat q f)
+      (in_text : Contains (processes text top) q) (in_design : Contains design.processes f)
+      (fs : List ProcessForm) (qs : List Process)
+      (rest : AllZip Same (flat_runs (unlinked fs)) (source_runs (unlinked_sources qs))) where
+    abbrev OneKept : Bool → Bool → Type 0
+    OneKept b c =
+        AllZip Same (flat_runs (cond b (f ∷ unlinked fs) (unlinked fs)))
+        (source_runs (cond c (q ∷ unlinked_sources qs) (unlinked_sources qs)))
+
+    one_kept : (b : Bool) → not (is_clock_link design f) ≡ b → OneKept b b
+    one_kept true e =
+        one_more q f flat
+        (Contains-filter (λ z. not (is_clock_link design z)) design.processes f in_design e)
+        (unlinked fs) (unlinked_sources qs) rest
+    one_kept false e = rest
+
+    kept_alike : OneKept (not (is_clock_link design f))
+        (not (links_one_of (text_clocks text top) q))
+    kept_alike =
+        subst (OneKept (not (is_clock_link design f))) (sym (left_out q f flat in_text in_design))
+        (one_kept (not (is_clock_link design f)) refl)
+
+  each_same : (qs : List Process) (fs : List ProcessForm) → AllZip Flat qs fs
+      → ((q : Process) → Contains qs q → Contains (processes text top) q)
+      → ((f : ProcessForm) → Contains fs f → Contains design.processes f)
+      → AllZip Same (flat_runs (unlinked fs)) (source_runs (unlinked_sources qs))
+  each_same [] [] h in_qs in_fs = tt
+  each_same [] (f ∷ fs) h in_qs in_fs = absurd h
+  each_same (q ∷ qs) [] h in_qs in_fs = absurd h
+  each_same (q ∷ qs) (f ∷ fs) h in_qs in_fs =
+      kept_alike q f h.0 (in_qs q (Contains-head q qs)) (in_fs f (Contains-head f fs)) fs qs
+      (each_same qs fs h.1 (λ p at. in_qs p (Contains-later q qs p at))
+      (λ p at. in_fs p (Contains-later f fs p at)))
+
+  pub in_order : AllZip Same (flat_system design).processes second.processes
+  in_order = each_same (processes text top) design.processes side.bodies (λ q at. at) (λ f at. at)

@@ -52,7 +52,7 @@ use Rattle.sv_flatten.proofs.PartsGrown.{IsBody, source_of_name, number_of_name}
 use Rattle.sv_flatten.proofs.PartsGrown.{signal_is}
 use Rattle.sv_flatten.proofs.PartsPaths.{same_member, signal_in, within_same, path_of}
 use Rattle.sv_flatten.proofs.PartsTexts.{SideBySide, sources_of, all_parts_differ}
-use Rattle.sv_flatten.proofs.FormsBeside.{name_width, names_listed}
+use Rattle.sv_flatten.proofs.FormsBeside.{name_width, names_listed, names_number}
 use Rattle.sv_flatten.proofs.JoinedClocks.{IsNumber, number_same}
 use Rattle.sv_flatten.proofs.JoinedClocks.{same_clock}
 use Rattle.sv_flatten.proofs.JoinedNumbers.{to, to_is, At, at_number, at_path_number, signal_at}
@@ -139,26 +139,8 @@ module _ (text : TextTree) (top : Option (List ℕ)) (design : FlatDesign)
         names_listed side.tables sources (parts text top) design.signals side.forms p names is_named
 
     pub numbering : IsNumbering names design.signals
-    numbering = record {
-      declared = is_named.declared;
-      listed = have_signals;
-      apart = λ n m n_is m_is same.
-          let first = source_of_name side.tables sources (parts text top) p names is_named n n_is in
-          let second = source_of_name side.tables sources (parts text top) p names is_named
-          m m_is in
-          let one : record { part = p; declaration = first.0 } ≡ record {
-            part = p;
-            declaration = second.0;
-          } =
-          same_some (slice_get sources (names.number n)) (record {
-            part = p;
-            declaration = first.0;
-          }) (record { part = p; declaration = second.0 })
-          first.3 (ap (slice_get sources) same ∙ second.3) in
-          sym first.1 ∙ ap (λ (s : PartSignal). s.declaration.name) one ∙ second.1;
-      widths = λ n width signed e. (is_named.widths n width signed e).0;
-      parameters = is_named.parameters;
-    }
+    numbering =
+        names_number side.tables sources (parts text top) design.signals side.forms p names is_named
 
     pub to_name : (n : List ℕ) → IsTrue (is_signal (names.scope n)) →
         path_to (names.number n) ≡ within p n

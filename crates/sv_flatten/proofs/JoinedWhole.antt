@@ -1,5 +1,5 @@
 -- The cycle systems of a text and of its flat design are joined.
-use Rattle.std.proofs.Common.{◌≡◌, ℕ, false, List, Option, Some, sym, ap}
+use Rattle.std.proofs.Common.{◌≡◌, ℕ, false, List, Option, Some, refl, sym, ap}
 use Rattle.std.proofs.Common.{◌∙◌, ⊎_elim}
 use Rattle.std.specs.Prelude.{IsTrue, Contains}
 use Rattle.sv_system.specs.System.{Environment}
@@ -18,6 +18,8 @@ use Rattle.sv_ast.specs.SourceLabels.{points, pairs, least, flows}
 use Rattle.sv_walk.specs.LabelSteps.{Tables}
 use Rattle.sv_walk.specs.Texts.{flat_of}
 use Rattle.sv_flatten.specs.FlattenedTexts.{CanBeFlattened}
+use Rattle.sv_flatten.specs.SideBySide.{text_signals, path_at}
+use Rattle.sv_flatten.specs.InOrder.{JoinedInOrder, SchedulesAgree}
 use Rattle.sv_flatten.proofs.PartsShapes.{flattened}
 use Rattle.sv_flatten.proofs.PartsTexts.{SideBySide, side_by_side}
 use Rattle.sv_flatten.proofs.JoinedLattice.{IsPointNumber, IsOrderFrom, order_of, level, flow_at}
@@ -29,7 +31,8 @@ use Rattle.sv_flatten.proofs.JoinedLeast.{least_number}
 use Rattle.sv_flatten.proofs.JoinedLabels.{same_label}
 use Rattle.sv_flatten.proofs.JoinedRuns.{source_system, path_to}
 use Rattle.sv_flatten.proofs.JoinedRegisters.{register_within}
-use Rattle.sv_flatten.proofs.JoinedOver.{over, back}
+use Rattle.sv_flatten.proofs.JoinedOver.{over, back, in_order}
+use Rattle.sv_flatten.proofs.JoinedSchedules.{RunsKeepFits, flat_keeps_fits, schedules_agree}
 use Rattle.sv_flatten.proofs.JoinedNext.{next_same}
 use Rattle.sv_flatten.proofs.SoundDesigns.{design_sound}
 
@@ -105,6 +108,30 @@ module _ (text : TextTree) (top : Option (List ℕ)) (design : FlatDesign)
       Joined (flat_system design) (text_system text top)
   joined can h = joined_side (side_by_side text top can design h)
 
+  in_order_side : SideBySide text top design
+      → JoinedInOrder (flat_system design) (text_system text top)
+  unfolding joined_side system
+  in_order_side side = record {
+    joined = joined_side side;
+    each = in_order text top design side is_sound admitted;
+  }
+
+  same_name : (side : SideBySide text top design)
+      → (in_order_side side).joined.to ≡ path_at (text_signals text top)
+  unfolding in_order_side joined_side
+  same_name side = refl
+
+  pub joined_in_order : CanBeFlattened text → flat_of text top ≡ Some design
+      → (j : JoinedInOrder (flat_system design) (text_system text top))
+      × (j.joined.to ≡ path_at (text_signals text top))
+  joined_in_order can h =
+      let side = side_by_side text top can design h in (in_order_side side, same_name side)
+
+  pub keep_fits : CanBeFlattened text → flat_of text top ≡ Some design
+      → RunsKeepFits (flat_system design)
+  keep_fits can h =
+      flat_keeps_fits text top design (side_by_side text top can design h) is_sound admitted
+
 -- where a text can be flattened
 pub flattened_joined : (text : TextTree) (top : Option (List ℕ)) (design : FlatDesign)
     → CanBeFlattened text → flat_of text top ≡ Some design → IsAdmitted design
@@ -112,3 +139,22 @@ pub flattened_joined : (text : TextTree) (top : Option (List ℕ)) (design : Fla
 flattened_joined text top design can flat admitted =
     let is_sound = design_sound text top design can.shaped (flattened text can) can.lengths flat in
     joined text top design is_sound admitted can flat
+
+-- likewise process by process
+pub flattened_in_order : (text : TextTree) (top : Option (List ℕ)) (design : FlatDesign)
+    → CanBeFlattened text → flat_of text top ≡ Some design → IsAdmitted design
+    → (j : JoinedInOrder (flat_system design) (text_system text top))
+    × (j.joined.to ≡ path_at (text_signals text top))
+flattened_in_order text top design can flat admitted =
+    let is_sound = design_sound text top design can.shaped (flattened text can) can.lengths flat in
+    joined_in_order text top design is_sound admitted can flat
+
+-- and schedules of places lead to environments that agree
+pub flattened_schedules : (text : TextTree) (top : Option (List ℕ)) (design : FlatDesign)
+    → CanBeFlattened text → flat_of text top ≡ Some design → IsAdmitted design
+    → (j : JoinedInOrder (flat_system design) (text_system text top))
+    → SchedulesAgree (flat_system design) (text_system text top) j.joined.to
+flattened_schedules text top design can flat admitted j =
+    let is_sound = design_sound text top design can.shaped (flattened text can) can.lengths flat in
+    schedules_agree (flat_system design) (text_system text top) j
+    (keep_fits text top design is_sound admitted can flat)

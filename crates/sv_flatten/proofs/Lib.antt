@@ -36,6 +36,8 @@ pub mod JoinedRegisters
 pub mod JoinedRuns
 pub mod JoinedOver
 pub mod JoinedNext
+pub mod JoinedSchedules
+pub mod SidesSame
 pub mod JoinedWhole
 pub mod JoinedLattice
 pub mod JoinedMaps

@@ -14,13 +14,13 @@ use Rattle.sv_lattice.specs.declared.labels.Label.{Label}
 use Rattle.sv_lattice.specs.declared.labels.Label.TheVariants.{Point as Declared_point}
 use Rattle.sv_ast.specs.Scopes.{Binding, signal}
 use Rattle.sv_ast.specs.Tree.{StatementTree, assignment, LabelTree, DeclarationTree}
-use Rattle.sv_ast.specs.Tree.{InstanceTree, ItemTree, released, instance_item, ModuleTree}
+use Rattle.sv_ast.specs.Tree.{InstanceTree, ItemTree, instance_item, ModuleTree}
 use Rattle.sv_ast.specs.Shape.{is_shaped_statement, is_whole_target}
-use Rattle.sv_ast.specs.Instances.{is_empty, is_signal, instance_of}
+use Rattle.sv_ast.specs.Instances.{is_empty, is_signal, instance_of, instances}
 use Rattle.sv_ast.specs.Parts.{Path, Part, within, child, PartSignal, signal_path, signal_width}
 use Rattle.sv_ast.specs.Parts.{declarations, signals_of, PortLink}
 use Rattle.sv_ast.specs.ClockPaths.{edge_of}
-use Rattle.sv_ast.specs.Processes.{Process, combinational, clocked, linking, item_processes}
+use Rattle.sv_ast.specs.Processes.{Process, combinational, clocked, linking}
 use Rattle.sv_flat.specs.Design.{SignalForm, ProcessKind}
 use Rattle.sv_flat.specs.Design.{continuous, clocked as clocked_kind, release}
 use Rattle.sv_flat.specs.Design.{ProcessForm}
@@ -54,17 +54,6 @@ unfoldable pub edges_from : (levels : ℕ) → List ModuleTree → Part → List
 edges_from zero modules p = []
 edges_from (suc levels) modules p =
     flat_map (item_edges (edges_from levels modules) modules p) p.definition.items
-
--- the processes that the walk makes of an item: those of the text, but none of a released value
-abbrev pub item_made : (inside : Part → List Process) → List ModuleTree → Part → ItemTree
-    → List Process
-item_made inside modules p (released target e to) = []
-item_made inside modules p item = item_processes inside modules p item
-
-unfoldable pub made_from : (levels : ℕ) → List ModuleTree → Part → List Process
-made_from zero modules p = []
-made_from (suc levels) modules p =
-    flat_map (item_made (made_from levels modules) modules p) p.definition.items
 
 -- the names of the instances in some items
 abbrev pub instance_names_in : List ItemTree → List (List ℕ)
@@ -171,6 +160,11 @@ module _ (tables : Tables) (sources : List PartSignal) (everything : List Part) 
       get_map signal_path sources (names.number n) (record { part = p; declaration = s.0 }) s.3
       ∙ ap (λ m. Some (within p m)) s.1
 
+  -- each instance in a part is a part
+  abbrev pub ChildrenIn : Part → Type 0
+  ChildrenIn q = (i : InstanceTree) (c : Part) → Contains (instances q.definition) i
+      → child tables.modules q i ≡ Some c → Contains everything c
+
   -- what was built before, with these parts, processes and clocks at its end
   pub record Grown (before after : Built) (ps : List Part) (qs : List Process) (es : List Path) :
       Type 0 where
@@ -182,6 +176,7 @@ module _ (tables : Tables) (sources : List PartSignal) (everything : List Part) 
     pub each_body : AllZip IsFlat qs bodies
     pub each_edge : AllZip IsNumberOf es (filter_map clock_of bodies)
     pub differ : (q : Part) → Contains ps q → AllDiffer (instance_names_in q.definition.items)
+    pub inner : (q : Part) → Contains ps q → ChildrenIn q
     pub more : before.instances ≤ after.instances
 
   pub grown_none : (a : Built) → Grown a a [] [] []
@@ -194,6 +189,7 @@ module _ (tables : Tables) (sources : List PartSignal) (everything : List Part) 
     each_body = tt;
     each_edge = tt;
     differ = λ q at. absurd (Contains-nil q at);
+    inner = λ q at. absurd (Contains-nil q at);
     more = omega arith;
   }
 
@@ -219,6 +215,7 @@ module _ (tables : Tables) (sources : List PartSignal) (everything : List Part) 
         (zip_append IsNumberOf es fs (filter_map clock_of h.bodies) (filter_map clock_of k.bodies)
         h.each_edge k.each_edge);
     differ = λ q at. ⊎_elim (h.differ q) (k.differ q) (contains_either ps us q at);
+    inner = λ q at. ⊎_elim (h.inner q) (k.inner q) (contains_either ps us q at);
     more = let l = h.more in let r = k.more in omega arith;
   }
 
@@ -235,5 +232,6 @@ module _ (tables : Tables) (sources : List PartSignal) (everything : List Part) 
     each_body = (flat, tt);
     each_edge = edges;
     differ = λ r at. absurd (Contains-nil r at);
+    inner = λ r at. absurd (Contains-nil r at);
     more = omega arith;
   }

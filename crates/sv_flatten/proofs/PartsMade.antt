@@ -14,7 +14,7 @@ use Rattle.sv_ast.specs.Processes.{linking, item_processes, processes_from}
 use Rattle.sv_flatten.specs.FlattenedTexts.{ReleasesNothing}
 use Rattle.sv_flatten.proofs.PartsLists.{get_contains}
 use Rattle.sv_flatten.proofs.PartsNamed.{found_place}
-use Rattle.sv_flatten.proofs.PartsGrown.{item_made, made_from}
+use Rattle.sv_flatten.specs.SideBySide.{item_made, made_from}
 
 pub mapped_from : {X Y : Type 0} (f : X → Y) (o : Option X) (y : Y) → option_map f o ≡ Some y →
     (x : X) × (o ≡ Some x) × (f x ≡ y)

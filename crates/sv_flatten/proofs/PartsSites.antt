@@ -18,7 +18,8 @@ use Rattle.sv_ast.specs.Tree.{parameter_item, declared, memory_item, continuous,
 use Rattle.sv_ast.specs.Tree.{always_item, invariant_item, instance_item, ModuleTree}
 use Rattle.sv_ast.specs.Shape.{is_inner, is_shaped_span, is_shaped_expression}
 use Rattle.sv_ast.specs.Shape.{is_shaped_declaration}
-use Rattle.sv_ast.specs.Instances.{entry, is_empty, module_named, instance_of, settings, all_items}
+use Rattle.sv_ast.specs.Instances.{entry, is_empty, module_named, instance_of, instances, settings}
+use Rattle.sv_ast.specs.Instances.{all_items}
 use Rattle.sv_ast.specs.Parts.{Path, Part, part_with, within, child, children, parts_from}
 use Rattle.sv_ast.specs.Parts.{PartSignal, declaration_of, declarations, signals_of}
 use Rattle.sv_ast.specs.Parts.{links_to}
@@ -43,10 +44,12 @@ use Rattle.sv_flatten.proofs.PartsDeclared.{same_ok, walked, forms, form_in}
 use Rattle.sv_flatten.proofs.PartsOverrides.{overrides_done, overrides_open}
 use Rattle.sv_flatten.proofs.PartsNamed.{IsNamed, IsSound, part_of, site_named, same_scope}
 use Rattle.sv_flatten.proofs.PartsNamed.{port_ahead, item_declarations, found_place}
-use Rattle.sv_flatten.proofs.PartsNamed.{to_filter_map}
+use Rattle.sv_flatten.proofs.PartsNamed.{from_filter_map, to_filter_map}
+use Rattle.sv_flatten.proofs.PartsPaths.{to_flat_map}
 use Rattle.sv_flatten.proofs.PartsGrown.{LabelFound, IsForm, IsFlat, Grown, grown_none, grown_join}
-use Rattle.sv_flatten.proofs.PartsGrown.{item_edges, edges_from, item_made, made_from, clock_of}
-use Rattle.sv_flatten.proofs.PartsGrown.{instance_names_in}
+use Rattle.sv_flatten.specs.SideBySide.{item_made, made_from}
+use Rattle.sv_flatten.proofs.PartsGrown.{item_edges, edges_from, clock_of}
+use Rattle.sv_flatten.proofs.PartsGrown.{instance_names_in, ChildrenIn}
 use Rattle.sv_flatten.proofs.PartsItems.{value_grown, assign_grown, block_grown, clocked_grown}
 use Rattle.sv_flatten.proofs.PartsLinks.{links_done}
 use Rattle.sv_flatten.proofs.PartsSettings.{settings_fit}
@@ -103,6 +106,19 @@ module _ (tables : Tables) (names : Names) where
         ap (λ (s : SignalForm). s.kind) (sym e),
         subst (λ (s : SignalForm). (label_walk tables names l).end ≡ Ok s.label) e first.1,
       )
+
+-- ---- levels
+
+-- an instance in a part stands among the parts inside it, where there is a level for it
+child_inside : (modules : List ModuleTree) (levels : ℕ) (p : Part) (i : InstanceTree) (c : Part)
+    → 1 ≤ levels → Contains (instances p.definition) i → child modules p i ≡ Some c
+    → Contains (flat_map (parts_from levels modules) (children modules p)) c
+unfolding parts_from
+child_inside modules zero p i c deep listed is = absurd (omega arith)
+child_inside modules (suc n) p i c deep listed is =
+    to_flat_map (parts_from (suc n) modules) (children modules p) c c
+    (to_filter_map (child modules p) (instances p.definition) i c listed is)
+    (Contains-head c (flat_map (parts_from n modules) (children modules c)))
 
 -- ---- names that are taken
 
@@ -188,7 +204,7 @@ module _ (tables : Tables) (sources : List PartSignal) (everything : List Part)
         (item_made (made_from levels tables.modules) tables.modules here
         (instance_item i))
         (item_edges (edges_from levels tables.modules) tables.modules here (instance_item i))
-        × (list_any (bytes_eq i.name) taken ≡ false)
+        × (list_any (bytes_eq i.name) taken ≡ false) × (1 ≤ levels)
     unfolding instance_walk ports_of
     instance_grown taken built next i h many stands within_all =
         let modules = tables.modules in
@@ -262,6 +278,7 @@ module _ (tables : Tables) (sources : List PartSignal) (everything : List Part)
               subst (AllZip (Rattle.sv_flatten.proofs.PartsGrown.IsNumberOf tables sources
               everything) []) (sym links.3) tt;
           differ = λ r at. absurd (Contains-nil r at);
+          inner = λ r at. absurd (Contains-nil r at);
           more = omega arith;
         } in
         let whole = grown_join tables sources everything built start next []
@@ -276,6 +293,7 @@ module _ (tables : Tables) (sources : List PartSignal) (everything : List Part)
           not-true (list_any (bytes_eq i.name) taken)
               (asked_true (not (list_any (bytes_eq i.name) taken)) (twice i.name_place i.name)
               fresh.1),
+          omega arith,
         )
 
     abbrev GrownBy : Built → Built → ItemTree → Type 0
@@ -291,6 +309,10 @@ module _ (tables : Tables) (sources : List PartSignal) (everything : List Part)
     nothing_free : (taken : List (List ℕ)) (n : List ℕ) → Contains [] n → Contains taken n → ⊥
     nothing_free taken n at there = Contains-nil n at
 
+    -- there is a level for an instance in an item
+    abbrev HasLevel : ItemTree → Type 0
+    HasLevel item = (i : InstanceTree) → instance_of item ≡ Some i → 1 ≤ levels
+
     same_built : (built next : Built) → (done built).end ≡ Ok next →
         Grown tables sources everything built next [] [] []
     same_built built next h =
@@ -304,10 +326,10 @@ module _ (tables : Tables) (sources : List PartSignal) (everything : List Part)
         → StandsAt sources (length built.signals)
         (flat_map signals_of (item_parts levels here item))
         → ((q : Part) → Contains (item_parts levels here item) q → Contains everything q)
-        → GrownBy built next item × Free taken item
+        → GrownBy built next item × Free taken item × HasLevel item
     unfolding item_walk
     item_grown taken built next (parameter_item p) h many listed flattened stands all =
-        (same_built built next h, nothing_free taken)
+        (same_built built next h, nothing_free taken, λ i e. absurd (cc e))
     item_grown taken built next (declared d) h many listed flattened stands all =
         let shaped = (and_parts (is_inner d) (is_shaped_declaration d) flattened.0).1 in (
           value_grown tables sources everything here names named d d.value built next h
@@ -316,35 +338,40 @@ module _ (tables : Tables) (sources : List PartSignal) (everything : List Part)
               (and_parts (option_map_or is_shaped_span d.span true)
               (option_map_or is_shaped_expression d.value true) shaped).1,
           nothing_free taken,
+          λ i e. absurd (cc e),
         )
     item_grown taken built next (memory_item m) h many listed flattened stands all =
-        (same_built built next h, nothing_free taken)
+        (same_built built next h, nothing_free taken, λ i e. absurd (cc e))
     item_grown taken built next (continuous ts p e) h many listed flattened stands all = (
       assign_grown tables sources everything here names named ts p e built next h
           flattened.0,
       nothing_free taken,
+      λ i e. absurd (cc e),
     )
     item_grown taken built next (released t e to) h many listed flattened stands all =
-        (same_built built next h, nothing_free taken)
+        (same_built built next h, nothing_free taken, λ i e. absurd (cc e))
     item_grown taken built next (always_item p None s) h many listed flattened stands all = (
       block_grown tables sources everything here names named p s built next h flattened.0
           flattened.1,
       nothing_free taken,
+      λ i e. absurd (cc e),
     )
     item_grown taken built next (always_item p (Some clock) s) h many listed flattened stands
         all = (
           clocked_grown tables sources everything here names named p clock s built next h
               flattened.0 flattened.1,
           nothing_free taken,
+          λ i e. absurd (cc e),
         )
     item_grown taken built next (invariant_item p e) h many listed flattened stands all =
-        (same_built built next h, nothing_free taken)
+        (same_built built next h, nothing_free taken, λ i e. absurd (cc e))
     item_grown taken built next (instance_item i) h many listed flattened stands all =
         let grown = instance_grown taken built next i h many stands all in (
           grown.0,
           λ n at there. not_taken taken i.name grown.1 (subst (Contains taken)
               (⊎_elim (λ is. sym is) (λ none.
               absurd (Contains-nil n none)) (Contains-cases i.name [] n at)) there),
+          λ j e. grown.2,
         )
 
     -- the names of instances in some items differ, and are not taken
@@ -383,9 +410,13 @@ module _ (tables : Tables) (sources : List PartSignal) (everything : List Part)
         (flat_map (item_made (made_from levels tables.modules) tables.modules here) items)
         (flat_map (item_edges (edges_from levels tables.modules) tables.modules here) items)
         × AllFree taken items
+        × ((item : ItemTree) → Contains items item → HasLevel item)
     unfolding items_from
-    items_grown [] taken built after h many listed stands all =
-        (same_built built after h, (tt, λ n at there. Contains-nil n at))
+    items_grown [] taken built after h many listed stands all = (
+      same_built built after h,
+      (tt, λ n at there. Contains-nil n at),
+      λ item at. absurd (Contains-nil item at),
+    )
     items_grown (item ∷ items) taken built after h many listed stands all =
         let first = parts_done (item_walk inside tables site names taken built item)
         (λ next. items_from inside tables site names (taken ++ instance_names item) next items)
@@ -419,6 +450,10 @@ module _ (tables : Tables) (sources : List PartSignal) (everything : List Part)
               (flat_map (item_edges (edges_from levels tables.modules) tables.modules here) items)
               head.0 rest.0,
           one_freer item items taken head.1 rest.1,
+          λ x at. ⊎_elim
+              (λ is. subst HasLevel is head.2)
+              (λ inside. rest.2 x inside)
+              (Contains-cases item items x at),
         )
 
   module _ (levels : ℕ) (inside : Site → Built → Walk Built) (works : Works inside levels) where
@@ -476,8 +511,9 @@ module _ (tables : Tables) (sources : List PartSignal) (everything : List Part)
           kind = l.1;
           found = l.2;
         }) in
-        let grown_own : (free : AllDiffer (instance_names_in m.items)) →
-        Grown tables sources everything built middle (p ∷ []) [] [] = λ free. record {
+        let grown_own : AllDiffer (instance_names_in m.items)
+        → ((i : InstanceTree) → Contains (instances m) i → 1 ≤ levels)
+        → Grown tables sources everything built middle (p ∷ []) [] [] = λ free deep. record {
           forms = own;
           signals = refl;
           each_form =
@@ -490,6 +526,11 @@ module _ (tables : Tables) (sources : List PartSignal) (everything : List Part)
           differ = λ q at. subst (λ (x : Part). AllDiffer (instance_names_in x.definition.items))
               (⊎_elim (λ is. is) (λ none.
               absurd (Contains-nil q none)) (Contains-cases p [] q at)) free;
+          inner = λ q at. subst (ChildrenIn tables sources everything)
+              (⊎_elim (λ is. is) (λ none.
+              absurd (Contains-nil q none)) (Contains-cases p [] q at))
+              (λ i c listed is. all c (Contains-later p kids c (child_inside modules levels p i c
+              (deep i listed) listed is)));
           more = omega arith;
         } in
         let count : length middle.signals ≡ base + length (signals_of p) =
@@ -507,7 +548,9 @@ module _ (tables : Tables) (sources : List PartSignal) (everything : List Part)
           grown = grown_join tables sources everything built middle after (p ∷ []) kids []
               (flat_map (item_made (made_from levels modules) modules p) m.items) []
               (flat_map (item_edges (edges_from levels modules) modules p) m.items)
-              (grown_own items.1.0)
+              (grown_own items.1.0 (λ i listed.
+              let item = from_filter_map instance_of m.items i listed in
+              items.2 item.0 item.1 i item.2))
               (subst (λ xs. Grown tables sources everything middle after xs
               (flat_map (item_made (made_from levels modules) modules p) m.items)
               (flat_map (item_edges (edges_from levels modules) modules p) m.items)) kids_are

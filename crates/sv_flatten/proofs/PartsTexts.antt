@@ -10,7 +10,8 @@ use Rattle.sv_system.proofs.Lists.{Contains-head}
 use Rattle.sv_lattice.specs.Maps.{MapRows}
 use Rattle.sv_ast.specs.Tree.{DeclarationTree, ModuleTree, TextTree}
 use Rattle.sv_ast.specs.Instances.{uninstanced, only, top_module}
-use Rattle.sv_ast.specs.Parts.{Path, Part, part_with, parts_from, most_levels, parts, PartSignal}
+use Rattle.sv_ast.specs.Parts.{Path, Part, part_with, child, parts_from, most_levels, parts}
+use Rattle.sv_ast.specs.Parts.{PartSignal}
 use Rattle.sv_ast.specs.Parts.{signal_path, declarations, signals_of}
 use Rattle.sv_ast.specs.Processes.{Process, processes_from, processes}
 use Rattle.sv_flat.specs.Design.{FlatDesign}
@@ -30,8 +31,10 @@ use Rattle.sv_flatten.proofs.PartsLists.{stands_whole, get_contains, contains_ge
 use Rattle.sv_flatten.proofs.PartsLists.{AllDiffer, get_map}
 use Rattle.sv_flatten.proofs.PartsDeclared.{same_ok}
 use Rattle.sv_flatten.proofs.PartsNamed.{IsNamed, IsSound, found_place}
-use Rattle.sv_flatten.proofs.PartsGrown.{IsForm, IsFlat, IsNumberOf, Grown, edges_from, made_from}
-use Rattle.sv_flatten.proofs.PartsGrown.{clock_of}
+use Rattle.sv_flatten.specs.Children.{HasEachChild}
+use Rattle.sv_flatten.specs.SideBySide.{made_from, made_of}
+use Rattle.sv_flatten.proofs.PartsGrown.{IsForm, IsFlat, IsNumberOf, Grown, edges_from}
+use Rattle.sv_flatten.proofs.PartsGrown.{clock_of, ChildrenIn}
 use Rattle.sv_flatten.proofs.PartsMade.{all_made}
 use Rattle.sv_flatten.proofs.PartsSites.{sites_grown}
 use Rattle.sv_flatten.proofs.PartsPaths.{path_of, InstancesDiffer, DeclaredDiffer, parts_differ}
@@ -45,12 +48,6 @@ sources_of text top = flat_map signals_of (parts text top)
 abbrev pub edges_of : TextTree → Option (List ℕ) → List Path
 edges_of text top =
     option_map_or (λ (m : ModuleTree). edges_from most_levels text.modules (part_with [] [] m))
-    (top_module text.modules top) []
-
--- the processes that the walk of a text makes, in order
-abbrev pub made_of : TextTree → Option (List ℕ) → List Process
-made_of text top =
-    option_map_or (λ (m : ModuleTree). made_from most_levels text.modules (part_with [] [] m))
     (top_module text.modules top) []
 
 -- a text, some of its processes and a design side by side
@@ -71,6 +68,8 @@ pub record Beside (text : TextTree) (top : Option (List ℕ)) (qs : List Process
   pub clocks : AllZip (IsNumberOf tables (sources_of text top) (parts text top)) (edges_of text top)
       (filter_map clock_of design.processes)
   pub differ : (q : Part) → Contains (parts text top) q → InstancesDiffer q
+  pub inner : (q : Part) → Contains (parts text top) q
+      → ChildrenIn tables (sources_of text top) (parts text top) q
 
 -- a text and a design
 abbrev pub SideBySide : TextTree → Option (List ℕ) → FlatDesign → Type 0
@@ -188,10 +187,11 @@ module _ (text : TextTree) (top : Option (List ℕ)) (fine : IsFlattened text) w
             (edges_of text top) (filter_map clock_of bs))
             (sym grown.processes) grown.each_edge;
         differ = grown.differ;
+        inner = grown.inner;
       })
 
 -- of a text that releases nothing the walk makes all processes
-nothing_left : (text : TextTree) (top : Option (List ℕ)) → EachItem ReleasesNothing text →
+pub nothing_left : (text : TextTree) (top : Option (List ℕ)) → EachItem ReleasesNothing text →
     made_of text top ≡ processes text top
 nothing_left text top releases =
     by_top (top_module text.modules top) (λ m is. top_listed text.modules top m is)
@@ -215,7 +215,7 @@ side_by_side text top can design h =
 -- ---- paths
 
 module _ (text : TextTree) (top : Option (List ℕ)) (design : FlatDesign)
-    (side : SideBySide text top design) where
+    {qs : List Process} (side : Beside text top qs design) where
   all_parts : List Part
   all_parts = parts text top
 
@@ -274,3 +274,9 @@ module _ (text : TextTree) (top : Option (List ℕ)) (design : FlatDesign)
   -- no two signals of the text have one path
   pub paths_differ : AllDiffer (map signal_path (sources_of text top))
   paths_differ = signals_differ (parts text top) all_parts_differ declared_differ
+
+  -- each instance in a part is a part
+  pub each_child : HasEachChild text top
+  each_child p c i at listed is =
+      side.inner p at i c listed
+      (ap (λ (t : Tables). child t.modules p i) side.tables_are ∙ is)

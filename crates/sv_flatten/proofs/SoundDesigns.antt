@@ -26,9 +26,9 @@ use Rattle.sv_width.specs.Agreement.{HaveLengths}
 use Rattle.sv_flatten.proofs.PartsShapes.{IsFlattened}
 use Rattle.sv_width.specs.WrittenLengths.{TextHasLengths}
 use Rattle.sv_flatten.proofs.PartsDeclared.{same_ok}
-use Rattle.sv_flatten.proofs.PartsGrown.{made_from}
+use Rattle.sv_flatten.specs.SideBySide.{made_from, made_of}
 use Rattle.sv_flatten.proofs.PartsNamed.{IsSound}
-use Rattle.sv_flatten.proofs.PartsTexts.{made_of, made_beside, value_is, top_listed}
+use Rattle.sv_flatten.proofs.PartsTexts.{made_beside, value_is, top_listed}
 use Rattle.sv_flatten.proofs.JoinedSources.{from_option}
 use Rattle.sv_flatten.proofs.SoundLabels.{points_sound, maps_sound, signals_sound}
 use Rattle.sv_flatten.proofs.SoundProcesses.{ProcessHasLengths, processes_sound}

@@ -33,7 +33,8 @@ use Rattle.sv_flatten.proofs.PartsLists.{zip_right, contains_get, get_contains}
 use Rattle.sv_flatten.proofs.PartsNamed.{IsNamed, to_filter_map}
 use Rattle.sv_flatten.proofs.PartsGrown.{KindFits, IsBody, IsLink, IsFlat, IsNoLink, IsNumberOf}
 use Rattle.sv_flatten.proofs.PartsGrown.{clock_of, signal_is}
-use Rattle.sv_flatten.proofs.PartsTexts.{MadeBeside, made_of, sources_of, edges_of}
+use Rattle.sv_flatten.specs.SideBySide.{made_of}
+use Rattle.sv_flatten.proofs.PartsTexts.{MadeBeside, sources_of, edges_of}
 use Rattle.sv_flatten.proofs.JoinedLinks.{IsInput, IsOutput, link_is, port_is_signal}
 use Rattle.sv_flatten.proofs.JoinedLinks.{outer_numbered}
 use Rattle.sv_flatten.proofs.FormsBeside.{below_size, names_listed}

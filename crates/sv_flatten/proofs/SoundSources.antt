@@ -26,7 +26,7 @@ use Rattle.sv_width.specs.WrittenLengths.{ValueHasLengths, LinksHaveLengths, Ite
 use Rattle.sv_width.specs.WrittenLengths.{ModuleHasLengths}
 use Rattle.sv_flatten.proofs.PartsLists.{contains_right, contains_either}
 use Rattle.sv_flatten.proofs.PartsNamed.{from_filter_map}
-use Rattle.sv_flatten.proofs.PartsGrown.{item_made, made_from}
+use Rattle.sv_flatten.specs.SideBySide.{item_made, made_from}
 use Rattle.sv_flatten.proofs.PartsMade.{mapped_from, child_listed}
 use Rattle.sv_flatten.proofs.PartsPaths.{from_flat_map}
 use Rattle.sv_flatten.proofs.JoinedSources.{from_some_list, from_option}

@@ -1,0 +1,12 @@
+use Rattle.sv_flatten.proofs.PartsShapes.{all_flattened}
+use Rattle.sv_flatten.proofs.PartsTexts.{made_beside, nothing_left}
+use Rattle.sv_flatten.proofs.SidesSame.{processes_beside}
+use Rattle.sv_flatten.proofs.beside.processes_stand_beside_their_sources.Goals as goal
+
+pub returns-clause-beside : goal.returns-clause-beside
+returns-clause-beside c text asked design shaped numbers flat =
+    processes_beside text asked design
+    (made_beside text asked (all_flattened text shaped numbers) design flat)
+
+pub returns-clause-all : goal.returns-clause-all
+returns-clause-all c text asked releases = nothing_left text asked releases

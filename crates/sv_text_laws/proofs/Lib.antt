@@ -1,4 +1,5 @@
 pub mod LatticesAsked
+mod SourceLattices
 pub mod MapsAsked
 pub mod CheckedDesigns
 pub mod FineTokens

@@ -1,4 +1,5 @@
 pub mod Sizes
 pub mod Signals
 pub mod LabelRows
+pub mod SourceLattices
 pub mod SimulatedTexts

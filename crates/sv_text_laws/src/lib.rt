@@ -10,9 +10,10 @@
 //! own cycle meaning (`specs/SimulatedTexts.antt`).
 //!
 //! Of the way from bytes to the flat design it says besides that bytes mean one text, that typed
-//! expressions are no larger than their sources (`specs/Sizes.antt`), and that the signals of the
-//! design and its label maps are those declared (`specs/Signals.antt`, `specs/LabelRows.antt`).
-//! None of these files is private.
+//! expressions are no larger than their sources (`specs/Sizes.antt`), that the signals of the
+//! design and its label maps are those declared (`specs/Signals.antt`, `specs/LabelRows.antt`), and
+//! that flows, lattice and clocks are those of the source's own words
+//! (`specs/SourceLattices.antt`). None of these files is private.
 //!
 //! Of memories and invariants, which are not built yet, neither the walk nor the meaning takes
 //! anything: of a text with such an item the laws speak as of the same text without it.
@@ -22,6 +23,7 @@ mod meanings;
 mod signals;
 mod simulated;
 mod sizes;
+mod sources;
 
 ghost use Rattle.std.specs.Prelude.{◌≡◌, ℕ, List, [], Option, Some, All};
 ghost use Rattle.sv_system.specs.System.{Noninterferent, HasOneTrace};
@@ -40,6 +42,7 @@ pub use meanings::bytes_mean_at_most_one_text;
 pub use signals::flat_signals_are_those_declared;
 pub use simulated::{designs_are_written_as_their_texts, each_stimulus_of_a_text_has_one_text};
 pub use sizes::typed_expressions_are_no_larger;
+pub use sources::{clocks_of_texts_are_by_links, lattices_of_texts_are_lattices};
 
 /// The flat design that a text stands for has a lattice of 1 to 32 points: no two different ones
 /// flow to each other, and any two have a least upper and a greatest lower point. Each of its label

@@ -2,11 +2,14 @@
 use Rattle.std.proofs.Common.{◌≡◌, ℕ, ◌+◌, ◌^◌, ◌<◌, List, [], ◌∷◌, ◌++◌, map, Option, Some, None}
 use Rattle.std.proofs.Common.{sym, ap, subst, ◌∙◌, arith}
 use Rattle.std.specs.Prelude.{◌&&◌, ◌||◌, not, nat_le, is_some, unwrap_or, option_map, Ok}
+use Rattle.std.specs.Prelude.{IsTrue}
 use Rattle.std.specs.List.{slice_get, AllZip}
 use Rattle.std.proofs.lemmas.List.{append_assoc, append-nil}
 use Rattle.sv_num.proofs.BitsLemmas.{joined_low}
 use Rattle.sv_lattice.specs.Maps.{MapRows, row_of, pair_value}
 use Rattle.sv_ast.specs.Tree.{SpanTree, MapTree, TextTree}
+use Rattle.sv_ast.specs.Processes.{Process}
+use Rattle.sv_ast.specs.Shape.{is_shaped}
 use Rattle.sv_ast.specs.SourceLabels.{points, row_at}
 use Rattle.sv_flat.specs.Design.{FlatDesign}
 use Rattle.sv_walk.specs.Walks.{ask}
@@ -16,9 +19,10 @@ use Rattle.sv_walk.specs.LabelMaps.{all_rows, has_all_rows, map_walk, maps_walk}
 use Rattle.sv_walk.specs.LabelSteps.{Tables}
 use Rattle.sv_walk.specs.Texts.{flat_of}
 use Rattle.sv_walk.proofs.WalkLemmas.{parts_done}
-use Rattle.sv_flatten.specs.FlattenedTexts.{CanBeFlattened}
+use Rattle.sv_flatten.specs.FlattenedTexts.{ItemNumbersFit, EachItem}
 use Rattle.sv_flatten.proofs.PartsDeclared.{same_ok}
-use Rattle.sv_flatten.proofs.PartsTexts.{SideBySide, side_by_side}
+use Rattle.sv_flatten.proofs.PartsShapes.{all_flattened}
+use Rattle.sv_flatten.proofs.PartsTexts.{Beside, made_beside}
 use Rattle.sv_flatten.proofs.JoinedLattice.{IsPointNumber, order_of, number_at, one_point}
 use Rattle.sv_flatten.proofs.JoinedMaps.{IsMapOf, maps_done, SecondFits, selected_value, same_row}
 use Rattle.sv_text_laws.specs.LabelRows.{selector_width, IsTableOf}
@@ -114,7 +118,7 @@ zip_tables text (t ∷ ts) (m ∷ ms) h k =
     (is_table text t m h.0 k.0, zip_tables text ts ms h.1 k.1)
 
 module _ (text : TextTree) (top : Option (List ℕ)) (design : FlatDesign)
-    (side : SideBySide text top design) where
+    {qs : List Process} (side : Beside text top qs design) where
   tables_beside : AllZip (IsTableOf text) text.maps design.maps
   tables_beside =
       let order_is = order_of text side.order side.lattice in
@@ -129,7 +133,8 @@ module _ (text : TextTree) (top : Option (List ℕ)) (design : FlatDesign)
       (subst (AllZip (IsMapOf side.order.points) text.maps) (sym maps.1) maps.2)))
 
 pub all_tables : (text : TextTree) (top : Option (List ℕ)) (design : FlatDesign)
-    → CanBeFlattened text → flat_of text top ≡ Some design
+    → IsTrue (is_shaped text) → EachItem ItemNumbersFit text → flat_of text top ≡ Some design
     → AllZip (IsTableOf text) text.maps design.maps
-all_tables text top design can flat =
-    tables_beside text top design (side_by_side text top can design flat)
+all_tables text top design shaped numbers flat =
+    tables_beside text top design
+    (made_beside text top (all_flattened text shaped numbers) design flat)

@@ -1,7 +1,7 @@
 -- Each signal of a flat design is that of a declaration of the text.
 use Rattle.std.proofs.Common.{◌≡◌, ℕ, Bool, true, false, List, [], ◌∷◌, map, Option, Some}
 use Rattle.std.proofs.Common.{None, refl, sym, ap, subst, ◌∙◌}
-use Rattle.std.specs.Prelude.{◌&&◌, ◌==◌, flat_map, position, if◌then◌else◌, Ok}
+use Rattle.std.specs.Prelude.{◌&&◌, ◌==◌, flat_map, position, if◌then◌else◌, Ok, IsTrue}
 use Rattle.std.specs.List.{slice_get, AllZip}
 use Rattle.std.specs.Option.{option_map_or}
 use Rattle.std.specs.Str.{bytes_eq}
@@ -18,6 +18,8 @@ use Rattle.sv_ast.specs.Instances.{is_empty, is_signal, top_module}
 use Rattle.sv_ast.specs.Parts.{Part, part_with, parts_from, most_levels, parts, PartSignal}
 use Rattle.sv_ast.specs.Parts.{signals_of}
 use Rattle.sv_ast.specs.ClockPaths.{is_input_kind}
+use Rattle.sv_ast.specs.Processes.{Process}
+use Rattle.sv_ast.specs.Shape.{is_shaped}
 use Rattle.sv_ast.specs.SourceLabels.{points, pairs, least}
 use Rattle.sv_flat.specs.declared.signals.SigKind.TheVariants as kinds
 use Rattle.sv_flat.specs.Design.{SignalForm, FlatDesign}
@@ -32,11 +34,12 @@ use Rattle.sv_walk.specs.Declarations.{Site, kind_of}
 use Rattle.sv_walk.specs.InstanceSteps.{Built}
 use Rattle.sv_walk.specs.Texts.{module_names, top_walk, tables_of, design_of, walk_of, flat_of}
 use Rattle.sv_walk.proofs.WalkLemmas.{parts_done, asked_true, found_some}
-use Rattle.sv_flatten.specs.FlattenedTexts.{CanBeFlattened}
+use Rattle.sv_flatten.specs.FlattenedTexts.{ItemNumbersFit, EachItem}
 use Rattle.sv_flatten.proofs.PartsDeclared.{same_ok}
 use Rattle.sv_flatten.proofs.PartsNamed.{IsNamed}
 use Rattle.sv_flatten.proofs.PartsGrown.{LabelFound, IsForm, number_of_name}
-use Rattle.sv_flatten.proofs.PartsTexts.{SideBySide, side_by_side, value_is}
+use Rattle.sv_flatten.proofs.PartsShapes.{all_flattened}
+use Rattle.sv_flatten.proofs.PartsTexts.{Beside, made_beside, value_is}
 use Rattle.sv_flatten.proofs.JoinedLattice.{IsOrderFrom, order_of, number_at}
 use Rattle.sv_flatten.proofs.JoinedLeast.{least_number}
 use Rattle.sv_flatten.proofs.JoinedMaps.{IsMapOf, maps_done}
@@ -105,7 +108,7 @@ module _ (points : List (List ℕ)) where
       ∙ ap (λ ns. t.name ∷ ns) (names_same ts ms h.1)
 
 module _ (text : TextTree) (top : Option (List ℕ)) (design : FlatDesign)
-    (side : SideBySide text top design) where
+    {qs : List Process} (side : Beside text top qs design) where
   abbrev sources : List PartSignal
   sources = text_signals text top
 
@@ -206,15 +209,16 @@ module _ (text : TextTree) (top : Option (List ℕ)) (design : FlatDesign)
   )
 
 pub all_declared : (text : TextTree) (top : Option (List ℕ)) (design : FlatDesign)
-    → CanBeFlattened text → flat_of text top ≡ Some design
+    → IsTrue (is_shaped text) → EachItem ItemNumbersFit text → flat_of text top ≡ Some design
     → AllZip (IsDeclared text (text_signals text top)) (text_signals text top) design.signals
-all_declared text top design can flat =
-    let side = side_by_side text top can design flat in
+all_declared text top design shaped numbers flat =
+    let side = made_beside text top (all_flattened text shaped numbers) design flat in
     zip_declared text top design side (text_signals text top) design.signals side.forms
     (design_plain text top design flat)
 
 pub same_points : (text : TextTree) (top : Option (List ℕ)) (design : FlatDesign)
-    → CanBeFlattened text → flat_of text top ≡ Some design
+    → IsTrue (is_shaped text) → EachItem ItemNumbersFit text → flat_of text top ≡ Some design
     → design.points ≡ points text
-same_points text top design can flat =
-    design_points text top design (side_by_side text top can design flat)
+same_points text top design shaped numbers flat =
+    design_points text top design
+    (made_beside text top (all_flattened text shaped numbers) design flat)

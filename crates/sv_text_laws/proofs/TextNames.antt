@@ -83,7 +83,7 @@ module _ (text : TextTree) (asked : Option (List ℕ)) (design : FlatDesign)
       let a = at_number text asked design side s (signal_below text asked design side s at) in
       let sources = text_signals text asked in
       let found = zip_left (IsDeclared text sources) sources design.signals
-      (all_declared text asked design can flat) s a.source a.source_at in
+      (all_declared text asked design can.shaped can.numbers flat) s a.source a.source_at in
       let same = same_some (slice_get design.signals s) a.form found.0 a.form_at found.1 in
       ap (λ (f : SignalForm). f.name) (signal_at text asked design side s a ∙ same)
       ∙ found.2.name
@@ -161,6 +161,6 @@ module _ (text : TextTree) (asked : Option (List ℕ)) (design : FlatDesign)
       let number = λ (ps : List (List ℕ)). position (λ point. bytes_eq point name) ps in
       subst (λ o. AskedAlike (option_map (λ k. Some (record { 0 = k })) o)
       (level_asked_of text (Some name)))
-      (sym (ap number (same_points text asked design can flat)
+      (sym (ap number (same_points text asked design can.shaped can.numbers flat)
       ∙ ap (λ test. position test (points text)) (fun_ext (λ point. turned point name))))
       (point_asked name (position (bytes_eq name) (points text)) refl)

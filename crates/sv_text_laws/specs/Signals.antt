@@ -1,6 +1,6 @@
 -- What a signal of a flat design has from its declaration: name, length, signedness and kind (IEEE
 -- 1364-2005, clauses 4.2, 4.3, 12.3 and 12.5), and label (SecVerilog, ASPLOS 2015).
-use Rattle.std.specs.Prelude.{◌≡◌, ℕ, List, map, flat_map, Option, Some, None}
+use Rattle.std.specs.Prelude.{◌≡◌, ℕ, List, map, Option, Some, None}
 use Rattle.std.specs.Prelude.{if◌then◌else◌}
 use Rattle.std.specs.List.{slice_get, join_with_byte}
 use Rattle.sv_lattice.specs.declared.labels.Label.{Label}
@@ -9,17 +9,14 @@ use Rattle.sv_ast.specs.declared.declarations.DeclKind.{DeclKind}
 use Rattle.sv_ast.specs.declared.declarations.DeclKind.TheVariants.{Input, OutputWire, OutputReg}
 use Rattle.sv_ast.specs.declared.declarations.DeclKind.TheVariants.{Wire, Reg}
 use Rattle.sv_ast.specs.Tree.{LabelTree, point_label, table_label, MapTree, TextTree}
-use Rattle.sv_ast.specs.Parts.{Path, Part, within, parts, PartSignal, signal_path, signal_width}
-use Rattle.sv_ast.specs.Parts.{signals_of}
+use Rattle.sv_ast.specs.Parts.{Path, Part, within, PartSignal, signal_path, signal_width}
 use Rattle.sv_ast.specs.Meaning.{is_top_input}
 use Rattle.sv_ast.specs.SourceLabels.{points, least}
 use Rattle.sv_flat.specs.declared.signals.SigKind.{SigKind}
 use Rattle.sv_flat.specs.declared.signals.SigKind.TheVariants as kinds
 use Rattle.sv_flat.specs.Design.{SignalForm}
-
--- the signals of a text, in order: those of each instance before those of the instances inside it
-abbrev pub text_signals : TextTree → (asked : Option (List ℕ)) → List PartSignal
-text_signals text asked = flat_map signals_of (parts text asked)
+-- `text_signals`: the signals of a text, in order
+pub use Rattle.sv_flatten.specs.SideBySide.{text_signals}
 
 -- the names of a path with a `.` between any two (clause 12.5)
 abbrev pub dotted : Path → List ℕ

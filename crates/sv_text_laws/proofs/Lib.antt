@@ -10,6 +10,7 @@ pub mod TextLaws
 mod SameSimulations
 mod TextNames
 pub mod TextSimulations
+mod FalsifiedTexts
 mod TypedSizes
 mod SizeExamples
 mod PlainSignals

@@ -3,3 +3,4 @@ pub mod Signals
 pub mod LabelRows
 pub mod SourceLattices
 pub mod SimulatedTexts
+pub mod FalsifiedTexts

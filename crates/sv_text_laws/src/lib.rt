@@ -7,7 +7,8 @@
 //! has laws, no program.
 //!
 //! What is written of the flat design for a stimulus is what is written of the text, by the text's
-//! own cycle meaning (`specs/SimulatedTexts.antt`).
+//! own cycle meaning (`specs/SimulatedTexts.antt`), and a valuation falsifies an obligation of the
+//! design exactly where it does for the text (`specs/FalsifiedTexts.antt`).
 //!
 //! Of the way from bytes to the flat design it says besides that bytes mean one text, that typed
 //! expressions are no larger than their sources (`specs/Sizes.antt`), that the signals of the
@@ -19,6 +20,7 @@
 //! anything: of a text with such an item the laws speak as of the same text without it.
 #![tactic(auto)]
 
+mod falsified;
 mod meanings;
 mod signals;
 mod simulated;
@@ -38,6 +40,7 @@ ghost use Rattle.sv_walk.specs.Texts.{flat_of};
 ghost use Rattle.sv_flatten.specs.FlattenedTexts.{CanBeFlattened, EachItem, ReleasesNothing};
 ghost use Rattle.sv_obl.specs.Validity.{AllValid};
 
+pub use falsified::valuations_falsify_texts_as_their_designs;
 pub use meanings::bytes_mean_at_most_one_text;
 pub use signals::flat_signals_are_those_declared;
 pub use simulated::{designs_are_written_as_their_texts, each_stimulus_of_a_text_has_one_text};

@@ -1,0 +1,24 @@
+// What a valuation that falsifies an obligation means for the source text, as the contract of a
+// function that does nothing.
+ghost use Rattle.std.specs.Prelude.{◌≡◌, ◌↔◌, ℕ, List, Option, Some, Contains};
+ghost use Rattle.sv_ast.specs.Tree.{TextTree};
+ghost use Rattle.sv_flat.specs.Admission.{IsAdmitted};
+ghost use Rattle.sv_flat.specs.Design.{TypedTree, FlatDesign};
+ghost use Rattle.sv_walk.specs.Texts.{flat_of};
+ghost use Rattle.sv_flatten.specs.FlattenedTexts.{CanBeFlattened};
+ghost use Rattle.sv_obl.specs.Obligations.{Obligation, obligations};
+ghost use Rattle.sv_obl.specs.Validity.{Valuation, Falsifies};
+ghost use Rattle.sv_text_laws.specs.FalsifiedTexts.{FalsifiesText};
+
+/// A valuation falsifies an obligation of an admitted flat design exactly where it does for the
+/// text that the design stands for: in environments of the text's own system that are settled for
+/// it, and by labels in the source's own words (SecVerilog, ASPLOS 2015). The text has the shape
+/// that the grammar gives, releases nothing, and writes numbers that have 1 to 64 bits and fit
+/// them.
+pub fn valuations_falsify_texts_as_their_designs()
+    ensures { (text : TextTree) (asked : Option (List ℕ)) (design : FlatDesign)
+        → CanBeFlattened text → flat_of text asked ≡ Some design → IsAdmitted design
+        → (facts : List TypedTree) (v : Valuation) (o : Obligation)
+        → Contains (obligations facts design) o
+        → Falsifies design v o ↔ FalsifiesText text asked design v o }
+{}

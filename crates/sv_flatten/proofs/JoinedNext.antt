@@ -48,7 +48,7 @@ use Rattle.sv_flatten.proofs.JoinedOver.{same_place, link_unclocked}
 use Rattle.sv_flat.proofs.SameUpdates.{run_alike}
 use Rattle.sv_flatten.proofs.StatementsSame.{body_same}
 
-flat_map_same : {X Y : Type 0} (f g : X → List Y) (xs : List X) →
+pub flat_map_same : {X Y : Type 0} (f g : X → List Y) (xs : List X) →
     ((x : X) → Contains xs x → f x ≡ g x) → flat_map f xs ≡ flat_map g xs
 flat_map_same f g [] same = refl
 flat_map_same f g (x ∷ xs) same =
@@ -58,7 +58,7 @@ flat_map_same f g (x ∷ xs) same =
 clocked_test : ProcessForm → Bool
 clocked_test p = is_clocked p.kind
 
-skip_flat : (f : ProcessForm) (b : Bool) (fs : List ProcessForm) → is_clocked f.kind ≡ false
+pub skip_flat : (f : ProcessForm) (b : Bool) (fs : List ProcessForm) → is_clocked f.kind ≡ false
     → filter (λ (p : ProcessForm). is_clocked p.kind) (cond b (f ∷ fs) fs) ≡
     filter (λ (p : ProcessForm). is_clocked p.kind) fs
 skip_flat f true fs h =
@@ -66,7 +66,7 @@ skip_flat f true fs h =
     (filter (λ (p : ProcessForm). is_clocked p.kind) fs)) h
 skip_flat f false fs h = refl
 
-keep_flat : (f : ProcessForm) (b : Bool) (fs : List ProcessForm) → b ≡ true
+pub keep_flat : (f : ProcessForm) (b : Bool) (fs : List ProcessForm) → b ≡ true
     → is_clocked f.kind ≡ true
     → filter (λ (p : ProcessForm). is_clocked p.kind) (cond b (f ∷ fs) fs) ≡
     f ∷ filter (λ (p : ProcessForm). is_clocked p.kind) fs
@@ -102,7 +102,7 @@ module _ (text : TextTree) (top : Option (List ℕ)) (design : FlatDesign)
   Given k = Contains (flat_signals text top design side) k
 
   -- the updates of a clocked process do not hang on clocks
-  updates_alike : (f : ProcessForm) → Contains (processes_of design) f → (d e : Environment ℕ)
+  pub updates_alike : (f : ProcessForm) → Contains (processes_of design) f → (d e : Environment ℕ)
       → ((k : ℕ) → Given k → d k ≡ e k)
       → flat_updates_of design.signals f.body d ≡ flat_updates_of design.signals f.body e
   updates_alike f at d e same =
@@ -166,7 +166,7 @@ module _ (text : TextTree) (top : Option (List ℕ)) (design : FlatDesign)
           (values_in p free) numbers (have_values text top design side p body.names body.named g)
           (values_fit text top design side p body.names body.named e g agree) in (after.3 u at).0
 
-      same_updates : map pathed (flat_updates_of design.signals f.body numbers) ≡
+      pub same_updates : map pathed (flat_updates_of design.signals f.body numbers) ≡
           updates_by p s free
       same_updates =
           ap (map pathed) numbered_updates
@@ -179,7 +179,7 @@ module _ (text : TextTree) (top : Option (List ℕ)) (design : FlatDesign)
           (source_run sc s (record { environment = values_in p free; updates = [] })).updates)
           body.named.scope
 
-      update_below : (u : ℕ × ℕ) → Contains (flat_updates_of design.signals f.body numbers) u →
+      pub update_below : (u : ℕ × ℕ) → Contains (flat_updates_of design.signals f.body numbers) u →
           u.0 < length design.signals
       update_below u at =
           let v = Contains-from_map (by_number body.names) source_updates u
@@ -246,7 +246,7 @@ module _ (text : TextTree) (top : Option (List ℕ)) (design : FlatDesign)
         let c = clocked_of text top design side q.0 f.0 q.2 kept.0 in
         update_below c.0 c.1 f.0 c.3 u f.2
 
-    last_same : (us : Updates) → ((u : ℕ × ℕ) → Contains us u → u.0 < length design.signals)
+    pub last_same : (us : Updates) → ((u : ℕ × ℕ) → Contains us u → u.0 < length design.signals)
         → (k : ℕ) → At text top design side k → (old : ℕ)
         → last_update ◌==◌ k old us ≡ last_update same_path (toward k) old (map pathed us)
     last_same [] below k a old = refl

@@ -153,10 +153,10 @@ module _ (text : TextTree) (top : Option (List ℕ)) (design : FlatDesign)
     (side : SideBySide text top design)
     (is_sound : IsTrue (sound design)) (admitted : IsAdmitted design) where
   -- with 0 for each clock
-  abbrev quiet : Environment ℕ → Environment ℕ
+  abbrev pub quiet : Environment ℕ → Environment ℕ
   quiet e s = cond (is_clock design s) 0 (e s)
 
-  quiet_fits : (e : Environment ℕ) → Fits (flat_system design) e → AllFit design.signals (quiet e)
+  pub quiet_fits : (e : Environment ℕ) → Fits (flat_system design) e → AllFit design.signals (quiet e)
   quiet_fits e fits s inside = ⊎_elim
       (λ clock. subst (λ v. v < 2 ^ flat_width design.signals s)
       (sym (cond-true (is_clock design s) 0 (e s) clock))

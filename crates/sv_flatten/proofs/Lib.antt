@@ -37,8 +37,11 @@ pub mod JoinedRuns
 pub mod JoinedOver
 pub mod JoinedNext
 pub mod JoinedSchedules
+pub mod JoinedRounds
+pub mod JoinedTicks
 pub mod SidesSame
 pub mod JoinedWhole
+pub mod JoinedOrdered
 pub mod JoinedLattice
 pub mod JoinedMaps
 pub mod JoinedLabels

@@ -5,3 +5,4 @@ pub mod FlattenedTexts
 pub mod SideBySide
 pub mod InOrder
 pub mod Children
+pub mod Rounds

@@ -13,6 +13,7 @@ ghost use Rattle.sv_flatten.specs.Children.{HasEachChild};
 ghost use Rattle.sv_flatten.specs.FlattenedTexts.{CanBeFlattened, ItemNumbersFit, EachItem};
 ghost use Rattle.sv_flatten.specs.FlattenedTexts.{ReleasesNothing};
 ghost use Rattle.sv_flatten.specs.InOrder.{JoinedInOrder, SchedulesAgree, SettledAlike};
+ghost use Rattle.sv_flatten.specs.Rounds.{RoundsAreOfText};
 ghost use Rattle.sv_flatten.specs.SideBySide.{ProcessesBeside, made_of, text_signals, path_at};
 
 /// The processes of a text, but for those of values that it releases, and the processes of the flat
@@ -55,4 +56,13 @@ pub fn flat_processes_run_in_order_of_their_sources()
         → CanBeFlattened text → flat_of text asked ≡ Some design → IsAdmitted design
         → SettledAlike (flat_system design) (text_system text asked)
         (path_at (text_signals text asked)) }
+{}
+
+/// The ordered runs of an admitted flat design take the rounds that those of its text's own
+/// processes take, under the same order number, where registers and inputs have the same values
+/// under both names, and fit: `sim --order` counts the rounds of the text. The text is as above.
+pub fn ordered_runs_are_those_of_texts()
+    ensures { (text : TextTree) (asked : Option (List ℕ)) (design : FlatDesign)
+        → CanBeFlattened text → flat_of text asked ≡ Some design → IsAdmitted design
+        → RoundsAreOfText text asked design }
 {}

@@ -8,7 +8,8 @@
 //! `Numbers.antt` when numbers fit, and `SameStates.antt` when two states of a run are the same.
 //! `SideBySide.antt` says what it is that each process of the design does what that of the text
 //! beside it does, and `InOrder.antt` the same of two cycle systems, with what schedules make of
-//! both and when environments are settled in both. None is private.
+//! both and when environments are settled in both. `Rounds.antt` says what an ordered run of the
+//! text's own processes is. None is private.
 //!
 //! Of memories and invariants, which are not built yet, neither the walk nor the meaning takes
 //! anything: of a text with such an item the laws speak as of the same text without it.
@@ -21,7 +22,7 @@ mod soundness;
 
 pub use beside::{
     flat_processes_run_in_order_of_their_sources, instances_of_texts_are_whole,
-    processes_stand_beside_their_sources,
+    ordered_runs_are_those_of_texts, processes_stand_beside_their_sources,
 };
 pub use bodies::{
     flat_statements_assign_the_same_signals, flat_statements_do_what_their_sources_do,

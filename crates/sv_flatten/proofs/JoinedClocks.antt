@@ -32,10 +32,10 @@ use Rattle.sv_flat.proofs.LeastSets.{least_set_closed, least_set_least}
 use Rattle.sv_flatten.proofs.PartsLists.{zip_left, zip_right, get_contains}
 use Rattle.sv_flatten.proofs.PartsLists.{contains_get, differ_places}
 use Rattle.sv_flatten.proofs.PartsNamed.{to_filter_map, from_filter_map}
-use Rattle.sv_flatten.proofs.PartsGrown.{IsLink, IsFlat, IsNumberOf, kind_clock, clock_of}
-use Rattle.sv_flatten.proofs.PartsGrown.{edges_from}
+use Rattle.sv_flatten.specs.SideBySide.{kind_clock, clock_of, edges_from, edges_of}
+use Rattle.sv_flatten.proofs.PartsGrown.{IsLink, IsFlat, IsNumberOf}
 use Rattle.sv_flatten.proofs.PartsPaths.{from_flat_map, to_flat_map}
-use Rattle.sv_flatten.proofs.PartsTexts.{SideBySide, sources_of, edges_of, paths_differ}
+use Rattle.sv_flatten.proofs.PartsTexts.{SideBySide, sources_of, paths_differ}
 use Rattle.sv_flatten.proofs.FormsBeside.{same_size, below_size}
 use Rattle.sv_flatten.proofs.JoinedSources.{edges_forth, edges_back, links_forth, links_back}
 use Rattle.sv_flatten.proofs.JoinedLinks.{port_at, port_numbered, outer_numbered, IsInput, IsOutput}

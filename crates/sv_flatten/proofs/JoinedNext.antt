@@ -41,8 +41,8 @@ use Rattle.sv_flatten.proofs.JoinedClocks.{IsNumber, number_below, clocked_no_li
 use Rattle.sv_flatten.proofs.JoinedNumbers.{to_is, At, at_number, flat_signals, signal_below}
 use Rattle.sv_flatten.proofs.JoinedNumbers.{is_flat_signal, clocked_of}
 use Rattle.sv_flatten.proofs.JoinedRegisters.{register_within}
-use Rattle.sv_flatten.proofs.JoinedRuns.{source_processes, source_system, path_to, unclocked_values}
-use Rattle.sv_flatten.proofs.JoinedRuns.{numbered_values, path_no_clock, numbered_same}
+use Rattle.sv_flatten.proofs.JoinedRuns.{source_system, path_to, unclocked_values}
+use Rattle.sv_flatten.proofs.JoinedRuns.{numbered_values, numbered_same}
 use Rattle.sv_flatten.proofs.JoinedRuns.{numbering, have_values, values_fit, to_name}
 use Rattle.sv_flatten.proofs.JoinedOver.{same_place, link_unclocked}
 use Rattle.sv_flat.proofs.SameUpdates.{run_alike}

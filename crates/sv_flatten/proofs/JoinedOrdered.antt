@@ -1,8 +1,8 @@
 -- The ordered runs of a flat design take the rounds that those of its text take.
 use mathlib.Core.Path.{fun_ext}
-use Rattle.std.proofs.Common.{◌≡◌, ℕ, zero, suc, ◌+◌, ◌%◌, ◌^◌, ◌<◌, List, [], ◌∷◌, map, length}
+use Rattle.std.proofs.Common.{◌≡◌, ℕ, zero, suc, ◌+◌, ◌%◌, ◌^◌, List, [], ◌∷◌, map, length}
 use Rattle.std.proofs.Common.{Option, Some, refl, sym, ap, subst, ◌∙◌}
-use Rattle.std.specs.Prelude.{Contains, IsTrue, IsFalse, ◌↔◌}
+use Rattle.std.specs.Prelude.{IsTrue, IsFalse, ◌↔◌}
 use Rattle.std.specs.List.{AllZip}
 use Rattle.std.proofs.lemmas.List.{length-map}
 use Rattle.sv_system.specs.System.{System, Environment}
@@ -15,11 +15,10 @@ use Rattle.sv_ast.specs.TextSystem.{text_system}
 use Rattle.sv_ast.specs.Tree.{TextTree}
 use Rattle.sv_lattice.specs.declared.points.Point.{Point}
 use Rattle.sv_flat.specs.Admission.{IsAdmitted}
-use Rattle.sv_flat.specs.Clocks.{is_clock}
 use Rattle.sv_flat.specs.Design.{FlatDesign}
 use Rattle.sv_flat.specs.FlatSystem.{combinational_processes, run_of, flat_system}
 use Rattle.sv_flat.specs.Schedules.{numbered_run, round, process_count, state_after, after_rounds}
-use Rattle.sv_flat.specs.Schedules.{IsRoundCount, clocked_count, after_tick, tick_order}
+use Rattle.sv_flat.specs.Schedules.{IsRoundCount, after_tick, tick_order}
 use Rattle.sv_flat.specs.Schedules.{with_inputs, starting, IsOrderedRun, OrderedRun}
 use Rattle.sv_flat.specs.Soundness.{sound}
 use Rattle.sv_walk.specs.Texts.{flat_of}

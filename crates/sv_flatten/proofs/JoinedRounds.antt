@@ -1,13 +1,13 @@
 -- Rounds of two systems that are joined process by process: under the same draws they lead to
 -- environments that agree, and both come to rest after as many.
-use Rattle.std.proofs.Common.{◌≡◌, ℕ, zero, suc, ◌<◌, ◌≤◌, ◌^◌, Bool, true, false, cond, List, []}
+use Rattle.std.proofs.Common.{◌≡◌, ℕ, zero, suc, ◌<◌, ◌^◌, Bool, cond, List, []}
 use Rattle.std.proofs.Common.{◌∷◌, map, length, refl, sym, ap, ap₂, subst, ◌∙◌, ◌&&◌, ⊎_elim}
-use Rattle.std.specs.Prelude.{◌==◌, Contains, IsTrue, IsFalse, All, ◌↔◌}
+use Rattle.std.specs.Prelude.{◌==◌, Contains, IsTrue, All, ◌↔◌}
 use Rattle.std.specs.List.{list_all, AllZip}
 use Rattle.std.proofs.lemmas.Bool.{cases_Bool, cond-true, cond-false}
 use Rattle.std.proofs.lemmas.Nat.{pow_pos}
 use Rattle.sv_system.specs.System.{System, Environment, Run, Fits}
-use Rattle.sv_system.specs.Joining.{Agree, SameRun, Joined}
+use Rattle.sv_system.specs.Joining.{Agree, SameRun}
 use Rattle.sv_system.specs.Schedules.{after_runs, runs_at}
 use Rattle.sv_system.proofs.Lists.{Contains-head, Contains-later}
 use Rattle.sv_system.proofs.JoinedCycles.{by_name}

@@ -1,10 +1,9 @@
 -- A run of a flat process does what a run of its source process does.
-use Rattle.std.proofs.Common.{◌≡◌, ℕ, ◌^◌, ◌<◌, Bool, true, false, cond, List}
+use Rattle.std.proofs.Common.{◌≡◌, ℕ, ◌^◌, ◌<◌, Bool, true, false, List}
 use Rattle.std.proofs.Common.{[], map, length, Option, Some, None, refl, sym, ap, subst}
 use Rattle.std.proofs.Common.{◌∙◌, ⊎_elim}
 use Rattle.std.specs.Prelude.{not, ◌==◌, filter, Contains, IsTrue}
 use Rattle.std.specs.Prelude.{All}
-use Rattle.std.specs.List.{slice_get}
 use Rattle.std.specs.Option.{option_map_or}
 use Rattle.std.proofs.lemmas.Bool.{cases_Bool}
 use Rattle.std.proofs.lemmas.Bool.{eqb-true, eq-eqb, cond-true, cond-false}
@@ -20,7 +19,7 @@ use Rattle.sv_ast.specs.Reach.{holds}
 use Rattle.sv_ast.specs.Runs.{assigned, run as source_run}
 use Rattle.sv_ast.specs.Parts.{Path, same_path, Part, within, parts, PartSignal, signal_path}
 use Rattle.sv_ast.specs.Parts.{signal_width, declarations}
-use Rattle.sv_ast.specs.Processes.{Process, combinational, processes, values_in}
+use Rattle.sv_ast.specs.Processes.{Process, processes, values_in}
 use Rattle.sv_ast.specs.Processes.{name_in, run_in, changed_by}
 use Rattle.sv_ast.specs.Processes.{links_one_of}
 use Rattle.sv_ast.specs.Meaning.{system_of}
@@ -46,9 +45,8 @@ use Rattle.sv_ast.specs.TextSystem.{text_clocks, without_clocks, unclocked, seei
 use Rattle.sv_ast.proofs.PathNames.{name_in-itself, path_of-name_in}
 use Rattle.sv_ast.proofs.RunFrames.{run_keeps}
 use Rattle.sv_flatten.proofs.PartsLists.{get_contains, contains_get}
-use Rattle.sv_flatten.proofs.PartsMaps.{same_some}
 use Rattle.sv_flatten.proofs.PartsNamed.{IsNamed}
-use Rattle.sv_flatten.proofs.PartsGrown.{IsBody, source_of_name, number_of_name}
+use Rattle.sv_flatten.proofs.PartsGrown.{IsBody, number_of_name}
 use Rattle.sv_flatten.proofs.PartsGrown.{signal_is}
 use Rattle.sv_flatten.proofs.PartsPaths.{same_member, signal_in, within_same, path_of}
 use Rattle.sv_flatten.proofs.PartsTexts.{SideBySide, sources_of, all_parts_differ}

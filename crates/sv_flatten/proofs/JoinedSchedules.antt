@@ -1,15 +1,14 @@
 -- Two joined systems process by process: schedules of places lead to environments that agree, and
 -- an environment of the one is settled where that of the other is.
-use Rattle.std.proofs.Common.{◌≡◌, ℕ, zero, suc, ◌<◌, ◌^◌, Bool, true, false, cond, List, [], ◌∷◌}
-use Rattle.std.proofs.Common.{map, length, get_or, inl, inr, Option, refl, sym, ap, subst, ◌∙◌}
+use Rattle.std.proofs.Common.{◌≡◌, ℕ, zero, suc, ◌<◌, ◌^◌, cond, List, [], ◌∷◌}
+use Rattle.std.proofs.Common.{length, get_or, inl, inr, Option, sym, subst, ◌∙◌}
 use Rattle.std.proofs.Common.{⊎_elim}
-use Rattle.std.specs.Prelude.{Contains, IsTrue, ◌↔◌}
+use Rattle.std.specs.Prelude.{Contains, IsTrue}
 use Rattle.std.specs.List.{AllZip}
 use Rattle.std.proofs.lemmas.Bool.{cases_Bool, cond-true, cond-false, lt-ltb, ltb-true}
 use Rattle.std.proofs.lemmas.Nat.{pow_pos}
-use Rattle.sv_system.specs.System.{System, Environment, Run, Fits, Settled}
+use Rattle.sv_system.specs.System.{System, Environment, Run, Fits}
 use Rattle.sv_system.specs.Joining.{Agree, SameRun, Joined}
-use Rattle.sv_system.specs.Schedules.{after_runs, runs_at}
 use Rattle.sv_system.proofs.Lists.{Contains-head, Contains-later, Contains-nil, Contains-from_map}
 use Rattle.sv_system.proofs.JoinedCycles.{by_name, still_over, still_back, other_within}
 use Rattle.sv_system.proofs.Pointwise.{fits_at, fits_from}
@@ -18,14 +17,14 @@ use Rattle.sv_flat.specs.Admission.{IsAdmitted}
 use Rattle.sv_flat.specs.Clocks.{is_clock}
 use Rattle.sv_flat.specs.Design.{FlatDesign}
 use Rattle.sv_flat.specs.FlatSystem.{combinational_processes, run_of, flat_system}
-use Rattle.sv_flat.specs.Soundness.{is_signal, sound}
+use Rattle.sv_flat.specs.Soundness.{sound}
 use Rattle.sv_flat.specs.Values.{signal_width as flat_width}
 use Rattle.sv_flat.proofs.AdmittedFacts.{body_is_sound}
 use Rattle.sv_flat.proofs.FlatScheduled.{in_processes}
 use Rattle.sv_flat.proofs.RunsFit.{AllFit, run_fits}
 use Rattle.sv_flatten.specs.InOrder.{JoinedInOrder, SchedulesAgree, SettledAlike}
 use Rattle.sv_flatten.proofs.PartsTexts.{SideBySide}
-use Rattle.sv_flatten.proofs.JoinedNumbers.{flat_signals, is_flat_signal, signal_below}
+use Rattle.sv_flatten.proofs.JoinedNumbers.{is_flat_signal, signal_below}
 use Rattle.sv_flatten.proofs.JoinedNumbers.{signal_no_clock}
 use Rattle.sv_flatten.proofs.JoinedRuns.{flat_same}
 

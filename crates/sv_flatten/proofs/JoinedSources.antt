@@ -17,7 +17,7 @@ use Rattle.sv_ast.specs.Processes.{clocked_body, item_processes, processes_from}
 use Rattle.sv_flatten.proofs.PartsLists.{contains_either, contains_left, contains_right}
 use Rattle.sv_flatten.proofs.PartsNamed.{from_filter_map, to_filter_map}
 use Rattle.sv_flatten.proofs.PartsPaths.{from_flat_map, to_flat_map}
-use Rattle.sv_flatten.proofs.PartsGrown.{item_edges, edges_from}
+use Rattle.sv_flatten.specs.SideBySide.{item_edges, edges_from}
 
 instance_is : (item : ItemTree) (i : InstanceTree) → instance_of item ≡ Some i →
     item ≡ instance_item i

@@ -1,15 +1,15 @@
 -- A tick of the clocked processes of a flat design in any order does what one of the text's clocked
 -- processes in that order does.
-use Rattle.std.proofs.Common.{◌≡◌, ℕ, ◌<◌, ◌^◌, Bool, true, false, cond, List, [], ◌∷◌, ◌++◌, map}
-use Rattle.std.proofs.Common.{length, Option, Some, None, refl, sym, ap, ap₂, subst, ◌∙◌, ⊎_elim}
+use Rattle.std.proofs.Common.{◌≡◌, ℕ, ◌<◌, ◌^◌, List, [], ◌∷◌, ◌++◌, map}
+use Rattle.std.proofs.Common.{length, Option, Some, None, refl, sym, ap, ap₂, subst, ◌∙◌}
 use Rattle.std.specs.Prelude.{not, ◌==◌, filter, flat_map, Contains, IsTrue}
 use Rattle.std.specs.List.{slice_get, list_any, filter_map, cons_option, AllZip}
-use Rattle.std.proofs.lemmas.Bool.{and_left, lt-ltb, cases_Bool, cond-false}
+use Rattle.std.proofs.lemmas.Bool.{and_left, cond-false}
 use Rattle.std.proofs.lemmas.List.{map-append}
 use Rattle.sv_system.specs.System.{System, Environment, last_update}
 use Rattle.sv_system.specs.Joining.{Agree}
-use Rattle.sv_system.proofs.Lists.{Contains-head, Contains-later, Contains-nil}
-use Rattle.sv_system.proofs.Pointwise.{fits_at, fits_from}
+use Rattle.sv_system.proofs.Lists.{Contains-nil}
+use Rattle.sv_system.proofs.Pointwise.{fits_at}
 use Rattle.sv_ast.specs.Tree.{StatementTree, TextTree}
 use Rattle.sv_ast.specs.Parts.{Path, same_path, Part, parts}
 use Rattle.sv_ast.specs.Processes.{Process, combinational, clocked, linking, processes, updates_of}
@@ -38,7 +38,6 @@ use Rattle.sv_flatten.proofs.JoinedNext.{flat_map_same, skip_flat, keep_flat, up
 use Rattle.sv_flatten.proofs.JoinedNext.{same_updates, update_below, last_same}
 use Rattle.sv_flatten.proofs.JoinedNumbers.{at_number, flat_signals, signal_below, signal_no_clock}
 use Rattle.sv_flatten.proofs.JoinedOver.{link_unclocked}
-use Rattle.sv_flatten.proofs.JoinedRegisters.{clocked_in_processes}
 use Rattle.sv_flatten.proofs.JoinedRuns.{source_system, path_to, unclocked_values, numbered_values}
 use Rattle.sv_flatten.proofs.JoinedRuns.{numbered_same}
 use Rattle.sv_flatten.proofs.JoinedSchedules.{quiet, quiet_fits}

@@ -1,12 +1,10 @@
 -- What the walk of instances adds to what was built: for each part of the source a signal or a
 -- process, in order.
-use Rattle.std.proofs.Common.{◌≡◌, ℕ, zero, suc, ◌+◌, ◌≤◌, Bool, true, false, List, []}
+use Rattle.std.proofs.Common.{◌≡◌, ℕ, ◌+◌, ◌≤◌, Bool, true, false, List, []}
 use Rattle.std.proofs.Common.{◌∷◌, ◌++◌, map, Option, Some, None, refl, sym, ap, subst, ◌∙◌}
 use Rattle.std.proofs.Common.{arith, ⊎_elim}
-use Rattle.std.specs.Prelude.{◌&&◌, flat_map, Contains, Ok, IsTrue, option_map}
-use Rattle.std.specs.Prelude.{option_to_list}
+use Rattle.std.specs.Prelude.{◌&&◌, flat_map, Contains, Ok, IsTrue}
 use Rattle.std.specs.List.{slice_get, list_all, filter_map, AllZip}
-use Rattle.std.specs.Option.{option_map_or}
 use Rattle.std.proofs.lemmas.List.{append_assoc, append-nil}
 use Rattle.std.proofs.lemmas.List.Concat.{flat_map-append}
 use Rattle.sv_system.proofs.Lists.{Contains-nil}
@@ -14,15 +12,14 @@ use Rattle.sv_lattice.specs.declared.labels.Label.{Label}
 use Rattle.sv_lattice.specs.declared.labels.Label.TheVariants.{Point as Declared_point}
 use Rattle.sv_ast.specs.Scopes.{Binding, signal}
 use Rattle.sv_ast.specs.Tree.{StatementTree, assignment, LabelTree, DeclarationTree}
-use Rattle.sv_ast.specs.Tree.{InstanceTree, ItemTree, instance_item, ModuleTree}
+use Rattle.sv_ast.specs.Tree.{InstanceTree, ItemTree}
 use Rattle.sv_ast.specs.Shape.{is_shaped_statement, is_whole_target}
 use Rattle.sv_ast.specs.Instances.{is_empty, is_signal, instance_of, instances}
 use Rattle.sv_ast.specs.Parts.{Path, Part, within, child, PartSignal, signal_path, signal_width}
 use Rattle.sv_ast.specs.Parts.{declarations, signals_of, PortLink}
-use Rattle.sv_ast.specs.ClockPaths.{edge_of}
 use Rattle.sv_ast.specs.Processes.{Process, combinational, clocked, linking}
 use Rattle.sv_flat.specs.Design.{SignalForm, ProcessKind}
-use Rattle.sv_flat.specs.Design.{continuous, clocked as clocked_kind, release}
+use Rattle.sv_flat.specs.Design.{continuous, release}
 use Rattle.sv_flat.specs.Design.{ProcessForm}
 use Rattle.sv_flat.specs.Processes.{is_clocked}
 use Rattle.sv_flat.specs.Clocks.{is_port_in, is_port_out}
@@ -33,27 +30,10 @@ use Rattle.sv_walk.specs.Links.{Ports, port_number, link_walk}
 use Rattle.sv_walk.specs.Statements.{statement_walk}
 use Rattle.sv_walk.specs.InstanceSteps.{Built, with_process}
 use Rattle.sv_flatten.specs.Numbers.{SelectorsFit}
+use Rattle.sv_flatten.specs.SideBySide.{clock_of}
 use Rattle.sv_flatten.proofs.PartsLists.{zip_append, zip_length, filter_map_append, stands_get}
 use Rattle.sv_flatten.proofs.PartsLists.{get_map, AllDiffer, contains_either}
 use Rattle.sv_flatten.proofs.PartsNamed.{IsNamed}
-
--- the clock of a clocked process
-abbrev pub kind_clock : ProcessKind → Option ℕ
-kind_clock (clocked_kind k) = Some k
-kind_clock _ = None
-
-abbrev pub clock_of : ProcessForm → Option ℕ
-clock_of f = kind_clock f.kind
-
--- the signals after `posedge` in an instance and all inside it, in the order of the processes
-abbrev pub item_edges : (inside : Part → List Path) → List ModuleTree → Part → ItemTree → List Path
-item_edges inside modules p (instance_item i) = option_map_or inside (child modules p i) []
-item_edges inside modules p item = option_to_list (option_map (within p) (edge_of item))
-
-unfoldable pub edges_from : (levels : ℕ) → List ModuleTree → Part → List Path
-edges_from zero modules p = []
-edges_from (suc levels) modules p =
-    flat_map (item_edges (edges_from levels modules) modules p) p.definition.items
 
 -- the names of the instances in some items
 abbrev pub instance_names_in : List ItemTree → List (List ℕ)

@@ -29,7 +29,8 @@ use Rattle.sv_flatten.proofs.PartsLists.{get_left}
 use Rattle.sv_flatten.proofs.PartsBindings.{same_name, name_itself}
 use Rattle.sv_flatten.proofs.PartsDeclared.{same_ok}
 use Rattle.sv_flatten.proofs.PartsNamed.{IsNamed, found_place, find_passes}
-use Rattle.sv_flatten.proofs.PartsGrown.{clock_of, IsLink, IsFlat}
+use Rattle.sv_flatten.specs.SideBySide.{clock_of}
+use Rattle.sv_flatten.proofs.PartsGrown.{IsLink, IsFlat}
 
 -- a link is no clocked process
 link_clock : (outer : Names) (ports : Ports) (d : DeclarationTree) (e : ExpressionTree)

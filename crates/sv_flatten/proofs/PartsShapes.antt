@@ -1,6 +1,5 @@
 -- What the shape of a text says of its modules and their items.
-use Rattle.std.proofs.Common.{ℕ, List}
-use Rattle.std.specs.Prelude.{◌&&◌, Contains, IsTrue, Option}
+use Rattle.std.specs.Prelude.{◌&&◌, Contains, IsTrue}
 use Rattle.std.specs.List.{list_all}
 use Rattle.std.proofs.lemmas.Bool.{and_parts}
 use Rattle.sv_ast.specs.Tree.{ItemTree, ModuleTree, TextTree}

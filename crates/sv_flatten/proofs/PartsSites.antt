@@ -47,8 +47,7 @@ use Rattle.sv_flatten.proofs.PartsNamed.{port_ahead, item_declarations, found_pl
 use Rattle.sv_flatten.proofs.PartsNamed.{from_filter_map, to_filter_map}
 use Rattle.sv_flatten.proofs.PartsPaths.{to_flat_map}
 use Rattle.sv_flatten.proofs.PartsGrown.{LabelFound, IsForm, IsFlat, Grown, grown_none, grown_join}
-use Rattle.sv_flatten.specs.SideBySide.{item_made, made_from}
-use Rattle.sv_flatten.proofs.PartsGrown.{item_edges, edges_from, clock_of}
+use Rattle.sv_flatten.specs.SideBySide.{item_made, made_from, item_edges, edges_from}
 use Rattle.sv_flatten.proofs.PartsGrown.{instance_names_in, ChildrenIn}
 use Rattle.sv_flatten.proofs.PartsItems.{value_grown, assign_grown, block_grown, clocked_grown}
 use Rattle.sv_flatten.proofs.PartsLinks.{links_done}

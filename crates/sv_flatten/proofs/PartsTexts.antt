@@ -10,7 +10,7 @@ use Rattle.sv_system.proofs.Lists.{Contains-head}
 use Rattle.sv_lattice.specs.Maps.{MapRows}
 use Rattle.sv_ast.specs.Tree.{DeclarationTree, ModuleTree, TextTree}
 use Rattle.sv_ast.specs.Instances.{uninstanced, only, top_module}
-use Rattle.sv_ast.specs.Parts.{Path, Part, part_with, child, parts_from, most_levels, parts}
+use Rattle.sv_ast.specs.Parts.{Part, part_with, child, parts_from, most_levels, parts}
 use Rattle.sv_ast.specs.Parts.{PartSignal}
 use Rattle.sv_ast.specs.Parts.{signal_path, declarations, signals_of}
 use Rattle.sv_ast.specs.Processes.{Process, processes_from, processes}
@@ -32,9 +32,8 @@ use Rattle.sv_flatten.proofs.PartsLists.{AllDiffer, get_map}
 use Rattle.sv_flatten.proofs.PartsDeclared.{same_ok}
 use Rattle.sv_flatten.proofs.PartsNamed.{IsNamed, IsSound, found_place}
 use Rattle.sv_flatten.specs.Children.{HasEachChild}
-use Rattle.sv_flatten.specs.SideBySide.{made_from, made_of}
-use Rattle.sv_flatten.proofs.PartsGrown.{IsForm, IsFlat, IsNumberOf, Grown, edges_from}
-use Rattle.sv_flatten.proofs.PartsGrown.{clock_of, ChildrenIn}
+use Rattle.sv_flatten.specs.SideBySide.{made_from, made_of, edges_from, edges_of, clock_of}
+use Rattle.sv_flatten.proofs.PartsGrown.{IsForm, IsFlat, IsNumberOf, Grown, ChildrenIn}
 use Rattle.sv_flatten.proofs.PartsMade.{all_made}
 use Rattle.sv_flatten.proofs.PartsSites.{sites_grown}
 use Rattle.sv_flatten.proofs.PartsPaths.{path_of, InstancesDiffer, DeclaredDiffer, parts_differ}
@@ -43,12 +42,6 @@ use Rattle.sv_flatten.proofs.PartsPaths.{places_differ, signals_differ, to_flat_
 -- all signals of a text, in order
 abbrev pub sources_of : TextTree → Option (List ℕ) → List PartSignal
 sources_of text top = flat_map signals_of (parts text top)
-
--- the signals after `posedge` of a text, in the order of its processes
-abbrev pub edges_of : TextTree → Option (List ℕ) → List Path
-edges_of text top =
-    option_map_or (λ (m : ModuleTree). edges_from most_levels text.modules (part_with [] [] m))
-    (top_module text.modules top) []
 
 -- a text, some of its processes and a design side by side
 pub record Beside (text : TextTree) (top : Option (List ℕ)) (qs : List Process)

@@ -1,22 +1,20 @@
 -- Each process of a flat design does what the process of the text beside it does.
-use Rattle.std.proofs.Common.{◌≡◌, ℕ, ◌^◌, ◌<◌, ◌≤◌, Bool, true, false, cond, List, [], ◌∷◌, map}
+use Rattle.std.proofs.Common.{◌≡◌, ℕ, ◌^◌, ◌<◌, ◌≤◌, true, false, cond, List, [], ◌∷◌, map}
 use Rattle.std.proofs.Common.{length, Option, Some, None, refl, sym, ap, subst, ◌∙◌, arith, ⊎_elim}
 use Rattle.std.specs.Prelude.{◌==◌, Contains, IsTrue, option_map, unwrap_or}
 use Rattle.std.specs.List.{slice_get, AllZip}
 use Rattle.std.specs.Option.{option_map_or}
-use Rattle.std.proofs.lemmas.Bool.{cases_Bool, false≢true, both_ways, or_cases, eqb-true, eq-eqb}
+use Rattle.std.proofs.lemmas.Bool.{cases_Bool, false≢true, or_cases, eqb-true, eq-eqb}
 use Rattle.std.proofs.lemmas.Bool.{cond-true, cond-false, false_from_ne_true}
 use Rattle.std.proofs.lemmas.Nat.{mod_below, pow_pos}
 use Rattle.sv_system.specs.System.{Environment, put}
-use Rattle.sv_system.proofs.Lists.{Contains-nil, Contains-map, Contains-from_map}
 use Rattle.sv_ast.specs.Scopes.{signal, width_of}
 use Rattle.sv_ast.specs.Tree.{StatementTree, TextTree, named}
 use Rattle.sv_ast.specs.Values.{assigned_value}
 use Rattle.sv_ast.specs.Instances.{is_signal, whole_signal}
-use Rattle.sv_ast.specs.ClockPaths.{is_input_kind}
 use Rattle.sv_ast.specs.Runs.{assigned, run as source_run}
 use Rattle.sv_ast.specs.Parts.{Path, same_path, Part, within, parts, PartSignal, signal_path}
-use Rattle.sv_ast.specs.Parts.{signal_width, declarations, PortLink, port_path}
+use Rattle.sv_ast.specs.Parts.{signal_width, declarations, PortLink}
 use Rattle.sv_ast.specs.Processes.{Process, combinational, clocked, linking, values_in, name_in}
 use Rattle.sv_ast.specs.Processes.{run_in, changed_by, updates_by, change_of, value_for}
 use Rattle.sv_ast.specs.Processes.{link_in as source_link_in, link_out as source_link_out}
@@ -27,7 +25,7 @@ use Rattle.sv_flat.specs.Assigned.{assigns}
 use Rattle.sv_flat.specs.Processes.{is_clocked}
 use Rattle.sv_flat.specs.Runs.{run_alone, updates_of}
 use Rattle.sv_flat.specs.Values.{signal_width as flat_width}
-use Rattle.sv_flat.proofs.LeastSets.{some_from, from_some}
+use Rattle.sv_flat.proofs.LeastSets.{from_some}
 use Rattle.sv_flat.proofs.SameRuns.{run_leaves}
 use Rattle.sv_walk.specs.Links.{port_number, port_width}
 use Rattle.sv_walk.specs.Names.{Names}
@@ -35,7 +33,7 @@ use Rattle.sv_width.specs.Agreement.{HaveValues}
 use Rattle.sv_flatten.specs.SameStates.{ValuesFit, by_number}
 use Rattle.sv_flatten.specs.SideBySide.{made_of, path_at, AreAlike, SameChange}
 use Rattle.sv_flatten.specs.SideBySide.{DoTheSame, ProcessesBeside}
-use Rattle.sv_flatten.proofs.PartsLists.{get_contains, contains_get, get_below, get_map}
+use Rattle.sv_flatten.proofs.PartsLists.{get_contains, contains_get, get_map}
 use Rattle.sv_flatten.proofs.PartsLists.{differ_places}
 use Rattle.sv_flatten.proofs.PartsMaps.{map_twice_same}
 use Rattle.sv_flatten.proofs.PartsNamed.{IsNamed}

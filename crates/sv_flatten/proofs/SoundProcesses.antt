@@ -32,9 +32,9 @@ use Rattle.sv_width.specs.WrittenLengths.{StatementHasLengths}
 use Rattle.sv_flatten.proofs.PartsLists.{zip_right, contains_get, get_contains}
 use Rattle.sv_flatten.proofs.PartsNamed.{IsNamed, to_filter_map}
 use Rattle.sv_flatten.proofs.PartsGrown.{KindFits, IsBody, IsLink, IsFlat, IsNoLink, IsNumberOf}
-use Rattle.sv_flatten.proofs.PartsGrown.{clock_of, signal_is}
-use Rattle.sv_flatten.specs.SideBySide.{made_of}
-use Rattle.sv_flatten.proofs.PartsTexts.{MadeBeside, sources_of, edges_of}
+use Rattle.sv_flatten.proofs.PartsGrown.{signal_is}
+use Rattle.sv_flatten.specs.SideBySide.{made_of, edges_of, clock_of}
+use Rattle.sv_flatten.proofs.PartsTexts.{MadeBeside, sources_of}
 use Rattle.sv_flatten.proofs.JoinedLinks.{IsInput, IsOutput, link_is, port_is_signal}
 use Rattle.sv_flatten.proofs.JoinedLinks.{outer_numbered}
 use Rattle.sv_flatten.proofs.FormsBeside.{below_size, names_listed}
@@ -153,7 +153,7 @@ module _ (text : TextTree) (top : Option (List ℕ)) (design : FlatDesign)
       (below_size side.tables sources (parts text top) design.signals side.forms path.0 k path.2)
 
   clocked_sound : (k : ProcessKind) (body : FlatStatement) → is_clocked k ≡ true
-      → ((c : ℕ) → Rattle.sv_flatten.proofs.PartsGrown.kind_clock k ≡ Some c
+      → ((c : ℕ) → Rattle.sv_flatten.specs.SideBySide.kind_clock k ≡ Some c
       → is_number design.signals c ≡ true)
       → kind_sound design k body ≡ true
   clocked_sound (clocked_kind c) body is there = there c refl

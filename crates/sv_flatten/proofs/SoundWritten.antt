@@ -1,5 +1,5 @@
 -- The numbers that are written in a text that was read have 1 to 64 bits, and fit them.
-use Rattle.std.proofs.Common.{List, [], ◌∷◌, ◌++◌, map, Option, Some, None, sym, subst, ⊎_elim}
+use Rattle.std.proofs.Common.{List, ◌++◌, map, Option, Some, None, sym, subst, ⊎_elim}
 use Rattle.std.specs.Prelude.{Contains, option_map}
 use Rattle.sv_system.proofs.Lists.{Contains-from_map}
 use Rattle.sv_ast.specs.declared.expressions.Expr.{Expr}

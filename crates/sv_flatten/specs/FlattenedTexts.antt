@@ -1,5 +1,5 @@
 -- Which texts the laws of flattening speak of.
-use Rattle.std.specs.Prelude.{ℕ, IsTrue, List, Option, Contains}
+use Rattle.std.specs.Prelude.{IsTrue, Contains}
 use Rattle.sv_ast.specs.Tree.{ItemTree, released, always_item, ModuleTree, TextTree}
 use Rattle.sv_ast.specs.Shape.{is_shaped}
 use Rattle.sv_flatten.specs.Numbers.{SelectorsFit}

@@ -1,9 +1,9 @@
--- Ordered runs of a text's own processes: the draws are those of ordered runs of a flat design, each
--- process of the text at its place (this project's profile; IEEE 1364-2005, clause 11 leaves the
--- order of events at one time open).
-use Rattle.std.specs.Prelude.{◌≡◌, ℕ, zero, suc, ◌+◌, ◌%◌, ◌^◌, ◌<◌, ◌≤◌, Bool, ◌==◌, IsTrue, IsFalse}
-use Rattle.std.specs.Prelude.{if◌then◌else◌, List, [], ◌∷◌, length, filter, flat_map, reverse, sum}
-use Rattle.std.specs.Prelude.{slice_get, Option, ◌↔◌}
+-- Ordered runs of a text's own processes: the draws are those of ordered runs of a flat design,
+-- each process of the text at its place (this project's profile; IEEE 1364-2005, clause 11 leaves
+-- the order of events at one time open).
+use Rattle.std.specs.Prelude.{◌≡◌, ℕ, zero, suc, ◌+◌, ◌%◌, ◌^◌, ◌<◌, ◌≤◌, Bool, ◌==◌, IsTrue}
+use Rattle.std.specs.Prelude.{IsFalse, if◌then◌else◌, List, [], ◌∷◌, length, filter, flat_map}
+use Rattle.std.specs.Prelude.{reverse, sum, slice_get, Option, ◌↔◌}
 use Rattle.std.specs.List.{list_all, filter_map, range_with_len, AllZip}
 use Rattle.sv_system.specs.System.{System, Environment, last_update, KindFits}
 use Rattle.sv_system.specs.Schedules.{after_runs, runs_at}

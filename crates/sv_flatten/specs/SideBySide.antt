@@ -2,17 +2,20 @@
 -- clocks and links to clocks among them. Each process does the same under both names (IEEE
 -- 1364-2005, clauses 6.1, 9.2, 9.7, 9.9.2 and 12.3).
 use Rattle.std.specs.Prelude.{◌≡◌, ℕ, zero, suc, ◌<◌, ◌≤◌, ◌^◌, Bool, true, false, List, [], map}
-use Rattle.std.specs.Prelude.{flat_map, length, Contains, Option, Some, unwrap_or}
-use Rattle.std.specs.List.{slice_get, AllZip}
+use Rattle.std.specs.Prelude.{flat_map, length, Contains, Option, Some, None, unwrap_or, option_map}
+use Rattle.std.specs.Prelude.{option_to_list}
+use Rattle.std.specs.List.{slice_get, filter_map, AllZip}
 use Rattle.std.specs.Option.{option_map_or}
 use Rattle.sv_system.specs.System.{Environment, Run}
-use Rattle.sv_ast.specs.Tree.{ItemTree, released, ModuleTree, TextTree}
+use Rattle.sv_ast.specs.ClockPaths.{edge_of}
+use Rattle.sv_ast.specs.Tree.{ItemTree, released, instance_item, ModuleTree, TextTree}
 use Rattle.sv_ast.specs.Instances.{top_module}
-use Rattle.sv_ast.specs.Parts.{Path, Part, part_with, most_levels, parts, PartSignal, signal_path}
-use Rattle.sv_ast.specs.Parts.{signal_width, signals_of}
+use Rattle.sv_ast.specs.Parts.{Path, Part, part_with, within, child, most_levels, parts}
+use Rattle.sv_ast.specs.Parts.{PartSignal, signal_path, signal_width, signals_of}
 use Rattle.sv_ast.specs.Processes.{Process, clocked, item_processes, change_of}
 use Rattle.sv_ast.specs.Processes.{updates_of as source_updates_of}
-use Rattle.sv_flat.specs.Design.{SignalForm, ProcessForm, FlatDesign}
+use Rattle.sv_flat.specs.Design.{SignalForm, ProcessKind, clocked as clocked_kind, ProcessForm}
+use Rattle.sv_flat.specs.Design.{FlatDesign}
 use Rattle.sv_flat.specs.Processes.{is_clocked}
 use Rattle.sv_flat.specs.Runs.{run_alone, updates_of}
 
@@ -35,6 +38,33 @@ abbrev pub made_of : TextTree → (asked : Option (List ℕ)) → List Process
 made_of text asked = option_map_or
     (λ (m : ModuleTree). made_from most_levels text.modules (part_with [] [] m))
     (top_module text.modules asked) []
+
+-- ---- clocks
+
+-- the signal after the `posedge` of an item, or for an instance those inside it
+abbrev pub item_edges : (inside : Part → List Path) → List ModuleTree → Part → ItemTree → List Path
+item_edges inside modules p (instance_item i) = option_map_or inside (child modules p i) []
+item_edges inside modules p item = option_to_list (option_map (within p) (edge_of item))
+
+-- those of an instance and of all inside it, in the order of the processes
+unfoldable pub edges_from : (levels : ℕ) → List ModuleTree → Part → List Path
+edges_from zero modules p = []
+edges_from (suc levels) modules p =
+    flat_map (item_edges (edges_from levels modules) modules p) p.definition.items
+
+-- those of a text, one for each of its clocked processes, in order
+abbrev pub edges_of : TextTree → (asked : Option (List ℕ)) → List Path
+edges_of text asked = option_map_or
+    (λ (m : ModuleTree). edges_from most_levels text.modules (part_with [] [] m))
+    (top_module text.modules asked) []
+
+-- the clock of a flat process that is clocked
+abbrev pub kind_clock : ProcessKind → Option ℕ
+kind_clock (clocked_kind k) = Some k
+kind_clock _ = None
+
+abbrev pub clock_of : ProcessForm → Option ℕ
+clock_of f = kind_clock f.kind
 
 -- ---- signals and their values
 
@@ -80,6 +110,13 @@ pub record DoTheSame (signals : List PartSignal) (forms : List SignalForm) (q : 
   pub updates : is_clocked f.kind ≡ true → (e : Environment ℕ) (g : Environment Path)
       → AreAlike signals e g
       → map (λ u. (path_at signals u.0, u.1)) (updates_of forms f.body e) ≡ source_updates_of g q
+
+-- the clocks of a text's clocked processes and those of the flat ones, in order: each number is
+-- that of the signal at the path
+abbrev pub ClocksBeside : TextTree → (asked : Option (List ℕ)) → FlatDesign → Type 0
+ClocksBeside text asked design = AllZip
+    (λ x k. slice_get (map signal_path (text_signals text asked)) k ≡ Some x)
+    (edges_of text asked) (filter_map clock_of design.processes)
 
 -- the processes of a text, but for those of released values, and those of its flat design
 abbrev pub ProcessesBeside : TextTree → (asked : Option (List ℕ)) → FlatDesign → Type 0

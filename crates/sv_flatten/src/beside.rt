@@ -14,17 +14,22 @@ ghost use Rattle.sv_flatten.specs.FlattenedTexts.{CanBeFlattened, ItemNumbersFit
 ghost use Rattle.sv_flatten.specs.FlattenedTexts.{ReleasesNothing};
 ghost use Rattle.sv_flatten.specs.InOrder.{JoinedInOrder, SchedulesAgree, SettledAlike};
 ghost use Rattle.sv_flatten.specs.Rounds.{RoundsAreOfText};
-ghost use Rattle.sv_flatten.specs.SideBySide.{ProcessesBeside, made_of, text_signals, path_at};
+ghost use Rattle.sv_flatten.specs.SideBySide.{ProcessesBeside, ClocksBeside, made_of};
+ghost use Rattle.sv_flatten.specs.SideBySide.{text_signals, path_at};
 
 /// The processes of a text, but for those of values that it releases, and the processes of the flat
 /// design that it stands for stand side by side, in order: each is clocked where the other is, and
-/// does the same to every environment (IEEE 1364-2005, clauses 6.1, 9.2, 9.7, 9.9.2 and 12.3). The
-/// text has the shape that the grammar gives, and the selectors of its cases write numbers that fit
-/// their lengths. Where it releases nothing, these are all its processes.
+/// does the same to every environment (IEEE 1364-2005, clauses 6.1, 9.2, 9.7, 9.9.2 and 12.3); the
+/// clock of each is the number of the signal after its `posedge`. The text has the shape that the
+/// grammar gives, and the selectors of its cases write numbers that fit their lengths. Where it
+/// releases nothing, these are all its processes.
 pub fn processes_stand_beside_their_sources()
     ensures beside { (text : TextTree) (asked : Option (List ℕ)) (design : FlatDesign)
         → IsTrue (is_shaped text) → EachItem ItemNumbersFit text
         → flat_of text asked ≡ Some design → ProcessesBeside text asked design }
+    ensures clocks { (text : TextTree) (asked : Option (List ℕ)) (design : FlatDesign)
+        → IsTrue (is_shaped text) → EachItem ItemNumbersFit text
+        → flat_of text asked ≡ Some design → ClocksBeside text asked design }
     ensures all { (text : TextTree) (asked : Option (List ℕ)) → EachItem ReleasesNothing text
         → made_of text asked ≡ processes text asked }
 {}

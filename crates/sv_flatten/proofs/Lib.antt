@@ -42,6 +42,7 @@ pub mod JoinedTicks
 pub mod SidesSame
 pub mod JoinedWhole
 pub mod JoinedOrdered
+mod BesideExamples
 pub mod JoinedLattice
 pub mod JoinedMaps
 pub mod JoinedLabels

@@ -8,6 +8,7 @@ pub mod LatticeFacts
 pub mod LimitExamples
 pub mod ListLineFacts
 pub mod ListExamples
+pub mod MadeFacts
 pub mod NumberSets
 pub mod OneDriver
 pub mod PathLists

@@ -155,7 +155,7 @@ module _ (signals : List SignalForm) where
   pieces_keep_now v (p ∷ pieces) now = pieces_keep_now v pieces (put_piece signals false v now p)
 
   -- nonblocking assignments leave the environment
-  keeps_now : (body : FlatStatement) (now : State) → IsTrue (all_are false body) →
+  pub keeps_now : (body : FlatStatement) (now : State) → IsTrue (all_are false body) →
       (run signals body now).0 ≡ now.0
   keeps_now nothing now kind = refl
   keeps_now (after first second) now kind =
@@ -173,7 +173,7 @@ module _ (signals : List SignalForm) where
       (keeps_now second now (second_of (all_are false first) (all_are false second) kind))
 
   -- so they read the settled environment on their way
-  waiting_settles : (body : FlatStatement) (e : Environment ℕ) (now : State)
+  pub waiting_settles : (body : FlatStatement) (e : Environment ℕ) (now : State)
       → IsTrue (all_are false body) → now.0 ≡ e
       → Settles signals e body now
   waiting_settles nothing e now kind same = tt
@@ -284,7 +284,7 @@ module _ (signals : List SignalForm) where
       (Contains-filter (λ (p : ProcessForm). assigns p.body s) ps found.0 found.1 found.2)))
 
   -- the one clocked process that drives a signal gives it its last update
-  one_gives : (e : Environment ℕ) (s old : ℕ) (p : ProcessForm) (ps : List ProcessForm)
+  pub one_gives : (e : Environment ℕ) (s old : ℕ) (p : ProcessForm) (ps : List ProcessForm)
       → slice_get (drivers ps s) 1 ≡ None
       → Contains ps p → IsTrue (assigns p.body s) → IsTrue (is_clocked p.kind)
       → last_update ◌==◌ s old (edge_updates e ps) ≡ last_update ◌==◌ s old (updates_in e p)
@@ -627,7 +627,7 @@ module _ (design : FlatDesign) (is_sound : IsTrue (sound design))
         none_found (assigns p.body t) (λ own. false≢true (sym (own_parts t own).2 ∙ register))
 
     -- run from there, the process comes to the values at rest
-    comes_to_rest : (t : ℕ) → IsTrue (assigns p.body t) → run_of design p emptied t ≡ e t
+    pub comes_to_rest : (t : ℕ) → IsTrue (assigns p.body t) → run_of design p emptied t ≡ e t
     comes_to_rest t own =
         sym (same_target design is_sound admitted p at t own e emptied
         (λ u input. sym (outside u (foreign_input u input)))
@@ -682,7 +682,7 @@ module _ (design : FlatDesign) (is_sound : IsTrue (sound design))
         omega arith)))
         (either_way (is_block p.kind))
 
-    settles : Settles design.signals e p.body (emptied, [])
+    pub settles : Settles design.signals e p.body (emptied, [])
     settles =
         block_settles design.signals (some_width design is_sound admitted) (assigns p.body) e
         own_fits p.body no_bits no_bits
@@ -697,7 +697,7 @@ module _ (design : FlatDesign) (is_sound : IsTrue (sound design))
         cond_true (assigns p.body s) 0 (e s) own
         ∙ sym (cond_false (is_clocked p.kind) (e s) 0 is_unclocked)
 
-    blocking : IsTrue (all_are true p.body)
+    pub blocking : IsTrue (all_are true p.body)
     blocking = blocking_are p.body (is_blocking design is_sound admitted p process is_unclocked)
 
     -- the path that holds gives the value of the target

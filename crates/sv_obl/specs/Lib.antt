@@ -6,6 +6,7 @@ pub mod Exchange
 pub mod Limits
 pub mod ListLines
 pub mod ListParts
+pub mod MadeValues
 pub mod Nodes
 pub mod Noninterference
 pub mod Obligations

@@ -5,14 +5,17 @@ ghost use Rattle.sv_flat.specs.Clocks.{processes_of};
 ghost use Rattle.sv_flat.specs.Design.{TypedTree, ProcessForm, FlatDesign};
 ghost use Rattle.sv_flat.specs.FlatSystem.{flat_system};
 ghost use Rattle.sv_flat.specs.Admission.{IsAdmitted};
-ghost use Rattle.sv_flat.specs.Processes.{is_clocked};
+ghost use Rattle.sv_flat.specs.Processes.{is_block, is_clocked};
 ghost use Rattle.sv_flat.specs.Reads.{is_combinational, is_read_for};
 ghost use Rattle.sv_flat.specs.Soundness.{sound};
+ghost use Rattle.sv_flat.specs.Readings.{no_bits};
 ghost use Rattle.sv_flat.specs.Values.{value};
+ghost use Rattle.sv_obl.specs.MadeValues.{made, made_on_the_way};
 ghost use Rattle.sv_obl.specs.Noninterference.{IsChecked, NoninterferentUnder};
 ghost use Rattle.sv_obl.specs.Paths.{Path};
 ghost use Rattle.sv_obl.specs.PathValues.{IsTaken};
 ghost use Rattle.sv_obl.specs.Validity.{AllValid};
+ghost use Rattle.sv_obl.specs.Wanted.{marked};
 ghost use Rattle.sv_system.specs.System.{Environment, Fits, IsStill, Noninterferent};
 
 /// In a settled environment exactly one path of a target is taken.
@@ -71,4 +74,42 @@ pub fn valid_obligations_mean_noninterference()
 pub fn valid_designs_are_noninterferent()
     ensures { (design : FlatDesign) → IsChecked design → AllValid [] design →
         Noninterferent (flat_system design) }
+{}
+
+/// In a settled environment a combinational signal has the value that its process makes of it from
+/// 0, all that is read having its value of that environment.
+pub fn settled_value_is_made()
+    ensures { (design : FlatDesign) → IsTrue (sound design) → IsAdmitted design
+        → (p : ProcessForm) → Contains (processes_of design) p → IsFalse (is_clocked p.kind)
+        → (s : ℕ) → IsTrue (assigns p.body s)
+        → (e : Environment ℕ) → Fits (flat_system design) e → IsStill (flat_system design) e
+        → made design.signals e s p.body 0 ≡ e s }
+{}
+
+/// A register's value after the clock edge is what its process makes of the value before it.
+pub fn next_value_is_made()
+    ensures { (design : FlatDesign) → IsTrue (sound design) → IsAdmitted design
+        → (p : ProcessForm) → Contains (processes_of design) p → IsTrue (is_clocked p.kind)
+        → (s : ℕ) → IsTrue (assigns p.body s) → (e : Environment ℕ)
+        → made design.signals e s p.body (e s) ≡ (flat_system design).next e s }
+{}
+
+/// What a process makes of a signal depends on the signals read for it alone, whether or not the
+/// environments are settled.
+pub fn made_values_come_from_reads()
+    ensures { (design : FlatDesign) → IsTrue (sound design) → IsAdmitted design
+        → (p : ProcessForm) → Contains (processes_of design) p
+        → (s : ℕ) → IsTrue (assigns p.body s) → (e f : Environment ℕ)
+        → ((t : ℕ) → IsTrue (is_read_for design s t) → e t ≡ f t) → (old : ℕ)
+        → made design.signals e s p.body old ≡ made design.signals f s p.body old }
+{}
+
+/// The statement in which earlier reads are wanted makes the same of each signal that the process
+/// assigns, from whatever values the signals have where it begins.
+pub fn wanted_names_make_the_same()
+    ensures { (design : FlatDesign) → IsTrue (sound design) → IsAdmitted design
+        → (p : ProcessForm) → Contains (processes_of design) p
+        → (s : ℕ) → IsTrue (assigns p.body s) → (e now : Environment ℕ)
+        → made_on_the_way design.signals e (marked design.signals (is_block p.kind) p.body no_bits)
+        now s ≡ made design.signals e s p.body (now s) }
 {}

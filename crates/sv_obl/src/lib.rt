@@ -47,9 +47,10 @@ mod walks;
 pub use faults::OblFault;
 pub use frames::Frame;
 pub use laws::{
-    exactly_one_path_is_taken, settled_values_come_from_reads, taken_path_gives_next_value,
+    exactly_one_path_is_taken, made_values_come_from_reads, next_value_is_made,
+    settled_value_is_made, settled_values_come_from_reads, taken_path_gives_next_value,
     taken_path_gives_value, valid_designs_are_noninterferent,
-    valid_obligations_mean_noninterference,
+    valid_obligations_mean_noninterference, wanted_names_make_the_same,
 };
 pub use limits::check_limits;
 pub use list_lines::list_line;

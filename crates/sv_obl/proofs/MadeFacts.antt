@@ -1,0 +1,342 @@
+-- What a body makes of a signal: its settled value, or a register's next value; and what it is made
+-- from.
+use Rattle.std.proofs.Common.{◌≡◌, ℕ, Bool, true, false, cond, ◌&&◌, ◌==◌, not, List, []}
+use Rattle.std.proofs.Common.{◌∷◌, ◌++◌, fold, length, ⊎_elim, refl, sym, ap, ap₂, subst, ◌∙◌}
+use Rattle.std.proofs.Common.{ltb-true, slice_get, None, is_none}
+use Rattle.std.specs.Prelude.{Contains, IsTrue, IsFalse}
+use Rattle.std.specs.List.{list_all}
+use Rattle.std.proofs.lemmas.Bool.{false≢true}
+use Rattle.sv_num.specs.Vectors.{is_true}
+use Rattle.sv_system.specs.System.{Environment, Fits, IsStill, last_update}
+use Rattle.sv_system.proofs.Lists.{Contains-nil, Contains-map, Contains-filter}
+use Rattle.sv_flat.specs.Design.{SignalForm, TypedTree, PieceForm, FlatStatement, nothing, after}
+use Rattle.sv_flat.specs.Design.{assign, branch, ProcessForm, FlatDesign}
+use Rattle.sv_flat.specs.Values.{signal_width, value}
+use Rattle.sv_flat.specs.Runs.{with_piece, run, updates_of}
+use Rattle.sv_flat.specs.Soundness.{piece_fits, well_formed, statement_sound, sound}
+use Rattle.sv_flat.specs.Assigned.{assigns, always_assigns, can_assign}
+use Rattle.sv_flat.specs.Readings.{ReadForm, reads, BitSet, either, no_bits, Reading, readings_of}
+use Rattle.sv_flat.specs.Readings.{readings, some_bit_read, is_followed}
+use Rattle.sv_flat.specs.Processes.{is_clocked, is_block, is_top_input, drivers}
+use Rattle.sv_flat.specs.Clocks.{processes_of}
+use Rattle.sv_flat.specs.Reads.{is_read_for}
+use Rattle.sv_flat.specs.FlatSystem.{flat_system}
+use Rattle.sv_flat.specs.Admission.{IsAdmitted}
+use Rattle.sv_flat.proofs.Members.{Contains-left, Contains-right}
+use Rattle.sv_flat.proofs.LeastSets.{either_way}
+use Rattle.sv_flat.proofs.Depths.{first_of, second_of}
+use Rattle.sv_flat.proofs.ReadSignals.{reads_signals}
+use Rattle.sv_flat.proofs.SameRuns.{or_none_left, or_none_right, none_found}
+use Rattle.sv_flat.proofs.AdmittedFacts.{body_is_sound, assigned_is_signal, drives, extra_at}
+use Rattle.sv_flat.proofs.BlockFacts.{is_settled, serves_is_read}
+use Rattle.sv_obl.specs.MadeValues.{after_piece, made, with_wanted, made_on_the_way}
+use Rattle.sv_obl.specs.Paths.{pieces_of}
+use Rattle.sv_obl.specs.Wanted.{with_copies, copy_of, is_copy, original, mark, marked_tree, marked}
+use Rattle.sv_obl.proofs.BlockSettles.{Settles}
+use Rattle.sv_obl.proofs.PathLists.{cond_true, cond_false, none_kept}
+use Rattle.sv_obl.proofs.PutFacts.{State, all_are, running, made_with, assign_runs, width_settled}
+use Rattle.sv_obl.proofs.PutFacts.{signal_is_settled}
+use Rattle.sv_obl.proofs.TargetValues.{keeps_now, waiting_settles, one_gives, comes_to_rest}
+use Rattle.sv_obl.proofs.TargetValues.{settles, blocking, clocked_waits}
+use Rattle.sv_obl.proofs.TreeFacts.{well_held, exchanged_value, same_names}
+
+none_is_first : (ps : List ProcessForm) (p : ProcessForm) → Contains ps p →
+    slice_get ps 0 ≡ None → ⊥
+none_is_first [] p at e = Contains-nil p at
+none_is_first (q ∷ ps) p at e = false≢true (ap is_none e)
+
+module _ (signals : List SignalForm) (s : ℕ) where
+  -- ---- one assignment
+
+  one_more : (c : Bool) (v : ℕ) (p : PieceForm) (pieces : List PieceForm) (old : ℕ)
+      → made_with signals v pieces (cond c (with_piece signals p v old) old) ≡
+      made_with signals v (cond c (p ∷ pieces) pieces) old
+  one_more true v p pieces old = refl
+  one_more false v p pieces old = refl
+
+  pieces_make : (v : ℕ) (pieces : List PieceForm) (old : ℕ)
+      → fold (after_piece signals s v) old pieces ≡ made_with signals v (pieces_of s pieces) old
+  pieces_make v [] old = refl
+  pieces_make v (p ∷ pieces) old =
+      pieces_make v pieces (after_piece signals s v old p)
+      ∙ one_more (p.signal == s) v p (pieces_of s pieces) old
+
+  -- ---- runs
+
+  module _ (b : Bool) (z : Environment ℕ) where
+    by_arm : (c : Bool) (x y : ℕ) (first second : State) → (IsTrue c → x ≡ running b first s)
+        → (IsFalse c → y ≡ running b second s)
+        → cond c x y ≡ running b (cond c first second) s
+    by_arm true x y first second one other = one refl
+    by_arm false x y first second one other = other refl
+
+    -- what a run leaves in a signal, where all that it reads on its way is settled
+    pub run_makes : (body : FlatStatement) (now : State) → IsTrue (all_are b body)
+        → Settles signals z body now
+        → made signals z s body (running b now s) ≡ running b (run signals body now) s
+    run_makes nothing now kind same = refl
+    run_makes (after first second) now kind same =
+        ap (made signals z s second)
+        (run_makes first now (first_of (all_are b first) (all_are b second) kind) same.0)
+        ∙ run_makes second (run signals first now)
+        (second_of (all_are b first) (all_are b second) kind) same.1
+    run_makes (assign pieces place blocked right) now kind same =
+        pieces_make (value signals z right) pieces (running b now s)
+        ∙ ap (λ v. made_with signals v (pieces_of s pieces) (running b now s)) (sym same)
+        ∙ sym (assign_runs signals b pieces place blocked right now s kind)
+    run_makes (branch place condition first second) now kind same =
+        ap (λ v. cond (is_true v) (made signals z s first (running b now s))
+        (made signals z s second (running b now s))) (sym same.0)
+        ∙ by_arm (is_true (value signals now.0 condition))
+        (made signals z s first (running b now s)) (made signals z s second (running b now s))
+        (run signals first now) (run signals second now)
+        (λ holds. run_makes first now (first_of (all_are b first) (all_are b second) kind)
+        (same.1 holds))
+        (λ fails. run_makes second now (second_of (all_are b first) (all_are b second) kind)
+        (same.2 fails))
+
+  -- ---- what it is made from
+
+  either_leaves : (c : Bool) (x y old : ℕ) → x ≡ old → y ≡ old → cond c x y ≡ old
+  either_leaves true x y old first second = first
+  either_leaves false x y old first second = second
+
+  -- a statement that does not assign the signal leaves it
+  pub made_leaves : (z : Environment ℕ) (body : FlatStatement) (old : ℕ) → IsFalse (assigns body s)
+      → made signals z s body old ≡ old
+  made_leaves z nothing old none = refl
+  made_leaves z (after first second) old none =
+      made_leaves z second (made signals z s first old)
+      (or_none_right (assigns first s) (assigns second s) none)
+      ∙ made_leaves z first old (or_none_left (assigns first s) (assigns second s) none)
+  made_leaves z (assign pieces place blocked right) old none =
+      pieces_make (value signals z right) pieces old
+      ∙ ap (λ ps. made_with signals (value signals z right) ps old)
+      (none_kept (λ (p : PieceForm). p.signal == s) pieces none)
+  made_leaves z (branch place condition first second) old none =
+      either_leaves (is_true (value signals z condition)) (made signals z s first old)
+      (made signals z s second old) old
+      (made_leaves z first old (or_none_left (assigns first s) (assigns second s) none))
+      (made_leaves z second old (or_none_right (assigns first s) (assigns second s) none))
+
+  module _ (z y : Environment ℕ) where
+    -- the environments agree on what is read for the signal
+    abbrev AlikeFor : List Reading → Type 0
+    AlikeFor rs =
+        (r : Reading) → Contains rs r → IsTrue (r.serves s) → z r.name.signal ≡ y r.name.signal
+
+    tree_alike : (t : TypedTree) (whole : FlatStatement) (early follows : BitSet)
+        → IsTrue (well_formed signals t) → IsTrue (assigns whole s)
+        → AlikeFor (readings_of signals t (assigns whole) early follows)
+        → value signals z t ≡ value signals y t
+    tree_alike t whole early follows well own alike =
+        same_names signals (length signals) z y t (well_held signals t well) (λ r at.
+        alike (record { name = r; serves = assigns whole; assigned = early; follows = follows })
+        (Contains-map (λ (x : ReadForm).
+        record { name = x; serves = assigns whole; assigned = early; follows = follows })
+        (reads signals t) r at) own)
+
+    -- so they make the same of it
+    pub made_alike : (body : FlatStatement) (early later : BitSet) (old : ℕ)
+        → IsTrue (statement_sound signals body)
+        → AlikeFor (readings signals body early later)
+        → made signals z s body old ≡ made signals y s body old
+    made_alike nothing early later old sound alike = refl
+    made_alike (after first second) early later old sound alike =
+        let late = either (can_assign second) later in
+        let mid = either (always_assigns first) early in
+        ap (made signals z s second)
+        (made_alike first early late old
+        (first_of (statement_sound signals first) (statement_sound signals second) sound)
+        (λ r at. alike r (Contains-left (readings signals first early late)
+        (readings signals second mid later) r at)))
+        ∙ made_alike second mid later (made signals y s first old)
+        (second_of (statement_sound signals first) (statement_sound signals second) sound)
+        (λ r at. alike r (Contains-right (readings signals first early late)
+        (readings signals second mid later) r at))
+    made_alike (assign pieces place blocked right) early later old sound alike =
+        let whole = assign pieces place blocked right in
+        ⊎_elim
+        (λ own. ap (λ v. fold (after_piece signals s v) old pieces)
+        (tree_alike right whole early (either (can_assign whole) later)
+        (first_of (well_formed signals right) (list_all (piece_fits signals right) pieces) sound)
+        own alike))
+        (λ other. made_leaves z whole old other ∙ sym (made_leaves y whole old other))
+        (either_way (assigns whole s))
+    made_alike (branch place condition first second) early later old sound alike =
+        let whole = branch place condition first second in
+        let follows = either (can_assign whole) later in
+        let here = readings_of signals condition (assigns whole) early follows in
+        let in_first = readings signals first early later in
+        let in_second = readings signals second early later in
+        let front = first_of (well_formed signals condition && statement_sound signals first)
+        (statement_sound signals second) sound in
+        ⊎_elim
+        (λ own.
+        ap (λ v. cond (is_true v) (made signals z s first old) (made signals z s second old))
+        (tree_alike condition whole early follows
+        (first_of (well_formed signals condition) (statement_sound signals first) front) own
+        (λ r at. alike r (Contains-left (here ++ in_first) in_second r
+        (Contains-left here in_first r at))))
+        ∙ ap₂ (cond (is_true (value signals y condition)))
+        (made_alike first early later old
+        (second_of (well_formed signals condition) (statement_sound signals first) front)
+        (λ r at. alike r (Contains-left (here ++ in_first) in_second r
+        (Contains-right here in_first r at))))
+        (made_alike second early later old
+        (second_of (well_formed signals condition && statement_sound signals first)
+        (statement_sound signals second) sound)
+        (λ r at. alike r (Contains-right (here ++ in_first) in_second r at))))
+        (λ other. made_leaves z whole old other ∙ sym (made_leaves y whole old other))
+        (either_way (assigns whole s))
+
+module _ (signals : List SignalForm) (in_block : Bool) (z : Environment ℕ) where
+  -- ---- wanted names
+
+  -- no read is an earlier one
+  abbrev Quiet : List Reading → Type 0
+  Quiet rs = (r : Reading) → Contains rs r → IsFalse (in_block && is_followed signals r)
+
+  -- an expression whose reads are settled has its settled value
+  marked_value : (t : TypedTree) (serves : ℕ → Bool) (early follows : BitSet) (now : Environment ℕ)
+      → IsTrue (well_formed signals t)
+      → Quiet (readings_of signals t serves early follows)
+      → value (with_copies signals) (with_wanted signals z now)
+      (marked_tree signals in_block follows t)
+      ≡ value signals z t
+  marked_value t serves early follows now well quiet =
+      exchanged_value signals (with_copies signals) (mark signals in_block follows)
+      (with_wanted signals z now) z (length signals) (λ k low. width_settled signals k low) t
+      (well_held signals t well) (λ r at.
+      let none = quiet (record { name = r; serves = serves; assigned = early; follows = follows })
+      (Contains-map (λ (x : ReadForm).
+      record { name = x; serves = serves; assigned = early; follows = follows })
+      (reads signals t) r at) in
+      let low = ltb-true r.signal (length signals) (reads_signals signals t well r at) in
+      subst (λ k. (signal_width (with_copies signals) k ≡ signal_width signals r.signal)
+      × (with_wanted signals z now k ≡ z r.signal))
+      (sym (cond_false (in_block && some_bit_read signals r (follows r.signal))
+      (copy_of signals r.signal) r.signal none)) (
+        width_settled signals r.signal low,
+        cond_false (is_copy signals r.signal) (now (original signals r.signal)) (z r.signal)
+            (signal_is_settled signals r.signal low),
+      ))
+
+  at_arm : (c : Bool) (first second : Environment ℕ) (s x y : ℕ) → first s ≡ x → second s ≡ y
+      → cond c first second s ≡ cond c x y
+  at_arm true first second s x y one other = one
+  at_arm false first second s x y one other = other
+
+  -- where no read is an earlier one, each signal is made by itself
+  pub alone_on_the_way :
+      (body : FlatStatement) (early later : BitSet) (now : Environment ℕ) (s : ℕ)
+      → IsTrue (statement_sound signals body) → Quiet (readings signals body early later)
+      → made_on_the_way signals z (marked signals in_block body later) now s ≡
+      made signals z s body (now s)
+  alone_on_the_way nothing early later now s sound quiet = refl
+  alone_on_the_way (after first second) early later now s sound quiet =
+      let late = either (can_assign second) later in
+      let mid = either (always_assigns first) early in
+      alone_on_the_way second mid later
+      (made_on_the_way signals z (marked signals in_block first late) now) s
+      (second_of (statement_sound signals first) (statement_sound signals second) sound)
+      (λ r at. quiet r (Contains-right (readings signals first early late)
+      (readings signals second mid later) r at))
+      ∙ ap (made signals z s second) (alone_on_the_way first early late now s
+      (first_of (statement_sound signals first) (statement_sound signals second) sound)
+      (λ r at. quiet r (Contains-left (readings signals first early late)
+      (readings signals second mid later) r at)))
+  alone_on_the_way (assign pieces place blocked right) early later now s sound quiet =
+      let whole = assign pieces place blocked right in
+      ap (λ v. fold (after_piece signals s v) (now s) pieces)
+      (marked_value right (assigns whole) early (either (can_assign whole) later) now
+      (first_of (well_formed signals right) (list_all (piece_fits signals right) pieces) sound)
+      quiet)
+  alone_on_the_way (branch place condition first second) early later now s sound quiet =
+      let whole = branch place condition first second in
+      let follows = either (can_assign whole) later in
+      let here = readings_of signals condition (assigns whole) early follows in
+      let in_first = readings signals first early later in
+      let in_second = readings signals second early later in
+      let front = first_of (well_formed signals condition && statement_sound signals first)
+      (statement_sound signals second) sound in
+      let v = value (with_copies signals) (with_wanted signals z now)
+      (marked_tree signals in_block follows condition) in
+      at_arm (is_true v)
+      (made_on_the_way signals z (marked signals in_block first later) now)
+      (made_on_the_way signals z (marked signals in_block second later) now) s
+      (made signals z s first (now s)) (made signals z s second (now s))
+      (alone_on_the_way first early later now s
+      (second_of (well_formed signals condition) (statement_sound signals first) front)
+      (λ r at. quiet r (Contains-left (here ++ in_first) in_second r
+      (Contains-right here in_first r at))))
+      (alone_on_the_way second early later now s
+      (second_of (well_formed signals condition && statement_sound signals first)
+      (statement_sound signals second) sound)
+      (λ r at. quiet r (Contains-right (here ++ in_first) in_second r at)))
+      ∙ ap (λ k. cond (is_true k) (made signals z s first (now s))
+      (made signals z s second (now s)))
+      (marked_value condition (assigns whole) early follows now
+      (first_of (well_formed signals condition) (statement_sound signals first) front)
+      (λ r at. quiet r (Contains-left (here ++ in_first) in_second r
+      (Contains-left here in_first r at))))
+
+module _ (design : FlatDesign) (is_sound : IsTrue (sound design)) (admitted : IsAdmitted design)
+    (p : ProcessForm) (s : ℕ) (at : Contains (processes_of design) p)
+    (own : IsTrue (assigns p.body s)) where
+  sound_body : IsTrue (statement_sound design.signals p.body)
+  sound_body = body_is_sound design is_sound admitted p at
+
+  -- no second process drives it
+  one : slice_get (drivers (processes_of design) s) 1 ≡ None
+  one =
+      let inside = assigned_is_signal design.signals p.body sound_body s own in
+      extra_at design is_sound admitted false s
+      (none_found (is_top_input design s) (λ top.
+      none_is_first (drivers (processes_of design) s) p
+      (drives design is_sound admitted p s at own)
+      (extra_at design is_sound admitted true s top inside))) inside
+
+  -- ---- the laws
+
+  -- a body makes from 0 the settled value of a signal
+  pub makes_settled : IsFalse (is_clocked p.kind) → (e : Environment ℕ)
+      → Fits (flat_system design) e → IsStill (flat_system design) e
+      → made design.signals e s p.body 0 ≡ e s
+  makes_settled unclocked e fits still =
+      let among = Contains-filter (λ (q : ProcessForm). not (is_clocked q.kind))
+      (processes_of design) p at (ap not unclocked) in
+      let emptied = λ (t : ℕ). cond (assigns p.body t) 0 (e t) in
+      ap (made design.signals e s p.body) (sym (cond_true (assigns p.body s) 0 (e s) own))
+      ∙ run_makes design.signals s true e p.body (emptied, [])
+      (blocking design is_sound admitted p among e fits still)
+      (settles design is_sound admitted p among e fits still)
+      ∙ comes_to_rest design is_sound admitted p among e fits still s own
+
+  -- and of a register, from its own value, the next
+  pub makes_next : IsTrue (is_clocked p.kind) → (e : Environment ℕ)
+      → made design.signals e s p.body (e s) ≡ (flat_system design).next e s
+  makes_next clock e =
+      let waits = clocked_waits design is_sound admitted p at clock in
+      run_makes design.signals s false e p.body (e, []) waits
+      (waiting_settles design.signals p.body e (e, []) waits refl)
+      ∙ ap (λ (f : Environment ℕ). last_update ◌==◌ s (f s) (updates_of design.signals p.body e))
+      (keeps_now design.signals p.body (e, []) waits)
+      ∙ sym (one_gives design.signals e s (e s) p (processes_of design) one at own clock)
+
+  -- from what is read for the signal alone
+  pub makes_from_reads : (e f : Environment ℕ)
+      → ((t : ℕ) → IsTrue (is_read_for design s t) → e t ≡ f t)
+      → (old : ℕ) → made design.signals e s p.body old ≡ made design.signals f s p.body old
+  makes_from_reads e f same old =
+      made_alike design.signals s e f p.body no_bits no_bits old sound_body
+      (λ r r_at served. same r.name.signal
+      (serves_is_read design is_sound admitted p s at own r r_at served))
+
+  -- and the marked body makes the same, whatever wanted names begin with
+  pub makes_on_the_way : (e now : Environment ℕ)
+      → made_on_the_way design.signals e (marked design.signals (is_block p.kind) p.body no_bits)
+      now s ≡ made design.signals e s p.body (now s)
+  makes_on_the_way e now =
+      alone_on_the_way design.signals (is_block p.kind) e p.body no_bits no_bits now s sound_body
+      (λ r r_at. is_settled design is_sound admitted p at r r_at)

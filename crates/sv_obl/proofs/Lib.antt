@@ -3,6 +3,7 @@ pub mod Closing
 pub mod CutFacts
 pub mod DesignQueryFacts
 pub mod DrivenTargets
+pub mod FalsifyExamples
 pub mod GuardedDesigns
 pub mod LatticeFacts
 pub mod LimitExamples

@@ -20,14 +20,14 @@ use Rattle.sv_obl.specs.ListLines.{list_text}
 abbrev pub low : Label
 low = Declared (record { 0 = 0 })
 
-abbrev high : Label
+abbrev pub high : Label
 high = Declared (record { 0 = 1 })
 
 -- by a map of one range, and of two
-abbrev by : ℕ → Label
+abbrev pub by : ℕ → Label
 by s = Table 0 s None
 
-abbrev by_both : ℕ → ℕ → Label
+abbrev pub by_both : ℕ → ℕ → Label
 by_both s t = Table 1 s (Some t)
 
 abbrev pub point : ℕ → Point
@@ -62,7 +62,7 @@ design signals processes = record {
 }
 
 -- the whole name of a signal, and an assignment to a whole signal
-abbrev whole : (signal width : ℕ) → TypedTree
+abbrev pub whole : (signal width : ℕ) → TypedTree
 whole s width = typed width false (read s (at 1 1))
 
 abbrev puts : (signal width : ℕ) → Place → TypedTree → FlatStatement
@@ -91,7 +91,7 @@ a_choice_is_two_paths = refl
 
 -- module m(input clk, input nxt, input [7:0] {H} k, output reg owner, output reg [7:0] {Dom(owner)}
 -- r); always @(posedge clk) begin owner <= nxt; if (nxt) r <= k; end
-abbrev held_register : FlatDesign
+abbrev pub held_register : FlatDesign
 held_register = design
     (signal (codes "clk") 1 TopInput low ∷ signal (codes "nxt") 1 TopInput low ∷
     signal (codes "k") 8 TopInput high
@@ -279,7 +279,7 @@ earlier_choices_are_split = refl
 -- ---- selectors
 
 -- module m(input p, input {Dom(p)} q, input {Two(p, q)} d, output {H} y); assign y = d;
-abbrev two_selectors : Label → FlatDesign
+abbrev pub two_selectors : Label → FlatDesign
 two_selectors label = design
     (signal (codes "p") 1 TopInput low ∷ signal (codes "q") 1 TopInput label ∷
     signal (codes "d") 1 TopInput (by_both 0 1)

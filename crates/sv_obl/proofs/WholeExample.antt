@@ -27,7 +27,7 @@ use Rattle.sv_flat.proofs.Members.{only, all_contained}
 
 -- ---- L flows to H
 
-abbrev table : List ℕ
+abbrev pub table : List ℕ
 table = 3 ∷ 2 ∷ []
 
 two_points : (Q : ℕ → ℕ → Type 0) → Q 0 0 → Q 0 1 → Q 1 0 → Q 1 1 → EachPair 2 Q
@@ -165,13 +165,13 @@ turns_checked = record {
 -- ---- its obligations are valid
 
 -- a bit that is not 0 is 1
-one_bit : (x : ℕ) → x < 2 → is_true (x % 2) ≡ true → x ≡ 1
+pub one_bit : (x : ℕ) → x < 2 → is_true (x % 2) ≡ true → x ≡ 1
 one_bit zero low holds = absurd (false≢true holds)
 one_bit (suc zero) low holds = refl
 one_bit (suc (suc x)) low holds = absurd (omega arith)
 
 -- and one that is 0 is 0
-no_bit : (x : ℕ) → x < 2 → is_true (x % 2) ≡ false → x ≡ 0
+pub no_bit : (x : ℕ) → x < 2 → is_true (x % 2) ≡ false → x ≡ 0
 no_bit zero low holds = refl
 no_bit (suc zero) low holds = absurd (false≢true (sym holds))
 no_bit (suc (suc x)) low holds = absurd (omega arith)

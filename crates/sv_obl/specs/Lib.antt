@@ -16,6 +16,7 @@ pub mod Routes
 pub mod Shorts
 pub mod Trails
 pub mod Validity
+pub mod Valuations
 pub mod Wanted
 pub mod Views
 pub mod Written

@@ -22,6 +22,7 @@
 //! `ListParts.antt` cites `Shorts.antt` for what a `Listing` holds.
 #![tactic(auto)]
 
+mod checked;
 mod cuts;
 mod faults;
 mod frames;
@@ -44,6 +45,7 @@ mod trails;
 mod valuations;
 mod walks;
 
+pub use checked::know_design;
 pub use faults::OblFault;
 pub use frames::Frame;
 pub use laws::{

@@ -1,41 +1,44 @@
 -- What a body makes of a signal: its settled value, or a register's next value; and what it is made
 -- from.
-use Rattle.std.proofs.Common.{◌≡◌, ℕ, Bool, true, false, cond, ◌&&◌, ◌==◌, not, List, []}
-use Rattle.std.proofs.Common.{◌∷◌, ◌++◌, fold, length, ⊎_elim, refl, sym, ap, ap₂, subst, ◌∙◌}
-use Rattle.std.proofs.Common.{ltb-true, slice_get, None, is_none}
+use Rattle.std.proofs.Common.{◌≡◌, ℕ, ◌<◌, Bool, true, false, cond, ◌&&◌, ◌==◌, not, List}
+use Rattle.std.proofs.Common.{[], ◌∷◌, ◌++◌, fold, length, ⊎_elim, refl, sym, ap, ap₂, subst}
+use Rattle.std.proofs.Common.{◌∙◌, ltb-true, slice_get, None, is_none, arith}
 use Rattle.std.specs.Prelude.{Contains, IsTrue, IsFalse}
 use Rattle.std.specs.List.{list_all}
-use Rattle.std.proofs.lemmas.Bool.{false≢true}
+use Rattle.std.proofs.lemmas.Bool.{false≢true, eqb-true, eq-eqb}
 use Rattle.sv_num.specs.Vectors.{is_true}
-use Rattle.sv_system.specs.System.{Environment, Fits, IsStill, last_update}
-use Rattle.sv_system.proofs.Lists.{Contains-nil, Contains-map, Contains-filter}
+use Rattle.sv_system.specs.System.{Environment, Fits, IsStill, put, last_update}
+use Rattle.sv_system.proofs.Lists.{Contains-nil, Contains-map, Contains-filter, Contains-head}
+use Rattle.sv_system.proofs.Lists.{Contains-cases}
 use Rattle.sv_flat.specs.Design.{SignalForm, TypedTree, PieceForm, FlatStatement, nothing, after}
 use Rattle.sv_flat.specs.Design.{assign, branch, ProcessForm, FlatDesign}
 use Rattle.sv_flat.specs.Values.{signal_width, value}
 use Rattle.sv_flat.specs.Runs.{with_piece, run, updates_of}
+use Rattle.sv_flat.specs.Sets.{holds}
 use Rattle.sv_flat.specs.Soundness.{piece_fits, well_formed, statement_sound, sound}
 use Rattle.sv_flat.specs.Assigned.{assigns, always_assigns, can_assign}
 use Rattle.sv_flat.specs.Readings.{ReadForm, reads, BitSet, either, no_bits, Reading, readings_of}
 use Rattle.sv_flat.specs.Readings.{readings, some_bit_read, is_followed}
 use Rattle.sv_flat.specs.Processes.{is_clocked, is_block, is_top_input, drivers}
 use Rattle.sv_flat.specs.Clocks.{processes_of}
-use Rattle.sv_flat.specs.Reads.{is_read_for}
+use Rattle.sv_flat.specs.Reads.{wants, followed, is_read_for}
 use Rattle.sv_flat.specs.FlatSystem.{flat_system}
 use Rattle.sv_flat.specs.Admission.{IsAdmitted}
 use Rattle.sv_flat.proofs.Members.{Contains-left, Contains-right}
-use Rattle.sv_flat.proofs.LeastSets.{either_way}
+use Rattle.sv_flat.proofs.LeastSets.{either_way, least_set_has, some_from}
 use Rattle.sv_flat.proofs.Depths.{first_of, second_of}
 use Rattle.sv_flat.proofs.ReadSignals.{reads_signals}
-use Rattle.sv_flat.proofs.SameRuns.{or_none_left, or_none_right, none_found}
+use Rattle.sv_flat.proofs.SameRuns.{or_none_left, or_none_right, none_found, put_other, put_there}
 use Rattle.sv_flat.proofs.AdmittedFacts.{body_is_sound, assigned_is_signal, drives, extra_at}
 use Rattle.sv_flat.proofs.BlockFacts.{is_settled, serves_is_read}
-use Rattle.sv_obl.specs.MadeValues.{after_piece, made, with_wanted, made_on_the_way}
+use Rattle.sv_obl.specs.MadeValues.{after_piece, made, put_followed, made_on_the_way}
+use Rattle.sv_obl.specs.MadeValues.{starting_values}
 use Rattle.sv_obl.specs.Paths.{pieces_of}
 use Rattle.sv_obl.specs.Wanted.{with_copies, copy_of, is_copy, original, mark, marked_tree, marked}
 use Rattle.sv_obl.proofs.BlockSettles.{Settles}
 use Rattle.sv_obl.proofs.PathLists.{cond_true, cond_false, none_kept}
 use Rattle.sv_obl.proofs.PutFacts.{State, all_are, running, made_with, assign_runs, width_settled}
-use Rattle.sv_obl.proofs.PutFacts.{signal_is_settled}
+use Rattle.sv_obl.proofs.PutFacts.{signal_is_settled, copy_is_copy, original_of_copy}
 use Rattle.sv_obl.proofs.TargetValues.{keeps_now, waiting_settles, one_gives, comes_to_rest}
 use Rattle.sv_obl.proofs.TargetValues.{settles, blocking, clocked_waits}
 use Rattle.sv_obl.proofs.TreeFacts.{well_held, exchanged_value, same_names}
@@ -190,23 +193,26 @@ module _ (signals : List SignalForm) (s : ℕ) where
         (λ other. made_leaves z whole old other ∙ sym (made_leaves y whole old other))
         (either_way (assigns whole s))
 
-module _ (signals : List SignalForm) (in_block : Bool) (z : Environment ℕ) where
+module _ (signals : List SignalForm) (in_block : Bool) (followed : List ℕ) (z : Environment ℕ) where
   -- ---- wanted names
 
   -- no read is an earlier one
   abbrev Quiet : List Reading → Type 0
   Quiet rs = (r : Reading) → Contains rs r → IsFalse (in_block && is_followed signals r)
 
+  -- settled names have their values of the environment
+  abbrev IsSettled : Environment ℕ → Type 0
+  IsSettled now = (t : ℕ) → t < length signals → now t ≡ z t
+
   -- an expression whose reads are settled has its settled value
   marked_value : (t : TypedTree) (serves : ℕ → Bool) (early follows : BitSet) (now : Environment ℕ)
       → IsTrue (well_formed signals t)
-      → Quiet (readings_of signals t serves early follows)
-      → value (with_copies signals) (with_wanted signals z now)
-      (marked_tree signals in_block follows t)
+      → Quiet (readings_of signals t serves early follows) → IsSettled now
+      → value (with_copies signals) now (marked_tree signals in_block follows t)
       ≡ value signals z t
-  marked_value t serves early follows now well quiet =
+  marked_value t serves early follows now well quiet same =
       exchanged_value signals (with_copies signals) (mark signals in_block follows)
-      (with_wanted signals z now) z (length signals) (λ k low. width_settled signals k low) t
+      now z (length signals) (λ k low. width_settled signals k low) t
       (well_held signals t well) (λ r at.
       let none = quiet (record { name = r; serves = serves; assigned = early; follows = follows })
       (Contains-map (λ (x : ReadForm).
@@ -214,72 +220,149 @@ module _ (signals : List SignalForm) (in_block : Bool) (z : Environment ℕ) whe
       (reads signals t) r at) in
       let low = ltb-true r.signal (length signals) (reads_signals signals t well r at) in
       subst (λ k. (signal_width (with_copies signals) k ≡ signal_width signals r.signal)
-      × (with_wanted signals z now k ≡ z r.signal))
+      × (now k ≡ z r.signal))
       (sym (cond_false (in_block && some_bit_read signals r (follows r.signal))
-      (copy_of signals r.signal) r.signal none)) (
-        width_settled signals r.signal low,
-        cond_false (is_copy signals r.signal) (now (original signals r.signal)) (z r.signal)
-            (signal_is_settled signals r.signal low),
-      ))
+      (copy_of signals r.signal) r.signal none))
+      (width_settled signals r.signal low, same r.signal low))
 
-  at_arm : (c : Bool) (first second : Environment ℕ) (s x y : ℕ) → first s ≡ x → second s ≡ y
+  at_arm : (c : Bool) (first second : Environment ℕ) (s n : ℕ) → first s ≡ n → second s ≡ n
+      → cond c first second s ≡ n
+  at_arm true first second s n one other = one
+  at_arm false first second s n one other = other
+
+  at_arms : (c : Bool) (first second : Environment ℕ) (s x y : ℕ) → first s ≡ x → second s ≡ y
       → cond c first second s ≡ cond c x y
-  at_arm true first second s x y one other = one
-  at_arm false first second s x y one other = other
+  at_arms true first second s x y one other = one
+  at_arms false first second s x y one other = other
 
-  -- where no read is an earlier one, each signal is made by itself
-  pub alone_on_the_way :
-      (body : FlatStatement) (early later : BitSet) (now : Environment ℕ) (s : ℕ)
-      → IsTrue (statement_sound signals body) → Quiet (readings signals body early later)
-      → made_on_the_way signals z (marked signals in_block body later) now s ≡
-      made signals z s body (now s)
-  alone_on_the_way nothing early later now s sound quiet = refl
-  alone_on_the_way (after first second) early later now s sound quiet =
-      let late = either (can_assign second) later in
-      let mid = either (always_assigns first) early in
-      alone_on_the_way second mid later
-      (made_on_the_way signals z (marked signals in_block first late) now) s
-      (second_of (statement_sound signals first) (statement_sound signals second) sound)
-      (λ r at. quiet r (Contains-right (readings signals first early late)
-      (readings signals second mid later) r at))
-      ∙ ap (made signals z s second) (alone_on_the_way first early late now s
-      (first_of (statement_sound signals first) (statement_sound signals second) sound)
-      (λ r at. quiet r (Contains-left (readings signals first early late)
-      (readings signals second mid later) r at)))
-  alone_on_the_way (assign pieces place blocked right) early later now s sound quiet =
-      let whole = assign pieces place blocked right in
-      ap (λ v. fold (after_piece signals s v) (now s) pieces)
-      (marked_value right (assigns whole) early (either (can_assign whole) later) now
-      (first_of (well_formed signals right) (list_all (piece_fits signals right) pieces) sound)
-      quiet)
-  alone_on_the_way (branch place condition first second) early later now s sound quiet =
-      let whole = branch place condition first second in
-      let follows = either (can_assign whole) later in
-      let here = readings_of signals condition (assigns whole) early follows in
-      let in_first = readings signals first early later in
-      let in_second = readings signals second early later in
-      let front = first_of (well_formed signals condition && statement_sound signals first)
-      (statement_sound signals second) sound in
-      let v = value (with_copies signals) (with_wanted signals z now)
-      (marked_tree signals in_block follows condition) in
-      at_arm (is_true v)
-      (made_on_the_way signals z (marked signals in_block first later) now)
-      (made_on_the_way signals z (marked signals in_block second later) now) s
-      (made signals z s first (now s)) (made signals z s second (now s))
-      (alone_on_the_way first early later now s
-      (second_of (well_formed signals condition) (statement_sound signals first) front)
-      (λ r at. quiet r (Contains-left (here ++ in_first) in_second r
-      (Contains-right here in_first r at))))
-      (alone_on_the_way second early later now s
-      (second_of (well_formed signals condition && statement_sound signals first)
-      (statement_sound signals second) sound)
-      (λ r at. quiet r (Contains-right (here ++ in_first) in_second r at)))
-      ∙ ap (λ k. cond (is_true k) (made signals z s first (now s))
-      (made signals z s second (now s)))
-      (marked_value condition (assigns whole) early follows now
-      (first_of (well_formed signals condition) (statement_sound signals first) front)
-      (λ r at. quiet r (Contains-left (here ++ in_first) in_second r
-      (Contains-left here in_first r at))))
+  -- ---- what stays
+
+  apart : (t u : ℕ) → (t ≡ u → ⊥) → IsFalse (t == u)
+  apart t u differ = none_found (t == u) (λ same. differ (eqb-true t u same))
+
+  -- a piece changes one copy
+  put_elsewhere : (v t : ℕ) (now : Environment ℕ) (piece : PieceForm)
+      → (copy_of signals piece.signal ≡ t → ⊥) → put_followed signals followed v now piece t ≡ now t
+  put_elsewhere v t now piece differ =
+      let copy = copy_of signals piece.signal in
+      at_arm (holds followed piece.signal)
+      (put ◌==◌ copy (with_piece signals piece v (now copy)) now) now t (now t)
+      (put_other copy t (with_piece signals piece v (now copy)) now (apart copy t differ)) refl
+
+  pieces_settled : (v t : ℕ) (pieces : List PieceForm) (now : Environment ℕ) → t < length signals
+      → fold (put_followed signals followed v) now pieces t ≡ now t
+  pieces_settled v t [] now low = refl
+  pieces_settled v t (p ∷ pieces) now low =
+      pieces_settled v t pieces (put_followed signals followed v now p) low
+      ∙ put_elsewhere v t now p (λ same. omega (arith, same))
+
+  -- settled names keep their values
+  pub stays_settled : (body : FlatStatement) (now : Environment ℕ) (t : ℕ) → t < length signals
+      → made_on_the_way signals followed body now t ≡ now t
+  stays_settled nothing now t low = refl
+  stays_settled (after first second) now t low =
+      stays_settled second (made_on_the_way signals followed first now) t low
+      ∙ stays_settled first now t low
+  stays_settled (assign pieces place blocked right) now t low =
+      pieces_settled (value (with_copies signals) now right) t pieces now low
+  stays_settled (branch place condition first second) now t low =
+      at_arm (is_true (value (with_copies signals) now condition))
+      (made_on_the_way signals followed first now) (made_on_the_way signals followed second now) t
+      (now t) (stays_settled first now t low) (stays_settled second now t low)
+
+  -- ---- one followed signal
+
+  module _ (s : ℕ) (is_member : IsTrue (holds followed s)) where
+    abbrev copy : ℕ
+    copy = copy_of signals s
+
+    put_here : (v : ℕ) (now : Environment ℕ) (piece : PieceForm)
+        → put_followed signals followed v now piece copy
+        ≡ after_piece signals s v (now copy) piece
+    put_here v now piece = ⊎_elim
+        (λ same.
+        let there = λ (x : ℕ). copy_of signals x in
+        let is = eqb-true piece.signal s same in
+        let held = subst (λ x. IsTrue (holds followed x)) (sym is) is_member in
+        let new = with_piece signals piece v (now (there piece.signal)) in
+        ap (λ (e : Environment ℕ). e copy) (cond_true (holds followed piece.signal)
+        (put ◌==◌ (there piece.signal) new now) now held)
+        ∙ subst (λ x. put ◌==◌ (there piece.signal) new now (there x) ≡ new) is
+        (put_there (there piece.signal) new now)
+        ∙ ap (λ x. with_piece signals piece v (now (there x))) is
+        ∙ sym (cond_true (piece.signal == s) (with_piece signals piece v (now copy)) (now copy)
+        same))
+        (λ other.
+        put_elsewhere v copy now piece (λ same. false≢true (sym other
+        ∙ eq-eqb piece.signal s (omega (arith, same))))
+        ∙ sym (cond_false (piece.signal == s) (with_piece signals piece v (now copy)) (now copy)
+        other))
+        (either_way (piece.signal == s))
+
+    pieces_here : (v : ℕ) (pieces : List PieceForm) (now : Environment ℕ)
+        → fold (put_followed signals followed v) now pieces copy
+        ≡ fold (after_piece signals s v) (now copy) pieces
+    pieces_here v [] now = refl
+    pieces_here v (p ∷ pieces) now =
+        pieces_here v pieces (put_followed signals followed v now p)
+        ∙ ap (λ old. fold (after_piece signals s v) old pieces) (put_here v now p)
+
+    -- where no read is an earlier one, it is made by itself
+    pub alone_on_the_way : (body : FlatStatement) (early later : BitSet) (now : Environment ℕ)
+        → IsTrue (statement_sound signals body) → Quiet (readings signals body early later)
+        → IsSettled now
+        → made_on_the_way signals followed (marked signals in_block body later) now copy ≡
+        made signals z s body (now copy)
+    alone_on_the_way nothing early later now sound quiet same = refl
+    alone_on_the_way (after first second) early later now sound quiet same =
+        let late = either (can_assign second) later in
+        let mid = either (always_assigns first) early in
+        let half = marked signals in_block first late in
+        alone_on_the_way second mid later (made_on_the_way signals followed half now)
+        (second_of (statement_sound signals first) (statement_sound signals second) sound)
+        (λ r at. quiet r (Contains-right (readings signals first early late)
+        (readings signals second mid later) r at))
+        (λ t low. stays_settled half now t low ∙ same t low)
+        ∙ ap (made signals z s second) (alone_on_the_way first early late now
+        (first_of (statement_sound signals first) (statement_sound signals second) sound)
+        (λ r at. quiet r (Contains-left (readings signals first early late)
+        (readings signals second mid later) r at)) same)
+    alone_on_the_way (assign pieces place blocked right) early later now sound quiet same =
+        let whole = assign pieces place blocked right in
+        let follows = either (can_assign whole) later in
+        pieces_here
+        (value (with_copies signals) now (marked_tree signals in_block follows right)) pieces now
+        ∙ ap (λ v. fold (after_piece signals s v) (now copy) pieces)
+        (marked_value right (assigns whole) early follows now
+        (first_of (well_formed signals right) (list_all (piece_fits signals right) pieces) sound)
+        quiet same)
+    alone_on_the_way (branch place condition first second) early later now sound quiet same =
+        let whole = branch place condition first second in
+        let follows = either (can_assign whole) later in
+        let here = readings_of signals condition (assigns whole) early follows in
+        let in_first = readings signals first early later in
+        let in_second = readings signals second early later in
+        let front = first_of (well_formed signals condition && statement_sound signals first)
+        (statement_sound signals second) sound in
+        let v = value (with_copies signals) now (marked_tree signals in_block follows condition) in
+        at_arms (is_true v)
+        (made_on_the_way signals followed (marked signals in_block first later) now)
+        (made_on_the_way signals followed (marked signals in_block second later) now) copy
+        (made signals z s first (now copy)) (made signals z s second (now copy))
+        (alone_on_the_way first early later now
+        (second_of (well_formed signals condition) (statement_sound signals first) front)
+        (λ r at. quiet r (Contains-left (here ++ in_first) in_second r
+        (Contains-right here in_first r at))) same)
+        (alone_on_the_way second early later now
+        (second_of (well_formed signals condition && statement_sound signals first)
+        (statement_sound signals second) sound)
+        (λ r at. quiet r (Contains-right (here ++ in_first) in_second r at)) same)
+        ∙ ap (λ k. cond (is_true k) (made signals z s first (now copy))
+        (made signals z s second (now copy)))
+        (marked_value condition (assigns whole) early follows now
+        (first_of (well_formed signals condition) (statement_sound signals first) front)
+        (λ r at. quiet r (Contains-left (here ++ in_first) in_second r
+        (Contains-left here in_first r at))) same)
 
 module _ (design : FlatDesign) (is_sound : IsTrue (sound design)) (admitted : IsAdmitted design)
     (p : ProcessForm) (s : ℕ) (at : Contains (processes_of design) p)
@@ -333,10 +416,54 @@ module _ (design : FlatDesign) (is_sound : IsTrue (sound design)) (admitted : Is
       (λ r r_at served. same r.name.signal
       (serves_is_read design is_sound admitted p s at own r r_at served))
 
-  -- and the marked body makes the same, whatever wanted names begin with
+  inside : s < length design.signals
+  inside = ltb-true s (length design.signals)
+      (assigned_is_signal design.signals p.body sound_body s own)
+
+  -- the signal is one of those followed for it
+  pub follows_itself : IsTrue (holds (followed design p s) s)
+  follows_itself = some_from (λ m. m == s) (followed design p s) s
+      (least_set_has (length design.signals) (wants design p) (s ∷ [])
+      (λ k k_at. ⊎_elim (λ same. subst (λ z. z < length design.signals) same inside)
+      (λ later. absurd (Contains-nil k later)) (Contains-cases s [] k k_at))
+      s (Contains-head s []))
+      (eq-eqb s s refl)
+
+  -- and the marked body makes the same of its copy
   pub makes_on_the_way : (e now : Environment ℕ)
-      → made_on_the_way design.signals e (marked design.signals (is_block p.kind) p.body no_bits)
-      now s ≡ made design.signals e s p.body (now s)
-  makes_on_the_way e now =
-      alone_on_the_way design.signals (is_block p.kind) e p.body no_bits no_bits now s sound_body
-      (λ r r_at. is_settled design is_sound admitted p at r r_at)
+      → ((t : ℕ) → t < length design.signals → now t ≡ e t)
+      → made_on_the_way design.signals (followed design p s)
+      (marked design.signals (is_block p.kind) p.body no_bits) now (copy_of design.signals s)
+      ≡ made design.signals e s p.body (now (copy_of design.signals s))
+  makes_on_the_way e now same =
+      alone_on_the_way design.signals (is_block p.kind) (followed design p s) e s follows_itself
+      p.body no_bits no_bits now sound_body
+      (λ r r_at. is_settled design is_sound admitted p at r r_at) same
+
+  -- so from where it begins it makes of each copy what the body makes of the signal
+  starts_settled : (is_register : Bool) (e : Environment ℕ) (t : ℕ) → t < length design.signals
+      → starting_values design.signals is_register e t ≡ e t
+  starts_settled is_register e t low =
+      cond_true (not (is_copy design.signals t)) (e t)
+      (cond is_register (e (original design.signals t)) 0)
+      (ap not (signal_is_settled design.signals t low))
+
+  starts_at_copy : (is_register : Bool) (e : Environment ℕ)
+      → starting_values design.signals is_register e (copy_of design.signals s)
+      ≡ cond is_register (e s) 0
+  starts_at_copy is_register e =
+      cond_false (not (is_copy design.signals (copy_of design.signals s)))
+      (e (copy_of design.signals s))
+      (cond is_register (e (original design.signals (copy_of design.signals s))) 0)
+      (ap not (copy_is_copy design.signals s))
+      ∙ ap (λ t. cond is_register (e t) 0) (original_of_copy design.signals s)
+
+  pub starts_and_makes : (e : Environment ℕ)
+      → made_on_the_way design.signals (followed design p s)
+      (marked design.signals (is_block p.kind) p.body no_bits)
+      (starting_values design.signals (is_clocked p.kind) e) (copy_of design.signals s)
+      ≡ made design.signals e s p.body (cond (is_clocked p.kind) (e s) 0)
+  starts_and_makes e =
+      makes_on_the_way e (starting_values design.signals (is_clocked p.kind) e)
+      (starts_settled (is_clocked p.kind) e)
+      ∙ ap (made design.signals e s p.body) (starts_at_copy (is_clocked p.kind) e)

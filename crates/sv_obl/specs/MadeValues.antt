@@ -1,13 +1,14 @@
 -- What a process makes of a signal's value from the values of what it reads: every name that is
 -- settled has its value of one environment, and no other value of the run is asked for.
-use Rattle.std.specs.Prelude.{ℕ, ◌==◌, if◌then◌else◌, List, fold}
+use Rattle.std.specs.Prelude.{ℕ, Bool, ◌==◌, not, if◌then◌else◌, List, fold}
 use Rattle.sv_num.specs.Vectors.{is_true}
-use Rattle.sv_system.specs.System.{Environment}
+use Rattle.sv_system.specs.System.{Environment, put}
 use Rattle.sv_flat.specs.Design.{SignalForm, PieceForm, FlatStatement, nothing, after, assign}
 use Rattle.sv_flat.specs.Design.{branch}
 use Rattle.sv_flat.specs.Values.{value}
 use Rattle.sv_flat.specs.Runs.{with_piece}
-use Rattle.sv_obl.specs.Wanted.{with_copies, is_copy, original}
+use Rattle.sv_flat.specs.Sets.{holds}
+use Rattle.sv_obl.specs.Wanted.{with_copies, copy_of, is_copy, original}
 
 -- the target's value after one piece: where the piece is of the target, its bits are those that it
 -- takes from the value of the right side
@@ -33,22 +34,34 @@ made signals settled target (branch place condition first second) old =
 
 -- ---- where some names are wanted
 
--- names that are settled have their values, and wanted names those that their signals have so far
-abbrev pub with_wanted : List SignalForm → (settled now : Environment ℕ) → Environment ℕ
-with_wanted signals settled now t =
-    if is_copy signals t then now (original signals t) else settled t
+-- the values with one more piece put into the copy of its signal, if that is one of the followed
+abbrev pub put_followed : List SignalForm → (followed : List ℕ) → (right : ℕ) → Environment ℕ →
+    PieceForm → Environment ℕ
+put_followed signals followed right now piece =
+    let copy = copy_of signals piece.signal in
+    if holds followed piece.signal
+    then put ◌==◌ copy (with_piece signals piece right (now copy)) now
+    else now
 
--- the same for all signals at once, since a wanted name has the value that the statements before it
--- have made
-abbrev pub made_on_the_way : List SignalForm → (settled : Environment ℕ) → FlatStatement →
+-- The same for all followed signals at once, since a wanted name has the value that the statements
+-- before it have made: settled names have their values, and the copies of the followed signals
+-- those that these have so far.
+abbrev pub made_on_the_way : List SignalForm → (followed : List ℕ) → FlatStatement →
     (now : Environment ℕ) → Environment ℕ
-made_on_the_way signals settled nothing now = now
-made_on_the_way signals settled (after first second) now =
-    made_on_the_way signals settled second (made_on_the_way signals settled first now)
-made_on_the_way signals settled (assign pieces place blocking right) now =
-    let v = value (with_copies signals) (with_wanted signals settled now) right in
-    λ s. fold (after_piece signals s v) (now s) pieces
-made_on_the_way signals settled (branch place condition first second) now =
-    if is_true (value (with_copies signals) (with_wanted signals settled now) condition)
-    then made_on_the_way signals settled first now
-    else made_on_the_way signals settled second now
+made_on_the_way signals followed nothing now = now
+made_on_the_way signals followed (after first second) now =
+    made_on_the_way signals followed second (made_on_the_way signals followed first now)
+made_on_the_way signals followed (assign pieces place blocking right) now =
+    fold (put_followed signals followed (value (with_copies signals) now right)) now pieces
+made_on_the_way signals followed (branch place condition first second) now =
+    if is_true (value (with_copies signals) now condition)
+    then made_on_the_way signals followed first now
+    else made_on_the_way signals followed second now
+
+-- where a process begins, a copy has a register's own value, and of any other signal 0
+abbrev pub starting_values : List SignalForm → (is_register : Bool) → Environment ℕ →
+    Environment ℕ
+starting_values signals is_register settled t =
+    if not (is_copy signals t) then settled t
+    else if is_register then settled (original signals t)
+    else 0

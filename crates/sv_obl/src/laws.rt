@@ -1,21 +1,21 @@
 // What paths and valid obligations mean, as contracts of functions that do nothing.
-ghost use Rattle.std.specs.Prelude.{◌≡◌, ℕ, IsTrue, IsFalse, List, [], Contains};
+ghost use Rattle.std.specs.Prelude.{◌≡◌, ℕ, if◌then◌else◌, IsTrue, IsFalse, List, [], Contains};
 ghost use Rattle.sv_flat.specs.Assigned.{assigns};
 ghost use Rattle.sv_flat.specs.Clocks.{processes_of};
 ghost use Rattle.sv_flat.specs.Design.{TypedTree, ProcessForm, FlatDesign};
 ghost use Rattle.sv_flat.specs.FlatSystem.{flat_system};
 ghost use Rattle.sv_flat.specs.Admission.{IsAdmitted};
 ghost use Rattle.sv_flat.specs.Processes.{is_block, is_clocked};
-ghost use Rattle.sv_flat.specs.Reads.{is_combinational, is_read_for};
+ghost use Rattle.sv_flat.specs.Reads.{is_combinational, followed, is_read_for};
 ghost use Rattle.sv_flat.specs.Soundness.{sound};
 ghost use Rattle.sv_flat.specs.Readings.{no_bits};
 ghost use Rattle.sv_flat.specs.Values.{value};
-ghost use Rattle.sv_obl.specs.MadeValues.{made, made_on_the_way};
+ghost use Rattle.sv_obl.specs.MadeValues.{made, made_on_the_way, starting_values};
 ghost use Rattle.sv_obl.specs.Noninterference.{IsChecked, NoninterferentUnder};
 ghost use Rattle.sv_obl.specs.Paths.{Path};
 ghost use Rattle.sv_obl.specs.PathValues.{IsTaken};
 ghost use Rattle.sv_obl.specs.Validity.{AllValid};
-ghost use Rattle.sv_obl.specs.Wanted.{marked};
+ghost use Rattle.sv_obl.specs.Wanted.{copy_of, marked};
 ghost use Rattle.sv_system.specs.System.{Environment, Fits, IsStill, Noninterferent};
 
 /// In a settled environment exactly one path of a target is taken.
@@ -104,12 +104,15 @@ pub fn made_values_come_from_reads()
         → made design.signals e s p.body old ≡ made design.signals f s p.body old }
 {}
 
-/// The statement in which earlier reads are wanted makes the same of each signal that the process
-/// assigns, from whatever values the signals have where it begins.
+/// The statement in which earlier reads are wanted makes the same, from where the process begins:
+/// of the copy of a signal, among the signals that are followed for it, what the process makes of
+/// the signal.
 pub fn wanted_names_make_the_same()
     ensures { (design : FlatDesign) → IsTrue (sound design) → IsAdmitted design
         → (p : ProcessForm) → Contains (processes_of design) p
-        → (s : ℕ) → IsTrue (assigns p.body s) → (e now : Environment ℕ)
-        → made_on_the_way design.signals e (marked design.signals (is_block p.kind) p.body no_bits)
-        now s ≡ made design.signals e s p.body (now s) }
+        → (s : ℕ) → IsTrue (assigns p.body s) → (e : Environment ℕ)
+        → made_on_the_way design.signals (followed design p s)
+        (marked design.signals (is_block p.kind) p.body no_bits)
+        (starting_values design.signals (is_clocked p.kind) e) (copy_of design.signals s)
+        ≡ made design.signals e s p.body (if is_clocked p.kind then e s else 0) }
 {}

@@ -5,10 +5,12 @@
 //! `specs/Paths.antt` says which paths a target has, `PathValues.antt` when one is taken,
 //! `Wanted.antt` what is put in on the way, over `Exchange.antt` and `Nodes.antt`,
 //! `Obligations.antt` which obligations a design has, `Limits.antt` how many it may have,
-//! `Validity.antt` when one is valid, `ListLines.antt` how `secv list` prints them, and
-//! `ListParts.antt` what is left to print after some targets. The laws say what valid obligations
-//! mean (`Noninterference.antt`). A contract sees an obligation by its plain form (`Views.antt`),
-//! and what a call answers to the limits by `Answers.antt`.
+//! `Validity.antt` when one is valid, `Valuations.antt` what values in lists stand for,
+//! `ListLines.antt` how `secv list` prints obligations, and `ListParts.antt` what is left to print
+//! after some targets. The laws say what valid obligations mean (`Noninterference.antt`), and what
+//! a process makes of a signal from the values of what it reads (`MadeValues.antt`). A contract
+//! sees an obligation by its plain form (`Views.antt`), and what a call answers to the limits by
+//! `Answers.antt`.
 //!
 //! `obligations` takes an admitted design and gives exactly the list of the definition in its
 //! order, or the first limit that the design passes; `specs/DesignQueries.antt` says what makes an

@@ -1,17 +1,19 @@
 -- The first signal of which a level does not see the same is the first that tells its views apart.
 use Rattle.std.proofs.Common.{◌≡◌, ℕ, zero, suc, ◌+◌, ◌<◌, ◌≤◌, min, Bool, true, false, cond, not}
-use Rattle.std.proofs.Common.{◌&&◌, ◌||◌, ◌==◌, nat_eq, List, [], ◌∷◌, filter}
+use Rattle.std.proofs.Common.{◌&&◌, ◌||◌, ◌==◌, nat_eq, List, ◌∷◌, ◌++◌, filter}
 use Rattle.std.proofs.Common.{Option, Some, None, refl, sym, ap, subst, ◌∙◌, ⊎_elim, arith}
 use Rattle.std.specs.Prelude.{Contains, IsTrue, IsFalse, MatchOption, find}
 use Rattle.std.specs.List.{range_with_len}
 use Rattle.std.specs.Option.{option_eq}
 use Rattle.std.proofs.lemmas.Bool.{false≢true, eqb-true, eq-eqb}
 use Rattle.sv_system.specs.System.{System, Environment, seen}
-use Rattle.sv_system.proofs.Lists.{told, told_next, told_same, Contains-cases, Contains-nil}
+use Rattle.sv_system.proofs.Lists.{told_same, Contains-map, Contains-from_map, Contains-filter}
+use Rattle.sv_system.proofs.Pointwise.{each}
 use Rattle.sv_lattice.specs.declared.points.Point.{Point}
 use Rattle.sv_flat.specs.Sets.{those}
-use Rattle.sv_flat.proofs.LeastSets.{either_way, in_those, those_below}
-use Rattle.sv_tworun.specs.Comparisons.{value_in, IsFirstApart}
+use Rattle.sv_flat.proofs.LeastSets.{either_way, in_those, those_below, Contains-from_filter}
+use Rattle.sv_obl.proofs.PathLists.{cond_true}
+use Rattle.sv_tworun.specs.Comparisons.{SaySame, IsFirstApart}
 use Rattle.sv_tworun.specs.Sights.{sight, differs, IsFirst, FindsFirst, lower_of}
 
 -- ---- the first that passes
@@ -170,47 +172,6 @@ module _ (n : ℕ) (p q : ℕ → Bool) where
           not_same : (x y : ℕ) → IsFalse (x == y) → x ≡ y → ⊥
           not_same x y other_way same = false≢true (sym other_way ∙ eq-eqb x y same)
 
--- ---- values in a view
-
-module _ (test : ℕ → Bool) (value : ℕ → ℕ) where
-  -- a signal that is not shown has no value there
-  hidden_step : (b : Bool) (x s : ℕ) (pairs : List (ℕ × ℕ)) → (IsTrue b → x ≡ s → ⊥)
-      → value_in pairs s ≡ None → value_in (cond b ((x, value x) ∷ pairs) pairs) s ≡ None
-  hidden_step false x s pairs other none = none
-  hidden_step true x s pairs other none = ⊎_elim
-      (λ same. absurd (other refl (eqb-true x s same)))
-      (λ apart. ap (λ c. cond c (Some (value x)) (value_in pairs s)) apart ∙ none)
-      (either_way (x == s))
-
-  pub hidden : (xs : List ℕ) (s : ℕ) → IsFalse (test s) → value_in (told test value xs) s ≡ None
-  hidden [] s h = refl
-  hidden (x ∷ xs) s h =
-      ap (λ pairs. value_in pairs s) (told_next test value x xs)
-      ∙ hidden_step (test x) x s (told test value xs)
-      (λ shown is. false≢true (sym h ∙ ap test (sym is) ∙ shown)) (hidden xs s h)
-
-  -- and one that is shown has its own
-  shown_step : (b : Bool) (x s : ℕ) (pairs : List (ℕ × ℕ)) → (x ≡ s → IsTrue b)
-      → ((x ≡ s → ⊥) → value_in pairs s ≡ Some (value s))
-      → value_in (cond b ((x, value x) ∷ pairs) pairs) s ≡ Some (value s)
-  shown_step false x s pairs here later = later (λ is. false≢true (here is))
-  shown_step true x s pairs here later = ⊎_elim
-      (λ same. ap (λ c. cond c (Some (value x)) (value_in pairs s)) same
-      ∙ ap (λ z. Some (value z)) (eqb-true x s same))
-      (λ apart. ap (λ c. cond c (Some (value x)) (value_in pairs s)) apart
-      ∙ later (λ is. false≢true (sym apart ∙ eq-eqb x s is)))
-      (either_way (x == s))
-
-  pub shown : (xs : List ℕ) (s : ℕ) → Contains xs s → IsTrue (test s) →
-      value_in (told test value xs) s ≡ Some (value s)
-  shown [] s at h = absurd (Contains-nil s at)
-  shown (x ∷ xs) s at h =
-      ap (λ pairs. value_in pairs s) (told_next test value x xs)
-      ∙ shown_step (test x) x s (told test value xs) (λ is. ap test is ∙ h) (λ other. ⊎_elim
-      (λ is. absurd (other is))
-      (λ later. shown xs s later h)
-      (Contains-cases x xs s at))
-
 -- ---- what is seen of one signal
 
 eq_self : (a : Option ℕ) → IsTrue (option_eq nat_eq a a)
@@ -257,93 +218,171 @@ same_values true false x y h shown = absurd (clash x h)
     clash x h = cc
 same_values false c x y h shown = absurd (false≢true shown)
 
-module _ (system : System ℕ Point) (level : Point) (n : ℕ) (all : ℕ → Bool)
-    (are : system.signals ≡ those n all) (kind : ℕ → Bool)
-    (within : (s : ℕ) → IsTrue (kind s) → IsTrue (all s)) where
+-- ---- what a view says of a signal
+
+module _ (system : System ℕ Point) (level : Point) (kind : ℕ → Bool) where
   abbrev flows_in : Environment ℕ → ℕ → Bool
   flows_in e s = system.flows (system.label s e) level
 
-  -- the value of a signal of the kind in a view is what is seen of it
-  by_cases : (e : Environment ℕ) (s : ℕ) → s < n → IsTrue (kind s) → (b : Bool) → flows_in e s ≡ b
-      → value_in (seen kind system level e) s ≡ cond b (Some (e s)) None
-  by_cases e s below of_kind true is =
-      shown (λ t. kind t && flows_in e t) e system.signals s
-      (subst (λ ss. Contains ss s) (sym are) (in_those n all s below (within s of_kind)))
-      (ap (λ b. b && flows_in e s) of_kind ∙ is)
-  by_cases e s below of_kind false is =
-      hidden (λ t. kind t && flows_in e t) e system.signals s
-      (ap (λ b. b && flows_in e s) of_kind ∙ is)
+  abbrev shows : Environment ℕ → ℕ → Bool
+  shows e s = kind s && flows_in e s
 
-  value_seen : (e : Environment ℕ) (s : ℕ) → s < n → IsTrue (kind s)
-      → value_in (seen kind system level e) s ≡ sight system level e s
-  value_seen e s below of_kind = by_cases e s below of_kind (flows_in e s) refl
+  abbrev shown : Environment ℕ → List (ℕ × ℕ)
+  shown e = seen kind system level e
 
-  module _ (e f : Environment ℕ) where
-    abbrev passes : ℕ → Bool
-    passes s = kind s && differs system level e f s
+  first_part : (b c : Bool) → IsTrue (b && c) → IsTrue b
+  first_part true c h = refl
+  first_part false c h = absurd (false≢true h)
 
-    of_kind_then : (b c : Bool) → IsTrue b → b && c ≡ c
-    of_kind_then true c h = refl
-    of_kind_then false c h = absurd (false≢true h)
+  second_part : (b c : Bool) → IsTrue (b && c) → IsTrue c
+  second_part true c h = h
+  second_part false c h = absurd (false≢true h)
 
-    no_kind : (e : Environment ℕ) (s : ℕ) → IsFalse (kind s)
-        → value_in (seen kind system level e) s ≡ None
-    no_kind e s h = hidden (λ t. kind t && flows_in e t) e system.signals s
-        (ap (λ b. b && flows_in e s) h)
+  both_parts : (b c : Bool) → IsTrue b → IsTrue c → IsTrue (b && c)
+  both_parts true c h k = k
+  both_parts false c h k = absurd (false≢true h)
 
-    sight_same : (s : ℕ) → IsTrue (kind s) → IsFalse (passes s)
-        → sight system level e s ≡ sight system level f s
-    sight_same s of_kind fails =
-        equal (sight system level e s) (sight system level f s)
-        (sym (of_kind_then (kind s) (differs system level e f s) of_kind) ∙ fails)
+  -- a visible signal of the kind stands there with its value
+  stands : (e : Environment ℕ) (s : ℕ) → Contains system.signals s → IsTrue (kind s)
+      → IsTrue (flows_in e s) → Contains (shown e) (s, e s)
+  stands e s at of_kind flows =
+      Contains-map (λ x. (x, e x)) (filter (shows e) system.signals) s
+      (Contains-filter (shows e) system.signals s at
+      (both_parts (kind s) (flows_in e s) of_kind flows))
 
-    same_there : (s : ℕ) → s < n → IsFalse (passes s) → value_in (seen kind system level e) s ≡
-        value_in (seen kind system level f) s
-    same_there s below fails = ⊎_elim
-        (λ of_kind. value_seen e s below of_kind ∙ sight_same s of_kind fails
-        ∙ sym (value_seen f s below of_kind))
-        (λ other. no_kind e s other ∙ sym (no_kind f s other))
-        (either_way (kind s))
+  abbrev Standing : Environment ℕ → (s value : ℕ) → Type 0
+  Standing e s v = Contains system.signals s × IsTrue (kind s) × IsTrue (flows_in e s) × (e s ≡ v)
 
-    first_part : (b c : Bool) → IsTrue (b && c) → IsTrue b
-    first_part true c h = refl
-    first_part false c h = absurd (false≢true h)
+  -- and nothing else does
+  standing : (e : Environment ℕ) (s v : ℕ) → Contains (shown e) (s, v) → Standing e s v
+  standing e s v at =
+      let from = Contains-from_map (λ x. (x, e x)) (filter (shows e) system.signals) (s, v) at in
+      let x = from.0 in
+      let kept = Contains-from_filter (shows e) system.signals x from.1 in
+      subst (λ z. Standing e z v) (ap (λ (pair : ℕ × ℕ). pair.0) from.2) (
+        kept.1,
+        first_part (kind x) (flows_in e x) kept.0,
+        second_part (kind x) (flows_in e x) kept.0,
+        ap (λ (pair : ℕ × ℕ). pair.1) from.2,
+      )
 
-    -- the first that differs tells the views apart first
-    pub first_apart : (s : ℕ) → IsFirst n passes s →
-        IsFirstApart (seen kind system level e) (seen kind system level f) s
-    first_apart s first =
-        let of_kind = first_part (kind s) (differs system level e f s) first.here in
-        record {
-          apart = λ same. not_equal (sight system level e s) (sight system level f s)
-              (sym (of_kind_then (kind s) (differs system level e f s) of_kind) ∙ first.here)
-              (sym (value_seen e s first.below of_kind) ∙ same
-              ∙ value_seen f s first.below of_kind);
-          before = λ t below. same_there t (let top = first.below in omega arith)
-              (first.before t below);
-        }
+  one_way : (e f : Environment ℕ) (s v : ℕ)
+      → (IsTrue (kind s) → sight system level e s ≡ sight system level f s)
+      → Contains (shown e) (s, v) → Contains (shown f) (s, v)
+  one_way e f s v same at =
+      let there = standing e s v at in
+      let alike = same there.1 in
+      subst (λ n. Contains (shown f) (s, n))
+      (sym (same_values (flows_in e s) (flows_in f s) (e s) (f s) alike there.2) ∙ there.3)
+      (stands f s there.0 there.1
+      (sym (same_tests (flows_in e s) (flows_in f s) (e s) (f s) alike) ∙ there.2))
 
-    tests_agree : (s : ℕ) → s < n → IsFalse (passes s)
-        → (kind s && flows_in e s) ≡ (kind s && flows_in f s)
-    tests_agree s below fails = ⊎_elim
-        (λ of_kind. ap (λ c. kind s && c)
-        (same_tests (flows_in e s) (flows_in f s) (e s) (f s) (sight_same s of_kind fails)))
-        (λ other. ap (λ b. b && flows_in e s) other ∙ sym (ap (λ b. b && flows_in f s) other))
-        (either_way (kind s))
+  -- where the level sees the same of a signal its views say the same
+  pub say_same : (e f : Environment ℕ) (s : ℕ)
+      → (IsTrue (kind s) → sight system level e s ≡ sight system level f s)
+      → SaySame (shown e) (shown f) s
+  say_same e f s same v =
+      (one_way e f s v same, one_way f e s v (λ of_kind. sym (same of_kind)))
 
-    second_part : (b c : Bool) → IsTrue (b && c) → IsTrue c
-    second_part true c h = h
-    second_part false c h = absurd (false≢true h)
+  -- and only there
+  pub sights_same : (e f : Environment ℕ) (s : ℕ) → Contains system.signals s → IsTrue (kind s)
+      → SaySame (shown e) (shown f) s → sight system level e s ≡ sight system level f s
+  sights_same e f s at of_kind same = by_cases (flows_in e s) (flows_in f s) refl refl
+    where
+      by_cases : (b c : Bool) → flows_in e s ≡ b → flows_in f s ≡ c
+          → cond b (Some (e s)) None ≡ cond c (Some (f s)) None
+      by_cases true true one other =
+          ap Some (sym (standing f s (e s) ((same (e s)).0 (stands e s at of_kind one))).3)
+      by_cases true false one other = absurd (false≢true (sym other
+          ∙ (standing f s (e s) ((same (e s)).0 (stands e s at of_kind one))).2))
+      by_cases false true one other = absurd (false≢true (sym one
+          ∙ (standing e s (f s) ((same (f s)).1 (stands f s at of_kind other))).2))
+      by_cases false false one other = refl
 
-    -- where none differs the views are equal
-    pub none_apart : ((s : ℕ) → s < n → IsFalse (passes s)) →
-        seen kind system level e ≡ seen kind system level f
-    none_apart fails = told_same (λ s. kind s && flows_in e s) (λ s. kind s && flows_in f s) e f
-        system.signals
-        (λ s at. tests_agree s (below s at) (fails s (below s at)))
-        (λ s at visible. same_values (flows_in e s) (flows_in f s) (e s) (f s)
-        (sight_same s (first_part (kind s) (flows_in e s) visible) (fails s (below s at)))
-        (second_part (kind s) (flows_in e s) visible))
-      where
-        below : (s : ℕ) → Contains system.signals s → s < n
-        below s at = those_below n all s (subst (λ ss. Contains ss s) are at)
+-- ---- the numbers before one
+
+module _ (all : ℕ → Bool) where
+  split_step : (b : Bool) (a s : ℕ) (front back rest : List ℕ) → back ≡ front ++ s ∷ rest
+      → cond b (a ∷ back) back ≡ cond b (a ∷ front) front ++ s ∷ rest
+  split_step true a s front back rest same = ap (λ ns. a ∷ ns) same
+  split_step false a s front back rest same = same
+
+  -- the numbers that pass, from a on, with one of them in their middle
+  split_from : (k n a s : ℕ) → s ≡ a + k → k < n → IsTrue (all s) → (rest : List ℕ)
+      × (filter all (range_with_len a n) ≡ filter all (range_with_len a k) ++ s ∷ rest)
+  split_from k zero a s place below here = absurd (omega arith)
+  split_from zero (suc n) a s place below here =
+      let rest = filter all (range_with_len (a + 1) n) in
+      let is : a ≡ s = omega (arith, place) in (
+        rest,
+        subst (λ z. cond (all a) (a ∷ rest) rest ≡ z ∷ rest) is
+            (cond_true (all a) (a ∷ rest) rest (subst (λ z. IsTrue (all z)) (sym is) here)),
+      )
+  split_from (suc k) (suc n) a s place below here =
+      let later = split_from k n (a + 1) s (omega (arith, place)) (omega arith) here in (
+        later.0,
+        split_step (all a) a s (filter all (range_with_len (a + 1) k))
+            (filter all (range_with_len (a + 1) n)) later.0 later.1,
+      )
+
+module _ (system : System ℕ Point) (level : Point) (n : ℕ) (all : ℕ → Bool)
+    (are : system.signals ≡ those n all) (kind : ℕ → Bool)
+    (within : (s : ℕ) → IsTrue (kind s) → IsTrue (all s)) (e f : Environment ℕ) where
+  abbrev passes : ℕ → Bool
+  passes s = kind s && differs system level e f s
+
+  of_kind_then : (b c : Bool) → IsTrue b → b && c ≡ c
+  of_kind_then true c h = refl
+  of_kind_then false c h = absurd (false≢true h)
+
+  sight_same : (s : ℕ) → IsFalse (passes s) → IsTrue (kind s)
+      → sight system level e s ≡ sight system level f s
+  sight_same s fails of_kind =
+      equal (sight system level e s) (sight system level f s)
+      (sym (of_kind_then (kind s) (differs system level e f s) of_kind) ∙ fails)
+
+  -- the first that differs tells the views apart first
+  pub first_apart : (s : ℕ) → IsFirst n passes s →
+      IsFirstApart system.signals (seen kind system level e) (seen kind system level f) s
+  first_apart s first =
+      let of_kind = first_part system level kind (kind s) (differs system level e f s)
+      first.here in
+      let at = subst (λ ss. Contains ss s) (sym are)
+      (in_those n all s first.below (within s of_kind)) in
+      let split = split_from all s n 0 s (omega arith) first.below (within s of_kind) in
+      record {
+        front = those s all;
+        rest = split.0;
+        stands = are ∙ split.1;
+        apart = λ same. not_equal (sight system level e s) (sight system level f s)
+            (sym (of_kind_then (kind s) (differs system level e f s) of_kind) ∙ first.here)
+            (sights_same system level kind e f s at of_kind same);
+        before = each (SaySame (seen kind system level e) (seen kind system level f))
+            (those s all) (λ t t_at. say_same system level kind e f t
+            (sight_same t (first.before t (those_below s all t t_at))));
+      }
+
+  tests_agree : (s : ℕ) → IsFalse (passes s)
+      → shows system level kind e s ≡ shows system level kind f s
+  tests_agree s fails = ⊎_elim
+      (λ of_kind. ap (λ c. kind s && c)
+      (same_tests (flows_in system level kind e s) (flows_in system level kind f s) (e s) (f s)
+      (sight_same s fails of_kind)))
+      (λ other. ap (λ b. b && flows_in system level kind e s) other
+      ∙ sym (ap (λ b. b && flows_in system level kind f s) other))
+      (either_way (kind s))
+
+  -- where none differs the views are equal
+  pub none_apart : ((s : ℕ) → s < n → IsFalse (passes s)) →
+      seen kind system level e ≡ seen kind system level f
+  none_apart fails = told_same (shows system level kind e) (shows system level kind f) e f
+      system.signals
+      (λ s at. tests_agree s (fails s (below s at)))
+      (λ s at visible. same_values (flows_in system level kind e s)
+      (flows_in system level kind f s) (e s) (f s)
+      (sight_same s (fails s (below s at)) (first_part system level kind (kind s)
+      (flows_in system level kind e s) visible))
+      (second_part system level kind (kind s) (flows_in system level kind e s) visible))
+    where
+      below : (s : ℕ) → Contains system.signals s → s < n
+      below s at = those_below n all s (subst (λ ss. Contains ss s) are at)

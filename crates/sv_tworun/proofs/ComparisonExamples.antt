@@ -4,7 +4,8 @@ use Rattle.std.proofs.Common.{Some, refl, ap, arith}
 use Rattle.std.specs.Prelude.{IsTrue}
 use Rattle.std.proofs.lemmas.Bool.{false≢true, ne_eqb}
 use Rattle.std.proofs.lemmas.List.Elements.{All-nil, All-cons}
-use Rattle.sv_system.specs.System.{Environment, Settled}
+use Rattle.sv_system.specs.System.{Environment, Settled, seen}
+use Rattle.sv_system.proofs.Lists.{Contains-head, Contains-later}
 use Rattle.sv_flat.specs.ByNumber.{by_number}
 use Rattle.sv_flat.specs.Design.{typed, choice, continuous, ProcessForm, FlatDesign}
 use Rattle.sv_flat.specs.FlatSystem.{flat_system, run_of}
@@ -14,8 +15,9 @@ use Rattle.sv_obl.proofs.ListExamples.{turns, point, design}
 use Rattle.sv_flat.specs.Given.{given}
 use Rattle.sv_tworun.specs.declared.compared.Compared.TheVariants.{Equal, InputsDiffer}
 use Rattle.sv_tworun.specs.declared.compared.Compared.TheVariants.{ViewsDiffer, LengthsDiffer}
-use Rattle.sv_tworun.specs.Comparisons.{AtCycle, IsComparison}
+use Rattle.sv_tworun.specs.Comparisons.{SaySame, is_given, AtCycle, IsComparison}
 use Rattle.sv_tworun.specs.Forms.{Run, IsTraceOf}
+use Rattle.sv_tworun.proofs.ApartFacts.{say_same, sights_same}
 
 -- module top(input turn, input a, input {H} b, output {Dom(turn)} y);
 --   assign y = turn ? FIRST : SECOND;
@@ -118,6 +120,12 @@ at_one : {e f g h : Environment ℕ} {P : Environment ℕ → Environment ℕ �
 at_one {e} {f} {g} {h} is =
     record { one = f; other = h; in_first = refl; in_second = refl; holds = is }
 
+-- two views of the public level say the same of a signal
+abbrev Alike : (first second : ℕ) → (kind : ℕ → Bool) → (e f : Environment ℕ) → ℕ → Type 0
+Alike first second kind e f =
+    SaySame (seen kind (flat_system (shows first second)) (point 0) e)
+    (seen kind (flat_system (shows first second)) (point 0) f)
+
 other_bit : Some (suc zero) ≡ Some zero → ⊥
 other_bit h = cc
 
@@ -129,14 +137,20 @@ inputs_differ = record {
   other = bits false true true true ∷ bits false true false true ∷ [];
   of_first = traced 2 1 false true false true true true true true refl refl;
   of_second = traced 2 1 false true true true false true false true refl refl;
-  finds = (refl, at_one (record { apart = other_bit; before = λ t below. absurd (omega arith) }));
+  finds = (
+    refl,
+    at_one (record {
+      front = [];
+      rest = 1 ∷ 2 ∷ 3 ∷ [];
+      stands = refl;
+      apart = λ same. other_bit (sights_same (flat_system (shows 2 1)) (point 0)
+          (is_given (flat_system (shows 2 1)) 1) (bits true true true true)
+          (bits false true false true) 0 (Contains-head 0 (1 ∷ 2 ∷ 3 ∷ [])) refl same);
+      before = All-nil (Alike 2 1 (is_given (flat_system (shows 2 1)) 1)
+          (bits true true true true) (bits false true false true));
+    }),
+  );
 }
-
-below_three : (P : ℕ → Type 0) → P 0 → P 1 → P 2 → (t : ℕ) → t < 3 → P t
-below_three P none one two zero below = none
-below_three P none one two (suc zero) below = one
-below_three P none one two (suc (suc zero)) below = two
-below_three P none one two (suc (suc (suc t))) below = absurd (omega arith)
 
 -- y = turn ? a : b
 pub views_differ : IsComparison (shows 1 2) (point 0)
@@ -151,7 +165,28 @@ views_differ = record {
     refl,
     at_one (record {
       alike = refl;
-      first = record { apart = other_bit; before = below_three _ refl refl refl };
+      first = record {
+        front = 0 ∷ 1 ∷ 2 ∷ [];
+        rest = [];
+        stands = refl;
+        apart = λ same. other_bit (sights_same (flat_system (shows 1 2)) (point 0) (λ s. true)
+            (bits false true true true) (bits false true false false) 3
+            (Contains-later 0 (1 ∷ 2 ∷ 3 ∷ []) 3 (Contains-later 1 (2 ∷ 3 ∷ []) 3
+            (Contains-later 2 (3 ∷ []) 3 (Contains-head 3 [])))) refl same);
+        before =
+            let P = Alike 1 2 (λ s. true) (bits false true true true)
+            (bits false true false false) in
+            All-cons P 0 (1 ∷ 2 ∷ [])
+            (say_same (flat_system (shows 1 2)) (point 0) (λ s. true)
+            (bits false true true true) (bits false true false false) 0 (λ of_kind. refl))
+            (All-cons P 1 (2 ∷ [])
+            (say_same (flat_system (shows 1 2)) (point 0) (λ s. true)
+            (bits false true true true) (bits false true false false) 1 (λ of_kind. refl))
+            (All-cons P 2 []
+            (say_same (flat_system (shows 1 2)) (point 0) (λ s. true)
+            (bits false true true true) (bits false true false false) 2 (λ of_kind. refl))
+            (All-nil P)));
+      };
     }),
   );
 }

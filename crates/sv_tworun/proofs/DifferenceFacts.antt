@@ -170,10 +170,11 @@ module _ (flat : Flat) where
 
     views_apart : (s : ℕ)
         → IsFirst count (λ t. unclocked t && differs system level e f t) s
-        → IsFirstApart (view system level e) (view system level f) s
+        → IsFirstApart system.signals (view system level e) (view system level f) s
     views_apart s first =
-        subst (λ pairs. IsFirstApart pairs (view system level f) s) (all_seen e)
-        (subst (λ pairs. IsFirstApart (seen unclocked system level e) pairs s) (all_seen f)
+        subst (λ pairs. IsFirstApart system.signals pairs (view system level f) s) (all_seen e)
+        (subst (λ pairs. IsFirstApart system.signals (seen unclocked system level e) pairs s)
+        (all_seen f)
         (first_apart system level count unclocked signals_are unclocked (λ t here. here) e f s
         first))
 

@@ -1,16 +1,21 @@
 -- The comparison of two traces finds one thing.
-use Rattle.std.proofs.Common.{◌≡◌, ℕ, ◌<◌, nat_lt, List, length}
+use Rattle.std.proofs.Common.{◌≡◌, ℕ, ◌<◌, ◌++◌, nat_lt, List, [], ◌∷◌, length}
 use Rattle.std.proofs.Common.{ltb-true, ltb-false, sym, ap, ap₂, subst, ◌∙◌, ⊎_elim, arith}
+use Rattle.std.specs.Prelude.{Contains}
+use Rattle.std.proofs.lemmas.List.Elements.{All-contains}
 use Rattle.std.proofs.lemmas.Option.{slice_get_within, same_Some}
 use Rattle.sv_system.specs.System.{System, Environment, seen, view}
+use Rattle.sv_system.proofs.Lists.{Contains-head, Contains-later}
 use Rattle.sv_lattice.specs.declared.points.Point.{Point}
 use Rattle.sv_flat.specs.declared.signals.SigId.{SigId}
 use Rattle.sv_flat.proofs.LeastSets.{either_way}
 use Rattle.sv_tworun.specs.declared.compared.Compared.{Compared}
 use Rattle.sv_tworun.specs.declared.compared.Compared.TheVariants.{Equal, InputsDiffer}
 use Rattle.sv_tworun.specs.declared.compared.Compared.TheVariants.{ViewsDiffer, LengthsDiffer}
-use Rattle.sv_tworun.specs.Comparisons.{value_in, IsFirstApart, is_given, InputsApart, ViewsApart}
+use Rattle.sv_tworun.specs.Comparisons.{SaySame, IsFirstApart, is_given, InputsApart, ViewsApart}
 use Rattle.sv_tworun.specs.Comparisons.{SameViews, AtCycle, IsFound}
+use Rattle.sv_tworun.specs.Forms.{Finding, equal, inputs_differ, views_differ, lengths_differ}
+use Rattle.sv_tworun.specs.Forms.{finding}
 use Rattle.sv_tworun.proofs.TraceFacts.{same_at, seen_in_view}
 
 -- two numbers of which neither is lower are one
@@ -23,18 +28,48 @@ one_of m n not_lower not_higher = ⊎_elim
     (either_way (nat_lt n m)))
     (either_way (nat_lt m n))
 
-same_number : (s t : SigId) → s.0 ≡ t.0 → s ≡ t
-same_number s t same = ap (λ (n : ℕ). let made : SigId = record { 0 = n } in made) same
+module _ {X : Type 0} where
+  first_is : (x y : X) (xs ys : List X) → x ∷ xs ≡ y ∷ ys → x ≡ y
+  first_is x y xs ys same = cc
 
--- two views are told apart by one signal first
-one_signal : (ps qs : List (ℕ × ℕ)) (s t : ℕ) → IsFirstApart ps qs s → IsFirstApart ps qs t → s ≡ t
-one_signal ps qs s t one other =
-    one_of s t (λ lower. one.apart (other.before s lower)) (λ lower.
-    other.apart (one.before t lower))
+  rest_is : (x y : X) (xs ys : List X) → x ∷ xs ≡ y ∷ ys → xs ≡ ys
+  rest_is x y xs ys same = cc
 
-module _ (first second : List (Environment ℕ)) where
+  -- the first element of a list that has no property is one
+  first_without : (P : X → Type 0) (s t : X) (front other rest more : List X)
+      → front ++ s ∷ rest ≡ other ++ t ∷ more → ((x : X) → Contains front x → P x)
+      → ((x : X) → Contains other x → P x) → ¬ P s → ¬ P t → s ≡ t
+  first_without P s t [] [] rest more same one two not_s not_t = first_is s t rest more same
+  first_without P s t [] (y ∷ ys) rest more same one two not_s not_t =
+      absurd (not_s (subst P (sym (first_is s y rest (ys ++ t ∷ more) same))
+      (two y (Contains-head y ys))))
+  first_without P s t (x ∷ xs) [] rest more same one two not_s not_t =
+      absurd (not_t (subst P (first_is x t (xs ++ s ∷ rest) more same)
+      (one x (Contains-head x xs))))
+  first_without P s t (x ∷ xs) (y ∷ ys) rest more same one two not_s not_t =
+      first_without P s t xs ys rest more
+      (rest_is x y (xs ++ s ∷ rest) (ys ++ t ∷ more) same)
+      (λ z at. one z (Contains-later x xs z at)) (λ z at. two z (Contains-later y ys z at))
+      not_s not_t
+
+module _ {Signal : Type 0} where
+  -- two views are told apart by one signal first
+  one_signal : (listed : List Signal) (ps qs : List (Signal × ℕ)) (s t : Signal)
+      → IsFirstApart listed ps qs s → IsFirstApart listed ps qs t → s ≡ t
+  one_signal listed ps qs s t one other =
+      first_without (SaySame ps qs) s t one.front other.front one.rest other.rest
+      (sym one.stands ∙ other.stands)
+      (λ x at. All-contains (SaySame ps qs) one.front x one.before at)
+      (λ x at. All-contains (SaySame ps qs) other.front x other.before at) one.apart other.apart
+
+  -- equal views say the same of each
+  pub equal_say_same : (ps qs : List (Signal × ℕ)) (s : Signal) → ps ≡ qs → SaySame ps qs s
+  equal_say_same ps qs s same =
+      subst (λ rs. SaySame ps rs s) same (λ value. ((λ at. at), (λ at. at)))
+
+module _ {Signal : Type 0} (first second : List (Environment Signal)) where
   -- what holds of the environments of a cycle, said twice
-  both_there : (cycle : ℕ) (P Q : Environment ℕ → Environment ℕ → Type 0)
+  both_there : (cycle : ℕ) (P Q : Environment Signal → Environment Signal → Type 0)
       → (one : AtCycle cycle first second P) → AtCycle cycle first second Q → Q one.one one.other
   both_there cycle P Q one other =
       subst (λ e. Q e one.other)
@@ -42,30 +77,34 @@ module _ (first second : List (Environment ℕ)) where
       (subst (Q other.one)
       (same_Some other.other one.other (sym other.in_second ∙ one.in_second)) other.holds)
 
-module _ (system : System ℕ Point) (level : Point) (first second : List (Environment ℕ)) where
+module _ {Signal Level : Type 0} (system : System Signal Level) (level : Level)
+    (first second : List (Environment Signal)) where
   -- the views of a cycle differ
   abbrev Differ : ℕ → Type 0
   Differ cycle = AtCycle cycle first second (λ e f. view system level e ≡ view system level f → ⊥)
 
-  inputs_differ : (cycle s : ℕ) → AtCycle cycle first second (InputsApart system level cycle s)
+  apart_inputs : (cycle : ℕ) (s : Signal) → AtCycle cycle first second (InputsApart system level cycle s)
       → Differ cycle
-  inputs_differ cycle s there = record {
+  apart_inputs cycle s there = record {
     one = there.one;
     other = there.other;
     in_first = there.in_first;
     in_second = there.in_second;
-    holds = λ same. there.holds.apart (ap (λ pairs. value_in pairs s)
+    holds = λ same. there.holds.apart (equal_say_same
+        (seen (is_given system cycle) system level there.one)
+        (seen (is_given system cycle) system level there.other) s
         (seen_in_view system level (is_given system cycle) there.one there.other same));
   }
 
-  views_differ : (cycle s : ℕ) → AtCycle cycle first second (ViewsApart system level cycle s) →
+  apart_views : (cycle : ℕ) (s : Signal) → AtCycle cycle first second (ViewsApart system level cycle s) →
       Differ cycle
-  views_differ cycle s there = record {
+  apart_views cycle s there = record {
     one = there.one;
     other = there.other;
     in_first = there.in_first;
     in_second = there.in_second;
-    holds = λ same. there.holds.first.apart (ap (λ pairs. value_in pairs s) same);
+    holds = λ same. there.holds.first.apart (equal_say_same (view system level there.one)
+        (view system level there.other) s same);
   }
 
   never : (cycles k : ℕ) → SameViews system level cycles first second → Differ k → k < cycles → ⊥
@@ -85,79 +124,115 @@ module _ (system : System ℕ Point) (level : Point) (first second : List (Envir
   inside_second k there = slice_get_within second k there.other there.in_second
 
   -- where the views of all cycles are the same none differ
-  not_equal : (cycles k : ℕ) → IsFound system level first second (Equal cycles) → Differ k → ⊥
+  not_equal : (cycles k : ℕ) → IsFound system level first second (equal cycles) → Differ k → ⊥
   not_equal cycles k is there =
       never cycles k is.2 there (subst (λ n. k < n) is.0 (inside_first k there))
 
-  not_shorter : (cycles k : ℕ) → IsFound system level first second (LengthsDiffer cycles)
+  not_shorter : (cycles k : ℕ) → IsFound system level first second (lengths_differ cycles)
       → Differ k → ⊥
   not_shorter cycles k is there =
       let below = inside_first k there in
       let inside = inside_second k there in
       never cycles k is.2 there (let shorter = is.1 in omega arith)
 
-  two_inputs : (j k : ℕ) (s t : SigId) → IsFound system level first second (InputsDiffer j s)
-      → IsFound system level first second (InputsDiffer k t) → InputsDiffer j s ≡ InputsDiffer k t
+  two_inputs : (j k : ℕ) (s t : Signal) → IsFound system level first second (inputs_differ j s)
+      → IsFound system level first second (inputs_differ k t) → inputs_differ j s ≡ inputs_differ k t
   two_inputs j k s t one other =
-      let same = one_cycle j k one.0 (inputs_differ j s.0 one.1) other.0
-      (inputs_differ k t.0 other.1) in
-      let there = both_there first second j (InputsApart system level j s.0)
-      (InputsApart system level j t.0) one.1
-      (subst (λ n. AtCycle n first second (InputsApart system level n t.0)) (sym same) other.1) in
-      ap₂ (λ n r. InputsDiffer n r) same
-      (same_number s t (one_signal
+      let same = one_cycle j k one.0 (apart_inputs j s one.1) other.0
+      (apart_inputs k t other.1) in
+      let there = both_there first second j (InputsApart system level j s)
+      (InputsApart system level j t) one.1
+      (subst (λ n. AtCycle n first second (InputsApart system level n t)) (sym same) other.1) in
+      ap₂ (λ n r. inputs_differ n r) same
+      (one_signal system.signals
       (seen (is_given system j) system level one.1.one)
-      (seen (is_given system j) system level one.1.other) s.0 t.0 one.1.holds there))
+      (seen (is_given system j) system level one.1.other) s t one.1.holds there)
 
-  two_views : (j k : ℕ) (s t : SigId) → IsFound system level first second (ViewsDiffer j s)
-      → IsFound system level first second (ViewsDiffer k t) → ViewsDiffer j s ≡ ViewsDiffer k t
+  two_views : (j k : ℕ) (s t : Signal) → IsFound system level first second (views_differ j s)
+      → IsFound system level first second (views_differ k t) → views_differ j s ≡ views_differ k t
   two_views j k s t one other =
-      let same = one_cycle j k one.0 (views_differ j s.0 one.1) other.0
-      (views_differ k t.0 other.1) in
-      let there = both_there first second j (ViewsApart system level j s.0)
-      (ViewsApart system level j t.0) one.1
-      (subst (λ n. AtCycle n first second (ViewsApart system level n t.0)) (sym same) other.1) in
-      ap₂ (λ n r. ViewsDiffer n r) same
-      (same_number s t (one_signal (view system level one.1.one) (view system level one.1.other)
-      s.0 t.0 one.1.holds.first there.first))
+      let same = one_cycle j k one.0 (apart_views j s one.1) other.0
+      (apart_views k t other.1) in
+      let there = both_there first second j (ViewsApart system level j s)
+      (ViewsApart system level j t) one.1
+      (subst (λ n. AtCycle n first second (ViewsApart system level n t)) (sym same) other.1) in
+      ap₂ (λ n r. views_differ n r) same
+      (one_signal system.signals (view system level one.1.one) (view system level one.1.other)
+      s t one.1.holds.first there.first)
 
-  inputs_or_views : (j k : ℕ) (s t : SigId)
-      → IsFound system level first second (InputsDiffer j s)
-      → IsFound system level first second (ViewsDiffer k t) → ⊥
+  inputs_or_views : (j k : ℕ) (s t : Signal)
+      → IsFound system level first second (inputs_differ j s)
+      → IsFound system level first second (views_differ k t) → ⊥
   inputs_or_views j k s t one other =
-      let same = one_cycle j k one.0 (inputs_differ j s.0 one.1) other.0
-      (views_differ k t.0 other.1) in
-      let there = both_there first second j (InputsApart system level j s.0)
-      (ViewsApart system level j t.0) one.1
-      (subst (λ n. AtCycle n first second (ViewsApart system level n t.0)) (sym same) other.1) in
-      one.1.holds.apart (ap (λ pairs. value_in pairs s.0) there.alike)
+      let same = one_cycle j k one.0 (apart_inputs j s one.1) other.0
+      (apart_views k t other.1) in
+      let there = both_there first second j (InputsApart system level j s)
+      (ViewsApart system level j t) one.1
+      (subst (λ n. AtCycle n first second (ViewsApart system level n t)) (sym same) other.1) in
+      one.1.holds.apart (equal_say_same (seen (is_given system j) system level one.1.one)
+      (seen (is_given system j) system level one.1.other) s there.alike)
 
-  pub one_finding : (a b : Compared) → IsFound system level first second a
+  pub one_finding : (a b : Finding Signal) → IsFound system level first second a
       → IsFound system level first second b → a ≡ b
-  one_finding (Equal m) (Equal n) one other = ap Equal (sym one.0 ∙ other.0)
-  one_finding (Equal m) (LengthsDiffer n) one other = absurd (other.0 (one.0 ∙ sym one.1))
-  one_finding (Equal m) (InputsDiffer k t) one other =
-      absurd (not_equal m k one (inputs_differ k t.0 other.1))
-  one_finding (Equal m) (ViewsDiffer k t) one other =
-      absurd (not_equal m k one (views_differ k t.0 other.1))
-  one_finding (LengthsDiffer m) (Equal n) one other = absurd (one.0 (other.0 ∙ sym other.1))
-  one_finding (LengthsDiffer m) (LengthsDiffer n) one other =
-      ap LengthsDiffer (one.1 ∙ sym other.1)
-  one_finding (LengthsDiffer m) (InputsDiffer k t) one other =
-      absurd (not_shorter m k one (inputs_differ k t.0 other.1))
-  one_finding (LengthsDiffer m) (ViewsDiffer k t) one other =
-      absurd (not_shorter m k one (views_differ k t.0 other.1))
-  one_finding (InputsDiffer j s) (Equal n) one other =
-      absurd (not_equal n j other (inputs_differ j s.0 one.1))
-  one_finding (InputsDiffer j s) (LengthsDiffer n) one other =
-      absurd (not_shorter n j other (inputs_differ j s.0 one.1))
-  one_finding (InputsDiffer j s) (InputsDiffer k t) one other = two_inputs j k s t one other
-  one_finding (InputsDiffer j s) (ViewsDiffer k t) one other =
+  one_finding (equal m) (equal n) one other = ap equal (sym one.0 ∙ other.0)
+  one_finding (equal m) (lengths_differ n) one other = absurd (other.0 (one.0 ∙ sym one.1))
+  one_finding (equal m) (inputs_differ k t) one other =
+      absurd (not_equal m k one (apart_inputs k t other.1))
+  one_finding (equal m) (views_differ k t) one other =
+      absurd (not_equal m k one (apart_views k t other.1))
+  one_finding (lengths_differ m) (equal n) one other = absurd (one.0 (other.0 ∙ sym other.1))
+  one_finding (lengths_differ m) (lengths_differ n) one other =
+      ap lengths_differ (one.1 ∙ sym other.1)
+  one_finding (lengths_differ m) (inputs_differ k t) one other =
+      absurd (not_shorter m k one (apart_inputs k t other.1))
+  one_finding (lengths_differ m) (views_differ k t) one other =
+      absurd (not_shorter m k one (apart_views k t other.1))
+  one_finding (inputs_differ j s) (equal n) one other =
+      absurd (not_equal n j other (apart_inputs j s one.1))
+  one_finding (inputs_differ j s) (lengths_differ n) one other =
+      absurd (not_shorter n j other (apart_inputs j s one.1))
+  one_finding (inputs_differ j s) (inputs_differ k t) one other = two_inputs j k s t one other
+  one_finding (inputs_differ j s) (views_differ k t) one other =
       absurd (inputs_or_views j k s t one other)
-  one_finding (ViewsDiffer j s) (Equal n) one other =
-      absurd (not_equal n j other (views_differ j s.0 one.1))
-  one_finding (ViewsDiffer j s) (LengthsDiffer n) one other =
-      absurd (not_shorter n j other (views_differ j s.0 one.1))
-  one_finding (ViewsDiffer j s) (InputsDiffer k t) one other =
+  one_finding (views_differ j s) (equal n) one other =
+      absurd (not_equal n j other (apart_views j s one.1))
+  one_finding (views_differ j s) (lengths_differ n) one other =
+      absurd (not_shorter n j other (apart_views j s one.1))
+  one_finding (views_differ j s) (inputs_differ k t) one other =
       absurd (inputs_or_views k j t s other one)
-  one_finding (ViewsDiffer j s) (ViewsDiffer k t) one other = two_views j k s t one other
+  one_finding (views_differ j s) (views_differ k t) one other = two_views j k s t one other
+
+same_number : (s t : SigId) → s.0 ≡ t.0 → s ≡ t
+same_number s t same = ap (λ (n : ℕ). let made : SigId = record { 0 = n } in made) same
+
+-- findings that have one plain form are one
+same_plain : (a b : Compared) → finding a ≡ finding b → a ≡ b
+same_plain (Equal m) (Equal n) same = ap Equal (let is : m ≡ n = cc in is)
+same_plain (LengthsDiffer m) (LengthsDiffer n) same =
+    ap LengthsDiffer (let is : m ≡ n = cc in is)
+same_plain (InputsDiffer j s) (InputsDiffer k t) same =
+    ap₂ (λ n r. InputsDiffer n r) (let is : j ≡ k = cc in is)
+    (same_number s t (let is : s.0 ≡ t.0 = cc in is))
+same_plain (ViewsDiffer j s) (ViewsDiffer k t) same =
+    ap₂ (λ n r. ViewsDiffer n r) (let is : j ≡ k = cc in is)
+    (same_number s t (let is : s.0 ≡ t.0 = cc in is))
+same_plain (Equal m) (InputsDiffer k t) same = absurd (let clash : ⊥ = cc in clash)
+same_plain (Equal m) (ViewsDiffer k t) same = absurd (let clash : ⊥ = cc in clash)
+same_plain (Equal m) (LengthsDiffer n) same = absurd (let clash : ⊥ = cc in clash)
+same_plain (InputsDiffer j s) (Equal n) same = absurd (let clash : ⊥ = cc in clash)
+same_plain (InputsDiffer j s) (ViewsDiffer k t) same = absurd (let clash : ⊥ = cc in clash)
+same_plain (InputsDiffer j s) (LengthsDiffer n) same = absurd (let clash : ⊥ = cc in clash)
+same_plain (ViewsDiffer j s) (Equal n) same = absurd (let clash : ⊥ = cc in clash)
+same_plain (ViewsDiffer j s) (InputsDiffer k t) same = absurd (let clash : ⊥ = cc in clash)
+same_plain (ViewsDiffer j s) (LengthsDiffer n) same = absurd (let clash : ⊥ = cc in clash)
+same_plain (LengthsDiffer m) (Equal n) same = absurd (let clash : ⊥ = cc in clash)
+same_plain (LengthsDiffer m) (InputsDiffer k t) same = absurd (let clash : ⊥ = cc in clash)
+same_plain (LengthsDiffer m) (ViewsDiffer k t) same = absurd (let clash : ⊥ = cc in clash)
+
+pub one_comparison : (system : System ℕ Point) (level : Point)
+    (first second : List (Environment ℕ)) (a b : Compared)
+    → IsFound system level first second (finding a)
+    → IsFound system level first second (finding b) → a ≡ b
+one_comparison system level first second a b one other =
+    same_plain a b
+    (one_finding system level first second (finding a) (finding b) one other)

@@ -29,7 +29,7 @@ use Rattle.sv_tworun.specs.declared.compared.Compared.{Compared}
 use Rattle.sv_tworun.specs.declared.compared.Compared.TheVariants.{Equal, InputsDiffer}
 use Rattle.sv_tworun.specs.declared.compared.Compared.TheVariants.{ViewsDiffer, LengthsDiffer}
 use Rattle.sv_tworun.specs.Comparisons.{IsFirstApart, is_given, SameViews, IsFound}
-use Rattle.sv_tworun.specs.Forms.{Run, IsTraceOf}
+use Rattle.sv_tworun.specs.Forms.{Run, IsTraceOf, inputs_differ, views_differ}
 use Rattle.sv_tworun.specs.Sights.{IsDifference}
 use Rattle.sv_tworun.proofs.RunTraces.{IsFoundOfAll}
 use Rattle.sv_tworun.proofs.TraceFacts.{same_start, trace_length, ahead, agrees, one_more}
@@ -156,15 +156,18 @@ module _ (design : FlatDesign) (is : IsDesign design) where
         (there : (s : ℕ) → Contains (flat_system design).signals s → by_number others s ≡ f s)
       where
         first_there : (kind : ℕ → Bool) (s : ℕ)
-            → IsFirstApart (seen kind (flat_system design) level (by_number values))
+            → IsFirstApart (flat_system design).signals
+            (seen kind (flat_system design) level (by_number values))
             (seen kind (flat_system design) level (by_number others)) s
-            → IsFirstApart (seen kind (flat_system design) level e)
+            → IsFirstApart (flat_system design).signals (seen kind (flat_system design) level e)
             (seen kind (flat_system design) level f) s
         first_there kind s apart =
-            subst (λ pairs. IsFirstApart pairs (seen kind (flat_system design) level f) s)
+            subst (λ pairs. IsFirstApart (flat_system design).signals pairs
+            (seen kind (flat_system design) level f) s)
             (looks_alike level kind (by_number values) e here)
             (subst (λ pairs.
-            IsFirstApart (seen kind (flat_system design) level (by_number values)) pairs s)
+            IsFirstApart (flat_system design).signals
+            (seen kind (flat_system design) level (by_number values)) pairs s)
             (looks_alike level kind (by_number others) f there) apart)
 
         alike_there : (kind : ℕ → Bool) → seen kind (flat_system design) level (by_number values) ≡
@@ -184,7 +187,8 @@ module _ (design : FlatDesign) (is : IsDesign design) where
         of_first of_second =
         let here = in_first one of_first in
         let there = in_second other of_second in
-        subst (λ cycle. IsFound (flat_system design) level one other (InputsDiffer cycle signal))
+        subst (λ cycle. IsFound (flat_system design) level one other
+        (inputs_differ cycle signal.0))
         (sym shown.0) (
           alike one other of_first of_second,
           record {
@@ -200,7 +204,8 @@ module _ (design : FlatDesign) (is : IsDesign design) where
         of_first of_second =
         let here = in_first one of_first in
         let there = in_second other of_second in
-        subst (λ cycle. IsFound (flat_system design) level one other (ViewsDiffer cycle signal))
+        subst (λ cycle. IsFound (flat_system design) level one other
+        (views_differ cycle signal.0))
         (sym shown.0) (
           alike one other of_first of_second,
           record {

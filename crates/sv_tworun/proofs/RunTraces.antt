@@ -19,7 +19,7 @@ use Rattle.sv_flat.specs.Given.{FitListed, given}
 use Rattle.sv_sim.proofs.OneDesign.{design_has_one_trace}
 use Rattle.sv_tworun.specs.declared.compared.Compared.{Compared}
 use Rattle.sv_tworun.specs.Comparisons.{IsFound, IsComparison}
-use Rattle.sv_tworun.specs.Forms.{Run, FitsRun, IsTraceOf}
+use Rattle.sv_tworun.specs.Forms.{Run, FitsRun, IsTraceOf, finding}
 
 module _ (signals : List SignalForm) where
   -- each value that is given fits its signal
@@ -72,7 +72,7 @@ module _ (design : FlatDesign) where
   abbrev pub IsFoundOfAll : (level : Point) → (first second : Run) → Compared → Type 0
   IsFoundOfAll level first second found =
       (one other : List (Environment ℕ)) → IsTraceOf design first one →
-      IsTraceOf design second other → IsFound (flat_system design) level one other found
+      IsTraceOf design second other → IsFound (flat_system design) level one other (finding found)
 
   pub compared : IsDesign design → (level : Point) (first second : Run) (found : Compared)
       → FitsRun design first → FitsRun design second → IsFoundOfAll level first second found

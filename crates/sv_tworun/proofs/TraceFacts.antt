@@ -105,10 +105,10 @@ module _ {X Y : Type 0} (g : X → Y) where
 
 -- ---- one trace
 
-module _ {Point : Type 0} (system : System ℕ Point) where
+module _ {Signal Point : Type 0} (system : System Signal Point) where
   -- a start counts by its registers alone
-  pub same_start : (state other : Environment ℕ) (inputs trace : List (Environment ℕ))
-      → ((s : ℕ) → IsTrue (system.is_register s) → state s ≡ other s)
+  pub same_start : (state other : Environment Signal) (inputs trace : List (Environment Signal))
+      → ((s : Signal) → IsTrue (system.is_register s) → state s ≡ other s)
       → IsTrace system state inputs trace → IsTrace system other inputs trace
   same_start state other [] [] same is = tt
   same_start state other [] (e ∷ trace) same is = absurd is
@@ -123,7 +123,7 @@ module _ {Point : Type 0} (system : System ℕ Point) where
     is.1,
   )
 
-  pub trace_length : (state : Environment ℕ) (inputs trace : List (Environment ℕ)) →
+  pub trace_length : (state : Environment Signal) (inputs trace : List (Environment Signal)) →
       IsTrace system state inputs trace → length trace ≡ length inputs
   trace_length state [] [] is = refl
   trace_length state [] (e ∷ trace) is = absurd is
@@ -132,7 +132,7 @@ module _ {Point : Type 0} (system : System ℕ Point) where
       let rest = trace_length (system.next e) inputs trace is.1 in omega (arith, rest)
 
   -- the front of a trace is a trace
-  pub front : (k : ℕ) (state : Environment ℕ) (inputs trace : List (Environment ℕ)) →
+  pub front : (k : ℕ) (state : Environment Signal) (inputs trace : List (Environment Signal)) →
       IsTrace system state inputs trace → IsTrace system state (take k inputs) (take k trace)
   front zero state inputs trace is = tt
   front (suc k) state [] [] is = tt
@@ -142,14 +142,14 @@ module _ {Point : Type 0} (system : System ℕ Point) where
       (is.0, front k (system.next e) inputs trace is.1)
 
   -- the environment of a cycle, and the trace that follows it
-  pub record Ahead (state now : Environment ℕ) (more trace : List (Environment ℕ)) (k : ℕ) :
+  pub record Ahead (state now : Environment Signal) (more trace : List (Environment Signal)) (k : ℕ) :
       Type 0 where
-    pub here : Environment ℕ
+    pub here : Environment Signal
     pub is : slice_get trace k ≡ Some here
     pub settled : Settled system state now here
     pub rest : IsTrace system (system.next here) more (drop (suc k) trace)
 
-  ahead_from : (state now : Environment ℕ) (more trace rest : List (Environment ℕ)) (k : ℕ)
+  ahead_from : (state now : Environment Signal) (more trace rest : List (Environment Signal)) (k : ℕ)
       → drop k trace ≡ rest → IsTrace system state (now ∷ more) rest → Ahead state now more trace k
   ahead_from state now more trace [] k cut is = absurd is
   ahead_from state now more trace (e ∷ rest) k cut is =
@@ -161,7 +161,7 @@ module _ {Point : Type 0} (system : System ℕ Point) where
         rest = subst (IsTrace system (system.next e) more) (sym there.1) is.1;
       }
 
-  pub ahead : (state now : Environment ℕ) (inputs trace : List (Environment ℕ)) (k : ℕ)
+  pub ahead : (state now : Environment Signal) (inputs trace : List (Environment Signal)) (k : ℕ)
       → slice_get inputs k ≡ Some now → IsTrace system state (drop k inputs) (drop k trace)
       → Ahead state now (drop (suc k) inputs) trace k
   ahead state now inputs trace k given is =
@@ -169,20 +169,20 @@ module _ {Point : Type 0} (system : System ℕ Point) where
       (subst (λ ins. IsTrace system state ins (drop k trace)) (cut_there inputs k now given) is)
 
   -- the settled environment agrees with that of the trace
-  pub agrees : (state now mid : Environment ℕ) (more trace : List (Environment ℕ)) (k : ℕ)
+  pub agrees : (state now mid : Environment Signal) (more trace : List (Environment Signal)) (k : ℕ)
       → IsTheSettled system state now mid → (there : Ahead state now more trace k)
-      → (s : ℕ) → Contains system.signals s → mid s ≡ there.here s
+      → (s : Signal) → Contains system.signals s → mid s ≡ there.here s
   agrees state now mid more trace k settled there s at =
       All-contains (λ t. mid t ≡ there.here t) system.signals s
       (settled.alone there.here there.settled) at
 
   module _
-      (next_within : (e f : Environment ℕ) (s : ℕ) → IsTrue (system.is_register s)
-      → ((t : ℕ) → IsTrue (system.is_register t) → e t ≡ f t)
-      → ((t : ℕ) → Contains system.signals t → e t ≡ f t)
+      (next_within : (e f : Environment Signal) (s : Signal) → IsTrue (system.is_register s)
+      → ((t : Signal) → IsTrue (system.is_register t) → e t ≡ f t)
+      → ((t : Signal) → Contains system.signals t → e t ≡ f t)
       → system.next e s ≡ system.next f s) where
     -- what is left of the trace is one from the next registers on
-    pub one_more : (state now mid : Environment ℕ) (inputs trace : List (Environment ℕ)) (k : ℕ)
+    pub one_more : (state now mid : Environment Signal) (inputs trace : List (Environment Signal)) (k : ℕ)
         → slice_get inputs k ≡ Some now → IsTheSettled system state now mid
         → IsTrace system state (drop k inputs) (drop k trace)
         → IsTrace system (system.next mid) (drop (suc k) inputs) (drop (suc k) trace)
@@ -198,13 +198,13 @@ module _ {Point : Type 0} (system : System ℕ Point) where
 
 -- ---- what a level sees
 
-module _ {Point : Type 0} (system : System ℕ Point) (level : Point) where
+module _ {Signal Point : Type 0} (system : System Signal Point) (level : Point) where
   -- the pairs of the signals of a kind
-  abbrev kept : (ℕ → Bool) → List (ℕ × ℕ) → List (ℕ × ℕ)
+  abbrev kept : (Signal → Bool) → List (Signal × ℕ) → List (Signal × ℕ)
   kept kind pairs = filter (λ pair. kind pair.0) pairs
 
-  kept_step : (few all : ℕ → Bool) → ((s : ℕ) → IsTrue (few s) → IsTrue (all s))
-      → (b c d : Bool) (s n : ℕ) (ps qs : List (ℕ × ℕ)) → few s ≡ b → all s ≡ c → ps ≡ kept few qs
+  kept_step : (few all : Signal → Bool) → ((s : Signal) → IsTrue (few s) → IsTrue (all s))
+      → (b c d : Bool) (s : Signal) (n : ℕ) (ps qs : List (Signal × ℕ)) → few s ≡ b → all s ≡ c → ps ≡ kept few qs
       → cond (b && d) ((s, n) ∷ ps) ps ≡ kept few (cond (c && d) ((s, n) ∷ qs) qs)
   kept_step few all within true true true s n ps qs is of_all rest =
       ap (λ rs. (s, n) ∷ rs) rest
@@ -217,8 +217,8 @@ module _ {Point : Type 0} (system : System ℕ Point) (level : Point) where
   kept_step few all within false true false s n ps qs is of_all rest = rest
   kept_step few all within false false d s n ps qs is of_all rest = rest
 
-  kept_told : (few all test : ℕ → Bool) → ((s : ℕ) → IsTrue (few s) → IsTrue (all s))
-      → (e : Environment ℕ) (ss : List ℕ)
+  kept_told : (few all test : Signal → Bool) → ((s : Signal) → IsTrue (few s) → IsTrue (all s))
+      → (e : Environment Signal) (ss : List Signal)
       → told (λ s. few s && test s) e ss ≡ kept few (told (λ s. all s && test s) e ss)
   kept_told few all test within e [] = refl
   kept_told few all test within e (s ∷ ss) =
@@ -229,8 +229,8 @@ module _ {Point : Type 0} (system : System ℕ Point) (level : Point) where
       ∙ sym (ap (kept few) (told_next (λ t. all t && test t) e s ss))
 
   -- where the same is seen of some signals, the same is seen of fewer
-  pub seen_within : (few all : ℕ → Bool) → ((s : ℕ) → IsTrue (few s) → IsTrue (all s))
-      → (e f : Environment ℕ) → seen all system level e ≡ seen all system level f
+  pub seen_within : (few all : Signal → Bool) → ((s : Signal) → IsTrue (few s) → IsTrue (all s))
+      → (e f : Environment Signal) → seen all system level e ≡ seen all system level f
       → seen few system level e ≡ seen few system level f
   seen_within few all within e f same =
       kept_told few all (λ s. system.flows (system.label s e) level) within e system.signals
@@ -238,16 +238,16 @@ module _ {Point : Type 0} (system : System ℕ Point) (level : Point) where
       ∙ sym (kept_told few all (λ s. system.flows (system.label s f) level) within f
       system.signals)
 
-  pub seen_in_view : (kind : ℕ → Bool) (e f : Environment ℕ)
+  pub seen_in_view : (kind : Signal → Bool) (e f : Environment Signal)
       → view system level e ≡ view system level f
       → seen kind system level e ≡ seen kind system level f
   seen_in_view kind e f same = seen_within kind (λ s. true) (λ s of_kind. refl) e f same
 
   -- environments that agree look the same
-  pub seen_alike : ((e f : Environment ℕ) (s : ℕ) → Contains system.signals s
-      → ((t : ℕ) → Contains system.signals t → e t ≡ f t) → system.label s e ≡ system.label s f)
-      → (kind : ℕ → Bool) (e f : Environment ℕ)
-      → ((t : ℕ) → Contains system.signals t → e t ≡ f t)
+  pub seen_alike : ((e f : Environment Signal) (s : Signal) → Contains system.signals s
+      → ((t : Signal) → Contains system.signals t → e t ≡ f t) → system.label s e ≡ system.label s f)
+      → (kind : Signal → Bool) (e f : Environment Signal)
+      → ((t : Signal) → Contains system.signals t → e t ≡ f t)
       → seen kind system level e ≡ seen kind system level f
   seen_alike labels kind e f same =
       told_same (λ s. kind s && system.flows (system.label s e) level) (λ s.
@@ -259,10 +259,10 @@ module _ {Point : Type 0} (system : System ℕ Point) (level : Point) where
 
   -- where no level learns more than it may, views that were equal so far stay equal in a cycle in
   -- which what is given looks alike
-  pub stay_alike : Noninterferent system → (start1 start2 : Environment ℕ)
-      → (inputs1 inputs2 first second : List (Environment ℕ)) → IsTrace system start1 inputs1 first
+  pub stay_alike : Noninterferent system → (start1 start2 : Environment Signal)
+      → (inputs1 inputs2 first second : List (Environment Signal)) → IsTrace system start1 inputs1 first
       → IsTrace system start2 inputs2 second
-      → (k : ℕ) (e f : Environment ℕ) → slice_get first k ≡ Some e → slice_get second k ≡ Some f
+      → (k : ℕ) (e f : Environment Signal) → slice_get first k ≡ Some e → slice_get second k ≡ Some f
       → map (view system level) (take k first) ≡ map (view system level) (take k second)
       → seen system.is_input system level e ≡ seen system.is_input system level f
       → (k ≡ 0 → seen system.is_register system level e ≡ seen system.is_register system level f)

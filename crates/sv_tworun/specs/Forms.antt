@@ -1,4 +1,5 @@
--- The plain forms of views and of stimuli as runs, and what a run is of a design.
+-- The plain forms of views, of stimuli as runs and of what a comparison finds, and what a run is of
+-- a design.
 use Rattle.std.specs.Prelude.{ℕ, List, map, All, Vec}
 use Rattle.std.specs.declared.alloc.Global.{Global}
 use Rattle.sv_system.specs.System.{Environment, IsTrace}
@@ -8,6 +9,8 @@ use Rattle.sv_flat.specs.FlatSystem.{flat_system}
 use Rattle.sv_flat.specs.SignalLists.{inputs, registers}
 use Rattle.sv_flat.specs.Given.{FitListed, given}
 use Rattle.sv_trace.specs.declared.stim.Stim.{Stim}
+use Rattle.sv_tworun.specs.declared.compared.Compared.{Compared}
+use Rattle.sv_tworun.specs.declared.compared.Compared.TheVariants as compared
 use Rattle.sv_tworun.specs.declared.views.View.{View}
 
 abbrev pub pair_form : SigId × ℕ → ℕ × ℕ
@@ -39,3 +42,21 @@ abbrev pub IsTraceOf : FlatDesign → Run → List (Environment ℕ) → Type 0
 IsTraceOf design run trace =
     IsTrace (flat_system design) (given (registers design) run.start)
     (map (given (inputs design)) run.cycles) trace
+
+-- what a comparison finds, whatever signals are named by; cycles are counted from 0
+pub data Finding (Signal : Type 0) : Type 0 where
+  -- both traces have so many cycles, and the views are equal at all of them
+  equal : (cycles : ℕ) → Finding Signal
+  -- at this cycle the level first sees two things of what is given, first of this signal
+  inputs_differ : (cycle : ℕ) → (signal : Signal) → Finding Signal
+  -- at this cycle what is given looks alike, and the views do not, first at this signal
+  views_differ : (cycle : ℕ) → (signal : Signal) → Finding Signal
+  -- one trace is longer, the other has so many cycles, and the views are equal at all of these
+  lengths_differ : (cycles : ℕ) → Finding Signal
+
+-- the plain form of what the comparison of two runs finds
+abbrev pub finding : Compared → Finding ℕ
+finding (compared.Equal cycles) = equal cycles
+finding (compared.InputsDiffer cycle signal) = inputs_differ cycle signal.0
+finding (compared.ViewsDiffer cycle signal) = views_differ cycle signal.0
+finding (compared.LengthsDiffer cycles) = lengths_differ cycles

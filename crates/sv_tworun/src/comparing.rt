@@ -1,17 +1,18 @@
 // Two runs side by side.
-ghost use Rattle.std.specs.Prelude.{◌≡◌, [], ◌<◌, min, length, IfOk};
+ghost use Rattle.std.specs.Prelude.{◌≡◌, ◌<◌, min, length, IfOk};
 ghost use Rattle.sv_flat.specs.Views.{design_of};
-ghost use Rattle.sv_obl.specs.Validity.{AllValid};
+ghost use Rattle.sv_flat.specs.FlatSystem.{flat_system};
+ghost use Rattle.sv_system.specs.System.{Noninterferent};
 ghost use Rattle.sv_tworun.specs.declared.compared.Compared.TheVariants.{Equal, LengthsDiffer};
 ghost use Rattle.sv_tworun.specs.Comparisons.{IsComparison, FindsNoLeak};
-ghost use Rattle.sv_tworun.specs.Forms.{run_of, FitsRun};
+ghost use Rattle.sv_tworun.specs.Forms.{run_of, FitsRun, finding};
 
-use crate::checked::know_design;
 use crate::compared::Compared;
 use crate::differences::difference;
 use std::alloc::{AllocError, Global};
 use sv_design::Design;
 use sv_lattice::Point;
+use sv_obl::know_design;
 use sv_sim::Sim;
 use sv_trace::Stim;
 
@@ -33,10 +34,10 @@ pub fn compare(
     requires second { FitsRun (design_of design.now) (run_of b.now) }
     ensures comparison { IfOk result (IsComparison (design_of design.now) level (run_of a.now)
         (run_of b.now)) }
-    ensures no_leak { AllValid [] (design_of design.now) → IfOk result FindsNoLeak }
+    ensures no_leak { Noninterferent (flat_system (design_of design.now)) →
+        IfOk result (λ found. FindsNoLeak (finding found)) }
 {
-    // brings that it is admitted, so that its runs have traces, and that its lattice and its label
-    // maps are such, so that no run leaks where all obligations are valid
+    // brings that it is admitted, so that its runs have traces
     know_design(design);
     let mut one = Sim::new(alloc, design)?;
     let mut other = Sim::new(alloc, design)?;

@@ -7,13 +7,12 @@
 //!
 //! Promises that the view is that of `sv_system/specs/System.antt`, and that `compare` finds what
 //! `specs/Comparisons.antt` says of the traces of both runs, which is one thing; and that for a
-//! design whose obligations are all valid it never finds that what was given looks alike and the
-//! views do not. `Forms.antt` has the plain forms of views, and the runs that stimuli ask for.
+//! noninterferent design it never finds that what was given looks alike and the views do not.
+//! `Forms.antt` has the plain forms of views and findings, and the runs that stimuli ask for.
 //!
 //! `Sights.antt` is private: it says how the code goes; the meaning stands in the files before.
 #![tactic(auto)]
 
-mod checked;
 mod compared;
 mod comparing;
 mod differences;
@@ -24,7 +23,7 @@ mod views;
 
 pub use compared::Compared;
 pub use comparing::compare;
-pub use laws::comparisons_find_one_thing;
+pub use laws::{comparisons_find_one_thing, findings_are_one, noninterferent_systems_show_no_leak};
 pub use levels::view;
 pub use std::alloc::AllocError as OutOfMemory;
 pub use views::{View, same_view};

@@ -51,8 +51,8 @@ returns-clause-comparison c =
     one_long other_long c.at_the_end.ensures.equal c.at_the_end.ensures.shorter)
 
 pub returns-clause-no_leak : goal.returns-clause-no_leak
-returns-clause-no_leak c valid =
-    no_leak (design_of c.args.design.now) c.know_design.ensures.checked valid c.args.level
+returns-clause-no_leak c holds =
+    no_leak (design_of c.args.design.now) holds c.args.level
     (run_of c.args.a.now) (run_of c.args.b.now) c.at_the_end.result (returns-clause-comparison c)
 
 pub loop-cycle-init : goal.loop-cycle-init
@@ -111,8 +111,8 @@ returns-in-Some-clause-comparison c =
     c.in-Some.ensures.found)))
 
 pub returns-in-Some-clause-no_leak : goal.returns-in-Some-clause-no_leak
-returns-in-Some-clause-no_leak c valid =
-    no_leak (design_of c.args.design.now) c.know_design.ensures.checked valid c.args.level
+returns-in-Some-clause-no_leak c holds =
+    no_leak (design_of c.args.design.now) holds c.args.level
     (run_of c.args.a.now) (run_of c.args.b.now) c.in-Some.difference
     (returns-in-Some-clause-comparison c)
 

@@ -12,6 +12,7 @@ use Rattle.sv_flat.specs.Design.{SignalForm, FlatDesign}
 use Rattle.sv_flat.specs.Admission.{IsAdmitted}
 use Rattle.sv_flat.specs.Admission.{IsRefused as IsRefusedDesign}
 use Rattle.sv_walk.specs.Texts.{flat_of, BreaksRule}
+use Rattle.sv_obl.specs.declared.valuations.Valuation.{Valuation}
 use Rattle.sv_obl.specs.Limits.{Excess, many_paths, large_path, many_obligations, excess}
 use Rattle.sv_obl.specs.ListLines.{name_of, list_text}
 use Rattle.sv_first_ast.specs.Tree.{ModuleTree}
@@ -27,7 +28,6 @@ use Rattle.sv_simulate.specs.declared.endings.Ending.{Ending}
 use Rattle.sv_simulate.specs.declared.endings.Ending.TheVariants as endings
 use Rattle.sv_simulate.specs.Simulated.{level_asked}
 use Rattle.sv_text_laws.specs.SimulatedTexts.{IsTextSimulated, WritesTextCycles}
-use Rattle.sv_cli.specs.declared.outcome.Valuation.{Valuation}
 use Rattle.sv_cli.specs.declared.outcome.StimSource.{StimSource}
 use Rattle.sv_cli.specs.declared.outcome.StimSource.TheVariants.{Input}
 use Rattle.sv_cli.specs.declared.outcome.Outcome.{Outcome}

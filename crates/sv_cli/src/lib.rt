@@ -24,6 +24,7 @@ mod top;
 pub use laws::{
     each_text_has_one_list, each_text_has_one_verdict, flow_holds_where_nothing_falsifies_it,
 };
-pub use outcome::{Broken, Outcome, StimSource, Valuation};
+pub use outcome::{Broken, Outcome, StimSource};
+pub use sv_obl::Valuation;
 pub use sv_words::UsageKind;
 pub use top::run;

@@ -3,20 +3,9 @@ ghost use Rattle.std.specs.Prelude.{◌≡◌};
 ghost use Rattle.sv_cli.specs.Answer.{status_of};
 
 use sv_num::{Name, Refusal};
+use sv_obl::Valuation;
 use sv_trace::StimKind;
 use sv_words::UsageKind;
-
-/// Values of the registers and inputs in a cycle, and of the inputs in the next, each in signal
-/// order.
-#[derive(Debug, Drop)]
-pub struct Valuation {
-    /// Of the registers.
-    pub regs: Vec<u64>,
-    /// Of the inputs.
-    pub inputs: Vec<u64>,
-    /// Of the inputs of the next cycle.
-    pub next_inputs: Vec<u64>,
-}
 
 /// Where a stimulus comes from.
 #[derive(Clone, Copy, Debug, PartialEq, Eq)]

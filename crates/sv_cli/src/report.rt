@@ -7,12 +7,13 @@ ghost use Rattle.sv_cli.specs.Report.{Decides, zeros_for};
 ghost use Rattle.std.specs.Option.{option_copied};
 
 use crate::designs::unbuilt_form;
-use crate::outcome::{Broken, Outcome, Valuation};
+use crate::outcome::{Broken, Outcome};
 use crate::text;
 use std::alloc::{AllocError, Global};
 use sv_first::read_module;
 use sv_first_flow::{Finding, Leak, check};
 use sv_num::{Name, Refusal};
+use sv_obl::Valuation;
 use sv_words::UsageKind;
 
 /// An outcome, and all that is to be written with it.

@@ -5,11 +5,11 @@ ghost use Rattle.sv_cli.specs.Text.{usage_name, usage_text, accepted_text, names
 ghost use Rattle.sv_cli.specs.Text.{refusal_text, limit_text, value_lines, flow_text};
 ghost use Rattle.sv_cli.specs.Answer.{values_of};
 
-use crate::outcome::Valuation;
 use crate::rules::rule_name;
 use std::alloc::{AllocError, Global};
 use sv_first_flow::Leak;
 use sv_num::{Name, Place, Refusal};
+use sv_obl::Valuation;
 use sv_words::UsageKind;
 
 fn usage_name(kind: UsageKind) -> &'static str

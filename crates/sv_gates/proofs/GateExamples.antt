@@ -59,8 +59,8 @@ xor_of_two : (xor_gate (pos 2) (pos 3) two_inputs).0 ≡ record {
 unfolding put ascending with_clause
 xor_of_two = refl
 
--- 4 is 3 where 2 holds, and false elsewhere; its fourth clause has 1 and is kept, and so is the
--- second, which says the same as -4 or 2
+-- 4 is 3 where 2 holds, and false elsewhere: the clauses with the literal that is always false, and
+-- with that which is always true, are kept
 mux_of_two : (mux_gate (pos 2) (pos 3) false_literal two_inputs).0 ≡ record {
   variables = 4;
   clauses = (pos 1 ∷ []) ∷ (negsuc 1 ∷ pos 3 ∷ negsuc 3 ∷ [])

@@ -1,11 +1,10 @@
 // Gates and their clauses, one after another.
 ghost use Rattle.std.specs.Prelude.{◌≡◌, ◌↔◌, ◌≤◌, ◌<◌, All, IfOk, OnOk, OnErr, IsErrOf, length};
 ghost use Rattle.sv_gates.specs.Extending.{Begins, cut_back};
-ghost use Rattle.sv_gates.specs.Formulas.{IsLiteral, IsProper, most_variables, value_of};
-ghost use Rattle.sv_gates.specs.Formulas.{IsWithin};
-ghost use Rattle.sv_gates.specs.Formulas.{meets};
-ghost use Rattle.sv_gates.specs.Gates.{start, fresh_variable, and_gate, or_gate, xor_gate};
-ghost use Rattle.sv_gates.specs.Gates.{mux_gate, with_unit};
+ghost use Rattle.sv_gates.specs.Formulas.{IsLiteral, IsWithin, IsProper, most_variables, meets};
+ghost use Rattle.sv_gates.specs.Formulas.{value_of};
+ghost use Rattle.sv_gates.specs.Gates.{start, fresh_variable, and_gate, or_gate, xor_gate, mux_gate};
+ghost use Rattle.sv_gates.specs.Gates.{with_unit};
 ghost use Rattle.sv_gates.specs.Gates.{with_raw, with_raws, and_clauses, xor_clauses, mux_clauses};
 ghost use Rattle.sv_gates.specs.declared.gates.GateFault.TheVariants.{OutOfMemory};
 
@@ -17,7 +16,7 @@ use std::marker::Model;
 use sv_clause::Clause;
 use thiserror::Error;
 
-/// The most variables.
+/// The most variables that gates may have.
 pub const MOST_VARIABLES: u32 = 4_194_304;
 
 /// Why a variable or a gate cannot be added.

@@ -1,4 +1,4 @@
-// Literals that have a negation.
+// Literals, each with a negation in 32 bits.
 ghost use Rattle.std.specs.Prelude.{◌≡◌, ◌<◌, ◌^◌, neg_ℤ, pos, unsigned_abs};
 ghost use Rattle.std.specs.Ordering.{int_eq};
 

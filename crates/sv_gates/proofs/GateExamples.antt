@@ -1,7 +1,8 @@
 -- Examples of gates, by computation.
 use Rattle.std.proofs.Common.{◌≡◌, suc, nat_eq, true, false, pos, negsuc}
 use Rattle.std.proofs.Common.{[], ◌∷◌, refl}
-use Rattle.sv_gates.specs.Formulas.{Formula, meets}
+use Rattle.sv_gates.specs.Extending.{cut_back}
+use Rattle.sv_gates.specs.Formulas.{Formula, meets, value_of}
 use Rattle.sv_gates.specs.NormalForms.{put, ascending, with_clause}
 use Rattle.sv_gates.specs.Gates.{start, false_literal, fresh_variable, and_gate}
 use Rattle.sv_gates.specs.Gates.{or_gate, xor_gate, mux_gate, with_unit}
@@ -100,3 +101,15 @@ with_unit_false = refl
 with_unit_true : meets (λ n. nat_eq n 1) (with_unit (pos 2) two_inputs).clauses ≡ false
 unfolding put ascending with_clause
 with_unit_true = refl
+
+-- the formula with a gate, cut back to the mark before it
+without_gate : cut_back 3 1 (and_gate (pos 2) (pos 3) two_inputs).0 ≡ two_inputs
+unfolding put ascending with_clause
+without_gate = refl
+
+-- the second value of a list is that of variable 2; a value that is missing is false
+second_value : value_of (false ∷ true ∷ []) 2 ≡ true
+second_value = refl
+
+missing_value : value_of (false ∷ true ∷ []) 3 ≡ false
+missing_value = refl

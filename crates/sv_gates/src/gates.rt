@@ -3,8 +3,8 @@ ghost use Rattle.std.specs.Prelude.{◌≡◌, ◌↔◌, ◌≤◌, ◌<◌, Al
 ghost use Rattle.sv_gates.specs.Extending.{Begins, cut_back};
 ghost use Rattle.sv_gates.specs.Formulas.{IsLiteral, IsWithin, IsProper, most_variables, meets};
 ghost use Rattle.sv_gates.specs.Formulas.{value_of};
-ghost use Rattle.sv_gates.specs.Gates.{start, fresh_variable, and_gate, or_gate, xor_gate, mux_gate};
-ghost use Rattle.sv_gates.specs.Gates.{with_unit};
+ghost use Rattle.sv_gates.specs.Gates.{start, fresh_variable, and_gate, or_gate, xor_gate};
+ghost use Rattle.sv_gates.specs.Gates.{mux_gate, with_unit};
 ghost use Rattle.sv_gates.specs.Gates.{with_raw, with_raws, and_clauses, xor_clauses, mux_clauses};
 ghost use Rattle.sv_gates.specs.declared.gates.GateFault.TheVariants.{OutOfMemory};
 

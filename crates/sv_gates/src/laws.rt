@@ -1,14 +1,14 @@
 // What gates and their clauses say, as contracts of functions that do nothing.
-ghost use Rattle.std.specs.Prelude.{◌≡◌, ◌↔◌, ℕ, ◌<◌, ◌^◌, Bool, false, not, ◌||◌, ◌&&◌, IsTrue, ℤ, List};
-ghost use Rattle.std.specs.Prelude.{All, if◌then◌else◌};
+ghost use Rattle.std.specs.Prelude.{◌≡◌, ◌↔◌, ℕ, ◌<◌, ◌^◌, Bool, not, ◌||◌, ◌&&◌, IsTrue, ℤ};
+ghost use Rattle.std.specs.Prelude.{List, All, if◌then◌else◌};
 ghost use Rattle.std.specs.Bool.{beq, IsFalse};
 ghost use Rattle.sv_clause.specs.Literals.{literal_true, clause_true, IsClause, SameLiterals};
 ghost use Rattle.sv_clause.specs.Literals.{Satisfies};
 ghost use Rattle.sv_gates.specs.Formulas.{Formula, meets, IsLiteral, IsClosed};
 ghost use Rattle.sv_gates.specs.NormalForms.{ascending, clashes, with_clause};
-ghost use Rattle.sv_gates.specs.Gates.{start, fresh_variable, and_gate, or_gate, xor_gate, mux_gate};
+ghost use Rattle.sv_gates.specs.Gates.{fresh_variable, and_gate, or_gate, xor_gate, mux_gate};
 ghost use Rattle.sv_gates.specs.Gates.{with_unit, GateHas};
-ghost use Rattle.sv_gates.specs.Extending.{Begins, Extends, ExtendsFreely};
+ghost use Rattle.sv_gates.specs.Extending.{Extends, ExtendsFreely};
 
 /// The clauses of a gate hold exactly where its variable has the gate's value.
 pub fn gates_have_their_values()

@@ -7,9 +7,9 @@
 //! in conjunctive normal form: how many variables, and the clauses.
 //!
 //! On plain lists `specs/Formulas.antt` says what a formula is and when values meet it,
-//! `NormalForms.antt` what the normal form of a clause is, `Gates.antt` which clauses each gate has,
-//! and `Extending.antt` what a formula keeps as gates are added: that the gates' variables are fixed
-//! by the others, in exactly one way. The laws tie them together. None is private.
+//! `NormalForms.antt` what the normal form of a clause is, `Gates.antt` which clauses each gate
+//! has, and `Extending.antt` what a formula keeps as gates are added: that the gates' variables are
+//! fixed by the others, in exactly one way. The laws tie them together. None is private.
 #![tactic(auto)]
 
 mod gates;

@@ -24,7 +24,7 @@ pub fn lines_of_design(alloc: Global, design: Design) -> Result<Prepared, AllocE
     ensures { IfOk result (ListsDesign (design_of design)) }
 {
     match check_limits(alloc, &design) {
-        Ok(()) => Ok(Prepared::Lines(design)),
+        Ok(_) => Ok(Prepared::Lines(design)),
         Err(fault) => Ok(Prepared::Whole(report_of_fault(alloc, &design, fault)?)),
     }
 }

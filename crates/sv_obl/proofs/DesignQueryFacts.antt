@@ -39,7 +39,7 @@ use Rattle.sv_obl.specs.Obligations.{place_of, path_obligation, target_obligatio
 use Rattle.sv_flat.specs.Selectors.{always_flows}
 use Rattle.sv_obl.specs.Obligations.{selector_obligation, selector_obligations}
 use Rattle.sv_obl.specs.Obligations.{obligations}
-use Rattle.sv_obl.specs.Routes.{Route, open_route, behind, is_all, with_put, with_ways, with_right}
+use Rattle.sv_obl.specs.Routes.{RouteForm, open_route, behind, is_all, with_put, with_ways, with_right}
 use Rattle.sv_obl.specs.Routes.{routes_before}
 use Rattle.sv_obl.specs.Views.{IsGoalAmong, IsAmong}
 use Rattle.sv_obl.specs.DesignQueries.{Ascends, IsExpressionOf, IsStepOf, IsTargetIn}
@@ -105,31 +105,31 @@ module _ (signals : List SignalForm) where
       (only last step r) formed)
       (Contains-either steps (last ∷ []) step at)
 
-  abbrev RoutesFormed : List Route → Type 0
-  RoutesFormed routes = (r : Route) → Contains routes r → StepsFormed r.steps
+  abbrev RoutesFormed : List RouteForm → Type 0
+  RoutesFormed routes = (r : RouteForm) → Contains routes r → StepsFormed r.steps
 
-  alone : (r : Route) → StepsFormed r.steps → RoutesFormed (r ∷ [])
+  alone : (r : RouteForm) → StepsFormed r.steps → RoutesFormed (r ∷ [])
   alone r formed other at =
-      subst (λ (y : Route). StepsFormed y.steps) (only r other at) formed
+      subst (λ (y : RouteForm). StepsFormed y.steps) (only r other at) formed
 
-  both : (xs ys : List Route) → RoutesFormed xs → RoutesFormed ys → RoutesFormed (xs ++ ys)
+  both : (xs ys : List RouteForm) → RoutesFormed xs → RoutesFormed ys → RoutesFormed (xs ++ ys)
   both xs ys one two r at = ⊎_elim (one r) (two r) (Contains-either xs ys r at)
 
-  behind_each : (step : StepForm) (xs : List Route)
+  behind_each : (step : StepForm) (xs : List RouteForm)
       → IsTrue (well_formed signals step.condition)
       → RoutesFormed xs → RoutesFormed (map (behind step) xs)
   behind_each step xs formed each r at =
       let from = Contains-from_map (behind step) xs r at in
-      subst (λ (y : Route). StepsFormed y.steps) from.2
+      subst (λ (y : RouteForm). StepsFormed y.steps) from.2
       (one_more (from.0).steps step (each from.0 from.1) formed)
 
-  either : (c : Bool) (xs ys : List Route) → RoutesFormed xs → RoutesFormed ys →
+  either : (c : Bool) (xs ys : List RouteForm) → RoutesFormed xs → RoutesFormed ys →
       RoutesFormed (cond c xs ys)
   either true xs ys one two = one
   either false xs ys one two = two
 
   module _ (s : ℕ) where
-    ways_formed : (pieces : List PieceForm) (right : TypedTree) (route : Route)
+    ways_formed : (pieces : List PieceForm) (right : TypedTree) (route : RouteForm)
         → IsTrue (well_formed signals right) → StepsFormed route.steps
         → RoutesFormed (with_ways signals s pieces right route)
     ways_formed pieces (typed w signed (choice p c a b)) route h formed =
@@ -152,7 +152,7 @@ module _ (signals : List SignalForm) where
     ways_formed pieces right route h formed =
         alone (with_put signals s pieces right route) formed
 
-    pub routes_formed : (statement : FlatStatement) (route : Route)
+    pub routes_formed : (statement : FlatStatement) (route : RouteForm)
         → IsTrue (statement_sound signals statement) → StepsFormed route.steps
         → RoutesFormed (routes_before signals s statement route)
     routes_formed nothing route h formed = alone route formed
@@ -199,8 +199,8 @@ module _ (signals : List SignalForm) where
 
 module _ (signals : List SignalForm) (s : ℕ) (inside : s < length signals) where
   -- a path is what one of the routes stands for
-  its_route : (ps : List Path) (rs : List Route) → AllMatch signals s inside ps rs → (p : Path)
-      → Contains ps p → (r : Route) × Contains rs r × Matches signals s inside p r
+  its_route : (ps : List Path) (rs : List RouteForm) → AllMatch signals s inside ps rs → (p : Path)
+      → Contains ps p → (r : RouteForm) × Contains rs r × Matches signals s inside p r
   its_route [] rs all p at = absurd (Contains-nil p at)
   its_route (q ∷ ps) [] all p at = elim all [ ]
   its_route (q ∷ ps) (r ∷ rs) all p at = ⊎_elim
@@ -332,46 +332,76 @@ module _ (design : FlatDesign) (is_sound : IsTrue (sound design))
 
   -- ---- all of them
 
-  pub all_are : All (IsQueryOf design) (obligations [] design)
-  all_are = contained_all (IsQueryOf design) (obligations [] design) (λ o o_at. ⊎_elim
-      (λ l.
-      let made = from_flat_map (target_obligations [] design) (signal_numbers design) o l in
-      target_is_one made.0 o made.2)
-      (λ r.
-      let made = from_flat_map (selector_obligations [] design) (signal_numbers design) o r in
+  pub target_are : (s : ℕ) → All (IsQueryOf design) (target_obligations [] design s)
+  target_are s = contained_all (IsQueryOf design) (target_obligations [] design s) (target_is_one s)
+
+  pub selectors_are : All (IsQueryOf design)
+      (flat_map (selector_obligations [] design) (signal_numbers design))
+  selectors_are =
+      contained_all (IsQueryOf design)
+      (flat_map (selector_obligations [] design) (signal_numbers design)) (λ o o_at.
+      let made = from_flat_map (selector_obligations [] design) (signal_numbers design) o o_at in
       selector_is_one made.0 (number_below made.0 made.1) o made.2)
-      (Contains-either (flat_map (target_obligations [] design) (signal_numbers design))
-      (flat_map (selector_obligations [] design) (signal_numbers design)) o o_at))
     where
       number_below : (s : ℕ) → Contains (signal_numbers design) s → s < count
       number_below s at = those_below count (λ k. true) s
           (Contains-filter (λ k. true) (signal_numbers design) s at refl)
 
+  pub all_are : All (IsQueryOf design) (obligations [] design)
+  all_are = contained_all (IsQueryOf design) (obligations [] design) (λ o o_at. ⊎_elim
+      (λ l.
+      let made = from_flat_map (target_obligations [] design) (signal_numbers design) o l in
+      target_is_one made.0 o made.2)
+      (λ r. all_contained (IsQueryOf design)
+      (flat_map (selector_obligations [] design) (signal_numbers design)) selectors_are o r)
+      (Contains-either (flat_map (target_obligations [] design) (signal_numbers design))
+      (flat_map (selector_obligations [] design) (signal_numbers design)) o o_at))
+
 -- none of them asks an invariant, so none lacks its place
-pub all_placed : (design : FlatDesign) → All IsPlaced (obligations [] design)
-all_placed design = contained_all IsPlaced (obligations [] design) (λ o o_at. ⊎_elim
-    (λ l.
-    let target = from_flat_map (target_obligations [] design) (signal_numbers design) o l in
-    let one = from_flat_map (λ (p : ProcessForm).
-    map (path_obligation [] design p target.0) (paths design.signals target.0 p.kind p.body))
-    (drivers (processes_of design) target.0) o target.2 in
-    let p = one.0 in
-    let path = Contains-from_map (path_obligation [] design p target.0)
-    (paths design.signals target.0 p.kind p.body) o one.2 in
-    subst IsPlaced path.2 (flow_placed (place_of p path.0) target.0 (frame_of p.kind)))
-    (λ r.
-    let signal = from_flat_map (selector_obligations [] design) (signal_numbers design) o r in
-    let made = Contains-from_map (selector_obligation [] signal.0)
-    (filter (λ (t : ℕ). not (always_flows design signal.0 t))
-    (selectors_of (signal_of design.signals signal.0).label)) o signal.2 in
-    subst IsPlaced made.2 tt)
-    (Contains-either (flat_map (target_obligations [] design) (signal_numbers design))
-    (flat_map (selector_obligations [] design) (signal_numbers design)) o o_at))
-  where
-    flow_placed : (place : Option Place) (target : ℕ) (frame : Frame) →
-        HasPlace place (flow target frame)
-    flow_placed (Some place) target frame = tt
-    flow_placed None target frame = tt
+module _ (design : FlatDesign) where
+  target_placed : (s : ℕ) (o : Obligation) → Contains (target_obligations [] design s) o →
+      IsPlaced o
+  target_placed s o o_at =
+      let one = from_flat_map (λ (p : ProcessForm).
+      map (path_obligation [] design p s) (paths design.signals s p.kind p.body))
+      (drivers (processes_of design) s) o o_at in
+      let p = one.0 in
+      let path = Contains-from_map (path_obligation [] design p s)
+      (paths design.signals s p.kind p.body) o one.2 in
+      subst IsPlaced path.2 (flow_placed (place_of p path.0) s (frame_of p.kind))
+    where
+      flow_placed : (place : Option Place) (target : ℕ) (frame : Frame) →
+          HasPlace place (flow target frame)
+      flow_placed (Some place) target frame = tt
+      flow_placed None target frame = tt
+
+  selector_placed : (o : Obligation)
+      → Contains (flat_map (selector_obligations [] design) (signal_numbers design)) o → IsPlaced o
+  selector_placed o o_at =
+      let signal = from_flat_map (selector_obligations [] design) (signal_numbers design) o o_at in
+      let made = Contains-from_map (selector_obligation [] signal.0)
+      (filter (λ (t : ℕ). not (always_flows design signal.0 t))
+      (selectors_of (signal_of design.signals signal.0).label)) o signal.2 in
+      subst IsPlaced made.2 tt
+
+  pub target_are_placed : (s : ℕ) → All IsPlaced (target_obligations [] design s)
+  target_are_placed s =
+      contained_all IsPlaced (target_obligations [] design s) (target_placed s)
+
+  pub selectors_are_placed : All IsPlaced
+      (flat_map (selector_obligations [] design) (signal_numbers design))
+  selectors_are_placed =
+      contained_all IsPlaced (flat_map (selector_obligations [] design) (signal_numbers design))
+      selector_placed
+
+  pub all_placed : All IsPlaced (obligations [] design)
+  all_placed = contained_all IsPlaced (obligations [] design) (λ o o_at. ⊎_elim
+      (λ l.
+      let target = from_flat_map (target_obligations [] design) (signal_numbers design) o l in
+      target_placed target.0 o target.2)
+      (selector_placed o)
+      (Contains-either (flat_map (target_obligations [] design) (signal_numbers design))
+      (flat_map (selector_obligations [] design) (signal_numbers design)) o o_at))
 
 -- ---- what a line names
 

@@ -1,12 +1,13 @@
 -- A target by its number in the design, and the process that drives it, whose body is given in
--- short.
-use Rattle.std.proofs.Common.{◌≡◌, ℕ, ◌+◌, ◌<◌, ◌≤◌, List, [], length, map, get_or, All}
+-- indexed.
+use Rattle.std.proofs.Common.{◌≡◌, ℕ, zero, suc, ◌+◌, ◌<◌, ◌≤◌, List, [], ◌∷◌, length, map, get_or}
+use Rattle.std.proofs.Common.{All, refl}
 use Rattle.std.proofs.Common.{Option, Some, None, Result, Ok, Err, IsErrAnd, sym, ap, ap₂, subst}
 use Rattle.std.proofs.Common.{◌∙◌, lt-ltb}
 use Rattle.std.specs.Prelude.{IsTrue, Contains}
 use Rattle.sv_flat.specs.ByNumber.{signal_forms}
 use Rattle.sv_flat.specs.Clocks.{processes_of}
-use Rattle.sv_flat.specs.Design.{ProcessForm, FlatDesign}
+use Rattle.sv_flat.specs.Design.{ProcessForm, continuous, FlatStatement, nothing, FlatDesign}
 use Rattle.sv_flat.specs.Processes.{is_clocked}
 use Rattle.sv_flat.specs.SignalLists.{driver_of}
 use Rattle.sv_flat.specs.Soundness.{is_signal}
@@ -14,17 +15,23 @@ use Rattle.sv_flat.specs.Views.{design_of, signal_form, process_form}
 use Rattle.sv_flat.specs.declared.designs.Flat.{Flat}
 use Rattle.sv_flat.specs.declared.signals.Signal.{Signal}
 use Rattle.sv_design.specs.Designs.{IsDesign}
-use Rattle.sv_obl.specs.declared.shorts.Short.{Short}
+use Rattle.sv_obl.specs.declared.indexed.Indexed.{Indexed}
 use Rattle.sv_obl.specs.declared.targets.Driven.{Driven}
 use Rattle.sv_obl.specs.declared.faults.OblFault.{OblFault}
-use Rattle.sv_obl.specs.Answers.{target_excess, excess_at, Told, Answers}
+use Rattle.sv_obl.specs.Answers.{excess_at, Told, Answers}
 use Rattle.sv_obl.specs.Limits.{Excess}
+use Rattle.sv_obl.specs.BodySlices.{sliced, in_sequence, SameParts, slice_statement, first_body}
+use Rattle.sv_obl.specs.BodySlices.{driven_body}
+use Rattle.sv_obl.specs.SliceRoutes.{IsSliceOf}
+use Rattle.sv_obl.specs.declared.body_slices.BodySlice.{BodySlice}
 use Rattle.sv_obl.specs.Driven.{HasPaths}
 use Rattle.sv_obl.specs.Obligations.{target_obligations}
-use Rattle.sv_obl.specs.Routes.{Route, open_route, routes_before, route_obligation, names_on}
-use Rattle.sv_obl.specs.Shorts.{statement_of, IsShort, AreShort}
-use Rattle.sv_obl.specs.Trails.{routes_of}
-use Rattle.sv_obl.proofs.ShortFacts.{short_of_driver, same_routes}
+use Rattle.sv_obl.specs.Routes.{RouteForm, open_route, routes_before, route_obligation, names_on}
+use Rattle.sv_obl.specs.Routes.{target_excess}
+use Rattle.sv_obl.specs.IndexedStatements.{statement_of, IsMarked, IsIndexed, AreIndexed}
+use Rattle.sv_obl.specs.RouteViews.{route_forms}
+use Rattle.sv_obl.proofs.IndexedFacts.{indexed_of_driver, inside_bodies, same_routes}
+use Rattle.sv_obl.proofs.OneDriver.{no_driver, one_driver_at}
 use Rattle.sv_obl.proofs.TargetFacts.{length_mapped, none_listed, none_passed}
 use Rattle.sv_obl.proofs.TargetFacts.{excess_same, listed_same, names_within}
 
@@ -54,18 +61,18 @@ module _ (flat : Flat) (is : IsDesign (design_of flat)) (s : ℕ)
   pub undriven_listed : driver_of design s ≡ None → target_obligations [] design s ≡ []
   undriven_listed none = none_listed design is.is_sound is.is_admitted s inside is_known none
 
-  module _ (shorts : List Short) (all : AreShort (processes_of design) shorts) (k : ℕ)
+  module _ (bodies : List Indexed) (all : AreIndexed (processes_of design) bodies) (k : ℕ)
       (driven : driver_of design s ≡ Some k) (p : ProcessForm)
-      (there : get_or (processes_of design) k p ≡ p) (x : Short) (at : x ≡ get_or shorts k x)
+      (there : get_or (processes_of design) k p ≡ p) (x : Indexed) (at : x ≡ get_or bodies k x)
       (signals : List Signal) (are : signals ≡ flat.signals.items) where
-    abbrev routes : List Route
+    abbrev routes : List RouteForm
     routes = routes_before (signal_forms signals) s (statement_of x) open_route
 
-    short : IsShort p.body x
-    short = short_of_driver design s k p shorts all driven x there at
+    indexed : IsIndexed p.body x
+    indexed = indexed_of_driver design s k p bodies all driven x there at
 
     same : routes ≡ routes_before design.signals s p.body open_route
-    same = same_routes p.body x short (signal_forms signals) s open_route
+    same = same_routes p.body x indexed (signal_forms signals) s open_route
         ∙ ap (λ sigs. routes_before (signal_forms sigs) s p.body open_route) are
 
     pub driven_excess : (total : ℕ) → target_excess s total routes ≡ excess_at design total s
@@ -77,14 +84,14 @@ module _ (flat : Flat) (is : IsDesign (design_of flat)) (s : ℕ)
     driven_listed = ap (map (route_obligation (length design.signals) p s)) same
         ∙ listed_same design is.is_sound is.is_admitted s inside is_known k p driven there
 
-    driven_names : (route : Route) → Contains routes route
+    driven_names : (route : RouteForm) → Contains routes route
         → All (λ t. t < length design.signals) (names_on (is_clocked p.kind) s route)
     driven_names route among =
         names_within design is.is_sound is.is_admitted s inside is_known k p driven there route
         (subst (λ rs. Contains rs route) same among)
 
     pub has_paths : (driven : Driven) (total : ℕ) → process_form driven.process.now ≡ p
-        → routes_of driven.trails.items ≡ routes → total + length driven.trails.items ≤ 65536
+        → route_forms driven.routes.items ≡ routes → total + length driven.routes.items ≤ 65536
         → HasPaths design s total driven
     has_paths driven total through are few =
         record {
@@ -97,3 +104,55 @@ module _ (flat : Flat) (is : IsDesign (design_of flat)) (s : ℕ)
               (names_on (is_clocked q.kind) s route)) (sym through)
               (driven_names route (subst (λ rs. Contains rs route) are among));
         }
+
+  -- ---- slices
+
+  undriven_body : driver_of design s ≡ None → driven_body design s ≡ nothing
+  undriven_body none =
+      ap first_body (no_driver design is.is_sound is.is_admitted s is_known none)
+
+  pub undriven_slice : driver_of design s ≡ None
+      → SameParts nothing (sliced s (driven_body design s))
+  undriven_slice none =
+      ap (λ (body : FlatStatement). in_sequence (sliced s body) nothing)
+      (sym (undriven_body none))
+
+  module _ (bodies : List Indexed) (all : AreIndexed (processes_of design) bodies) (k : ℕ)
+      (driven : driver_of design s ≡ Some k) where
+    abbrev some_process : ProcessForm
+    some_process = record {
+      kind = continuous;
+      place = record { line = 0; column = 0 };
+      body = nothing;
+    }
+
+    abbrev process : ProcessForm
+    process = get_or (processes_of design) k some_process
+
+    there : get_or (processes_of design) k process ≡ process
+    there = found_again (processes_of design) k some_process
+      where
+        found_again : (ps : List ProcessForm) (i : ℕ) (d : ProcessForm)
+            → get_or ps i (get_or ps i d) ≡ get_or ps i d
+        found_again [] i d = refl
+        found_again (p ∷ ps) zero d = refl
+        found_again (p ∷ ps) (suc i) d = found_again ps i d
+
+    pub has_body : k < length bodies
+    has_body = inside_bodies design s k process bodies all driven
+
+    pub driven_marked : (x : Indexed) → x ≡ get_or bodies k x → IsMarked x
+    driven_marked x at =
+        (indexed_of_driver design s k process bodies all driven x there at).marked
+
+    pub driven_slice : (x : Indexed) (slice : BodySlice) → x ≡ get_or bodies k x
+        → IsSliceOf s (statement_of x) slice
+        → SameParts (slice_statement slice) (sliced s (driven_body design s))
+    driven_slice x slice at is_slice =
+        let indexed = indexed_of_driver design s k process bodies all driven x there at in
+        is_slice.parts nothing
+        ∙ sym (indexed.same.parts s nothing)
+        ∙ ap (λ (body : FlatStatement). in_sequence (sliced s body) nothing)
+        (sym (ap first_body
+        (one_driver_at design is.is_sound is.is_admitted s is_known k process driven).2
+        ∙ ap (λ (p : ProcessForm). p.body) there))

@@ -1,6 +1,6 @@
 pub mod BlockSettles
 pub mod Closing
-pub mod CutFacts
+pub mod SliceChains
 pub mod DesignQueryFacts
 pub mod DrivenTargets
 pub mod FalsifyExamples
@@ -24,14 +24,15 @@ pub mod ReadValues
 pub mod RouteNames
 pub mod RouteObligations
 pub mod RoutePaths
-pub mod ShortFacts
+pub mod IndexedFacts
+pub mod SliceFacts
 pub mod StatementFacts
 pub mod TakenPaths
 pub mod TargetFacts
 pub mod TargetReads
 pub mod TargetValues
 pub mod TargetWalks
-pub mod TrailFacts
+pub mod RouteFacts
 pub mod TreeFacts
 pub mod WalkFacts
 pub mod Watched

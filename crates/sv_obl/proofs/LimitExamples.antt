@@ -1,9 +1,9 @@
 -- The limits on obligations, by computation.
-use Rattle.std.proofs.Common.{◌≡◌, ℕ, false, List, [], ◌∷◌, Some, None, refl}
+use Rattle.std.proofs.Common.{◌≡◌, ℕ, true, false, List, [], ◌∷◌, Some, None, refl}
 use Rattle.std.specs.Prelude.{codes, map}
 use Rattle.std.specs.List.{range_with_len}
 use Rattle.sv_flat.specs.declared.signals.SigKind.TheVariants.{TopInput, OutputReg}
-use Rattle.sv_flat.specs.Design.{nothing, assign, branch, clocked, FlatDesign}
+use Rattle.sv_flat.specs.Design.{nothing, assign, branch, combinational, clocked, FlatDesign}
 use Rattle.sv_flat.proofs.Forms.{at, part, named, sequence, process}
 use Rattle.sv_obl.specs.Limits.{many_paths, target_paths, excess}
 use Rattle.sv_obl.specs.Paths.{Path}
@@ -19,6 +19,20 @@ parts_are_put_in = refl
 -- {c, s} = a + b covers both targets whole
 pub wholes_are_not : nodes_of (target_paths replaced 2) ≡ 0 ∷ []
 wholes_are_not = refl
+
+-- module m(input a, output reg y);
+--   always @* begin y = a; y = y; end
+abbrev read_again : FlatDesign
+read_again = design
+    (signal (codes "a") 1 TopInput low ∷ signal (codes "y") 1 OutputReg low ∷ [])
+    (process combinational (at 2 3) (sequence (
+    assign (part 1 (at 2 19) 0 0 0 ∷ []) (at 2 19) true (named 0 (at 2 23))
+    ∷ assign (part 1 (at 2 26) 0 0 0 ∷ []) (at 2 26) true (named 1 (at 2 30))
+    ∷ [])) ∷ [])
+
+-- `y = y` covers y whole where nothing was put yet; a is put for its earlier read of y, and counts
+pub what_an_earlier_read_gets_is_put_in : nodes_of (target_paths read_again 1) ≡ 1 ∷ []
+what_an_earlier_read_gets_is_put_in = refl
 
 pub few_are_in_order : excess replaced ≡ None
 few_are_in_order = refl

@@ -3,14 +3,10 @@ use Rattle.std.proofs.Common.{◌≡◌, ℕ, ◌<◌, ◌+◌, ◌-◌, zero, s
 use Rattle.std.proofs.Common.{reverse, drop, sym, ap, ◌∙◌, append_assoc, append-nil}
 use Rattle.std.proofs.Common.{arith, get_or}
 use Rattle.std.specs.Prelude.{All, codes}
-use Rattle.std.proofs.Math.Seq.{drop-cons}
-use Rattle.std.proofs.lemmas.List.{map-append, reverse-append}
 use Rattle.std.proofs.lemmas.List.Concat.{flat_map-append}
 use Rattle.std.proofs.lemmas.List.Elements.{All-head, All-tail}
 use Rattle.sv_flat.specs.declared.signals.SigId.{SigId}
-use Rattle.sv_obl.specs.declared.trails.Turn.{Turn}
-use Rattle.sv_obl.specs.ListLines.{blanked, step_word}
-use Rattle.sv_obl.specs.Trails.{turn_form}
+use Rattle.sv_obl.specs.ListLines.{blanked}
 use Rattle.sv_obl.specs.Views.{number_of}
 
 -- a read is among the signals
@@ -64,39 +60,6 @@ selector_words line name second third reads =
     (one_word (line ++ blanked (name ∷ second ∷ [])) third
     ∙ more_words line (name ∷ second ∷ []) (third ∷ []))
     ∙ more_words line (name ∷ second ∷ third ∷ []) reads
-
--- ---- conditions
-
--- their words, the last in the text first
-abbrev pub turn_words : List Turn → List (List ℕ)
-turn_words turns = map step_word (reverse (map turn_form turns))
-
-more_turns : (x : Turn) (turns : List Turn)
-    → turn_words (x ∷ turns) ≡ turn_words turns ++ step_word (turn_form x) ∷ []
-more_turns x turns =
-    ap (map step_word) (reverse-append (turn_form x ∷ []) (map turn_form turns))
-    ∙ map-append step_word (reverse (map turn_form turns)) (turn_form x ∷ [])
-
--- one more of them, from the last one back
-pub one_turn : (line : List ℕ) (turns : List Turn) (i : ℕ) (x : Turn) → i < length turns
-    → x ≡ get_or turns (length turns - 1 - i) x
-    → line ++ blanked (turn_words (drop (length turns - i) turns)) ++ codes " "
-    ++ step_word (turn_form x)
-    ≡ line ++ blanked (turn_words (drop (length turns - (i + 1)) turns))
-one_turn line turns i x inside is =
-    let k = length turns - 1 - i in
-    let below : k < length turns = omega arith in
-    let here : k ≡ length turns - (i + 1) = omega arith in
-    let behind : length turns - i ≡ suc k = omega arith in
-    let words = turn_words (drop (suc k) turns) in
-    ap (λ n. line ++ blanked (turn_words (drop n turns)) ++ codes " " ++ step_word (turn_form x))
-    behind
-    ∙ one_word (line ++ blanked words) (step_word (turn_form x))
-    ∙ more_words line words (step_word (turn_form x) ∷ [])
-    ∙ ap (λ ws. line ++ blanked ws) (sym (more_turns x (drop (suc k) turns)))
-    ∙ ap (λ y. line ++ blanked (turn_words (y ∷ drop (suc k) turns))) is
-    ∙ ap (λ ts. line ++ blanked (turn_words ts)) (sym (drop-cons turns k x below))
-    ∙ ap (λ n. line ++ blanked (turn_words (drop n turns))) here
 
 -- ---- lines
 

@@ -1,10 +1,11 @@
 -- Small facts on lists and tests.
 use Rattle.std.proofs.Common.{◌≡◌, Bool, true, false, cond, ◌&&◌, List, [], ◌∷◌, ◌++◌, ◌⊎◌, inl}
-use Rattle.std.proofs.Common.{inr, ⊎_elim, refl, sym, subst, ◌∙◌}
+use Rattle.std.proofs.Common.{inr, ⊎_elim, refl, sym, ap, ap₂, subst, ◌∙◌}
 use Rattle.std.specs.Prelude.{Contains, All, IsTrue, IsFalse, filter, flat_map}
 use Rattle.std.specs.Bool.{beq}
 use Rattle.std.specs.List.{list_any, list_all}
 use Rattle.std.proofs.lemmas.Bool.{false≢true}
+use Rattle.std.proofs.lemmas.List.Concat.{flat_map-append}
 use Rattle.std.proofs.lemmas.List.Elements.{Contains-get_or}
 use Rattle.sv_system.proofs.Lists.{Contains-nil, Contains-cases, Contains-head, Contains-later}
 use Rattle.sv_flat.proofs.Depths.{first_of, second_of}
@@ -90,6 +91,28 @@ module _ {X : Type 0} where
         cond_false (test x) (x ∷ filter test xs) (filter test xs)
         (or_none_left (test x) (list_any test xs) h)
         ∙ none_kept xs (or_none_right (test x) (list_any test xs) h)
+
+-- ---- lists of lists
+
+module _ {X Y Z : Type 0} where
+  pub flat_flat : (f : X → List Y) (g : Y → List Z) (xs : List X)
+      → flat_map g (flat_map f xs) ≡ flat_map (λ x. flat_map g (f x)) xs
+  flat_flat f g [] = refl
+  flat_flat f g (x ∷ xs) =
+      flat_map-append g (f x) (flat_map f xs)
+      ∙ ap (λ zs. flat_map g (f x) ++ zs) (flat_flat f g xs)
+
+module _ {X Y : Type 0} where
+  pub flat_alike : (f g : X → List Y) → ((x : X) → f x ≡ g x) → (xs : List X)
+      → flat_map f xs ≡ flat_map g xs
+  flat_alike f g same [] = refl
+  flat_alike f g same (x ∷ xs) = ap₂ (λ a b. a ++ b) (same x) (flat_alike f g same xs)
+
+pub flat_itself : {X : Type 0} (xs : List X) → flat_map (λ x. x ∷ []) xs ≡ xs
+flat_itself [] = refl
+flat_itself (x ∷ xs) = ap (λ ys. x ∷ ys) (flat_itself xs)
+
+-- ---- members
 
 module _ {X Y : Type 0} (f : X → List Y) where
   pub in_flat_map : (xs : List X) (x : X) (y : Y) → Contains xs x → Contains (f x) y →

@@ -25,12 +25,12 @@ use Rattle.sv_flat.proofs.BlockFacts.{is_settled}
 use Rattle.sv_flat.proofs.Members.{Contains-either}
 use Rattle.sv_flat.proofs.LeastSets.{or_cases, from_some, holds-from_Contains}
 use Rattle.sv_flat.proofs.LeastSets.{Contains-from_holds}
-use Rattle.sv_obl.specs.Answers.{is_large}
+use Rattle.sv_obl.specs.Routes.{is_large}
 use Rattle.sv_obl.specs.Exchange.{name, content}
 use Rattle.sv_obl.specs.Obligations.{Obligation, flow, path_obligation, place_of, is_link}
 use Rattle.sv_obl.specs.Obligations.{frame_of}
 use Rattle.sv_obl.specs.Paths.{StepForm, Path, open_path, path_names, before, closed, paths}
-use Rattle.sv_obl.specs.Routes.{Route, open_route, routes_before, names_in, names_on}
+use Rattle.sv_obl.specs.Routes.{RouteForm, open_route, routes_before, names_in, names_on}
 use Rattle.sv_obl.specs.Routes.{route_obligation}
 use Rattle.sv_obl.specs.Wanted.{with_copies, copy_of, is_copy, original, close, closed_tree, marked}
 use Rattle.sv_obl.proofs.NumberSets.{filter_alike}
@@ -119,7 +119,7 @@ module _ (signals : List SignalForm) (s : ℕ) (inside : s < length signals)
       by_test true = refl
       by_test false = refl
 
-  module _ (p : Path) (r : Route) (same : Matches signals s inside p r) where
+  module _ (p : Path) (r : RouteForm) (same : Matches signals s inside p r) where
     abbrev q : Path
     q = closed signals is_register p
 
@@ -218,10 +218,10 @@ module _ (design : FlatDesign) (p : ProcessForm) (s : ℕ) (inside : s < length 
   abbrev close_path : Path → Path
   close_path path = closed signals (is_clocked p.kind) path
 
-  abbrev route_of_target : Route → Obligation
+  abbrev route_of_target : RouteForm → Obligation
   route_of_target r = route_obligation (length signals) p s r
 
-  one_obligation : (path : Path) (r : Route) → Matches signals s inside path r
+  one_obligation : (path : Path) (r : RouteForm) → Matches signals s inside path r
       → path_obligation [] design p s (close_path path) ≡ route_of_target r
   one_obligation path r same = record_of
       (steps_same signals s inside (is_clocked p.kind) path r same)
@@ -246,7 +246,7 @@ module _ (design : FlatDesign) (p : ProcessForm) (s : ℕ) (inside : s < length 
       record_of one two three = cc
 
   -- the obligations are those of the routes
-  pub obligations_same : (ps : List Path) (rs : List Route) → AllMatch signals s inside ps rs
+  pub obligations_same : (ps : List Path) (rs : List RouteForm) → AllMatch signals s inside ps rs
       → map (path_obligation [] design p s) (map close_path ps) ≡ map route_of_target rs
   obligations_same [] [] all = refl
   obligations_same [] (r ∷ rs) all = elim all [ ]
@@ -255,7 +255,7 @@ module _ (design : FlatDesign) (p : ProcessForm) (s : ℕ) (inside : s < length 
       ap₂ (λ a b. a ∷ b) (one_obligation path r all.0) (obligations_same ps rs all.1)
 
   -- so many are large
-  pub large_same : (ps : List Path) (rs : List Route) → AllMatch signals s inside ps rs
+  pub large_same : (ps : List Path) (rs : List RouteForm) → AllMatch signals s inside ps rs
       → list_any (λ (path : Path). nat_lt 65536 path.nodes) (map close_path ps)
       ≡ list_any is_large rs
   large_same [] [] all = refl
@@ -265,21 +265,21 @@ module _ (design : FlatDesign) (p : ProcessForm) (s : ℕ) (inside : s < length 
       ap₂ (λ a b. a || b) (capped_same path.nodes ∙ ap (nat_lt 65536) (sym (all.0).nodes))
       (large_same ps rs all.1)
 
-  pub count_same : (ps : List Path) (rs : List Route) → AllMatch signals s inside ps rs
+  pub count_same : (ps : List Path) (rs : List RouteForm) → AllMatch signals s inside ps rs
       → length (map close_path ps) ≡ length rs
   count_same [] [] all = refl
   count_same [] (r ∷ rs) all = elim all [ ]
   count_same (path ∷ ps) [] all = elim all [ ]
   count_same (path ∷ ps) (r ∷ rs) all = ap suc (count_same ps rs all.1)
 
-  pub all_below : (ps : List Path) (rs : List Route) → AllMatch signals s inside ps rs
-      → (r : Route) → Contains rs r
+  pub all_below : (ps : List Path) (rs : List RouteForm) → AllMatch signals s inside ps rs
+      → (r : RouteForm) → Contains rs r
       → All (λ t. t < length signals) (names_on (is_clocked p.kind) s r)
   all_below [] [] all r at = absurd (Contains-nil r at)
   all_below [] (q ∷ rs) all r at = elim all [ ]
   all_below (path ∷ ps) [] all r at = elim all [ ]
   all_below (path ∷ ps) (q ∷ rs) all r at = ⊎_elim
-      (λ is. subst (λ (x : Route). All (λ t. t < length signals)
+      (λ is. subst (λ (x : RouteForm). All (λ t. t < length signals)
       (names_on (is_clocked p.kind) s x)) is
       (names_below signals s inside (is_clocked p.kind) path q all.0))
       (λ later. all_below ps rs all.1 r later)
@@ -289,7 +289,7 @@ module _ (design : FlatDesign) (p : ProcessForm) (s : ℕ) (inside : s < length 
 
   module _ (is_sound : IsTrue (sound design)) (admitted : IsAdmitted design)
       (at : Contains (processes_of design) p) where
-    abbrev pub target_routes : List Route
+    abbrev pub target_routes : List RouteForm
     target_routes = routes_before signals s p.body open_route
 
     body_same : marked signals (is_block p.kind) p.body no_bits ≡ p.body
@@ -321,6 +321,6 @@ module _ (design : FlatDesign) (p : ProcessForm) (s : ℕ) (inside : s < length 
     target_count = ap length paths_are
         ∙ count_same (before signals s p.body (open_path signals s)) target_routes all_match
 
-    pub target_below : (r : Route) → Contains target_routes r
+    pub target_below : (r : RouteForm) → Contains target_routes r
         → All (λ t. t < length signals) (names_on (is_clocked p.kind) s r)
     target_below = all_below (before signals s p.body (open_path signals s)) target_routes all_match

@@ -25,9 +25,9 @@ use Rattle.sv_obl.specs.Nodes.{nodes_in}
 use Rattle.sv_obl.specs.Wanted.{with_copies, copy_of, is_copy, original, put_in}
 use Rattle.sv_obl.specs.Paths.{StepForm, Path, open_path, under, step_with, Way, way_under, ways}
 use Rattle.sv_obl.specs.Paths.{pieces_of, covers, name_itself, covers_name, ways_taken, later_place}
-use Rattle.sv_obl.specs.Paths.{is_target, puts_into, with_way, path_names, is_taken}
+use Rattle.sv_obl.specs.Paths.{puts_into, with_way, path_names, is_taken}
 use Rattle.sv_obl.specs.Paths.{before}
-use Rattle.sv_obl.specs.Routes.{Route, open_route, behind, is_all, times_put, first_place}
+use Rattle.sv_obl.specs.Routes.{RouteForm, open_route, behind, is_all, times_put, first_place}
 use Rattle.sv_obl.specs.Routes.{names_in, with_names, with_put, with_ways, with_right}
 use Rattle.sv_obl.specs.Routes.{routes_before}
 use Rattle.sv_obl.proofs.NumberSets.{put_held}
@@ -72,7 +72,7 @@ module _ (signals : List SignalForm) (s : ℕ) (inside : s < length signals) whe
   Alone false e = NotAlone signals s e
 
   -- the path is what the route stands for
-  pub record Matches (p : Path) (r : Route) : Type 0 where
+  pub record Matches (p : Path) (r : RouteForm) : Type 0 where
     pub steps : p.steps ≡ reverse r.steps
     pub conditions : StepsSettled p.steps
     pub place : p.place ≡ r.place
@@ -80,16 +80,16 @@ module _ (signals : List SignalForm) (s : ℕ) (inside : s < length signals) whe
     pub names : Named r.wants r.names (names_in both p.result)
     pub alone : Alone (is_none r.place) p.result
 
-  abbrev pub AllMatch : List Path → List Route → Type 0
+  abbrev pub AllMatch : List Path → List RouteForm → Type 0
   AllMatch [] [] = Unit {0}
   AllMatch (p ∷ ps) (r ∷ rs) = Matches p r × AllMatch ps rs
   AllMatch [] (r ∷ rs) = ⊥
   AllMatch (p ∷ ps) [] = ⊥
 
-  one_match : (p : Path) (r : Route) → Matches p r → AllMatch (p ∷ []) (r ∷ [])
+  one_match : (p : Path) (r : RouteForm) → Matches p r → AllMatch (p ∷ []) (r ∷ [])
   one_match p r same = (same, tt)
 
-  match_append : (ps qs : List Path) (rs ts : List Route) → AllMatch ps rs → AllMatch qs ts →
+  match_append : (ps qs : List Path) (rs ts : List RouteForm) → AllMatch ps rs → AllMatch qs ts →
       AllMatch (ps ++ qs) (rs ++ ts)
   match_append [] qs (r ∷ rs) ts one two = elim one [ ]
   match_append (p ∷ ps) qs [] ts one two = elim one [ ]
@@ -97,18 +97,18 @@ module _ (signals : List SignalForm) (s : ℕ) (inside : s < length signals) whe
   match_append (p ∷ ps) qs (r ∷ rs) ts one two =
       (one.0, match_append ps qs rs ts one.1 two)
 
-  match_map : (f : Path → Path) (g : Route → Route)
-      → ((p : Path) (r : Route) → Matches p r → Matches (f p) (g r))
-      → (ps : List Path) (rs : List Route) → AllMatch ps rs → AllMatch (map f ps) (map g rs)
+  match_map : (f : Path → Path) (g : RouteForm → RouteForm)
+      → ((p : Path) (r : RouteForm) → Matches p r → Matches (f p) (g r))
+      → (ps : List Path) (rs : List RouteForm) → AllMatch ps rs → AllMatch (map f ps) (map g rs)
   match_map f g each [] (r ∷ rs) all = elim all [ ]
   match_map f g each (p ∷ ps) [] all = elim all [ ]
   match_map f g each [] [] all = all
   match_map f g each (p ∷ ps) (r ∷ rs) all =
       (each p r all.0, match_map f g each ps rs all.1)
 
-  match_flat : (f : Path → List Path) (g : Route → List Route)
-      → ((p : Path) (r : Route) → Matches p r → AllMatch (f p) (g r))
-      → (ps : List Path) (rs : List Route) → AllMatch ps rs
+  match_flat : (f : Path → List Path) (g : RouteForm → List RouteForm)
+      → ((p : Path) (r : RouteForm) → Matches p r → AllMatch (f p) (g r))
+      → (ps : List Path) (rs : List RouteForm) → AllMatch ps rs
       → AllMatch (flat_map f ps) (flat_map g rs)
   match_flat f g each [] (r ∷ rs) all = elim all [ ]
   match_flat f g each (p ∷ ps) [] all = elim all [ ]
@@ -143,7 +143,7 @@ module _ (signals : List SignalForm) (s : ℕ) (inside : s < length signals) whe
       (λ later. each other later)
       (Contains-cases step steps other at)
 
-  under_matches : (step : StepForm) → Settled signals s step.condition → (p : Path) (r : Route)
+  under_matches : (step : StepForm) → Settled signals s step.condition → (p : Path) (r : RouteForm)
       → Matches p r → Matches (under step p) (behind step r)
   under_matches step settled p r same = record {
     steps = ap (λ steps. step ∷ steps) same.steps ∙ sym (reverse-append r.steps (step ∷ []));
@@ -159,7 +159,7 @@ module _ (signals : List SignalForm) (s : ℕ) (inside : s < length signals) whe
   copies_same : (k : ℕ) → copy_of signals k ≡ copy_of signals s → k ≡ s
   copies_same k is = omega arith
 
-  path_wants : (p : Path) (r : Route) → Matches p r → (k : ℕ)
+  path_wants : (p : Path) (r : RouteForm) → Matches p r → (k : ℕ)
       → IsTrue (path_names both p (copy_of signals k)) → IsTrue r.wants × (k ≡ s)
   path_wants p r same k named = ⊎_elim
       (λ l.
@@ -195,7 +195,7 @@ module _ (signals : List SignalForm) (s : ℕ) (inside : s < length signals) whe
           (refl, copies_same k (sym (only (copy_of signals s) (copy_of signals k) at)))
       is_here false at = absurd (Contains-nil (copy_of signals k) at)
 
-  wanted_named : (p : Path) (r : Route) → Matches p r → IsTrue r.wants →
+  wanted_named : (p : Path) (r : RouteForm) → Matches p r → IsTrue r.wants →
       IsTrue (names_signal both p.result (copy_of signals s))
   wanted_named p r same wants =
       sym (held_name (reads both p.result) (copy_of signals s))
@@ -204,7 +204,7 @@ module _ (signals : List SignalForm) (s : ℕ) (inside : s < length signals) whe
       (subst (λ w. Contains (here signals s w ++ same.names.rest) (copy_of signals s)) (sym wants)
       (Contains-head (copy_of signals s) same.names.rest)))
 
-  taken_is : (statement : FlatStatement) (p : Path) (r : Route) → Matches p r
+  taken_is : (statement : FlatStatement) (p : Path) (r : RouteForm) → Matches p r
       → is_taken signals statement p ≡ (assigns statement s && r.wants)
   taken_is statement p r same = same_test (is_taken signals statement p)
       (assigns statement s && r.wants)
@@ -230,7 +230,7 @@ module _ (signals : List SignalForm) (s : ℕ) (inside : s < length signals) whe
 
   -- ---- how often a right side is put
 
-  module _ (pieces : List PieceForm) (p : Path) (r : Route) (same : Matches p r) where
+  module _ (pieces : List PieceForm) (p : Path) (r : RouteForm) (same : Matches p r) where
     settled_covers : (o : Option ℕ) → ((t : ℕ) → o ≡ Some t → IsFalse (is_copy signals t)) →
         covers_name signals pieces o ≡ false
     settled_covers (Some t) settled =
@@ -248,27 +248,8 @@ module _ (signals : List SignalForm) (s : ℕ) (inside : s < length signals) whe
             (original_of_copy signals s)
         by_place false alone = settled_covers (name_itself p.result) alone
 
-    settled_target : (o : Option ℕ) → ((t : ℕ) → o ≡ Some t → IsFalse (is_copy signals t)) →
-        is_target signals s o ≡ false
-    settled_target (Some t) settled = ne_eqb t (copy_of signals s)
-        (λ is. false≢true (sym (settled t refl) ∙ ap (is_copy signals) is
-        ∙ copy_is_copy signals s))
-    settled_target None settled = refl
-
-    target_is : (is_target signals s (name_itself p.result) && covers signals s pieces)
-        ≡ is_all signals s pieces r
-    target_is = by_place (is_none r.place) same.alone
-      where
-        by_place : (c : Bool) → Alone c p.result
-            → (is_target signals s (name_itself p.result) && covers signals s pieces)
-            ≡ (c && covers signals s pieces)
-        by_place true alone =
-            ap (λ o. is_target signals s o && covers signals s pieces) alone
-            ∙ ap (λ b. b && covers signals s pieces)
-            (eq-eqb (copy_of signals s) (copy_of signals s) refl)
-        by_place false alone =
-            ap (λ b. b && covers signals s pieces)
-            (settled_target (name_itself p.result) alone)
+    target_is : (is_none p.place && covers signals s pieces) ≡ is_all signals s pieces r
+    target_is = ap (λ place. is_none place && covers signals s pieces) same.place
 
     module _ (wants : IsTrue r.wants) where
       names_wanted : names_in both p.result ≡ copy_of signals s ∷ same.names.rest
@@ -399,10 +380,10 @@ module _ (signals : List SignalForm) (s : ℕ) (inside : s < length signals) whe
 
   module _ (pieces : List PieceForm) (right : TypedTree) (settled_right : Settled signals s right)
       (some : IsTrue (list_any (λ (piece : PieceForm). piece.signal == s) pieces))
-      (p : Path) (r : Route) (same : Matches p r) (wants : IsTrue r.wants) where
+      (p : Path) (r : RouteForm) (same : Matches p r) (wants : IsTrue r.wants) where
     -- a condition before each of some ways
     ways_under : (step : StepForm) → Settled signals s step.condition
-        → (found : List Way) (rs : List Route)
+        → (found : List Way) (rs : List RouteForm)
         → AllMatch (map (with_way signals s pieces right p) found) rs
         → AllMatch (map (with_way signals s pieces right p) (map (way_under step) found))
         (map (behind step) rs)
@@ -469,7 +450,7 @@ module _ (signals : List SignalForm) (s : ℕ) (inside : s < length signals) whe
 
   -- the paths before a statement are the routes before it
   pub before_match : (statement : FlatStatement) → IsTrue (statement_sound signals statement)
-      → (p : Path) (r : Route) → Matches p r
+      → (p : Path) (r : RouteForm) → Matches p r
       → AllMatch (before signals s statement p) (routes_before signals s statement r)
   before_match nothing sound p r same = one_match p r same
   before_match (after first second) sound p r same =
@@ -525,7 +506,7 @@ module _ (signals : List SignalForm) (s : ℕ) (inside : s < length signals) whe
       (before_match second (second_of (well_formed signals condition
       && statement_sound signals first) (statement_sound signals second) sound) p r same))))
     where
-      by_test : (c : Bool) (ps : List Path) (rs : List Route) → AllMatch ps rs
+      by_test : (c : Bool) (ps : List Path) (rs : List RouteForm) → AllMatch ps rs
           → AllMatch (cond c ps (p ∷ [])) (cond c rs (r ∷ []))
       by_test true ps rs all = all
       by_test false ps rs all = one_match p r same

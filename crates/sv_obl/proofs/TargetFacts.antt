@@ -16,45 +16,45 @@ use Rattle.sv_flat.specs.Clocks.{processes_of}
 use Rattle.sv_flat.specs.Processes.{drivers, is_clocked}
 use Rattle.sv_flat.specs.SignalLists.{driver_of}
 use Rattle.sv_obl.specs.declared.queries.Query.{Query}
-use Rattle.sv_obl.specs.declared.trails.Trail.{Trail}
-use Rattle.sv_obl.specs.Answers.{target_excess, excess_at}
+use Rattle.sv_obl.specs.declared.routes.Route.{Route}
+use Rattle.sv_obl.specs.Answers.{excess_at}
 use Rattle.sv_obl.specs.Limits.{Excess, many_paths, large_path, many_obligations, target_paths}
 use Rattle.sv_obl.specs.Obligations.{Obligation, path_obligation, target_obligations}
 use Rattle.sv_obl.specs.Paths.{Path, paths}
-use Rattle.sv_obl.specs.Routes.{Route, open_route, routes_before, route_obligation}
-use Rattle.sv_obl.specs.Routes.{names_on}
-use Rattle.sv_obl.specs.Trails.{route_of, routes_of}
+use Rattle.sv_obl.specs.Routes.{RouteForm, open_route, routes_before, route_obligation}
+use Rattle.sv_obl.specs.Routes.{names_on, target_excess}
+use Rattle.sv_obl.specs.RouteViews.{route_form, route_forms}
 use Rattle.sv_obl.specs.Views.{obligation_of}
 use Rattle.sv_obl.proofs.OneDriver.{no_driver, one_driver_at}
 use Rattle.sv_obl.proofs.RouteObligations.{target_is, target_large, target_count}
 use Rattle.sv_obl.proofs.RouteObligations.{target_below}
 
 -- the obligation of one more path
-pub next_query : (become : Route → Obligation) (trails : List Trail) (i : ℕ) (x : Trail)
-    → i < length trails → x ≡ get_or trails i x
+pub next_query : (become : RouteForm → Obligation) (routes : List Route) (i : ℕ) (x : Route)
+    → i < length routes → x ≡ get_or routes i x
     → (queries new : List Query) (q : Query) (whole : List Obligation)
-    → new ≡ queries ++ q ∷ [] → obligation_of q ≡ become (route_of x)
-    → map obligation_of queries ++ map become (routes_of (drop i trails)) ≡ whole
-    → map obligation_of new ++ map become (routes_of (drop (i + 1) trails)) ≡ whole
-next_query become trails i x inside is queries new q whole gains same here =
-    ap (λ qs. map obligation_of qs ++ map become (routes_of (drop (i + 1) trails))) gains
-    ∙ ap (λ os. os ++ map become (routes_of (drop (i + 1) trails)))
+    → new ≡ queries ++ q ∷ [] → obligation_of q ≡ become (route_form x)
+    → map obligation_of queries ++ map become (route_forms (drop i routes)) ≡ whole
+    → map obligation_of new ++ map become (route_forms (drop (i + 1) routes)) ≡ whole
+next_query become routes i x inside is queries new q whole gains same here =
+    ap (λ qs. map obligation_of qs ++ map become (route_forms (drop (i + 1) routes))) gains
+    ∙ ap (λ os. os ++ map become (route_forms (drop (i + 1) routes)))
     (map-append obligation_of queries (q ∷ []))
     ∙ append_assoc (map obligation_of queries) (obligation_of q ∷ [])
-    (map become (routes_of (drop (i + 1) trails)))
-    ∙ ap₂ (λ o k. map obligation_of queries ++ o ∷ map become (routes_of (drop k trails)))
+    (map become (route_forms (drop (i + 1) routes)))
+    ∙ ap₂ (λ o k. map obligation_of queries ++ o ∷ map become (route_forms (drop k routes)))
     same (add-one i)
     ∙ ap (λ t. map obligation_of queries
-    ++ become (route_of t) ∷ map become (routes_of (drop (suc i) trails))) is
-    ∙ ap (λ ts. map obligation_of queries ++ map become (routes_of ts))
-    (sym (drop-cons trails i x inside))
+    ++ become (route_form t) ∷ map become (route_forms (drop (suc i) routes))) is
+    ∙ ap (λ ts. map obligation_of queries ++ map become (route_forms ts))
+    (sym (drop-cons routes i x inside))
     ∙ here
 
-pub trail_among : (trails : List Trail) (i : ℕ) (x : Trail) → i < length trails
-    → x ≡ get_or trails i x → Contains (routes_of trails) (route_of x)
-trail_among trails i x inside is =
-    Contains-map route_of trails x
-    (subst (Contains trails) (sym is) (Contains-get_or trails i x inside))
+pub route_there : (routes : List Route) (i : ℕ) (x : Route) → i < length routes
+    → x ≡ get_or routes i x → Contains (route_forms routes) (route_form x)
+route_there routes i x inside is =
+    Contains-map route_form routes x
+    (subst (Contains routes) (sym is) (Contains-get_or routes i x inside))
 
 pub length_mapped : {X Y : Type 0} (f : X → Y) (xs : List X) → length (map f xs) ≡ length xs
 length_mapped f [] = refl
@@ -124,7 +124,7 @@ module _ (design : FlatDesign) (is_sound : IsTrue (sound design)) (admitted : Is
 
   module _ (k : ℕ) (p : ProcessForm) (driven : driver_of design s ≡ Some k)
       (there : get_or (processes_of design) k p ≡ p) where
-    abbrev routes : List Route
+    abbrev routes : List RouteForm
     routes = routes_before design.signals s p.body open_route
 
     at : Contains (processes_of design) p
@@ -154,6 +154,6 @@ module _ (design : FlatDesign) (is_sound : IsTrue (sound design)) (admitted : Is
         ∙ append-nil (map (path_obligation [] design p s) (paths design.signals s p.kind p.body))
         ∙ target_is design p s inside is_sound admitted at)
 
-    pub names_within : (route : Route) → Contains routes route
+    pub names_within : (route : RouteForm) → Contains routes route
         → All (λ t. t < length design.signals) (names_on (is_clocked p.kind) s route)
     names_within = target_below design p s inside is_sound admitted at

@@ -5,20 +5,16 @@ use Rattle.std.proofs.Common.{List, [], ◌∷◌, ◌++◌, length, map, flat_m
 use Rattle.std.proofs.Common.{Err}
 use Rattle.std.proofs.Common.{Result, IsErrAnd, refl, sym, ap, ap₂, subst, ◌∙◌, arith, ltb-false}
 use Rattle.std.proofs.Common.{length-append, add-one, append-nil, append_assoc, zero-add}
-use Rattle.std.specs.Global.{Vec}
 use Rattle.std.specs.List.{list_any, range_with_len}
 use Rattle.std.proofs.lemmas.List.Concat.{flat_map-append}
 use Rattle.sv_flat.specs.Design.{FlatDesign}
-use Rattle.sv_obl.specs.declared.queries.Query.{Query}
 use Rattle.sv_obl.specs.declared.faults.OblFault.{OblFault}
 use Rattle.sv_obl.specs.declared.faults.OblFault.TheVariants.{Paths, Large, Many, OutOfMemory}
-use Rattle.sv_obl.specs.Answers.{excess_at, Told, ListsTargets}
+use Rattle.sv_obl.specs.Answers.{excess_at, Told}
 use Rattle.sv_obl.specs.Limits.{Excess, many_paths, large_path, many_obligations, target_paths}
-use Rattle.sv_obl.specs.Limits.{first_excess, excess}
-use Rattle.sv_obl.specs.Obligations.{Obligation, target_obligations}
+use Rattle.sv_obl.specs.Limits.{first_excess}
+use Rattle.sv_obl.specs.Obligations.{Obligation}
 use Rattle.sv_obl.specs.Paths.{Path}
-use Rattle.sv_obl.specs.Views.{obligation_of}
-use Rattle.sv_obl.proofs.TargetFacts.{length_mapped, obligation_count}
 
 -- ---- numbers in order
 
@@ -112,61 +108,8 @@ module _ (design : FlatDesign) where
         (first_excess design (total + count) rest) many_obligations h
     told_at OutOfMemory h = tt
 
-  -- ---- the walk
-
-  -- the targets below i are listed, and the rest passes the limit that all pass
-  pub record SoFar (i : ℕ) (queries : List Query) : Type 0 where
-    pub listed : map obligation_of queries
-        ≡ flat_map (target_obligations [] design) (range_with_len 0 i)
-    pub rest : first_excess design (length queries) (range_with_len i (n - i)) ≡ excess design
-    pub few : length queries ≤ 65536
-
   pub range_at : (i : ℕ) → i < n →
       range_with_len i (n - i) ≡ i ∷ range_with_len (i + 1) (n - (i + 1))
   range_at i inside =
       let same : n - i ≡ suc (n - (i + 1)) = omega arith in
       ap (range_with_len i) same
-
-  pub more : (i : ℕ) (queries new : List Query) → i < n → SoFar i queries
-      → excess_at design (length queries) i ≡ None
-      → map obligation_of new ≡ map obligation_of queries ++ target_obligations [] design i
-      → SoFar (i + 1) new
-  more i queries new inside so none gains =
-      let total = length queries in
-      let rest = range_with_len (i + 1) (n - (i + 1)) in
-      let by = none_at total i rest none in
-      let many : length new ≡ total + length (target_paths design i) =
-      sym (length_mapped obligation_of new) ∙ ap length gains
-      ∙ length-append (map obligation_of queries) (target_obligations [] design i)
-      ∙ ap₂ (λ a b. a + b) (length_mapped obligation_of queries) (obligation_count design i) in
-      record {
-        listed =
-            gains
-            ∙ ap (λ os. os ++ target_obligations [] design i) so.listed
-            ∙ ap (λ os. flat_map (target_obligations [] design) (range_with_len 0 i) ++ os)
-            (sym (append-nil (target_obligations [] design i)))
-            ∙ sym (flat_map-append (target_obligations [] design) (range_with_len 0 i) (i ∷ []))
-            ∙ ap (flat_map (target_obligations [] design)) (sym (range_more 0 i
-            ∙ ap (λ k. range_with_len 0 i ++ k ∷ []) (zero-add i)))
-            ∙ ap (λ k. flat_map (target_obligations [] design) (range_with_len 0 k))
-            (sym (add-one i));
-        rest =
-            ap (λ k. first_excess design k rest) many
-            ∙ sym by.1
-            ∙ ap (first_excess design total) (sym (range_at i inside))
-            ∙ so.rest;
-        few = subst (λ k. k ≤ 65536) (sym many) by.0;
-      }
-
-  pub told_so_far : (i : ℕ) (queries : List Query) → i < n → SoFar i queries → (fault : OblFault)
-      → Told (excess_at design (length queries) i) fault → Told (excess design) fault
-  told_so_far i queries inside so fault h =
-      subst (λ e. Told e fault)
-      (ap (first_excess design (length queries)) (sym (range_at i inside)) ∙ so.rest)
-      (told_at (length queries) i (range_with_len (i + 1) (n - (i + 1))) fault h)
-
-  pub fails_targets : (fault : OblFault) (result : Result (Vec Query) OblFault)
-      → IsErrAnd result (λ y. y ≡ fault) → Told (excess design) fault
-      → ListsTargets design result
-  fails_targets fault (Ok queries) same h = elim same [ ]
-  fails_targets fault (Err y) same h = subst (Told (excess design)) (sym same) h

@@ -1,35 +1,36 @@
 -- Lines of obligations, one after the other.
 use Rattle.std.proofs.Common.{◌≡◌, ℕ, zero, suc, ◌+◌, ◌-◌, ◌<◌, ◌≤◌, List, [], ◌∷◌, ◌++◌, length}
 use Rattle.std.proofs.Common.{map, flat_map, take, get_or, All, Some, None, Result, Ok, Err}
-use Rattle.std.proofs.Common.{refl, sym, ap, subst, ◌∙◌, arith, append_assoc, append-nil}
+use Rattle.std.proofs.Common.{refl, sym, ap, ap₂, subst, ◌∙◌, arith, append_assoc, append-nil}
 use Rattle.std.proofs.Common.{length-append, IsErrAnd, Bool, true, false, cond, nat_lt, ltb-false}
 use Rattle.std.specs.Prelude.{IsTrue, IfErr}
 use Rattle.std.specs.List.{range_with_len, list_any}
 use Rattle.std.proofs.lemmas.List.{map-append, take_more}
 use Rattle.std.proofs.lemmas.List.Elements.{All-head, All-tail}
-use Rattle.sv_flat.specs.Admission.{IsAdmitted}
 use Rattle.sv_flat.specs.Design.{SignalForm, ProcessForm, FlatDesign}
 use Rattle.sv_flat.specs.Processes.{is_clocked, signal_numbers}
 use Rattle.sv_flat.specs.Sets.{holds, those}
-use Rattle.sv_flat.specs.Soundness.{sound}
 use Rattle.sv_flat.proofs.LeastSets.{those_below}
-use Rattle.sv_flat.proofs.Members.{Contains-right}
 use Rattle.sv_obl.specs.declared.faults.OblFault.{OblFault}
 use Rattle.sv_obl.specs.declared.list_texts.Lines.{Lines}
-use Rattle.sv_obl.specs.declared.trails.Trail.{Trail}
-use Rattle.sv_obl.specs.Answers.{is_large, target_excess, Told, excess_at}
+use Rattle.sv_obl.specs.declared.queries.Query.{Query}
+use Rattle.sv_obl.specs.declared.routes.Route.{Route}
+use Rattle.sv_obl.specs.Answers.{Told, excess_at}
 use Rattle.sv_obl.specs.DesignQueries.{IsQueryOf}
+use Rattle.sv_obl.specs.Driven.{HasPaths}
+use Rattle.sv_obl.specs.declared.targets.Driven.{Driven}
+use Rattle.sv_flat.specs.Views.{process_form}
 use Rattle.sv_obl.specs.Limits.{Excess, many_paths, large_path, many_obligations}
 use Rattle.sv_obl.specs.Limits.{first_excess, excess, target_paths}
 use Rattle.sv_obl.specs.ListLines.{list_line, lines_from, list_text}
 use Rattle.sv_obl.specs.Obligations.{Obligation, target_obligations, selector_obligations}
 use Rattle.sv_obl.specs.Obligations.{obligations}
-use Rattle.sv_obl.specs.Routes.{Route, names_on, route_obligation}
-use Rattle.sv_obl.specs.Trails.{route_of, routes_of}
-use Rattle.sv_obl.specs.Views.{IsAmong}
+use Rattle.sv_obl.specs.Routes.{RouteForm, names_on, route_obligation, is_large, target_excess}
+use Rattle.sv_obl.specs.RouteViews.{route_form, route_forms}
+use Rattle.sv_obl.specs.Views.{obligation_of, IsAmong}
 use Rattle.sv_obl.specs.ListParts.{obligations_before, obligations_from, lines_left, AreCounted}
-use Rattle.sv_obl.specs.Written.{Writes, CountsTargets}
-use Rattle.sv_obl.proofs.DesignQueryFacts.{all_are, query_among}
+use Rattle.sv_obl.specs.Written.{Writes}
+use Rattle.sv_obl.proofs.DesignQueryFacts.{query_among}
 use Rattle.sv_flat.proofs.Members.{all_contained, contained_all}
 use Rattle.sv_obl.proofs.TargetFacts.{length_mapped, obligation_count}
 use Rattle.sv_obl.proofs.TargetWalks.{next_number, range_at, none_at, told_at}
@@ -57,13 +58,13 @@ formed_more f xs i x inside is =
     ∙ map-append f (take i xs) (get_or xs i x ∷ [])
     ∙ ap (λ y. map f (take i xs) ++ f y ∷ []) (sym is)
 
-pub routes_more : (become : Route → Obligation) (trails : List Trail) (i : ℕ) (x : Trail)
-    → i < length trails → x ≡ get_or trails i x
-    → map become (routes_of (take (i + 1) trails))
-    ≡ map become (routes_of (take i trails)) ++ become (route_of x) ∷ []
-routes_more become trails i x inside is =
-    ap (map become) (formed_more route_of trails i x inside is)
-    ∙ map-append become (routes_of (take i trails)) (route_of x ∷ [])
+pub routes_more : (become : RouteForm → Obligation) (routes : List Route) (i : ℕ) (x : Route)
+    → i < length routes → x ≡ get_or routes i x
+    → map become (route_forms (take (i + 1) routes))
+    ≡ map become (route_forms (take i routes)) ++ become (route_form x) ∷ []
+routes_more become routes i x inside is =
+    ap (map become) (formed_more route_form routes i x inside is)
+    ∙ map-append become (route_forms (take i routes)) (route_form x ∷ [])
 
 -- those before a place are as many as its number
 count_before : {X : Type 0} (xs : List X) (i : ℕ) → i < length xs → length (take i xs) ≡ i
@@ -141,20 +142,20 @@ module _ (signals : List SignalForm) where
       let before = count_before xs i inside in
       omega arith
 
-  pub fewer_routes : (become : Route → Obligation) (trails : List Trail) (i most : ℕ)
-      (a b : Lines) → i < length trails → a.count + length trails ≤ most
-      → Writes signals (map become (routes_of (take i trails))) a b → b.count < most
-  fewer_routes become trails i most a b inside few w =
+  pub fewer_routes : (become : RouteForm → Obligation) (routes : List Route) (i most : ℕ)
+      (a b : Lines) → i < length routes → a.count + length routes ≤ most
+      → Writes signals (map become (route_forms (take i routes))) a b → b.count < most
+  fewer_routes become routes i most a b inside few w =
       let counted = w.count in
-      let mapped = length_mapped become (routes_of (take i trails)) in
-      let formed = length_mapped route_of (take i trails) in
-      let before = count_before trails i inside in
+      let mapped = length_mapped become (route_forms (take i routes)) in
+      let formed = length_mapped route_form (take i routes) in
+      let before = count_before routes i inside in
       omega arith
 
 -- ---- obligations
 
 -- the obligation of a route is among the signals
-pub route_among : (n : ℕ) (p : ProcessForm) (s : ℕ) (route : Route) → s < n
+pub route_among : (n : ℕ) (p : ProcessForm) (s : ℕ) (route : RouteForm) → s < n
     → IsAmong n (route_obligation n p s route)
 route_among n p s route inside = record {
   reads = contained_all (λ t. t < n)
@@ -170,16 +171,15 @@ module _ (design : FlatDesign) where
   abbrev pub selectors : List Obligation
   selectors = flat_map (selector_obligations [] design) (signal_numbers design)
 
-  pub selectors_among : IsTrue (sound design) → IsAdmitted design
-      → All (IsAmong (length design.signals)) selectors
-  selectors_among is_sound admitted =
-      contained_all (IsAmong (length design.signals)) selectors (λ o at.
-      query_among design o (all_contained (IsQueryOf design) (obligations [] design)
-      (all_are design is_sound admitted) o (Contains-right targets selectors o at)))
+  pub among_all : (os : List Obligation) → All (IsQueryOf design) os
+      → All (IsAmong (length design.signals)) os
+  among_all os all =
+      contained_all (IsAmong (length design.signals)) os (λ o at.
+      query_among design o (all_contained (IsQueryOf design) os all o at))
 
   -- ---- the walk
 
-  next_before : (i : ℕ) → obligations_before design (i + 1)
+  pub next_before : (i : ℕ) → obligations_before design (i + 1)
       ≡ obligations_before design i ++ target_obligations [] design i
   next_before i = sym (next_number (target_obligations [] design) []
       (obligations_before design i)
@@ -222,6 +222,23 @@ module _ (design : FlatDesign) where
         few = subst (λ k. k ≤ 65536) (sym many) by.0;
       }
 
+  -- a target has as many obligations as paths
+  pub paths_many : (i total : ℕ) (driven : Driven) → HasPaths design i total driven
+      → total + length driven.routes.items ≡ total + length (target_obligations [] design i)
+  paths_many i total driven has =
+      let become = route_obligation (length design.signals) (process_form driven.process.now) i in
+      ap (λ n. total + n)
+      (sym (length_mapped route_form driven.routes.items)
+      ∙ sym (length_mapped become (route_forms driven.routes.items)) ∙ ap length has.listed)
+
+  -- and none where no process drives it
+  pub no_paths : (i total : ℕ) → target_obligations [] design i ≡ []
+      → total ≡ total + length (target_obligations [] design i)
+  no_paths i total none = plain total ∙ ap (λ (os : List Obligation). total + length os) (sym none)
+    where
+      plain : (n : ℕ) → n ≡ n + 0
+      plain n = omega arith
+
   pub told_counted : (i total : ℕ) → i < length design.signals
       → AreCounted design i total → (fault : OblFault)
       → Told (excess_at design total i) fault → Told (excess design) fault
@@ -231,17 +248,24 @@ module _ (design : FlatDesign) where
       (told_at design total i (range_with_len (i + 1) (length design.signals - (i + 1)))
       fault h)
 
-  pub fails_counted : (fault : OblFault) (result : Result ℕ OblFault)
-      → IsErrAnd result (λ y. y ≡ fault) → Told (excess design) fault
-      → CountsTargets design result
-  fails_counted fault (Ok total) same h = elim same [ ]
-  fails_counted fault (Err y) same h = subst (Told (excess design)) (sym same) h
-
   pub tells_error : {T : Type 0} (fault : OblFault) (result : Result T OblFault)
       → IsErrAnd result (λ y. y ≡ fault) → Told (excess design) fault
       → IfErr result (Told (excess design))
   tells_error fault (Ok x) same h = tt
   tells_error fault (Err y) same h = subst (Told (excess design)) (sym same) h
+
+  -- the obligations of all targets, and of selectors, are all
+  pub before_all : obligations_before design (length design.signals) ++ selectors
+      ≡ obligations [] design
+  before_all = refl
+
+  -- and as many
+  pub all_many : (total : ℕ) (queries : List Query)
+      → AreCounted design (length design.signals) total → map obligation_of queries ≡ selectors
+      → total + length queries ≡ length (obligations [] design)
+  all_many total queries so are =
+      ap₂ (λ a b. a + b) so.count (sym (length_mapped obligation_of queries) ∙ ap length are)
+      ∙ sym (length-append (obligations_before design (length design.signals)) selectors)
 
   -- where selectors pass no limit after the targets, the design passes none
   pub all_counted : (total : ℕ) → AreCounted design (length design.signals) total
@@ -251,6 +275,37 @@ module _ (design : FlatDesign) where
       (nothing_left (length design.signals)) ∙ so.rest
 
   -- ---- the parts
+
+  -- those of a target come before those from the next one on
+  pub from_next : (i : ℕ) → i < length design.signals
+      → obligations_from design i ≡ target_obligations [] design i ++ obligations_from design (i + 1)
+  from_next i inside =
+      let here = target_obligations [] design i in
+      let after = range_with_len (i + 1) (length design.signals - (i + 1)) in
+      ap (λ ks. flat_map (target_obligations [] design) ks ++ selectors) (range_at design i inside)
+      ∙ append_assoc here (flat_map (target_obligations [] design) after) selectors
+
+  -- all obligations are those from the first target on
+  pub all_from_first : obligations_from design 0 ≡ obligations [] design
+  all_from_first =
+      ap (λ k. flat_map (target_obligations [] design) (range_with_len 0 k) ++ selectors)
+      (whole (length design.signals))
+
+  -- and those before a target with those from it on
+  pub before_and_from : (i : ℕ) → i ≤ length design.signals
+      → obligations_before design i ++ obligations_from design i ≡ obligations [] design
+  before_and_from zero inside = all_from_first
+  before_and_from (suc i) inside =
+      let here = target_obligations [] design i in
+      subst (λ k. obligations_before design k ++ obligations_from design k
+      ≡ obligations [] design) (next i)
+      (ap (λ os. os ++ obligations_from design (i + 1)) (next_before i)
+      ∙ append_assoc (obligations_before design i) here (obligations_from design (i + 1))
+      ∙ ap (λ os. obligations_before design i ++ os) (sym (from_next i (omega arith)))
+      ∙ before_and_from i (omega arith))
+    where
+      next : (k : ℕ) → k + 1 ≡ suc k
+      next k = omega arith
 
   -- all lines are left before the first target
   pub all_left : lines_left design 0 ≡ list_text design
@@ -267,15 +322,11 @@ module _ (design : FlatDesign) where
   target_left i total text inside so written =
       let here = target_obligations [] design i in
       let before = obligations_before design i in
-      let after = range_with_len (i + 1) (length design.signals - (i + 1)) in
       let rest = obligations_from design (i + 1) in
-      let all : obligations_from design i ≡ here ++ rest =
-      ap (λ ks. flat_map (target_obligations [] design) ks ++ selectors) (range_at design i inside)
-      ∙ append_assoc here (flat_map (target_obligations [] design) after) selectors in
       let many : length before + 1 + length here ≡ length (obligations_before design (i + 1)) + 1 =
       turned (length before) (length here)
       ∙ ap (λ k. k + 1) (sym (length-append before here) ∙ ap length (sym (next_before i))) in
-      ap (lines_from design.signals (length before + 1)) all
+      ap (lines_from design.signals (length before + 1)) (from_next i inside)
       ∙ lines_append design.signals (length before + 1) here rest
       ∙ ap (λ k. lines_from design.signals (length before + 1) here
       ++ lines_from design.signals k rest) many
@@ -318,11 +369,11 @@ third_is_false false false true x y z h = absurd (no_some z h)
     no_some x e = cc
 third_is_false false false false x y z h = refl
 
-pub few_routes : (s total : ℕ) (routes : List Route) (trails : List Trail)
-    → target_excess s total routes ≡ None → routes_of trails ≡ routes
-    → total + length trails ≤ 65536
-few_routes s total routes trails none are =
-    let few = ltb-false 65536 (total + length routes)
-    (third_is_false (nat_lt 4096 (length routes)) (list_any is_large routes)
-    (nat_lt 65536 (total + length routes)) (many_paths s) (large_path s) many_obligations none) in
-    subst (λ n. total + n ≤ 65536) (sym (ap length are) ∙ length_mapped route_of trails) few
+pub few_routes : (s total : ℕ) (forms : List RouteForm) (routes : List Route)
+    → target_excess s total forms ≡ None → route_forms routes ≡ forms
+    → total + length routes ≤ 65536
+few_routes s total forms routes none are =
+    let few = ltb-false 65536 (total + length forms)
+    (third_is_false (nat_lt 4096 (length forms)) (list_any is_large forms)
+    (nat_lt 65536 (total + length forms)) (many_paths s) (large_path s) many_obligations none) in
+    subst (λ n. total + n ≤ 65536) (sym (ap length are) ∙ length_mapped route_form routes) few

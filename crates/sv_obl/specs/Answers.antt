@@ -1,16 +1,15 @@
 -- What the calls answer to the limits (`Told`, `Answers`, `Lists`), and how the walk through all
 -- targets comes to it. Which obligations a design has stands in `Obligations`, and how many it may
 -- have in `Limits`.
-use Rattle.std.specs.Prelude.{◌≡◌, ℕ, ◌+◌, Bool, nat_lt, if◌then◌else◌, List, [], length, map}
-use Rattle.std.specs.Prelude.{filter, flat_map, not}
+use Rattle.std.specs.Prelude.{◌≡◌, ℕ, ◌+◌, nat_lt, if◌then◌else◌, List, [], length, map, filter}
+use Rattle.std.specs.Prelude.{not}
 use Rattle.std.specs.Prelude.{Option, Some, None, Result, Ok, Err}
 use Rattle.std.specs.List.{list_any}
 use Rattle.std.specs.Global.{Vec}
-use Rattle.sv_flat.specs.Processes.{signal_numbers}
 use Rattle.sv_obl.specs.declared.queries.Query.{Query}
 use Rattle.sv_lattice.specs.Labels.{map_of}
 use Rattle.sv_flat.specs.Values.{signal_of}
-use Rattle.sv_obl.specs.Obligations.{Obligation, target_obligations, obligations}
+use Rattle.sv_obl.specs.Obligations.{Obligation, obligations}
 use Rattle.sv_flat.specs.Selectors.{flows_to_rows, rows_of, selectors_of}
 use Rattle.sv_obl.specs.Obligations.{selector_obligation}
 use Rattle.sv_lattice.specs.declared.labels.Label.{Label}
@@ -19,33 +18,20 @@ use Rattle.sv_obl.specs.declared.faults.OblFault.{OblFault}
 use Rattle.sv_obl.specs.declared.faults.OblFault.TheVariants.{Paths, Large, Many, OutOfMemory}
 use Rattle.sv_flat.specs.Design.{FlatDesign}
 use Rattle.sv_obl.specs.Paths.{Path}
-use Rattle.sv_obl.specs.Limits.{target_paths, first_excess, excess}
+use Rattle.sv_obl.specs.Limits.{target_paths, excess}
 use Rattle.sv_obl.specs.Limits.{Excess, many_paths, large_path, many_obligations}
-use Rattle.sv_obl.specs.Routes.{Route}
 
--- over 65,536 nodes are put into the path
-abbrev pub is_large : Route → Bool
-is_large route = nat_lt 65536 route.nodes
-
--- the limit that a target passes with its routes, after so many obligations
-abbrev pub target_excess : (target total : ℕ) → List Route → Option Excess
-target_excess s total routes =
-    if nat_lt 4096 (length routes) then Some (many_paths s)
-    else if list_any is_large routes then Some (large_path s)
-    else if nat_lt 65536 (total + length routes) then Some many_obligations
-    else None
-
--- the fault tells of the limit that is passed
+-- the fault tells of the limit that is exceeded
 abbrev pub Told : Option Excess → OblFault → Type 0
-Told passed (Paths s) = passed ≡ Some (many_paths s.0)
-Told passed (Large s) = passed ≡ Some (large_path s.0)
-Told passed Many = passed ≡ Some many_obligations
-Told passed OutOfMemory = Unit {0}
+Told exceeded (Paths s) = exceeded ≡ Some (many_paths s.0)
+Told exceeded (Large s) = exceeded ≡ Some (large_path s.0)
+Told exceeded Many = exceeded ≡ Some many_obligations
+Told exceeded OutOfMemory = Unit {0}
 
--- an answer where no limit is passed, else a fault that tells of it; memory may run out always
+-- an answer where no limit is exceeded, else a fault that tells of it; memory may run out always
 abbrev pub Answers : {T : Type 0} → Option Excess → Result T OblFault → Type 0
-Answers passed (Ok x) = passed ≡ None
-Answers passed (Err fault) = Told passed fault
+Answers exceeded (Ok x) = exceeded ≡ None
+Answers exceeded (Err fault) = Told exceeded fault
 
 -- ---- designs
 
@@ -58,15 +44,7 @@ excess_at design total s =
     else if nat_lt 65536 (total + length found) then Some many_obligations
     else None
 
--- those of all targets, where selectors are left to ask
-abbrev pub ListsTargets : FlatDesign → Result (Vec Query) OblFault → Type 0
-ListsTargets design (Ok queries) =
-    (map obligation_of queries.items
-    ≡ flat_map (target_obligations [] design) (signal_numbers design))
-    × (first_excess design (length queries.items) [] ≡ excess design)
-ListsTargets design (Err fault) = Told (excess design) fault
-
--- exactly the obligations of the design where it passes no limit, else the limit that it passes
+-- exactly the obligations of the design where it exceeds no limit, else the limit that it exceeds
 abbrev pub Lists : FlatDesign → Result (Vec Query) OblFault → Type 0
 Lists design (Ok queries) =
     (map obligation_of queries.items ≡ obligations [] design) × (excess design ≡ None)

@@ -1,8 +1,9 @@
 pub mod Answers
-pub mod Cuts
+pub mod BodySlices
 pub mod DesignQueries
 pub mod Driven
 pub mod Exchange
+pub mod IndexedStatements
 pub mod Limits
 pub mod ListLines
 pub mod ListParts
@@ -12,11 +13,11 @@ pub mod Noninterference
 pub mod Obligations
 pub mod PathValues
 pub mod Paths
+pub mod RouteViews
 pub mod Routes
-pub mod Shorts
-pub mod Trails
+pub mod SliceRoutes
 pub mod Validity
 pub mod Valuations
-pub mod Wanted
 pub mod Views
+pub mod Wanted
 pub mod Written

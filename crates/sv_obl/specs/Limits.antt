@@ -8,7 +8,7 @@ use Rattle.sv_flat.specs.Clocks.{processes_of}
 use Rattle.sv_obl.specs.Paths.{Path, paths}
 use Rattle.sv_obl.specs.Obligations.{selector_obligations}
 
--- what passes a limit
+-- what exceeds a limit
 pub data Excess : Type 0 where
   -- rule 702: over 4,096 paths of the target
   many_paths : (target : ℕ) → Excess
@@ -22,7 +22,7 @@ target_paths design s =
     flat_map (λ (p : ProcessForm).
     paths design.signals s p.kind p.body) (drivers (processes_of design) s)
 
--- The first limit that is passed by the targets, where those before them have so many obligations:
+-- The first limit that is exceeded by the targets, where those before them have so many obligations:
 -- for each target 702 is asked first, then 712, then the sum; the obligations of selectors come
 -- last.
 abbrev pub first_excess : FlatDesign → (obligations : ℕ) → (targets : List ℕ) → Option Excess
@@ -38,6 +38,6 @@ first_excess design total (s ∷ targets) =
     else if nat_lt 65536 (total + length found) then Some many_obligations
     else first_excess design (total + length found) targets
 
--- the limit that a design passes, if it passes one
+-- the limit that a design exceeds, if it exceeds one
 abbrev pub excess : FlatDesign → Option Excess
 excess design = first_excess design 0 (signal_numbers design)

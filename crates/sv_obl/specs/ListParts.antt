@@ -1,5 +1,5 @@
--- What `secv list` prints, part by part: the lines of one target after the other, and then those of
--- selectors.
+-- The obligations of a design, part by part: those of one target after the other, and then those of
+-- selectors; and what `secv list` prints of them.
 use Rattle.std.specs.Prelude.{◌≡◌, ◌≤◌, ℕ, ◌+◌, ◌-◌, List, ◌++◌, [], length, flat_map}
 use Rattle.std.specs.List.{range_with_len}
 use Rattle.sv_flat.specs.Clocks.{processes_of}
@@ -9,7 +9,7 @@ use Rattle.sv_obl.specs.declared.list_parts.Listing.{Listing}
 use Rattle.sv_obl.specs.Limits.{first_excess, excess}
 use Rattle.sv_obl.specs.ListLines.{lines_from}
 use Rattle.sv_obl.specs.Obligations.{Obligation, target_obligations, selector_obligations}
-use Rattle.sv_obl.specs.Shorts.{AreShort}
+use Rattle.sv_obl.specs.IndexedStatements.{AreIndexed}
 
 -- the obligations of the targets before this one
 abbrev pub obligations_before : FlatDesign → (target : ℕ) → List Obligation
@@ -27,7 +27,8 @@ lines_left design i =
     lines_from design.signals (length (obligations_before design i) + 1)
     (obligations_from design i)
 
--- the targets before this one have so many obligations, and the rest passes the limit that all pass
+-- the targets before this one have so many obligations, and the rest exceeds the limit that all
+-- exceed
 pub record AreCounted (design : FlatDesign) (target total : ℕ) : Type 0 where
   pub count : total ≡ length (obligations_before design target)
   pub rest :
@@ -37,5 +38,5 @@ pub record AreCounted (design : FlatDesign) (target total : ℕ) : Type 0 where
 
 -- this target comes next
 pub record IsAt (design : FlatDesign) (target : ℕ) (listing : Listing) : Type 0 where
-  pub shorts : AreShort (processes_of design) listing.shorts.items
+  pub bodies : AreIndexed (processes_of design) listing.bodies.items
   pub counted : AreCounted design target listing.count

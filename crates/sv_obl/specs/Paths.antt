@@ -2,7 +2,7 @@
 -- path predicates of SecVerilog, ASPLOS 2015; statements by IEEE 1364-2005, clause 9).
 use Rattle.std.specs.Prelude.{ℕ, ◌+◌, ◌*◌, sum, Bool, true, false, ◌==◌, ◌&&◌, ◌||◌, if◌then◌else◌}
 use Rattle.std.specs.Prelude.{List, [], ◌∷◌, ◌++◌, length, map, filter, flat_map, slice_get, Option}
-use Rattle.std.specs.Prelude.{Some, None, option_map}
+use Rattle.std.specs.Prelude.{Some, None, is_none, option_map}
 use Rattle.std.specs.List.{list_any, range_with_len}
 use Rattle.sv_num.specs.declared.faults.Place.{Place}
 use Rattle.sv_flat.specs.Design.{SignalForm, TypedTree, typed, read, choice, held, PieceForm}
@@ -115,17 +115,12 @@ puts_in signals pieces e =
     then length (pieces_of (original signals r.signal) pieces) else 0)
     (reads (with_copies signals) e))
 
--- the name is the target's
-abbrev pub is_target : List SignalForm → (target : ℕ) → Option ℕ → Bool
-is_target signals s (Some t) = t == copy_of signals s
-is_target signals s None = false
-
--- how many are put into a path; a right side that covers the target whole is not counted where the
--- result is the target's name by itself
+-- how many are put into a path; a right side that covers the target whole is not counted where
+-- nothing was put for the target yet
 abbrev pub puts_into : List SignalForm → (target : ℕ) → List PieceForm → Path → ℕ
 puts_into signals s pieces path =
     sum (map (λ (step : StepForm). puts_in signals pieces step.condition) path.steps)
-    + (if is_target signals s (name_itself path.result) && covers signals s pieces
+    + (if is_none path.place && covers signals s pieces
     then 0
     else puts_in signals pieces path.result)
 

@@ -1,10 +1,11 @@
--- The paths through a process in which no read is an earlier one: no condition and no right side
--- wants a name, so a path wants its target or nothing. This says only how the code goes; which
--- paths a target has stands in `Paths`.
-use Rattle.std.specs.Prelude.{ℕ, ◌+◌, ◌*◌, min, Bool, true, false, ◌&&◌, not}
+-- Private: how the code goes. The paths through a process in which no read is an earlier one: no
+-- condition and no right side wants a name, so a path wants its target or nothing. Which paths a
+-- target has stands in `Paths`.
+use Rattle.std.specs.Prelude.{ℕ, ◌+◌, ◌*◌, min, Bool, true, false, ◌&&◌, not, nat_lt}
 use Rattle.std.specs.Prelude.{if◌then◌else◌, List, [], ◌∷◌, ◌++◌, length, map, flat_map, fold}
 use Rattle.std.specs.Prelude.{reverse, slice_get, Option, Some, None, is_none, option_map}
 use Rattle.std.specs.BTreeSet.{insert_key}
+use Rattle.std.specs.List.{list_any}
 use Rattle.std.specs.Ordering.{nat_cmp}
 use Rattle.sv_num.specs.declared.faults.Place.{Place}
 use Rattle.sv_flat.specs.Design.{SignalForm, TypedTree, typed, choice, PieceForm, ProcessForm}
@@ -13,6 +14,7 @@ use Rattle.sv_flat.specs.Assigned.{assigns}
 use Rattle.sv_flat.specs.Processes.{is_clocked}
 use Rattle.sv_flat.specs.Sets.{holds, those}
 use Rattle.sv_flat.specs.Readings.{ReadForm, reads}
+use Rattle.sv_obl.specs.Limits.{Excess, many_paths, large_path, many_obligations}
 use Rattle.sv_obl.specs.Nodes.{nodes_in}
 use Rattle.sv_obl.specs.Obligations.{Obligation, flow, is_link, frame_of}
 use Rattle.sv_obl.specs.Paths.{StepForm, pieces_of, covers, later_place}
@@ -20,18 +22,18 @@ use Rattle.sv_obl.specs.Paths.{StepForm, pieces_of, covers, later_place}
 -- A path as far back as statements were taken: its conditions, the last in the text first, the
 -- names in what was put for the target's name and the nodes of that, up to one over the limit, the
 -- place of the last assignment to the target, and whether it is wanted still.
-pub record Route : Type 0 where
+pub record RouteForm : Type 0 where
   pub steps : List StepForm
   pub names : List ℕ
   pub nodes : ℕ
   pub place : Option Place
   pub wants : Bool
 
-abbrev pub open_route : Route
+abbrev pub open_route : RouteForm
 open_route = record { steps = []; names = []; nodes = 0; place = None; wants = true }
 
 -- the route with a condition before it
-abbrev pub behind : StepForm → Route → Route
+abbrev pub behind : StepForm → RouteForm → RouteForm
 behind step route = record {
   steps = route.steps ++ step ∷ [];
   names = route.names;
@@ -41,11 +43,11 @@ behind step route = record {
 }
 
 -- no assignment was taken yet, and this one covers the target whole
-abbrev pub is_all : List SignalForm → (target : ℕ) → List PieceForm → Route → Bool
+abbrev pub is_all : List SignalForm → (target : ℕ) → List PieceForm → RouteForm → Bool
 is_all signals s pieces route = is_none route.place && covers signals s pieces
 
 -- how often a right side counts
-abbrev pub times_put : List SignalForm → (target : ℕ) → List PieceForm → Route → ℕ
+abbrev pub times_put : List SignalForm → (target : ℕ) → List PieceForm → RouteForm → ℕ
 times_put signals s pieces route =
     if is_all signals s pieces route then 0 else length (pieces_of s pieces)
 
@@ -72,7 +74,7 @@ with_nodes nodes count right = min (nodes + count * nodes_in right) 65537
 
 -- the route with a right side put in
 abbrev pub with_put : List SignalForm → (target : ℕ) → List PieceForm → (right : TypedTree) →
-    Route → Route
+    RouteForm → RouteForm
 with_put signals s pieces right route = record {
   steps = route.steps;
   names = with_names route.names right;
@@ -83,7 +85,7 @@ with_put signals s pieces right route = record {
 
 -- those with each of its ways put in
 abbrev pub with_ways : List SignalForm → (target : ℕ) → List PieceForm → (right : TypedTree) →
-    Route → List Route
+    RouteForm → List RouteForm
 with_ways signals s pieces (typed width signed (choice place c a b)) route =
     map (behind (record { place = place; condition = c; truth = true }))
     (with_ways signals s pieces a route)
@@ -93,14 +95,14 @@ with_ways signals s pieces right route = with_put signals s pieces right route �
 
 -- a right side is split where it is put alone
 abbrev pub with_right : List SignalForm → (target : ℕ) → List PieceForm → (right : TypedTree) →
-    Route → List Route
+    RouteForm → List RouteForm
 with_right signals s pieces right route =
     if is_all signals s pieces route
     then with_ways signals s pieces right route
     else with_put signals s pieces right route ∷ []
 
 -- the routes that a route becomes where a statement is taken before it
-abbrev pub routes_before : List SignalForm → (target : ℕ) → FlatStatement → Route → List Route
+abbrev pub routes_before : List SignalForm → (target : ℕ) → FlatStatement → RouteForm → List RouteForm
 routes_before signals s nothing route = route ∷ []
 routes_before signals s (after first second) route =
     flat_map (routes_before signals s first) (routes_before signals s second route)
@@ -120,14 +122,14 @@ routes_before signals s (branch place condition first second) route =
 
 -- All names on a route, in the order of its lists. At the beginning of a clocked block a target
 -- that is wanted still is read.
-abbrev pub names_on : (is_register : Bool) → (target : ℕ) → Route → List ℕ
+abbrev pub names_on : (is_register : Bool) → (target : ℕ) → RouteForm → List ℕ
 names_on is_register s route =
     flat_map (λ (step : StepForm). names_in [] step.condition) route.steps
     ++ route.names
     ++ (if is_register && route.wants then s ∷ [] else [])
 
 -- the obligation of a route through a process, where there are so many signals
-abbrev pub route_obligation : (count : ℕ) → ProcessForm → (target : ℕ) → Route → Obligation
+abbrev pub route_obligation : (count : ℕ) → ProcessForm → (target : ℕ) → RouteForm → Obligation
 route_obligation count process s route = record {
   facts = [];
   path = reverse route.steps;
@@ -135,3 +137,17 @@ route_obligation count process s route = record {
   reads = those count (holds (names_on (is_clocked process.kind) s route));
   goal = flow s (frame_of process.kind);
 }
+
+-- ---- limits
+
+-- over 65,536 nodes are put into the path
+abbrev pub is_large : RouteForm → Bool
+is_large route = nat_lt 65536 route.nodes
+
+-- the limit that a target exceeds with its routes, after so many obligations
+abbrev pub target_excess : (target total : ℕ) → List RouteForm → Option Excess
+target_excess s total routes =
+    if nat_lt 4096 (length routes) then Some (many_paths s)
+    else if list_any is_large routes then Some (large_path s)
+    else if nat_lt 65536 (total + length routes) then Some many_obligations
+    else None

@@ -1,4 +1,4 @@
-// Why there is no list of obligations.
+// The limits on obligations, and why there is no list of them.
 ghost use Rattle.std.specs.Prelude.{◌≡◌};
 ghost use Rattle.sv_obl.specs.declared.faults.WalkFault.TheVariants.{OutOfMemory};
 ghost use Rattle.sv_obl.specs.declared.faults.OblFault.TheVariants as fault;
@@ -6,6 +6,15 @@ ghost use Rattle.sv_obl.specs.declared.faults.OblFault.TheVariants as fault;
 use std::alloc::{AllocError, AllocFailed};
 use sv_flat::SigId;
 use thiserror::Error;
+
+/// How many paths a target may have.
+pub const MOST_PATHS: usize = 4096;
+
+/// How many nodes may be put into one path.
+pub const MOST_NODES: u32 = 65_536;
+
+/// How many obligations a design may have.
+pub const MOST_OBLIGATIONS: usize = 65_536;
 
 /// Why a walk through a process ends early.
 #[derive(Clone, Copy, Debug, PartialEq, Eq, Error)]
@@ -34,7 +43,7 @@ impl<T: Drop> From<AllocFailed<T>> for WalkFault {
     }
 }
 
-/// Why there is no list of obligations.
+/// The limits on obligations, and why there is no list of them.
 #[derive(Clone, Copy, Debug, PartialEq, Eq, Error)]
 pub enum OblFault {
     /// The target has over 4,096 paths.

@@ -13,21 +13,25 @@
 //! `Answers.antt`.
 //!
 //! `obligations` takes an admitted design and gives exactly the list of the definition in its
-//! order, or the first limit that the design passes; `specs/DesignQueries.antt` says what makes an
-//! obligation one of the design's, as each of them is. `check_limits` tells that limit alone, and
-//! `Listing` gives the lines of `secv list` part by part, with no more in memory than the paths of
-//! one target and their lines. Inside, `Routes.antt` tells paths as they are where no read is an
-//! earlier one, `Shorts.antt` statements in short, each part with what it assigns, `Cuts.antt` what
-//! of such a statement is walked for a target, `Trails.antt` ties routes to what is walked,
-//! `Driven.antt` paths to the target whose they are, and `Written.antt` lines to what is written;
-//! those six are private: they say how the code goes; the meaning stands in the files before.
-//! `ListParts.antt` cites `Shorts.antt` for what a `Listing` holds.
+//! order, or the first limit that the design exceeds; `specs/DesignQueries.antt` says what makes an
+//! obligation one of the design's, as each of them is. `check_limits` tells that limit alone, or how
+//! many obligations there are. `Listing` gives the obligations target by target, and the lines of
+//! `secv list`, with no more in memory than the paths of one target and what is made of them.
+//! `Bodies` gives what of a body matters to one target, its slice (`BodySlices.antt`).
+//!
+//! Inside, `Routes.antt` tells paths as they are where no read is an earlier one,
+//! `IndexedStatements.antt` statements in which each part tells what it assigns, `SliceRoutes.antt`
+//! the routes through a slice, `RouteViews.antt` ties routes to what is walked, `Driven.antt` paths
+//! to the target whose they are, and `Written.antt` lines to what is written; those six are private:
+//! they say how the code goes; the meaning stands in the files before. `ListParts.antt` cites
+//! `IndexedStatements.antt` for what a `Listing` holds.
 #![tactic(auto)]
 
+mod body_slices;
 mod checked;
-mod cuts;
 mod faults;
 mod frames;
+mod indexed;
 mod laws;
 mod limits;
 mod list_lines;
@@ -40,13 +44,13 @@ mod path_queries;
 mod pieces;
 mod queries;
 mod reads;
+mod routes;
 mod selectors;
-mod shorts;
 mod targets;
-mod trails;
 mod valuations;
 mod walks;
 
+pub use body_slices::{Bodies, BodySlice};
 pub use checked::know_design;
 pub use faults::OblFault;
 pub use frames::Frame;

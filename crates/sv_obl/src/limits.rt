@@ -1,66 +1,42 @@
 // Whether a design keeps its limits, told before any of its obligations is made: of each path only
 // where it goes is walked.
-ghost use Rattle.std.specs.Prelude.{◌≡◌, ◌+◌, ◌<◌, ◌≤◌, [], length, IfOk};
-ghost use Rattle.sv_flat.specs.Clocks.{processes_of};
+ghost use Rattle.std.specs.Prelude.{◌≡◌, ◌≤◌, [], length, IfOk, IfErr, OnOk};
 ghost use Rattle.sv_flat.specs.Views.{design_of};
-ghost use Rattle.sv_obl.specs.Answers.{Answers, excess_at};
+ghost use Rattle.sv_obl.specs.Answers.{Answers, Told};
 ghost use Rattle.sv_obl.specs.Limits.{excess};
-ghost use Rattle.sv_obl.specs.Obligations.{target_obligations};
-ghost use Rattle.sv_obl.specs.Shorts.{AreShort};
-ghost use Rattle.sv_obl.specs.Written.{CountsTargets};
+ghost use Rattle.sv_obl.specs.ListParts.{IsAt};
+ghost use Rattle.sv_obl.specs.Obligations.{obligations};
 
 use crate::faults::OblFault;
-use crate::listing::{add_all_selectors, count_of};
-use crate::shorts::{Short, shorts_of};
-use crate::targets::driven_trails;
+use crate::list_parts::Listing;
+use crate::targets::count_of;
 use std::alloc::Global;
 use sv_design::Design;
 use sv_flat::SigId;
 
-// How many obligations there are with those of a target, where the bodies of the processes are
-// given in short.
-fn count_target(
-    alloc: Global,
-    design: &Design,
-    shorts: &[Short],
-    target: SigId,
-    total: u32,
-) -> Result<u32, OblFault>
-    requires known { target.0 < length design.now.signals.items }
-    requires shorts { AreShort (processes_of (design_of design.now)) shorts.now }
-    requires few { total ≤ 65536 }
-    ensures excess { Answers (excess_at (design_of design.now) total target.0) result }
-    ensures count { IfOk result (λ count. count
-        ≡ total + length (target_obligations [] (design_of design.now) target.0)) }
+// Counts the obligations of all targets.
+fn pass_targets(alloc: Global, design: &Design, listing: &mut Listing) -> Result<(), OblFault>
+    requires at { IsAt (design_of design.now) 0 listing.old }
+    ensures next { OnOk result
+        (IsAt (design_of design.now) (length design.now.signals.items) listing.new) }
+    ensures told { IfErr result (Told (excess (design_of design.now))) }
 {
-    match driven_trails(alloc, design, shorts, target, total as usize)? {
-        Some(driven) => Ok(total + driven.trails.len() as u32),
-        None => Ok(total),
-    }
-}
-
-// How many obligations all targets have.
-fn count_targets(alloc: Global, design: &Design) -> Result<u32, OblFault>
-    ensures { CountsTargets (design_of design.now) result }
-{
-    let shorts = shorts_of(alloc, design.processes())?;
-    let mut total = 0;
     for s in 0..count_of(design) {
-        total = count_target(alloc, design, &shorts, SigId(s), total)?;
-    }
-    Ok(total)
-}
-
-/// Whether a design passes no limit of obligations; else the first that it passes, as `obligations`
-/// tells it, or that memory ran out.
-pub fn check_limits(alloc: Global, design: &Design) -> Result<(), OblFault>
-    ensures { Answers (excess (design_of design.now)) result }
-{
-    let total = count_targets(alloc, design)?;
-    let mut queries = Vec::new(alloc);
-    add_all_selectors(alloc, design, &mut queries)?;
-    if queries.len() > 65_536 - total as usize {
-        return Err(OblFault::Many);
+        listing.pass_target(alloc, design, SigId(s))?;
     }
     Ok(())
+}
+
+/// How many obligations a design has, at most 65,536, where it exceeds no limit on them; else the
+/// first that it exceeds, as `obligations` tells it, or that memory ran out.
+pub fn check_limits(alloc: Global, design: &Design) -> Result<u32, OblFault>
+    ensures excess { Answers (excess (design_of design.now)) result }
+    ensures count { IfOk result (λ count.
+        count ≡ length (obligations [] (design_of design.now))) }
+    ensures few { IfOk result (λ count. count ≤ 65536) }
+{
+    let mut listing = Listing::new(alloc, design)?;
+    pass_targets(alloc, design, &mut listing)?;
+    let selectors = listing.selector_queries(alloc, design)?;
+    Ok(listing.count + selectors.len() as u32)
 }

@@ -1,6 +1,6 @@
 // The lines of `secv list`.
 ghost use Rattle.std.specs.Prelude.{◌≡◌, ℕ, ◌<◌, ◌∷◌, [], ◌++◌, map, length, All, codes, decimal};
-ghost use Rattle.std.specs.Prelude.{IfOk, OnOk, if◌then◌else◌};
+ghost use Rattle.std.specs.Prelude.{IfOk, OnOk};
 ghost use Rattle.sv_flat.specs.ByNumber.{signal_forms};
 ghost use Rattle.sv_flat.specs.Views.{design_of};
 ghost use Rattle.sv_obl.specs.DesignQueries.{IsQueryOf, IsPlaced};
@@ -8,6 +8,7 @@ ghost use Rattle.sv_obl.specs.ListLines.{blanked, name_of, place_text, frame_wor
 ghost use Rattle.sv_obl.specs.ListLines.{right_word, goal_words, list_line as line_of};
 ghost use Rattle.sv_obl.specs.Obligations.{flow, selector};
 ghost use Rattle.sv_obl.specs.Views.{step_form, goal_form, number_of, obligation_of, IsAmong};
+ghost use Rattle.sv_obl.specs.Written.{mark_word};
 
 use crate::frames::Frame;
 use crate::queries::{Goal, Query, Step};
@@ -16,6 +17,13 @@ use std::alloc::{AllocError, Global};
 use sv_design::Design;
 use sv_flat::{SigId, Signal};
 use sv_num::Place;
+
+/// A condition as a line shows it: whether it holds, and its place.
+#[derive(Clone, Copy, Debug)]
+pub struct Mark {
+    pub truth: bool,
+    pub place: Place,
+}
 
 /// The line of an obligation of a design, with its number, as `secv list` prints it; an error where
 /// memory runs out.
@@ -31,12 +39,13 @@ pub fn list_line(
         line.items ≡ line_of (design_of design.now).signals number (obligation_of query.now)) }
 {
     let mut line = Vec::new(alloc);
-    push_line(&mut line, design.signals(), number, query)?;
+    push_line(alloc, &mut line, design.signals(), number, query)?;
     Ok(line)
 }
 
 /// Adds the line of an obligation, with its number.
 pub fn push_line(
+    alloc: Global,
     text: &mut Vec<u8>,
     signals: &[Signal],
     number: u32,
@@ -47,27 +56,34 @@ pub fn push_line(
         ++ line_of (signal_forms signals.now) number (obligation_of query.now)) }
 {
     push_number(text, number)?;
-    push_goal(text, signals, query)?;
+    push_goal(alloc, text, signals, query)?;
     text.push(b'\n')?;
     Ok(())
 }
 
 // What stands after the number.
-fn push_goal(line: &mut Vec<u8>, signals: &[Signal], query: &Query) -> Result<(), AllocError>
+fn push_goal(
+    alloc: Global,
+    line: &mut Vec<u8>,
+    signals: &[Signal],
+    query: &Query,
+) -> Result<(), AllocError>
     requires among { IsAmong (length signals.now) (obligation_of query.now) }
     ensures { OnOk result (line.new.items ≡ line.old.items
         ++ blanked (goal_words (signal_forms signals.now) (obligation_of query.now)
         (goal_form query.now.goal))) }
 {
     match &query.goal {
-        Goal::Flow { target, frame } => push_flow(line, signals, *target, *frame, query),
+        Goal::Flow { target, frame } => push_query_path(
+            alloc, line, signals, *target, *frame, query,
+        ),
         Goal::Holds { frame, .. } => push_holds(line, *frame, query.right),
         Goal::Selector { signal } => push_selector(line, signals, *signal, query),
     }
 }
 
-#[tactic(auto, using(crate::proofs::ListLineFacts::flow_words))]
-fn push_flow(
+fn push_query_path(
+    alloc: Global,
     line: &mut Vec<u8>,
     signals: &[Signal],
     target: SigId,
@@ -80,11 +96,56 @@ fn push_flow(
         ++ blanked (goal_words (signal_forms signals.now) (obligation_of query.now)
         (flow target.0 frame))) }
 {
+    let marks = marks_of(alloc, query.path.as_slice())?;
+    push_flow(
+        line,
+        signals,
+        target,
+        frame,
+        &marks,
+        query.right,
+        query.reads.as_slice(),
+    )
+}
+
+// The conditions as a line shows them.
+fn marks_of(alloc: Global, steps: &[Step]) -> Result<Vec<Mark>, AllocError>
+    ensures { IfOk result (λ marks.
+        map mark_word marks.items ≡ map step_word (map step_form steps.now)) }
+{
+    let mut marks = Vec::with_capacity(alloc, steps.len())?;
+    for step in steps {
+        marks.push(Mark {
+            truth: step.truth,
+            place: step.place,
+        })?;
+    }
+    Ok(marks)
+}
+
+/// Adds what stands after the number in the line of a path's obligation.
+#[tactic(auto, using(crate::proofs::ListLineFacts::flow_words))]
+pub fn push_flow(
+    line: &mut Vec<u8>,
+    signals: &[Signal],
+    target: SigId,
+    frame: Frame,
+    marks: &[Mark],
+    right: Option<Place>,
+    reads: &[SigId],
+) -> Result<(), AllocError>
+    requires target { target.0 < length signals.now }
+    requires reads { All (λ s. s < length signals.now) (map number_of reads.now) }
+    ensures { OnOk result (line.new.items ≡ line.old.items
+        ++ blanked (name_of (signal_forms signals.now) target.0 ∷ frame_word frame
+        ∷ map mark_word marks.now ++ right_word right
+        ∷ codes "reads" ∷ map (name_of (signal_forms signals.now)) (map number_of reads.now))) }
+{
     push_name(line, signals, target)?;
     push_word(line, frame_bytes(frame))?;
-    push_steps(line, query.path.as_slice())?;
-    push_right(line, query.right)?;
-    push_reads(line, signals, query.reads.as_slice())
+    push_marks(line, marks)?;
+    push_right(line, right)?;
+    push_reads(line, signals, reads)
 }
 
 fn push_holds(line: &mut Vec<u8>, frame: Frame, right: Option<Place>) -> Result<(), AllocError>
@@ -115,8 +176,8 @@ fn push_selector(
     push_reads(line, signals, query.reads.as_slice())
 }
 
-/// The word of a frame.
-pub fn frame_bytes(frame: Frame) -> &'static [u8]
+// The word of a frame.
+fn frame_bytes(frame: Frame) -> &'static [u8]
     ensures { result.now ≡ frame_word frame }
 {
     match frame {
@@ -134,8 +195,8 @@ pub fn push_number(line: &mut Vec<u8>, number: u32) -> Result<(), AllocError>
     Ok(())
 }
 
-/// Adds a blank and a word.
-pub fn push_word(line: &mut Vec<u8>, word: &[u8]) -> Result<(), AllocError>
+// Adds a blank and a word.
+fn push_word(line: &mut Vec<u8>, word: &[u8]) -> Result<(), AllocError>
     ensures { OnOk result (line.new.items ≡ line.old.items ++ codes " " ++ word.now) }
 {
     line.push(b' ')?;
@@ -143,8 +204,8 @@ pub fn push_word(line: &mut Vec<u8>, word: &[u8]) -> Result<(), AllocError>
     Ok(())
 }
 
-/// Adds the name of a signal.
-pub fn push_name(line: &mut Vec<u8>, signals: &[Signal], signal: SigId) -> Result<(), AllocError>
+// Adds the name of a signal.
+fn push_name(line: &mut Vec<u8>, signals: &[Signal], signal: SigId) -> Result<(), AllocError>
     requires known { signal.0 < length signals.now }
     ensures { OnOk result
         (line.new.items ≡ line.old.items ++ codes " "
@@ -162,36 +223,27 @@ fn push_place(line: &mut Vec<u8>, place: Place) -> Result<(), AllocError>
     Ok(())
 }
 
-/// Adds a condition: whether it holds, and its place.
-pub fn push_turn(line: &mut Vec<u8>, truth: bool, place: Place) -> Result<(), AllocError>
-    ensures { OnOk result (line.new.items ≡ line.old.items
-        ++ codes " " ++ ((if truth then codes "+" else codes "-") ++ place_text place)) }
+fn push_mark(line: &mut Vec<u8>, mark: Mark) -> Result<(), AllocError>
+    ensures { OnOk result (line.new.items ≡ line.old.items ++ codes " " ++ mark_word mark) }
 {
-    let mark: &[u8] = if truth { b"+" } else { b"-" };
-    push_word(line, mark)?;
-    push_place(line, place)?;
+    let sign: &[u8] = if mark.truth { b"+" } else { b"-" };
+    push_word(line, sign)?;
+    push_place(line, mark.place)?;
     Ok(())
 }
 
-fn push_step(line: &mut Vec<u8>, step: &Step) -> Result<(), AllocError>
+fn push_marks(line: &mut Vec<u8>, marks: &[Mark]) -> Result<(), AllocError>
     ensures { OnOk result
-        (line.new.items ≡ line.old.items ++ codes " " ++ step_word (step_form step.now)) }
+        (line.new.items ≡ line.old.items ++ blanked (map mark_word marks.now)) }
 {
-    push_turn(line, step.truth, step.place)
-}
-
-fn push_steps(line: &mut Vec<u8>, steps: &[Step]) -> Result<(), AllocError>
-    ensures { OnOk result
-        (line.new.items ≡ line.old.items ++ blanked (map step_word (map step_form steps.now))) }
-{
-    'steps: for step in steps {
-        push_step(line, step)?;
+    'marks: for mark in marks {
+        push_mark(line, *mark)?;
     }
     Ok(())
 }
 
-/// Adds where the path ends in an assignment, or that the target is held.
-pub fn push_right(line: &mut Vec<u8>, right: Option<Place>) -> Result<(), AllocError>
+// Adds where the path ends in an assignment, or that the target is held.
+fn push_right(line: &mut Vec<u8>, right: Option<Place>) -> Result<(), AllocError>
     ensures { OnOk result (line.new.items ≡ line.old.items ++ codes " " ++ right_word right) }
 {
     match right {
@@ -204,9 +256,9 @@ pub fn push_right(line: &mut Vec<u8>, right: Option<Place>) -> Result<(), AllocE
     Ok(())
 }
 
-/// Adds the word `reads` and the names.
+// Adds the word `reads` and the names.
 #[tactic(auto, using(crate::proofs::ListLineFacts::known_at))]
-pub fn push_reads(line: &mut Vec<u8>, signals: &[Signal], reads: &[SigId]) -> Result<(), AllocError>
+fn push_reads(line: &mut Vec<u8>, signals: &[Signal], reads: &[SigId]) -> Result<(), AllocError>
     requires known { All (λ s. s < length signals.now) (map number_of reads.now) }
     ensures { OnOk result (line.new.items ≡ line.old.items
         ++ blanked (codes "reads" ∷ map (name_of (signal_forms signals.now))

@@ -1,24 +1,35 @@
-// What `secv list` prints, part by part.
-ghost use Rattle.std.specs.Prelude.{◌≡◌, ◌+◌, ◌<◌, ◌++◌, length, IfOk, IfErr, OnOk};
+// The obligations of a design, part by part.
+ghost use Rattle.std.specs.Prelude.{◌≡◌, [], ◌+◌, ◌<◌, ◌≤◌, ◌++◌, length, map, flat_map, All};
+ghost use Rattle.std.specs.Prelude.{IfOk, IfErr, OnOk};
+ghost use Rattle.sv_flat.specs.Processes.{signal_numbers};
 ghost use Rattle.sv_flat.specs.Views.{design_of};
+ghost use Rattle.sv_design.specs.Designs.{IsDesign};
 ghost use Rattle.sv_obl.specs.Answers.{Answers, Told};
+ghost use Rattle.sv_obl.specs.DesignQueries.{IsQueryOf, IsPlaced};
+ghost use Rattle.sv_obl.specs.Driven.{IsDriven};
 ghost use Rattle.sv_obl.specs.Limits.{excess};
 ghost use Rattle.sv_obl.specs.ListLines.{list_text};
 ghost use Rattle.sv_obl.specs.ListParts.{IsAt, lines_left};
+ghost use Rattle.sv_obl.specs.Obligations.{target_obligations, selector_obligations};
+ghost use Rattle.sv_obl.specs.Views.{obligation_of};
 
-use crate::faults::OblFault;
-use crate::list_texts::{Lines, push_selectors, push_target};
-use crate::shorts::{Short, shorts_of};
+use crate::faults::{MOST_OBLIGATIONS, OblFault};
+use crate::indexed::{Indexed, indexed_bodies};
+use crate::list_texts::{Lines, push_paths, push_queries};
+use crate::queries::Query;
+use crate::selectors::all_selectors;
+use crate::targets::{Driven, driven_routes, queries_of};
 use std::alloc::{AllocError, Global};
 use sv_design::Design;
 use sv_flat::SigId;
 
-/// What `secv list` prints of a design, in parts: the lines of one target after the other, in
-/// signal order, and then those of selectors. It holds the bodies of the processes in short, and
-/// how many lines were written; a part is text of its own, to be let go before the next is made.
+/// The obligations of a design in parts: those of one target after the other, in signal order, and
+/// then those of selectors; as values, or as `secv list` prints them. It holds the indexed bodies of
+/// the processes, and how many obligations the targets so far have. A part is to be let go
+/// before the next is made, so that no more than one stands in memory.
 #[derive(Drop)]
 pub struct Listing<'a> {
-    pub shorts: Vec<Short<'a>>,
+    pub bodies: Vec<Indexed<'a>>,
     pub count: u32,
 }
 
@@ -29,12 +40,74 @@ impl<'a> Listing<'a> {
         ensures all { lines_left (design_of design.now) 0 ≡ list_text (design_of design.now) }
     {
         Ok(Listing {
-            shorts: shorts_of(alloc, design.processes())?,
+            bodies: indexed_bodies(alloc, design.processes())?,
             count: 0,
         })
     }
 
-    /// The lines of the target that comes next; an error where it passes a limit, or where memory
+    // The paths of the target that comes next, if a process drives it.
+    fn next_paths<'d>(
+        &mut self,
+        alloc: Global,
+        design: &'d Design,
+        target: SigId,
+    ) -> Result<Option<Driven<'d, 'a>>, OblFault>
+        requires known { target.0 < length design.now.signals.items }
+        requires at { IsAt (design_of design.now) target.0 self.old }
+        ensures driven { IfOk result (IsDriven (design_of design.now) target.0 self.old.count) }
+        ensures design { IsDesign (design_of design.now) }
+        ensures next { OnOk result (IsAt (design_of design.now) (target.0 + 1) self.new) }
+        ensures told { IfErr result (Told (excess (design_of design.now))) }
+    {
+        match driven_routes(alloc, design, &self.bodies, target, self.count as usize)? {
+            Some(driven) => {
+                self.count += driven.routes.len() as u32;
+                Ok(Some(driven))
+            }
+            None => Ok(None),
+        }
+    }
+
+    /// Passes over the target that comes next: its obligations are counted, and none is made. An
+    /// error where it exceeds a limit, or where memory runs out.
+    pub fn pass_target(
+        &mut self,
+        alloc: Global,
+        design: &Design,
+        target: SigId,
+    ) -> Result<(), OblFault>
+        requires known { target.0 < length design.now.signals.items }
+        requires at { IsAt (design_of design.now) target.0 self.old }
+        ensures next { OnOk result (IsAt (design_of design.now) (target.0 + 1) self.new) }
+        ensures told { IfErr result (Told (excess (design_of design.now))) }
+    {
+        self.next_paths(alloc, design, target)?;
+        Ok(())
+    }
+
+    /// The obligations of the target that comes next, each one of the design's; an error where it
+    /// exceeds a limit, or where memory runs out.
+    pub fn target_queries(
+        &mut self,
+        alloc: Global,
+        design: &Design,
+        target: SigId,
+    ) -> Result<Vec<Query>, OblFault>
+        requires known { target.0 < length design.now.signals.items }
+        requires at { IsAt (design_of design.now) target.0 self.old }
+        ensures listed { IfOk result (λ queries. map obligation_of queries.items
+            ≡ target_obligations [] (design_of design.now) target.0) }
+        ensures queries { IfOk result (λ queries.
+            All (IsQueryOf (design_of design.now)) (map obligation_of queries.items)) }
+        ensures placed { IfOk result (λ queries. All IsPlaced (map obligation_of queries.items)) }
+        ensures next { OnOk result (IsAt (design_of design.now) (target.0 + 1) self.new) }
+        ensures told { IfErr result (Told (excess (design_of design.now))) }
+    {
+        let found = self.next_paths(alloc, design, target)?;
+        Ok(queries_of(alloc, target, &found)?)
+    }
+
+    /// The lines of the target that comes next; an error where it exceeds a limit, or where memory
     /// runs out.
     pub fn target_lines(
         &mut self,
@@ -49,13 +122,30 @@ impl<'a> Listing<'a> {
         ensures next { OnOk result (IsAt (design_of design.now) (target.0 + 1) self.new) }
         ensures told { IfErr result (Told (excess (design_of design.now))) }
     {
-        let mut lines = Lines {
-            text: Vec::new(alloc),
-            count: self.count,
-        };
-        push_target(alloc, &mut lines, design, &self.shorts, target)?;
-        self.count = lines.count;
+        let mut lines = Lines::after(alloc, self.count);
+        let found = self.next_paths(alloc, design, target)?;
+        push_paths(alloc, &mut lines, design, target, &found)?;
         Ok(lines.text)
+    }
+
+    /// The obligations of selectors, behind those of all targets, each one of the design's; an
+    /// error where they are too many, or where memory runs out.
+    pub fn selector_queries(&self, alloc: Global, design: &Design) -> Result<Vec<Query>, OblFault>
+        requires at { IsAt (design_of design.now) (length design.now.signals.items) self.now }
+        ensures listed { IfOk result (λ queries. map obligation_of queries.items
+            ≡ flat_map (selector_obligations [] (design_of design.now))
+            (signal_numbers (design_of design.now))) }
+        ensures queries { IfOk result (λ queries.
+            All (IsQueryOf (design_of design.now)) (map obligation_of queries.items)) }
+        ensures placed { IfOk result (λ queries. All IsPlaced (map obligation_of queries.items)) }
+        ensures few { IfOk result (λ queries. self.now.count + length queries.items ≤ 65536) }
+        ensures excess { Answers (excess (design_of design.now)) result }
+    {
+        let queries = all_selectors(alloc, design)?;
+        if queries.len() > MOST_OBLIGATIONS - self.count as usize {
+            return Err(OblFault::Many);
+        }
+        Ok(queries)
     }
 
     /// The lines of selectors, behind those of all targets; an error where they are too many, or
@@ -66,11 +156,9 @@ impl<'a> Listing<'a> {
             ≡ lines_left (design_of design.now) (length design.now.signals.items)) }
         ensures excess { Answers (excess (design_of design.now)) result }
     {
-        let mut lines = Lines {
-            text: Vec::new(alloc),
-            count: self.count,
-        };
-        push_selectors(alloc, &mut lines, design)?;
+        let mut lines = Lines::after(alloc, self.count);
+        let queries = self.selector_queries(alloc, design)?;
+        push_queries(alloc, &mut lines, design.signals(), &queries)?;
         Ok(lines.text)
     }
 }

@@ -1,74 +1,58 @@
-// The obligations of a design.
-ghost use Rattle.std.specs.Prelude.{◌≡◌, [], ◌++◌, map, flat_map, length, All, IfOk, OnOk};
-ghost use Rattle.sv_flat.specs.Processes.{signal_numbers};
+// The obligations of a design, all at once.
+ghost use Rattle.std.specs.Prelude.{◌≡◌, ◌≤◌, [], map, length, All, IfOk, IfErr, OnOk};
 ghost use Rattle.sv_flat.specs.Views.{design_of};
 ghost use Rattle.sv_design.specs.Designs.{IsDesign};
-ghost use Rattle.sv_obl.specs.Answers.{ListsTargets, Lists};
+ghost use Rattle.sv_obl.specs.Answers.{Lists, Told};
 ghost use Rattle.sv_obl.specs.DesignQueries.{IsQueryOf, IsPlaced};
-ghost use Rattle.sv_obl.specs.Obligations.{selector_obligations};
+ghost use Rattle.sv_obl.specs.Limits.{excess};
+ghost use Rattle.sv_obl.specs.ListParts.{IsAt, obligations_before};
 ghost use Rattle.sv_obl.specs.Views.{obligation_of};
 
 use crate::faults::OblFault;
+use crate::list_parts::Listing;
 use crate::queries::Query;
-use crate::selectors::add_selectors;
-use crate::shorts::shorts_of;
-use crate::targets::add_target;
-use std::alloc::{AllocError, Global};
+use crate::targets::count_of;
+use std::alloc::Global;
 use sv_design::Design;
 use sv_flat::SigId;
 
-/// How many signals the design has.
-pub fn count_of(design: &Design) -> u32
-    ensures count { result ≡ length design.now.signals.items }
+// The obligations of all targets.
+fn queries_of_targets(
+    alloc: Global,
+    design: &Design,
+    listing: &mut Listing,
+) -> Result<Vec<Query>, OblFault>
+    requires at { IsAt (design_of design.now) 0 listing.old }
+    ensures listed { IfOk result (λ queries. map obligation_of queries.items
+        ≡ obligations_before (design_of design.now) (length design.now.signals.items)) }
+    ensures next { OnOk result
+        (IsAt (design_of design.now) (length design.now.signals.items) listing.new) }
+    ensures told { IfErr result (Told (excess (design_of design.now))) }
     ensures design { IsDesign (design_of design.now) }
 {
-    design.signals().len() as u32
-}
-
-// The obligations of all targets.
-fn list_targets(alloc: Global, design: &Design) -> Result<Vec<Query>, OblFault>
-    ensures { ListsTargets (design_of design.now) result }
-{
-    let shorts = shorts_of(alloc, design.processes())?;
     let mut queries = Vec::new(alloc);
     for s in 0..count_of(design) {
-        add_target(alloc, design, &shorts, SigId(s), &mut queries)?;
+        let mut more = listing.target_queries(alloc, design, SigId(s))?;
+        queries.append(&mut more)?;
     }
     Ok(queries)
 }
 
-/// Adds the obligations of all selectors; an error where memory runs out.
-pub fn add_all_selectors(
-    alloc: Global,
-    design: &Design,
-    queries: &mut Vec<Query>,
-) -> Result<(), AllocError>
-    ensures design { IsDesign (design_of design.now) }
-    ensures listed { OnOk result (map obligation_of queries.new.items
-        ≡ map obligation_of queries.old.items
-        ++ flat_map (selector_obligations [] (design_of design.now))
-        (signal_numbers (design_of design.now))) }
-{
-    for s in 0..count_of(design) {
-        add_selectors(alloc, design, SigId(s), queries)?;
-    }
-    Ok(())
-}
-
 /// The obligations of a design: those of each target in signal order, one for each of its paths,
-/// and then those of selectors. A target with over 4,096 paths is `Paths`, one with over 65,536
-/// nodes put into a path is `Large`, and over 65,536 obligations are `Many`, whichever comes first
-/// from target to target. Each is an obligation of the design.
+/// and then those of selectors; at most 65,536. A target with over 4,096 paths is `Paths`, one with
+/// over 65,536 nodes put into a path is `Large`, and over 65,536 obligations are `Many`, whichever
+/// comes first from target to target. Each is an obligation of the design. `Listing` gives them
+/// target by target.
 pub fn obligations(alloc: Global, design: &Design) -> Result<Vec<Query>, OblFault>
     ensures listed { Lists (design_of design.now) result }
+    ensures few { IfOk result (λ queries. length queries.items ≤ 65536) }
     ensures queries { IfOk result (λ queries.
         All (IsQueryOf (design_of design.now)) (map obligation_of queries.items)) }
     ensures placed { IfOk result (λ queries. All IsPlaced (map obligation_of queries.items)) }
 {
-    let mut queries = list_targets(alloc, design)?;
-    add_all_selectors(alloc, design, &mut queries)?;
-    if queries.len() > 65_536 {
-        return Err(OblFault::Many);
-    }
+    let mut listing = Listing::new(alloc, design)?;
+    let mut queries = queries_of_targets(alloc, design, &mut listing)?;
+    let mut selectors = listing.selector_queries(alloc, design)?;
+    queries.append(&mut selectors)?;
     Ok(queries)
 }

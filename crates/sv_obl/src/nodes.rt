@@ -3,18 +3,18 @@ ghost use Rattle.std.specs.Prelude.{◌≡◌, ◌≤◌, ◌*◌, ◌+◌, min}
 ghost use Rattle.std.specs.List.{list_any};
 ghost use Rattle.sv_flat.specs.Views.{typed_tree, typed_trees, node_tree, parts_of};
 ghost use Rattle.sv_obl.specs.Nodes.{nodes_in, nodes_under, nodes_in_parts};
-ghost use Rattle.sv_obl.specs.Answers.{is_large};
-ghost use Rattle.sv_obl.specs.Routes.{with_nodes};
-ghost use Rattle.sv_obl.specs.Trails.{route_of, routes_of};
+ghost use Rattle.sv_obl.specs.Routes.{with_nodes, is_large};
+ghost use Rattle.sv_obl.specs.RouteViews.{route_form, route_forms};
 
-use crate::trails::Trail;
+use crate::faults::MOST_NODES;
+use crate::routes::Route;
 use sv_flat::{FExpr, FNode};
 
 // The sum of two counts, up to one over the limit.
 fn sum(first: u32, second: u32) -> u32
     ensures { result ≡ min (first + second) 65537 }
 {
-    first.saturating_add(second).min(65_537)
+    first.saturating_add(second).min(MOST_NODES + 1)
 }
 
 // The nodes of an expression, up to one over the limit.
@@ -66,10 +66,11 @@ fn times(count: usize, nodes: u32) -> u32
     if nodes == 0 {
         return 0;
     }
-    if count > 65_537 {
-        return 65_537;
+    let most = MOST_NODES + 1;
+    if count > most as usize {
+        return most;
     }
-    (count as u64 * u64::from(nodes)).min(65_537) as u32
+    (count as u64 * u64::from(nodes)).min(u64::from(most)) as u32
 }
 
 // The nodes of a right side, as often as they count, up to one over the limit.
@@ -91,15 +92,15 @@ pub fn with_nodes(nodes: u32, count: usize, right: &FExpr) -> u32
 }
 
 // Whether over 65,536 nodes are put into the path.
-fn is_large(trail: &Trail) -> bool
-    ensures { result ≡ is_large (route_of trail.now) }
+fn is_large(route: &Route) -> bool
+    ensures { result ≡ is_large (route_form route.now) }
 {
-    trail.nodes > 65_536
+    route.nodes > MOST_NODES
 }
 
 /// Whether over 65,536 nodes are put into one of the paths.
-pub fn some_large(trails: &[Trail]) -> bool
-    ensures { result ≡ list_any is_large (routes_of trails.now) }
+pub fn some_large(routes: &[Route]) -> bool
+    ensures { result ≡ list_any is_large (route_forms routes.now) }
 {
-    trails.iter().any(is_large)
+    routes.iter().any(is_large)
 }

@@ -4,13 +4,13 @@ ghost use Rattle.sv_flat.specs.Processes.{is_clocked};
 ghost use Rattle.sv_flat.specs.Views.{process_kind, process_form};
 ghost use Rattle.sv_obl.specs.Obligations.{is_link, frame_of};
 ghost use Rattle.sv_obl.specs.Routes.{names_on, route_obligation};
-ghost use Rattle.sv_obl.specs.Trails.{turn_form, route_of};
+ghost use Rattle.sv_obl.specs.RouteViews.{step_ref_form, route_form};
 ghost use Rattle.sv_obl.specs.Views.{step_form, obligation_of};
 
 use crate::frames::Frame;
 use crate::queries::{Goal, Query, Step};
 use crate::reads::reads_of;
-use crate::trails::{Trail, Turn};
+use crate::routes::{Route, StepRef};
 use std::alloc::{AllocError, Global};
 use sv_flat::{ProcKind, Process, SigId};
 use sv_num::Place;
@@ -51,17 +51,17 @@ pub fn place_of(process: &Process, place: Option<Place>) -> Option<Place>
 }
 
 // The conditions in textual order, with expressions of their own.
-fn steps_of(alloc: Global, turns: &[Turn]) -> Result<Vec<Step>, AllocError>
+fn steps_of(alloc: Global, refs: &[StepRef]) -> Result<Vec<Step>, AllocError>
     ensures { IfOk result (λ steps.
-        map step_form steps.items ≡ reverse (map turn_form turns.now)) }
+        map step_form steps.items ≡ reverse (map step_ref_form refs.now)) }
 {
-    let mut steps = Vec::with_capacity(alloc, turns.len())?;
-    for i in 0..turns.len() {
-        let turn = &turns[turns.len() - 1 - i];
+    let mut steps = Vec::with_capacity(alloc, refs.len())?;
+    for i in 0..refs.len() {
+        let step = &refs[refs.len() - 1 - i];
         steps.push(Step {
-            place: turn.place,
-            cond: turn.cond.copy(alloc)?,
-            truth: turn.truth,
+            place: step.place,
+            cond: step.cond.copy(alloc)?,
+            truth: step.truth,
         })?;
     }
     Ok(steps)
@@ -72,19 +72,19 @@ pub fn query_of(
     alloc: Global,
     process: &Process,
     target: SigId,
-    trail: &Trail,
+    route: &Route,
 ) -> Result<Query, AllocError>
     ensures { (n : ℕ) → All (λ t. t < n)
-        (names_on (is_clocked (process_kind process.now.kind)) target.0 (route_of trail.now))
+        (names_on (is_clocked (process_kind process.now.kind)) target.0 (route_form route.now))
         → IfOk result (λ query. obligation_of query
-        ≡ route_obligation n (process_form process.now) target.0 (route_of trail.now)) }
+        ≡ route_obligation n (process_form process.now) target.0 (route_form route.now)) }
 {
-    let path = steps_of(alloc, &trail.turns)?;
-    let reads = reads_of(alloc, is_clocked(process.kind), target, trail)?;
+    let path = steps_of(alloc, &route.steps)?;
+    let reads = reads_of(alloc, is_clocked(process.kind), target, route)?;
     Ok(Query {
         facts: Vec::new(alloc),
         path,
-        right: place_of(process, trail.place),
+        right: place_of(process, route.place),
         reads,
         goal: Goal::Flow {
             target,

@@ -8,7 +8,7 @@ ghost use Rattle.std.specs.List.{list_any};
 ghost use Rattle.sv_flat.specs.Design.{PieceForm};
 ghost use Rattle.sv_obl.specs.Paths.{pieces_of, covers};
 ghost use Rattle.sv_obl.specs.Routes.{first_place};
-ghost use Rattle.sv_obl.specs.Trails.{piece_forms};
+ghost use Rattle.sv_obl.specs.RouteViews.{piece_forms};
 
 use sv_flat::{Piece, SigId, Signal};
 use sv_num::Place;

@@ -8,10 +8,10 @@ ghost use Rattle.sv_flat.specs.Readings.{parts_reads};
 ghost use Rattle.sv_flat.specs.Views.{typed_tree, typed_trees, parts_of};
 ghost use Rattle.sv_obl.specs.Paths.{StepForm};
 ghost use Rattle.sv_obl.specs.Routes.{signals_of_reads, names_in, with_names, names_on};
-ghost use Rattle.sv_obl.specs.Trails.{turn_form, route_of};
+ghost use Rattle.sv_obl.specs.RouteViews.{step_ref_form, route_form};
 ghost use Rattle.sv_obl.specs.Views.{number_of};
 
-use crate::trails::{Trail, Turn};
+use crate::routes::{Route, StepRef};
 use std::alloc::{AllocError, Global};
 use std::collections::BTreeSet;
 use sv_flat::{FExpr, FNode, SigId};
@@ -76,12 +76,12 @@ fn add_name(signal: SigId, names: &mut BTreeSet<u32>) -> Result<(), AllocError>
 }
 
 // Adds those of conditions.
-fn add_of_turns(turns: &[Turn], names: &mut BTreeSet<u32>) -> Result<(), AllocError>
+fn add_of_steps(steps: &[StepRef], names: &mut BTreeSet<u32>) -> Result<(), AllocError>
     ensures { OnOk result (names.new.keys ≡ fold (insert_key nat_cmp) names.old.keys
-        (flat_map (λ (step : StepForm). names_in [] step.condition) (map turn_form turns.now))) }
+        (flat_map (λ (step : StepForm). names_in [] step.condition) (map step_ref_form steps.now))) }
 {
-    for turn in turns {
-        add_names(turn.cond, names)?;
+    for step in steps {
+        add_names(step.cond, names)?;
     }
     Ok(())
 }
@@ -141,10 +141,10 @@ fn signals_of(alloc: Global, set: &BTreeSet<u32>) -> Result<Vec<SigId>, AllocErr
 }
 
 // Whether a register is held: its name is wanted at the beginning of the process.
-fn is_held(is_register: bool, trail: &Trail) -> bool
-    ensures { result ≡ (is_register && trail.now.wants) }
+fn is_held(is_register: bool, route: &Route) -> bool
+    ensures { result ≡ (is_register && route.now.wants) }
 {
-    is_register && trail.wants
+    is_register && route.wants
 }
 
 // The numbers of the signals that a path of the target reads, in ascending order, each once.
@@ -152,15 +152,15 @@ fn names_of(
     alloc: Global,
     is_register: bool,
     target: SigId,
-    trail: &Trail,
+    route: &Route,
 ) -> Result<BTreeSet<u32>, AllocError>
     ensures { IfOk result (λ names. names.keys
-        ≡ fold (insert_key nat_cmp) [] (names_on is_register target.0 (route_of trail.now))) }
+        ≡ fold (insert_key nat_cmp) [] (names_on is_register target.0 (route_form route.now))) }
 {
     let mut names = BTreeSet::new(alloc);
-    add_of_turns(&trail.turns, &mut names)?;
-    add_of_set(&trail.names, &mut names)?;
-    add_held(is_held(is_register, trail), target, &mut names)?;
+    add_of_steps(&route.steps, &mut names)?;
+    add_of_set(&route.names, &mut names)?;
+    add_held(is_held(is_register, route), target, &mut names)?;
     Ok(names)
 }
 
@@ -169,12 +169,12 @@ pub fn reads_of(
     alloc: Global,
     is_register: bool,
     target: SigId,
-    trail: &Trail,
+    route: &Route,
 ) -> Result<Vec<SigId>, AllocError>
-    ensures { (n : ℕ) → All (λ t. t < n) (names_on is_register target.0 (route_of trail.now))
+    ensures { (n : ℕ) → All (λ t. t < n) (names_on is_register target.0 (route_form route.now))
         → IfOk result (λ reads. map number_of reads.items
-        ≡ those n (holds (names_on is_register target.0 (route_of trail.now)))) }
+        ≡ those n (holds (names_on is_register target.0 (route_form route.now)))) }
 {
-    let names = names_of(alloc, is_register, target, trail)?;
+    let names = names_of(alloc, is_register, target, route)?;
     signals_of(alloc, &names)
 }

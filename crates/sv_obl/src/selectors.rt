@@ -1,10 +1,11 @@
 // The obligations of selectors.
 ghost use Rattle.std.specs.Prelude.{◌≡◌, ◌<◌, [], ◌∷◌, ◌++◌, map, length, OnOk, IfOk, All, IsTrue};
-ghost use Rattle.std.specs.Prelude.{IfSome};
-ghost use Rattle.std.specs.Prelude.{option_to_list};
+ghost use Rattle.std.specs.Prelude.{IfSome, option_to_list, flat_map};
 ghost use Rattle.std.specs.List.{list_all};
 ghost use Rattle.sv_flat.specs.Soundness.{label_sound};
+ghost use Rattle.sv_flat.specs.Processes.{signal_numbers};
 ghost use Rattle.sv_flat.specs.Views.{design_of};
+ghost use Rattle.sv_design.specs.Designs.{IsDesign};
 ghost use Rattle.sv_lattice.specs.Labels.{map_of};
 ghost use Rattle.sv_lattice.specs.Tables.{flow_test};
 ghost use Rattle.sv_lattice.specs.declared.points.Point.{Point};
@@ -15,6 +16,7 @@ ghost use Rattle.sv_obl.specs.Obligations.{selector_obligations};
 ghost use Rattle.sv_obl.specs.Views.{obligation_of};
 
 use crate::queries::{Goal, Query};
+use crate::targets::count_of;
 use std::alloc::{AllocError, Global};
 use sv_design::Design;
 use sv_flat::SigId;
@@ -124,8 +126,8 @@ fn add_of_label(
     }
 }
 
-/// Adds the obligations of the selectors of a signal's label; an error where memory runs out.
-pub fn add_selectors(
+// Adds the obligations of the selectors of a signal's label.
+fn add_selectors(
     alloc: Global,
     design: &Design,
     signal: SigId,
@@ -137,4 +139,18 @@ pub fn add_selectors(
 {
     let label = design.signals()[signal.0 as usize].label;
     add_of_label(alloc, design, signal, label, queries)
+}
+
+/// The obligations of the selectors of all labels; an error where memory runs out.
+pub fn all_selectors(alloc: Global, design: &Design) -> Result<Vec<Query>, AllocError>
+    ensures design { IsDesign (design_of design.now) }
+    ensures listed { IfOk result (λ queries. map obligation_of queries.items
+        ≡ flat_map (selector_obligations [] (design_of design.now))
+        (signal_numbers (design_of design.now))) }
+{
+    let mut queries = Vec::new(alloc);
+    for s in 0..count_of(design) {
+        add_selectors(alloc, design, SigId(s), &mut queries)?;
+    }
+    Ok(queries)
 }

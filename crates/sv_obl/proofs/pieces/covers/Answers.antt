@@ -6,7 +6,7 @@ use Rattle.sv_flat.specs.ByNumber.{signal_forms}
 use Rattle.sv_flat.specs.Design.{PieceForm}
 use Rattle.sv_flat.specs.Soundness.{is_whole}
 use Rattle.sv_flat.specs.Views.{piece_form}
-use Rattle.sv_obl.specs.Trails.{piece_forms}
+use Rattle.sv_obl.specs.RouteViews.{piece_forms}
 use Rattle.sv_obl.proofs.PieceFacts.{any_formed, any_picked}
 use Rattle.sv_obl.proofs.pieces.covers.Goals as goal
 

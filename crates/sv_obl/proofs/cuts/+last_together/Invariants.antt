@@ -1,4 +1,0 @@
-use Rattle.sv_obl.proofs.cuts.+last_together.Given as goal
-
-abbrev pub decreases-last_together : goal.decreases-last_together
-decreases-last_together l = l.count

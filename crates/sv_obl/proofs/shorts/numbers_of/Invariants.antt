@@ -1,9 +1,0 @@
-use Rattle.std.proofs.Common.{map, All}
-use Rattle.sv_obl.specs.Shorts.{statement_of, IsMarked}
-use Rattle.sv_obl.proofs.ShortFacts.{TellsFirst}
-use Rattle.sv_obl.proofs.shorts.numbers_of.Given as goal
-
--- the numbers of the parts so far
-abbrev pub invariant-loop-i : goal.invariant-loop-i
-invariant-loop-i l =
-    All IsMarked l.parts → TellsFirst (map statement_of l.parts) l.i l.numbers

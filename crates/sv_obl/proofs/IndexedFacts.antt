@@ -1,9 +1,9 @@
 -- Statements in indexed go as the statements that they are made from.
 use Rattle.std.proofs.Common.{◌≡◌, ℕ, zero, suc, ◌+◌, ◌-◌, ◌<◌, ◌≤◌, Bool, true, false, cond, ◌&&◌}
-use Rattle.std.proofs.Common.{◌||◌, List, [], ◌∷◌, ◌++◌, map, flat_map, fold, length, get_or, All}
+use Rattle.std.proofs.Common.{◌||◌, List, [], ◌∷◌, ◌++◌, map, fold, length, get_or, All}
 use Rattle.std.proofs.Common.{nat_cmp, nat_lt, Less, Equal, Greater, not, ⊎_elim, ◌==◌, eqb-true}
 use Rattle.std.proofs.Common.{Option, Some, None, refl, sym, ap, ap₂, subst, ◌∙◌, length-append}
-use Rattle.std.proofs.Common.{arith, append-nil, take, add-one, BTreeSet, Ordering}
+use Rattle.std.proofs.Common.{arith, take, add-one, BTreeSet, Ordering}
 use Rattle.std.proofs.Math.Seq.{take-suc}
 use Rattle.std.proofs.lemmas.List.{map-append}
 use Rattle.std.proofs.lemmas.List.Folds.{list_any-append}
@@ -30,7 +30,6 @@ use Rattle.sv_flat.specs.Views.{process_form, flat_statement, chain_of}
 use Rattle.sv_flat.specs.declared.designs.Process.{Process}
 use Rattle.sv_flat.specs.Assigned.{assigns}
 use Rattle.sv_flat.proofs.Members.{Contains-left, Contains-right}
-use Rattle.sv_flat.proofs.SameRuns.{or_none_left, or_none_right}
 use Rattle.sv_obl.specs.declared.body_slices.BodySlice.{BodySlice}
 use Rattle.sv_obl.specs.declared.body_slices.BodySlice as slice
 use Rattle.sv_obl.specs.declared.indexed.Indexed.{Indexed, Row_of-Indexed, end_of-Indexed, more_of-Indexed}

@@ -1,12 +1,11 @@
 -- Small facts on lists and tests.
 use Rattle.std.proofs.Common.{◌≡◌, Bool, true, false, cond, ◌&&◌, List, [], ◌∷◌, ◌++◌, ◌⊎◌, inl}
 use Rattle.std.proofs.Common.{inr, ⊎_elim, refl, sym, ap, ap₂, subst, ◌∙◌}
-use Rattle.std.specs.Prelude.{Contains, All, IsTrue, IsFalse, filter, flat_map}
+use Rattle.std.specs.Prelude.{Contains, IsTrue, IsFalse, filter, flat_map}
 use Rattle.std.specs.Bool.{beq}
 use Rattle.std.specs.List.{list_any, list_all}
 use Rattle.std.proofs.lemmas.Bool.{false≢true}
 use Rattle.std.proofs.lemmas.List.Concat.{flat_map-append}
-use Rattle.std.proofs.lemmas.List.Elements.{Contains-get_or}
 use Rattle.sv_system.proofs.Lists.{Contains-nil, Contains-cases, Contains-head, Contains-later}
 use Rattle.sv_flat.proofs.Depths.{first_of, second_of}
 use Rattle.sv_flat.proofs.SameRuns.{or_none_left, or_none_right}

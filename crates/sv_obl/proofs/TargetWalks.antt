@@ -1,10 +1,9 @@
 -- The targets one after the other, and the limit that the rest passes.
 use Rattle.std.proofs.Common.{◌≡◌, ℕ, zero, suc, ◌+◌, ◌-◌, ◌<◌, ◌≤◌, Bool, true, false, cond}
 use Rattle.std.proofs.Common.{nat_lt}
-use Rattle.std.proofs.Common.{List, [], ◌∷◌, ◌++◌, length, map, flat_map, Option, Some, None, Ok}
-use Rattle.std.proofs.Common.{Err}
-use Rattle.std.proofs.Common.{Result, IsErrAnd, refl, sym, ap, ap₂, subst, ◌∙◌, arith, ltb-false}
-use Rattle.std.proofs.Common.{length-append, add-one, append-nil, append_assoc, zero-add}
+use Rattle.std.proofs.Common.{List, [], ◌∷◌, ◌++◌, length, flat_map, Option, Some, None}
+use Rattle.std.proofs.Common.{refl, sym, ap, ◌∙◌, arith, ltb-false}
+use Rattle.std.proofs.Common.{add-one, append-nil, append_assoc, zero-add}
 use Rattle.std.specs.List.{list_any, range_with_len}
 use Rattle.std.proofs.lemmas.List.Concat.{flat_map-append}
 use Rattle.sv_flat.specs.Design.{FlatDesign}

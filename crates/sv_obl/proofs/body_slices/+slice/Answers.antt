@@ -1,4 +1,4 @@
-use Rattle.std.proofs.Common.{◌+◌, [], get_or, map, take, true, refl, sym, ap, subst, All}
+use Rattle.std.proofs.Common.{◌+◌, [], get_or, map, take, refl, sym, ap, subst, All}
 use Rattle.sv_obl.specs.declared.body_slices.BodySlice as slice
 use Rattle.sv_obl.specs.SliceRoutes.{IsSliceOf, AreSlicesOf, EndsIn}
 use Rattle.sv_obl.specs.IndexedStatements.{statement_of, IsMarked, numbers_found, chosen}

@@ -19,23 +19,25 @@ use Rattle.sv_flat.specs.Soundness.{piece_fits, well_formed, statement_sound, so
 use Rattle.sv_flat.specs.Assigned.{assigns, always_assigns, can_assign}
 use Rattle.sv_flat.specs.Readings.{ReadForm, reads, BitSet, either, no_bits, Reading, readings_of}
 use Rattle.sv_flat.specs.Readings.{readings, some_bit_read, is_followed}
-use Rattle.sv_flat.specs.Processes.{is_clocked, is_block, is_top_input, drivers}
+use Rattle.sv_flat.specs.Processes.{is_clocked, is_block, is_top_input, is_register, drivers}
 use Rattle.sv_flat.specs.Clocks.{processes_of}
-use Rattle.sv_flat.specs.Reads.{wants, followed, is_read_for}
+use Rattle.sv_flat.specs.Reads.{is_combinational, wants, followed, is_read_for}
 use Rattle.sv_flat.specs.FlatSystem.{flat_system}
 use Rattle.sv_flat.specs.Admission.{IsAdmitted}
 use Rattle.sv_flat.proofs.Members.{Contains-left, Contains-right}
-use Rattle.sv_flat.proofs.LeastSets.{either_way, least_set_has, some_from}
+use Rattle.sv_flat.proofs.LeastSets.{either_way, least_set_has, some_from, from_some}
 use Rattle.sv_flat.proofs.Depths.{first_of, second_of}
 use Rattle.sv_flat.proofs.ReadSignals.{reads_signals}
 use Rattle.sv_flat.proofs.SameRuns.{or_none_left, or_none_right, none_found, put_other, put_there}
 use Rattle.sv_flat.proofs.AdmittedFacts.{body_is_sound, assigned_is_signal, drives, extra_at}
+use Rattle.sv_flat.proofs.AdmittedFacts.{combinational_is_driven, clocked_is_process}
 use Rattle.sv_flat.proofs.BlockFacts.{is_settled, serves_is_read}
 use Rattle.sv_obl.specs.MadeValues.{after_piece, made, put_followed, made_on_the_way}
 use Rattle.sv_obl.specs.MadeValues.{starting_values}
 use Rattle.sv_obl.specs.Paths.{pieces_of}
 use Rattle.sv_obl.specs.Wanted.{with_copies, copy_of, is_copy, original, mark, marked_tree, marked}
 use Rattle.sv_obl.proofs.BlockSettles.{Settles}
+use Rattle.sv_obl.proofs.OneDriver.{no_second}
 use Rattle.sv_obl.proofs.PathLists.{cond_true, cond_false, none_kept}
 use Rattle.sv_obl.proofs.PutFacts.{State, all_are, running, made_with, assign_runs, width_settled}
 use Rattle.sv_obl.proofs.PutFacts.{signal_is_settled, copy_is_copy, original_of_copy}
@@ -467,3 +469,43 @@ module _ (design : FlatDesign) (is_sound : IsTrue (sound design)) (admitted : Is
       makes_on_the_way e (starting_values design.signals (is_clocked p.kind) e)
       (starts_settled (is_clocked p.kind) e)
       ∙ ap (made design.signals e s p.body) (starts_at_copy (is_clocked p.kind) e)
+
+-- ---- drivers
+
+one_of_one : (ps : List ProcessForm) (p : ProcessForm) → Contains ps p → slice_get ps 1 ≡ None →
+    ps ≡ p ∷ []
+one_of_one [] p at alone = absurd (Contains-nil p at)
+one_of_one (q ∷ ps) p at alone =
+    let none = no_second q ps alone in
+    ⊎_elim
+    (λ same. ap₂ (λ x xs. x ∷ xs) same none)
+    (λ later. absurd (Contains-nil p (subst (λ xs. Contains xs p) none later)))
+    (Contains-cases q ps p at)
+
+module _ (design : FlatDesign) (is_sound : IsTrue (sound design)) (admitted : IsAdmitted design)
+    (s : ℕ) where
+  alone : (p : ProcessForm) → Contains (processes_of design) p → IsTrue (assigns p.body s) →
+      drivers (processes_of design) s ≡ p ∷ []
+  alone p at own =
+      one_of_one (drivers (processes_of design) s) p (drives design is_sound admitted p s at own)
+      (one design is_sound admitted p s at own)
+
+  -- one process drives a signal, clocked where it is a register
+  pub combinational_driver : IsTrue (is_combinational design s) →
+      (p : ProcessForm) × Contains (processes_of design) p × IsFalse (is_clocked p.kind)
+      × IsTrue (assigns p.body s) × (drivers (processes_of design) s ≡ p ∷ [])
+  combinational_driver comb =
+      let driver = combinational_is_driven design is_sound admitted s comb in
+      (driver.0, driver.1, driver.2, driver.3, alone driver.0 driver.1 driver.3)
+
+  pub register_driver : IsTrue (is_register design s) →
+      (p : ProcessForm) × Contains (processes_of design) p × IsTrue (is_clocked p.kind)
+      × IsTrue (assigns p.body s) × (drivers (processes_of design) s ≡ p ∷ [])
+  register_driver register =
+      let found = from_some (λ (q : ProcessForm). is_clocked q.kind && assigns q.body s)
+      design.processes register in
+      let p = found.0 in
+      let clock = first_of (is_clocked p.kind) (assigns p.body s) found.2 in
+      let own = second_of (is_clocked p.kind) (assigns p.body s) found.2 in
+      let at = clocked_is_process design is_sound admitted p found.1 clock in
+      (p, at, clock, own, alone p at own)

@@ -1,11 +1,12 @@
 // What paths and valid obligations mean, as contracts of functions that do nothing.
-ghost use Rattle.std.specs.Prelude.{◌≡◌, ℕ, if◌then◌else◌, IsTrue, IsFalse, List, [], Contains};
+ghost use Rattle.std.specs.Prelude.{◌≡◌, ℕ, if◌then◌else◌, IsTrue, IsFalse, List, [], ◌∷◌};
+ghost use Rattle.std.specs.Prelude.{Contains};
 ghost use Rattle.sv_flat.specs.Assigned.{assigns};
 ghost use Rattle.sv_flat.specs.Clocks.{processes_of};
 ghost use Rattle.sv_flat.specs.Design.{TypedTree, ProcessForm, FlatDesign};
 ghost use Rattle.sv_flat.specs.FlatSystem.{flat_system};
 ghost use Rattle.sv_flat.specs.Admission.{IsAdmitted};
-ghost use Rattle.sv_flat.specs.Processes.{is_block, is_clocked};
+ghost use Rattle.sv_flat.specs.Processes.{is_block, is_clocked, is_register, drivers};
 ghost use Rattle.sv_flat.specs.Reads.{is_combinational, followed, is_read_for};
 ghost use Rattle.sv_flat.specs.Soundness.{sound};
 ghost use Rattle.sv_flat.specs.Readings.{no_bits};
@@ -115,4 +116,20 @@ pub fn wanted_names_make_the_same()
         (marked design.signals (is_block p.kind) p.body no_bits)
         (starting_values design.signals (is_clocked p.kind) e) (copy_of design.signals s)
         ≡ made design.signals e s p.body (if is_clocked p.kind then e s else 0) }
+{}
+
+/// A combinational signal is driven by one process alone, which waits for no clock.
+pub fn combinational_signals_have_one_driver()
+    ensures { (design : FlatDesign) → IsTrue (sound design) → IsAdmitted design
+        → (s : ℕ) → IsTrue (is_combinational design s)
+        → (p : ProcessForm) × Contains (processes_of design) p × IsFalse (is_clocked p.kind)
+        × IsTrue (assigns p.body s) × (drivers (processes_of design) s ≡ p ∷ []) }
+{}
+
+/// A register is driven by one process alone, which is clocked.
+pub fn registers_have_one_driver()
+    ensures { (design : FlatDesign) → IsTrue (sound design) → IsAdmitted design
+        → (s : ℕ) → IsTrue (is_register design s)
+        → (p : ProcessForm) × Contains (processes_of design) p × IsTrue (is_clocked p.kind)
+        × IsTrue (assigns p.body s) × (drivers (processes_of design) s ≡ p ∷ []) }
 {}

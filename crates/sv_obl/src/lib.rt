@@ -55,10 +55,11 @@ pub use checked::know_design;
 pub use faults::OblFault;
 pub use frames::Frame;
 pub use laws::{
-    exactly_one_path_is_taken, made_values_come_from_reads, next_value_is_made,
-    settled_value_is_made, settled_values_come_from_reads, taken_path_gives_next_value,
-    taken_path_gives_value, valid_designs_are_noninterferent,
-    valid_obligations_mean_noninterference, wanted_names_make_the_same,
+    combinational_signals_have_one_driver, exactly_one_path_is_taken, made_values_come_from_reads,
+    next_value_is_made, registers_have_one_driver, settled_value_is_made,
+    settled_values_come_from_reads, taken_path_gives_next_value, taken_path_gives_value,
+    valid_designs_are_noninterferent, valid_obligations_mean_noninterference,
+    wanted_names_make_the_same,
 };
 pub use limits::check_limits;
 pub use list_lines::list_line;

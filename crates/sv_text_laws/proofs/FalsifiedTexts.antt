@@ -136,16 +136,16 @@ module _ (text : TextTree) (asked : Option (List ℕ)) (design : FlatDesign)
 
   -- ---- names
 
-  number_below : (s : ℕ) → Contains first.signals s → s < length design.signals
+  pub number_below : (s : ℕ) → Contains first.signals s → s < length design.signals
   number_below s at = those_below (length design.signals) (λ z. not (is_clock design z)) s at
 
-  in_text : (k : ℕ) → k < length design.signals → k < length signals
+  pub in_text : (k : ℕ) → k < length design.signals → k < length signals
   in_text k below = let size = sizes text asked design side in omega arith
 
   in_design : (k : ℕ) → k < length signals → k < length design.signals
   in_design k below = let size = sizes text asked design side in omega arith
 
-  same_by_path : (e : Environment ℕ) → SameValues signals e (by_path signals e)
+  pub same_by_path : (e : Environment ℕ) → SameValues signals e (by_path signals e)
   same_by_path e k below =
       let a = at_number text asked design side k (in_design k below) in
       ap e (sym (from_is text asked design side (to k) k

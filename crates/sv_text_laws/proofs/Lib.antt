@@ -11,6 +11,7 @@ mod SameSimulations
 mod TextNames
 pub mod TextSimulations
 mod FalsifiedTexts
+mod OwnRounds
 mod TypedSizes
 mod SizeExamples
 mod PlainSignals

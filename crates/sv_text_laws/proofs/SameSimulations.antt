@@ -29,7 +29,7 @@ module _ {X Y : Type 0} (to : X → Y) where
       subst (λ d. cond d (to x ∷ ys) ys ≡ map to xs) tests rest
 
   -- what passes a test under the other names passes it under these
-  filter_named : (p : X → Bool) (q : Y → Bool) (xs : List X)
+  pub filter_named : (p : X → Bool) (q : Y → Bool) (xs : List X)
       → ((x : X) → Contains xs x → p x ≡ q (to x))
       → filter q (map to xs) ≡ map to (filter p xs)
   filter_named p q [] tests = refl

@@ -70,7 +70,7 @@ module _ (text : TextTree) (asked : Option (List ℕ)) (design : FlatDesign)
 
   -- ---- names
 
-  path_is : (s : ℕ) → Contains (flat_system design).signals s →
+  pub path_is : (s : ℕ) → Contains (flat_system design).signals s →
       joined.to s ≡ path_to text asked design side s
   unfolding system
   path_is s at =

@@ -3,4 +3,5 @@ pub mod Signals
 pub mod LabelRows
 pub mod SourceLattices
 pub mod SimulatedTexts
+pub mod TextRounds
 pub mod FalsifiedTexts

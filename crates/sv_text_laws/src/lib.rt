@@ -7,8 +7,9 @@
 //! has laws, no program.
 //!
 //! What is written of the flat design for a stimulus is what is written of the text, by the text's
-//! own cycle meaning (`specs/SimulatedTexts.antt`), and a valuation falsifies an obligation of the
-//! design exactly where it does for the text (`specs/FalsifiedTexts.antt`).
+//! own cycle meaning (`specs/SimulatedTexts.antt`), with the rounds of its own processes
+//! (`specs/TextRounds.antt`), and a valuation falsifies an obligation of the design exactly where
+//! it does for the text (`specs/FalsifiedTexts.antt`).
 //!
 //! Of the way from bytes to the flat design it says besides that bytes mean one text, that typed
 //! expressions are no larger than their sources (`specs/Sizes.antt`), that the signals of the
@@ -22,6 +23,7 @@
 
 mod falsified;
 mod meanings;
+mod rounds;
 mod signals;
 mod simulated;
 mod sizes;
@@ -42,6 +44,7 @@ ghost use Rattle.sv_obl.specs.Validity.{AllValid};
 
 pub use falsified::valuations_falsify_texts_as_their_designs;
 pub use meanings::bytes_mean_at_most_one_text;
+pub use rounds::rounds_of_orders_are_those_of_texts;
 pub use signals::flat_signals_are_those_declared;
 pub use simulated::{designs_are_written_as_their_texts, each_stimulus_of_a_text_has_one_text};
 pub use sizes::typed_expressions_are_no_larger;

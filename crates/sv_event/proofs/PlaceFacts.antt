@@ -10,7 +10,7 @@ use Rattle.sv_flat.specs.Clocks.{processes_of}
 use Rattle.sv_flat.specs.FlatSystem.{combinational_processes, run_of}
 use Rattle.sv_flat.specs.Schedules.{numbered_run}
 use Rattle.sv_flat.proofs.Members.{Contains-either}
-use Rattle.sv_sim.specs.Settling.{process_at}
+use Rattle.sv_sim.specs.Simulations.{process_at}
 use Rattle.sv_sim.proofs.AtPlace.{idle}
 use Rattle.sv_event.specs.Places.{is_of_kind, ArePlaces}
 

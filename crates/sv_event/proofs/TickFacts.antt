@@ -34,7 +34,7 @@ use Rattle.sv_flat.proofs.LeastSets.{either_way, some_from, from_some, Contains-
 use Rattle.sv_flat.proofs.LeastSets.{range_has}
 use Rattle.sv_flat.proofs.Members.{Contains-right}
 use Rattle.sv_flat.proofs.SameRuns.{none_found}
-use Rattle.sv_sim.specs.Settling.{process_at}
+use Rattle.sv_sim.specs.Simulations.{process_at}
 use Rattle.sv_sim.proofs.AtPlace.{idle}
 use Rattle.sv_sim.proofs.EdgeFacts.{touches, last_untouched, last_split, all_touch, run_touch}
 use Rattle.sv_sim.proofs.EdgeFacts.{run_from, two_pass, clocked_is_nonblocking, some_first}

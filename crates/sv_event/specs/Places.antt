@@ -1,10 +1,10 @@
--- Where the processes of one kind stand among all processes.
+-- Private: how the code goes. Where the processes of one kind stand among all processes.
 use Rattle.std.specs.Prelude.{◌≡◌, ℕ, ◌<◌, Bool, true, false, not, List, length, map, filter}
 use Rattle.std.specs.Prelude.{Contains}
 use Rattle.sv_flat.specs.Design.{ProcessForm, FlatDesign}
 use Rattle.sv_flat.specs.Clocks.{processes_of}
 use Rattle.sv_flat.specs.Processes.{is_clocked}
-use Rattle.sv_sim.specs.Settling.{process_at}
+use Rattle.sv_sim.specs.Simulations.{process_at}
 
 -- a clocked process, or one that is not
 abbrev pub is_of_kind : (clocked : Bool) → ProcessForm → Bool

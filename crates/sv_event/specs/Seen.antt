@@ -1,5 +1,5 @@
--- Words for how a list is looked through for each of some numbers. What an order is is said in
--- sv_flat/specs/Schedules.antt.
+-- Private: how the code goes. Words for how a list is looked through for each of some numbers. What
+-- an order is is said in sv_flat/specs/Schedules.antt.
 use Rattle.std.specs.Prelude.{ℕ, Bool, false, ◌==◌, if◌then◌else◌, List, count_by, slice_index_or}
 
 -- whether the number stands in the list once

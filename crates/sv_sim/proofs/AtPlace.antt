@@ -12,7 +12,7 @@ use Rattle.sv_flat.specs.Clocks.{processes_of}
 use Rattle.sv_flat.specs.Soundness.{statement_sound, sound}
 use Rattle.sv_flat.specs.Views.{process_form, flat_statement}
 use Rattle.sv_flat.proofs.AdmittedFacts.{body_is_sound}
-use Rattle.sv_sim.specs.Settling.{process_at}
+use Rattle.sv_sim.specs.Simulations.{process_at}
 
 -- a process that does nothing
 abbrev pub idle : ProcessForm

@@ -34,7 +34,8 @@ use Rattle.sv_flat.proofs.LeastSets.{either_way, Contains-from_filter}
 use Rattle.sv_flat.proofs.Members.{Contains-left, Contains-right}
 use Rattle.sv_flat.proofs.NumberedRuns.{run_is}
 use Rattle.sv_flat.proofs.SameRuns.{or_none_left, or_none_right, none_found}
-use Rattle.sv_sim.specs.Settling.{process_at, clocked_before}
+use Rattle.sv_sim.specs.Settling.{clocked_before}
+use Rattle.sv_sim.specs.Simulations.{process_at}
 use Rattle.sv_sim.specs.Simulations.{IsSimulation}
 use Rattle.sv_sim.proofs.AtPlace.{idle, cut_there}
 

@@ -46,7 +46,8 @@ use Rattle.sv_flat.proofs.Orders.{order_only}
 use Rattle.sv_flat.proofs.SameRuns.{none_found}
 use Rattle.sv_design.specs.Numbers.{numbers}
 use Rattle.sv_flat.specs.Given.{with_given, given}
-use Rattle.sv_sim.specs.Settling.{process_at, IsDriver, SameOthers}
+use Rattle.sv_sim.specs.Settling.{IsDriver, SameOthers}
+use Rattle.sv_sim.specs.Simulations.{process_at}
 use Rattle.sv_sim.specs.Simulations.{IsSimulation}
 use Rattle.sv_sim.proofs.AtPlace.{idle, is_among}
 use Rattle.sv_sim.proofs.Fitting.{numbers_fit}

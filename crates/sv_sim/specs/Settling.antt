@@ -1,14 +1,15 @@
--- Words for how settling and the clock edge go, process by process. What settled and next mean is
--- said in sv_system/specs/System.antt.
+-- Private: how the code goes. Words for how settling and the clock edge go, process by process.
+-- What settled and next mean is said in sv_system/specs/System.antt.
 use Rattle.std.specs.Prelude.{◌≡◌, ℕ, ◌<◌, Bool, false, IsTrue, IsFalse, List, length, take, filter}
 use Rattle.std.specs.Prelude.{slice_index, slice_index_or, Contains}
 use Rattle.sv_system.specs.System.{Environment}
-use Rattle.sv_flat.specs.Design.{ProcessForm, continuous, nothing, FlatDesign}
+use Rattle.sv_flat.specs.Design.{ProcessForm, FlatDesign}
 use Rattle.sv_flat.specs.Assigned.{assigns}
 use Rattle.sv_flat.specs.Clocks.{processes_of}
 use Rattle.sv_flat.specs.FlatSystem.{combinational_processes, run_of}
 use Rattle.sv_flat.specs.Processes.{is_clocked}
 use Rattle.sv_flat.specs.Reads.{is_combinational, reads_for}
+use Rattle.sv_sim.specs.Simulations.{process_at}
 
 -- no run of a combinational process that assigns the signal changes it
 abbrev pub IsStable : FlatDesign → Environment ℕ → ℕ → Type 0
@@ -33,14 +34,6 @@ is_left table s = slice_index_or table s false
 abbrev pub FrontIsStable : FlatDesign → (plan : List ℕ) → Environment ℕ → ℕ → Type 0
 FrontIsStable design plan environment i =
     (s : ℕ) → Contains (take i plan) s → IsStable design environment s
-
--- the process at a place; past the end one that does nothing
-abbrev pub process_at : FlatDesign → ℕ → ProcessForm
-process_at design place = slice_index_or (processes_of design) place (record {
-  place = record { line = 0; column = 0 };
-  kind = continuous;
-  body = nothing;
-})
 
 -- what the process at the place assigns is stable
 abbrev pub OwnIsStable : FlatDesign → Environment ℕ → (place : ℕ) → Type 0

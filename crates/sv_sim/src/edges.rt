@@ -7,7 +7,8 @@ ghost use Rattle.sv_flat.specs.FlatSystem.{flat_system, after_edge};
 ghost use Rattle.sv_flat.specs.Processes.{is_clocked};
 ghost use Rattle.sv_flat.specs.Runs.{Updates, run};
 ghost use Rattle.sv_flat.specs.Views.{design_of};
-ghost use Rattle.sv_sim.specs.Settling.{clocked_before, process_at};
+ghost use Rattle.sv_sim.specs.Settling.{clocked_before};
+ghost use Rattle.sv_sim.specs.Simulations.{process_at};
 
 use sv_design::Design;
 use sv_flat::{ProcKind, update_body};

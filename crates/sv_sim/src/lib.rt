@@ -10,8 +10,7 @@
 //! says it of the system in `sv_flat/specs/FlatSystem.antt`; and that each fitting start and list
 //! of inputs of an admitted design has exactly one trace. `Simulations.antt` says what a contract
 //! sees of a simulation; how values are given to signals stands in `sv_flat`. `Settling.antt` is
-//! private: it says how settling and the edge go; the meaning stands in the files before. Of it
-//! public contracts cite `process_at` alone, the process of `run_at` and `update_at`.
+//! private: it says how settling and the edge go; the meaning stands in the files before.
 //!
 //! Settling goes by a plan of the combinational signals, which `new` makes. `drafts` and `groups`
 //! promise no more than to end safely: whether a draft is a plan is asked of it, and the order by

@@ -9,7 +9,8 @@ ghost use Rattle.sv_flat.specs.FlatSystem.{flat_system, run_of};
 ghost use Rattle.sv_flat.specs.Reads.{is_combinational};
 ghost use Rattle.sv_flat.specs.Views.{design_of};
 ghost use Rattle.sv_system.specs.System.{IsStill};
-ghost use Rattle.sv_sim.specs.Settling.{FrontIsStable, process_at, OwnIsStable, SameOthers};
+ghost use Rattle.sv_sim.specs.Settling.{FrontIsStable, OwnIsStable, SameOthers};
+ghost use Rattle.sv_sim.specs.Simulations.{process_at};
 ghost use Rattle.sv_sim.specs.Settling.{IsDriver, IsPlan};
 
 use sv_design::Design;

@@ -2,7 +2,7 @@ use Rattle.std.proofs.Common.{◌≡◌, ℕ, ◌<◌, length, map, take}
 use Rattle.std.specs.Prelude.{Contains, filter}
 use Rattle.sv_flat.specs.Clocks.{processes_of}
 use Rattle.sv_flat.specs.Views.{design_of}
-use Rattle.sv_sim.specs.Settling.{process_at}
+use Rattle.sv_sim.specs.Simulations.{process_at}
 use Rattle.sv_event.specs.Places.{is_of_kind}
 use Rattle.sv_event.proofs.places.places_of.Given as goal
 

@@ -6,7 +6,7 @@ use Rattle.sv_flat.specs.Design.{ProcessForm}
 use Rattle.sv_flat.specs.Runs.{run}
 use Rattle.sv_flat.specs.Soundness.{statement_sound}
 use Rattle.sv_flat.specs.Views.{design_of, flat_statement}
-use Rattle.sv_sim.specs.Settling.{process_at}
+use Rattle.sv_sim.specs.Simulations.{process_at}
 use Rattle.sv_sim.proofs.AtPlace.{process_there, is_among, sound_there}
 use Rattle.sv_sim.proofs.EdgeFacts.{clocked_is_nonblocking}
 use Rattle.sv_sim.proofs.edges.update_at.Goals as goal

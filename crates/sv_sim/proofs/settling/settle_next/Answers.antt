@@ -3,7 +3,8 @@ use Rattle.sv_system.specs.System.{Environment}
 use Rattle.sv_flat.specs.ByNumber.{by_number}
 use Rattle.sv_flat.specs.FlatSystem.{run_of}
 use Rattle.sv_flat.specs.Views.{design_of}
-use Rattle.sv_sim.specs.Settling.{FrontIsStable, process_at, OwnIsStable, SameOthers}
+use Rattle.sv_sim.specs.Settling.{FrontIsStable, OwnIsStable, SameOthers}
+use Rattle.sv_sim.specs.Simulations.{process_at}
 use Rattle.sv_sim.proofs.InOrder.{run_keeps_given, own_stable, front_stays, front_more}
 use Rattle.sv_sim.proofs.Simulated.{last_is}
 use Rattle.sv_sim.proofs.settling.settle_next.Goals as goal

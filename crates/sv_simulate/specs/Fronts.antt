@@ -1,5 +1,5 @@
--- Words for the code: what was taken, and what was written before a fault. What is written stands
--- in Simulated.antt.
+-- Private: how the code goes. What was taken, and what was written before a fault. What is written
+-- stands in Simulated.antt.
 use Rattle.std.specs.Prelude.{◌≡◌, ℕ, ◌+◌, ◌<◌, ◌≤◌, Bool, IsTrue, IsFalse, List, [], ◌++◌}
 use Rattle.std.specs.Prelude.{length, take, Option, Some, None, Result, Ok, Err, IsErrOf}
 use Rattle.sv_io.specs.Sink.{WritesFront}

@@ -1,5 +1,6 @@
 pub mod Traces
 pub mod Simulated
+pub mod Faults
 pub mod Runs
 pub mod Runners
 pub mod Progress

@@ -1,4 +1,5 @@
--- Words for the code: how far a simulation has come. What is written stands in Simulated.antt.
+-- Private: how the code goes. How far a simulation has come. What is written stands in
+-- Simulated.antt.
 use Rattle.std.specs.Prelude.{◌≡◌, ℕ, ◌+◌, ◌*◌, ◌≤◌, ◌<◌, true, false, List, [], ◌++◌, length}
 use Rattle.std.specs.Prelude.{map, IfSome, vec_len}
 use Rattle.std.specs.Option.{ForSome}
@@ -59,7 +60,7 @@ pub record HasRunCycles (taken : List (List ℕ)) (before accepted : List ℕ) (
   pub lines : HaveLines (flat_of s) s.level trace before accepted s.waiting.items
 
 -- Of these lines, which are no more than a stimulus has, as many cycles were run as are counted, so
--- that no number passes its bound.
+-- that no number exceeds its bound.
 pub record HasRoom (s : Simulation) : Type 0 where
   pub read : LinesRead
   pub taken : List (List ℕ)

@@ -1,4 +1,5 @@
--- Words for the code: what runs the cycles of a design. What is written stands in Simulated.antt.
+-- Private: how the code goes. What runs the cycles of a design. What is written stands in
+-- Simulated.antt.
 use Rattle.std.specs.Prelude.{◌≡◌, ℕ, ◌+◌, ◌%◌, ◌^◌, ◌<◌, IsTrue, List, reverse, Option}
 use Rattle.std.specs.Prelude.{Some, None, Contains}
 use Rattle.std.specs.List.{range_with_len}

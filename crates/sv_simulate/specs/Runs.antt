@@ -1,8 +1,7 @@
--- Words for the code: how far a simulation has come. What is written stands in Simulated.antt.
+-- Private: how the code goes. How far a simulation has come. What is written stands in
+-- Simulated.antt.
 use Rattle.std.specs.Prelude.{◌≡◌, ℕ, ◌+◌, List, [], ◌∷◌, ◌++◌, map}
 use Rattle.std.specs.Prelude.{sum, Option, Some, None, Result, Ok, Err}
-use Rattle.sv_io.specs.declared.faults.PutFault.{PutFault}
-use Rattle.sv_io.specs.declared.faults.PutFault.TheVariants as put
 use Rattle.sv_io.specs.Sink.{WritesFront}
 use Rattle.sv_lattice.specs.declared.points.Point.{Point}
 use Rattle.sv_system.specs.System.{System, Environment, IsTrace}
@@ -21,10 +20,6 @@ use Rattle.sv_simulate.specs.declared.endings.SimFault.TheVariants as fault
 use Rattle.sv_simulate.specs.Traces.{lines_from}
 
 -- ---- faults and endings
-
-abbrev pub fault_of_put : PutFault → SimFault
-fault_of_put put.Failed = fault.Write
-fault_of_put put.OutOfMemory = fault.OutOfMemory
 
 -- what a reader's answer means for the simulation: how it ends, if it does
 abbrev pub ending_from : Result (Unit {0}) StimFault → Result (Option Ending) SimFault

@@ -43,7 +43,7 @@ impl From<Failed> for SimFault {
 }
 
 impl From<PutFault> for SimFault {
-    ghost use Rattle.sv_simulate.specs.Runs.{fault_of_put};
+    ghost use Rattle.sv_simulate.specs.Faults.{fault_of_put};
 
     ghost from_gives = { λ put fault. fault ≡ fault_of_put put };
 

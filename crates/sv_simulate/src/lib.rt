@@ -10,8 +10,7 @@
 //! at its end or holds whatever follows: by `specs/Simulated.antt` over a flat design, whose traces
 //! and lines stand in `Traces.antt` for every kind of signal name. `Runs.antt`, `Progress.antt`,
 //! `Fronts.antt` and `Runners.antt` are private: they say how the code goes; the meaning stands in
-//! those two. Of these four a public contract cites `fault_of_put` of `Runs.antt` alone: what a
-//! sink's fault becomes.
+//! those two. `Faults.antt` says what a sink's fault becomes.
 #![tactic(auto)]
 
 mod endings;

@@ -23,8 +23,8 @@ sliced s (branch place condition first second) =
     then branch place condition (sliced s first) (sliced s second)
     else nothing
 
--- the parts of a statement and then the rest, as one sequence: no part of it is nothing, and none is
--- a sequence itself
+-- the parts of a statement and then the rest, as one sequence: no part of it is nothing, and none
+-- is a sequence itself
 abbrev pub in_sequence : FlatStatement → (rest : FlatStatement) → FlatStatement
 in_sequence nothing rest = rest
 in_sequence (after first second) rest = in_sequence first (in_sequence second rest)

@@ -1,5 +1,5 @@
--- Private: how the code goes. The paths of a target as the calls hand them on, with the process that
--- drives it; which obligations a target has stands in `Obligations`.
+-- Private: how the code goes. The paths of a target as the calls hand them on, with the process
+-- that drives it; which obligations a target has stands in `Obligations`.
 use Rattle.std.specs.Prelude.{◌≡◌, ℕ, ◌+◌, ◌<◌, ◌≤◌, [], length, map, All, Contains}
 use Rattle.std.specs.Prelude.{Option, Some, None}
 use Rattle.sv_flat.specs.Design.{FlatDesign}

@@ -12,7 +12,8 @@ use Rattle.sv_flat.specs.Design.{PieceForm, ProcessForm, FlatStatement, nothing,
 use Rattle.sv_flat.specs.Design.{assign, branch}
 use Rattle.sv_flat.specs.Views.{typed_tree, chain_of}
 use Rattle.sv_flat.specs.Assigned.{assigns}
-use Rattle.sv_obl.specs.declared.indexed.Indexed.{Indexed, Row_of-Indexed, end_of-Indexed, more_of-Indexed}
+use Rattle.sv_obl.specs.declared.indexed.Indexed.{Indexed, Row_of-Indexed, end_of-Indexed}
+use Rattle.sv_obl.specs.declared.indexed.Indexed.{more_of-Indexed}
 use Rattle.sv_obl.specs.declared.indexed.Indexed as indexed
 use Rattle.sv_obl.specs.BodySlices.{sliced, in_sequence}
 use Rattle.sv_obl.specs.RouteViews.{piece_forms}

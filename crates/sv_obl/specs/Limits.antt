@@ -22,9 +22,9 @@ target_paths design s =
     flat_map (λ (p : ProcessForm).
     paths design.signals s p.kind p.body) (drivers (processes_of design) s)
 
--- The first limit that is exceeded by the targets, where those before them have so many obligations:
--- for each target 702 is asked first, then 712, then the sum; the obligations of selectors come
--- last.
+-- The first limit that is exceeded by the targets, where those before them have so many
+-- obligations: for each target 702 is asked first, then 712, then the sum; the obligations of
+-- selectors come last.
 abbrev pub first_excess : FlatDesign → (obligations : ℕ) → (targets : List ℕ) → Option Excess
 first_excess design total [] =
     if nat_lt 65536 (total + length

@@ -102,7 +102,8 @@ with_right signals s pieces right route =
     else with_put signals s pieces right route ∷ []
 
 -- the routes that a route becomes where a statement is taken before it
-abbrev pub routes_before : List SignalForm → (target : ℕ) → FlatStatement → RouteForm → List RouteForm
+abbrev pub routes_before : List SignalForm → (target : ℕ) → FlatStatement → RouteForm →
+    List RouteForm
 routes_before signals s nothing route = route ∷ []
 routes_before signals s (after first second) route =
     flat_map (routes_before signals s first) (routes_before signals s second route)

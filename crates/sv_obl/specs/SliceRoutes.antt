@@ -51,7 +51,8 @@ pub record IsChain (first second whole : BodySlice) : Type 0 where
       ≡ flat_map (slice_routes signals s first) (slice_routes signals s second route)
 
 -- the routes that a route becomes where slices one after the other are taken before it
-abbrev pub chain_routes : List SignalForm → (target : ℕ) → List BodySlice → RouteForm → List RouteForm
+abbrev pub chain_routes : List SignalForm → (target : ℕ) → List BodySlice → RouteForm →
+    List RouteForm
 chain_routes signals s [] route = route ∷ []
 chain_routes signals s (c ∷ cs) route =
     flat_map (slice_routes signals s c) (chain_routes signals s cs route)

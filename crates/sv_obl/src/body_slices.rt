@@ -16,8 +16,8 @@ use sv_flat::{FExpr, Piece, SigId};
 use sv_num::Place;
 
 /// What of a statement matters to one target (a program slice): each part that does not assign the
-/// target is left out. A `case` stands as a chain of branches, the next in `no`, which may be walked
-/// by a loop.
+/// target is left out. A `case` stands as a chain of branches, the next in `no`, which may be
+/// walked by a loop.
 #[derive(Debug, Drop)]
 pub enum BodySlice<'a> {
     Nothing,
@@ -78,7 +78,8 @@ fn branch_slice<'a>(
 ) -> Result<BodySlice<'a>, AllocError>
     ensures { (s : ℕ) (first second : FlatStatement)
         → IsSliceOf s first yes.entry → IsSliceOf s second no.entry
-        → IfOk result (λ slice. IsSliceOf s (branch place (typed_tree cond.now) first second) slice) }
+        → IfOk result (λ slice.
+        IsSliceOf s (branch place (typed_tree cond.now) first second) slice) }
 {
     if is_nothing(&yes) && is_nothing(&no) {
         return Ok(BodySlice::Nothing);

@@ -9,7 +9,8 @@ ghost use Rattle.std.specs.Ordering.{nat_cmp};
 ghost use Rattle.sv_flat.specs.Design.{PieceForm, FlatStatement, nothing, assign, branch};
 ghost use Rattle.sv_flat.specs.Views.{typed_tree, flat_statement, flat_statements, chain_of};
 ghost use Rattle.sv_flat.specs.Views.{process_form};
-ghost use Rattle.sv_obl.specs.IndexedStatements.{targets_in, IsMarked, IsIndexed, AreIndexed, SoFar, statement_of};
+ghost use Rattle.sv_obl.specs.IndexedStatements.{targets_in, IsMarked, IsIndexed, AreIndexed};
+ghost use Rattle.sv_obl.specs.IndexedStatements.{SoFar, statement_of};
 ghost use Rattle.sv_obl.specs.IndexedStatements.{ends_in, with_number, numbers_at, numbered, Tells};
 ghost use Rattle.sv_obl.specs.RouteViews.{piece_forms};
 

@@ -24,8 +24,8 @@ use sv_design::Design;
 use sv_flat::SigId;
 
 /// The obligations of a design in parts: those of one target after the other, in signal order, and
-/// then those of selectors; as values, or as `secv list` prints them. It holds the indexed bodies of
-/// the processes, and how many obligations the targets so far have. A part is to be let go
+/// then those of selectors; as values, or as `secv list` prints them. It holds the indexed bodies
+/// of the processes, and how many obligations the targets so far have. A part is to be let go
 /// before the next is made, so that no more than one stands in memory.
 #[derive(Drop)]
 pub struct Listing<'a> {

@@ -1,5 +1,5 @@
 // The obligations of a design, all at once.
-ghost use Rattle.std.specs.Prelude.{◌≡◌, ◌≤◌, [], map, length, All, IfOk, IfErr, OnOk};
+ghost use Rattle.std.specs.Prelude.{◌≡◌, ◌≤◌, map, length, All, IfOk, IfErr, OnOk};
 ghost use Rattle.sv_flat.specs.Views.{design_of};
 ghost use Rattle.sv_design.specs.Designs.{IsDesign};
 ghost use Rattle.sv_obl.specs.Answers.{Lists, Told};

@@ -1,5 +1,5 @@
 // The line of the obligation of one path, written as the path was walked: no condition is copied.
-ghost use Rattle.std.specs.Prelude.{◌≡◌, ◌<◌, [], ◌++◌, map, reverse, length, All, IfOk, OnOk};
+ghost use Rattle.std.specs.Prelude.{◌≡◌, ◌<◌, ◌++◌, map, reverse, length, All, IfOk, OnOk};
 ghost use Rattle.sv_flat.specs.ByNumber.{signal_forms};
 ghost use Rattle.sv_flat.specs.Processes.{is_clocked};
 ghost use Rattle.sv_flat.specs.Views.{process_kind, process_form};

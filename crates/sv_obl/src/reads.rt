@@ -78,7 +78,8 @@ fn add_name(signal: SigId, names: &mut BTreeSet<u32>) -> Result<(), AllocError>
 // Adds those of conditions.
 fn add_of_steps(steps: &[StepRef], names: &mut BTreeSet<u32>) -> Result<(), AllocError>
     ensures { OnOk result (names.new.keys ≡ fold (insert_key nat_cmp) names.old.keys
-        (flat_map (λ (step : StepForm). names_in [] step.condition) (map step_ref_form steps.now))) }
+        (flat_map (λ (step : StepForm). names_in [] step.condition)
+        (map step_ref_form steps.now))) }
 {
     for step in steps {
         add_names(step.cond, names)?;

@@ -80,7 +80,8 @@ pub fn put_behind<'a>(
     requires { start ≤ length routes.old.items }
     ensures routes { OnOk result (route_forms routes.new.items
         ≡ take start (route_forms routes.old.items)
-        ++ map (route_behind (step_ref_form step.entry)) (drop start (route_forms routes.old.items))) }
+        ++ map (route_behind (step_ref_form step.entry))
+        (drop start (route_forms routes.old.items))) }
     ensures count { length routes.new.items ≡ length routes.old.items }
 {
     for i in start..routes.len() {

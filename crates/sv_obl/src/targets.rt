@@ -10,8 +10,8 @@ ghost use Rattle.sv_design.specs.Designs.{IsDesign};
 ghost use Rattle.sv_obl.specs.Answers.{Answers, excess_at};
 ghost use Rattle.sv_obl.specs.Driven.{IsDriven};
 ghost use Rattle.sv_obl.specs.Obligations.{target_obligations};
-ghost use Rattle.sv_obl.specs.Routes.{RouteForm, open_route, routes_before, names_on, route_obligation};
-ghost use Rattle.sv_obl.specs.Routes.{target_excess};
+ghost use Rattle.sv_obl.specs.Routes.{RouteForm, open_route, routes_before, names_on};
+ghost use Rattle.sv_obl.specs.Routes.{route_obligation, target_excess};
 ghost use Rattle.sv_obl.specs.IndexedStatements.{statement_of, IsMarked, AreIndexed};
 ghost use Rattle.sv_obl.specs.RouteViews.{route_forms, Finds};
 ghost use Rattle.sv_obl.specs.Views.{obligation_of};
@@ -125,8 +125,8 @@ fn add_queries(
     routes: &[Route],
     queries: &mut Vec<Query>,
 ) -> Result<(), AllocError>
-    ensures { (n : ℕ) → ((route : RouteForm) → Contains (route_forms routes.now) route → All (λ t. t < n)
-        (names_on (is_clocked (process_kind process.now.kind)) target.0 route))
+    ensures { (n : ℕ) → ((route : RouteForm) → Contains (route_forms routes.now) route
+        → All (λ t. t < n) (names_on (is_clocked (process_kind process.now.kind)) target.0 route))
         → OnOk result (map obligation_of queries.new.items ≡ map obligation_of queries.old.items
         ++ map (route_obligation n (process_form process.now) target.0) (route_forms routes.now)) }
 {

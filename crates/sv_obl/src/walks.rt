@@ -7,7 +7,8 @@ ghost use Rattle.sv_obl.specs.SliceRoutes.{slice_routes};
 ghost use Rattle.sv_obl.specs.Paths.{later_place};
 ghost use Rattle.sv_obl.specs.Routes.{open_route, is_all, times_put, first_place, with_put};
 ghost use Rattle.sv_obl.specs.Routes.{with_ways, with_right, behind};
-ghost use Rattle.sv_obl.specs.RouteViews.{piece_forms, step_ref_form, route_form, route_forms, Walks, Adds};
+ghost use Rattle.sv_obl.specs.RouteViews.{piece_forms, step_ref_form, route_form, route_forms};
+ghost use Rattle.sv_obl.specs.RouteViews.{Walks, Adds};
 
 use crate::body_slices::BodySlice;
 use crate::faults::{MOST_PATHS, WalkFault};
@@ -180,8 +181,8 @@ fn put_right<'a>(
     }
 }
 
-// Adds the routes that a route becomes where a slice is taken before it; an error where all are then
-// more than 4,096, or where memory runs out.
+// Adds the routes that a route becomes where a slice is taken before it; an error where all are
+// then more than 4,096, or where memory runs out.
 #[cycle(before)]
 fn before<'a>(
     slice: &BodySlice<'a>,
@@ -193,8 +194,8 @@ fn before<'a>(
 ) -> Result<(), WalkFault>
     requires { target.0 < length signals.now }
     ensures adds { Adds (route_forms all.old.items
-        ++ slice_routes (signal_forms signals.now) target.0 slice.now (route_form route.entry)) all.new
-        result }
+        ++ slice_routes (signal_forms signals.now) target.0 slice.now (route_form route.entry))
+        all.new result }
     ensures few { length all.old.items ≤ 4096 → OnOk result (length all.new.items ≤ 4096) }
 {
     if !route.wants {
@@ -238,8 +239,8 @@ fn before_arm<'a>(
 ) -> Result<(), WalkFault>
     requires { target.0 < length signals.now }
     ensures adds { Adds (route_forms all.old.items ++ map (behind (step_ref_form step.entry))
-        (slice_routes (signal_forms signals.now) target.0 slice.now (route_form route.entry))) all.new
-        result }
+        (slice_routes (signal_forms signals.now) target.0 slice.now (route_form route.entry)))
+        all.new result }
     ensures few { length all.old.items ≤ 4096 → OnOk result (length all.new.items ≤ 4096) }
 {
     let start = all.len();
@@ -248,8 +249,8 @@ fn before_arm<'a>(
     Ok(())
 }
 
-// Adds the routes that some routes become where a slice is taken before each. Of a chain each part is
-// taken before all of them at once, and so is read once and not once for each route.
+// Adds the routes that some routes become where a slice is taken before each. Of a chain each part
+// is taken before all of them at once, and so is read once and not once for each route.
 #[cycle(before)]
 fn before_all<'a>(
     slice: &BodySlice<'a>,
@@ -297,8 +298,8 @@ fn before_each<'a>(
     Ok(())
 }
 
-/// The routes of a target where its slice is taken; an error where they are more than 4,096, or where
-/// memory runs out.
+/// The routes of a target where its slice is taken; an error where they are more than 4,096, or
+/// where memory runs out.
 pub fn routes_of<'a>(
     alloc: Global,
     signals: &[Signal],

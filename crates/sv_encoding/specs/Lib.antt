@@ -1,0 +1,9 @@
+pub mod Bodies
+pub mod BothWays
+pub mod CnfText
+pub mod Cones
+pub mod Encoding
+pub mod Expressions
+pub mod Labels
+pub mod Sizes
+pub mod Valuations

@@ -10,6 +10,7 @@ pub mod LimitExamples
 pub mod ListLineFacts
 pub mod ListExamples
 pub mod MadeFacts
+pub mod MadeSlices
 pub mod NumberSets
 pub mod OneDriver
 pub mod PathLists

@@ -14,8 +14,8 @@ use Rattle.sv_num.specs.declared.operators.BinOp.TheVariants.{LogicOr}
 use Rattle.sv_gates.specs.Formulas.{Formula}
 use Rattle.sv_gates.specs.Gates.{true_literal, false_literal, and_gate, or_gate, xor_gate, mux_gate}
 use Rattle.sv_circuits.specs.Words.{Word, BitMaker, WordMaker, ready_bit, negation, bitwise_word}
-use Rattle.sv_circuits.specs.Words.{made_in_turn, and_chain, or_chain, xor_chain, not_zero_bit, equal_bit}
-use Rattle.sv_circuits.specs.Words.{inverted_word, top_literal, equals_number_bit}
+use Rattle.sv_circuits.specs.Words.{made_in_turn, and_chain, or_chain, xor_chain, not_zero_bit}
+use Rattle.sv_circuits.specs.Words.{equal_bit, inverted_word, top_literal, equals_number_bit}
 
 -- one bit as a word
 abbrev pub one_bit : BitMaker → WordMaker

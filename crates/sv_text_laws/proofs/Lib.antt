@@ -1,4 +1,5 @@
 pub mod LatticesAsked
+mod LinkedNumbers
 mod SourceLattices
 pub mod MapsAsked
 pub mod CheckedDesigns
@@ -10,6 +11,7 @@ pub mod TextLaws
 mod SameSimulations
 mod TextNames
 pub mod TextSimulations
+pub mod TextTopClocks
 mod FalsifiedTexts
 mod OwnRounds
 mod TypedSizes

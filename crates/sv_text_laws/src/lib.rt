@@ -13,9 +13,10 @@
 //!
 //! Of the way from bytes to the flat design it says besides that bytes mean one text, that typed
 //! expressions are no larger than their sources (`specs/Sizes.antt`), that the signals of the
-//! design and its label maps are those declared (`specs/Signals.antt`, `specs/LabelRows.antt`), and
+//! design and its label maps are those declared (`specs/Signals.antt`, `specs/LabelRows.antt`),
 //! that flows, lattice and clocks are those of the source's own words
-//! (`specs/SourceLattices.antt`). None of these files is private.
+//! (`specs/SourceLattices.antt`), and that an admitted design with a clock has one that is an input
+//! of the top module. None of these files is private.
 //!
 //! Of memories and invariants, which are not built yet, neither the walk nor the meaning takes
 //! anything: of a text with such an item the laws speak as of the same text without it.
@@ -48,7 +49,10 @@ pub use rounds::rounds_of_orders_are_those_of_texts;
 pub use signals::flat_signals_are_those_declared;
 pub use simulated::{designs_are_written_as_their_texts, each_stimulus_of_a_text_has_one_text};
 pub use sizes::typed_expressions_are_no_larger;
-pub use sources::{clocks_of_texts_are_by_links, lattices_of_texts_are_lattices};
+pub use sources::{
+    clocks_of_texts_are_by_links, lattices_of_texts_are_lattices,
+    texts_without_a_top_clock_have_no_clock,
+};
 
 /// The flat design that a text stands for has a lattice of 1 to 32 points: no two different ones
 /// flow to each other, and any two have a least upper and a greatest lower point. Each of its label

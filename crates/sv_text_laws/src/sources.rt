@@ -1,13 +1,19 @@
 // What the lattice and the clocks of a text are in the source's own words, as contracts of
 // functions that do nothing.
-ghost use Rattle.std.specs.Prelude.{◌≡◌, ◌↔◌, ℕ, IsTrue, List, Option, Some, flat_map};
+ghost use Rattle.std.specs.Prelude.{◌≡◌, ◌↔◌, ℕ, IsTrue, List, [], Option, Some, None, flat_map};
 ghost use Rattle.sv_ast.specs.ClockPaths.{IsClock};
 ghost use Rattle.sv_ast.specs.Parts.{Path, same_path, parts, links_of};
 ghost use Rattle.sv_ast.specs.Reach.{holds};
+ghost use Rattle.sv_ast.specs.Shape.{is_shaped};
 ghost use Rattle.sv_ast.specs.TextSystem.{text_clocks};
 ghost use Rattle.sv_ast.specs.Tree.{TextTree};
+ghost use Rattle.sv_flat.specs.Admission.{IsAdmitted};
+ghost use Rattle.sv_flat.specs.Clocks.{clocks};
 ghost use Rattle.sv_flat.specs.Design.{FlatDesign};
+ghost use Rattle.sv_flat.specs.SignalLists.{top_clock};
 ghost use Rattle.sv_walk.specs.Texts.{flat_of};
+ghost use Rattle.sv_width.specs.WrittenLengths.{TextHasLengths};
+ghost use Rattle.sv_flatten.specs.FlattenedTexts.{ItemNumbersFit, EachItem};
 ghost use Rattle.sv_text_laws.specs.SourceLattices.{PassesLattice, IsSourceLattice};
 ghost use Rattle.sv_text_laws.specs.SourceLattices.{FlowsAreOfText};
 
@@ -31,4 +37,17 @@ pub fn clocks_of_texts_are_by_links()
     ensures { (text : TextTree) (asked : Option (List ℕ)) (x : Path)
         → IsTrue (holds same_path (text_clocks text asked) x)
         ↔ IsClock (parts text asked) (flat_map (links_of text.modules) (parts text asked)) x }
+{}
+
+/// The flat design that a text stands for, where it is admitted, has no clock among the inputs of
+/// its top module exactly where it has no clock: from each signal after a `posedge` links of whole
+/// signals to input ports lead up to such an input (IEEE 1364-2005, clauses 9.7.2 and 12.3; that
+/// a clock comes from the top is this project's profile). The text has the shape that the grammar
+/// gives, and its written numbers have 1 to 64 bits and fit them. It may release values, of which
+/// the design has no processes.
+pub fn texts_without_a_top_clock_have_no_clock()
+    ensures { (text : TextTree) (asked : Option (List ℕ)) (design : FlatDesign)
+        → IsTrue (is_shaped text) → EachItem ItemNumbersFit text → TextHasLengths text
+        → flat_of text asked ≡ Some design → IsAdmitted design
+        → top_clock design ≡ None ↔ (clocks design ≡ []) }
 {}

@@ -17,3 +17,11 @@ pub mod PickValues
 pub mod WordValues
 pub mod PartValues
 pub mod OperatorLaws
+pub mod LoopSteps
+pub mod PickSteps
+pub mod ProductSteps
+pub mod ShiftSteps
+pub mod SumSteps
+pub mod TestSteps
+pub mod WordKeeps
+pub mod WordSteps

@@ -1,0 +1,17 @@
+-- The gates of two bits, by name, and chains that are not done.
+use Rattle.std.specs.Prelude.{ℤ, Option, None, Some}
+use Rattle.sv_gates.specs.Gates.{and_gate, or_gate, xor_gate}
+use Rattle.sv_circuits.specs.declared.bit_gates.BitGate.{BitGate}
+use Rattle.sv_circuits.specs.declared.bit_gates.BitGate.TheVariants.{And, Or, Xor, Xnor}
+use Rattle.sv_circuits.specs.Words.{BitMaker, negation}
+
+abbrev pub gate_of : BitGate → (a b : ℤ) → BitMaker
+gate_of And a b formula = and_gate a b formula
+gate_of Or a b formula = or_gate a b formula
+gate_of Xor a b formula = xor_gate a b formula
+gate_of Xnor a b formula = negation (xor_gate a b) formula
+
+-- a member joined to what is before it in a chain; the first one is the chain
+abbrev pub joined_to : Option ℤ → BitGate → ℤ → BitMaker
+joined_to None gate literal formula = (formula, literal)
+joined_to (Some before) gate literal formula = gate_of gate before literal formula

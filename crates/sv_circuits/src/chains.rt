@@ -1,0 +1,100 @@
+// Chains of gates: each starts with its first member and takes no gate for it.
+ghost use Rattle.std.specs.Prelude.{◌≡◌, ◌≤◌, ◌<◌, IfOk, IfSome, IsErrOf, map};
+ghost use Rattle.sv_gates.specs.Formulas.{IsLiteral, most_variables};
+ghost use Rattle.sv_circuits.specs.Words.{ready_bit, chain, and_chain, or_chain, xor_chain};
+ghost use Rattle.sv_circuits.specs.Circuits.{IsWord};
+ghost use Rattle.sv_circuits.specs.BitGates.{gate_of, joined_to};
+
+use crate::bit_gates::{BitGate, joined};
+use crate::words::{falsity, truth};
+use sv_gates::{GateFault, Gates, Literal};
+
+/// A chain with one more member; the first one is the chain.
+pub fn joined_to(
+    gates: &mut Gates,
+    chain: Option<Literal>,
+    gate: BitGate,
+    literal: Literal,
+) -> Result<Literal, GateFault>
+    requires chain { IfSome chain (IsLiteral gates.old.variables) }
+    requires literal { IsLiteral gates.old.variables literal }
+    ensures made { IfOk result (λ g.
+        joined_to chain gate literal gates.old ≡ (gates.new, g)) }
+    ensures within { IfOk result (IsLiteral gates.new.variables) }
+    ensures grows { gates.old.variables ≤ gates.new.variables }
+    ensures full { IsErrOf result GateFault.Full
+        → most_variables < ((joined_to chain gate literal gates.old).0).variables }
+{
+    match chain {
+        Some(before) => joined(gates, gate, before, literal),
+        None => Ok(literal),
+    }
+}
+
+/// The chain of a word's literals, and `none` where there are none.
+pub fn chain(
+    gates: &mut Gates,
+    gate: BitGate,
+    none: Literal,
+    word: &[Literal],
+) -> Result<Literal, GateFault>
+    requires none { IsLiteral gates.old.variables none }
+    requires word { IsWord gates.old.variables word.now }
+    ensures made { IfOk result (λ g.
+        chain (gate_of gate) none (map ready_bit word.now) gates.old ≡ (gates.new, g)) }
+    ensures within { IfOk result (IsLiteral gates.new.variables) }
+    ensures grows { gates.old.variables ≤ gates.new.variables }
+    ensures full { IsErrOf result GateFault.Full → most_variables
+        < ((chain (gate_of gate) none (map ready_bit word.now) gates.old).0).variables }
+{
+    let Some((first, more)) = word.split_first() else {
+        return Ok(none);
+    };
+    let mut before = *first;
+    'members: for literal in more {
+        before = joined(gates, gate, before, *literal)?;
+    }
+    Ok(before)
+}
+
+/// All literals are true.
+pub fn all(gates: &mut Gates, word: &[Literal]) -> Result<Literal, GateFault>
+    requires { IsWord gates.old.variables word.now }
+    ensures made { IfOk result (λ g.
+        and_chain (map ready_bit word.now) gates.old ≡ (gates.new, g)) }
+    ensures within { IfOk result (IsLiteral gates.new.variables) }
+    ensures grows { gates.old.variables ≤ gates.new.variables }
+    ensures full { IsErrOf result GateFault.Full
+        → most_variables < ((and_chain (map ready_bit word.now) gates.old).0).variables }
+{
+    let none = truth(gates);
+    chain(gates, BitGate::And, none, word)
+}
+
+/// Some literal is true.
+pub fn any(gates: &mut Gates, word: &[Literal]) -> Result<Literal, GateFault>
+    requires { IsWord gates.old.variables word.now }
+    ensures made { IfOk result (λ g.
+        or_chain (map ready_bit word.now) gates.old ≡ (gates.new, g)) }
+    ensures within { IfOk result (IsLiteral gates.new.variables) }
+    ensures grows { gates.old.variables ≤ gates.new.variables }
+    ensures full { IsErrOf result GateFault.Full
+        → most_variables < ((or_chain (map ready_bit word.now) gates.old).0).variables }
+{
+    let none = falsity(gates);
+    chain(gates, BitGate::Or, none, word)
+}
+
+/// An odd number of literals is true.
+pub fn odd(gates: &mut Gates, word: &[Literal]) -> Result<Literal, GateFault>
+    requires { IsWord gates.old.variables word.now }
+    ensures made { IfOk result (λ g.
+        xor_chain (map ready_bit word.now) gates.old ≡ (gates.new, g)) }
+    ensures within { IfOk result (IsLiteral gates.new.variables) }
+    ensures grows { gates.old.variables ≤ gates.new.variables }
+    ensures full { IsErrOf result GateFault.Full
+        → most_variables < ((xor_chain (map ready_bit word.now) gates.old).0).variables }
+{
+    let none = falsity(gates);
+    chain(gates, BitGate::Xor, none, word)
+}

@@ -25,3 +25,4 @@ pub mod SumSteps
 pub mod TestSteps
 pub mod WordKeeps
 pub mod WordSteps
+pub mod FreshSteps

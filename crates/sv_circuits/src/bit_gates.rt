@@ -60,7 +60,8 @@ pub fn joined(
     }
 }
 
-/// Two words joined bit by bit, as far as both go.
+/// Two words joined bit by bit from bit 0, as far as both go: one gate for each bit.
+/// `Full` says that variables ran out, `OutOfMemory` that memory did; then some gates may stay.
 pub fn bitwise(
     alloc: Global,
     gates: &mut Gates,
@@ -85,7 +86,9 @@ pub fn bitwise(
     Ok(word)
 }
 
-/// Bit by bit `a` where `c` holds, else `b`, as far as both go.
+/// Bit by bit from bit 0 `a` where `c` holds, else `b`, as far as both go: one multiplexer for each
+/// bit.
+/// `Full` says that variables ran out, `OutOfMemory` that memory did; then some gates may stay.
 pub fn chosen(
     alloc: Global,
     gates: &mut Gates,

@@ -9,7 +9,9 @@ use crate::bit_gates::{BitGate, joined};
 use crate::words::{falsity, truth};
 use sv_gates::{GateFault, Gates, Literal};
 
-/// A chain with one more member; the first one is the chain.
+/// A chain with one more member, joined by a gate to what is before it; the first member is the
+/// chain, and takes no gate.
+/// `Full` says that variables ran out, `OutOfMemory` that memory did; then some gates may stay.
 pub fn joined_to(
     gates: &mut Gates,
     chain: Option<Literal>,

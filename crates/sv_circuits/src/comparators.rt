@@ -14,7 +14,8 @@ use crate::words::{falsity, ordered, truth};
 use std::alloc::Global;
 use sv_gates::{GateFault, Gates, Literal};
 
-/// a == b, as far as both go.
+/// a == b, as far as both go: the AND chain of whether their bits are the same.
+/// `Full` says that variables ran out, `OutOfMemory` that memory did; then some gates may stay.
 pub fn equal(gates: &mut Gates, a: &[Literal], b: &[Literal]) -> Result<Literal, GateFault>
     requires a { IsWord gates.old.variables a.now }
     requires b { IsWord gates.old.variables b.now }
@@ -61,7 +62,9 @@ fn equal_after(
     Ok(equal)
 }
 
-/// A word is a number.
+/// A word is a number, in as many bits as the word has: the AND chain of its bits, each negated
+/// where the number has 0.
+/// `Full` says that variables ran out, `OutOfMemory` that memory did; then some gates may stay.
 pub fn equal_number(gates: &mut Gates, word: &[Literal], number: u64) -> Result<Literal, GateFault>
     requires { IsWord gates.old.variables word.now }
     ensures made { IfOk result (λ g. equals_number_bit word.now number gates.old ≡ (gates.new, g)) }

@@ -21,6 +21,7 @@ mod multipliers;
 mod operators;
 mod selectors;
 mod shifters;
+mod variables;
 mod words;
 
 pub use bit_gates::{BitGate, bitwise, chosen};
@@ -29,6 +30,7 @@ pub use comparators::{equal, equal_number};
 pub use laws::{binary_circuits_spell_their_values, unary_circuits_spell_their_values};
 pub use operators::{binary, not_zero, unary};
 pub use selectors::picked;
+pub use variables::fresh;
 pub use words::{
     extended, falsity, filled, inverted, literal_at, number_word, part, repeated, replaced,
     top_literal, truth, zero_filled,

@@ -19,7 +19,8 @@ use std::alloc::{AllocError, Global};
 use sv_gates::{GateFault, Gates, Literal};
 use sv_num::{BinOp, UnOp};
 
-/// Whether a word is not 0.
+/// Whether a word is not 0: the OR chain of its bits.
+/// `Full` says that variables ran out, `OutOfMemory` that memory did; then some gates may stay.
 pub fn not_zero(gates: &mut Gates, word: &[Literal]) -> Result<Literal, GateFault>
     requires { IsWord gates.old.variables word.now }
     ensures made { IfOk result (λ g. not_zero_bit word.now gates.old ≡ (gates.new, g)) }
@@ -40,7 +41,8 @@ fn one_bit(alloc: Global, literal: Literal) -> Result<Vec<Literal>, AllocError>
     Ok(word)
 }
 
-/// The word of a unary operator: at the operand's length, or one bit.
+/// The word of a unary operator: at the operand's length, or one bit for `!` and the reductions.
+/// `Full` says that variables ran out, `OutOfMemory` that memory did; then some gates may stay.
 pub fn unary(
     alloc: Global,
     gates: &mut Gates,
@@ -215,6 +217,7 @@ fn zero_shifted(
 
 /// The word of a binary operator: at the left operand's length, or one bit. Both operands of `&&`
 /// and `||` are one bit each, which says whether they are not 0. `/` and `%` have the empty word.
+/// `Full` says that variables ran out, `OutOfMemory` that memory did; then some gates may stay.
 pub fn binary(
     alloc: Global,
     gates: &mut Gates,

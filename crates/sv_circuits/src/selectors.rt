@@ -30,7 +30,9 @@ fn number_count(width: usize, signed: bool, most: usize) -> usize
     }
 }
 
-/// The bit of a word at an index, and false where the index is outside of the word.
+/// The bit of a word at an index, whose type is signed or not, and false where the index is outside
+/// of the word: a test of the index and a multiplexer for each bit that it can reach.
+/// `Full` says that variables ran out, `OutOfMemory` that memory did; then some gates may stay.
 pub fn picked(
     gates: &mut Gates,
     word: &[Literal],

@@ -53,7 +53,7 @@ pub fn low_literal(number: u64) -> Literal
     }
 }
 
-/// A bit of a word, and false where there is none.
+/// A bit of a word by its number from 0, and false where there is none.
 pub fn literal_at(word: &[Literal], bit: usize) -> Literal
     ensures { result ≡ literal_at word.now bit }
 {
@@ -103,7 +103,9 @@ pub fn copied(alloc: Global, word: &[Literal]) -> Result<Vec<Literal>, AllocErro
     word.to_vec(alloc)
 }
 
-/// A number at some width.
+/// A number at some width in bits: its lowest bits, each as the literal that is always true or the
+/// one that is always false.
+/// An error says that memory ran out.
 pub fn number_word(alloc: Global, width: usize, number: u64) -> Result<Vec<Literal>, AllocError>
     ensures { IfOk result (λ word. word.items ≡ number_word width number) }
 {
@@ -116,7 +118,8 @@ pub fn number_word(alloc: Global, width: usize, number: u64) -> Result<Vec<Liter
     Ok(word)
 }
 
-/// A word at another length: cut, or with a literal as each new bit.
+/// A word at another length in bits: cut, or with a literal as each new bit.
+/// An error says that memory ran out.
 pub fn filled(
     alloc: Global,
     fill: Literal,
@@ -131,7 +134,8 @@ pub fn filled(
     Ok(made)
 }
 
-/// With false as each new bit.
+/// A word at another length in bits: cut, or with false as each new bit.
+/// An error says that memory ran out.
 pub fn zero_filled(
     alloc: Global,
     width: usize,
@@ -153,8 +157,9 @@ pub fn sign_fill(signed: bool, word: &[Literal]) -> Literal
     }
 }
 
-/// A word at another length: cut, or with the highest bit as each new one in a signed type, else
-/// with false.
+/// A word at another length in bits: cut, or with the highest bit as each new one in a signed type,
+/// else with false.
+/// An error says that memory ran out.
 pub fn extended(
     alloc: Global,
     signed: bool,
@@ -166,7 +171,8 @@ pub fn extended(
     filled(alloc, sign_fill(signed, word), width, word)
 }
 
-/// The bits from `high` down to `low`.
+/// The bits from `high` down to `low`, and false for each that the word does not have.
+/// An error says that memory ran out.
 pub fn part(
     alloc: Global,
     high: usize,
@@ -181,7 +187,9 @@ pub fn part(
     zero_filled(alloc, high - low + 1, &word[from..])
 }
 
-/// A word in which the bits from `high` down to `low` are the low bits of a piece.
+/// A word in which the bits from `high` down to `low` are the low bits of a piece, with false for
+/// each that the piece does not have.
+/// An error says that memory ran out.
 pub fn replaced(
     alloc: Global,
     high: usize,
@@ -202,7 +210,8 @@ pub fn replaced(
     Ok(made)
 }
 
-/// A word written so many times.
+/// A word written so many times, one copy above the other.
+/// An error says that memory ran out.
 pub fn repeated(alloc: Global, count: usize, word: &[Literal]) -> Result<Vec<Literal>, AllocError>
     ensures { IfOk result (λ made. made.items ≡ repeated_word count word.now) }
 {
@@ -213,7 +222,8 @@ pub fn repeated(alloc: Global, count: usize, word: &[Literal]) -> Result<Vec<Lit
     Ok(made)
 }
 
-/// Each literal negated.
+/// Each literal negated, in its place.
+/// An error says that memory ran out.
 pub fn inverted(alloc: Global, word: &[Literal]) -> Result<Vec<Literal>, AllocError>
     ensures { IfOk result (λ made. made.items ≡ inverted_word word.now) }
 {

@@ -1,0 +1,60 @@
+-- A word of new variables, as a loop makes it.
+use Rattle.std.proofs.Common.{◌≡◌, ℕ, zero, suc, ◌+◌, ◌-◌, ◌≤◌, ◌<◌, ℤ, [], ◌∷◌, ◌++◌, sym, ap, ◌∙◌, refl}
+use Rattle.std.proofs.Common.{subst, arith, append_assoc}
+use Rattle.std.proofs.lemmas.List.{append-nil}
+use Rattle.sv_gates.specs.Formulas.{Formula}
+use Rattle.sv_gates.specs.Gates.{fresh_variable}
+use Rattle.sv_circuits.specs.Words.{Word, fresh_word}
+use Rattle.sv_circuits.proofs.WordKeeps.{onto, word_up}
+use Rattle.sv_circuits.proofs.LoopSteps.{LoopAt}
+
+pub fresh_grows : (width : ℕ) (f : Formula) → f.variables ≤ ((fresh_word width f).0).variables
+fresh_grows zero f = omega arith
+fresh_grows (suc width) f =
+    let more = fresh_grows width (fresh_variable f).0 in
+    omega (arith, more)
+
+pub fresh_start : (width : ℕ) (front : Word) (old : Formula) → front ≡ [] →
+    fresh_word width old ≡ onto front (fresh_word (width - 0) old)
+fresh_start width front old e =
+    let all : width - 0 ≡ width = omega arith in rw (e, all) refl
+
+pub fresh_step : (width k : ℕ) (front : Word) (g : ℤ) (now later : Formula) → k < width →
+    fresh_variable now ≡ (later, g) →
+    onto front (fresh_word (width - k) now)
+    ≡ onto (front ++ g ∷ []) (fresh_word (width - (k + 1)) later)
+fresh_step width k front g now later h e =
+    let one : width - k ≡ suc (width - (k + 1)) = omega arith in
+    ap (λ z. onto front (fresh_word z now)) one
+    ∙ ap (λ (z : Formula × ℤ). onto front (
+      (fresh_word (width - (k + 1)) z.0).0,
+      z.1 ∷ (fresh_word (width - (k + 1)) z.0).1,
+    )) e
+    ∙ ap (λ z. ((fresh_word (width - (k + 1)) later).0, z))
+    (sym (append_assoc front (g ∷ []) (fresh_word (width - (k + 1)) later).1))
+
+pub fresh_full : (width k : ℕ) (front : Word) (now : Formula) (most : ℕ) → k < width →
+    now.variables ≡ most → most < ((onto front (fresh_word (width - k) now)).0).variables
+fresh_full width k front now most h full =
+    let one : width - k ≡ suc (width - (k + 1)) = omega arith in
+    let up = fresh_grows (width - (k + 1)) (fresh_variable now).0 in
+    subst (λ z. most < ((fresh_word z now).0).variables) (sym one) (omega (arith, up, full))
+
+pub fresh_end : (width k : ℕ) (front : Word) (now : Formula) → width ≤ k →
+    onto front (fresh_word (width - k) now) ≡ (now, front)
+fresh_end width k front now h =
+    let none : width - k ≡ 0 = omega arith in
+    ap (λ z. onto front (fresh_word z now)) none ∙ ap (λ z. (now, z)) (append-nil front)
+
+-- one turn that takes no literal of a word
+pub turned : {A : Type 0} (whole left next : Formula × A) (old now later : Formula)
+    (front : Word) → LoopAt whole left old now [] [] front [] → left ≡ next →
+    now.variables ≤ later.variables → LoopAt whole next old later [] [] front []
+turned whole left next old now later front at e up = record {
+  made = at.made ∙ e;
+  first = tt;
+  second = tt;
+  front = word_up now.variables later.variables front up at.front;
+  hand = tt;
+  grows = omega (arith, at.grows, up);
+}

@@ -1,13 +1,18 @@
 -- What clauses say: those of an expression fix its value, and those of an encoding can be met
 -- exactly where the obligation can be falsified. Of these the laws of `sv_encoding_laws` cite what
--- is proved, which is what is said of expressions; the rest says what the encoding is for.
+-- is proved, which is what is said of expressions and signals; the rest says what the encoding is
+-- for.
 use Rattle.std.specs.Prelude.{◌≡◌, ℕ, ◌-◌, ◌<◌, ◌≤◌, Bool, false, ◌==◌, ◌||◌, ◌&&◌, not, IsTrue}
 use Rattle.std.specs.Prelude.{IsFalse, ℤ, List, [], ◌∷◌, length, slice_get, Some, All, AllPairs}
+use Rattle.sv_system.specs.System.{Environment, Fits, IsStill}
 use Rattle.sv_flat.specs.Design.{SignalForm, TypedTree, FlatDesign}
 use Rattle.sv_flat.specs.Values.{signal_width, expression_width, value}
-use Rattle.sv_flat.specs.Soundness.{is_signal, well_formed}
+use Rattle.sv_flat.specs.Soundness.{is_signal, well_formed, sound}
 use Rattle.sv_flat.specs.Readings.{names_signal}
 use Rattle.sv_flat.specs.Processes.{is_top_input, is_register}
+use Rattle.sv_flat.specs.Reads.{is_combinational, is_read_for}
+use Rattle.sv_flat.specs.FlatSystem.{flat_system}
+use Rattle.sv_flat.specs.Admission.{IsAdmitted}
 use Rattle.sv_flat.specs.Sets.{holds}
 use Rattle.sv_clause.specs.Literals.{Satisfies, HaveNoSolution}
 use Rattle.sv_gates.specs.Formulas.{Formula, IsWithin}
@@ -20,8 +25,9 @@ use Rattle.sv_obl.specs.Validity.{Valuation, Falsifies, IsValid}
 use Rattle.sv_obl.specs.Noninterference.{IsChecked}
 use Rattle.sv_circuits.specs.Words.{Word, word_value}
 use Rattle.sv_encoding.specs.Expressions.{Words, expression_word}
-use Rattle.sv_encoding.specs.Cones.{now_cone, next_cone}
-use Rattle.sv_encoding.specs.Encoding.{BitPlace, Encoding, encoding}
+use Rattle.sv_encoding.specs.Cones.{registers_in, now_cone, next_cone}
+use Rattle.sv_encoding.specs.Encoding.{BitPlace, Encoding, given_in, settled_words}
+use Rattle.sv_encoding.specs.Encoding.{registers_next, encoding}
 use Rattle.sv_encoding.specs.Sizes.{stays_size, encoding_size}
 use Rattle.sv_encoding.specs.Valuations.{spelled_environment, decoded}
 
@@ -54,6 +60,70 @@ WordsSpellValues =
     (signals : List SignalForm) (words : Words) (e : TypedTree) (formula : Formula)
     → HaveBits signals → IsTrue (well_formed signals e) → StandIn signals e words formula
     → SpellsValue signals words e formula (expression_word signals words e formula)
+
+-- ---- signals
+
+-- a word of a signal: a literal for each of its bits, each of one of these variables
+abbrev pub IsWordOf : FlatDesign → (signal variables : ℕ) → Word → Type 0
+IsWordOf design s n word = IsWord n word × (length word ≡ signal_width design.signals s)
+
+-- the words of these signals spell their values in an environment
+abbrev pub SpellThere : List ℕ → (values : ℕ → Bool) → Words → Environment ℕ → Type 0
+SpellThere signals values words e =
+    (s : ℕ) → IsTrue (holds signals s) → word_value values (words s) ≡ e s
+
+-- a cone of inputs, registers and combinational signals, with all that is read for the last
+pub record IsCone (design : FlatDesign) (cone : List ℕ) : Type 0 where
+  pub kinds : (s : ℕ) → IsTrue (holds cone s) →
+      IsTrue (is_top_input design s || is_register design s || is_combinational design s)
+  pub closed : (s t : ℕ) → IsTrue (holds cone s) → IsTrue (is_combinational design s) →
+      IsTrue (is_read_for design s t) → IsTrue (holds cone t)
+
+-- words of all signals of the cone are made, whose new variables have one value each for values of
+-- the old ones; and values that meet what was made spell in them every settled environment of which
+-- they spell the inputs and registers
+abbrev pub SpellsSettled : FlatDesign → (cone : List ℕ) → Words → (old : Formula) →
+    (made : Formula × Words) → Type 0
+SpellsSettled design cone words old made =
+    Makes old made
+    (λ n made_words. (s : ℕ) → IsTrue (holds cone s) → IsWordOf design s n (made_words s))
+    (λ values made_words. (e : Environment ℕ) → Fits (flat_system design) e →
+    IsStill (flat_system design) e → SpellThere (given_in design cone) values words e →
+    SpellThere cone values made_words e)
+
+abbrev pub WordsSpellSettledValues : Type 0
+WordsSpellSettledValues =
+    (design : FlatDesign) (cone : List ℕ) (words : Words) (formula : Formula)
+    → IsTrue (sound design) → IsAdmitted design → IsCone design cone → IsBase formula
+    → ((s : ℕ) → IsTrue (holds (given_in design cone) s) →
+    IsWordOf design s formula.variables (words s))
+    → SpellsSettled design cone words formula (settled_words design cone words formula)
+
+-- the signals that are read for some of these
+abbrev pub IsReadThere : FlatDesign → List ℕ → ℕ → Type 0
+IsReadThere design signals t =
+    (s : ℕ) × IsTrue (holds signals s) × IsTrue (is_read_for design s t)
+
+-- words of the cone's registers are made beside the words that are there, whose new variables have
+-- one value each; and values that meet what was made spell in them the next values of every
+-- environment of which they spell what is read for the registers
+abbrev pub SpellsNext : FlatDesign → (cone : List ℕ) → (now : Words) → (old : Formula) →
+    (made : Formula × Words) → Type 0
+SpellsNext design cone now old made =
+    Makes old made
+    (λ n made_words. (s : ℕ) → IsTrue (holds (registers_in design cone) s) →
+    IsWordOf design s n (made_words s))
+    (λ values made_words. (e : Environment ℕ) →
+    ((t : ℕ) → IsReadThere design (registers_in design cone) t → word_value values (now t) ≡ e t) →
+    SpellThere (registers_in design cone) values made_words ((flat_system design).next e))
+
+abbrev pub WordsSpellNextValues : Type 0
+WordsSpellNextValues =
+    (design : FlatDesign) (cone : List ℕ) (now next : Words) (formula : Formula)
+    → IsTrue (sound design) → IsAdmitted design → IsBase formula
+    → ((t : ℕ) → IsReadThere design (registers_in design cone) t →
+    IsWordOf design t formula.variables (now t))
+    → SpellsNext design cone now formula (registers_next design cone now next formula)
 
 -- ---- obligations
 

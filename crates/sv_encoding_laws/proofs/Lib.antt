@@ -3,3 +3,8 @@ pub mod ExpressionLaws
 pub mod NamedValues
 pub mod Spelling
 pub mod Steps
+pub mod Renamed
+pub mod BodyWords
+pub mod DrivenWords
+pub mod FrameWords
+pub mod Settling

@@ -1,4 +1,5 @@
 // What the encoding of an obligation says, as contracts of functions that do nothing.
+ghost use Rattle.sv_encoding.specs.BothWays.{WordsSpellNextValues, WordsSpellSettledValues};
 ghost use Rattle.sv_encoding.specs.BothWays.{WordsSpellValues};
 
 /// The word of a well-formed expression has the expression's length in bits, gives each new
@@ -7,4 +8,19 @@ ghost use Rattle.sv_encoding.specs.BothWays.{WordsSpellValues};
 /// signals that it names stand in a formula whose variable 1 is true.
 pub fn words_of_expressions_spell_their_values()
     ensures { WordsSpellValues }
+{}
+
+/// The words of a cone's combinational signals, made by depth from those of its inputs and
+/// registers, have the signals' lengths in bits, give each new variable one value, and spell what
+/// every settled environment of these inputs and registers has (IEEE 1364-2005, clauses 6, 9 and
+/// 11). The design is sound and admitted.
+pub fn words_of_signals_spell_settled_values()
+    ensures { WordsSpellSettledValues }
+{}
+
+/// The words of a cone's registers in the next cycle, made from those of what is read for them in
+/// this one, have the registers' lengths in bits, give each new variable one value, and spell the
+/// next values (IEEE 1364-2005, clauses 9.2.2 and 9.7). The design is sound and admitted.
+pub fn words_of_registers_spell_next_values()
+    ensures { WordsSpellNextValues }
 {}

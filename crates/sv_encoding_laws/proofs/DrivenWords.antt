@@ -1,0 +1,397 @@
+-- The word that a process gives a signal spells what its body makes of the signal (IEEE 1364-2005,
+-- clauses 6 and 9).
+use Rattle.std.proofs.Common.{◌≡◌, ℕ, zero, suc, ◌+◌, ◌*◌, ◌<◌, ◌≤◌, Bool, true, false, ◌||◌, ◌&&◌, ◌==◌}
+use Rattle.std.proofs.Common.{not, ◌-◌, nat_lt, nat_le, cond, List, [], ◌∷◌, ◌++◌, length, refl, sym, ap, ap₂}
+use Rattle.std.proofs.Common.{subst, ◌∙◌, ◌⊎◌, inl, inr, ⊎_elim, arith, ltb-true, replicate}
+use Rattle.std.specs.Prelude.{Contains, IsTrue, IsFalse}
+use Rattle.std.specs.List.{list_any, list_all}
+use Rattle.std.proofs.lemmas.Bool.{false≢true, leb-true, leb-false, lt-ltb, eq-eqb}
+use Rattle.std.proofs.Common.{length-append}
+use Rattle.sv_num.specs.Vectors.{truth}
+use Rattle.sv_system.proofs.Lists.{Contains-map, Contains-cases, Contains-nil}
+use Rattle.sv_flat.specs.Design.{SignalForm, TypedTree, PieceForm, FlatStatement, nothing, after}
+use Rattle.sv_flat.specs.Design.{assign, branch, ProcessForm, FlatDesign}
+use Rattle.sv_flat.specs.Values.{signal_width, expression_width}
+use Rattle.sv_flat.specs.Soundness.{is_signal, is_part_of, piece_fits, well_formed, statement_sound}
+use Rattle.sv_flat.specs.Soundness.{sound}
+use Rattle.sv_flat.specs.Assigned.{assigns, can_assign, always_assigns}
+use Rattle.sv_flat.specs.Readings.{ReadForm, reads, BitSet, either, no_bits, Reading, readings_of}
+use Rattle.sv_flat.specs.Readings.{readings, is_followed}
+use Rattle.sv_flat.specs.Processes.{is_clocked, is_block, is_register, drivers}
+use Rattle.sv_flat.specs.Clocks.{processes_of, is_clock_link}
+use Rattle.sv_flat.specs.Reads.{wants, is_earlier, followed, is_read_for, process_readings}
+use Rattle.sv_flat.specs.Reads.{reads_settled}
+use Rattle.sv_flat.specs.Sets.{holds}
+use Rattle.sv_flat.specs.Admission.{IsAdmitted}
+use Rattle.sv_flat.proofs.Members.{Contains-left, Contains-right}
+use Rattle.sv_flat.proofs.LeastSets.{some_from, from_some, least_set_least, Contains-from_holds}
+use Rattle.sv_flat.proofs.LeastSets.{Contains-from_filter, either_way, holds-from_Contains}
+use Rattle.std.proofs.lemmas.Bool.{or_left}
+use Rattle.sv_flat.proofs.Depths.{first_of, second_of, from_all}
+use Rattle.sv_flat.proofs.ReadSignals.{reads_signals}
+use Rattle.sv_flat.proofs.AdmittedFacts.{and_true, body_is_sound, assigned_is_signal, some_width}
+use Rattle.sv_flat.proofs.BlockFacts.{is_settled, serves_is_read}
+use Rattle.sv_obl.specs.Exchange.{name}
+use Rattle.sv_obl.specs.MadeValues.{made, starting_values}
+use Rattle.sv_obl.specs.Wanted.{with_copies, copy_of, is_copy, original, mark, marked_tree, marked}
+use Rattle.sv_obl.proofs.MadeFacts.{follows_itself, starts_and_makes}
+use Rattle.sv_obl.proofs.PathLists.{cond_true, cond_false}
+use Rattle.sv_obl.proofs.PutFacts.{width_settled, width_copy, width_original, copy_is_copy}
+use Rattle.sv_obl.proofs.PutFacts.{original_of_copy, signal_is_settled}
+use Rattle.sv_gates.specs.Formulas.{Formula}
+use Rattle.sv_gates.specs.Gates.{false_literal}
+use Rattle.sv_gates.proofs.GateLaws.{literal_more}
+use Rattle.sv_circuits.specs.Words.{word_value}
+use Rattle.sv_circuits.specs.Circuits.{IsBase}
+use Rattle.sv_circuits.proofs.BitPieces.{false_is, false_known}
+use Rattle.sv_encoding.specs.Expressions.{Words}
+use Rattle.sv_encoding.specs.Bodies.{assigns_some, words_after, starting_words, driven_word}
+use Rattle.sv_encoding.specs.Valuations.{spelled_environment}
+use Rattle.sv_encoding.specs.BothWays.{HaveBits}
+use Rattle.sv_encoding_laws.proofs.BodyWords.{Stand, ExpressionFits, PiecesFit, BodyFits}
+use Rattle.sv_encoding_laws.proofs.BodyWords.{words_make}
+use Rattle.sv_encoding_laws.proofs.Renamed.{AllFit, IsFit, named_instead, formed_instead}
+use Rattle.sv_encoding_laws.proofs.Steps.{HasWidth, MakesWord}
+
+-- ---- false words
+
+false_word : (n width : ℕ) → 1 ≤ n → HasWidth width n (replicate width false_literal)
+false_word n zero some = record { is = tt; width = refl }
+false_word n (suc width) some =
+    let rest = false_word n width some in
+    record {
+      is = (literal_more 1 n false_literal some false_is, rest.is);
+      width = ap suc rest.width;
+    }
+
+false_value : (values : ℕ → Bool) → values 1 ≡ true → (width : ℕ) →
+    word_value values (replicate width false_literal) ≡ 0
+false_value values one zero = refl
+false_value values one (suc width) =
+    ap₂ (λ b v. truth b + 2 * v) (false_known values one) (false_value values one width)
+
+module _ (design : FlatDesign) (is_sound : IsTrue (sound design)) (admitted : IsAdmitted design)
+    (p : ProcessForm) (s : ℕ) (at : Contains (processes_of design) p)
+    (own : IsTrue (assigns p.body s)) where
+  abbrev signals : List SignalForm
+  signals = design.signals
+
+  abbrev both : List SignalForm
+  both = with_copies signals
+
+  abbrev targets : List ℕ
+  targets = followed design p s
+
+  -- ---- what counts
+
+  s_below : s < length signals
+  s_below = ltb-true s (length signals)
+      (assigned_is_signal signals p.body (body_is_sound design is_sound admitted p at) s own)
+
+  -- no value is an earlier one, so the signal alone is followed
+  only_itself : (u : ℕ) → IsTrue (holds targets u) → u ≡ s
+  only_itself u held =
+      least_set_least (length signals) (wants design p) (s ∷ [])
+      (λ k k_at. ⊎_elim (λ same. subst (λ z. z < length signals) same s_below)
+      (λ later. absurd (Contains-nil k later)) (Contains-cases s [] k k_at))
+      (λ k. k ≡ s)
+      (λ k k_at. ⊎_elim (λ same. sym same) (λ later. absurd (Contains-nil k later))
+      (Contains-cases s [] k k_at))
+      (λ m k is brings low.
+      let found = from_some (λ (r : Reading).
+      is_earlier design p r && r.serves m && (r.name.signal == k))
+      (process_readings design p) brings in
+      let r = found.0 in
+      absurd (false≢true (sym (is_settled design is_sound admitted p at r found.1)
+      ∙ first_of (is_earlier design p r) (r.serves m)
+      (first_of (is_earlier design p r && r.serves m) (r.name.signal == k) found.2))))
+      u (Contains-from_holds targets u held)
+
+  -- what is read for the signal, and copies of what is followed
+  abbrev Counts : ℕ → Type 0
+  Counts t =
+      (IsTrue (is_read_for design s t) × (t < length signals))
+      ⊎ ((u : ℕ) × IsTrue (holds targets u) × (copy_of signals u ≡ t))
+
+  copies : (u : ℕ) → IsTrue (holds targets u) → Counts (copy_of signals u)
+  copies u held = inr (u, held, refl)
+
+  -- ---- lengths
+
+  long : length both ≡ length signals + length signals
+  long = length-append signals signals
+
+  have_bits : HaveBits both
+  have_bits t inside = ⊎_elim
+      (λ copy. subst (λ k. 0 < k) (sym (width_original signals t copy))
+      (some_width design is_sound admitted (original signals t)
+      (lt-ltb (original signals t) (length signals)
+      (let low = ltb-true t (length both) inside in
+      let high = leb-true (length signals) t copy in
+      omega (arith, low, high, long)))))
+      (λ plain. let low = settled_low t plain in
+      subst (λ k. 0 < k) (sym (width_settled signals t low))
+      (some_width design is_sound admitted t (lt-ltb t (length signals) low)))
+      (either_way (is_copy signals t))
+    where
+      settled_low : (t : ℕ) → IsFalse (is_copy signals t) → t < length signals
+      settled_low t plain = by (nat_le (length signals) t) refl plain
+        where
+          by : (c : Bool) → nat_le (length signals) t ≡ c → IsFalse c → t < length signals
+          by true is none = absurd (false≢true (sym none))
+          by false is none = leb-false (length signals) t is
+
+  in_both : (t : ℕ) → t < length signals → IsTrue (is_signal both t)
+  in_both t low = lt-ltb t (length both) (omega (arith, low, long))
+
+  -- ---- the marked body
+
+  -- what is read for a target is settled, and counts
+  abbrev ReadsCount : List Reading → Type 0
+  ReadsCount rs =
+      (r : Reading) → Contains rs r →
+      IsFalse (is_block p.kind && is_followed signals r)
+      × (IsTrue (r.serves s) → IsTrue (is_read_for design s r.name.signal))
+
+  body_counts : ReadsCount (process_readings design p)
+  body_counts r r_at = (
+    is_settled design is_sound admitted p at r r_at,
+    serves_is_read design is_sound admitted p s at own r r_at,
+  )
+
+  some_is_itself : (whole : FlatStatement) → IsTrue (assigns_some targets whole) →
+      IsTrue (assigns whole s)
+  some_is_itself whole some =
+      let found = from_some (assigns whole) targets some in
+      subst (λ u. IsTrue (assigns whole u)) (only_itself found.0 (holds_of found.0 found.1)) found.2
+    where
+      holds_of : (u : ℕ) → Contains targets u → IsTrue (holds targets u)
+      holds_of u u_at = holds-from_Contains targets u u_at
+
+  tree_fits : (e : TypedTree) (serves : ℕ → Bool) (early follows : BitSet) →
+      IsTrue (well_formed signals e) → IsTrue (serves s) →
+      ReadsCount (readings_of signals e serves early follows) →
+      ExpressionFits signals have_bits targets Counts copies
+      (marked_tree signals (is_block p.kind) follows e)
+  tree_fits e serves early follows formed served count = record {
+    formed = formed_instead signals both (mark signals (is_block p.kind) follows) Counts same e
+        formed all;
+    named = named_instead signals both (mark signals (is_block p.kind) follows) Counts same e all;
+  }
+    where
+      same : (t : ℕ) → IsTrue (is_signal signals t) →
+          IsTrue (is_signal both t) × (signal_width both t ≡ signal_width signals t)
+      same t known =
+          let low = ltb-true t (length signals) known in
+          (in_both t low, width_settled signals t low)
+
+      all : AllFit signals both (mark signals (is_block p.kind) follows) Counts same
+          (reads signals e)
+      all r r_at =
+          let reading : Reading = record {
+            name = r;
+            serves = serves;
+            assigned = early;
+            follows = follows;
+          } in
+          let known = count reading (Contains-map (λ (x : ReadForm).
+          record { name = x; serves = serves; assigned = early; follows = follows })
+          (reads signals e) r r_at) in
+          let low = ltb-true r.signal (length signals) (reads_signals signals e formed r r_at) in
+          by (is_block p.kind && is_followed signals reading) known.0 (
+            in_both r.signal low,
+            (
+              width_settled signals r.signal low,
+              inl (known.1 served, low),
+            ),
+          )
+        where
+          by : (c : Bool) → IsFalse c →
+              IsTrue (is_signal both r.signal)
+              × ((signal_width both r.signal ≡ signal_width signals r.signal) × Counts r.signal) →
+              IsFit signals both (mark signals (is_block p.kind) follows) Counts same r.signal
+              (name (cond c (copy_of signals r.signal) r.signal))
+          by true none fit = absurd (false≢true (sym none))
+          by false none fit = fit
+
+  pieces_fit : (e : TypedTree) (pieces : List PieceForm) →
+      IsTrue (list_all (piece_fits signals e) pieces) →
+      PiecesFit signals have_bits targets Counts copies pieces
+  pieces_fit e pieces all piece piece_at held =
+      let fit = from_all (piece_fits signals e) pieces piece all piece_at in
+      let n = signal_width signals piece.signal in
+      let most = expression_width e - piece.from in
+      let part = second_of (is_signal signals piece.signal)
+      (is_part_of n most piece.high piece.low) fit in
+      let ends = first_of (nat_le piece.low piece.high && nat_lt piece.high n)
+      (nat_le (piece.high + 1 - piece.low) most) part in (
+        leb-true piece.low piece.high
+            (first_of (nat_le piece.low piece.high) (nat_lt piece.high n) ends),
+        ltb-true piece.high n (second_of (nat_le piece.low piece.high) (nat_lt piece.high n) ends),
+      )
+
+  -- marks change no target
+  marked_targets : (b : FlatStatement) (later : BitSet) (t : ℕ) →
+      assigns (marked signals (is_block p.kind) b later) t ≡ assigns b t
+  marked_targets nothing later t = refl
+  marked_targets (after first second) later t =
+      ap₂ ◌||◌ (marked_targets first (either (can_assign second) later) t)
+      (marked_targets second later t)
+  marked_targets (assign pieces place blocking right) later t = refl
+  marked_targets (branch place condition first second) later t =
+      ap₂ ◌||◌ (marked_targets first later t) (marked_targets second later t)
+
+  marked_fits : (b : FlatStatement) (early later : BitSet) → IsTrue (statement_sound signals b) →
+      ReadsCount (readings signals b early later) →
+      BodyFits signals have_bits targets Counts copies (marked signals (is_block p.kind) b later)
+  marked_fits nothing early later right count = tt
+  marked_fits (after first second) early later right count =
+      let late = either (can_assign second) later in
+      let mid = either (always_assigns first) early in (
+        marked_fits first early late
+            (first_of (statement_sound signals first) (statement_sound signals second) right)
+            (λ r r_at. count r (Contains-left (readings signals first early late)
+            (readings signals second mid later) r r_at)),
+        marked_fits second mid later
+            (second_of (statement_sound signals first) (statement_sound signals second) right)
+            (λ r r_at. count r (Contains-right (readings signals first early late)
+            (readings signals second mid later) r r_at)),
+      )
+  marked_fits (assign pieces place blocking e) early later right count =
+      let whole = assign pieces place blocking e in
+      (λ some. (
+        tree_fits e (assigns whole) early (either (can_assign whole) later)
+            (first_of (well_formed signals e) (list_all (piece_fits signals e) pieces) right)
+            (some_is_itself whole some) count,
+        pieces_fit e pieces
+            (second_of (well_formed signals e) (list_all (piece_fits signals e) pieces) right),
+      ))
+  marked_fits (branch place condition first second) early later right count =
+      let whole = branch place condition first second in
+      let follows = either (can_assign whole) later in
+      let here = readings_of signals condition (assigns whole) early follows in
+      let in_first = readings signals first early later in
+      let in_second = readings signals second early later in
+      let front = first_of (well_formed signals condition && statement_sound signals first)
+      (statement_sound signals second) right in (
+        (λ some.
+            tree_fits condition (assigns whole) early follows
+            (first_of (well_formed signals condition) (statement_sound signals first) front)
+            (sym (marked_targets whole later s)
+            ∙ some_is_itself (marked signals (is_block p.kind) whole later) some)
+            (λ r r_at. count r (Contains-left (here ++ in_first) in_second r
+            (Contains-left here in_first r r_at)))),
+        (
+          marked_fits first early later
+              (second_of (well_formed signals condition) (statement_sound signals first) front)
+              (λ r r_at. count r (Contains-left (here ++ in_first) in_second r
+              (Contains-right here in_first r r_at))),
+          marked_fits second early later
+              (second_of (well_formed signals condition && statement_sound signals first)
+              (statement_sound signals second) right)
+              (λ r r_at. count r (Contains-right (here ++ in_first) in_second r r_at)),
+        ),
+      )
+
+  -- ---- where the process begins
+
+  -- a register is read for itself
+  clocked_is_read : (c : Bool) → is_clocked p.kind ≡ c → IsTrue c → IsTrue (is_read_for design s s)
+  clocked_is_read c is clock =
+      or_left (is_register design s && (s == s))
+      (list_any (λ q. reads_settled design q (followed design q s) s)
+      (drivers (processes_of design) s))
+      (and_true (is_register design s) (s == s)
+      (some_from (λ (q : ProcessForm). is_clocked q.kind && assigns q.body s) design.processes p
+      (Contains-from_filter (λ q. not (is_clock_link design q)) design.processes p at).1
+      (and_true (is_clocked p.kind) (assigns p.body s) (is ∙ clock) own))
+      (eq-eqb s s refl))
+
+  module _ (words : Words) (n : ℕ) (some : 1 ≤ n)
+      (has : (t : ℕ) → IsTrue (is_read_for design s t) → HasWidth (signal_width signals t) n
+      (words t)) where
+    starts : Words
+    starts = starting_words signals (is_clocked p.kind) words
+
+    start_stands : Stand signals have_bits targets Counts copies n
+        (starting_words signals (is_clocked p.kind) words)
+    start_stands t (inl (is_read, low)) =
+        subst (HasWidth (signal_width both t) n)
+        (sym (cond_false (is_copy signals t)
+        (cond (is_clocked p.kind) (words (original signals t))
+        (replicate (signal_width signals (original signals t)) false_literal)) (words t)
+        (signal_is_settled signals t low)))
+        (subst (λ k. HasWidth k n (words t)) (sym (width_settled signals t low)) (has t is_read))
+    start_stands t (inr (u, held, is)) =
+        subst (λ k. HasWidth (signal_width both k) n
+        (starting_words signals (is_clocked p.kind) words k)) is
+        (subst (HasWidth (signal_width both (copy_of signals u)) n)
+        (sym (cond_true (is_copy signals (copy_of signals u))
+        (cond (is_clocked p.kind) (words (original signals (copy_of signals u)))
+        (replicate (signal_width signals (original signals (copy_of signals u))) false_literal))
+        (words (copy_of signals u)) (copy_is_copy signals u)))
+        (subst (λ k. HasWidth k n (cond (is_clocked p.kind)
+        (words (original signals (copy_of signals u)))
+        (replicate (signal_width signals (original signals (copy_of signals u))) false_literal)))
+        (sym (width_copy signals u))
+        (subst (λ k. HasWidth (signal_width signals u) n (cond (is_clocked p.kind) (words k)
+        (replicate (signal_width signals k) false_literal))) (sym (original_of_copy signals u))
+        (by (is_clocked p.kind) refl))))
+      where
+        by : (c : Bool) → is_clocked p.kind ≡ c →
+            HasWidth (signal_width signals u) n
+            (cond c (words u) (replicate (signal_width signals u) false_literal))
+        by true is_clock =
+            has u (subst (λ k. IsTrue (is_read_for design s k)) (sym (only_itself u held))
+            (clocked_is_read true is_clock refl))
+        by false none = false_word n (signal_width signals u) some
+
+    start_says : (values : ℕ → Bool) → values 1 ≡ true → (t : ℕ) → Counts t →
+        word_value values (starting_words signals (is_clocked p.kind) words t)
+        ≡ starting_values signals (is_clocked p.kind) (spelled_environment values words) t
+    start_says values one t counts = by_copy (is_copy signals t) (is_clocked p.kind)
+      where
+        by_clock : (d : Bool) → (u : ℕ) →
+            word_value values (cond d (words u) (replicate (signal_width signals u) false_literal))
+            ≡ cond d (word_value values (words u)) 0
+        by_clock true u = refl
+        by_clock false u = false_value values one (signal_width signals u)
+
+        by_copy : (c d : Bool) →
+            word_value values (cond c (cond d (words (original signals t))
+            (replicate (signal_width signals (original signals t)) false_literal)) (words t))
+            ≡ cond (not c) (word_value values (words t))
+            (cond d (word_value values (words (original signals t))) 0)
+        by_copy true d = by_clock d (original signals t)
+        by_copy false d = refl
+
+  -- ---- the word
+
+  pub driven_makes : (words : Words) (old : Formula) → IsBase old →
+      ((t : ℕ) → IsTrue (is_read_for design s t) →
+      HasWidth (signal_width signals t) old.variables (words t)) →
+      MakesWord old (driven_word design s p words old) (signal_width signals s)
+      (λ values. made signals (spelled_environment values words) s p.body
+      (cond (is_clocked p.kind) (spelled_environment values words s) 0))
+  driven_makes words old base has =
+      let n = old.variables in
+      let body = marked signals (is_block p.kind) p.body no_bits in
+      let begin = starting_words signals (is_clocked p.kind) words in
+      let made = words_after signals targets body begin old in
+      let fits = marked_fits p.body no_bits no_bits (body_is_sound design is_sound admitted p at)
+      body_counts in
+      let q = words_make signals have_bits targets Counts copies body fits old base begin
+      (start_stands words n base.some has)
+      (λ values. starting_values signals (is_clocked p.kind) (spelled_environment values words))
+      (λ values met. start_says words n base.some has values (base.truth values met)) in
+      let held = follows_itself design is_sound admitted p s at own in
+      let there = q.within (copy_of signals s) (copies s held) in
+      record {
+        extends = q.extends;
+        within = subst (λ k. HasWidth k (made.0).variables (made.1 (copy_of signals s)))
+            (width_copy signals s) there;
+        says = λ values met.
+            q.says values met (copy_of signals s) (copies s held)
+            ∙ starts_and_makes design is_sound admitted p s at own
+            (spelled_environment values words);
+      }

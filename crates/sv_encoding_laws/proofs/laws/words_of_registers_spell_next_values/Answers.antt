@@ -1,0 +1,5 @@
+use Rattle.sv_encoding_laws.proofs.Settling.{words_spell_next_values}
+use Rattle.sv_encoding_laws.proofs.laws.words_of_registers_spell_next_values.Goals as goal
+
+pub returns : goal.returns
+returns c = words_spell_next_values

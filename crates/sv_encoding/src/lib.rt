@@ -1,5 +1,5 @@
-//! The encoding of an obligation: clauses that can be met exactly where the obligation can be
-//! falsified.
+//! The encoding of an obligation: the clauses that stand for it, which are to be met exactly where
+//! the obligation can be falsified.
 //!
 //! This crate holds definitions alone, on plain designs, obligations and lists of literals; it has
 //! no program code. In `specs/`, `Expressions.antt` says what the word of a typed expression is, by

@@ -7,9 +7,10 @@
 //! has laws, no program.
 //!
 //! What is written of the flat design for a stimulus is what is written of the text, by the text's
-//! own cycle meaning (`specs/SimulatedTexts.antt`), with the rounds of its own processes
-//! (`specs/TextRounds.antt`), and a valuation falsifies an obligation of the design exactly where
-//! it does for the text (`specs/FalsifiedTexts.antt`).
+//! own cycle meaning (`specs/SimulatedTexts.antt`); the rounds that are counted of the design are
+//! those of the text's own processes (`specs/TextRounds.antt`), and a valuation falsifies an
+//! obligation of the design exactly where it does by environments and labels of the text
+//! (`specs/FalsifiedTexts.antt`).
 //!
 //! Of the way from bytes to the flat design it says besides that bytes mean one text, that typed
 //! expressions are no larger than their sources (`specs/Sizes.antt`), that the signals of the

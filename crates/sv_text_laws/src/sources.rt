@@ -40,9 +40,8 @@ pub fn clocks_of_texts_are_by_links()
 {}
 
 /// The flat design that a text stands for, where it is admitted, has no clock among the inputs of
-/// its top module exactly where it has no clock: from each signal after a `posedge` links of whole
-/// signals to input ports lead up to such an input (IEEE 1364-2005, clauses 9.7.2 and 12.3; that
-/// a clock comes from the top is this project's profile). The text has the shape that the grammar
+/// its top module exactly where it has no clock (IEEE 1364-2005, clauses 9.7.2 and 12.3; that a
+/// clock comes from the top is this project's profile). The text has the shape that the grammar
 /// gives, and its written numbers have 1 to 64 bits and fit them. It may release values, of which
 /// the design has no processes.
 pub fn texts_without_a_top_clock_have_no_clock()

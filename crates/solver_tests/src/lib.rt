@@ -1,5 +1,6 @@
 //! Tests of clauses, circuits, certificates, logs and the solver through their public calls, with
-//! answers worked by hand. They stand in a crate of their own, since a crate with tests is proved twice.
+//! answers worked by hand. They stand in a crate of their own, since a crate with tests is proved
+//! twice.
 #![tactic(auto)]
 
 #[cfg(test)]

@@ -1,8 +1,9 @@
 -- The encoding of an obligation: the clauses that stand for it, which are to be met exactly where
 -- it can be falsified (gates by Tseitin's clauses; this project's profile). It is made in eleven
--- steps, each a definition: the inputs and registers of this cycle's cone; its combinational signals; the
--- inputs, the registers and the combinational signals of the next cycle's cone; the facts; the
--- conditions; the target's label; the reads' labels; the violation; and the unit clauses.
+-- steps, each a definition: the inputs and registers of this cycle's cone; its combinational
+-- signals; the inputs, the registers and the combinational signals of the next cycle's cone; the
+-- facts; the conditions; the target's label; the reads' labels; the violation; and the unit
+-- clauses.
 use Rattle.std.specs.Prelude.{ℕ, Bool, true, false, ◌||◌, if◌then◌else◌, ℤ, neg_ℤ, unsigned_abs}
 use Rattle.std.specs.Prelude.{List, [], ◌∷◌, ◌++◌, map, filter, flat_map, fold}
 use Rattle.std.specs.List.{enumerate_from}

@@ -104,9 +104,9 @@ abbrev pub IsReadThere : FlatDesign → List ℕ → ℕ → Type 0
 IsReadThere design signals t =
     (s : ℕ) × IsTrue (holds signals s) × IsTrue (is_read_for design s t)
 
--- words of the cone's registers are made beside the words that are there, whose new variables have
--- one value each; and values that meet what was made spell in them the next values of every
--- environment of which they spell what is read for the registers
+-- words of the cone's registers are made, whose new variables have one value each; and values that
+-- meet what was made spell in them the next values of every environment of which they spell what is
+-- read for the registers
 abbrev pub SpellsNext : FlatDesign → (cone : List ℕ) → (now : Words) → (old : Formula) →
     (made : Formula × Words) → Type 0
 SpellsNext design cone now old made =
@@ -117,6 +117,10 @@ SpellsNext design cone now old made =
     ((t : ℕ) → IsReadThere design (registers_in design cone) t → word_value values (now t) ≡ e t) →
     SpellThere (registers_in design cone) values made_words ((flat_system design).next e))
 
+-- every other word is the one that was there
+abbrev pub LeaveOthers : List ℕ → (old made : Words) → Type 0
+LeaveOthers signals old made = (t : ℕ) → IsFalse (holds signals t) → made t ≡ old t
+
 abbrev pub WordsSpellNextValues : Type 0
 WordsSpellNextValues =
     (design : FlatDesign) (cone : List ℕ) (now next : Words) (formula : Formula)
@@ -124,6 +128,8 @@ WordsSpellNextValues =
     → ((t : ℕ) → IsReadThere design (registers_in design cone) t →
     IsWordOf design t formula.variables (now t))
     → SpellsNext design cone now formula (registers_next design cone now next formula)
+    × LeaveOthers (registers_in design cone) next
+    (registers_next design cone now next formula).1
 
 -- ---- obligations
 

@@ -3,7 +3,7 @@
 use Rattle.std.proofs.Common.{◌≡◌, ℕ, zero, suc, ◌+◌, ◌<◌, ◌≤◌, Bool, true, false, ◌||◌, ◌&&◌, ◌==◌, cond}
 use Rattle.std.proofs.Common.{List, [], ◌∷◌, ◌++◌, filter, length, refl, sym, ap, subst, ◌∙◌, ◌⊎◌}
 use Rattle.std.proofs.Common.{inl, inr, ⊎_elim, arith, eq-or-lt_of_le}
-use Rattle.std.specs.Prelude.{Contains, IsTrue, flat_map}
+use Rattle.std.specs.Prelude.{IsFalse, Contains, IsTrue, flat_map}
 use Rattle.std.specs.List.{range_with_len, list_any}
 use Rattle.std.proofs.lemmas.Bool.{false≢true, eqb-true, eq-eqb, or_left}
 use Rattle.sv_system.specs.System.{Environment, Fits, IsStill}
@@ -19,6 +19,7 @@ use Rattle.sv_flat.specs.Reads.{reads_settled}
 use Rattle.sv_flat.specs.FlatSystem.{flat_system}
 use Rattle.sv_flat.specs.Sets.{holds}
 use Rattle.sv_flat.specs.Admission.{IsAdmitted}
+use Rattle.sv_flat.proofs.SameRuns.{or_none_left, or_none_right, none_found}
 use Rattle.sv_flat.proofs.LeastSets.{Contains-from_filter, those_pass, in_those}
 use Rattle.sv_flat.proofs.Depths.{first_of, second_of, is_below, reads_are_lower, depth_above_reads}
 use Rattle.sv_flat.proofs.Orders.{order_has}
@@ -52,6 +53,18 @@ filter_join test (x ∷ xs) ys = by (test x) (filter_join test xs ys)
         ≡ cond c (x ∷ filter test xs) (filter test xs) ++ filter test ys
     by true rest = ap (λ zs. x ∷ zs) rest
     by false rest = rest
+
+-- words that are made one after the other leave all others
+pub leaves_others : (make : ℕ → Words → Formula → Formula × Word) (ss : List ℕ) (words : Words)
+    (old : Formula) (t : ℕ) → IsFalse (holds ss t) → (words_made make ss words old).1 t ≡ words t
+leaves_others make [] words old t none = refl
+leaves_others make (s ∷ ss) words old t none =
+    let mid = make s words old in
+    leaves_others make ss (with_word s mid.1 words) mid.0 t
+    (or_none_right (s == t) (holds ss t) none)
+    ∙ cond_false (t == s) mid.1 (words t)
+    (none_found (t == s) (λ same. false≢true (sym (or_none_left (s == t) (holds ss t) none)
+    ∙ eq-eqb s t (sym (eqb-true t s same)))))
 
 -- ---- names with words, as more are made
 

@@ -8,3 +8,5 @@ pub mod BodyWords
 pub mod DrivenWords
 pub mod FrameWords
 pub mod Settling
+pub mod ConeFacts
+pub mod TruthWords

@@ -9,6 +9,8 @@ use Rattle.sv_encoding.specs.Cones.{registers_in}
 use Rattle.sv_encoding.specs.Encoding.{given_in}
 use Rattle.sv_encoding.specs.BothWays.{WordsSpellSettledValues, WordsSpellNextValues}
 use Rattle.sv_encoding_laws.proofs.FrameWords.{settled_make, nexts_make, after_member}
+use Rattle.sv_encoding_laws.proofs.FrameWords.{leaves_others}
+use Rattle.sv_encoding.specs.Bodies.{settled_word}
 
 pub words_spell_settled_values : WordsSpellSettledValues
 words_spell_settled_values design cone words formula is_sound admitted is_cone base wide =
@@ -36,15 +38,17 @@ words_spell_next_values design cone now next formula is_sound admitted base wide
     (λ t. ⊥) next formula base
     (λ t r. let known = wide t (r.0, holds-from_Contains listed r.0 r.1, r.2) in
     record { is = known.0; width = known.1 })
-    (λ t none. absurd none) in
-    record {
-      extends = p.extends;
-      within = λ s at. let has = p.within s
-          (after_member (λ t. ⊥) listed s (Contains-from_holds listed s at)) in
-          (has.is, has.width);
-      says = λ values met e reads s at.
-          p.says values met e
-          (λ t r. reads t (r.0, holds-from_Contains listed r.0 r.1, r.2))
-          (λ t none. absurd none)
-          s (after_member (λ t. ⊥) listed s (Contains-from_holds listed s at));
-    }
+    (λ t none. absurd none) in (
+      record {
+        extends = p.extends;
+        within = λ s at. let has = p.within s
+            (after_member (λ t. ⊥) listed s (Contains-from_holds listed s at)) in
+            (has.is, has.width);
+        says = λ values met e reads s at.
+            p.says values met e
+            (λ t r. reads t (r.0, holds-from_Contains listed r.0 r.1, r.2))
+            (λ t none. absurd none)
+            s (after_member (λ t. ⊥) listed s (Contains-from_holds listed s at));
+      },
+      leaves_others (λ s words. settled_word design now s) listed next formula,
+    )

@@ -2,6 +2,8 @@
 use Rattle.std.proofs.Common.{◌≡◌, ℕ, zero, suc, ◌+◌, ◌-◌, ◌≤◌, ◌<◌, ℤ, [], ◌∷◌, ◌++◌, sym, ap, ◌∙◌, refl}
 use Rattle.std.proofs.Common.{subst, arith, append_assoc}
 use Rattle.std.proofs.lemmas.List.{append-nil}
+use Rattle.sv_gates.specs.Extending.{Begins}
+use Rattle.sv_gates.proofs.ExtendingLaws.{begins_trans}
 use Rattle.sv_gates.specs.Formulas.{Formula}
 use Rattle.sv_gates.specs.Gates.{fresh_variable}
 use Rattle.sv_circuits.specs.Words.{Word, fresh_word}
@@ -49,12 +51,12 @@ fresh_end width k front now h =
 -- one turn that takes no literal of a word
 pub turned : {A : Type 0} (whole left next : Formula × A) (old now later : Formula)
     (front : Word) → LoopAt whole left old now [] [] front [] → left ≡ next →
-    now.variables ≤ later.variables → LoopAt whole next old later [] [] front []
+    Begins now later → LoopAt whole next old later [] [] front []
 turned whole left next old now later front at e up = record {
   made = at.made ∙ e;
   first = tt;
   second = tt;
-  front = word_up now.variables later.variables front up at.front;
+  front = word_up now.variables later.variables front up.grows at.front;
   hand = tt;
-  grows = omega (arith, at.grows, up);
+  begins = begins_trans old now later at.begins up;
 }

@@ -5,6 +5,8 @@ use Rattle.std.proofs.Common.{subst, arith, append_assoc, ◌⊎◌, ⊎_elim}
 use Rattle.std.proofs.lemmas.List.{append-nil}
 use Rattle.sv_gates.specs.Formulas.{Formula, IsLiteral}
 use Rattle.sv_gates.specs.Gates.{xor_gate, mux_gate}
+use Rattle.sv_gates.specs.Extending.{Begins}
+use Rattle.sv_gates.proofs.ExtendingLaws.{begins_none, begins_trans}
 use Rattle.sv_circuits.specs.declared.bit_gates.BitGate.{BitGate}
 use Rattle.sv_circuits.specs.declared.bit_gates.BitGate.TheVariants.{And, Or, Xor, Xnor}
 use Rattle.sv_circuits.specs.Words.{Word, BitMaker, ready_bit, bitwise_word, chain, chain_from}
@@ -22,41 +24,41 @@ pub record LoopAt {A : Type 0} (whole left : Formula × A) (old now : Formula)
   pub second : IsWord now.variables ys
   pub front : IsWord now.variables done
   pub hand : IsWord now.variables held
-  pub grows : old.variables ≤ now.variables
+  pub begins : Begins old now
 
 -- one turn that takes a literal of both words
 pub both_more : {A : Type 0} (whole left next : Formula × A) (old now later : Formula)
     (first second more rest front hand held : Word) (a b : ℤ) →
     LoopAt whole left old now first second front hand → first ≡ a ∷ more → second ≡ b ∷ rest →
-    left ≡ next → now.variables ≤ later.variables → IsWord later.variables held →
+    left ≡ next → Begins now later → IsWord later.variables held →
     LoopAt whole next old later more rest front held
 both_more whole left next old now later first second more rest front hand held a b at ea eb e up is =
     let one = subst (IsWord now.variables) ea at.first in
     let two = subst (IsWord now.variables) eb at.second in
     record {
       made = at.made ∙ e;
-      first = word_up now.variables later.variables more up one.1;
-      second = word_up now.variables later.variables rest up two.1;
-      front = word_up now.variables later.variables front up at.front;
+      first = word_up now.variables later.variables more up.grows one.1;
+      second = word_up now.variables later.variables rest up.grows two.1;
+      front = word_up now.variables later.variables front up.grows at.front;
       hand = is;
-      grows = omega (arith, at.grows, up);
+      begins = begins_trans old now later at.begins up;
     }
 
 -- one turn that takes a literal of the first word alone
 pub one_more : {A : Type 0} (whole left next : Formula × A) (old now later : Formula)
     (first second more front hand held : Word) (a : ℤ) →
     LoopAt whole left old now first second front hand → first ≡ a ∷ more →
-    left ≡ next → now.variables ≤ later.variables → IsWord later.variables held →
+    left ≡ next → Begins now later → IsWord later.variables held →
     LoopAt whole next old later more second front held
 one_more whole left next old now later first second more front hand held a at ea e up is =
     let one = subst (IsWord now.variables) ea at.first in
     record {
       made = at.made ∙ e;
-      first = word_up now.variables later.variables more up one.1;
-      second = word_up now.variables later.variables second up at.second;
-      front = word_up now.variables later.variables front up at.front;
+      first = word_up now.variables later.variables more up.grows one.1;
+      second = word_up now.variables later.variables second up.grows at.second;
+      front = word_up now.variables later.variables front up.grows at.front;
       hand = is;
-      grows = omega (arith, at.grows, up);
+      begins = begins_trans old now later at.begins up;
     }
 
 -- one more literal at the end of the word that is made
@@ -70,7 +72,7 @@ pushed whole left old now first second front hand l at is = record {
   second = at.second;
   front = word_push now.variables front l at.front is;
   hand = at.hand;
-  grows = at.grows;
+  begins = at.begins;
 }
 
 -- the start
@@ -84,7 +86,7 @@ loop_start whole left old xs ys first second front hand one two ea eb ef is e = 
   second = rw eb two;
   front = rw ef tt;
   hand = is;
-  grows = omega arith;
+  begins = begins_none old;
 }
 
 -- what has too many variables

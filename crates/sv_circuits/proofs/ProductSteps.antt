@@ -2,6 +2,8 @@
 use Rattle.std.proofs.Common.{◌≡◌, ℕ, suc, ◌-◌, ◌≤◌, ◌<◌, ℤ, List, [], ◌∷◌, ◌++◌, map, length, take}
 use Rattle.std.proofs.Common.{sym, ap, ◌∙◌, subst, arith, append_assoc}
 use Rattle.std.proofs.lemmas.List.{append-nil}
+use Rattle.sv_gates.specs.Extending.{Begins}
+use Rattle.sv_gates.proofs.ExtendingLaws.{begins_trans}
 use Rattle.sv_gates.specs.Formulas.{Formula}
 use Rattle.std.proofs.lemmas.List.{length-append}
 use Rattle.sv_gates.specs.Gates.{and_gate, false_literal}
@@ -75,11 +77,11 @@ pub record RowsAt (whole : Formula × List Word) (old now : Formula) (a bs : Wor
   pub word : IsWord now.variables a
   pub left : IsWord now.variables bs
   pub done : AreWords now.variables rows
-  pub grows : old.variables ≤ now.variables
+  pub begins : Begins old now
 
 pub rows_more : (whole : Formula × List Word) (old now later : Formula) (a bs more : Word)
     (rows : List Word) (row : Word) (b : ℤ) → RowsAt whole old now a bs rows → bs ≡ b ∷ more →
-    product_row a (length rows) b now ≡ (later, row) → now.variables ≤ later.variables →
+    product_row a (length rows) b now ≡ (later, row) → Begins now later →
     IsWord later.variables row → RowsAt whole old later a more (rows ++ row ∷ [])
 rows_more whole old now later a bs more rows row b at eb e up is =
     let one : suc (length rows) ≡ length (rows ++ row ∷ []) =
@@ -101,11 +103,11 @@ rows_more whole old now later a bs more rows row b at eb e up is =
             (product_rows a z more later).0,
             (rows ++ row ∷ []) ++ (product_rows a z more later).1,
           )) one;
-      word = word_up now.variables later.variables a up at.word;
-      left = word_up now.variables later.variables more up rest.1;
+      word = word_up now.variables later.variables a up.grows at.word;
+      left = word_up now.variables later.variables more up.grows rest.1;
       done = words_push later.variables rows row
-          (words_up now.variables later.variables rows up at.done) is;
-      grows = omega (arith, at.grows, up);
+          (words_up now.variables later.variables rows up.grows at.done) is;
+      begins = begins_trans old now later at.begins up;
     }
 
 pub rows_full : (whole : Formula × List Word) (old now : Formula) (a bs more : Word)
@@ -144,11 +146,11 @@ pub record TotalAt (whole : Formula × Word) (old now : Formula) (total : Word)
   pub made : whole ≡ total_from total rows now
   pub word : IsWord now.variables total
   pub left : AreWords now.variables rows
-  pub grows : old.variables ≤ now.variables
+  pub begins : Begins old now
 
 pub total_more : (whole : Formula × Word) (old now later : Formula) (total row next : Word)
     (rows more : List Word) → TotalAt whole old now total rows → rows ≡ row ∷ more →
-    sum_word total row false_literal now ≡ (later, next) → now.variables ≤ later.variables →
+    sum_word total row false_literal now ≡ (later, next) → Begins now later →
     IsWord later.variables next → TotalAt whole old later next more
 total_more whole old now later total row next rows more at er e up is =
     let rest = subst (AreWords now.variables) er at.left in
@@ -156,8 +158,8 @@ total_more whole old now later total row next rows more at er e up is =
       made = at.made ∙ ap (λ z. total_from total z now) er
           ∙ ap (λ (z : Formula × Word). total_from z.1 more z.0) e;
       word = is;
-      left = words_up now.variables later.variables more up rest.1;
-      grows = omega (arith, at.grows, up);
+      left = words_up now.variables later.variables more up.grows rest.1;
+      begins = begins_trans old now later at.begins up;
     }
 
 pub total_full : (whole : Formula × Word) (old now : Formula) (total row : Word)

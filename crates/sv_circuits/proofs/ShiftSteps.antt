@@ -5,6 +5,8 @@ use Rattle.std.specs.Prelude.{replicate}
 use Rattle.std.proofs.Math.Seq.{drop-nil}
 use Rattle.std.proofs.Math.Nat.{pow-suc}
 use Rattle.std.proofs.lemmas.List.{take_all, length-drop}
+use Rattle.sv_gates.specs.Extending.{Begins}
+use Rattle.sv_gates.proofs.ExtendingLaws.{begins_trans}
 use Rattle.sv_gates.specs.Formulas.{Formula, IsLiteral}
 use Rattle.sv_gates.specs.Gates.{mux_gate}
 use Rattle.sv_circuits.specs.declared.shifters.Direction.{Direction}
@@ -96,17 +98,17 @@ shift_end move i xs word now e = ap (λ z. shifted_from move i z word now) e
 
 pub shift_more : {A : Type 0} (whole left next : Formula × A) (old now later : Formula)
     (xs more word made hand : Word) (bit : ℤ) → LoopAt whole left old now xs [] word hand →
-    xs ≡ bit ∷ more → left ≡ next → now.variables ≤ later.variables →
+    xs ≡ bit ∷ more → left ≡ next → Begins now later →
     IsWord later.variables made → LoopAt whole next old later more [] made hand
 shift_more whole left next old now later xs more word made hand bit at ex e up is =
     let one = subst (IsWord now.variables) ex at.first in
     record {
       made = at.made ∙ e;
-      first = word_up now.variables later.variables more up one.1;
+      first = word_up now.variables later.variables more up.grows one.1;
       second = tt;
       front = is;
-      hand = word_up now.variables later.variables hand up at.hand;
-      grows = omega (arith, at.grows, up);
+      hand = word_up now.variables later.variables hand up.grows at.hand;
+      begins = begins_trans old now later at.begins up;
     }
 
 pub twice : (i by : ℕ) (next : ℕ) → by ≡ min (2 ^ i) 18446744073709551615 →

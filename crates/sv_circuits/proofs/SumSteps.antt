@@ -2,6 +2,8 @@
 use Rattle.std.proofs.Common.{◌≡◌, ℕ, ◌≤◌, ◌<◌, ℤ, [], ◌∷◌, ◌++◌, refl, sym, ap, ◌∙◌, subst, arith}
 use Rattle.std.proofs.Common.{append_assoc, ◌⊎◌, ⊎_elim}
 use Rattle.std.proofs.lemmas.List.{append-nil}
+use Rattle.sv_gates.specs.Extending.{Begins}
+use Rattle.sv_gates.proofs.ExtendingLaws.{begins_none, begins_trans}
 use Rattle.sv_gates.specs.Formulas.{Formula, IsLiteral}
 use Rattle.sv_circuits.specs.Words.{Word}
 use Rattle.sv_circuits.specs.Circuits.{IsWord}
@@ -25,7 +27,7 @@ pub record SumAt (whole : Formula × Word) (old : Formula) (xs ys front : Word) 
   pub second : IsWord now.variables ys
   pub next : IsLiteral now.variables carry
   pub done : IsWord now.variables front
-  pub grows : old.variables ≤ now.variables
+  pub begins : Begins old now
 
 pub sum_start : (xs ys fst snd front : Word) (carry : ℤ) (old : Formula) → fst ≡ xs → snd ≡ ys →
     front ≡ [] → IsWord old.variables xs → IsWord old.variables ys → IsLiteral old.variables carry →
@@ -36,16 +38,16 @@ sum_start xs ys fst snd front carry old ea eb ef first second next = record {
   second = rw eb second;
   next = next;
   done = rw ef tt;
-  grows = omega arith;
+  begins = begins_none old;
 }
 
 pub sum_more : (whole : Formula × Word) (old : Formula) (xs ys front more rest : Word)
     (carry a b : ℤ) (now later : Formula) (bits : ℤ × ℤ) →
     SumAt whole old xs ys front carry now → xs ≡ a ∷ more → ys ≡ b ∷ rest →
-    add_bits a b carry now ≡ (later, bits) → now.variables ≤ later.variables →
+    add_bits a b carry now ≡ (later, bits) → Begins now later →
     IsLiteral later.variables bits.0 → IsLiteral later.variables bits.1 →
     SumAt whole old more rest (front ++ bits.0 ∷ []) bits.1 later
-sum_more whole old xs ys front more rest carry a b now later bits at ea eb e grows s n =
+sum_more whole old xs ys front more rest carry a b now later bits at ea eb e up s n =
     let first : IsWord now.variables (a ∷ more) = subst (IsWord now.variables) ea at.first in
     let second : IsWord now.variables (b ∷ rest) = subst (IsWord now.variables) eb at.second in
     record {
@@ -58,12 +60,12 @@ sum_more whole old xs ys front more rest carry a b now later bits at ea eb e gro
           )) e
           ∙ ap (λ z. ((sum_word more rest bits.1 later).0, z))
           (sym (append_assoc front (bits.0 ∷ []) (sum_word more rest bits.1 later).1));
-      first = word_up now.variables later.variables more grows first.1;
-      second = word_up now.variables later.variables rest grows second.1;
+      first = word_up now.variables later.variables more up.grows first.1;
+      second = word_up now.variables later.variables rest up.grows second.1;
       next = n;
       done = word_push later.variables front bits.0
-          (word_up now.variables later.variables front grows at.done) s;
-      grows = omega (arith, at.grows);
+          (word_up now.variables later.variables front up.grows at.done) s;
+      begins = begins_trans old now later at.begins up;
     }
 
 pub sum_full : (whole : Formula × Word) (old : Formula) (xs ys front more rest : Word)

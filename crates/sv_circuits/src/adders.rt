@@ -1,5 +1,6 @@
 // Sums, differences and products of words of one length.
 ghost use Rattle.std.specs.Prelude.{◌≡◌, ◌≤◌, ◌<◌, IfOk, IsErrOf, replicate};
+ghost use Rattle.sv_gates.specs.Extending.{Begins};
 ghost use Rattle.sv_gates.specs.Formulas.{IsLiteral, most_variables};
 ghost use Rattle.sv_gates.specs.Gates.{false_literal};
 ghost use Rattle.sv_circuits.specs.Circuits.{IsWord};
@@ -10,6 +11,7 @@ use std::alloc::{AllocError, Global};
 use sv_gates::{GateFault, Gates, Literal};
 
 // The bit of a sum, and the next carry.
+#[tactic(auto, using(sv_gates::proofs::ExtendingLaws::begins_trans))]
 fn full_adder(
     gates: &mut Gates,
     a: Literal,
@@ -22,7 +24,7 @@ fn full_adder(
     ensures made { IfOk result (λ bits. add_bits a b carry gates.old ≡ (gates.new, bits)) }
     ensures sum { IfOk result (λ bits. IsLiteral gates.new.variables bits.0) }
     ensures next { IfOk result (λ bits. IsLiteral gates.new.variables bits.1) }
-    ensures grows { gates.old.variables ≤ gates.new.variables }
+    ensures begins { Begins gates.old gates.new }
     ensures full { IsErrOf result GateFault.Full
         → most_variables < ((add_bits a b carry gates.old).0).variables }
 {
@@ -35,6 +37,7 @@ fn full_adder(
 }
 
 /// The sum of two words and a carry into bit 0.
+#[tactic(auto, using(sv_gates::proofs::ExtendingLaws::begins_trans))]
 pub fn sum_with(
     alloc: Global,
     gates: &mut Gates,
@@ -48,7 +51,7 @@ pub fn sum_with(
     ensures made { IfOk result (λ word.
         sum_word a.now b.now carry gates.old ≡ (gates.new, word.items)) }
     ensures within { IfOk result (λ word. IsWord gates.new.variables word.items) }
-    ensures grows { gates.old.variables ≤ gates.new.variables }
+    ensures begins { Begins gates.old gates.new }
     ensures full { IsErrOf result GateFault.Full
         → most_variables < ((sum_word a.now b.now carry gates.old).0).variables }
 {
@@ -74,7 +77,7 @@ pub fn sum(
     ensures made { IfOk result (λ word.
         sum_word a.now b.now false_literal gates.old ≡ (gates.new, word.items)) }
     ensures within { IfOk result (λ word. IsWord gates.new.variables word.items) }
-    ensures grows { gates.old.variables ≤ gates.new.variables }
+    ensures begins { Begins gates.old gates.new }
     ensures full { IsErrOf result GateFault.Full
         → most_variables < ((sum_word a.now b.now false_literal gates.old).0).variables }
 {
@@ -94,7 +97,7 @@ pub fn difference(
     ensures made { IfOk result (λ word.
         difference_word a.now b.now gates.old ≡ (gates.new, word.items)) }
     ensures within { IfOk result (λ word. IsWord gates.new.variables word.items) }
-    ensures grows { gates.old.variables ≤ gates.new.variables }
+    ensures begins { Begins gates.old gates.new }
     ensures full { IsErrOf result GateFault.Full
         → most_variables < ((difference_word a.now b.now gates.old).0).variables }
 {
@@ -108,7 +111,7 @@ pub fn minus(alloc: Global, gates: &mut Gates, a: &[Literal]) -> Result<Vec<Lite
     requires { IsWord gates.old.variables a.now }
     ensures made { IfOk result (λ word. minus_word a.now gates.old ≡ (gates.new, word.items)) }
     ensures within { IfOk result (λ word. IsWord gates.new.variables word.items) }
-    ensures grows { gates.old.variables ≤ gates.new.variables }
+    ensures begins { Begins gates.old gates.new }
     ensures full { IsErrOf result GateFault.Full
         → most_variables < ((minus_word a.now gates.old).0).variables }
 {

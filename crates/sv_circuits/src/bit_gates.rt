@@ -1,5 +1,6 @@
 // Gates of two bits, and those of two words bit by bit.
 ghost use Rattle.std.specs.Prelude.{◌≡◌, ◌↔◌, ◌≤◌, ◌<◌, IfOk, OnErr, IsErrOf};
+ghost use Rattle.sv_gates.specs.Extending.{Begins};
 ghost use Rattle.sv_gates.specs.Formulas.{IsLiteral, most_variables};
 ghost use Rattle.sv_gates.specs.Gates.{mux_gate};
 ghost use Rattle.sv_circuits.specs.Words.{bitwise_word};
@@ -29,7 +30,7 @@ pub fn same(gates: &mut Gates, a: Literal, b: Literal) -> Result<Literal, GateFa
     requires b { IsLiteral gates.old.variables b }
     ensures made { IfOk result (λ g. gate_of BitGate.Xnor a b gates.old ≡ (gates.new, g)) }
     ensures within { IfOk result (IsLiteral gates.new.variables) }
-    ensures grows { gates.old.variables ≤ gates.new.variables }
+    ensures begins { Begins gates.old gates.new }
     ensures full { IsErrOf result GateFault.Full ↔ (gates.old.variables ≡ most_variables) }
     ensures unchanged { OnErr result (gates.new ≡ gates.old) }
 {
@@ -48,7 +49,7 @@ pub fn joined(
     requires b { IsLiteral gates.old.variables b }
     ensures made { IfOk result (λ g. gate_of gate a b gates.old ≡ (gates.new, g)) }
     ensures within { IfOk result (IsLiteral gates.new.variables) }
-    ensures grows { gates.old.variables ≤ gates.new.variables }
+    ensures begins { Begins gates.old gates.new }
     ensures full { IsErrOf result GateFault.Full ↔ (gates.old.variables ≡ most_variables) }
     ensures unchanged { OnErr result (gates.new ≡ gates.old) }
 {
@@ -62,6 +63,7 @@ pub fn joined(
 
 /// Two words joined bit by bit from bit 0, as far as both go: one gate for each bit.
 /// `Full` says that variables ran out, `OutOfMemory` that memory did; then some gates may stay.
+#[tactic(auto, using(sv_gates::proofs::ExtendingLaws::begins_trans))]
 pub fn bitwise(
     alloc: Global,
     gates: &mut Gates,
@@ -74,7 +76,7 @@ pub fn bitwise(
     ensures made { IfOk result (λ word.
         bitwise_word (gate_of gate) a.now b.now gates.old ≡ (gates.new, word.items)) }
     ensures within { IfOk result (λ word. IsWord gates.new.variables word.items) }
-    ensures grows { gates.old.variables ≤ gates.new.variables }
+    ensures begins { Begins gates.old gates.new }
     ensures full { IsErrOf result GateFault.Full
         → most_variables < ((bitwise_word (gate_of gate) a.now b.now gates.old).0).variables }
 {
@@ -89,6 +91,7 @@ pub fn bitwise(
 /// Bit by bit from bit 0 `a` where `c` holds, else `b`, as far as both go: one multiplexer for each
 /// bit.
 /// `Full` says that variables ran out, `OutOfMemory` that memory did; then some gates may stay.
+#[tactic(auto, using(sv_gates::proofs::ExtendingLaws::begins_trans))]
 pub fn chosen(
     alloc: Global,
     gates: &mut Gates,
@@ -102,7 +105,7 @@ pub fn chosen(
     ensures made { IfOk result (λ word.
         bitwise_word (mux_gate c) a.now b.now gates.old ≡ (gates.new, word.items)) }
     ensures within { IfOk result (λ word. IsWord gates.new.variables word.items) }
-    ensures grows { gates.old.variables ≤ gates.new.variables }
+    ensures begins { Begins gates.old gates.new }
     ensures full { IsErrOf result GateFault.Full
         → most_variables < ((bitwise_word (mux_gate c) a.now b.now gates.old).0).variables }
 {

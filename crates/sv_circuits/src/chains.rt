@@ -1,5 +1,6 @@
 // Chains of gates: each starts with its first member and takes no gate for it.
 ghost use Rattle.std.specs.Prelude.{◌≡◌, ◌≤◌, ◌<◌, IfOk, IfSome, IsErrOf, map};
+ghost use Rattle.sv_gates.specs.Extending.{Begins};
 ghost use Rattle.sv_gates.specs.Formulas.{IsLiteral, most_variables};
 ghost use Rattle.sv_circuits.specs.Words.{ready_bit, chain, and_chain, or_chain, xor_chain};
 ghost use Rattle.sv_circuits.specs.Circuits.{IsWord};
@@ -23,7 +24,7 @@ pub fn joined_to(
     ensures made { IfOk result (λ g.
         joined_to chain gate literal gates.old ≡ (gates.new, g)) }
     ensures within { IfOk result (IsLiteral gates.new.variables) }
-    ensures grows { gates.old.variables ≤ gates.new.variables }
+    ensures begins { Begins gates.old gates.new }
     ensures full { IsErrOf result GateFault.Full
         → most_variables < ((joined_to chain gate literal gates.old).0).variables }
 {
@@ -45,7 +46,7 @@ pub fn chain(
     ensures made { IfOk result (λ g.
         chain (gate_of gate) none (map ready_bit word.now) gates.old ≡ (gates.new, g)) }
     ensures within { IfOk result (IsLiteral gates.new.variables) }
-    ensures grows { gates.old.variables ≤ gates.new.variables }
+    ensures begins { Begins gates.old gates.new }
     ensures full { IsErrOf result GateFault.Full → most_variables
         < ((chain (gate_of gate) none (map ready_bit word.now) gates.old).0).variables }
 {
@@ -65,7 +66,7 @@ pub fn all(gates: &mut Gates, word: &[Literal]) -> Result<Literal, GateFault>
     ensures made { IfOk result (λ g.
         and_chain (map ready_bit word.now) gates.old ≡ (gates.new, g)) }
     ensures within { IfOk result (IsLiteral gates.new.variables) }
-    ensures grows { gates.old.variables ≤ gates.new.variables }
+    ensures begins { Begins gates.old gates.new }
     ensures full { IsErrOf result GateFault.Full
         → most_variables < ((and_chain (map ready_bit word.now) gates.old).0).variables }
 {
@@ -79,7 +80,7 @@ pub fn any(gates: &mut Gates, word: &[Literal]) -> Result<Literal, GateFault>
     ensures made { IfOk result (λ g.
         or_chain (map ready_bit word.now) gates.old ≡ (gates.new, g)) }
     ensures within { IfOk result (IsLiteral gates.new.variables) }
-    ensures grows { gates.old.variables ≤ gates.new.variables }
+    ensures begins { Begins gates.old gates.new }
     ensures full { IsErrOf result GateFault.Full
         → most_variables < ((or_chain (map ready_bit word.now) gates.old).0).variables }
 {
@@ -93,7 +94,7 @@ pub fn odd(gates: &mut Gates, word: &[Literal]) -> Result<Literal, GateFault>
     ensures made { IfOk result (λ g.
         xor_chain (map ready_bit word.now) gates.old ≡ (gates.new, g)) }
     ensures within { IfOk result (IsLiteral gates.new.variables) }
-    ensures grows { gates.old.variables ≤ gates.new.variables }
+    ensures begins { Begins gates.old gates.new }
     ensures full { IsErrOf result GateFault.Full
         → most_variables < ((xor_chain (map ready_bit word.now) gates.old).0).variables }
 {

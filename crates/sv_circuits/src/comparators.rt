@@ -2,6 +2,7 @@
 ghost use Rattle.std.specs.Prelude.{◌≡◌, ◌≤◌, ◌<◌, ◌/◌, ◌%◌, ◌==◌, IfOk, IsErrOf, map, neg_ℤ};
 ghost use Rattle.std.specs.Prelude.{if◌then◌else◌};
 ghost use Rattle.std.specs.List.{zip};
+ghost use Rattle.sv_gates.specs.Extending.{Begins};
 ghost use Rattle.sv_gates.specs.Formulas.{IsLiteral, most_variables};
 ghost use Rattle.sv_gates.specs.Gates.{and_gate, xor_gate};
 ghost use Rattle.sv_circuits.specs.Words.{negation, chain_from, number_tests};
@@ -16,12 +17,13 @@ use sv_gates::{GateFault, Gates, Literal};
 
 /// a == b, as far as both go: the AND chain of whether their bits are the same.
 /// `Full` says that variables ran out, `OutOfMemory` that memory did; then some gates may stay.
+#[tactic(auto, using(sv_gates::proofs::ExtendingLaws::begins_trans))]
 pub fn equal(gates: &mut Gates, a: &[Literal], b: &[Literal]) -> Result<Literal, GateFault>
     requires a { IsWord gates.old.variables a.now }
     requires b { IsWord gates.old.variables b.now }
     ensures made { IfOk result (λ g. equal_bit a.now b.now gates.old ≡ (gates.new, g)) }
     ensures within { IfOk result (IsLiteral gates.new.variables) }
-    ensures grows { gates.old.variables ≤ gates.new.variables }
+    ensures begins { Begins gates.old gates.new }
     ensures full { IsErrOf result GateFault.Full
         → most_variables < ((equal_bit a.now b.now gates.old).0).variables }
 {
@@ -36,6 +38,7 @@ pub fn equal(gates: &mut Gates, a: &[Literal], b: &[Literal]) -> Result<Literal,
 }
 
 // a == b, where `before` tells of the bits below.
+#[tactic(auto, using(sv_gates::proofs::ExtendingLaws::begins_trans))]
 fn equal_after(
     gates: &mut Gates,
     before: Literal,
@@ -49,7 +52,7 @@ fn equal_after(
         (map (λ bits. negation (xor_gate bits.0 bits.1)) (zip a.now b.now)) gates.old
         ≡ (gates.new, g)) }
     ensures within { IfOk result (IsLiteral gates.new.variables) }
-    ensures grows { gates.old.variables ≤ gates.new.variables }
+    ensures begins { Begins gates.old gates.new }
     ensures full { IsErrOf result GateFault.Full → most_variables < ((chain_from and_gate before
         (map (λ bits. negation (xor_gate bits.0 bits.1)) (zip a.now b.now))
         gates.old).0).variables }
@@ -69,7 +72,7 @@ pub fn equal_number(gates: &mut Gates, word: &[Literal], number: u64) -> Result<
     requires { IsWord gates.old.variables word.now }
     ensures made { IfOk result (λ g. equals_number_bit word.now number gates.old ≡ (gates.new, g)) }
     ensures within { IfOk result (IsLiteral gates.new.variables) }
-    ensures grows { gates.old.variables ≤ gates.new.variables }
+    ensures begins { Begins gates.old gates.new }
     ensures full { IsErrOf result GateFault.Full
         → most_variables < ((equals_number_bit word.now number gates.old).0).variables }
 {
@@ -103,7 +106,7 @@ fn equal_number_after(
     ensures made { IfOk result (λ g.
         chain_from and_gate before (number_tests word.now number) gates.old ≡ (gates.new, g)) }
     ensures within { IfOk result (IsLiteral gates.new.variables) }
-    ensures grows { gates.old.variables ≤ gates.new.variables }
+    ensures begins { Begins gates.old gates.new }
     ensures full { IsErrOf result GateFault.Full → most_variables
         < ((chain_from and_gate before (number_tests word.now number) gates.old).0).variables }
 {
@@ -129,7 +132,7 @@ pub fn less(
     requires b { IsWord gates.old.variables b.now }
     ensures made { IfOk result (λ g. less_bit signed a.now b.now gates.old ≡ (gates.new, g)) }
     ensures within { IfOk result (IsLiteral gates.new.variables) }
-    ensures grows { gates.old.variables ≤ gates.new.variables }
+    ensures begins { Begins gates.old gates.new }
     ensures full { IsErrOf result GateFault.Full
         → most_variables < ((less_bit signed a.now b.now gates.old).0).variables }
 {
@@ -140,6 +143,7 @@ pub fn less(
 }
 
 // a < b, where `below` tells of the bits below.
+#[tactic(auto, using(sv_gates::proofs::ExtendingLaws::begins_trans))]
 fn less_after(
     gates: &mut Gates,
     a: &[Literal],
@@ -151,7 +155,7 @@ fn less_after(
     requires below { IsLiteral gates.old.variables below }
     ensures made { IfOk result (λ g. less_from a.now b.now below gates.old ≡ (gates.new, g)) }
     ensures within { IfOk result (IsLiteral gates.new.variables) }
-    ensures grows { gates.old.variables ≤ gates.new.variables }
+    ensures begins { Begins gates.old gates.new }
     ensures full { IsErrOf result GateFault.Full
         → most_variables < ((less_from a.now b.now below gates.old).0).variables }
 {

@@ -2,8 +2,9 @@
 //!
 //! Takes words, the literals of values' bits from bit 0, and gives the word of a sum, a product, a
 //! shift, a comparison and so on. Promises exactly the defined gates in their order, that `Full`
-//! comes only where the defined formula has too many variables, and that the literals made are of
-//! its variables. An `Err` may leave some of the gates: take the formula back to a mark.
+//! comes only where the defined formula has too many variables, that the literals made are of its
+//! variables, and that the formula begins with the earlier one, on `Ok` and on `Err`. An `Err`
+//! leaves the earlier clauses and a front of what was being made: take the formula back to a mark.
 //!
 //! `specs/Words.antt` says what words are and how pieces of an encoding are made one after the
 //! other, `Operators.antt` what the word of each operator is, and `Circuits.antt` what it is that a

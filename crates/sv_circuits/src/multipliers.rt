@@ -1,6 +1,7 @@
 // Products of words: all rows first, and then their sum from the first row on.
 ghost use Rattle.std.specs.Prelude.{◌≡◌, ◌≤◌, ◌<◌, ◌++◌, ◌∷◌, [], map, OnOk, IfOk};
 ghost use Rattle.std.specs.Prelude.{IsErrOf};
+ghost use Rattle.sv_gates.specs.Extending.{Begins};
 ghost use Rattle.sv_gates.specs.Formulas.{IsLiteral, most_variables};
 ghost use Rattle.sv_circuits.specs.Operators.{product_row, product_rows, total_from, product_word};
 ghost use Rattle.sv_circuits.specs.Circuits.{IsWord};
@@ -12,6 +13,7 @@ use std::alloc::{AllocError, Global};
 use sv_gates::{GateFault, Gates, Literal};
 
 // The row of a product for bit `i` of its right operand.
+#[tactic(auto, using(sv_gates::proofs::ExtendingLaws::begins_trans))]
 fn row(
     alloc: Global,
     gates: &mut Gates,
@@ -23,7 +25,7 @@ fn row(
     requires b { IsLiteral gates.old.variables b }
     ensures made { IfOk result (λ row. product_row a.now i b gates.old ≡ (gates.new, row.items)) }
     ensures within { IfOk result (λ row. IsWord gates.new.variables row.items) }
-    ensures grows { gates.old.variables ≤ gates.new.variables }
+    ensures begins { Begins gates.old gates.new }
     ensures full { IsErrOf result GateFault.Full
         → most_variables < ((product_row a.now i b gates.old).0).variables }
 {
@@ -47,6 +49,7 @@ fn append_row(rows: &mut Vec<Vec<Literal>>, row: Vec<Literal>) -> Result<(), All
 }
 
 // The rows of a product, the row for bit 0 first.
+#[tactic(auto, using(sv_gates::proofs::ExtendingLaws::begins_trans))]
 fn rows(
     alloc: Global,
     gates: &mut Gates,
@@ -59,7 +62,7 @@ fn rows(
         product_rows a.now 0 b.now gates.old ≡ (gates.new, map (λ row. row.items) rows.items)) }
     ensures within { IfOk result (λ rows.
         AreWords gates.new.variables (map (λ row. row.items) rows.items)) }
-    ensures grows { gates.old.variables ≤ gates.new.variables }
+    ensures begins { Begins gates.old gates.new }
     ensures full { IsErrOf result GateFault.Full
         → most_variables < ((product_rows a.now 0 b.now gates.old).0).variables }
 {
@@ -72,6 +75,7 @@ fn rows(
 }
 
 // A total and the rows after it, one after the other.
+#[tactic(auto, using(sv_gates::proofs::ExtendingLaws::begins_trans))]
 fn total_from(
     alloc: Global,
     gates: &mut Gates,
@@ -83,7 +87,7 @@ fn total_from(
     ensures made { IfOk result (λ word. total_from total.now (map (λ row. row.items) rows.now)
         gates.old ≡ (gates.new, word.items)) }
     ensures within { IfOk result (λ word. IsWord gates.new.variables word.items) }
-    ensures grows { gates.old.variables ≤ gates.new.variables }
+    ensures begins { Begins gates.old gates.new }
     ensures full { IsErrOf result GateFault.Full → most_variables < ((total_from total.now
         (map (λ row. row.items) rows.now) gates.old).0).variables }
 {
@@ -95,6 +99,7 @@ fn total_from(
 }
 
 /// The product of two words of one length.
+#[tactic(auto, using(sv_gates::proofs::ExtendingLaws::begins_trans))]
 pub fn product(
     alloc: Global,
     gates: &mut Gates,
@@ -106,7 +111,7 @@ pub fn product(
     ensures made { IfOk result (λ word.
         product_word a.now b.now gates.old ≡ (gates.new, word.items)) }
     ensures within { IfOk result (λ word. IsWord gates.new.variables word.items) }
-    ensures grows { gates.old.variables ≤ gates.new.variables }
+    ensures begins { Begins gates.old gates.new }
     ensures full { IsErrOf result GateFault.Full
         → most_variables < ((product_word a.now b.now gates.old).0).variables }
 {

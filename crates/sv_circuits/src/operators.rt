@@ -1,5 +1,6 @@
 // The words of operators.
 ghost use Rattle.std.specs.Prelude.{◌≡◌, ◌≤◌, ◌<◌, ◌∷◌, [], IfOk, IsErrOf};
+ghost use Rattle.sv_gates.specs.Extending.{Begins};
 ghost use Rattle.sv_gates.specs.Formulas.{IsLiteral, most_variables};
 ghost use Rattle.sv_circuits.specs.Words.{not_zero_bit, negation, equal_bit};
 ghost use Rattle.sv_circuits.specs.Moves.{move_of};
@@ -25,7 +26,7 @@ pub fn not_zero(gates: &mut Gates, word: &[Literal]) -> Result<Literal, GateFaul
     requires { IsWord gates.old.variables word.now }
     ensures made { IfOk result (λ g. not_zero_bit word.now gates.old ≡ (gates.new, g)) }
     ensures within { IfOk result (IsLiteral gates.new.variables) }
-    ensures grows { gates.old.variables ≤ gates.new.variables }
+    ensures begins { Begins gates.old gates.new }
     ensures full { IsErrOf result GateFault.Full
         → most_variables < ((not_zero_bit word.now gates.old).0).variables }
 {
@@ -52,7 +53,7 @@ pub fn unary(
     requires { IsWord gates.old.variables a.now }
     ensures made { IfOk result (λ word. unary_word op a.now gates.old ≡ (gates.new, word.items)) }
     ensures within { IfOk result (λ word. IsWord gates.new.variables word.items) }
-    ensures grows { gates.old.variables ≤ gates.new.variables }
+    ensures begins { Begins gates.old gates.new }
     ensures full { IsErrOf result GateFault.Full
         → most_variables < ((unary_word op a.now gates.old).0).variables }
 {
@@ -104,7 +105,7 @@ fn less_word(
     ensures made { IfOk result (λ word.
         one_bit (less_bit signed a.now b.now) gates.old ≡ (gates.new, word.items)) }
     ensures within { IfOk result (λ word. IsWord gates.new.variables word.items) }
-    ensures grows { gates.old.variables ≤ gates.new.variables }
+    ensures begins { Begins gates.old gates.new }
     ensures full { IsErrOf result GateFault.Full
         → most_variables < ((less_bit signed a.now b.now gates.old).0).variables }
 {
@@ -125,7 +126,7 @@ fn not_less_word(
     ensures made { IfOk result (λ word.
         one_bit (negation (less_bit signed a.now b.now)) gates.old ≡ (gates.new, word.items)) }
     ensures within { IfOk result (λ word. IsWord gates.new.variables word.items) }
-    ensures grows { gates.old.variables ≤ gates.new.variables }
+    ensures begins { Begins gates.old gates.new }
     ensures full { IsErrOf result GateFault.Full
         → most_variables < ((less_bit signed a.now b.now gates.old).0).variables }
 {
@@ -145,7 +146,7 @@ fn equal_word(
     ensures made { IfOk result (λ word.
         one_bit (equal_bit a.now b.now) gates.old ≡ (gates.new, word.items)) }
     ensures within { IfOk result (λ word. IsWord gates.new.variables word.items) }
-    ensures grows { gates.old.variables ≤ gates.new.variables }
+    ensures begins { Begins gates.old gates.new }
     ensures full { IsErrOf result GateFault.Full
         → most_variables < ((equal_bit a.now b.now gates.old).0).variables }
 {
@@ -165,7 +166,7 @@ fn unequal_word(
     ensures made { IfOk result (λ word.
         one_bit (negation (equal_bit a.now b.now)) gates.old ≡ (gates.new, word.items)) }
     ensures within { IfOk result (λ word. IsWord gates.new.variables word.items) }
-    ensures grows { gates.old.variables ≤ gates.new.variables }
+    ensures begins { Begins gates.old gates.new }
     ensures full { IsErrOf result GateFault.Full
         → most_variables < ((equal_bit a.now b.now gates.old).0).variables }
 {
@@ -186,7 +187,7 @@ fn sign_shifted(
     ensures made { IfOk result (λ word. shifted_word (moved_down (sign_fill signed a.now)) a.now
         b.now gates.old ≡ (gates.new, word.items)) }
     ensures within { IfOk result (λ word. IsWord gates.new.variables word.items) }
-    ensures grows { gates.old.variables ≤ gates.new.variables }
+    ensures begins { Begins gates.old gates.new }
     ensures full { IsErrOf result GateFault.Full → most_variables
         < ((shifted_word (moved_down (sign_fill signed a.now)) a.now b.now gates.old).0).variables }
 {
@@ -207,7 +208,7 @@ fn zero_shifted(
     ensures made { IfOk result (λ word. shifted_word (move_of direction false_literal) a.now b.now
         gates.old ≡ (gates.new, word.items)) }
     ensures within { IfOk result (λ word. IsWord gates.new.variables word.items) }
-    ensures grows { gates.old.variables ≤ gates.new.variables }
+    ensures begins { Begins gates.old gates.new }
     ensures full { IsErrOf result GateFault.Full → most_variables
         < ((shifted_word (move_of direction false_literal) a.now b.now gates.old).0).variables }
 {
@@ -231,7 +232,7 @@ pub fn binary(
     ensures made { IfOk result (λ word.
         binary_word op signed a.now b.now gates.old ≡ (gates.new, word.items)) }
     ensures within { IfOk result (λ word. IsWord gates.new.variables word.items) }
-    ensures grows { gates.old.variables ≤ gates.new.variables }
+    ensures begins { Begins gates.old gates.new }
     ensures full { IsErrOf result GateFault.Full
         → most_variables < ((binary_word op signed a.now b.now gates.old).0).variables }
 {

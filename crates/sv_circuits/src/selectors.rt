@@ -1,5 +1,6 @@
 // The bit of a word at an index.
 ghost use Rattle.std.specs.Prelude.{◌≡◌, ◌≤◌, ◌<◌, ◌^◌, min, IfOk, IsErrOf};
+ghost use Rattle.sv_gates.specs.Extending.{Begins};
 ghost use Rattle.sv_gates.specs.Formulas.{IsLiteral, most_variables};
 ghost use Rattle.sv_circuits.specs.Operators.{number_count, picked_bit};
 ghost use Rattle.sv_circuits.specs.Circuits.{IsWord};
@@ -33,6 +34,7 @@ fn number_count(width: usize, signed: bool, most: usize) -> usize
 /// The bit of a word at an index, whose type is signed or not, and false where the index is outside
 /// of the word: a test of the index and a multiplexer for each bit that it can reach.
 /// `Full` says that variables ran out, `OutOfMemory` that memory did; then some gates may stay.
+#[tactic(auto, using(sv_gates::proofs::ExtendingLaws::begins_trans))]
 pub fn picked(
     gates: &mut Gates,
     word: &[Literal],
@@ -44,7 +46,7 @@ pub fn picked(
     ensures made { IfOk result (λ g.
         picked_bit word.now signed (λ formula. (formula, index.now)) gates.old ≡ (gates.new, g)) }
     ensures within { IfOk result (IsLiteral gates.new.variables) }
-    ensures grows { gates.old.variables ≤ gates.new.variables }
+    ensures begins { Begins gates.old gates.new }
     ensures full { IsErrOf result GateFault.Full → most_variables
         < ((picked_bit word.now signed (λ formula. (formula, index.now)) gates.old).0).variables }
 {

@@ -1,5 +1,6 @@
 // Shifts of words.
 ghost use Rattle.std.specs.Prelude.{◌≡◌, ◌≤◌, ◌<◌, IfOk, IsErrOf};
+ghost use Rattle.sv_gates.specs.Extending.{Begins};
 ghost use Rattle.sv_gates.specs.Formulas.{IsLiteral, most_variables};
 ghost use Rattle.sv_circuits.specs.Operators.{moved_up, moved_down, shifted_word};
 ghost use Rattle.sv_circuits.specs.Circuits.{IsWord};
@@ -67,6 +68,7 @@ fn moved(
 }
 
 /// A word moved by an amount.
+#[tactic(auto, using(sv_gates::proofs::ExtendingLaws::begins_trans))]
 pub fn shifted(
     alloc: Global,
     gates: &mut Gates,
@@ -81,7 +83,7 @@ pub fn shifted(
     ensures made { IfOk result (λ made. shifted_word (move_of direction fill) word.now amount.now
         gates.old ≡ (gates.new, made.items)) }
     ensures within { IfOk result (λ made. IsWord gates.new.variables made.items) }
-    ensures grows { gates.old.variables ≤ gates.new.variables }
+    ensures begins { Begins gates.old gates.new }
     ensures full { IsErrOf result GateFault.Full → most_variables
         < ((shifted_word (move_of direction fill) word.now amount.now gates.old).0).variables }
 {

@@ -1,5 +1,6 @@
 // Words of new variables.
 ghost use Rattle.std.specs.Prelude.{◌≡◌, ◌≤◌, ◌<◌, IfOk, IsErrOf};
+ghost use Rattle.sv_gates.specs.Extending.{Begins};
 ghost use Rattle.sv_gates.specs.Formulas.{most_variables};
 ghost use Rattle.sv_circuits.specs.Words.{fresh_word};
 ghost use Rattle.sv_circuits.specs.Circuits.{IsWord};
@@ -10,10 +11,11 @@ use sv_gates::{GateFault, Gates, Literal};
 
 /// A word of so many new variables, from bit 0, which no clause names yet.
 /// `Full` says that variables ran out, `OutOfMemory` that memory did; then some gates may stay.
+#[tactic(auto, using(sv_gates::proofs::ExtendingLaws::begins_trans))]
 pub fn fresh(alloc: Global, gates: &mut Gates, width: usize) -> Result<Vec<Literal>, GateFault>
     ensures made { IfOk result (λ word. fresh_word width gates.old ≡ (gates.new, word.items)) }
     ensures within { IfOk result (λ word. IsWord gates.new.variables word.items) }
-    ensures grows { gates.old.variables ≤ gates.new.variables }
+    ensures begins { Begins gates.old gates.new }
     ensures full { IsErrOf result GateFault.Full
         → most_variables < ((fresh_word width gates.old).0).variables }
 {

@@ -1,4 +1,4 @@
-use Rattle.std.proofs.Common.{rules, arith}
+use Rattle.std.proofs.Common.{rules}
 use Rattle.std.specs.Result.{IsErrOf}
 use Rattle.sv_gates.specs.declared.gates.GateFault.TheVariants.{Full}
 use Rattle.sv_circuits.specs.Operators.{sum_word}
@@ -23,20 +23,11 @@ full_adder-requires-clause-b c =
 pub full_adder-requires-clause-carry : goal.full_adder-requires-clause-carry
 full_adder-requires-clause-carry c = c.sum.invariant.next
 
-pub returns-in_err-bit-clause-grows : goal.returns-in_err-bit-clause-grows
-returns-in_err-bit-clause-grows c = omega (arith, c.sum.invariant.grows, c.full_adder.ensures.grows)
-
-pub returns-in_err-append-clause-grows : goal.returns-in_err-append-clause-grows
-returns-in_err-append-clause-grows c = omega (arith, c.sum.invariant.grows, c.full_adder.ensures.grows)
-
-pub returns-clause-grows : goal.returns-clause-grows
-returns-clause-grows c = c.sum.invariant.grows
-
 pub sum-preserved : goal.sum-preserved
 sum-preserved c =
     rw c.in_ok-append.ensures
     (sum_more _ _ _ _ _ _ _ _ _ _ _ _ _ c.sum.invariant
-    c.in-Some.ensures.steps.0 c.in-Some.ensures.steps.1 c.in_ok-bit.ensures.made c.in_ok-bit.ensures.grows
+    c.in-Some.ensures.steps.0 c.in-Some.ensures.steps.1 c.in_ok-bit.ensures.made c.in_ok-bit.ensures.begins
     c.in_ok-bit.ensures.sum c.in_ok-bit.ensures.next)
 
 pub returns-in_err-bit-clause-full : goal.returns-in_err-bit-clause-full

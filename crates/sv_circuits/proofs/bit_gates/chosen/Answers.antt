@@ -1,4 +1,4 @@
-use Rattle.std.proofs.Common.{◌≡◌, ◌∙◌, rules, arith, ◌∷◌, []}
+use Rattle.std.proofs.Common.{◌≡◌, ◌∙◌, rules, ◌∷◌, []}
 use Rattle.std.specs.Slice.Iter.{iter_rest}
 use Rattle.std.specs.Iterator.Adapters.{zip_first, zip_second}
 use Rattle.std.specs.Result.{IsErrOf}
@@ -35,15 +35,9 @@ bits-preserved c =
     c.in-Some.ensures.steps.0 c.in-Some.ensures.steps.1
     (bits_step (mux_gate c.args.c) _ _ _ _ c.bits.word.items _ _ _ _ _
     c.in-Some.ensures.steps.0 c.in-Some.ensures.steps.1 c.in_ok-bit.ensures.made)
-    c.in_ok-bit.ensures.begins.grows (word_up _ _ (c.args.c ∷ []) c.in_ok-bit.ensures.begins.grows
+    c.in_ok-bit.ensures.begins (word_up _ _ (c.args.c ∷ []) c.in_ok-bit.ensures.begins.grows
     c.bits.invariant.hand))
     c.in_ok-bit.ensures.within)
-
-pub returns-in_err-bit-clause-grows : goal.returns-in_err-bit-clause-grows
-returns-in_err-bit-clause-grows c = omega (arith, c.bits.invariant.grows, c.mux_gate.ensures.begins.grows)
-
-pub returns-in_err-append-clause-grows : goal.returns-in_err-append-clause-grows
-returns-in_err-append-clause-grows c = omega (arith, c.bits.invariant.grows, c.mux_gate.ensures.begins.grows)
 
 pub returns-in_err-bit-clause-full : goal.returns-in_err-bit-clause-full
 returns-in_err-bit-clause-full c =
@@ -52,9 +46,6 @@ returns-in_err-bit-clause-full c =
     λ e. left_full _ _ _ _ _ _ _ _ _ c.bits.invariant
     (bits_full (mux_gate c.args.c) _ _ _ _ c.bits.word.items _ _ _ _ (mux_takes c.args.c)
     c.in-Some.ensures.steps.0 c.in-Some.ensures.steps.1 ((c.mux_gate.ensures.full).0 (same e)))
-
-pub returns-clause-grows : goal.returns-clause-grows
-returns-clause-grows c = c.bits.invariant.grows
 
 pub returns-clause-made : goal.returns-clause-made
 returns-clause-made c =

@@ -35,7 +35,7 @@ members-preserved c =
     let turn = turn_of c.in-Some.more.now _ _ c.members-test.true c.literal-item.is in
     (one_more _ _ _ _ _ _ _ _ _ _ _ _ _ c.members.invariant turn
     (chain_step (gate_of c.args.gate) _ _ _ _ _ _ _ turn c.in_ok-before.ensures.made)
-    c.in_ok-before.ensures.grows (c.in_ok-before.ensures.within, tt))
+    c.in_ok-before.ensures.begins (c.in_ok-before.ensures.within, tt))
 
 pub returns-in_err-before-clause-full : goal.returns-in_err-before-clause-full
 returns-in_err-before-clause-full c =

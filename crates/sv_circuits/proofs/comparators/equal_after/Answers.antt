@@ -4,6 +4,7 @@ use Rattle.std.specs.Iterator.Adapters.{zip_first, zip_second}
 use Rattle.std.specs.Result.{IsErrOf}
 use Rattle.sv_gates.specs.Formulas.{Formula}
 use Rattle.sv_gates.specs.declared.gates.GateFault.TheVariants.{Full}
+use Rattle.sv_gates.proofs.ExtendingLaws.{begins_trans}
 use Rattle.sv_circuits.proofs.WordKeeps.{literal_up, word_first, zip_ends}
 use Rattle.sv_circuits.proofs.LoopSteps.{loop_start, both_more, left_full}
 use Rattle.sv_circuits.proofs.TestSteps.{same_whole, same_step, same_full, same_end}
@@ -26,7 +27,7 @@ same-requires-clause-b c =
 
 pub and_gate-requires-clause-a : goal.and_gate-requires-clause-a
 and_gate-requires-clause-a c =
-    literal_up _ _ c.bits.equal c.in_ok-test.ensures.grows c.bits.invariant.hand.0
+    literal_up _ _ c.bits.equal c.in_ok-test.ensures.begins.grows c.bits.invariant.hand.0
 
 pub and_gate-requires-clause-b : goal.and_gate-requires-clause-b
 and_gate-requires-clause-b c =
@@ -38,7 +39,7 @@ bits-preserved c =
     c.in-Some.ensures.steps.0 c.in-Some.ensures.steps.1
     (same_step _ _ _ _ _ _ _ _ _ _ _ _ c.in-Some.ensures.steps.0 c.in-Some.ensures.steps.1
     c.in_ok-test.ensures.made c.in_ok-equal.ensures.made)
-    (omega (arith, c.in_ok-test.ensures.grows, c.in_ok-equal.ensures.begins.grows))
+    (begins_trans _ _ _ c.in_ok-test.ensures.begins c.in_ok-equal.ensures.begins)
     (c.in_ok-equal.ensures.within, tt))
 
 pub returns-in_err-test-clause-full : goal.returns-in_err-test-clause-full
@@ -62,9 +63,6 @@ returns-in_err-equal-clause-full c =
       (c.and_gate.ensures.full).0 (same e),
       ap (λ (z : Formula × ℤ). (z.0).variables) c.in_ok-test.ensures.made,
     )))
-
-pub returns-clause-grows : goal.returns-clause-grows
-returns-clause-grows c = c.bits.invariant.grows
 
 pub returns-clause-made : goal.returns-clause-made
 returns-clause-made c =

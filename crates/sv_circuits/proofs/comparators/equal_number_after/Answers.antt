@@ -29,7 +29,7 @@ bits-preserved c =
     let turn = turn_of c.args.word.now _ _ c.bits-test.true c.bit-item.is in
     (one_more _ _ _ _ _ _ _ _ _ _ _ _ _ c.bits.invariant turn
     (number_step _ _ _ _ _ _ _ _ _ _ turn refl c.number_test-test.ensures c.in_ok-equal.ensures.made)
-    c.in_ok-equal.ensures.begins.grows (c.in_ok-equal.ensures.within, tt))
+    c.in_ok-equal.ensures.begins (c.in_ok-equal.ensures.within, tt))
 
 pub returns-in_err-equal-clause-full : goal.returns-in_err-equal-clause-full
 returns-in_err-equal-clause-full c =

@@ -4,6 +4,7 @@ use Rattle.std.specs.Iterator.Adapters.{zip_first, zip_second}
 use Rattle.std.specs.Result.{IsErrOf}
 use Rattle.sv_gates.specs.Formulas.{Formula}
 use Rattle.sv_gates.specs.declared.gates.GateFault.TheVariants.{Full}
+use Rattle.sv_gates.proofs.ExtendingLaws.{begins_trans}
 use Rattle.sv_circuits.proofs.WordKeeps.{literal_up, word_first, zip_ends}
 use Rattle.sv_circuits.proofs.LoopSteps.{loop_start, both_more, left_full, less_whole, less_step}
 use Rattle.sv_circuits.proofs.LoopSteps.{less_full, less_end}
@@ -43,7 +44,7 @@ bits-preserved c =
     c.in-Some.ensures.steps.0 c.in-Some.ensures.steps.1
     (less_step _ _ _ _ _ _ _ _ _ _ _ _ c.in-Some.ensures.steps.0 c.in-Some.ensures.steps.1
     c.in_ok-differ.ensures.made c.in_ok-less.ensures.made)
-    (omega (arith, c.in_ok-differ.ensures.begins.grows, c.in_ok-less.ensures.begins.grows))
+    (begins_trans _ _ _ c.in_ok-differ.ensures.begins c.in_ok-less.ensures.begins)
     (c.in_ok-less.ensures.within, tt))
 
 pub returns-in_err-differ-clause-full : goal.returns-in_err-differ-clause-full
@@ -63,9 +64,6 @@ returns-in_err-less-clause-full c =
     (less_full _ _ _ _ _ c.in-Some.x.now c.in-Some.y.now _ _
     c.in-Some.ensures.steps.0 c.in-Some.ensures.steps.1
     (omega (arith, (c.mux_gate.ensures.full).0 (same e), ap (λ (z : Formula × ℤ). (z.0).variables) c.in_ok-differ.ensures.made)))
-
-pub returns-clause-grows : goal.returns-clause-grows
-returns-clause-grows c = c.bits.invariant.grows
 
 pub returns-clause-made : goal.returns-clause-made
 returns-clause-made c =

@@ -1,8 +1,9 @@
-use Rattle.std.proofs.Common.{◌≡◌, ap, ◌∙◌, sym, subst, rules, arith, length, ◌∷◌, [], ◌++◌, take, ◌-◌}
+use Rattle.std.proofs.Common.{◌≡◌, ap, ◌∙◌, sym, subst, rules, length, ◌∷◌, [], ◌++◌, take, ◌-◌}
 use Rattle.std.specs.Prelude.{replicate}
 use Rattle.std.specs.Result.{IsErrOf}
 use Rattle.std.proofs.lemmas.List.{drop_all}
 use Rattle.sv_gates.specs.declared.gates.GateFault.TheVariants.{Full}
+use Rattle.sv_gates.proofs.ExtendingLaws.{begins_none}
 use Rattle.sv_circuits.specs.Circuits.{IsWord}
 use Rattle.sv_circuits.proofs.WordKeeps.{turn_of}
 use Rattle.sv_circuits.proofs.WordKeeps.{onto, word_first, word_take, word_same, word_up}
@@ -28,7 +29,7 @@ bits-init c =
       front = subst (IsWord c.args.gates.now.variables) (sym items)
           (word_same c.args.gates.now.variables c.args.i c.falsity-none.result c.falsity-none.ensures.within);
       hand = (c.requires.b, tt);
-      grows = omega arith;
+      begins = begins_none c.args.gates.now;
     })
 
 pub and_gate-requires-clause-a : goal.and_gate-requires-clause-a
@@ -46,7 +47,7 @@ bits-preserved c =
     rw c.in_ok-append.ensures (pushed _ _ _ _ _ _ _ _ _
     (one_more _ _ _ _ _ _ _ _ _ _ _ _ _ c.bits.invariant turn
     (masked_step c.args.b _ _ c.bits.word.items _ _ _ _ turn c.in_ok-bit.ensures.made)
-    c.in_ok-bit.ensures.begins.grows (word_up _ _ (c.args.b ∷ []) c.in_ok-bit.ensures.begins.grows c.bits.invariant.hand))
+    c.in_ok-bit.ensures.begins (word_up _ _ (c.args.b ∷ []) c.in_ok-bit.ensures.begins.grows c.bits.invariant.hand))
     c.in_ok-bit.ensures.within)
 
 pub returns-in_err-bit-clause-full : goal.returns-in_err-bit-clause-full

@@ -2,6 +2,7 @@ use Rattle.std.proofs.Common.{◌≡◌, ap, ◌∙◌, sym, subst, rules, ℤ, 
 use Rattle.std.specs.Result.{IsErrOf}
 use Rattle.std.proofs.lemmas.List.{drop_all, length-map, map-append}
 use Rattle.sv_gates.specs.declared.gates.GateFault.TheVariants.{Full}
+use Rattle.sv_gates.proofs.ExtendingLaws.{begins_none}
 use Rattle.sv_circuits.specs.Words.{Word}
 use Rattle.sv_circuits.specs.Operators.{product_rows}
 use Rattle.sv_circuits.proofs.WordKeeps.{turn_of}
@@ -23,7 +24,7 @@ rows-init c =
       word = c.requires.a;
       left = c.requires.b;
       done = tt;
-      grows = omega arith;
+      begins = begins_none c.args.gates.now;
     })
 
 pub row-requires-clause-a : goal.row-requires-clause-a
@@ -47,7 +48,7 @@ rows-preserved c =
     subst (RowsAt (product_rows c.args.a.now 0 c.args.b.now c.args.gates.now) c.args.gates.now
     _ c.args.a.now _) (sym items)
     (rows_more _ _ _ _ _ _ _ (map literals c.rows.rows.items) _ _ c.rows.invariant turn made
-    c.in_ok-row.ensures.grows c.in_ok-row.ensures.within)
+    c.in_ok-row.ensures.begins c.in_ok-row.ensures.within)
 
 pub returns-in_err-row-clause-full : goal.returns-in_err-row-clause-full
 returns-in_err-row-clause-full c =

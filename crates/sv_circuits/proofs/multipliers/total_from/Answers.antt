@@ -1,7 +1,8 @@
-use Rattle.std.proofs.Common.{ap, ◌∙◌, ◌+◌, sym, subst, rules, ℤ, arith, map, drop, Vec, Global, ◌∷◌}
+use Rattle.std.proofs.Common.{ap, ◌∙◌, ◌+◌, sym, subst, rules, ℤ, map, drop, Vec, Global, ◌∷◌}
 use Rattle.std.specs.Result.{IsErrOf}
 use Rattle.std.proofs.lemmas.List.{drop_more, drop_all}
 use Rattle.sv_gates.specs.declared.gates.GateFault.TheVariants.{Full}
+use Rattle.sv_gates.proofs.ExtendingLaws.{begins_none}
 use Rattle.sv_circuits.specs.Words.{Word}
 use Rattle.sv_circuits.specs.Operators.{total_from}
 use Rattle.sv_circuits.specs.Circuits.{IsWord}
@@ -18,7 +19,7 @@ rows-init c = record {
       (sym c.in_ok-made.ensures);
   word = subst (IsWord c.args.gates.now.variables) (sym c.in_ok-made.ensures) c.requires.total;
   left = c.requires.rows;
-  grows = omega arith;
+  begins = begins_none c.args.gates.now;
 }
 
 pub sum-requires-clause-a : goal.sum-requires-clause-a
@@ -42,7 +43,7 @@ rows-preserved c =
     (sym c.row-item.is) in
     let made = rw (c.deref.ensures.value, c.deref-in-rows.ensures.value)
     at c.in_ok-made-2.ensures.made in
-    total_more _ _ _ _ _ _ _ _ _ c.rows.invariant turn made c.in_ok-made-2.ensures.grows
+    total_more _ _ _ _ _ _ _ _ _ c.rows.invariant turn made c.in_ok-made-2.ensures.begins
     c.in_ok-made-2.ensures.within
 
 pub returns-in_err-made-2-clause-full : goal.returns-in_err-made-2-clause-full

@@ -4,6 +4,7 @@ use Rattle.std.proofs.lemmas.List.{drop_all}
 use Rattle.sv_gates.specs.Formulas.{Formula}
 use Rattle.sv_gates.specs.Gates.{false_literal}
 use Rattle.sv_gates.specs.declared.gates.GateFault.TheVariants.{Full}
+use Rattle.sv_gates.proofs.ExtendingLaws.{begins_none, begins_trans}
 use Rattle.sv_circuits.specs.Operators.{picked_from, number_count}
 use Rattle.sv_circuits.proofs.WordKeeps.{turn_of}
 use Rattle.sv_circuits.proofs.WordKeeps.{literal_up, word_first, word_take}
@@ -27,7 +28,7 @@ bits-init c =
         second = c.requires.index;
         front = tt;
         hand = (c.falsity-found.ensures.within, tt);
-        grows = omega arith;
+        begins = begins_none c.args.gates.now;
       },
       refl,
     )
@@ -41,13 +42,13 @@ mux_gate-requires-clause-c c =
 
 pub mux_gate-requires-clause-a : goal.mux_gate-requires-clause-a
 mux_gate-requires-clause-a c =
-    (literal_up _ _ c.bit-item.result c.in_ok-here.ensures.grows
+    (literal_up _ _ c.bit-item.result c.in_ok-here.ensures.begins.grows
     (word_first _ _ _ _ c.bits.invariant.0.first
     (turn_of (take c.number_count-count.result c.args.word.now) _ _ c.bits-test.true c.bit-item.is)))
 
 pub mux_gate-requires-clause-b : goal.mux_gate-requires-clause-b
 mux_gate-requires-clause-b c =
-    literal_up _ _ c.bits.found c.in_ok-here.ensures.grows
+    literal_up _ _ c.bits.found c.in_ok-here.ensures.begins.grows
     c.bits.invariant.0.hand.0
 
 pub bits-preserved : goal.bits-preserved
@@ -59,7 +60,7 @@ bits-preserved c =
     (picked_step c.args.index.now _ _ c.bits.found _ c.in_ok-here.here
     c.in_ok-found.found c.bits.j c.bits.gates c.equal_number.new.gates c.mux_gate.new.self turn
     c.in_ok-here.ensures.made c.in_ok-found.ensures.made)
-    (omega (arith, c.in_ok-here.ensures.grows, c.in_ok-found.ensures.begins.grows))
+    (begins_trans _ _ _ c.in_ok-here.ensures.begins c.in_ok-found.ensures.begins)
     (c.in_ok-found.ensures.within, tt) in
     (next, omega (arith, c.bits.invariant.1))
 

@@ -2,6 +2,7 @@ use Rattle.std.proofs.Common.{◌≡◌, ◌≤◌, ◌^◌, ap, ◌∙◌, sym,
 use Rattle.std.specs.Result.{IsErrOf}
 use Rattle.std.proofs.lemmas.List.{drop_all}
 use Rattle.sv_gates.specs.declared.gates.GateFault.TheVariants.{Full}
+use Rattle.sv_gates.proofs.ExtendingLaws.{begins_none}
 use Rattle.sv_circuits.specs.Operators.{shifted_from}
 use Rattle.sv_circuits.specs.Circuits.{IsWord}
 use Rattle.sv_circuits.specs.Moves.{move_of}
@@ -22,7 +23,7 @@ amount-init c = (
     front = subst (IsWord c.args.gates.now.variables) (sym c.in_ok-made.ensures)
         c.requires.word;
     hand = (c.requires.fill, tt);
-    grows = omega arith;
+    begins = begins_none c.args.gates.now;
   },
   refl,
 )
@@ -59,7 +60,7 @@ amount-preserved c =
     (shift_step (move_of c.args.direction c.args.fill) c.amount.bit-index _ _
     c.amount.made.items c.in_ok-moved.moved.items c.in_ok-made-2.made.items _ c.amount.gates
     c.chosen.new.gates turn (moved_is (goal.at.amount-preserved c).In_ok-moved) made)
-    c.in_ok-made-2.ensures.grows c.in_ok-made-2.ensures.within in (
+    c.in_ok-made-2.ensures.begins c.in_ok-made-2.ensures.within in (
       next,
       twice c.amount.bit-index c.amount.by _ c.amount.invariant.1
           c.saturating_mul-by.ensures,

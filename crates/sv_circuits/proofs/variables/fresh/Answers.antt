@@ -15,7 +15,7 @@ bits-preserved c =
     rw c.in_ok-append.ensures (pushed _ _ _ _ _ _ _ _ _
     (turned _ _ _ _ _ _ _ c.bits.invariant
     (fresh_step c.args.width c.bits.counter _ _ _ _ (omega arith) c.in_ok-bit.ensures.made)
-    c.in_ok-bit.ensures.begins.grows)
+    c.in_ok-bit.ensures.begins)
     c.in_ok-bit.ensures.within)
 
 pub returns-in_err-bit-clause-full : goal.returns-in_err-bit-clause-full

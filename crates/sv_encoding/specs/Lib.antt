@@ -4,6 +4,7 @@ pub mod CnfText
 pub mod Cones
 pub mod Encoding
 pub mod Expressions
+pub mod LabelMeanings
 pub mod Labels
 pub mod Sizes
 pub mod Valuations

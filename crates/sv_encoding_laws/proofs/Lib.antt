@@ -10,3 +10,4 @@ pub mod FrameWords
 pub mod Settling
 pub mod ConeFacts
 pub mod TruthWords
+pub mod LabelWords

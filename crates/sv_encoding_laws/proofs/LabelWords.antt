@@ -5,7 +5,7 @@ use Rattle.std.proofs.Common.{⊎_elim, arith, Option, Some, None, nat_lt, ltb-t
 use Rattle.std.specs.Prelude.{Contains, IsTrue, IsFalse, All}
 use Rattle.std.specs.List.{list_any}
 use Rattle.std.proofs.lemmas.Bool.{false≢true, eqb-true, eq-eqb, or_left, or_right}
-use Rattle.std.proofs.lemmas.Nat.{pow-add}
+use Rattle.std.proofs.Math.Nat.{mul_comm}
 use Rattle.std.proofs.lemmas.List.{length-append}
 use Rattle.sv_system.specs.System.{Environment}
 use Rattle.sv_system.proofs.Lists.{Contains-head, Contains-later, Contains-cases, Contains-nil}
@@ -22,9 +22,9 @@ use Rattle.sv_flat.specs.Selectors.{selectors_of}
 use Rattle.sv_flat.specs.Sets.{holds, those}
 use Rattle.sv_flat.proofs.Depths.{first_of, second_of}
 use Rattle.sv_flat.proofs.LeastSets.{some_from, from_some, in_those, those_below, those_pass}
-use Rattle.sv_flat.proofs.LeastSets.{holds-from_Contains}
+use Rattle.sv_flat.proofs.LeastSets.{holds-from_Contains, Contains-from_holds}
 use Rattle.sv_flat.proofs.SelectorBounds.{label_is_sound, rows_are_points, label_map}
-use Rattle.sv_flat.proofs.Members.{all_contained}
+use Rattle.sv_flat.proofs.Members.{all_contained, only, Contains-left, Contains-right}
 use Rattle.std.proofs.lemmas.List.Elements.{Contains-get_or}
 use Rattle.sv_clause.specs.Literals.{literal_true}
 use Rattle.sv_gates.specs.Formulas.{Formula, IsLiteral}
@@ -43,10 +43,11 @@ use Rattle.sv_circuits.proofs.Products.{bits_length, joined_is}
 use Rattle.sv_circuits.proofs.WordValues.{word_low, both_value}
 use Rattle.sv_encoding.specs.Expressions.{Words}
 use Rattle.sv_encoding.specs.Labels.{PointLiteral, LabelForm, selector_word, row_points, keys_of}
-use Rattle.sv_encoding.specs.Labels.{point_bit, point_literals, label_literals}
+use Rattle.sv_encoding.specs.Labels.{point_bit, point_literals, label_literals, signal_label, signal_labels}
 use Rattle.sv_encoding.specs.BothWays.{SpellThere}
 use Rattle.sv_encoding.specs.LabelMeanings.{HasLiterals, SaysPoint, HaveRows, AreWordsOf}
-use Rattle.sv_encoding.specs.LabelMeanings.{LabelSaysPoint}
+use Rattle.sv_encoding.specs.LabelMeanings.{LabelSaysPoint, HaveLiterals, SayPoints, LabelsSayPoints, selectors_for}
+use Rattle.sv_encoding.specs.Cones.{label_selectors}
 
 -- ---- truths
 
@@ -259,3 +260,158 @@ module _ (design : FlatDesign) (is_sound : IsTrue (sound design)) (rows_there : 
                   (subst (λ m. v < m) (sym full) (word_low values selector)));
             });
       }
+
+  map_there : (k first : ℕ) (second : Option ℕ) →
+      IsTrue (label_sound design (Table k first second)) →
+      IsMap (map_at k).first (map_at k).second (map_at k).rows
+  map_there k first second fits = is_map k (label_map design k first second fits)
+
+  first_width : (k first : ℕ) (second : Option ℕ) →
+      IsTrue (label_sound design (Table k first second)) →
+      signal_width design.signals first ≡ (map_at k).first
+  first_width k first second fits =
+      width_of first (map_at k).first
+      (second_of (nat_lt k (length design.maps)) (selector_fits design.signals first (map_at k).first)
+      (first_of (nat_lt k (length design.maps)
+      && selector_fits design.signals first (map_at k).first)
+      (second_fits design.signals second (map_at k).second) fits))
+
+  second_known : (k first : ℕ) (second : Option ℕ) →
+      IsTrue (label_sound design (Table k first second)) →
+      IsTrue (second_fits design.signals second (map_at k).second)
+  second_known k first second fits =
+      second_of (nat_lt k (length design.maps)
+      && selector_fits design.signals first (map_at k).first)
+      (second_fits design.signals second (map_at k).second) fits
+
+  one_full : (k first : ℕ) → IsTrue (label_sound design (Table k first None)) → (word : Word) →
+      length word ≡ signal_width design.signals first → IsFull (map_at k) word
+  one_full k first fits word wide =
+      by_range (map_at k).second (map_there k first None fits) (second_known k first None fits)
+    where
+      by_range : (range : Option ℕ) → IsMap (map_at k).first range (map_at k).rows →
+          IsTrue (second_fits design.signals None range) → IsFull (map_at k) word
+      by_range None is h = is.2 ∙ ap (λ n. 2 ^ n) (sym (wide ∙ first_width k first None fits))
+      by_range (Some width) is h = absurd (false≢true h)
+
+  second_width : (k first t : ℕ) → IsTrue (label_sound design (Table k first (Some t))) →
+      signal_width design.signals t ≡ unwrap_or (map_at k).second 0
+  second_width k first t fits = by_range (map_at k).second (second_known k first (Some t) fits)
+    where
+      by_range : (range : Option ℕ) → IsTrue (second_fits design.signals (Some t) range) →
+          signal_width design.signals t ≡ unwrap_or range 0
+      by_range None h = absurd (false≢true h)
+      by_range (Some width) h = width_of t width h
+
+  pair_full : (k first t : ℕ) → IsTrue (label_sound design (Table k first (Some t))) →
+      (low high : Word) → length low ≡ signal_width design.signals t →
+      length high ≡ signal_width design.signals first → IsFull (map_at k) (low ++ high)
+  pair_full k first t fits low high wide_low wide_high =
+      rows_count (map_at k).second (map_there k first (Some t) fits)
+      ∙ ap (λ n. 2 ^ n)
+      (omega (arith, length-append low high, wide_low, wide_high, first_width k first (Some t) fits,
+      second_width k first t fits))
+    where
+      rows_count : (range : Option ℕ) → IsMap (map_at k).first range (map_at k).rows →
+          length (map_at k).rows ≡ 2 ^ ((map_at k).first + unwrap_or range 0)
+      rows_count None is = is.2 ∙ ap (λ n. 2 ^ n) (omega arith)
+      rows_count (Some width) is = is.3
+
+  pair_spelled : (k first t : ℕ) → IsTrue (label_sound design (Table k first (Some t))) →
+      (low high : Word) → length low ≡ signal_width design.signals t → (values : ℕ → Bool) →
+      pair_value (map_at k) (word_value values high) (word_value values low)
+      ≡ word_value values (low ++ high)
+  pair_spelled k first t fits low high wide values =
+      let a = word_value values low in
+      let b = word_value values high in
+      ap (λ n. b * 2 ^ n + a) (sym (wide ∙ second_width k first t fits))
+      ∙ omega (arith, mul_comm b (2 ^ length low))
+      ∙ sym (both_value values low high)
+
+  -- ---- a label
+
+  pub label_makes : (label : Label) → IsTrue (label_sound design label) → (words : Words)
+      (old : Formula) → IsBase old → AreWordsOf design (selectors_of label) old.variables words →
+      Makes old (label_literals design words label old) HasLiterals
+      (λ values made. (e : Environment ℕ) → SpellThere (selectors_of label) values words e →
+      SaysPoint values made (label_in design.maps label e).0)
+  label_makes (Declared point) fits words old base are =
+      let here : PointLiteral = record { point = point.0; literal = true_literal } in
+      makes_at_once old (here ∷ []) HasLiterals
+      (λ values made. (e : Environment ℕ) → SpellThere [] values words e →
+      SaysPoint values made point.0) base.closed
+      (λ l at. subst (λ (z : PointLiteral). IsLiteral old.variables z.literal) (only here l at)
+      (literal_more 1 old.variables true_literal base.some true_is))
+      (λ values met e spelled. record {
+        exact = λ l at. subst (λ (z : PointLiteral). literal_true values z.literal
+            ≡ (z.point == point.0)) (only here l at)
+            (true_known values (base.truth values met) ∙ sym (eq-eqb point.0 point.0 refl));
+        found = (here, Contains-head here [], refl);
+      })
+  label_makes (Table k first None) fits words old base are =
+      let has = are first (holds-from_Contains (first ∷ []) first (Contains-head first [])) in
+      table_makes k first None fits words old base has.0 (one_full k first fits (words first) has.1)
+      (λ values e spelled. ap (row_of (map_at k))
+      (sym (spelled first (holds-from_Contains (first ∷ []) first (Contains-head first [])))))
+  label_makes (Table k first (Some t)) fits words old base are =
+      let both : List ℕ = first ∷ t ∷ [] in
+      let at_first : IsTrue (holds both first) =
+      holds-from_Contains both first (Contains-head first (t ∷ [])) in
+      let at_second : IsTrue (holds both t) =
+      holds-from_Contains both t (Contains-later first (t ∷ []) t (Contains-head t [])) in
+      let high = are first at_first in
+      let low = are t at_second in
+      table_makes k first (Some t) fits words old base
+      (joined_is old.variables (words t) (words first) low.0 high.0)
+      (pair_full k first t fits (words t) (words first) low.1 high.1)
+      (λ values e spelled. ap (row_of (map_at k))
+      (ap₂ (pair_value (map_at k)) (sym (spelled first at_first)) (sym (spelled t at_second))
+      ∙ pair_spelled k first t fits (words t) (words first) low.1 values))
+
+pub label_says_point : LabelSaysPoint
+label_says_point design words s formula is_sound rows_there inside base are =
+    label_makes design is_sound rows_there (signal_of design.signals s).label
+    (label_is_sound design is_sound s (ltb-true s (length design.signals) inside)) words formula
+    base are
+
+-- ---- labels one after the other
+
+pub labels_say_points : LabelsSayPoints
+labels_say_points design words [] formula is_sound rows_there inside base are =
+    makes_at_once formula [] HaveLiterals (λ values labels. (e : Environment ℕ) →
+    SpellThere [] values words e → SayPoints values labels []) base.closed
+    (λ label at. absurd (Contains-nil label at)) (λ values met e spelled. tt)
+labels_say_points design words (s ∷ ss) formula is_sound rows_there inside base are =
+    let here = label_selectors design s in
+    let later = selectors_for design ss in
+    let first = signal_label design words s formula in
+    let p = label_says_point design words s formula is_sound rows_there
+    (inside s (Contains-head s ss)) base (λ t at. are t (holds_left here later t at)) in
+    let m = formula.variables in
+    let n = (first.0).variables in
+    let rest = signal_labels design words ss first.0 in
+    let q = labels_say_points design words ss first.0 is_sound rows_there
+    (λ u at. inside u (Contains-later s ss u at)) (base_more formula first.0 base p.extends)
+    (λ t at. let has = are t (holds_right here later t at) in
+    (word_more m n (words t) p.extends.begins.grows has.0, has.1)) in
+    let k = (rest.0).variables in
+    record {
+      extends = extends_trans formula first.0 rest.0 p.extends q.extends;
+      within = λ label at. ⊎_elim
+          (λ same. subst (HasLiterals k) same
+          (literals_more n k first.1 q.extends.begins.grows p.within))
+          (λ more. q.within label more) (Contains-cases first.1 rest.1 label at);
+      says = λ values met e spelled. (
+        p.says values (meets-begins first.0 rest.0 values q.extends.begins met) e
+            (λ t at. spelled t (holds_left here later t at)),
+        q.says values met e (λ t at. spelled t (holds_right here later t at)),
+      );
+    }
+  where
+    holds_left : (xs ys : List ℕ) (t : ℕ) → IsTrue (holds xs t) → IsTrue (holds (xs ++ ys) t)
+    holds_left xs ys t at =
+        holds-from_Contains (xs ++ ys) t (Contains-left xs ys t (Contains-from_holds xs t at))
+
+    holds_right : (xs ys : List ℕ) (t : ℕ) → IsTrue (holds ys t) → IsTrue (holds (xs ++ ys) t)
+    holds_right xs ys t at =
+        holds-from_Contains (xs ++ ys) t (Contains-right xs ys t (Contains-from_holds ys t at))

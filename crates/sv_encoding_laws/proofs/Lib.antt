@@ -11,3 +11,4 @@ pub mod Settling
 pub mod ConeFacts
 pub mod TruthWords
 pub mod LabelWords
+pub mod FlowWords

@@ -1,6 +1,7 @@
 // What the encoding of an obligation says, as contracts of functions that do nothing.
 ghost use Rattle.sv_encoding.specs.BothWays.{WordsSpellNextValues, WordsSpellSettledValues};
 ghost use Rattle.sv_encoding.specs.BothWays.{WordsSpellValues};
+ghost use Rattle.sv_encoding.specs.LabelMeanings.{FlowsSay, LabelSaysPoint, LabelsSayPoints};
 
 /// The word of a well-formed expression has the expression's length in bits, gives each new
 /// variable one value for values of the old ones, and spells the expression's value in the
@@ -23,4 +24,21 @@ pub fn words_of_signals_spell_settled_values()
 /// next values (IEEE 1364-2005, clauses 9.2.2 and 9.7). The design is sound and admitted.
 pub fn words_of_registers_spell_next_values()
     ensures { WordsSpellNextValues }
+{}
+
+/// The literals of a signal's label, made from words of its selectors, give each new variable one
+/// value, and each is true exactly where its point is the label's in every environment of which the
+/// words spell the selectors; that point has a literal (SecVerilog, ASPLOS 2015, dependent labels).
+/// The same holds of the labels of several signals, made one after the other. The design is sound,
+/// and each of its maps has a row for each value of its ranges.
+pub fn labels_of_signals_say_their_points()
+    ensures one { LabelSaysPoint }
+    ensures several { LabelsSayPoints }
+{}
+
+/// The literal that is made of several labels and a target gives each new variable one value, and
+/// is true exactly where some of the labels is a point that does not flow to the point of the
+/// target (SecVerilog, ASPLOS 2015).
+pub fn violations_say_that_some_label_stays()
+    ensures { FlowsSay }
 {}

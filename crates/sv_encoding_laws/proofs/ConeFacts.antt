@@ -15,7 +15,9 @@ use Rattle.sv_flat.specs.Reads.{process_readings}
 use Rattle.sv_flat.specs.SignalLists.{system_signals}
 use Rattle.sv_flat.specs.Sets.{holds}
 use Rattle.sv_flat.specs.Admission.{IsAdmitted}
-use Rattle.sv_flat.proofs.AdmittedFacts.{and_true, negated_true}
+use Rattle.sv_flat.proofs.AdmittedFacts.{and_true, negated_true, assigns_no_clock}
+use Rattle.sv_flat.proofs.AdmittedFacts.{assigned_is_signal}
+use Rattle.sv_obl.proofs.MadeFacts.{register_driver}
 use Rattle.sv_flat.proofs.ClockFacts.{reads_no_clock}
 use Rattle.sv_flat.specs.Readings.{no_bits}
 use Rattle.sv_flat.proofs.AdmittedFacts.{body_is_sound}
@@ -29,10 +31,10 @@ use Rattle.sv_encoding.specs.Cones.{brings_reads, with_reads}
 use Rattle.sv_encoding.specs.BothWays.{IsCone}
 
 module _ (design : FlatDesign) (is_sound : IsTrue (sound design)) (admitted : IsAdmitted design) where
-  abbrev Seen : ℕ → Type 0
+  abbrev pub Seen : ℕ → Type 0
   Seen t = Contains (system_signals design) t
 
-  seen_below : (t : ℕ) → Seen t → t < length design.signals
+  pub seen_below : (t : ℕ) → Seen t → t < length design.signals
   seen_below t seen = those_below (length design.signals) (λ s. not (is_clock design s)) t seen
 
   no_register : (s : ℕ) → IsTrue (is_combinational design s) → IsFalse (is_register design s)
@@ -43,14 +45,9 @@ module _ (design : FlatDesign) (is_sound : IsTrue (sound design)) (admitted : Is
       (second_of (is_signal design.signals s)
       (not (is_top_input design s || is_register design s || is_clock design s)) comb)))
 
-  -- what is read for a combinational signal is no clock
-  brought_seen : (m k : ℕ) → IsTrue (brings_reads design m k) → k < length design.signals → Seen k
-  brought_seen m k brings low =
-      let comb = first_of (is_combinational design m) (is_read_for design m k) brings in
-      ⊎_elim
-      (λ held. absurd (false≢true (sym (no_register m comb)
-      ∙ first_of (is_register design m) (m == k) held)))
-      (λ read.
+  seen_in : (m k : ℕ) → IsTrue (list_any (λ p. reads_settled design p (followed design p m) k)
+      (drivers (processes_of design) m)) → k < length design.signals → Seen k
+  seen_in m k read low =
       let found = from_some (λ p. reads_settled design p (followed design p m) k)
       (drivers (processes_of design) m) read in
       let p = found.0 in
@@ -64,19 +61,31 @@ module _ (design : FlatDesign) (is_sound : IsTrue (sound design)) (admitted : Is
       (r.name.signal == k) one.2 in
       in_those (length design.signals) (λ s. not (is_clock design s)) k low
       (ap not (reads_no_clock design is_sound admitted p k at
-      (some_from (λ (x : Reading). x.name.signal == k) (process_readings design p) r one.1
-      named))))
+      (some_from (λ (x : Reading). x.name.signal == k) (process_readings design p) r one.1 named)))
+
+  -- what is read for a combinational signal is no clock
+  brought_seen : (m k : ℕ) → IsTrue (brings_reads design m k) → k < length design.signals → Seen k
+  brought_seen m k brings low =
+      let comb = first_of (is_combinational design m) (is_read_for design m k) brings in
+      ⊎_elim
+      (λ held. absurd (false≢true (sym (no_register m comb)
+      ∙ first_of (is_register design m) (m == k) held)))
+      (λ read. seen_in m k read low)
       (or_cases (is_register design m && (m == k))
       (list_any (λ p. reads_settled design p (followed design p m) k)
       (drivers (processes_of design) m))
       (second_of (is_combinational design m) (is_read_for design m k) brings))
 
-  read_below : (s t : ℕ) → IsTrue (is_combinational design s) → IsTrue (is_read_for design s t) →
-      t < length design.signals
-  read_below s t comb reads =
+  pub read_below : (s t : ℕ) → IsTrue (is_read_for design s t) → t < length design.signals
+  read_below s t reads =
       ⊎_elim
-      (λ held. absurd (false≢true (sym (no_register s comb)
-      ∙ first_of (is_register design s) (s == t) held)))
+      (λ held.
+      let register = first_of (is_register design s) (s == t) held in
+      let driver = register_driver design is_sound admitted s register in
+      subst (λ z. z < length design.signals)
+      (eqb-true s t (second_of (is_register design s) (s == t) held))
+      (ltb-true s (length design.signals) (assigned_is_signal design.signals driver.0.body
+      (body_is_sound design is_sound admitted driver.0 driver.1) s driver.3)))
       (λ read.
       let found = from_some (λ p. reads_settled design p (followed design p s) t)
       (drivers (processes_of design) s) read in
@@ -96,6 +105,22 @@ module _ (design : FlatDesign) (is_sound : IsTrue (sound design)) (admitted : Is
       (or_cases (is_register design s && (s == t))
       (list_any (λ p. reads_settled design p (followed design p s) t)
       (drivers (processes_of design) s)) reads)
+
+  -- what is read for any signal is no clock
+  pub read_seen : (m k : ℕ) → IsTrue (is_read_for design m k) → k < length design.signals → Seen k
+  read_seen m k reads low = ⊎_elim
+      (λ held.
+      let register = first_of (is_register design m) (m == k) held in
+      let driver = register_driver design is_sound admitted m register in
+      subst Seen (eqb-true m k (second_of (is_register design m) (m == k) held))
+      (in_those (length design.signals) (λ s. not (is_clock design s)) m
+      (subst (λ z. z < length design.signals)
+      (sym (eqb-true m k (second_of (is_register design m) (m == k) held))) low)
+      (ap not (assigns_no_clock design is_sound admitted driver.0 m driver.1 driver.3))))
+      (λ read. seen_in m k read low)
+      (or_cases (is_register design m && (m == k))
+      (list_any (λ p. reads_settled design p (followed design p m) k)
+      (drivers (processes_of design) m)) reads)
 
   kind_of : (s : ℕ) → Seen s →
       IsTrue (is_top_input design s || is_register design s || is_combinational design s)
@@ -133,7 +158,7 @@ module _ (design : FlatDesign) (is_sound : IsTrue (sound design)) (admitted : Is
           (least_set_closed (length design.signals) (brings_reads design) starts below s t
           (Contains-from_holds (with_reads design starts) s held)
           (and_true (is_combinational design s) (is_read_for design s t) comb reads)
-          (read_below s t comb reads));
+          (read_below s t reads));
     }
 
     pub cone_starts : (t : ℕ) → Contains starts t → IsTrue (holds (with_reads design starts) t)

@@ -12,3 +12,5 @@ pub mod ConeFacts
 pub mod TruthWords
 pub mod LabelWords
 pub mod FlowWords
+pub mod Units
+pub mod QueryCones

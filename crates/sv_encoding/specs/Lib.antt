@@ -5,6 +5,7 @@ pub mod Cones
 pub mod Encoding
 pub mod Expressions
 pub mod LabelMeanings
+pub mod GivenMeanings
 pub mod Labels
 pub mod Sizes
 pub mod Valuations

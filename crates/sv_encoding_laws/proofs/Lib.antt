@@ -14,3 +14,5 @@ pub mod LabelWords
 pub mod FlowWords
 pub mod Units
 pub mod QueryCones
+pub mod GivenWords
+pub mod Places

@@ -11,7 +11,6 @@ use Rattle.sv_flat.specs.Design.{FlatDesign}
 use Rattle.sv_flat.specs.Values.{signal_width}
 use Rattle.sv_flat.specs.Sets.{holds}
 use Rattle.sv_flat.proofs.LeastSets.{either_way, or_cases}
-use Rattle.sv_clause.specs.Literals.{literal_true}
 use Rattle.sv_gates.specs.Formulas.{Formula, meets}
 use Rattle.sv_gates.specs.Gates.{fresh_variable}
 use Rattle.sv_gates.specs.Extending.{AgreeUpTo, Begins}
@@ -21,10 +20,10 @@ use Rattle.sv_circuits.specs.Words.{Word, word_value, fresh_word}
 use Rattle.sv_circuits.specs.Circuits.{IsWord, IsBase}
 use Rattle.sv_encoding.specs.Expressions.{Words}
 use Rattle.sv_encoding.specs.Bodies.{with_word}
-use Rattle.sv_encoding.specs.Encoding.{no_words, fresh_words, words_made}
+use Rattle.sv_encoding.specs.Encoding.{no_words, words_made}
 use Rattle.sv_encoding.specs.BothWays.{SpellThere}
 use Rattle.sv_encoding.specs.GivenMeanings.{row_after, IsNewWord, HaveRoom, AreFree}
-use Rattle.sv_encoding.specs.GivenMeanings.{GivenWordsAreFree, IsOfVariables}
+use Rattle.sv_encoding.specs.GivenMeanings.{GivenWordsAreFree, IsOfVariables, AreOfVariables}
 
 -- ---- rows
 
@@ -107,7 +106,7 @@ one_row (suc size) old base =
             (λ m below. first.1 m below ∙ most.1 m (omega (arith, below))),
             most.2,
             ap₂ (λ b k. truth b + 2 * k) (sym (most.1 (suc v) (omega arith)) ∙ first.3) most.3
-            ∙ low_and_rest n,
+                ∙ low_and_rest n,
           );
     }
   where
@@ -248,3 +247,9 @@ words_are_free design signals formula base =
       others = p.others;
       onward = p.onward;
     }
+
+-- so their places tell what they spell
+pub free_variables : (design : FlatDesign) (signals : List ℕ) (old : Formula)
+    (made : Formula × Words) → AreFree design signals old made → AreOfVariables signals made.1
+free_variables design signals old made free s at =
+    new_variables design s old.variables (made.0).variables (made.1 s) (free.words s at)

@@ -1,8 +1,8 @@
 -- The places of the bits of words tell what the words spell.
 use Rattle.std.proofs.Common.{◌≡◌, ℕ, zero, suc, ◌+◌, ◌*◌, ◌^◌, ◌<◌, ◌==◌, Bool, true, false, cond}
-use Rattle.std.proofs.Common.{◌||◌, ◌&&◌, ℤ, pos, unsigned_abs, List, [], ◌∷◌, ◌++◌, map, length, get_or}
+use Rattle.std.proofs.Common.{◌||◌, ◌&&◌, ℤ, pos, unsigned_abs, List, [], ◌∷◌, ◌++◌, map, length}
 use Rattle.std.proofs.Common.{refl, sym, ap, ap₂, ◌∙◌, subst, ⊎_elim, arith}
-use Rattle.std.specs.Prelude.{◌≢◌, IsTrue, IsFalse, Contains, AllPairs, filter, sum, flat_map}
+use Rattle.std.specs.Prelude.{◌≢◌, IsTrue, IsFalse, filter, sum, flat_map}
 use Rattle.std.specs.Bool.{beq}
 use Rattle.std.specs.List.{enumerate_from, list_any, range_with_len}
 use Rattle.std.proofs.lemmas.Bool.{false≢true, eqb-true, eq-eqb, or_left, or_right}
@@ -13,8 +13,7 @@ use Rattle.std.proofs.lemmas.List.Kept.{AllPairs-filter}
 use Rattle.std.proofs.lemmas.List.FromFn.{length-range_with_len, get_or-range_with_len}
 use Rattle.std.proofs.Math.Nat.{pow-suc}
 use Rattle.sv_num.specs.Vectors.{truth}
-use Rattle.sv_flat.specs.Design.{SignalForm, FlatDesign}
-use Rattle.sv_flat.specs.Design.{TypedTree}
+use Rattle.sv_flat.specs.Design.{SignalForm, TypedTree, FlatDesign}
 use Rattle.sv_flat.specs.Values.{signal_of}
 use Rattle.sv_flat.specs.Readings.{names_signal}
 use Rattle.sv_flat.specs.Selectors.{selectors_of}
@@ -231,16 +230,16 @@ decoded_tells design cone later_cone given later values once later_once are late
     let xs = bit_places false given (given_in design cone) in
     let ys = bit_places true later (inputs_in design later_cone) in
     let now : (s : ℕ) → placed_value values (xs ++ ys) false s
-        ≡ spelled_or_zero values (given_in design cone) given s + 0 =
+    ≡ spelled_or_zero values (given_in design cone) given s + 0 =
     (λ s. placed_join values xs ys false s
     ∙ ap₂ (λ a b. a + b) (first.now s) (second.not_now s)) in
     let next : (s : ℕ) → placed_value values (xs ++ ys) true s
-        ≡ spelled_or_zero values (inputs_in design later_cone) later s + 0 =
+    ≡ spelled_or_zero values (inputs_in design later_cone) later s + 0 =
     (λ s. placed_join values xs ys true s
     ∙ ap₂ (λ a b. a + b) (first.not_next s) (second.next s) ∙ omega arith) in
     let kept : (test : ℕ → Bool) (set : List ℕ) (words : Words) (p : Bool) (s : ℕ) (n : ℕ) →
-        (p ≡ true → test s ≡ true) → n ≡ spelled_or_zero values (filter test set) words s + 0 →
-        cond p n 0 ≡ cond (p && holds set s) (word_value values (words s)) 0 =
+    (p ≡ true → test s ≡ true) → n ≡ spelled_or_zero values (filter test set) words s + 0 →
+    cond p n 0 ≡ cond (p && holds set s) (word_value values (words s)) 0 =
     (λ test set words p s n from e.
     ap (λ z. cond p z 0) e
     ∙ ap (λ c. cond p (cond c (word_value values (words s)) 0 + 0) 0) (holds_filter test set s)

@@ -1,6 +1,7 @@
 // What the encoding of an obligation says, as contracts of functions that do nothing.
 ghost use Rattle.sv_encoding.specs.BothWays.{WordsSpellNextValues, WordsSpellSettledValues};
 ghost use Rattle.sv_encoding.specs.BothWays.{WordsSpellValues};
+ghost use Rattle.sv_encoding.specs.GivenMeanings.{GivenWordsAreFree, PlacesSpellWords};
 ghost use Rattle.sv_encoding.specs.LabelMeanings.{FlowsSay, LabelSaysPoint, LabelsSayPoints};
 
 /// The word of a well-formed expression has the expression's length in bits, gives each new
@@ -41,4 +42,20 @@ pub fn labels_of_signals_say_their_points()
 /// target (SecVerilog, ASPLOS 2015).
 pub fn violations_say_that_some_label_stays()
     ensures { FlowsSay }
+{}
+
+/// The words of a list's signals, which are to be inputs or registers, are rows of new variables,
+/// a variable for each bit, and add no clause: values that meet the formula before can be carried
+/// on so that the words spell any values that have room in the signals' bits. The formula's
+/// variable 1 is true.
+pub fn words_of_inputs_are_free()
+    ensures { GivenWordsAreFree }
+{}
+
+/// The places of the bits of words, which are of variables without negation, tell in their own
+/// cycle what the words spell, and in the other cycle nothing, where no signal is listed twice, as
+/// none is in a cone of an obligation. So the valuation that is decoded by the places of two cones
+/// has of their registers and inputs what the words spell, and 0 elsewhere.
+pub fn places_spell_the_words_of_inputs()
+    ensures { PlacesSpellWords }
 {}

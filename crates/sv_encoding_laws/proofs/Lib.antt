@@ -16,3 +16,4 @@ pub mod Units
 pub mod QueryCones
 pub mod GivenWords
 pub mod Places
+pub mod Decoding

@@ -17,3 +17,4 @@ pub mod QueryCones
 pub mod GivenWords
 pub mod Places
 pub mod Decoding
+pub mod Chain

@@ -1,7 +1,6 @@
 -- What clauses say: those of an expression fix its value, and those of an encoding can be met
--- exactly where the obligation can be falsified. Of these the laws of `sv_encoding_laws` cite what
--- is proved, which is what is said of expressions and signals; the rest says what the encoding is
--- for.
+-- exactly where the obligation can be falsified. The laws of `sv_encoding_laws` cite these; not
+-- proved yet is what an encoding keeps to, and its size.
 use Rattle.std.specs.Prelude.{◌≡◌, ℕ, ◌-◌, ◌<◌, ◌≤◌, Bool, false, ◌==◌, ◌||◌, ◌&&◌, not, IsTrue}
 use Rattle.std.specs.Prelude.{IsFalse, ℤ, List, [], ◌∷◌, length, slice_get, Some, All, AllPairs}
 use Rattle.sv_system.specs.System.{Environment, Fits, IsStill}

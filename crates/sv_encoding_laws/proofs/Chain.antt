@@ -1,15 +1,15 @@
 -- The steps of an encoding one after the other, and what values that meet them say.
-use Rattle.std.proofs.Common.{◌≡◌, ℕ, ◌<◌, ◌≤◌, Bool, true, false, ◌||◌, not, List, [], ◌∷◌, ◌++◌, map, length}
-use Rattle.std.proofs.Common.{refl, sym, ap, subst, ◌∙◌, ◌⊎◌, inl, inr, ⊎_elim, arith, ℤ, filter, ◌==◌, lt-ltb}
-use Rattle.std.specs.Prelude.{Contains, IsTrue, IsFalse, flat_map, neg_ℤ}
+use Rattle.std.proofs.Common.{◌≡◌, ℕ, ◌≤◌, Bool, true, ◌||◌, not, List, [], ◌∷◌, ◌++◌, map, length}
+use Rattle.std.proofs.Common.{refl, sym, ap, subst, ◌∙◌, ◌⊎◌, inl, inr, ⊎_elim, arith, ℤ, ◌==◌, lt-ltb}
+use Rattle.std.specs.Prelude.{Contains, IsTrue, IsFalse, flat_map}
 use Rattle.std.specs.List.{list_any}
 use Rattle.std.proofs.lemmas.Bool.{eq-eqb}
 use Rattle.sv_num.specs.Vectors.{is_true}
 use Rattle.sv_system.specs.System.{Environment, Fits, IsStill}
-use Rattle.sv_system.proofs.Lists.{Contains-nil, Contains-cases, Contains-head, Contains-later}
-use Rattle.sv_system.proofs.Lists.{Contains-map, Contains-filter}
+use Rattle.sv_system.proofs.Lists.{Contains-nil, Contains-head, Contains-later}
+use Rattle.sv_system.proofs.Lists.{Contains-filter}
 use Rattle.sv_lattice.specs.Tables.{flow_test}
-use Rattle.sv_flat.specs.Design.{SignalForm, TypedTree, FlatDesign}
+use Rattle.sv_flat.specs.Design.{TypedTree, FlatDesign}
 use Rattle.sv_flat.specs.Values.{signal_width, value}
 use Rattle.sv_flat.specs.Soundness.{sound, is_signal}
 use Rattle.sv_flat.specs.Readings.{ReadForm, reads, names_signal}
@@ -21,7 +21,6 @@ use Rattle.sv_flat.proofs.AdmittedFacts.{some_width}
 use Rattle.sv_flat.proofs.LeastSets.{either_way, or_cases, in_those, some_from, Contains-from_holds}
 use Rattle.sv_flat.proofs.LeastSets.{holds-from_Contains, Contains-from_filter}
 use Rattle.sv_flat.proofs.Members.{Contains-left, Contains-right}
-use Rattle.sv_flat.proofs.SameRuns.{none_found}
 use Rattle.sv_obl.specs.declared.frames.Frame.{Frame}
 use Rattle.sv_obl.specs.declared.frames.Frame.TheVariants.{Now, Next}
 use Rattle.sv_obl.specs.Paths.{StepForm}
@@ -31,12 +30,12 @@ use Rattle.sv_obl.specs.Noninterference.{IsChecked}
 use Rattle.sv_clause.specs.Literals.{literal_true}
 use Rattle.sv_gates.specs.Formulas.{Formula, meets, IsLiteral}
 use Rattle.sv_gates.specs.Gates.{start}
-use Rattle.sv_gates.specs.Extending.{Makes, Extends, Begins}
-use Rattle.sv_gates.proofs.ExtendingLaws.{makes_at_once, meets-begins, extends_trans, begins_trans}
+use Rattle.sv_gates.specs.Extending.{Makes, Extends}
+use Rattle.sv_gates.proofs.ExtendingLaws.{makes_at_once, meets-begins, extends_trans}
 use Rattle.sv_gates.proofs.Valuations.{negation_true}
 use Rattle.sv_gates.proofs.GateLaws.{literal_negated}
 use Rattle.sv_circuits.specs.Words.{Word, word_value, negation}
-use Rattle.sv_circuits.specs.Circuits.{IsWord, IsBase}
+use Rattle.sv_circuits.specs.Circuits.{IsBase}
 use Rattle.sv_circuits.proofs.Pieces.{base_more, word_more}
 use Rattle.sv_encoding.specs.Expressions.{Words, is_true_bit}
 use Rattle.sv_encoding.specs.Cones.{label_selectors, named_in, asked_next, next_cone, asked_now}
@@ -47,8 +46,8 @@ use Rattle.sv_encoding.specs.Encoding.{registers_next, fact_literals, condition_
 use Rattle.sv_encoding.specs.Encoding.{target_label, read_labels, violation}
 use Rattle.sv_encoding.specs.BothWays.{HaveBits, IsWordOf, SpellThere, IsReadThere, SpellsSettled}
 use Rattle.sv_encoding.specs.BothWays.{SpellsNext, LeaveOthers}
-use Rattle.sv_encoding.specs.LabelMeanings.{HasLiterals, HaveLiterals, SaysPoint, SayPoints}
-use Rattle.sv_encoding.specs.LabelMeanings.{AreWordsOf, label_point, selectors_for, SaysLabels}
+use Rattle.sv_encoding.specs.LabelMeanings.{HasLiterals, SaysPoint, SayPoints}
+use Rattle.sv_encoding.specs.LabelMeanings.{label_point, selectors_for, SaysLabels}
 use Rattle.sv_encoding.specs.GivenMeanings.{AreFree}
 use Rattle.sv_encoding_laws.proofs.ConeFacts.{read_below, seen_below}
 use Rattle.sv_encoding_laws.proofs.FlowWords.{flows_say}
@@ -56,7 +55,7 @@ use Rattle.sv_encoding_laws.proofs.GivenWords.{words_are_free}
 use Rattle.sv_encoding_laws.proofs.LabelWords.{literals_more, label_says_point, labels_say_points}
 use Rattle.sv_encoding_laws.proofs.NamedValues.{named_from_reads}
 use Rattle.sv_encoding_laws.proofs.QueryCones.{now_is_cone, next_is_cone, now_starts, next_starts}
-use Rattle.sv_encoding_laws.proofs.QueryCones.{in_flat_map, condition_is, one_is, read_signal_known}
+use Rattle.sv_encoding_laws.proofs.QueryCones.{in_flat_map, condition_is, read_signal_known}
 use Rattle.sv_encoding_laws.proofs.Settling.{words_spell_settled_values, words_spell_next_values}
 use Rattle.sv_encoding_laws.proofs.Steps.{HasWidth}
 use Rattle.sv_encoding_laws.proofs.TruthWords.{Counts, AllCount, AreLiterals, AreTruths, truths_say}
@@ -121,7 +120,7 @@ module _ (design : FlatDesign) (checked : IsChecked design) (o : Obligation)
       (now_is_cone design is_sound checked.admitted o query) free1.base
       (λ t held. (free1.words t held).inside)
 
-  base2 : IsBase s2.0
+  pub base2 : IsBase s2.0
   base2 = base_more s1.0 s2.0 free1.base p2.extends
 
   pub free3 : AreFree design (inputs_in design later) s2.0 s3
@@ -162,8 +161,11 @@ module _ (design : FlatDesign) (checked : IsChecked design) (o : Obligation)
       ⊎_elim
       (λ register. inl register)
       (λ none. ⊎_elim
-      (λ input. inr (none, holds-from_Contains (inputs_in design later) t
-      (Contains-filter (is_top_input design) later t from.1 input)))
+      (λ input. inr (
+        none,
+        holds-from_Contains (inputs_in design later) t
+            (Contains-filter (is_top_input design) later t from.1 input),
+      ))
       (λ register. inl (holds-from_Contains (registers_in design later) t
       (Contains-filter (is_register design) later t from.1 register)))
       (or_cases (is_top_input design t) (is_register design t) from.0))
@@ -515,14 +517,19 @@ module _ (design : FlatDesign) (checked : IsChecked design) (o : Obligation)
     pub path : AreTruths design bits InCone values e conditions s7.1
     pub fails : literal_true values s10.1 ≡ fails_test o.goal e f
 
+  pub after_seven : Extends s7.0 s10.0
+  after_seven =
+      extends_trans s7.0 s8.0 s10.0 p8.extends
+      (extends_trans s8.0 s9.0 s10.0 p9.extends p10.extends)
+
+  pub after_six : Extends s6.0 s10.0
+  after_six = extends_trans s6.0 s7.0 s10.0 p7.extends after_seven
+
   pub after_three : Extends s3.0 s10.0
   after_three =
       extends_trans s3.0 s4.0 s10.0 p4.0.extends
       (extends_trans s4.0 s5.0 s10.0 p5.extends
-      (extends_trans s5.0 s6.0 s10.0 p6.extends
-      (extends_trans s6.0 s7.0 s10.0 p7.extends
-      (extends_trans s7.0 s8.0 s10.0 p8.extends
-      (extends_trans s8.0 s9.0 s10.0 p9.extends p10.extends)))))
+      (extends_trans s5.0 s6.0 s10.0 p6.extends after_six))
 
   pub all_said : (values : ℕ → Bool) → meets values (s10.0).clauses ≡ true →
       (e f : Environment ℕ) → Fit values e f → Said values e f

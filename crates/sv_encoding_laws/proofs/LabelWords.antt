@@ -1,10 +1,10 @@
 -- The literals of a label say its point, where words of its selectors spell their values.
-use Rattle.std.proofs.Common.{◌≡◌, ℕ, zero, suc, ◌+◌, ◌*◌, ◌^◌, ◌<◌, ◌≤◌, Bool, true, false, ◌||◌, ◌&&◌}
+use Rattle.std.proofs.Common.{◌≡◌, ℕ, ◌+◌, ◌*◌, ◌^◌, ◌<◌, ◌≤◌, Bool, true, false, ◌||◌, ◌&&◌}
 use Rattle.std.proofs.Common.{◌==◌, List, [], ◌∷◌, ◌++◌, length, map, refl, sym, ap, ap₂, subst, ◌∙◌}
 use Rattle.std.proofs.Common.{⊎_elim, arith, Option, Some, None, nat_lt, ltb-true, unwrap_or}
-use Rattle.std.specs.Prelude.{Contains, IsTrue, IsFalse, All}
+use Rattle.std.specs.Prelude.{Contains, IsTrue}
 use Rattle.std.specs.List.{list_any}
-use Rattle.std.proofs.lemmas.Bool.{false≢true, eqb-true, eq-eqb, or_left, or_right}
+use Rattle.std.proofs.lemmas.Bool.{false≢true, eqb-true, eq-eqb}
 use Rattle.std.proofs.Math.Nat.{mul_comm}
 use Rattle.std.proofs.lemmas.List.{length-append}
 use Rattle.sv_system.specs.System.{Environment}
@@ -19,7 +19,7 @@ use Rattle.sv_flat.specs.Values.{signal_of, signal_width}
 use Rattle.sv_flat.specs.Soundness.{is_signal, selector_fits, second_fits, label_sound, sound}
 use Rattle.sv_flat.specs.FlatSystem.{label_in}
 use Rattle.sv_flat.specs.Selectors.{selectors_of}
-use Rattle.sv_flat.specs.Sets.{holds, those}
+use Rattle.sv_flat.specs.Sets.{holds}
 use Rattle.sv_flat.proofs.Depths.{first_of, second_of}
 use Rattle.sv_flat.proofs.LeastSets.{some_from, from_some, in_those, those_below, those_pass}
 use Rattle.sv_flat.proofs.LeastSets.{holds-from_Contains, Contains-from_holds}
@@ -38,7 +38,7 @@ use Rattle.sv_circuits.proofs.Pieces.{base_more, word_more, GivesEach, values_of
 use Rattle.sv_circuits.proofs.BitPieces.{bit_as, false_is, false_known, true_is, true_known}
 use Rattle.sv_circuits.proofs.Picks.{is_number_bits, equals_number_gives}
 use Rattle.sv_circuits.proofs.BitTests.{exists, some_is, is_number_tells}
-use Rattle.sv_circuits.proofs.BitNumbers.{number, word_number}
+use Rattle.sv_circuits.proofs.BitNumbers.{word_number}
 use Rattle.sv_circuits.proofs.Products.{bits_length, joined_is}
 use Rattle.sv_circuits.proofs.WordValues.{word_low, both_value}
 use Rattle.sv_encoding.specs.Expressions.{Words}
@@ -200,173 +200,179 @@ points_make n rows selector is full (p ∷ ps) old h base =
 -- ---- the rows of a map
 
 module _ (design : FlatDesign) (is_sound : IsTrue (sound design)) (rows_there : HaveRows design)
-    where
-  abbrev map_at : ℕ → MapRows
-  map_at k = map_of design.maps k
+  where
+    abbrev map_at : ℕ → MapRows
+    map_at k = map_of design.maps k
 
-  is_map : (k : ℕ) → k < length design.maps →
-      IsMap (map_at k).first (map_at k).second (map_at k).rows
-  is_map k inside =
-      all_contained (λ (m : MapRows). IsMap m.first m.second m.rows) design.maps rows_there
-      (map_at k) (Contains-get_or design.maps k _ inside)
+    is_map : (k : ℕ) → k < length design.maps →
+        IsMap (map_at k).first (map_at k).second (map_at k).rows
+    is_map k inside =
+        all_contained (λ (m : MapRows). IsMap m.first m.second m.rows) design.maps rows_there
+        (map_at k) (Contains-get_or design.maps k _ inside)
 
-  row_listed : (k : ℕ) → k < length design.maps → (v : ℕ) → v < length (map_at k).rows →
-      Contains (row_points design (map_at k)) (row_point (map_at k) v)
-  row_listed k inside v low =
-      let rows = (map_at k).rows in
-      let point = row_of (map_at k) v in
-      let at : Contains rows point = Contains-get_or rows v _ low in
-      in_those (length design.lattice) (λ p. list_any (λ (row : Point). row.0 == p) rows) point.0
-      (all_contained (λ (row : Point). row.0 < length design.lattice) rows
-      (rows_are_points design is_sound k inside) point at)
-      (some_from (λ (row : Point). row.0 == point.0) rows point at (eq-eqb point.0 point.0 refl))
+    row_listed : (k : ℕ) → k < length design.maps → (v : ℕ) → v < length (map_at k).rows →
+        Contains (row_points design (map_at k)) (row_point (map_at k) v)
+    row_listed k inside v low =
+        let rows = (map_at k).rows in
+        let point = row_of (map_at k) v in
+        let at : Contains rows point = Contains-get_or rows v _ low in
+        in_those (length design.lattice) (λ p. list_any (λ (row : Point). row.0 == p) rows) point.0
+        (all_contained (λ (row : Point). row.0 < length design.lattice) rows
+        (rows_are_points design is_sound k inside) point at)
+        (some_from (λ (row : Point). row.0 == point.0) rows point at (eq-eqb point.0 point.0 refl))
 
-  -- ---- the selector
+    -- ---- the selector
 
-  width_of : (t width : ℕ) → IsTrue (selector_fits design.signals t width) →
-      signal_width design.signals t ≡ width
-  width_of t width h =
-      eqb-true (signal_width design.signals t) width
-      (second_of (is_signal design.signals t) (signal_width design.signals t == width) h)
+    width_of : (t width : ℕ) → IsTrue (selector_fits design.signals t width) →
+        signal_width design.signals t ≡ width
+    width_of t width h =
+        eqb-true (signal_width design.signals t) width
+        (second_of (is_signal design.signals t) (signal_width design.signals t == width) h)
 
-  table_makes : (k first : ℕ) (second : Option ℕ) →
-      IsTrue (label_sound design (Table k first second)) → (words : Words) (old : Formula) →
-      IsBase old → IsWord old.variables (selector_word words first second) →
-      IsFull (map_at k) (selector_word words first second) →
-      ((values : ℕ → Bool) (e : Environment ℕ) →
-      SpellThere (selectors_of (Table k first second)) values words e →
-      label_in design.maps (Table k first second) e
-      ≡ row_of (map_at k) (word_value values (selector_word words first second))) →
-      Makes old (label_literals design words (Table k first second) old) HasLiterals
-      (λ values label. (e : Environment ℕ) →
-      SpellThere (selectors_of (Table k first second)) values words e →
-      SaysPoint values label (label_in design.maps (Table k first second) e).0)
-  table_makes k first second fits words old base is full reads =
-      let selector = selector_word words first second in
-      let inside = label_map design k first second fits in
-      let p = points_make old.variables (map_at k) selector is full
-      (row_points design (map_at k)) old (omega arith) base in
-      record {
-        extends = p.extends;
-        within = p.within;
-        says = λ values met e spelled.
-            let said = p.says values met in
-            let v = word_value values selector in
-            let label = (label_literals design words (Table k first second) old).1 in
-            subst (λ (z : Point). SaysPoint values label z.0) (sym (reads values e spelled))
-            (record {
-              exact = said.exact;
-              found = said.found (row_point (map_at k) v) (row_listed k inside v
-                  (subst (λ m. v < m) (sym full) (word_low values selector)));
-            });
-      }
+    table_makes : (k first : ℕ) (second : Option ℕ) →
+        IsTrue (label_sound design (Table k first second)) → (words : Words) (old : Formula) →
+        IsBase old → IsWord old.variables (selector_word words first second) →
+        IsFull (map_at k) (selector_word words first second) →
+        ((values : ℕ → Bool) (e : Environment ℕ) →
+        SpellThere (selectors_of (Table k first second)) values words e →
+        label_in design.maps (Table k first second) e
+        ≡ row_of (map_at k) (word_value values (selector_word words first second))) →
+        Makes old (label_literals design words (Table k first second) old) HasLiterals
+        (λ values label. (e : Environment ℕ) →
+        SpellThere (selectors_of (Table k first second)) values words e →
+        SaysPoint values label (label_in design.maps (Table k first second) e).0)
+    table_makes k first second fits words old base is full reads =
+        let selector = selector_word words first second in
+        let inside = label_map design k first second fits in
+        let p = points_make old.variables (map_at k) selector is full
+        (row_points design (map_at k)) old (omega arith) base in
+        record {
+          extends = p.extends;
+          within = p.within;
+          says = λ values met e spelled.
+              let said = p.says values met in
+              let v = word_value values selector in
+              let label = (label_literals design words (Table k first second) old).1 in
+              subst (λ (z : Point). SaysPoint values label z.0) (sym (reads values e spelled))
+              (record {
+                exact = said.exact;
+                found = said.found (row_point (map_at k) v) (row_listed k inside v
+                    (subst (λ m. v < m) (sym full) (word_low values selector)));
+              });
+        }
 
-  map_there : (k first : ℕ) (second : Option ℕ) →
-      IsTrue (label_sound design (Table k first second)) →
-      IsMap (map_at k).first (map_at k).second (map_at k).rows
-  map_there k first second fits = is_map k (label_map design k first second fits)
+    map_there : (k first : ℕ) (second : Option ℕ) →
+        IsTrue (label_sound design (Table k first second)) →
+        IsMap (map_at k).first (map_at k).second (map_at k).rows
+    map_there k first second fits = is_map k (label_map design k first second fits)
 
-  first_width : (k first : ℕ) (second : Option ℕ) →
-      IsTrue (label_sound design (Table k first second)) →
-      signal_width design.signals first ≡ (map_at k).first
-  first_width k first second fits =
-      width_of first (map_at k).first
-      (second_of (nat_lt k (length design.maps)) (selector_fits design.signals first (map_at k).first)
-      (first_of (nat_lt k (length design.maps)
-      && selector_fits design.signals first (map_at k).first)
-      (second_fits design.signals second (map_at k).second) fits))
+    first_width : (k first : ℕ) (second : Option ℕ) →
+        IsTrue (label_sound design (Table k first second)) →
+        signal_width design.signals first ≡ (map_at k).first
+    first_width k first second fits =
+        width_of first (map_at k).first
+        (second_of (nat_lt k (length design.maps)) (selector_fits design.signals first (map_at k).first)
+        (first_of (nat_lt k (length design.maps)
+        && selector_fits design.signals first (map_at k).first)
+        (second_fits design.signals second (map_at k).second) fits))
 
-  second_known : (k first : ℕ) (second : Option ℕ) →
-      IsTrue (label_sound design (Table k first second)) →
-      IsTrue (second_fits design.signals second (map_at k).second)
-  second_known k first second fits =
-      second_of (nat_lt k (length design.maps)
-      && selector_fits design.signals first (map_at k).first)
-      (second_fits design.signals second (map_at k).second) fits
+    second_known : (k first : ℕ) (second : Option ℕ) →
+        IsTrue (label_sound design (Table k first second)) →
+        IsTrue (second_fits design.signals second (map_at k).second)
+    second_known k first second fits =
+        second_of (nat_lt k (length design.maps)
+        && selector_fits design.signals first (map_at k).first)
+        (second_fits design.signals second (map_at k).second) fits
 
-  one_full : (k first : ℕ) → IsTrue (label_sound design (Table k first None)) → (word : Word) →
-      length word ≡ signal_width design.signals first → IsFull (map_at k) word
-  one_full k first fits word wide =
-      by_range (map_at k).second (map_there k first None fits) (second_known k first None fits)
-    where
-      by_range : (range : Option ℕ) → IsMap (map_at k).first range (map_at k).rows →
-          IsTrue (second_fits design.signals None range) → IsFull (map_at k) word
-      by_range None is h = is.2 ∙ ap (λ n. 2 ^ n) (sym (wide ∙ first_width k first None fits))
-      by_range (Some width) is h = absurd (false≢true h)
+    one_full : (k first : ℕ) → IsTrue (label_sound design (Table k first None)) → (word : Word) →
+        length word ≡ signal_width design.signals first → IsFull (map_at k) word
+    one_full k first fits word wide =
+        by_range (map_at k).second (map_there k first None fits) (second_known k first None fits)
+      where
+        by_range : (range : Option ℕ) → IsMap (map_at k).first range (map_at k).rows →
+            IsTrue (second_fits design.signals None range) → IsFull (map_at k) word
+        by_range None is h = is.2 ∙ ap (λ n. 2 ^ n) (sym (wide ∙ first_width k first None fits))
+        by_range (Some width) is h = absurd (false≢true h)
 
-  second_width : (k first t : ℕ) → IsTrue (label_sound design (Table k first (Some t))) →
-      signal_width design.signals t ≡ unwrap_or (map_at k).second 0
-  second_width k first t fits = by_range (map_at k).second (second_known k first (Some t) fits)
-    where
-      by_range : (range : Option ℕ) → IsTrue (second_fits design.signals (Some t) range) →
-          signal_width design.signals t ≡ unwrap_or range 0
-      by_range None h = absurd (false≢true h)
-      by_range (Some width) h = width_of t width h
+    second_width : (k first t : ℕ) → IsTrue (label_sound design (Table k first (Some t))) →
+        signal_width design.signals t ≡ unwrap_or (map_at k).second 0
+    second_width k first t fits = by_range (map_at k).second (second_known k first (Some t) fits)
+      where
+        by_range : (range : Option ℕ) → IsTrue (second_fits design.signals (Some t) range) →
+            signal_width design.signals t ≡ unwrap_or range 0
+        by_range None h = absurd (false≢true h)
+        by_range (Some width) h = width_of t width h
 
-  pair_full : (k first t : ℕ) → IsTrue (label_sound design (Table k first (Some t))) →
-      (low high : Word) → length low ≡ signal_width design.signals t →
-      length high ≡ signal_width design.signals first → IsFull (map_at k) (low ++ high)
-  pair_full k first t fits low high wide_low wide_high =
-      rows_count (map_at k).second (map_there k first (Some t) fits)
-      ∙ ap (λ n. 2 ^ n)
-      (omega (arith, length-append low high, wide_low, wide_high, first_width k first (Some t) fits,
-      second_width k first t fits))
-    where
-      rows_count : (range : Option ℕ) → IsMap (map_at k).first range (map_at k).rows →
-          length (map_at k).rows ≡ 2 ^ ((map_at k).first + unwrap_or range 0)
-      rows_count None is = is.2 ∙ ap (λ n. 2 ^ n) (omega arith)
-      rows_count (Some width) is = is.3
+    pair_full : (k first t : ℕ) → IsTrue (label_sound design (Table k first (Some t))) →
+        (low high : Word) → length low ≡ signal_width design.signals t →
+        length high ≡ signal_width design.signals first → IsFull (map_at k) (low ++ high)
+    pair_full k first t fits low high wide_low wide_high =
+        rows_count (map_at k).second (map_there k first (Some t) fits)
+        ∙ ap (λ n. 2 ^ n)
+        (omega (
+          arith,
+          length-append low high,
+          wide_low,
+          wide_high,
+          first_width k first (Some t) fits,
+          second_width k first t fits,
+        ))
+      where
+        rows_count : (range : Option ℕ) → IsMap (map_at k).first range (map_at k).rows →
+            length (map_at k).rows ≡ 2 ^ ((map_at k).first + unwrap_or range 0)
+        rows_count None is = is.2 ∙ ap (λ n. 2 ^ n) (omega arith)
+        rows_count (Some width) is = is.3
 
-  pair_spelled : (k first t : ℕ) → IsTrue (label_sound design (Table k first (Some t))) →
-      (low high : Word) → length low ≡ signal_width design.signals t → (values : ℕ → Bool) →
-      pair_value (map_at k) (word_value values high) (word_value values low)
-      ≡ word_value values (low ++ high)
-  pair_spelled k first t fits low high wide values =
-      let a = word_value values low in
-      let b = word_value values high in
-      ap (λ n. b * 2 ^ n + a) (sym (wide ∙ second_width k first t fits))
-      ∙ omega (arith, mul_comm b (2 ^ length low))
-      ∙ sym (both_value values low high)
+    pair_spelled : (k first t : ℕ) → IsTrue (label_sound design (Table k first (Some t))) →
+        (low high : Word) → length low ≡ signal_width design.signals t → (values : ℕ → Bool) →
+        pair_value (map_at k) (word_value values high) (word_value values low)
+        ≡ word_value values (low ++ high)
+    pair_spelled k first t fits low high wide values =
+        let a = word_value values low in
+        let b = word_value values high in
+        ap (λ n. b * 2 ^ n + a) (sym (wide ∙ second_width k first t fits))
+        ∙ omega (arith, mul_comm b (2 ^ length low))
+        ∙ sym (both_value values low high)
 
-  -- ---- a label
+    -- ---- a label
 
-  pub label_makes : (label : Label) → IsTrue (label_sound design label) → (words : Words)
-      (old : Formula) → IsBase old → AreWordsOf design (selectors_of label) old.variables words →
-      Makes old (label_literals design words label old) HasLiterals
-      (λ values made. (e : Environment ℕ) → SpellThere (selectors_of label) values words e →
-      SaysPoint values made (label_in design.maps label e).0)
-  label_makes (Declared point) fits words old base are =
-      let here : PointLiteral = record { point = point.0; literal = true_literal } in
-      makes_at_once old (here ∷ []) HasLiterals
-      (λ values made. (e : Environment ℕ) → SpellThere [] values words e →
-      SaysPoint values made point.0) base.closed
-      (λ l at. subst (λ (z : PointLiteral). IsLiteral old.variables z.literal) (only here l at)
-      (literal_more 1 old.variables true_literal base.some true_is))
-      (λ values met e spelled. record {
-        exact = λ l at. subst (λ (z : PointLiteral). literal_true values z.literal
-            ≡ (z.point == point.0)) (only here l at)
-            (true_known values (base.truth values met) ∙ sym (eq-eqb point.0 point.0 refl));
-        found = (here, Contains-head here [], refl);
-      })
-  label_makes (Table k first None) fits words old base are =
-      let has = are first (holds-from_Contains (first ∷ []) first (Contains-head first [])) in
-      table_makes k first None fits words old base has.0 (one_full k first fits (words first) has.1)
-      (λ values e spelled. ap (row_of (map_at k))
-      (sym (spelled first (holds-from_Contains (first ∷ []) first (Contains-head first [])))))
-  label_makes (Table k first (Some t)) fits words old base are =
-      let both : List ℕ = first ∷ t ∷ [] in
-      let at_first : IsTrue (holds both first) =
-      holds-from_Contains both first (Contains-head first (t ∷ [])) in
-      let at_second : IsTrue (holds both t) =
-      holds-from_Contains both t (Contains-later first (t ∷ []) t (Contains-head t [])) in
-      let high = are first at_first in
-      let low = are t at_second in
-      table_makes k first (Some t) fits words old base
-      (joined_is old.variables (words t) (words first) low.0 high.0)
-      (pair_full k first t fits (words t) (words first) low.1 high.1)
-      (λ values e spelled. ap (row_of (map_at k))
-      (ap₂ (pair_value (map_at k)) (sym (spelled first at_first)) (sym (spelled t at_second))
-      ∙ pair_spelled k first t fits (words t) (words first) low.1 values))
+    pub label_makes : (label : Label) → IsTrue (label_sound design label) → (words : Words)
+        (old : Formula) → IsBase old → AreWordsOf design (selectors_of label) old.variables words →
+        Makes old (label_literals design words label old) HasLiterals
+        (λ values made. (e : Environment ℕ) → SpellThere (selectors_of label) values words e →
+        SaysPoint values made (label_in design.maps label e).0)
+    label_makes (Declared point) fits words old base are =
+        let here : PointLiteral = record { point = point.0; literal = true_literal } in
+        makes_at_once old (here ∷ []) HasLiterals
+        (λ values made. (e : Environment ℕ) → SpellThere [] values words e →
+        SaysPoint values made point.0) base.closed
+        (λ l at. subst (λ (z : PointLiteral). IsLiteral old.variables z.literal) (only here l at)
+        (literal_more 1 old.variables true_literal base.some true_is))
+        (λ values met e spelled. record {
+          exact = λ l at. subst (λ (z : PointLiteral). literal_true values z.literal
+              ≡ (z.point == point.0)) (only here l at)
+              (true_known values (base.truth values met) ∙ sym (eq-eqb point.0 point.0 refl));
+          found = (here, Contains-head here [], refl);
+        })
+    label_makes (Table k first None) fits words old base are =
+        let has = are first (holds-from_Contains (first ∷ []) first (Contains-head first [])) in
+        table_makes k first None fits words old base has.0 (one_full k first fits (words first) has.1)
+        (λ values e spelled. ap (row_of (map_at k))
+        (sym (spelled first (holds-from_Contains (first ∷ []) first (Contains-head first [])))))
+    label_makes (Table k first (Some t)) fits words old base are =
+        let both : List ℕ = first ∷ t ∷ [] in
+        let at_first : IsTrue (holds both first) =
+        holds-from_Contains both first (Contains-head first (t ∷ [])) in
+        let at_second : IsTrue (holds both t) =
+        holds-from_Contains both t (Contains-later first (t ∷ []) t (Contains-head t [])) in
+        let high = are first at_first in
+        let low = are t at_second in
+        table_makes k first (Some t) fits words old base
+        (joined_is old.variables (words t) (words first) low.0 high.0)
+        (pair_full k first t fits (words t) (words first) low.1 high.1)
+        (λ values e spelled. ap (row_of (map_at k))
+        (ap₂ (pair_value (map_at k)) (sym (spelled first at_first)) (sym (spelled t at_second))
+        ∙ pair_spelled k first t fits (words t) (words first) low.1 values))
 
 pub label_says_point : LabelSaysPoint
 label_says_point design words s formula is_sound rows_there inside base are =

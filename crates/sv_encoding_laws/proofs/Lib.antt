@@ -18,3 +18,4 @@ pub mod GivenWords
 pub mod Places
 pub mod Decoding
 pub mod Chain
+pub mod Directions

@@ -1,25 +1,23 @@
 -- The cones of a query begin with signals of the system.
-use Rattle.std.proofs.Common.{◌≡◌, ℕ, ◌<◌, Bool, List, [], ◌∷◌, ◌++◌, length, map, refl, sym, subst, ◌∙◌}
-use Rattle.std.proofs.Common.{◌⊎◌, inl, inr, ⊎_elim, ltb-true, lt-ltb, filter}
-use Rattle.std.specs.Prelude.{Contains, IsTrue, flat_map, All}
+use Rattle.std.proofs.Common.{ℕ, List, [], ◌∷◌, ◌++◌, length, map, sym, subst}
+use Rattle.std.proofs.Common.{⊎_elim, lt-ltb}
+use Rattle.std.specs.Prelude.{Contains, IsTrue, flat_map}
 use Rattle.std.specs.List.{list_any}
-use Rattle.sv_system.proofs.Lists.{Contains-nil, Contains-cases, Contains-map, Contains-from_map}
-use Rattle.sv_system.proofs.Lists.{Contains-filter, Contains-head}
+use Rattle.sv_system.proofs.Lists.{Contains-nil, Contains-cases, Contains-from_map}
+use Rattle.sv_system.proofs.Lists.{Contains-head}
 use Rattle.sv_flat.specs.Design.{TypedTree, FlatDesign}
 use Rattle.sv_flat.specs.Soundness.{sound, is_signal}
 use Rattle.sv_flat.specs.Readings.{names_signal}
-use Rattle.sv_flat.specs.Processes.{is_register, signals_that}
-use Rattle.sv_flat.specs.Clocks.{is_clock}
-use Rattle.sv_flat.specs.Reads.{is_combinational, is_read_for, reads_for}
+use Rattle.sv_flat.specs.Processes.{is_register}
+use Rattle.sv_flat.specs.Reads.{is_read_for, reads_for}
 use Rattle.sv_flat.specs.SignalLists.{system_signals}
 use Rattle.sv_flat.specs.Sets.{holds}
 use Rattle.sv_flat.specs.Admission.{IsAdmitted}
 use Rattle.sv_flat.proofs.Members.{Contains-left, Contains-right, Contains-either, all_contained}
-use Rattle.sv_flat.proofs.LeastSets.{those_pass, those_below, in_those, from_some, some_from}
+use Rattle.sv_flat.proofs.LeastSets.{those_pass, those_below, from_some}
 use Rattle.sv_flat.proofs.LeastSets.{Contains-from_filter, holds-from_Contains}
 use Rattle.sv_system.proofs.Lists.{Contains-later}
 use Rattle.sv_flat.proofs.SelectorFacts.{selector_is_seen}
-use Rattle.sv_obl.specs.declared.frames.Frame.{Frame}
 use Rattle.sv_obl.specs.declared.frames.Frame.TheVariants.{Now, Next}
 use Rattle.sv_obl.specs.Paths.{StepForm}
 use Rattle.sv_obl.specs.Obligations.{GoalForm, flow, holds as must_hold, selector, Obligation}
@@ -27,7 +25,7 @@ use Rattle.sv_obl.specs.DesignQueries.{IsExpressionOf, IsStepOf, IsGoalOf, IsQue
 use Rattle.sv_encoding.specs.Cones.{label_selectors, named_in, asked_next, next_cone, asked_now}
 use Rattle.sv_encoding.specs.Cones.{conditions_of, registers_in, now_cone}
 use Rattle.sv_encoding.specs.BothWays.{IsCone}
-use Rattle.sv_encoding_laws.proofs.ConeFacts.{Seen, read_seen, is_cone, cone_seen, cone_starts}
+use Rattle.sv_encoding_laws.proofs.ConeFacts.{read_seen, is_cone, cone_seen, cone_starts}
 use Rattle.sv_encoding_laws.proofs.ConeFacts.{seen_below}
 
 pub in_flat_map : (f : ℕ → List ℕ) (xs : List ℕ) (x k : ℕ) → Contains xs x → Contains (f x) k →

@@ -1,6 +1,6 @@
 -- Unit clauses, and values that agree on the variables of a word.
-use Rattle.std.proofs.Common.{◌≡◌, ℕ, suc, ◌*◌, ◌+◌, ◌≤◌, Bool, true, false, ◌&&◌, ◌||◌, cond, ℤ, List, [], ◌∷◌}
-use Rattle.std.proofs.Common.{◌++◌, fold, refl, sym, ap, ap₂, ◌∙◌, subst}
+use Rattle.std.proofs.Common.{◌≡◌, ℕ, ◌*◌, ◌+◌, Bool, true, false, ◌&&◌, ◌||◌, ℤ, List, [], ◌∷◌}
+use Rattle.std.proofs.Common.{◌++◌, fold, refl, sym, ap₂, ◌∙◌}
 use Rattle.std.specs.Prelude.{IsTrue, pos}
 use Rattle.std.proofs.Common.{arith}
 use Rattle.std.proofs.lemmas.List.Sums.{AllPass-from_list_all, list_all-from_AllPass}
@@ -8,11 +8,11 @@ use Rattle.sv_num.specs.Vectors.{truth}
 use Rattle.sv_clause.specs.Literals.{literal_true, clause_true, Satisfies}
 use Rattle.sv_gates.specs.Formulas.{Formula, meets, IsLiteral}
 use Rattle.sv_gates.specs.Gates.{start, with_unit}
-use Rattle.sv_gates.specs.Extending.{AgreeUpTo, Begins}
-use Rattle.sv_gates.proofs.ExtendingLaws.{start_closed, begins_none, begins_trans}
-use Rattle.sv_gates.proofs.GateLaws.{unit_says, unit_begins}
+use Rattle.sv_gates.specs.Extending.{AgreeUpTo}
+use Rattle.sv_gates.proofs.ExtendingLaws.{start_closed}
+use Rattle.sv_gates.proofs.GateLaws.{unit_says}
 use Rattle.sv_gates.proofs.Valuations.{literal_agrees}
-use Rattle.sv_flat.proofs.Depths.{first_of, second_of, from_all}
+use Rattle.sv_flat.proofs.Depths.{first_of, second_of}
 use Rattle.sv_flat.proofs.AdmittedFacts.{and_true}
 use Rattle.sv_circuits.specs.Words.{Word, word_value}
 use Rattle.sv_circuits.specs.Circuits.{IsWord, IsBase}

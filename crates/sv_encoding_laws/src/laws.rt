@@ -1,4 +1,5 @@
 // What the encoding of an obligation says, as contracts of functions that do nothing.
+ghost use Rattle.sv_encoding.specs.BothWays.{EncodingSaysWhatFalsifies, UnmetClausesMeanValid};
 ghost use Rattle.sv_encoding.specs.BothWays.{WordsSpellNextValues, WordsSpellSettledValues};
 ghost use Rattle.sv_encoding.specs.BothWays.{WordsSpellValues};
 ghost use Rattle.sv_encoding.specs.GivenMeanings.{GivenWordsAreFree, PlacesSpellWords};
@@ -58,4 +59,19 @@ pub fn words_of_inputs_are_free()
 /// has of their registers and inputs what the words spell, and 0 elsewhere.
 pub fn places_spell_the_words_of_inputs()
     ensures { PlacesSpellWords }
+{}
+
+/// The clauses of an obligation say what falsifies it: values of their variables that make each
+/// clause true spell a valuation that falsifies the obligation and is 0 outside of its cones, and
+/// every valuation that falsifies it is carried by such values, which agree with it on the cones.
+/// It holds of every query that is one of a checked design's: with any facts, of a flow, of an
+/// expression that is to hold, and of a selector (SecVerilog, ASPLOS 2015; gates by Tseitin's
+/// clauses).
+pub fn clauses_say_what_falsifies()
+    ensures { EncodingSaysWhatFalsifies }
+{}
+
+/// So clauses that no values make all true mean that the obligation is valid.
+pub fn unmet_clauses_mean_valid()
+    ensures { UnmetClausesMeanValid }
 {}

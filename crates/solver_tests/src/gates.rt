@@ -35,7 +35,10 @@ fn each_gate(rt: HostRuntime) -> Result<(), Fail> {
     assert!(rt; !gates.meets(&[true, true, true, true, false, true]));
     let (variables, clauses) = gates.finish();
     assert_eq!(rt; variables, 6);
-    assert_eq!(rt; literals_of(rt.alloc(), &clauses)?.as_slice(), CLAUSES.as_slice());
+    assert_eq!(rt;
+        literals_of(rt.alloc(), &clauses)?.as_slice(),
+        CLAUSES.as_slice()
+    );
     Ok(())
 }
 
@@ -53,6 +56,9 @@ fn takes_back(rt: HostRuntime) -> Result<(), Fail> {
     gates.unit_clause(either)?;
     let (variables, clauses) = gates.finish();
     assert_eq!(rt; variables, 3);
-    assert_eq!(rt; literals_of(rt.alloc(), &clauses)?.as_slice(), BOTH_SIGNS.as_slice());
+    assert_eq!(rt;
+        literals_of(rt.alloc(), &clauses)?.as_slice(),
+        BOTH_SIGNS.as_slice()
+    );
     Ok(())
 }

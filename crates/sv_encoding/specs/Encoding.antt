@@ -1,5 +1,5 @@
--- The encoding of an obligation: the clauses that stand for it, which are to be met exactly where
--- it can be falsified (gates by Tseitin's clauses; this project's profile). It is made in eleven
+-- The encoding of an obligation: the clauses that stand for it, which can be met exactly where it
+-- can be falsified (gates by Tseitin's clauses; this project's profile). It is made in eleven
 -- steps, each a definition: the inputs and registers of this cycle's cone; its combinational
 -- signals; the inputs, the registers and the combinational signals of the next cycle's cone; the
 -- facts; the conditions; the target's label; the reads' labels; the violation; and the unit

@@ -1,5 +1,5 @@
-//! The encoding of an obligation: the clauses that stand for it, which are to be met exactly where
-//! the obligation can be falsified.
+//! The encoding of an obligation: the clauses that stand for it, which can be met exactly where the
+//! obligation can be falsified, as `sv_encoding_laws` proves.
 //!
 //! This crate holds definitions alone, on plain designs, obligations and lists of literals; it has
 //! no program code. In `specs/`, `Expressions.antt` says what the word of a typed expression is, by
@@ -8,5 +8,7 @@
 //! literals, and `Encoding.antt` the whole, step by step.
 //! `Sizes.antt` tells the number of variables without a clause, `CnfText.antt` the text that `secv
 //! cnf` prints, `Valuations.antt` the valuation that values of the variables spell, and
-//! `BothWays.antt` what the clauses mean. None is private. `proofs/` has examples by computation.
+//! `BothWays.antt` what the clauses mean, with `GivenMeanings.antt` on the words with which a cycle
+//! begins and `LabelMeanings.antt` on labels and flows. None is private. `proofs/` has examples by
+//! computation.
 #![tactic(auto)]

@@ -4,9 +4,9 @@
 //! This crate has laws alone, no program. On the way they say that words of expressions spell their
 //! values, words of signals what settles in a cycle and what registers have in the next one, and
 //! words of inputs whatever values there are, which the places of their bits tell; that literals of
-//! labels say the labels' points, and that of a flow whether some label stays. `specs/BothWays.antt`,
-//! `LabelMeanings.antt` and `GivenMeanings.antt` of `sv_encoding` say what is said, and the first
-//! also what is not proved yet: what an encoding keeps to, and its size.
+//! labels say the labels' points, and that of a flow whether some label stays. What is said stands
+//! in `specs/BothWays.antt`, `LabelMeanings.antt` and `GivenMeanings.antt` of `sv_encoding`, and in
+//! the first also what is not proved yet: what an encoding keeps to, and its size.
 #![tactic(auto)]
 
 mod laws;

@@ -1,8 +1,9 @@
 -- What clauses say: those of an expression fix its value, and those of an encoding can be met
 -- exactly where the obligation can be falsified. The laws of `sv_encoding_laws` cite these; not
--- proved yet is what an encoding keeps to, and its size.
-use Rattle.std.specs.Prelude.{◌≡◌, ℕ, ◌-◌, ◌<◌, ◌≤◌, Bool, false, ◌==◌, ◌||◌, ◌&&◌, not, IsTrue}
+-- proved yet is that labels alone decide, and the size.
+use Rattle.std.specs.Prelude.{◌≡◌, ℕ, ◌-◌, ◌<◌, ◌≤◌, Bool, true, false, ◌==◌, ◌||◌, IsTrue}
 use Rattle.std.specs.Prelude.{IsFalse, ℤ, List, [], ◌∷◌, length, slice_get, Some, All, AllPairs}
+use Rattle.std.specs.Prelude.{Contains}
 use Rattle.sv_system.specs.System.{Environment, Fits, IsStill}
 use Rattle.sv_flat.specs.Design.{SignalForm, TypedTree, FlatDesign}
 use Rattle.sv_flat.specs.Values.{signal_width, expression_width, value}
@@ -193,11 +194,19 @@ abbrev pub LabelsDecide : FlatDesign → Obligation → Type 0
 LabelsDecide design o =
     IsTrue (always_goes design o.reads o.goal) → BeginsAndEndsFalse (encoding design o).clauses
 
--- a place of a bit is one of a register or an input of the design, in the next cycle of an input,
--- and of one of the variables
-pub record IsPlace (design : FlatDesign) (variables : ℕ) (place : BitPlace) : Type 0 where
-  pub given : IsTrue (is_top_input design place.signal
-      || not place.next && is_register design place.signal)
+-- a signal whose values are given to a cycle: to this one a register or an input of its cone, to
+-- the next one an input of its cone
+abbrev pub IsGiven : FlatDesign → Obligation → (next : Bool) → (signal : ℕ) → Type 0
+IsGiven design o false s =
+    IsTrue (is_register design s || (flat_system design).is_input s)
+    × IsTrue (holds (now_cone design o) s)
+IsGiven design o true s =
+    IsTrue ((flat_system design).is_input s) × IsTrue (holds (next_cone design o) s)
+
+-- a place is one of a bit of a given signal, and of one of the variables
+pub record IsPlace (design : FlatDesign) (o : Obligation) (variables : ℕ) (place : BitPlace)
+    : Type 0 where
+  pub given : IsGiven design o place.next place.signal
   pub inside : place.bit < signal_width design.signals place.signal
   pub from_one : 1 ≤ place.variable
   pub variable : place.variable ≤ variables
@@ -206,12 +215,16 @@ pub record IsPlace (design : FlatDesign) (variables : ℕ) (place : BitPlace) : 
 abbrev pub AreOfOneBit : BitPlace → BitPlace → Type 0
 AreOfOneBit a b = (a.signal ≡ b.signal) × (a.next ≡ b.next) × (a.bit ≡ b.bit)
 
--- a solver can be given the clauses, since their literals are of the variables, and what it finds
--- can be decoded
-pub record IsWhole (design : FlatDesign) (made : Encoding) : Type 0 where
+-- a solver can be given the clauses, since their literals are of the variables; and what it finds
+-- can be decoded, since each bit of each given signal has one place
+pub record IsWhole (design : FlatDesign) (o : Obligation) (made : Encoding) : Type 0 where
   pub within : All (IsWithin made.variables) made.clauses
-  pub places : All (IsPlace design made.variables) made.bits
+  pub places : All (IsPlace design o made.variables) made.bits
   pub apart : AllPairs (λ a b. ¬ AreOfOneBit a b) made.bits
+  pub all : (next : Bool) (s bit : ℕ) → IsGiven design o next s →
+      bit < signal_width design.signals s →
+      (variable : ℕ)
+      × Contains made.bits (record { signal = s; next = next; bit = bit; variable = variable })
 
 -- ---- of every query
 
@@ -231,7 +244,7 @@ abbrev pub LabelsAloneDecide : Type 0
 LabelsAloneDecide = OfEachQuery LabelsDecide
 
 abbrev pub EncodingIsWhole : Type 0
-EncodingIsWhole = OfEachQuery (λ design o. IsWhole design (encoding design o))
+EncodingIsWhole = OfEachQuery (λ design o. IsWhole design o (encoding design o))
 
 -- the number of variables is the size that is told
 abbrev pub SizeIsExact : Type 0

@@ -153,15 +153,15 @@ module _ (design : FlatDesign) (checked : IsChecked design) (o : Obligation)
 
   -- ---- all unit clauses
 
-  abbrev steps_done : Formula × ℤ
+  abbrev pub steps_done : Formula × ℤ
   steps_done = s10 design checked o query
 
-  abbrev units : List ℤ
+  abbrev pub units : List ℤ
   units =
       (s6 design checked o query).1 ++ path_units o.path (s7 design checked o query).1
       ++ (s10 design checked o query).1 ∷ []
 
-  units_inside : AreInside (steps_done.0).variables units
+  pub units_inside : AreInside (steps_done.0).variables units
   units_inside =
       let n = (steps_done.0).variables in
       let facts = (s6 design checked o query).1 in
@@ -227,25 +227,25 @@ module _ (design : FlatDesign) (checked : IsChecked design) (o : Obligation)
   no_clock : (t : ℕ) → Contains (flat_system design).signals t → IsTrue (not (is_clock design t))
   no_clock t seen = those_pass (length design.signals) (λ s. not (is_clock design s)) t seen
 
-  is_input : (t : ℕ) → IsTrue (is_top_input design t) → Contains (flat_system design).signals t →
+  pub is_input : (t : ℕ) → IsTrue (is_top_input design t) → Contains (flat_system design).signals t →
       IsTrue ((flat_system design).is_input t)
   is_input t top seen =
       and_true (is_top_input design t) (not (is_clock design t)) top (no_clock t seen)
 
-  seen_now : (t : ℕ) → IsTrue (holds (now_cone design o) t) → Contains (flat_system design).signals t
+  pub seen_now : (t : ℕ) → IsTrue (holds (now_cone design o) t) → Contains (flat_system design).signals t
   seen_now t held = now_seen design checked.is_sound checked.admitted o query t held
 
-  seen_next : (t : ℕ) → IsTrue (holds (next_cone design o) t) →
+  pub seen_next : (t : ℕ) → IsTrue (holds (next_cone design o) t) →
       Contains (flat_system design).signals t
   seen_next t held = next_seen design checked.is_sound checked.admitted o query t held
 
-  from_filter : (test : ℕ → Bool) (set : List ℕ) (t : ℕ) →
+  pub from_filter : (test : ℕ → Bool) (set : List ℕ) (t : ℕ) →
       IsTrue (holds (filter test set) t) → IsTrue (test t) × IsTrue (holds set t)
   from_filter test set t held =
       let both = Contains-from_filter test set t (Contains-from_holds (filter test set) t held) in
       (both.0, holds-from_Contains set t both.1)
 
-  to_filter : (test : ℕ → Bool) (set : List ℕ) (t : ℕ) → IsTrue (test t) → IsTrue (holds set t) →
+  pub to_filter : (test : ℕ → Bool) (set : List ℕ) (t : ℕ) → IsTrue (test t) → IsTrue (holds set t) →
       IsTrue (holds (filter test set) t)
   to_filter test set t passes held =
       holds-from_Contains (filter test set) t

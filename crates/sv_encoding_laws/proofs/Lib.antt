@@ -19,3 +19,4 @@ pub mod Places
 pub mod Decoding
 pub mod Chain
 pub mod Directions
+pub mod Wholeness

@@ -51,11 +51,11 @@ placed_join values xs ys next s =
 
 -- ---- one word
 
-abbrev place_at : Bool → ℕ → ℕ × ℤ → BitPlace
+abbrev pub place_at : Bool → ℕ → ℕ × ℤ → BitPlace
 place_at next s bit =
     record { signal = s; next = next; bit = bit.0; variable = unsigned_abs bit.1 }
 
-abbrev places_from : ℕ → Bool → ℕ → Word → List BitPlace
+abbrev pub places_from : ℕ → Bool → ℕ → Word → List BitPlace
 places_from k next s word = map (place_at next s) (enumerate_from k word)
 
 beq_same : (b : Bool) → beq b b ≡ true
@@ -104,11 +104,11 @@ other_word values next now t s k (l ∷ word) out =
 
 -- ---- words of a list
 
-once_rest : (t : ℕ) (ss : List ℕ) → EachOnce (t ∷ ss) → EachOnce ss
+pub once_rest : (t : ℕ) (ss : List ℕ) → EachOnce (t ∷ ss) → EachOnce ss
 once_rest t ss once i j d less inside = once (suc i) (suc j) d (omega (arith, less))
     (omega (arith, inside))
 
-once_head : (t : ℕ) (ss : List ℕ) → EachOnce (t ∷ ss) → IsFalse (holds ss t)
+pub once_head : (t : ℕ) (ss : List ℕ) → EachOnce (t ∷ ss) → IsFalse (holds ss t)
 once_head t ss once = ⊎_elim
     (λ inside.
     let at = Contains-from_holds ss t inside in

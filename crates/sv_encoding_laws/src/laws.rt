@@ -1,7 +1,7 @@
 // What the encoding of an obligation says, as contracts of functions that do nothing.
 ghost use Rattle.sv_encoding.specs.BothWays.{EncodingSaysWhatFalsifies, UnmetClausesMeanValid};
 ghost use Rattle.sv_encoding.specs.BothWays.{WordsSpellNextValues, WordsSpellSettledValues};
-ghost use Rattle.sv_encoding.specs.BothWays.{WordsSpellValues};
+ghost use Rattle.sv_encoding.specs.BothWays.{WordsSpellValues, EncodingIsWhole};
 ghost use Rattle.sv_encoding.specs.GivenMeanings.{GivenWordsAreFree, PlacesSpellWords};
 ghost use Rattle.sv_encoding.specs.LabelMeanings.{FlowsSay, LabelSaysPoint, LabelsSayPoints};
 
@@ -74,4 +74,12 @@ pub fn clauses_say_what_falsifies()
 /// So clauses that no values make all true mean that the obligation is valid.
 pub fn unmet_clauses_mean_valid()
     ensures { UnmetClausesMeanValid }
+{}
+
+/// An encoding can be solved and decoded: each literal of its clauses is of one of its variables,
+/// and each bit of a register or input of this cycle's cone, and of an input of the next cycle's,
+/// has one place, at one of the variables; nothing else has a place. It holds of every query that
+/// is one of a checked design's.
+pub fn encodings_are_whole()
+    ensures { EncodingIsWhole }
 {}

@@ -215,8 +215,8 @@ pub record IsPlace (design : FlatDesign) (o : Obligation) (variables : ℕ) (pla
 abbrev pub AreOfOneBit : BitPlace → BitPlace → Type 0
 AreOfOneBit a b = (a.signal ≡ b.signal) × (a.next ≡ b.next) × (a.bit ≡ b.bit)
 
--- a solver can be given the clauses, since their literals are of the variables; and what it finds
--- can be decoded, since each bit of each given signal has one place
+-- a solver can be given the clauses, since their literals are of no variable above the last; and
+-- what it finds can be decoded, since each bit of each given signal has one place
 pub record IsWhole (design : FlatDesign) (o : Obligation) (made : Encoding) : Type 0 where
   pub within : All (IsWithin made.variables) made.clauses
   pub places : All (IsPlace design o made.variables) made.bits

@@ -1,5 +1,5 @@
--- An encoding can be solved and decoded: its clauses are of its variables, and each bit of a signal
--- that is given to a cycle has one place.
+-- An encoding can be solved and decoded: its clauses are of no variable above its last one, and
+-- each bit of a signal that is given to a cycle has one place.
 use Rattle.std.proofs.Common.{◌≡◌, ℕ, zero, suc, ◌+◌, ◌<◌, ◌≤◌, Bool, true, false, ◌||◌, ℤ}
 use Rattle.std.proofs.Common.{List, [], ◌∷◌, ◌++◌, length, refl, sym, subst, ◌∙◌, ⊎_elim, arith}
 use Rattle.std.proofs.Common.{unsigned_abs, not}

@@ -76,10 +76,10 @@ pub fn unmet_clauses_mean_valid()
     ensures { UnmetClausesMeanValid }
 {}
 
-/// An encoding can be solved and decoded: each literal of its clauses is of one of its variables,
-/// and each bit of a register or input of this cycle's cone, and of an input of the next cycle's,
-/// has one place, at one of the variables; nothing else has a place. It holds of every query that
-/// is one of a checked design's.
+/// An encoding can be solved and decoded: no literal of its clauses is of a variable above its last
+/// one; and each bit of a register or input of this cycle's cone, and of an input of the next
+/// cycle's, has one place, at a variable from 1 to the last, and nothing else has a place. It holds
+/// of every query that is one of a checked design's.
 pub fn encodings_are_whole()
     ensures { EncodingIsWhole }
 {}

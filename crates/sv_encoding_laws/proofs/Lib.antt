@@ -20,3 +20,4 @@ pub mod Decoding
 pub mod Chain
 pub mod Directions
 pub mod Wholeness
+pub mod Deciding

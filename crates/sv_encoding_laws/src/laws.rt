@@ -1,5 +1,6 @@
 // What the encoding of an obligation says, as contracts of functions that do nothing.
 ghost use Rattle.sv_encoding.specs.BothWays.{EncodingSaysWhatFalsifies, UnmetClausesMeanValid};
+ghost use Rattle.sv_encoding.specs.BothWays.{LabelsAloneDecide};
 ghost use Rattle.sv_encoding.specs.BothWays.{WordsSpellNextValues, WordsSpellSettledValues};
 ghost use Rattle.sv_encoding.specs.BothWays.{WordsSpellValues, EncodingIsWhole};
 ghost use Rattle.sv_encoding.specs.GivenMeanings.{GivenWordsAreFree, PlacesSpellWords};
@@ -82,4 +83,12 @@ pub fn unmet_clauses_mean_valid()
 /// of every query that is one of a checked design's.
 pub fn encodings_are_whole()
     ensures { EncodingIsWhole }
+{}
+
+/// Labels alone show that an obligation is valid where each point of each read's label flows to
+/// each point of the label that the goal is about. Then the first clause is variable 1 alone and
+/// the last one its negation alone, so these two refute each other (SecVerilog, ASPLOS 2015). It
+/// holds of every query that is one of a checked design's.
+pub fn labels_alone_decide()
+    ensures { LabelsAloneDecide }
 {}

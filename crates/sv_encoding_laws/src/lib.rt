@@ -15,8 +15,7 @@ mod laws;
 
 pub use laws::{
     clauses_say_what_falsifies, encodings_are_whole, labels_alone_decide,
-    labels_of_signals_say_their_points,
-    places_spell_the_words_of_inputs, unmet_clauses_mean_valid,
+    labels_of_signals_say_their_points, places_spell_the_words_of_inputs, unmet_clauses_mean_valid,
     violations_say_that_some_label_stays, words_of_expressions_spell_their_values,
     words_of_inputs_are_free, words_of_registers_spell_next_values,
     words_of_signals_spell_settled_values,

@@ -82,7 +82,7 @@ abbrev mutual
 
 -- ---- lengths
 
-same_type : (w : ℕ) (s : Bool) (e : TypedTree) → IsTrue (has_type w s e) → expression_width e ≡ w
+pub same_type : (w : ℕ) (s : Bool) (e : TypedTree) → IsTrue (has_type w s e) → expression_width e ≡ w
 same_type w s e h =
     eqb-true (expression_width e) w (first_of (expression_width e == w)
     (beq (expression_signed e) s) h)
@@ -101,7 +101,7 @@ sized Compare width signed a b h some =
 sized Logical width signed a b h some = (refl, refl)
 sized Shift width signed a b h some = some
 
-sizes_of : (op : BinOp) (width : ℕ) (signed : Bool) (a b : TypedTree) →
+pub sizes_of : (op : BinOp) (width : ℕ) (signed : Bool) (a b : TypedTree) →
     IsTrue (not (is_division op)) → IsTrue (binary_typed (class_of op) width signed a b) →
     1 ≤ expression_width a →
     HaveSizes op (operand_width (class_of op) (expression_width a))
@@ -163,7 +163,7 @@ low_mod v width low h =
     let split : width ≡ (width - low) + low = omega (arith, h) in
     ap (λ k. v % 2 ^ k % 2 ^ low) split ∙ mod-mod-pow v (width - low) low
 
-formed_one : (signals : List SignalForm) (e : TypedTree) → IsTrue (well_formed signals e) →
+pub formed_one : (signals : List SignalForm) (e : TypedTree) → IsTrue (well_formed signals e) →
     1 ≤ expression_width e
 formed_one signals (typed w s node) h =
     one_to w (first_of (is_one_to 64 w) (node_well_formed signals w s node) h)

@@ -21,3 +21,5 @@ pub mod Chain
 pub mod Directions
 pub mod Wholeness
 pub mod Deciding
+pub mod GateCounts
+pub mod OperatorCounts

@@ -50,6 +50,8 @@ use Rattle.sv_encoding.specs.Valuations.{spelled_environment}
 use Rattle.sv_encoding.specs.BothWays.{HaveBits}
 use Rattle.sv_encoding_laws.proofs.BodyWords.{Stand, ExpressionFits, PiecesFit, BodyFits}
 use Rattle.sv_encoding_laws.proofs.BodyWords.{words_make}
+use Rattle.sv_encoding_laws.proofs.BodyCounts.{body_grows}
+use Rattle.sv_encoding.specs.Sizes.{process_size}
 use Rattle.sv_encoding_laws.proofs.Renamed.{AllFit, IsFit, named_instead, formed_instead}
 use Rattle.sv_encoding_laws.proofs.Steps.{HasWidth, MakesWord}
 
@@ -395,3 +397,16 @@ module _ (design : FlatDesign) (is_sound : IsTrue (sound design)) (admitted : Is
             ∙ starts_and_makes design is_sound admitted p s at own
             (spelled_environment values words);
       }
+
+  -- how many variables it takes
+  pub driven_count : (words : Words) (n : ℕ) → 1 ≤ n →
+      ((t : ℕ) → IsTrue (is_read_for design s t) → HasWidth (signal_width signals t) n (words t)) →
+      (old : Formula) →
+      (driven_word design s p words old).0.variables ≡ old.variables + process_size design s p
+  driven_count words n some has old =
+      let body = marked signals (is_block p.kind) p.body no_bits in
+      let begin = starting_words signals (is_clocked p.kind) words in
+      let fits = marked_fits p.body no_bits no_bits (body_is_sound design is_sound admitted p at)
+      body_counts in
+      (body_grows signals have_bits targets Counts copies body fits begin
+      (λ t g. (start_stands words n some has t g).width) old).1

@@ -38,7 +38,9 @@ use Rattle.sv_encoding.specs.Expressions.{Words}
 use Rattle.sv_encoding.specs.Bodies.{with_word, word_by_first, settled_word, driven_word}
 use Rattle.sv_encoding.specs.Encoding.{words_made, settled_in, settled_words}
 use Rattle.sv_encoding.specs.Valuations.{spelled_environment}
-use Rattle.sv_encoding_laws.proofs.DrivenWords.{driven_makes}
+use Rattle.sv_encoding_laws.proofs.DrivenWords.{driven_makes, driven_count}
+use Rattle.sv_encoding.specs.Sizes.{signal_size, signals_size, size_of_first}
+use Rattle.sv_encoding_laws.proofs.GateCounts.{mapped_more}
 use Rattle.sv_encoding_laws.proofs.Steps.{HasWidth, width_more}
 
 -- ---- lists
@@ -159,6 +161,18 @@ module _ (design : FlatDesign) (is_sound : IsTrue (sound design)) (admitted : Is
             ∙ makes_settled design is_sound admitted p s at own unclocked e fits still;
       })
 
+  one_count : (s : ℕ) → IsTrue (is_combinational design s) → (words : Words) (old : Formula) →
+      IsBase old → ((t : ℕ) → IsTrue (is_read_for design s t) →
+      HasWidth (signal_width design.signals t) old.variables (words t)) →
+      (settled_word design words s old).0.variables ≡ old.variables + signal_size design s
+  one_count s comb words old base has =
+      let driver = combinational_driver design is_sound admitted s comb in
+      let p = driver.0 in
+      ap (λ ps. (word_by_first design s ps words old).0.variables) driver.4
+      ∙ driven_count design is_sound admitted p s driver.1 driver.3 words old.variables base.some has
+      old
+      ∙ sym (ap (λ ps. old.variables + size_of_first design s ps) driver.4)
+
   -- ---- one after the other
 
   abbrev make : ℕ → Words → Formula → Formula × Word
@@ -211,6 +225,29 @@ module _ (design : FlatDesign) (is_sound : IsTrue (sound design)) (admitted : Is
             (p.says values (meets-begins mid.0 last.0 values rest.extends.begins met) e fits still
             (λ t reads. known t (ordered.0.1 t reads))) known);
       }
+
+  list_count : (ss : List ℕ) (K : ℕ → Type 0) → Ordered K ss → (words : Words) (old : Formula) →
+      IsBase old → Wide K old.variables words →
+      (words_made make ss words old).0.variables ≡ old.variables + signals_size design ss
+  list_count [] K ordered words old base wide = omega arith
+  list_count (s ∷ ss) K ordered words old base wide =
+      let mid = settled_word design words s old in
+      let new = with_word s mid.1 words in
+      let has : (t : ℕ) → IsTrue (is_read_for design s t) →
+      HasWidth (signal_width design.signals t) old.variables (words t) =
+      (λ t reads. wide t (ordered.0.1 t reads)) in
+      let p = one_makes s ordered.0.0 words old base has in
+      let m = old.variables in
+      let n = (mid.0).variables in
+      list_count ss (With K s) ordered.1 new mid.0 (base_more old mid.0 base p.extends)
+      (changed (λ t word. HasWidth (signal_width design.signals t) n word) s mid.1 words K p.within
+      (λ t k. width_more m n (signal_width design.signals t) (words t) p.extends.begins.grows
+      (wide t k)))
+      ∙ omega (
+        arith,
+        one_count s ordered.0.0 words old base has,
+        mapped_more (signal_size design) s ss,
+      )
 
   -- ---- a cone
 
@@ -290,6 +327,13 @@ module _ (design : FlatDesign) (is_sound : IsTrue (sound design)) (admitted : Is
         (Contains-filter (holds cone) (order design) t
         (order_has design admitted.ordered t comb) inside))
         (kinds t inside)
+
+    pub settled_count : (words : Words) (old : Formula) → IsBase old →
+        ((t : ℕ) → Given t → HasWidth (signal_width design.signals t) old.variables (words t)) →
+        (settled_words design cone words old).0.variables
+        ≡ old.variables + signals_size design (settled_in design cone)
+    settled_count words old base wide =
+        list_count (settled_in design cone) Given in_order words old base wide
 
     pub settled_make : (words : Words) (old : Formula) → IsBase old →
         ((t : ℕ) → Given t → HasWidth (signal_width design.signals t) old.variables (words t)) →
@@ -397,3 +441,31 @@ module _ (design : FlatDesign) (is_sound : IsTrue (sound design)) (admitted : Is
               (p.says values (meets-begins mid.0 last.0 values rest.extends.begins met) e
               (λ t r. reads t (here t r))) known);
         }
+
+    next_count : (s : ℕ) → IsTrue (is_register design s) → (n : ℕ) → 1 ≤ n →
+        ((t : ℕ) → IsTrue (is_read_for design s t) →
+        HasWidth (signal_width design.signals t) n (now t)) → (old : Formula) →
+        (settled_word design now s old).0.variables ≡ old.variables + signal_size design s
+    next_count s register n some has old =
+        let driver = register_driver design is_sound admitted s register in
+        let p = driver.0 in
+        ap (λ ps. (word_by_first design s ps now old).0.variables) driver.4
+        ∙ driven_count design is_sound admitted p s driver.1 driver.3 now n some has old
+        ∙ sym (ap (λ ps. old.variables + size_of_first design s ps) driver.4)
+
+    pub nexts_count : (ss : List ℕ) → ((s : ℕ) → Contains ss s → IsTrue (is_register design s)) →
+        (n : ℕ) → 1 ≤ n →
+        ((t : ℕ) → ReadIn ss t → HasWidth (signal_width design.signals t) n (now t)) →
+        (words : Words) (old : Formula) →
+        (words_made make_next ss words old).0.variables ≡ old.variables + signals_size design ss
+    nexts_count [] registers n some has words old = omega arith
+    nexts_count (s ∷ ss) registers n some has words old =
+        let mid = settled_word design now s old in
+        nexts_count ss (λ u at. registers u (Contains-later s ss u at)) n some
+        (λ t r. has t (r.0, Contains-later s ss r.0 r.1, r.2)) (with_word s mid.1 words) mid.0
+        ∙ omega (
+          arith,
+          next_count s (registers s (Contains-head s ss)) n some
+              (λ t reads. has t (s, Contains-head s ss, reads)) old,
+          mapped_more (signal_size design) s ss,
+        )

@@ -3,6 +3,8 @@ use Rattle.std.proofs.Common.{◌≡◌, ℕ, zero, suc, ◌+◌, ◌-◌, ◌*�
 use Rattle.std.proofs.Common.{ℤ, List, [], ◌∷◌, map, take, drop, replicate, length, refl, sym}
 use Rattle.std.proofs.Common.{ap, ap₂, ◌∙◌, arith, length-take, length-drop}
 use Rattle.std.specs.List.{zip}
+use Rattle.std.specs.Prelude.{sum, ◌++◌}
+use Rattle.std.proofs.lemmas.List.Sums.{sum_by-cons}
 use Rattle.sv_gates.specs.Formulas.{Formula}
 use Rattle.sv_gates.specs.Gates.{true_literal, false_literal, and_gate, or_gate, xor_gate, mux_gate}
 use Rattle.sv_gates.specs.Gates.{fresh_variable}
@@ -22,6 +24,18 @@ Takes k make = (old : Formula) → (make old).0.variables ≡ old.variables + k
 abbrev pub EachTakes : ℕ → List BitMaker → Type 0
 EachTakes k [] = Unit {0}
 EachTakes k (make ∷ makes) = Takes k make × EachTakes k makes
+
+-- ---- sums
+
+pub mapped_more : {X : Type 0} (f : X → ℕ) (x : X) (xs : List X) →
+    sum (map f (x ∷ xs)) ≡ f x + sum (map f xs)
+mapped_more f x xs = sum_by-cons (λ n. n) (f x) (map f xs)
+
+pub mapped_join : {X : Type 0} (f : X → ℕ) (xs ys : List X) →
+    sum (map f (xs ++ ys)) ≡ sum (map f xs) + sum (map f ys)
+mapped_join f [] ys = omega arith
+mapped_join f (x ∷ xs) ys =
+    mapped_more f x (xs ++ ys) ∙ omega (arith, mapped_more f x xs, mapped_join f xs ys)
 
 -- ---- gates
 

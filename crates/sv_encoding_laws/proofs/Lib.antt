@@ -23,3 +23,5 @@ pub mod Wholeness
 pub mod Deciding
 pub mod GateCounts
 pub mod OperatorCounts
+pub mod BodyCounts
+pub mod LabelCounts

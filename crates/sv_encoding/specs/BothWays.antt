@@ -1,6 +1,6 @@
 -- What clauses say: those of an expression fix its value, and those of an encoding can be met
--- exactly where the obligation can be falsified. The laws of `sv_encoding_laws` cite these; not
--- proved yet is the size.
+-- exactly where the obligation can be falsified. The laws of `sv_encoding_laws` cite
+-- these.
 use Rattle.std.specs.Prelude.{◌≡◌, ℕ, ◌-◌, ◌<◌, ◌≤◌, Bool, true, false, ◌==◌, ◌||◌, IsTrue}
 use Rattle.std.specs.Prelude.{IsFalse, ℤ, List, [], ◌∷◌, length, slice_get, Some, All, AllPairs}
 use Rattle.std.specs.Prelude.{Contains}

@@ -1,13 +1,13 @@
 -- How long the words are that a statement makes, and how many variables it takes.
-use Rattle.std.proofs.Common.{◌≡◌, ℕ, ◌+◌, ◌<◌, ◌≤◌, Bool, true, false, ◌==◌, cond}
-use Rattle.std.proofs.Common.{ℤ, List, [], ◌∷◌, fold, drop, filter, length, refl, sym, ap, ap₂, subst}
+use Rattle.std.proofs.Common.{◌≡◌, ℕ, ◌+◌, ◌<◌, Bool, true, false, ◌==◌, cond}
+use Rattle.std.proofs.Common.{ℤ, List, [], ◌∷◌, fold, drop, filter, length, refl, sym, ap, subst}
 use Rattle.std.proofs.Common.{◌∙◌, arith}
 use Rattle.std.specs.Prelude.{Contains, IsTrue}
 use Rattle.std.proofs.lemmas.Bool.{eqb-true}
 use Rattle.sv_system.proofs.Lists.{Contains-head, Contains-later}
-use Rattle.sv_flat.specs.Design.{SignalForm, TypedTree, PieceForm, FlatStatement, nothing, after}
+use Rattle.sv_flat.specs.Design.{SignalForm, PieceForm, FlatStatement, nothing, after}
 use Rattle.sv_flat.specs.Design.{assign, branch}
-use Rattle.sv_flat.specs.Values.{signal_width, expression_width}
+use Rattle.sv_flat.specs.Values.{signal_width}
 use Rattle.sv_flat.specs.Assigned.{assigns}
 use Rattle.sv_flat.specs.Sets.{holds}
 use Rattle.sv_flat.proofs.LeastSets.{holds-from_Contains, Contains-from_filter}
@@ -23,7 +23,7 @@ use Rattle.sv_encoding.specs.Bodies.{with_word, assigns_some, with_piece_word, c
 use Rattle.sv_encoding.specs.Bodies.{words_after}
 use Rattle.sv_encoding.specs.BothWays.{HaveBits}
 use Rattle.sv_encoding.specs.Sizes.{widths_of, statement_size, expression_size, truth_size}
-use Rattle.sv_encoding_laws.proofs.BodyWords.{ExpressionFits, PieceFits, PiecesFit, BodyFits}
+use Rattle.sv_encoding_laws.proofs.BodyWords.{PieceFits, PiecesFit, BodyFits}
 use Rattle.sv_encoding_laws.proofs.NamedValues.{named_as}
 use Rattle.sv_encoding_laws.proofs.GateCounts.{bitwise_count, mux_count, mapped_more}
 use Rattle.sv_encoding_laws.proofs.OperatorCounts.{IsLong, expression_count, truth_count}

@@ -127,7 +127,7 @@ module _ (design : FlatDesign) (checked : IsChecked design) (o : Obligation)
   free3 = words_are_free design (inputs_in design later) s2.0 base2
 
   -- what is read for the next registers stands in this cycle's cone
-  read_inside : (t : ℕ) → IsReadThere design (registers_in design later) t →
+  pub read_inside : (t : ℕ) → IsReadThere design (registers_in design later) t →
       IsTrue (holds cone t)
   read_inside t read =
       let s = read.0 in
@@ -147,11 +147,11 @@ module _ (design : FlatDesign) (checked : IsChecked design) (o : Obligation)
       (λ t read. word_more_of t (s2.0).variables (s3.0).variables (s2.1 t) free3.begins.grows
       (p2.within t (read_inside t read)))
 
-  base4 : IsBase s4.0
+  pub base4 : IsBase s4.0
   base4 = base_more s3.0 s4.0 free3.base p4.0.extends
 
   -- an input or register of the next cycle's cone
-  later_given : (t : ℕ) → IsTrue (holds (given_in design later) t) →
+  pub later_given : (t : ℕ) → IsTrue (holds (given_in design later) t) →
       IsTrue (holds (registers_in design later) t)
       ⊎ (IsFalse (holds (registers_in design later) t)
       × IsTrue (holds (inputs_in design later) t))
@@ -182,7 +182,7 @@ module _ (design : FlatDesign) (checked : IsChecked design) (o : Obligation)
       (free3.words t input.1).inside))
       (later_given t held))
 
-  base5 : IsBase s5.0
+  pub base5 : IsBase s5.0
   base5 = base_more s4.0 s5.0 base4 p5.extends
 
   -- ---- facts and conditions
@@ -197,7 +197,7 @@ module _ (design : FlatDesign) (checked : IsChecked design) (o : Obligation)
   InLater t = IsTrue (holds later t)
 
   -- an expression that names signals of a cone
-  counts : (G : ℕ → Type 0) (es : List TypedTree) (e : TypedTree) → Contains es e →
+  pub counts : (G : ℕ → Type 0) (es : List TypedTree) (e : TypedTree) → Contains es e →
       IsExpressionOf design e → ((t : ℕ) → Contains (named_in design es) t → G t) →
       Counts design bits G e
   counts G es e at is all = record {
@@ -235,25 +235,25 @@ module _ (design : FlatDesign) (checked : IsChecked design) (o : Obligation)
   abbrev pub conditions : List TypedTree
   conditions = map (λ (step : StepForm). step.condition) o.path
 
-  facts_count : AllCount design bits InCone o.facts
+  pub facts_count : AllCount design bits InCone o.facts
   facts_count =
       all_count InCone (conditions_of o) o.facts
       (λ e at. let in_all = Contains-left o.facts conditions e at in
       (in_all, condition_is design is_sound checked.admitted o query e in_all)) named_inside
 
-  conditions_count : AllCount design bits InCone conditions
+  pub conditions_count : AllCount design bits InCone conditions
   conditions_count =
       all_count InCone (conditions_of o) conditions
       (λ e at. let in_all = Contains-right o.facts conditions e at in
       (in_all, condition_is design is_sound checked.admitted o query e in_all)) named_inside
 
-  wide_now : (n : ℕ) → (s2.0).variables ≤ n → (t : ℕ) → InCone t →
+  pub wide_now : (n : ℕ) → (s2.0).variables ≤ n → (t : ℕ) → InCone t →
       HasWidth (signal_width design.signals t) n (s2.1 t)
   wide_now n h t held =
       let is = word_more_of t (s2.0).variables n (s2.1 t) h (p2.within t held) in
       record { is = is.0; width = is.1 }
 
-  wide_next : (n : ℕ) → (s5.0).variables ≤ n → (t : ℕ) → InLater t →
+  pub wide_next : (n : ℕ) → (s5.0).variables ≤ n → (t : ℕ) → InLater t →
       HasWidth (signal_width design.signals t) n (s5.1 t)
   wide_next n h t held =
       let is = word_more_of t (s5.0).variables n (s5.1 t) h (p5.within t held) in
@@ -311,7 +311,7 @@ module _ (design : FlatDesign) (checked : IsChecked design) (o : Obligation)
   known_signal s seen = lt-ltb s (length design.signals)
       (seen_below design is_sound checked.admitted s seen)
 
-  asked_inside : (t : ℕ) → Contains (asked_now design o.goal) t → InCone t
+  pub asked_inside : (t : ℕ) → Contains (asked_now design o.goal) t → InCone t
   asked_inside t at =
       let names = named_in design (conditions_of o) in
       let labels = flat_map (label_selectors design) o.reads in
@@ -321,7 +321,7 @@ module _ (design : FlatDesign) (checked : IsChecked design) (o : Obligation)
       (Contains-left (names ++ labels ++ asked) registers t
       (Contains-right (names ++ labels) asked t at))
 
-  labels_inside : (t : ℕ) → Contains (selectors_for design o.reads) t → InCone t
+  pub labels_inside : (t : ℕ) → Contains (selectors_for design o.reads) t → InCone t
   labels_inside t at =
       let names = named_in design (conditions_of o) in
       let labels = flat_map (label_selectors design) o.reads in

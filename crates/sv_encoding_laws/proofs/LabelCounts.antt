@@ -1,7 +1,7 @@
 -- How many variables labels take, and flows between them.
 use Rattle.std.proofs.Common.{◌≡◌, ℕ, suc, ◌+◌, ◌-◌, ◌*◌, Bool, true, false, not, cond, List, [], ◌∷◌, ◌++◌}
 use Rattle.std.proofs.Common.{map, length, filter, refl, sym, ap, ap₂, ◌∙◌, arith, length-append}
-use Rattle.std.specs.Prelude.{Contains, flat_map, sum, Option, Some, None}
+use Rattle.std.specs.Prelude.{Contains, flat_map, sum, Some, None}
 use Rattle.sv_system.proofs.Lists.{Contains-head, Contains-later}
 use Rattle.sv_lattice.specs.declared.labels.Label.{Label}
 use Rattle.sv_lattice.specs.declared.labels.Label.TheVariants.{Point as Declared, Table}
@@ -21,7 +21,7 @@ use Rattle.sv_encoding.specs.Labels.{PointLiteral, LabelForm, selector_word, row
 use Rattle.sv_encoding.specs.Labels.{point_bit, point_literals, label_literals, signal_label}
 use Rattle.sv_encoding.specs.Labels.{signal_labels, stay_bits, some_stays_bit}
 use Rattle.sv_encoding.specs.LabelMeanings.{selectors_for}
-use Rattle.sv_encoding.specs.Sizes.{point_size, selector_width, label_size, label_points}
+use Rattle.sv_encoding.specs.Sizes.{point_size, label_size, label_points}
 use Rattle.sv_encoding.specs.Sizes.{label_of_signal, stay_count, stays_size}
 use Rattle.sv_encoding_laws.proofs.GateCounts.{EachTakes, chain_count, and_count, or_count}
 use Rattle.sv_encoding_laws.proofs.GateCounts.{test_count, mapped_more}

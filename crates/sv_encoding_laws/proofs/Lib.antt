@@ -25,3 +25,4 @@ pub mod GateCounts
 pub mod OperatorCounts
 pub mod BodyCounts
 pub mod LabelCounts
+pub mod SizeExact

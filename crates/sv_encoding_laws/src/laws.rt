@@ -1,6 +1,6 @@
 // What the encoding of an obligation says, as contracts of functions that do nothing.
-ghost use Rattle.sv_encoding.specs.BothWays.{EncodingSaysWhatFalsifies, UnmetClausesMeanValid};
-ghost use Rattle.sv_encoding.specs.BothWays.{LabelsAloneDecide};
+ghost use Rattle.sv_encoding.specs.BothWays.{EncodingSaysWhatFalsifies, SizeIsExact};
+ghost use Rattle.sv_encoding.specs.BothWays.{LabelsAloneDecide, UnmetClausesMeanValid};
 ghost use Rattle.sv_encoding.specs.BothWays.{WordsSpellNextValues, WordsSpellSettledValues};
 ghost use Rattle.sv_encoding.specs.BothWays.{WordsSpellValues, EncodingIsWhole};
 ghost use Rattle.sv_encoding.specs.GivenMeanings.{GivenWordsAreFree, PlacesSpellWords};
@@ -91,4 +91,12 @@ pub fn encodings_are_whole()
 /// holds of every query that is one of a checked design's.
 pub fn labels_alone_decide()
     ensures { LabelsAloneDecide }
+{}
+
+/// The size that is told of an obligation, without a literal and without a clause, is the number of
+/// the variables of its encoding: one that is true, one for each bit of the inputs and registers
+/// that are given, and one for each gate. It holds of every query that is one of a checked
+/// design's.
+pub fn told_sizes_are_exact()
+    ensures { SizeIsExact }
 {}

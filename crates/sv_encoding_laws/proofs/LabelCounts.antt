@@ -75,6 +75,17 @@ points_are rows selector [] old = refl
 points_are rows selector (p ∷ ps) old =
     ap (λ qs. p ∷ qs) (points_are rows selector ps (point_bit rows selector p old).0)
 
+module _ (design : FlatDesign) where
+  -- the literals of a signal's label are those of its points
+  abbrev pub HasPoints : LabelForm → ℕ → Type 0
+  HasPoints label s = points_of label ≡ label_points design (label_of_signal design s)
+
+  abbrev pub HavePoints : List LabelForm → List ℕ → Type 0
+  HavePoints [] [] = Unit {0}
+  HavePoints [] (s ∷ ss) = ⊥
+  HavePoints (label ∷ labels) [] = ⊥
+  HavePoints (label ∷ labels) (s ∷ ss) = HasPoints label s × HavePoints labels ss
+
 module _ (design : FlatDesign) (words : Words) where
   abbrev pub AreLong : List ℕ → Type 0
   AreLong ss = (t : ℕ) → Contains ss t → length (words t) ≡ signal_width design.signals t
@@ -106,12 +117,8 @@ module _ (design : FlatDesign) (words : Words) where
       ≡ old.variables + label_size design (label_of_signal design s)
   signal_label_count s long old = label_count (signal_of design.signals s).label long old
 
-  -- the literals of a signal's label are those of its points
-  abbrev pub HasPoints : LabelForm → ℕ → Type 0
-  HasPoints label s = points_of label ≡ label_points design (label_of_signal design s)
-
   pub signal_label_points : (s : ℕ) (old : Formula) →
-      HasPoints (signal_label design words s old).1 s
+      HasPoints design (signal_label design words s old).1 s
   signal_label_points s old = label_points_are (signal_of design.signals s).label old
 
   pub labels_count : (ss : List ℕ) → AreLong (selectors_for design ss) → (old : Formula) →
@@ -129,14 +136,8 @@ module _ (design : FlatDesign) (words : Words) where
         mapped_more (λ t. label_size design (label_of_signal design t)) s ss,
       )
 
-  abbrev pub HavePoints : List LabelForm → List ℕ → Type 0
-  HavePoints [] [] = Unit {0}
-  HavePoints [] (s ∷ ss) = ⊥
-  HavePoints (label ∷ labels) [] = ⊥
-  HavePoints (label ∷ labels) (s ∷ ss) = HasPoints label s × HavePoints labels ss
-
   pub labels_points : (ss : List ℕ) (old : Formula) →
-      HavePoints (signal_labels design words ss old).1 ss
+      HavePoints design (signal_labels design words ss old).1 ss
   labels_points [] old = tt
   labels_points (s ∷ ss) old =
       (signal_label_points s old, labels_points ss (signal_label design words s old).0)
@@ -201,15 +202,15 @@ stays_length design (p ∷ label) target =
     (flat_map (λ p. filter (λ q. not (flow_test design.lattice p q)) (points_of target))
     (points_of label)))
 
-all_length : (design : FlatDesign) (words : Words) (labels : List LabelForm) (reads : List ℕ)
-    (target : LabelForm) (s : ℕ) → HavePoints design words labels reads →
-    HasPoints design words target s →
+all_length : (design : FlatDesign) (labels : List LabelForm) (reads : List ℕ)
+    (target : LabelForm) (s : ℕ) → HavePoints design labels reads →
+    HasPoints design target s →
     length (flat_map (λ label. stay_bits design label target) labels)
     ≡ sum (map (λ t. stay_count design (label_of_signal design t) (label_of_signal design s)) reads)
-all_length design words [] [] target s have has = refl
-all_length design words [] (t ∷ reads) target s have has = absurd have
-all_length design words (label ∷ labels) [] target s have has = absurd have
-all_length design words (label ∷ labels) (t ∷ reads) target s have has =
+all_length design [] [] target s have has = refl
+all_length design [] (t ∷ reads) target s have has = absurd have
+all_length design (label ∷ labels) [] target s have has = absurd have
+all_length design (label ∷ labels) (t ∷ reads) target s have has =
     let one : length (stay_bits design label target)
     ≡ stay_count design (label_of_signal design t) (label_of_signal design s) =
     stays_length design label target
@@ -217,18 +218,18 @@ all_length design words (label ∷ labels) (t ∷ reads) target s have has =
     ps)) have.0 has in
     length-append (stay_bits design label target)
     (flat_map (λ label. stay_bits design label target) labels)
-    ∙ ap₂ ◌+◌ one (all_length design words labels reads target s have.1 has)
+    ∙ ap₂ ◌+◌ one (all_length design labels reads target s have.1 has)
     ∙ sym (mapped_more (λ u. stay_count design (label_of_signal design u) (label_of_signal design s))
     t reads)
 
-pub some_stays_count : (design : FlatDesign) (words : Words) (labels : List LabelForm)
+pub some_stays_count : (design : FlatDesign) (labels : List LabelForm)
     (reads : List ℕ) (target : LabelForm) (s : ℕ) (old : Formula) →
-    HavePoints design words labels reads → HasPoints design words target s →
+    HavePoints design labels reads → HasPoints design target s →
     (some_stays_bit design labels target old).0.variables
     ≡ old.variables + stays_size design reads s
-some_stays_count design words labels reads target s old have has =
+some_stays_count design labels reads target s old have has =
     chain_count or_gate or_count 1 (flat_map (λ label. stay_bits design label target) labels)
     (all_take design labels target) false_literal old
     ∙ ap (λ n. old.variables + (1 * n + (n - 1)))
-    (all_length design words labels reads target s have has)
+    (all_length design labels reads target s have has)
     ∙ omega arith

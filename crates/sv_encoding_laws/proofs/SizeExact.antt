@@ -118,7 +118,7 @@ module _ (design : FlatDesign) (checked : IsChecked design) (o : Obligation)
       (s9 design checked o query).1 goal old).0.variables
       ≡ old.variables + violation_size design o.reads goal
   violation_count (flow s frame) is now next before old =
-      some_stays_count design now_words (s9 design checked o query).1 o.reads
+      some_stays_count design (s9 design checked o query).1 o.reads
       (target_label design now_words next_words (flow s frame) before).1 s old
       (labels_points design now_words o.reads (s8 design checked o query).0)
       (signal_label_points design (words_in frame now_words next_words) s before)
@@ -133,7 +133,7 @@ module _ (design : FlatDesign) (checked : IsChecked design) (o : Obligation)
       (counts design checked o query (InLater design checked o query) (x ∷ []) x
       (Contains-head x []) is next) old
   violation_count (selector s) is now next before old =
-      some_stays_count design now_words (s9 design checked o query).1 o.reads
+      some_stays_count design (s9 design checked o query).1 o.reads
       (target_label design now_words next_words (selector s) before).1 s old
       (labels_points design now_words o.reads (s8 design checked o query).0)
       (signal_label_points design now_words s before)

@@ -1,16 +1,9 @@
--- Two joined systems process by process, what schedules of places make of both, and when an
--- environment of one is settled where one of the other is.
+-- What schedules of places make of two joined systems, and when an environment of one is settled
+-- where one of the other is.
 use Rattle.std.specs.Prelude.{◌≡◌, ℕ, ◌↔◌, IsTrue, List, Contains}
-use Rattle.std.specs.List.{AllZip}
 use Rattle.sv_system.specs.System.{System, Environment, Settled}
-use Rattle.sv_system.specs.Joining.{SameRun, Agree, Joined}
+use Rattle.sv_system.specs.Joining.{Agree}
 use Rattle.sv_system.specs.Schedules.{after_runs, runs_at}
-
--- the systems are joined, and each process does what that at its place in the other system does
-pub record JoinedInOrder {Signal Point Other OtherPoint : Type 0} (first : System Signal Point)
-    (second : System Other OtherPoint) : Type 0 where
-  pub joined : Joined first second
-  pub each : AllZip (SameRun first second joined.to) first.processes second.processes
 
 -- runs of the processes at some places, one after the other, lead from environments that agree to
 -- such

@@ -1,6 +1,7 @@
 // What stands side by side in a text and its flat design, as contracts of functions that do
 // nothing.
 ghost use Rattle.std.specs.Prelude.{◌≡◌, ℕ, IsTrue, List, Option, Some};
+ghost use Rattle.sv_system.specs.Joining.{Joined};
 ghost use Rattle.sv_ast.specs.Processes.{processes};
 ghost use Rattle.sv_ast.specs.Shape.{is_shaped};
 ghost use Rattle.sv_ast.specs.TextSystem.{text_system};
@@ -12,7 +13,7 @@ ghost use Rattle.sv_walk.specs.Texts.{flat_of};
 ghost use Rattle.sv_flatten.specs.Children.{HasEachChild};
 ghost use Rattle.sv_flatten.specs.FlattenedTexts.{CanBeFlattened, ItemNumbersFit, EachItem};
 ghost use Rattle.sv_flatten.specs.FlattenedTexts.{ReleasesNothing};
-ghost use Rattle.sv_flatten.specs.InOrder.{JoinedInOrder, SchedulesAgree, SettledAlike};
+ghost use Rattle.sv_flatten.specs.InOrder.{SchedulesAgree, SettledAlike};
 ghost use Rattle.sv_flatten.specs.Rounds.{RoundsAreOfText};
 ghost use Rattle.sv_flatten.specs.SideBySide.{ProcessesBeside, ClocksBeside, made_of};
 ghost use Rattle.sv_flatten.specs.SideBySide.{text_signals, path_at};
@@ -51,8 +52,8 @@ pub fn instances_of_texts_are_whole()
 pub fn flat_processes_run_in_order_of_their_sources()
     ensures joined { (text : TextTree) (asked : Option (List ℕ)) (design : FlatDesign)
         → CanBeFlattened text → flat_of text asked ≡ Some design → IsAdmitted design
-        → (j : JoinedInOrder (flat_system design) (text_system text asked))
-        × (j.joined.to ≡ path_at (text_signals text asked)) }
+        → (joined : Joined (flat_system design) (text_system text asked))
+        × (joined.to ≡ path_at (text_signals text asked)) }
     ensures schedules { (text : TextTree) (asked : Option (List ℕ)) (design : FlatDesign)
         → CanBeFlattened text → flat_of text asked ≡ Some design → IsAdmitted design
         → SchedulesAgree (flat_system design) (text_system text asked)

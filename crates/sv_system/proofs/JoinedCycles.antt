@@ -2,9 +2,9 @@
 -- both are settled or neither.
 use Rattle.std.proofs.Common.{◌≡◌, ◌<◌, ◌^◌, inl, inr, refl, sym, ap, subst, ◌∙◌}
 use Rattle.std.specs.Prelude.{Contains, IsTrue}
-use Rattle.sv_system.specs.System.{System, Environment, Fits, IsStill, Settled}
-use Rattle.sv_system.specs.Joining.{Agree, Joined}
-use Rattle.sv_system.proofs.Lists.{Contains-map, Contains-from_map}
+use Rattle.sv_system.specs.System.{System, Environment, Run, Fits, IsStill, Settled}
+use Rattle.sv_system.specs.Joining.{Agree, SameRun, Joined}
+use Rattle.sv_system.proofs.Lists.{Contains-map, Contains-from_map, zip_over, zip_back}
 use Rattle.sv_system.proofs.Pointwise.{either_way, fits_at, fits_from, still_at, still_from}
 
 -- an environment under other names
@@ -34,6 +34,17 @@ module _ {Signal Point Other OtherPoint : Type 0} (first : System Signal Point)
       let found = Contains-from_map joined.to first.signals t
       (subst (λ ts. Contains ts t) joined.signals within) in
       subst P found.2 (holds found.0 found.1)
+
+  -- each process has one of the other system that does the same
+  pub over : (run : Run Signal) → Contains first.processes run
+      → (other : Run Other) × Contains second.processes other
+      × SameRun first second joined.to run other
+  over = zip_over (SameRun first second joined.to) first.processes second.processes joined.processes
+
+  pub back : (other : Run Other) → Contains second.processes other
+      → (run : Run Signal) × Contains first.processes run
+      × SameRun first second joined.to run other
+  back = zip_back (SameRun first second joined.to) first.processes second.processes joined.processes
 
   -- an environment of either system agrees with itself under the names of the other
   pub agree_back : (f : Environment Other) → Fits second f →
@@ -67,7 +78,7 @@ module _ {Signal Point Other OtherPoint : Type 0} (first : System Signal Point)
       (agree : Agree first second joined.to e f) where
     pub still_over : IsStill first e → IsStill second f
     still_over still = still_from second f (λ other listed t.
-        let found = joined.back other listed in
+        let found = back other listed in
         either_way (other f t) (f t) (Contains second.signals t)
         (by_name (λ r. other f r ≡ f r)
         (λ s within. sym (found.2.same e f agree s within)
@@ -76,7 +87,7 @@ module _ {Signal Point Other OtherPoint : Type 0} (first : System Signal Point)
 
     pub still_back : IsStill second f → IsStill first e
     still_back still = still_from first e (λ run listed s.
-        let found = joined.over run listed in
+        let found = over run listed in
         either_way (run e s) (e s) (Contains first.signals s)
         (λ within. found.2.same e f agree s within
         ∙ still_at second f still found.0 found.1 (joined.to s) ∙ sym (agree.same s within))

@@ -4,11 +4,9 @@ use Rattle.std.proofs.Common.{◌≡◌, ℕ, zero, suc, ◌<◌, Bool, true, fa
 use Rattle.std.proofs.Common.{subst, ⊎_elim, arith}
 use Rattle.std.specs.Prelude.{Contains, IsTrue}
 use Rattle.std.proofs.lemmas.Bool.{false≢true, cases_Bool, cond-false, eqb-true}
-use Rattle.sv_system.specs.System.{System, Environment, Run, Noninterferent, HasOneTrace, put}
+use Rattle.sv_system.specs.System.{System, Environment, Noninterferent, HasOneTrace, put}
 use Rattle.sv_system.specs.Joining.{SameRun, Joined}
-use Rattle.sv_system.proofs.Lists.{Contains-head}
 use Rattle.sv_system.proofs.Example.{Wire, mode, secret, copy, kept, same, flows, example, within}
-use Rattle.sv_system.proofs.Example.{only}
 use Rattle.sv_system.proofs.Example.{example_is_noninterferent, example_has_one_trace}
 use Rattle.sv_system.proofs.JoinedTraces.{joined_one_trace}
 use Rattle.sv_system.proofs.JoinedViews.{joined_noninterferent}
@@ -124,18 +122,7 @@ names_and_numbers = record {
   second_kinds =
       λ n kind. number_within n (⊎_elim (input_low n) (λ register. let is = eqb-true n 3 register in
       omega arith) kind);
-  over = λ run listed. (
-    copy_number,
-    Contains-head copy_number [],
-    subst (λ (step : Run Wire).
-        SameRun example numbered number step copy_number) (only copy_wire run listed) same_copy,
-  );
-  back = λ other listed. (
-    copy_wire,
-    Contains-head copy_wire [],
-    subst (λ (step : Run ℕ).
-        SameRun example numbered number copy_wire step) (only copy_number other listed) same_copy,
-  );
+  processes = (same_copy, tt);
   next = λ e f agree s _. agree.same copy (within copy);
   seen_alike =
       λ point e f agree s _.

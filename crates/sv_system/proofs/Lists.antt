@@ -3,6 +3,7 @@ use Rattle.std.proofs.Common.{◌≡◌, ℕ, zero, suc, ◌<◌, Bool, true, fa
 use Rattle.std.proofs.Common.{length, ◌⊎◌, inl, inr, ⊎_elim, refl, sym, ap, subst, ◌∙◌, arith}
 use Rattle.std.proofs.Common.{get_or}
 use Rattle.std.specs.Prelude.{Contains, filter, IsTrue}
+use Rattle.std.specs.List.{AllZip}
 use Rattle.std.proofs.lemmas.Bool.{false≢true}
 
 module _ {X : Type 0} where
@@ -57,6 +58,28 @@ module _ {X Y : Type 0} (f : X → Y) where
       (λ inside. let found = Contains-from_map xs z inside in
       (found.0, Contains-later y xs found.0 found.1, found.2))
       (Contains-cases (f y) (map f xs) z at)
+
+-- of two lists that are related place by place, each element has one beside it
+module _ {X Y : Type 0} (R : X → Y → Type 0) where
+  pub zip_over : (xs : List X) (ys : List Y) → AllZip R xs ys → (x : X) → Contains xs x →
+      (y : Y) × Contains ys y × R x y
+  zip_over [] ys all x at = absurd (Contains-nil x at)
+  zip_over (z ∷ xs) [] all x at = absurd all
+  zip_over (z ∷ xs) (y ∷ ys) all x at = ⊎_elim
+      (λ e. (y, Contains-head y ys, subst (λ w. R w y) e all.0))
+      (λ inside. let found = zip_over xs ys all.1 x inside in
+      (found.0, Contains-later y ys found.0 found.1, found.2))
+      (Contains-cases z xs x at)
+
+  pub zip_back : (xs : List X) (ys : List Y) → AllZip R xs ys → (y : Y) → Contains ys y →
+      (x : X) × Contains xs x × R x y
+  zip_back xs [] all y at = absurd (Contains-nil y at)
+  zip_back [] (z ∷ ys) all y at = absurd all
+  zip_back (x ∷ xs) (z ∷ ys) all y at = ⊎_elim
+      (λ e. (x, Contains-head x xs, subst (R x) e all.0))
+      (λ inside. let found = zip_back xs ys all.1 y inside in
+      (found.0, Contains-later x xs found.0 found.1, found.2))
+      (Contains-cases z ys y at)
 
 -- two maps one after the other are one
 pub map_map : {A B C : Type 0} (f : B → C) (g : A → B) (xs : List A) →

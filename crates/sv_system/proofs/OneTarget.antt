@@ -1,5 +1,5 @@
 -- The two facts on rest for a system whose processes drive one target each, whatever their order.
-use Rattle.std.proofs.Common.{◌≡◌, ℕ, List, sym, ◌∙◌}
+use Rattle.std.proofs.Common.{◌≡◌, List, sym, ◌∙◌}
 use Rattle.std.specs.Prelude.{Bool, true, Contains, IsTrue}
 use Rattle.std.proofs.lemmas.List.Elements.{All-weaker, All-contains, All-contains_itself}
 use Rattle.sv_system.specs.System.{System, Environment, IsStill, put}

@@ -1,6 +1,7 @@
 -- Two systems that do the same under other names of signals, as a flat design by numbers and its
 -- source text by paths. What holds of the one then holds of the other.
 use Rattle.std.specs.Prelude.{◌≡◌, ◌⊎◌, IsTrue, map, Contains}
+use Rattle.std.specs.List.{AllZip}
 use Rattle.sv_system.specs.System.{System, Environment, Run, Fits}
 
 -- two environments, one of each system, that fit and give each signal the same value under both
@@ -35,7 +36,7 @@ KindsWithin {Signal} system =
     Contains system.signals s
 
 -- The signals of the second system are those of the first under other names, and both systems do
--- the same.
+-- the same, process by process.
 pub record Joined {Signal Point Other OtherPoint : Type 0} (first : System Signal Point)
     (second : System Other OtherPoint) : Type 0 where
   -- the other name of a signal, and the way back
@@ -52,11 +53,9 @@ pub record Joined {Signal Point Other OtherPoint : Type 0} (first : System Signa
   pub widths : (s : Signal) → Contains first.signals s → first.width s ≡ second.width (to s)
   pub first_kinds : KindsWithin first
   pub second_kinds : KindsWithin second
-  -- each process has one of the other system that does the same
-  pub over : (run : Run Signal) → Contains first.processes run
-      → (other : Run Other) × Contains second.processes other × SameRun first second to run other
-  pub back : (other : Run Other) → Contains second.processes other
-      → (run : Run Signal) × Contains first.processes run × SameRun first second to run other
+  -- as many processes in the same order, of which each does what that at its place in the other
+  -- system does
+  pub processes : AllZip (SameRun first second to) first.processes second.processes
   -- each register has the same value after the clock edge
   pub next : (e : Environment Signal) (f : Environment Other) → Agree first second to e f
       → (s : Signal) → IsTrue (first.is_register s) → first.next e s ≡ second.next f (to s)

@@ -7,8 +7,9 @@ use Rattle.sv_walk.specs.ExpressionSteps.{divisors, asked}
 use Rattle.sv_walk.specs.Targets.{selection_steps, target_steps, targets_steps, assignment_walk}
 use Rattle.sv_walk.specs.CaseChains.{item_length, item_signed, keeps_length, is_complete}
 use Rattle.sv_walk.specs.Statements.{items_walk, statement_walk}
-use Rattle.sv_walk.specs.Declarations.{range_steps, final_walk, parameter_walk, signal_walk}
-use Rattle.sv_walk.specs.Declarations.{declaration_walk, declarations_walk, declared_until}
+use Rattle.sv_walk.specs.Declarations.{range_steps, final_walk, parameter_walk, signal_ahead}
+use Rattle.sv_walk.specs.Declarations.{signal_walk, declaration_walk, declarations_walk}
+use Rattle.sv_walk.specs.Declarations.{declaration_ahead, declared_until}
 use Rattle.sv_walk.specs.Lattices.{answered, pair_steps, order_steps, checked_order, lattice_walk}
 use Rattle.sv_walk.specs.LabelMaps.{rows_walk, default_walk, map_walk, maps_walk}
 use Rattle.sv_walk.specs.LabelSteps.{second_selector, second_fits, label_walk, given_label}
@@ -27,8 +28,8 @@ unfolding value signed_of each names_signal typed_of sized_parts typed_walk expr
     divisors asked selection_steps target_steps targets_steps assignment_walk item_length
     item_signed
     keeps_length is_complete items_walk statement_walk range_steps final_walk parameter_walk
-    signal_walk
-    declaration_walk declarations_walk declared_until answered pair_steps order_steps checked_order
+    signal_ahead signal_walk
+    declaration_walk declarations_walk declaration_ahead declared_until answered pair_steps order_steps checked_order
     lattice_walk
     rows_walk default_walk map_walk maps_walk second_selector second_fits label_walk given_label
     labels_walk named_walk ordered_walk overrides_walk input_link output_link link_walk

@@ -95,18 +95,25 @@ declared_signal site width point d = record {
   place = d.place;
 }
 
--- a declared signal, at first with the least point; `base` signals stand before the instance
-unfoldable pub signal_walk : (base least : ℕ) → Site → Declared → DeclarationTree → Walk Declared
-signal_walk base least site so_far d =
+-- a declared signal before the limit of signals is asked: its range, its name, and at first the least
+-- point
+unfoldable pub signal_ahead : (base least : ℕ) → Site → Declared → DeclarationTree → Walk Declared
+signal_ahead base least site so_far d =
     let names = names_at base site.master so_far.bindings in
     let width = span_width names.scope d.span in do
       _ ← range_steps names d.span
       _ ← ask (not (is_bound (entry so_far.bindings d.name))) (twice d.place d.name)
-      _ ← ask (nat_lt (base + length so_far.signals) 4096) (too_many d.place)
       done (record {
         bindings = so_far.bindings ++ (d.name, signal width d.signed) ∷ [];
         signals = so_far.signals ++ declared_signal site width least d ∷ [];
       })
+
+-- a declared signal; `base` signals stand before the instance
+unfoldable pub signal_walk : (base least : ℕ) → Site → Declared → DeclarationTree → Walk Declared
+signal_walk base least site so_far d = do
+  next ← signal_ahead base least site so_far d
+  _ ← ask (nat_lt (base + length so_far.signals) 4096) (too_many d.place)
+  done next
 
 unfoldable pub declaration_walk : (base least : ℕ) → Site → Declared → ItemTree → Walk Declared
 declaration_walk base least site so_far (parameter_item p) = parameter_walk base site so_far p
@@ -120,11 +127,17 @@ declarations_walk base least site so_far (item ∷ items) = do
   next ← declaration_walk base least site so_far item
   declarations_walk base least site next items
 
--- what the items have declared up to the first that breaks a rule
+-- a declaration before the limit of signals is asked
+unfoldable pub declaration_ahead : (base least : ℕ) → Site → Declared → ItemTree → Walk Declared
+declaration_ahead base least site so_far (parameter_item p) = parameter_walk base site so_far p
+declaration_ahead base least site so_far (declared d) = signal_ahead base least site so_far d
+declaration_ahead base least site so_far _ = done so_far
+
+-- what the items declare, up to the first that breaks another rule than the limit of signals
 unfoldable pub declared_until : (base least : ℕ) → Site → Declared → List ItemTree → Declared
 declared_until base least site so_far [] = so_far
 declared_until base least site so_far (item ∷ items) =
-    elim (declaration_walk base least site so_far item).end [
+    elim (declaration_ahead base least site so_far item).end [
       | Ok next ↦ declared_until base least site next items
       | Err s ↦ so_far
     ]

@@ -65,7 +65,7 @@ always_walk names built p (Some clock) s = do
   }))
 
 -- what the declarations of a module's header will say of its ports; a port whose declaration breaks
--- a rule, and each after it, has no width
+-- another rule than the limit of signals, and each after it, has no width
 unfoldable pub ports_of : (least : ℕ) → Site → (base : ℕ) → Ports
 ports_of least site base = record {
   base = base;

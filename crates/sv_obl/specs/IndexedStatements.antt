@@ -1,14 +1,11 @@
--- Private: how the code goes. Indexed statements, of which the slices of one target after the other
--- are taken: a block tells for each target which of its parts assign it, and a branch what it
--- assigns.
+-- Private: how the code goes. How indexed statements are made: a block tells for each target which
+-- of its parts assign it, and a branch what it assigns.
 use Rattle.std.specs.Prelude.{◌≡◌, ℕ, ◌==◌, ◌-◌, ◌&&◌, ◌||◌, not, if◌then◌else◌, IsTrue, Bool}
-use Rattle.std.specs.Prelude.{List, [], ◌∷◌, ◌++◌, map, length, get_or, slice_index, All, Contains}
-use Rattle.std.specs.Prelude.{Option, Some, None}
-use Rattle.std.specs.BTreeMap.{BTreeMap, get, keys}
+use Rattle.std.specs.Prelude.{List, [], ◌∷◌, ◌++◌, map, length, slice_index, All, Contains}
+use Rattle.std.specs.BTreeMap.{BTreeMap, keys}
 use Rattle.std.specs.Global.{Vec}
 use Rattle.std.specs.List.{list_any}
-use Rattle.std.specs.Ordering.{nat_cmp}
-use Rattle.sv_flat.specs.Design.{PieceForm, ProcessForm, FlatStatement, nothing, after}
+use Rattle.sv_flat.specs.Design.{PieceForm, FlatStatement, after}
 use Rattle.sv_flat.specs.Design.{assign, branch}
 use Rattle.sv_flat.specs.Views.{typed_tree, chain_of}
 use Rattle.sv_flat.specs.Assigned.{assigns}
@@ -16,6 +13,7 @@ use Rattle.sv_obl.specs.declared.indexed.Indexed.{Indexed, Row_of-Indexed, end_o
 use Rattle.sv_obl.specs.declared.indexed.Indexed.{more_of-Indexed}
 use Rattle.sv_obl.specs.declared.indexed.Indexed as indexed
 use Rattle.sv_obl.specs.BodySlices.{sliced, in_sequence}
+use Rattle.sv_obl.specs.IndexedBodies.{numbers_at, chosen}
 use Rattle.sv_obl.specs.RouteViews.{piece_forms}
 
 abbrev mutual
@@ -40,15 +38,6 @@ targets_in (indexed.Branch' targets place cond p first q second) = targets.keys
 
 -- ---- the numbers of parts
 
--- those that were found for a target, in order
-abbrev pub numbers_found : Option (Vec ℕ) → List ℕ
-numbers_found (Some those) = those.items
-numbers_found None = []
-
--- the numbers of the parts that assign a target
-abbrev pub numbers_at : BTreeMap ℕ (Vec ℕ) → (target : ℕ) → List ℕ
-numbers_at numbers s = numbers_found (get nat_cmp numbers s)
-
 -- the number is the last
 abbrev pub ends_in : List ℕ → ℕ → Bool
 ends_in numbers k =
@@ -62,10 +51,6 @@ with_number k numbers = if ends_in numbers k then numbers else numbers ++ k ∷ 
 abbrev pub numbered : (targets : List ℕ) → (number : ℕ) → (ℕ → List ℕ) → (target : ℕ) → List ℕ
 numbered targets k numbers s =
     if list_any (λ t. t == s) targets then with_number k (numbers s) else numbers s
-
--- the parts with some numbers, one after the other
-abbrev pub chosen : List FlatStatement → List ℕ → FlatStatement
-chosen parts numbers = chain_of (map (λ k. get_or parts k nothing) numbers)
 
 -- two statements assign the target or not alike, and have the same slice for it
 pub record GoesFor (s : ℕ) (one other : FlatStatement) : Type 0 where
@@ -105,17 +90,10 @@ pub record Same (one other : FlatStatement) : Type 0 where
   pub parts : (s : ℕ) (rest : FlatStatement) →
       in_sequence (sliced s one) rest ≡ in_sequence (sliced s other) rest
 
--- the indexed statement
-pub record IsIndexed (statement : FlatStatement) (x : Indexed) : Type 0 where
+-- the indexed statement as it is made of a statement
+pub record IsMadeOf (statement : FlatStatement) (x : Indexed) : Type 0 where
   pub same : Same statement (statement_of x)
   pub marked : IsMarked x
-
--- one for each process
-abbrev pub AreIndexed : List ProcessForm → List Indexed → Type 0
-AreIndexed [] [] = Unit {0}
-AreIndexed [] (x ∷ xs) = ⊥
-AreIndexed (p ∷ ps) [] = ⊥
-AreIndexed (p ∷ ps) (x ∷ xs) = IsIndexed p.body x × AreIndexed ps xs
 
 abbrev pub whole_of : List Indexed → FlatStatement
 whole_of xs = chain_of (map statement_of xs)

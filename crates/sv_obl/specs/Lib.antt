@@ -3,6 +3,7 @@ pub mod BodySlices
 pub mod DesignQueries
 pub mod Driven
 pub mod Exchange
+pub mod IndexedBodies
 pub mod IndexedStatements
 pub mod Limits
 pub mod ListLines

@@ -6,10 +6,10 @@ use Rattle.sv_flat.specs.Clocks.{processes_of}
 use Rattle.sv_flat.specs.Design.{FlatDesign}
 use Rattle.sv_flat.specs.Processes.{signal_numbers}
 use Rattle.sv_obl.specs.declared.list_parts.Listing.{Listing}
+use Rattle.sv_obl.specs.IndexedBodies.{AreIndexed}
 use Rattle.sv_obl.specs.Limits.{first_excess, excess}
 use Rattle.sv_obl.specs.ListLines.{lines_from}
 use Rattle.sv_obl.specs.Obligations.{Obligation, target_obligations, selector_obligations}
-use Rattle.sv_obl.specs.IndexedStatements.{AreIndexed}
 
 -- the obligations of the targets before this one
 abbrev pub obligations_before : FlatDesign → (target : ℕ) → List Obligation

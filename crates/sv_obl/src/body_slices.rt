@@ -1,11 +1,11 @@
 // What of a body matters to one target, so that a walk for it asks nothing twice.
-ghost use Rattle.std.specs.Prelude.{◌≡◌, ℕ, ◌-◌, ◌<◌, [], map, length, IfOk, OnOk, All};
+ghost use Rattle.std.specs.Prelude.{◌≡◌, ℕ, ◌-◌, ◌<◌, [], map, length, IfOk, OnOk};
 ghost use Rattle.sv_flat.specs.Design.{FlatStatement, assign, branch};
 ghost use Rattle.sv_flat.specs.Clocks.{processes_of};
 ghost use Rattle.sv_flat.specs.Views.{typed_tree, design_of};
 ghost use Rattle.sv_obl.specs.BodySlices.{sliced, SameParts, slice_statement, driven_body};
 ghost use Rattle.sv_obl.specs.SliceRoutes.{is_nothing, IsSliceOf, IsChain, AreSlicesOf, EndsIn};
-ghost use Rattle.sv_obl.specs.IndexedStatements.{AreIndexed, statement_of, IsMarked, chosen};
+ghost use Rattle.sv_obl.specs.IndexedBodies.{AreIndexed, looked_up, chosen};
 ghost use Rattle.sv_obl.specs.RouteViews.{piece_forms};
 
 use crate::indexed::{Indexed, indexed_bodies};
@@ -166,8 +166,7 @@ pub fn slice_for<'a>(
     alloc: Global,
     target: SigId,
 ) -> Result<BodySlice<'a>, AllocError>
-    ensures { IsMarked indexed.now
-        → IfOk result (λ slice. IsSliceOf target.0 (statement_of indexed.now) slice) }
+    ensures { IfOk result (IsSliceOf target.0 (looked_up target.0 indexed.now)) }
 {
     match indexed {
         Indexed::Assign {
@@ -208,8 +207,8 @@ fn part_slices<'a>(
     target: SigId,
     numbers: &[usize],
 ) -> Result<Vec<BodySlice<'a>>, AllocError>
-    ensures { All IsMarked parts.now → IfOk result (λ slices.
-        AreSlicesOf target.0 (chosen (map statement_of parts.now) numbers.now) slices.items) }
+    ensures { IfOk result (λ slices. AreSlicesOf target.0
+        (chosen (map (looked_up target.0) parts.now) numbers.now) slices.items) }
 {
     let mut slices = Vec::new(alloc);
     for number in numbers {

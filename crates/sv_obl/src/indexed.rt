@@ -9,9 +9,9 @@ ghost use Rattle.std.specs.Ordering.{nat_cmp};
 ghost use Rattle.sv_flat.specs.Design.{PieceForm, FlatStatement, nothing, assign, branch};
 ghost use Rattle.sv_flat.specs.Views.{typed_tree, flat_statement, flat_statements, chain_of};
 ghost use Rattle.sv_flat.specs.Views.{process_form};
-ghost use Rattle.sv_obl.specs.IndexedStatements.{targets_in, IsMarked, IsIndexed, AreIndexed};
-ghost use Rattle.sv_obl.specs.IndexedStatements.{SoFar, statement_of};
-ghost use Rattle.sv_obl.specs.IndexedStatements.{ends_in, with_number, numbers_at, numbered, Tells};
+ghost use Rattle.sv_obl.specs.IndexedBodies.{numbers_at, AreIndexed};
+ghost use Rattle.sv_obl.specs.IndexedStatements.{statement_of, targets_in, IsMarked, IsMadeOf};
+ghost use Rattle.sv_obl.specs.IndexedStatements.{SoFar, ends_in, with_number, numbered, Tells};
 ghost use Rattle.sv_obl.specs.RouteViews.{piece_forms};
 
 use crate::reads::set_of;
@@ -106,8 +106,8 @@ fn branched<'a>(
     yes: Indexed<'a>,
     no: Indexed<'a>,
 ) -> Result<Indexed<'a>, AllocError>
-    ensures { (first second : FlatStatement) → IsIndexed first yes.entry → IsIndexed second no.entry
-        → IfOk result (λ whole. IsIndexed (branch place (typed_tree cond.now) first second) whole) }
+    ensures { (first second : FlatStatement) → IsMadeOf first yes.entry → IsMadeOf second no.entry
+        → IfOk result (λ whole. IsMadeOf (branch place (typed_tree cond.now) first second) whole) }
 {
     let targets = targets_of(alloc, &yes, &no)?;
     Ok(Indexed::Branch {
@@ -208,7 +208,7 @@ fn numbers_of(alloc: Global, parts: &[Indexed]) -> Result<BTreeMap<u32, Vec<usiz
 
 // The indexed assignment.
 fn assigned<'a>(pieces: &'a [Piece], place: Place, blocking: bool, value: &'a FExpr) -> Indexed<'a>
-    ensures { IsIndexed (assign (piece_forms pieces.now) place blocking (typed_tree value.now))
+    ensures { IsMadeOf (assign (piece_forms pieces.now) place blocking (typed_tree value.now))
         result }
 {
     Indexed::Assign {
@@ -222,7 +222,7 @@ fn assigned<'a>(pieces: &'a [Piece], place: Place, blocking: bool, value: &'a FE
 /// The indexed statement; an error where memory runs out.
 #[cycle(indexed)]
 pub fn indexed_of<'a>(stmt: &'a FStmt, alloc: Global) -> Result<Indexed<'a>, AllocError>
-    ensures { IfOk result (IsIndexed (flat_statement stmt.now)) }
+    ensures { IfOk result (IsMadeOf (flat_statement stmt.now)) }
 {
     match stmt {
         FStmt::Assign {

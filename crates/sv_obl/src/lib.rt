@@ -17,14 +17,14 @@
 //! obligation one of the design's, as each of them is. `check_limits` tells that limit alone, or
 //! how many obligations there are. `Listing` gives the obligations target by target, and the lines
 //! of `secv list`, with no more in memory than the paths of one target and what is made of them.
-//! `Bodies` gives what of a body matters to one target, its slice (`BodySlices.antt`).
+//! `Bodies` gives what of a body matters to one target, its slice (`BodySlices.antt`); for that it
+//! holds the bodies indexed, as `Listing` does (`IndexedBodies.antt`).
 //!
 //! Inside, `Routes.antt` tells paths as they are where no read is an earlier one,
-//! `IndexedStatements.antt` statements in which each part tells what it assigns, `SliceRoutes.antt`
-//! the routes through a slice, `RouteViews.antt` ties routes to what is walked, `Driven.antt` paths
-//! to the target whose they are, and `Written.antt` lines to what is written; those six are
-//! private: they say how the code goes; the meaning stands in the files before. `ListParts.antt`
-//! cites `IndexedStatements.antt` for what a `Listing` holds.
+//! `IndexedStatements.antt` how a body is indexed, `SliceRoutes.antt` the routes through a slice,
+//! `RouteViews.antt` ties routes to what is walked, `Driven.antt` paths to the target whose they
+//! are, and `Written.antt` lines to what is written; those six are private: they say how the code
+//! goes; the meaning stands in the files before.
 #![tactic(auto)]
 
 mod body_slices;

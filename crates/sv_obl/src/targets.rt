@@ -12,7 +12,7 @@ ghost use Rattle.sv_obl.specs.Driven.{IsDriven};
 ghost use Rattle.sv_obl.specs.Obligations.{target_obligations};
 ghost use Rattle.sv_obl.specs.Routes.{RouteForm, open_route, routes_before, names_on};
 ghost use Rattle.sv_obl.specs.Routes.{route_obligation, target_excess};
-ghost use Rattle.sv_obl.specs.IndexedStatements.{statement_of, IsMarked, AreIndexed};
+ghost use Rattle.sv_obl.specs.IndexedBodies.{looked_up, AreIndexed};
 ghost use Rattle.sv_obl.specs.RouteViews.{route_forms, Finds};
 ghost use Rattle.sv_obl.specs.Views.{obligation_of};
 
@@ -50,10 +50,9 @@ fn paths_of<'a>(
     indexed: &Indexed<'a>,
     target: SigId,
 ) -> Result<Vec<Route<'a>>, OblFault>
-    requires known { target.0 < length signals.now }
-    requires marked { IsMarked indexed.now }
+    requires { target.0 < length signals.now }
     ensures { Finds target.0 (routes_before (signal_forms signals.now) target.0
-        (statement_of indexed.now) open_route) result }
+        (looked_up target.0 indexed.now) open_route) result }
 {
     let slice = slice_for(indexed, alloc, target)?;
     match routes_of(alloc, signals, target, &slice) {
@@ -73,12 +72,11 @@ fn paths_within<'a>(
     total: usize,
 ) -> Result<Vec<Route<'a>>, OblFault>
     requires known { target.0 < length signals.now }
-    requires marked { IsMarked indexed.now }
     requires few { total ≤ 65536 }
     ensures excess { Answers (target_excess target.0 total (routes_before
-        (signal_forms signals.now) target.0 (statement_of indexed.now) open_route)) result }
+        (signal_forms signals.now) target.0 (looked_up target.0 indexed.now) open_route)) result }
     ensures routes { IfOk result (λ routes. route_forms routes.items ≡ routes_before
-        (signal_forms signals.now) target.0 (statement_of indexed.now) open_route) }
+        (signal_forms signals.now) target.0 (looked_up target.0 indexed.now) open_route) }
 {
     let routes = paths_of(alloc, signals, indexed, target)?;
     if some_large(&routes) {

@@ -283,6 +283,14 @@ impl Gates {
         self.add(&[a])
     }
 
+    /// The clauses in the order in which they were added.
+    pub fn clauses(&self) -> &[Clause]
+        ensures value { result.now ≡ self.now.clauses }
+        ensures proper { IsProper self.now }
+    {
+        self.clauses.as_slice()
+    }
+
     /// How many variables there are, and the clauses in the order in which they were added. Takes
     /// no memory.
     pub fn finish(self) -> (u32, Vec<Clause>)

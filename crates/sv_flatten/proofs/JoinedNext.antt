@@ -44,7 +44,7 @@ use Rattle.sv_flatten.proofs.JoinedRegisters.{register_within}
 use Rattle.sv_flatten.proofs.JoinedRuns.{source_system, path_to, unclocked_values}
 use Rattle.sv_flatten.proofs.JoinedRuns.{numbered_values, numbered_same}
 use Rattle.sv_flatten.proofs.JoinedRuns.{numbering, have_values, values_fit, to_name}
-use Rattle.sv_flatten.proofs.JoinedOver.{same_place, link_unclocked}
+use Rattle.sv_flatten.proofs.JoinedProcesses.{same_place, link_unclocked}
 use Rattle.sv_flat.proofs.SameUpdates.{run_alike}
 use Rattle.sv_flatten.proofs.StatementsSame.{body_same}
 

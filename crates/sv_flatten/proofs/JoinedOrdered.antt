@@ -6,7 +6,7 @@ use Rattle.std.specs.Prelude.{IsTrue, IsFalse, ◌↔◌}
 use Rattle.std.specs.List.{AllZip}
 use Rattle.std.proofs.lemmas.List.{length-map}
 use Rattle.sv_system.specs.System.{System, Environment}
-use Rattle.sv_system.specs.Joining.{Agree}
+use Rattle.sv_system.specs.Joining.{Agree, Joined}
 use Rattle.sv_system.specs.Schedules.{after_runs, runs_at}
 use Rattle.sv_system.proofs.Pointwise.{fits_from}
 use Rattle.sv_ast.specs.Meaning.{system}
@@ -23,7 +23,6 @@ use Rattle.sv_flat.specs.Schedules.{with_inputs, starting, IsOrderedRun, Ordered
 use Rattle.sv_flat.specs.Soundness.{sound}
 use Rattle.sv_walk.specs.Texts.{flat_of}
 use Rattle.sv_flatten.specs.FlattenedTexts.{CanBeFlattened}
-use Rattle.sv_flatten.specs.InOrder.{JoinedInOrder}
 use Rattle.sv_flatten.specs.Rounds.{drawn_after, after_rounds_in, IsRoundCountIn, clocked_in}
 use Rattle.sv_flatten.specs.Rounds.{after_text_tick, tick_numbers, inputs_put, registers_put}
 use Rattle.sv_flatten.specs.Rounds.{IsTextOrderedRun, TextRounds, SameGiven, RoundsAreOfText}
@@ -35,7 +34,7 @@ use Rattle.sv_flatten.proofs.JoinedRounds.{registers_agree}
 use Rattle.sv_flatten.proofs.JoinedRuns.{source_system, path_to}
 use Rattle.sv_flatten.proofs.JoinedSchedules.{RunsKeepFits}
 use Rattle.sv_flatten.proofs.JoinedTicks.{same_count, tick_agrees}
-use Rattle.sv_flatten.proofs.JoinedWhole.{joined_in_order, keep_fits}
+use Rattle.sv_flatten.proofs.JoinedWhole.{joined_named, keep_fits}
 use Rattle.sv_flatten.proofs.SoundDesigns.{design_sound}
 
 -- ---- the flat rounds
@@ -102,16 +101,16 @@ module _ (text : TextTree) (asked : Option (List ℕ)) (design : FlatDesign)
   abbrev side : SideBySide text asked design
   side = side_by_side text asked can design flat
 
-  join : (j : JoinedInOrder first second) × (j.joined.to ≡ path_at (text_signals text asked))
-  join = joined_in_order text asked design is_sound admitted can flat
+  join : (joined : Joined first second) × (joined.to ≡ path_at (text_signals text asked))
+  join = joined_named text asked design is_sound admitted can flat
 
   keeps : RunsKeepFits first
   keeps = keep_fits text asked design is_sound admitted can flat
 
-  module _ (j : JoinedInOrder first second)
-      (named : j.joined.to ≡ path_at (text_signals text asked)) where
+  module _ (joined : Joined first second)
+      (named : joined.to ≡ path_at (text_signals text asked)) where
     abbrev AgreeOn : Environment ℕ → Environment Path → Type 0
-    AgreeOn e g = Agree first second j.joined.to e g
+    AgreeOn e g = Agree first second joined.to e g
 
     to_source : (e : Environment ℕ) (g : Environment Path) → AgreeOn e g
         → Agree first (source_system text asked design side) (path_to text asked design side) e g
@@ -133,7 +132,7 @@ module _ (text : TextTree) (asked : Option (List ℕ)) (design : FlatDesign)
         subst (λ n. AgreeOn (after_tick design order e)
         (after_text_tick text asked (tick_numbers n cycle) g))
         (sym (same_count text asked design side is_sound admitted))
-        (agree_from first second j keeps (after_tick design order e)
+        (agree_from first second joined keeps (after_tick design order e)
         (after_text_tick text asked order g)
         (fits_from first (after_tick design order e) (λ s within. tick.1 s within))
         (λ s within. tick.0 s within
@@ -144,7 +143,7 @@ module _ (text : TextTree) (asked : Option (List ℕ)) (design : FlatDesign)
       drawn_by cycle = (number + cycle) % 2 ^ 64
 
       abbrev Inputs : Environment ℕ → Environment Path → Type 0
-      Inputs i p = SameGiven first j.joined.to first.is_input i p
+      Inputs i p = SameGiven first joined.to first.is_input i p
 
       over : (cycle : ℕ) (before : Environment ℕ) (other : Environment Path)
           → AgreeOn before other
@@ -166,13 +165,13 @@ module _ (text : TextTree) (asked : Option (List ℕ)) (design : FlatDesign)
           let d = drawn_by cycle in
           let start = with_inputs design i before in
           let other_start = inputs_put second p other in
-          let started = inputs_agree first second j keeps i p z.0 before other agree in
-          let ended = rounds_agree first second j keeps d k start other_start started in
+          let started = inputs_agree first second joined keeps i p z.0 before other agree in
+          let ended = rounds_agree first second joined keeps d k start other_start started in
           let is : e ≡ after_rounds_in first d k start =
           fun_ext h.1 ∙ rounds_same design d k start in
           let ends : AgreeOn e (after_rounds_in second d k other_start) =
           subst (λ x. AgreeOn x (after_rounds_in second d k other_start)) (sym is) ended in (
-            (counts_alike first second j keeps d k start other_start started).0
+            (counts_alike first second joined keeps d k start other_start started).0
                 (count_over design d k start h.0),
             over (cycle + 1) (after_tick design (tick_order design cycle) e)
                 (after_text_tick text asked
@@ -198,8 +197,8 @@ module _ (text : TextTree) (asked : Option (List ℕ)) (design : FlatDesign)
           let d = drawn_by cycle in
           let start = with_inputs design i before in
           let other_start = inputs_put second p other in
-          let started = inputs_agree first second j keeps i p z.0 before other agree in
-          let ended = rounds_agree first second j keeps d k start other_start started in
+          let started = inputs_agree first second joined keeps i p z.0 before other agree in
+          let ended = rounds_agree first second joined keeps d k start other_start started in
           let e = after_rounds design d k start in
           let ends : AgreeOn e (after_rounds_in second d k other_start) =
           subst (λ x. AgreeOn x (after_rounds_in second d k other_start))
@@ -213,7 +212,7 @@ module _ (text : TextTree) (asked : Option (List ℕ)) (design : FlatDesign)
             e ∷ rest.0,
             (
               count_back design d k start
-                  ((counts_alike first second j keeps d k start other_start started).1 h.0),
+                  ((counts_alike first second joined keeps d k start other_start started).1 h.0),
               λ s. refl,
               rest.1,
             ),
@@ -229,9 +228,9 @@ module _ (text : TextTree) (asked : Option (List ℕ)) (design : FlatDesign)
         × OrderedRun design number registers inputs environments rounds)
         ↔ TextRounds text asked number others other_inputs rounds
 
-    rounds_by : RoundsBy j.joined.to
+    rounds_by : RoundsBy joined.to
     rounds_by number rounds registers others inputs other_inputs given all_given =
-        let started = registers_agree first second j keeps registers others given in (
+        let started = registers_agree first second joined keeps registers others given in (
           λ run. record {
             counts = (run.1).counts;
             runs = over number 0 (starting design registers) (registers_put second others) started

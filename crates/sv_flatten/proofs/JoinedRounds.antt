@@ -1,5 +1,5 @@
--- Rounds of two systems that are joined process by process: under the same draws they lead to
--- environments that agree, and both come to rest after as many.
+-- Rounds of two joined systems: under the same draws they lead to environments that agree, and both
+-- come to rest after as many.
 use Rattle.std.proofs.Common.{◌≡◌, ℕ, zero, suc, ◌<◌, ◌^◌, Bool, cond, List, []}
 use Rattle.std.proofs.Common.{◌∷◌, map, length, refl, sym, ap, ap₂, subst, ◌∙◌, ◌&&◌, ⊎_elim}
 use Rattle.std.specs.Prelude.{◌==◌, Contains, IsTrue, All, ◌↔◌}
@@ -7,13 +7,12 @@ use Rattle.std.specs.List.{list_all, AllZip}
 use Rattle.std.proofs.lemmas.Bool.{cases_Bool, cond-true, cond-false}
 use Rattle.std.proofs.lemmas.Nat.{pow_pos}
 use Rattle.sv_system.specs.System.{System, Environment, Run, Fits}
-use Rattle.sv_system.specs.Joining.{Agree, SameRun}
+use Rattle.sv_system.specs.Joining.{Agree, SameRun, Joined}
 use Rattle.sv_system.specs.Schedules.{after_runs, runs_at}
 use Rattle.sv_system.proofs.Lists.{Contains-head, Contains-later}
 use Rattle.sv_system.proofs.JoinedCycles.{by_name}
 use Rattle.sv_system.proofs.Pointwise.{fits_at, fits_from}
 use Rattle.sv_flat.specs.Schedules.{round}
-use Rattle.sv_flatten.specs.InOrder.{JoinedInOrder}
 use Rattle.sv_flatten.specs.Rounds.{is_quiet_in, drawn_after, after_rounds_in, IsRoundCountIn}
 use Rattle.sv_flatten.specs.Rounds.{inputs_put, registers_put, SameGiven}
 use Rattle.sv_flatten.proofs.JoinedSchedules.{RunsKeepFits, schedules_agree}
@@ -24,9 +23,9 @@ from_all P xs x all at = subst P at.2 (all at.0 x at.1)
 
 module _ {Signal Point Other OtherPoint : Type 0} (first : System Signal Point)
     (second : System Other OtherPoint)
-    (j : JoinedInOrder first second) (keeps : RunsKeepFits first) where
+    (joined : Joined first second) (keeps : RunsKeepFits first) where
   abbrev to : Signal → Other
-  to = j.joined.to
+  to = joined.to
 
   abbrev AgreeOn : Environment Signal → Environment Other → Type 0
   AgreeOn e f = Agree first second to e f
@@ -41,8 +40,8 @@ module _ {Signal Point Other OtherPoint : Type 0} (first : System Signal Point)
     first_fits = fits;
     second_fits =
         fits_from second f
-        (by_name first second j.joined (λ t. f t < 2 ^ second.width t)
-        (λ s within. subst (λ w. f (to s) < 2 ^ w) (j.joined.widths s within)
+        (by_name first second joined (λ t. f t < 2 ^ second.width t)
+        (λ s within. subst (λ w. f (to s) < 2 ^ w) (joined.widths s within)
         (subst (λ v. v < 2 ^ first.width s) (same s within) (fits_at first e fits s within))));
     same = same;
   }
@@ -75,11 +74,11 @@ module _ {Signal Point Other OtherPoint : Type 0} (first : System Signal Point)
     runs_alike (r ∷ runs) (o ∷ others) h =
         ap₂ (λ a b. a && b)
         (signals_alike r o h.0 first.signals (λ s at. at)
-        ∙ ap (changes_no_other o) (sym j.joined.signals))
+        ∙ ap (changes_no_other o) (sym joined.signals))
         (runs_alike runs others h.1)
 
     pub quiet_alike : is_quiet_in first e ≡ is_quiet_in second f
-    quiet_alike = runs_alike first.processes second.processes j.each
+    quiet_alike = runs_alike first.processes second.processes joined.processes
 
   -- ---- rounds
 
@@ -87,7 +86,7 @@ module _ {Signal Point Other OtherPoint : Type 0} (first : System Signal Point)
   count = length first.processes
 
   sizes : length first.processes ≡ length second.processes
-  sizes = zip_length Same first.processes second.processes j.each
+  sizes = zip_length Same first.processes second.processes joined.processes
 
   pub rounds_agree : (number k : ℕ) (e : Environment Signal) (f : Environment Other)
       → AgreeOn e f
@@ -100,7 +99,7 @@ module _ {Signal Point Other OtherPoint : Type 0} (first : System Signal Point)
       subst (λ n. AgreeOn (after_runs (runs_at first (round count
       (drawn_after count number k)).order) earlier)
       (after_runs (runs_at second (round n (drawn_after n number k)).order) other)) sizes
-      (schedules_agree first second j keeps (round count (drawn_after count number k)).order
+      (schedules_agree first second joined keeps (round count (drawn_after count number k)).order
       earlier other before)
 
   pub quiet_after : (number k : ℕ) (e : Environment Signal) (f : Environment Other) → AgreeOn e f
@@ -160,12 +159,12 @@ module _ {Signal Point Other OtherPoint : Type 0} (first : System Signal Point)
       → (e : Environment Signal) (f : Environment Other) → AgreeOn e f
       → AgreeOn (inputs_put first i e) (inputs_put second p f)
   inputs_agree i p given e f agree =
-      given_agree first.is_input second.is_input j.joined.inputs i e p f given agree.first_fits
+      given_agree first.is_input second.is_input joined.inputs i e p f given agree.first_fits
       agree.same
 
   pub registers_agree : (r : Environment Signal) (q : Environment Other)
       → SameGiven first to first.is_register r q
       → AgreeOn (registers_put first r) (registers_put second q)
   registers_agree r q given =
-      given_agree first.is_register second.is_register j.joined.registers r (λ s. 0) q (λ t. 0)
+      given_agree first.is_register second.is_register joined.registers r (λ s. 0) q (λ t. 0)
       given (fits_from first (λ s. 0) (λ s within. pow_pos (first.width s))) (λ s within. refl)

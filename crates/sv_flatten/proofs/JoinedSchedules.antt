@@ -1,5 +1,5 @@
--- Two joined systems process by process: schedules of places lead to environments that agree, and
--- an environment of the one is settled where that of the other is.
+-- Two joined systems: schedules of places lead to environments that agree, and an environment of
+-- the one is settled where that of the other is.
 use Rattle.std.proofs.Common.{◌≡◌, ℕ, zero, suc, ◌<◌, ◌^◌, cond, List, [], ◌∷◌}
 use Rattle.std.proofs.Common.{length, get_or, inl, inr, Option, sym, subst, ◌∙◌}
 use Rattle.std.proofs.Common.{⊎_elim}
@@ -22,7 +22,7 @@ use Rattle.sv_flat.specs.Values.{signal_width as flat_width}
 use Rattle.sv_flat.proofs.AdmittedFacts.{body_is_sound}
 use Rattle.sv_flat.proofs.FlatScheduled.{in_processes}
 use Rattle.sv_flat.proofs.RunsFit.{AllFit, run_fits}
-use Rattle.sv_flatten.specs.InOrder.{JoinedInOrder, SchedulesAgree, SettledAlike}
+use Rattle.sv_flatten.specs.InOrder.{SchedulesAgree, SettledAlike}
 use Rattle.sv_flatten.proofs.PartsTexts.{SideBySide}
 use Rattle.sv_flatten.proofs.JoinedNumbers.{is_flat_signal, signal_below}
 use Rattle.sv_flatten.proofs.JoinedNumbers.{signal_no_clock}
@@ -38,12 +38,12 @@ RunsKeepFits {Signal} system =
 
 module _ {Signal Point Other OtherPoint : Type 0} (first : System Signal Point)
     (second : System Other OtherPoint)
-    (j : JoinedInOrder first second) (keeps : RunsKeepFits first) where
+    (joined : Joined first second) (keeps : RunsKeepFits first) where
   abbrev AgreeOn : Environment Signal → Environment Other → Type 0
-  AgreeOn e f = Agree first second j.joined.to e f
+  AgreeOn e f = Agree first second joined.to e f
 
   abbrev Same : Run Signal → Run Other → Type 0
-  Same run other = SameRun first second j.joined.to run other
+  Same run other = SameRun first second joined.to run other
 
   run_agrees : (run : Run Signal) (other : Run Other) → Same run other
       → Contains first.processes run
@@ -54,8 +54,8 @@ module _ {Signal Point Other OtherPoint : Type 0} (first : System Signal Point)
         first_fits = fits;
         second_fits =
             fits_from second (other f)
-            (by_name first second j.joined (λ t. other f t < 2 ^ second.width t)
-            (λ s within. subst (λ w. other f (j.joined.to s) < 2 ^ w) (j.joined.widths s within)
+            (by_name first second joined (λ t. other f t < 2 ^ second.width t)
+            (λ s within. subst (λ w. other f (joined.to s) < 2 ^ w) (joined.widths s within)
             (subst (λ v. v < 2 ^ first.width s) (same.same e f agree s within)
             (fits_at first (run e) fits s within))));
         same = same.same e f agree;
@@ -74,12 +74,12 @@ module _ {Signal Point Other OtherPoint : Type 0} (first : System Signal Point)
   place_agrees (r ∷ runs) (o ∷ others) h listed (suc k) e f agree =
       place_agrees runs others h.1 (λ run at. listed run (Contains-later r runs run at)) k e f agree
 
-  pub schedules_agree : SchedulesAgree first second j.joined.to
+  pub schedules_agree : SchedulesAgree first second joined.to
   schedules_agree [] e f agree = agree
   schedules_agree (k ∷ places) e f agree =
       schedules_agree places (get_or first.processes k (λ d. d) e)
       (get_or second.processes k (λ d. d) f)
-      (place_agrees first.processes second.processes j.each (λ run at. at) k e f agree)
+      (place_agrees first.processes second.processes joined.processes (λ run at. at) k e f agree)
 
 -- ---- settled environments
 

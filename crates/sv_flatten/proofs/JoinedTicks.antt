@@ -37,7 +37,7 @@ use Rattle.sv_flatten.proofs.JoinedClocks.{clocked_no_link}
 use Rattle.sv_flatten.proofs.JoinedNext.{flat_map_same, skip_flat, keep_flat, updates_alike}
 use Rattle.sv_flatten.proofs.JoinedNext.{same_updates, update_below, last_same}
 use Rattle.sv_flatten.proofs.JoinedNumbers.{at_number, flat_signals, signal_below, signal_no_clock}
-use Rattle.sv_flatten.proofs.JoinedOver.{link_unclocked}
+use Rattle.sv_flatten.proofs.JoinedProcesses.{link_unclocked}
 use Rattle.sv_flatten.proofs.JoinedRuns.{source_system, path_to, unclocked_values, numbered_values}
 use Rattle.sv_flatten.proofs.JoinedRuns.{numbered_same}
 use Rattle.sv_flatten.proofs.JoinedSchedules.{quiet, quiet_fits}

@@ -19,7 +19,7 @@ use Rattle.sv_walk.specs.LabelSteps.{Tables}
 use Rattle.sv_walk.specs.Texts.{flat_of}
 use Rattle.sv_flatten.specs.FlattenedTexts.{CanBeFlattened}
 use Rattle.sv_flatten.specs.SideBySide.{text_signals, path_at}
-use Rattle.sv_flatten.specs.InOrder.{JoinedInOrder, SchedulesAgree}
+use Rattle.sv_flatten.specs.InOrder.{SchedulesAgree}
 use Rattle.sv_flatten.proofs.PartsShapes.{flattened}
 use Rattle.sv_flatten.proofs.PartsTexts.{SideBySide, side_by_side}
 use Rattle.sv_flatten.proofs.JoinedLattice.{IsPointNumber, IsOrderFrom, order_of, level, flow_at}
@@ -31,7 +31,7 @@ use Rattle.sv_flatten.proofs.JoinedLeast.{least_number}
 use Rattle.sv_flatten.proofs.JoinedLabels.{same_label}
 use Rattle.sv_flatten.proofs.JoinedRuns.{source_system, path_to}
 use Rattle.sv_flatten.proofs.JoinedRegisters.{register_within}
-use Rattle.sv_flatten.proofs.JoinedOver.{over, back, in_order}
+use Rattle.sv_flatten.proofs.JoinedProcesses.{in_order}
 use Rattle.sv_flatten.proofs.JoinedSchedules.{RunsKeepFits, flat_keeps_fits, schedules_agree}
 use Rattle.sv_flatten.proofs.JoinedNext.{next_same}
 use Rattle.sv_flatten.proofs.SoundDesigns.{design_sound}
@@ -96,65 +96,50 @@ module _ (text : TextTree) (top : Option (List ℕ)) (design : FlatDesign)
     second_kinds =
         λ x kind. ⊎_elim (said_within text top design side is_top_input x)
         (said_within text top design side is_register x) kind;
-    over = over text top design side is_sound admitted;
-    back = back text top design side is_sound admitted;
+    processes = in_order text top design side is_sound admitted;
     next =
         λ e f agree k register.
         next_same text top design side is_sound admitted e f agree k register;
     seen_alike = seen side;
   }
 
-  pub joined : CanBeFlattened text → flat_of text top ≡ Some design →
-      Joined (flat_system design) (text_system text top)
-  joined can h = joined_side (side_by_side text top can design h)
-
-  in_order_side : SideBySide text top design
-      → JoinedInOrder (flat_system design) (text_system text top)
-  unfolding joined_side system
-  in_order_side side = record {
-    joined = joined_side side;
-    each = in_order text top design side is_sound admitted;
-  }
-
   same_name : (side : SideBySide text top design)
-      → (in_order_side side).joined.to ≡ path_at (text_signals text top)
-  unfolding in_order_side joined_side
+      → (joined_side side).to ≡ path_at (text_signals text top)
+  unfolding joined_side
   same_name side = refl
 
-  pub joined_in_order : CanBeFlattened text → flat_of text top ≡ Some design
-      → (j : JoinedInOrder (flat_system design) (text_system text top))
-      × (j.joined.to ≡ path_at (text_signals text top))
-  joined_in_order can h =
-      let side = side_by_side text top can design h in (in_order_side side, same_name side)
+  pub joined_named : CanBeFlattened text → flat_of text top ≡ Some design
+      → (joined : Joined (flat_system design) (text_system text top))
+      × (joined.to ≡ path_at (text_signals text top))
+  joined_named can h =
+      let side = side_by_side text top can design h in (joined_side side, same_name side)
 
   pub keep_fits : CanBeFlattened text → flat_of text top ≡ Some design
       → RunsKeepFits (flat_system design)
   keep_fits can h =
       flat_keeps_fits text top design (side_by_side text top can design h) is_sound admitted
 
--- where a text can be flattened
+-- where a text can be flattened, with the path of each signal for its number
+pub flattened_named : (text : TextTree) (top : Option (List ℕ)) (design : FlatDesign)
+    → CanBeFlattened text → flat_of text top ≡ Some design → IsAdmitted design
+    → (joined : Joined (flat_system design) (text_system text top))
+    × (joined.to ≡ path_at (text_signals text top))
+flattened_named text top design can flat admitted =
+    let is_sound = design_sound text top design can.shaped (flattened text can) can.lengths flat in
+    joined_named text top design is_sound admitted can flat
+
 pub flattened_joined : (text : TextTree) (top : Option (List ℕ)) (design : FlatDesign)
     → CanBeFlattened text → flat_of text top ≡ Some design → IsAdmitted design
     → Joined (flat_system design) (text_system text top)
 flattened_joined text top design can flat admitted =
-    let is_sound = design_sound text top design can.shaped (flattened text can) can.lengths flat in
-    joined text top design is_sound admitted can flat
-
--- likewise process by process
-pub flattened_in_order : (text : TextTree) (top : Option (List ℕ)) (design : FlatDesign)
-    → CanBeFlattened text → flat_of text top ≡ Some design → IsAdmitted design
-    → (j : JoinedInOrder (flat_system design) (text_system text top))
-    × (j.joined.to ≡ path_at (text_signals text top))
-flattened_in_order text top design can flat admitted =
-    let is_sound = design_sound text top design can.shaped (flattened text can) can.lengths flat in
-    joined_in_order text top design is_sound admitted can flat
+    (flattened_named text top design can flat admitted).0
 
 -- and schedules of places lead to environments that agree
 pub flattened_schedules : (text : TextTree) (top : Option (List ℕ)) (design : FlatDesign)
     → CanBeFlattened text → flat_of text top ≡ Some design → IsAdmitted design
-    → (j : JoinedInOrder (flat_system design) (text_system text top))
-    → SchedulesAgree (flat_system design) (text_system text top) j.joined.to
-flattened_schedules text top design can flat admitted j =
+    → (joined : Joined (flat_system design) (text_system text top))
+    → SchedulesAgree (flat_system design) (text_system text top) joined.to
+flattened_schedules text top design can flat admitted joined =
     let is_sound = design_sound text top design can.shaped (flattened text can) can.lengths flat in
-    schedules_agree (flat_system design) (text_system text top) j
+    schedules_agree (flat_system design) (text_system text top) joined
     (keep_fits text top design is_sound admitted can flat)

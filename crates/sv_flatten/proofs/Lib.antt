@@ -34,7 +34,7 @@ pub mod JoinedBodies
 pub mod JoinedNumbers
 pub mod JoinedRegisters
 pub mod JoinedRuns
-pub mod JoinedOver
+pub mod JoinedProcesses
 pub mod JoinedNext
 pub mod JoinedSchedules
 pub mod JoinedRounds

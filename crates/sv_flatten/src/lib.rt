@@ -7,9 +7,9 @@
 //! instances are whole, `Numbering.antt` when names of an instance have numbers of their own,
 //! `Numbers.antt` when numbers fit, and `SameStates.antt` when two states of a run are the same.
 //! `SideBySide.antt` says what it is that each process of the design does what that of the text
-//! beside it does, and `InOrder.antt` the same of two cycle systems, with what schedules make of
-//! both and when environments are settled in both. `Rounds.antt` says what an ordered run of the
-//! text's own processes is. None is private.
+//! beside it does, and `InOrder.antt` what schedules make of two joined cycle systems and when
+//! environments are settled in both. `Rounds.antt` says what an ordered run of the text's own
+//! processes is. None is private.
 //!
 //! Of memories and invariants, which are not built yet, neither the walk nor the meaning takes
 //! anything: of a text with such an item the laws speak as of the same text without it.

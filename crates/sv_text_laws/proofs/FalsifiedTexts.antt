@@ -36,7 +36,7 @@ use Rattle.sv_flatten.proofs.JoinedLeast.{least_number}
 use Rattle.sv_flatten.proofs.JoinedNumbers.{at_number, to_is, from_is}
 use Rattle.sv_flatten.proofs.JoinedRuns.{source_system, path_to}
 use Rattle.sv_flatten.proofs.JoinedSchedules.{settled_alike}
-use Rattle.sv_flatten.proofs.JoinedWhole.{flattened_in_order}
+use Rattle.sv_flatten.proofs.JoinedWhole.{flattened_named}
 use Rattle.sv_flatten.proofs.PartsLists.{contains_either}
 use Rattle.sv_flatten.proofs.PartsMaps.{same_some}
 use Rattle.sv_flatten.proofs.PartsPaths.{from_flat_map}
@@ -168,12 +168,12 @@ module _ (text : TextTree) (asked : Option (List ℕ)) (design : FlatDesign)
 
   join : Kinds to
   join =
-      let j = flattened_in_order text asked design can flat admitted in
+      let j = flattened_named text asked design can flat admitted in
       subst Kinds j.1 (
-        λ s register. (j.0).joined.first_kinds s (inr register),
-        λ s input. (j.0).joined.first_kinds s (inl input),
-        (j.0).joined.next,
-        settled_alike first second (j.0).joined,
+        λ s register. (j.0).first_kinds s (inr register),
+        λ s input. (j.0).first_kinds s (inl input),
+        (j.0).next,
+        settled_alike first second j.0,
       )
 
   -- environments with the same values are settled for the same states and inputs in both systems

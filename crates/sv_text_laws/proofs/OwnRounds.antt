@@ -23,7 +23,7 @@ use Rattle.sv_flatten.specs.FlattenedTexts.{CanBeFlattened}
 use Rattle.sv_flatten.specs.Rounds.{SameGiven, RoundsAreOfText}
 use Rattle.sv_flatten.specs.SideBySide.{text_signals, path_at}
 use Rattle.sv_flatten.proofs.JoinedOrdered.{rounds_of_text}
-use Rattle.sv_flatten.proofs.JoinedWhole.{flattened_in_order}
+use Rattle.sv_flatten.proofs.JoinedWhole.{flattened_named}
 use Rattle.sv_flatten.proofs.PartsShapes.{flattened}
 use Rattle.sv_flatten.proofs.SoundDesigns.{design_sound}
 use Rattle.sv_trace.specs.Forms.{form_of, name_in}
@@ -88,8 +88,8 @@ module _ (text : TextTree) (asked : Option (List ℕ)) (design : FlatDesign)
 
   lists : Lists to
   lists =
-      let j = flattened_in_order text asked design can flat admitted in
-      let joined = (j.0).joined in
+      let j = flattened_named text asked design can flat admitted in
+      let joined = j.0 in
       subst Lists j.1 (
         ap (filter second.is_input) joined.signals
             ∙ filter_named joined.to first.is_input second.is_input first.signals joined.inputs,

@@ -1,5 +1,5 @@
--- Each flat process that is not clocked has a process of the source that does the same, and the
--- other way round.
+-- The processes of a flat design that are not clocked, and those of its source, in order: each does
+-- what the other does.
 use Rattle.std.proofs.Common.{◌≡◌, ℕ, ◌≤◌, Bool, true, false, cond, List}
 use Rattle.std.proofs.Common.{[], ◌∷◌, map, length, Option, Some, None, refl, sym, ap, subst}
 use Rattle.std.proofs.Common.{◌∙◌, ⊎_elim}
@@ -11,7 +11,7 @@ use Rattle.std.proofs.lemmas.Bool.{or_left, or_cases, eqb-true, eq-eqb, cond-fal
 use Rattle.std.proofs.lemmas.Bool.{ltb-true, false_from_ne_true, not-true}
 use Rattle.sv_system.specs.System.{System, Environment, Run, put}
 use Rattle.sv_system.specs.Joining.{Agree, SameRun}
-use Rattle.sv_system.proofs.Lists.{Contains-head, Contains-later, Contains-map, Contains-from_map}
+use Rattle.sv_system.proofs.Lists.{Contains-head, Contains-later, Contains-map}
 use Rattle.sv_system.proofs.Lists.{Contains-filter}
 use Rattle.sv_ast.specs.Scopes.{signal, width_of}
 use Rattle.sv_ast.specs.Tree.{TextTree, named}
@@ -37,13 +37,11 @@ use Rattle.sv_flat.specs.FlatSystem.{combinational_processes, run_of, flat_syste
 use Rattle.sv_flat.proofs.LeastSets.{some_from, from_some, Contains-from_holds, holds-from_Contains}
 use Rattle.sv_flat.proofs.LeastSets.{Contains-from_filter}
 use Rattle.sv_flat.proofs.SameRuns.{run_leaves}
-use Rattle.sv_flat.proofs.AdmittedFacts.{is_process, no_clock_link, body_is_sound}
+use Rattle.sv_flat.proofs.AdmittedFacts.{no_clock_link, body_is_sound}
 use Rattle.sv_flat.proofs.AdmittedFacts.{assigned_is_signal, assigns_no_clock}
 use Rattle.sv_flat.proofs.FlatScheduled.{in_processes, unclocked}
 use Rattle.sv_walk.specs.Links.{port_number, port_width}
 use Rattle.sv_ast.specs.TextSystem.{text_clocks, unclocked as unclocked_run}
-use Rattle.sv_flatten.proofs.PartsLists.{zip_left, zip_right, get_contains, contains_get}
-use Rattle.sv_flatten.proofs.PartsNamed.{to_filter_map, from_filter_map}
 use Rattle.sv_flatten.proofs.PartsGrown.{IsLink, IsFlat}
 use Rattle.sv_flatten.proofs.PartsTexts.{SideBySide, sources_of}
 use Rattle.sv_flatten.proofs.JoinedLinks.{port_at, port_listed, port_numbered, outer_numbered}
@@ -377,59 +375,6 @@ module _ (text : TextTree) (top : Option (List ℕ)) (design : FlatDesign)
           and_left (is_port_in h.kind) (list_any (assigns h.body) (clocks design))
           (Rattle.sv_flatten.proofs.JoinedClocks.clocked_no_link h.kind is.1).0
       by_process (linking l) h is free = is_no_clock_link l h is free
-
-  pub over : (run : Run ℕ) → Contains (flat_system design).processes run
-      → (other : Run Path) × Contains second.processes other
-      × SameRun (flat_system design) second toward run other
-  over run at =
-      let f = Contains-from_map (run_of design) (combinational_processes design) run at in
-      let inside = in_processes design is_sound admitted f.0 f.1 in
-      let place = contains_get design.processes f.0
-      (is_process design is_sound admitted f.0 inside) in
-      let q = zip_right Flat (processes text top) design.processes side.bodies place.0 f.0
-      place.1 in
-      let listed = kept_source q.0 f.0 q.2 (get_contains (processes text top) place.0 q.0 q.1)
-      inside in
-      let runs = pair_runs q.0 f.0 q.2 f.1 in (
-        seen_run runs.0,
-        Contains-map seen_run (filter_map change_of (source_processes text top design side)) runs.0
-            (to_filter_map change_of (source_processes text top design side) q.0 runs.0 listed
-            runs.1),
-        subst (λ (r : Run ℕ). SameRun (flat_system design) second toward r (seen_run runs.0))
-            f.2 runs.2,
-      )
-
-  unclocked_flat : (q : Process) (f : ProcessForm) (other : Environment Path → Environment Path) →
-      Flat q f → change_of q ≡ Some other → is_clocked f.kind ≡ false
-  unclocked_flat (combinational p s) f other flat change = flat.1
-  unclocked_flat (clocked p s) f other flat change = absurd (cc change)
-  unclocked_flat (linking l) f other flat change = link_unclocked l f flat
-
-  pub back : (other : Run Path) → Contains second.processes other
-      → (run : Run ℕ) × Contains (flat_system design).processes run
-      × SameRun (flat_system design) second toward run other
-  back other at =
-      let change = Contains-from_map seen_run
-      (filter_map change_of (source_processes text top design side)) other at in
-      let q = from_filter_map change_of (source_processes text top design side) change.0
-      change.1 in
-      let in_all = (Contains-from_filter (λ p.
-      not (links_one_of (text_clocks text top) p)) (processes text top) q.0 q.1).1 in
-      let place = contains_get (processes text top) q.0 in_all in
-      let f = zip_left Flat (processes text top) design.processes side.bodies place.0 q.0 place.1 in
-      let inside = kept_flat q.0 f.0 f.2 (get_contains design.processes place.0 f.0 f.1) q.1 in
-      let combinational_f =
-      Contains-filter (λ (z : ProcessForm).
-      not (is_clocked z.kind)) (processes_of design) f.0 inside
-      (ap not (unclocked_flat q.0 f.0 change.0 f.2 q.2)) in
-      let runs = pair_runs q.0 f.0 f.2 combinational_f in
-      let same : runs.0 ≡ change.0 =
-      Rattle.sv_flatten.proofs.PartsMaps.same_some (change_of q.0) runs.0 change.0 runs.1 q.2 in (
-        run_of design f.0,
-        Contains-map (run_of design) (combinational_processes design) f.0 combinational_f,
-        subst (λ (r : Run Path). SameRun (flat_system design) second toward (run_of design f.0) r)
-            (ap seen_run same ∙ change.2) runs.2,
-      )
 
   -- ---- in order
 

@@ -28,7 +28,7 @@ use Rattle.sv_obl.specs.Driven.{HasPaths}
 use Rattle.sv_obl.specs.Obligations.{target_obligations}
 use Rattle.sv_obl.specs.Routes.{RouteForm, open_route, routes_before, route_obligation, names_on}
 use Rattle.sv_obl.specs.Routes.{target_excess}
-use Rattle.sv_obl.specs.IndexedStatements.{statement_of, IsMarked, IsIndexed, AreIndexed}
+use Rattle.sv_obl.specs.IndexedBodies.{looked_up, IsIndexed, AreIndexed}
 use Rattle.sv_obl.specs.RouteViews.{route_forms}
 use Rattle.sv_obl.proofs.IndexedFacts.{indexed_of_driver, inside_bodies, same_routes}
 use Rattle.sv_obl.proofs.OneDriver.{no_driver, one_driver_at}
@@ -66,7 +66,7 @@ module _ (flat : Flat) (is : IsDesign (design_of flat)) (s : ℕ)
       (there : get_or (processes_of design) k p ≡ p) (x : Indexed) (at : x ≡ get_or bodies k x)
       (signals : List Signal) (are : signals ≡ flat.signals.items) where
     abbrev routes : List RouteForm
-    routes = routes_before (signal_forms signals) s (statement_of x) open_route
+    routes = routes_before (signal_forms signals) s (looked_up s x) open_route
 
     indexed : IsIndexed p.body x
     indexed = indexed_of_driver design s k p bodies all driven x there at
@@ -141,17 +141,13 @@ module _ (flat : Flat) (is : IsDesign (design_of flat)) (s : ℕ)
     pub has_body : k < length bodies
     has_body = inside_bodies design s k process bodies all driven
 
-    pub driven_marked : (x : Indexed) → x ≡ get_or bodies k x → IsMarked x
-    driven_marked x at =
-        (indexed_of_driver design s k process bodies all driven x there at).marked
-
     pub driven_slice : (x : Indexed) (slice : BodySlice) → x ≡ get_or bodies k x
-        → IsSliceOf s (statement_of x) slice
+        → IsSliceOf s (looked_up s x) slice
         → SameParts (slice_statement slice) (sliced s (driven_body design s))
     driven_slice x slice at is_slice =
         let indexed = indexed_of_driver design s k process bodies all driven x there at in
         is_slice.parts nothing
-        ∙ sym (indexed.same.parts s nothing)
+        ∙ indexed s
         ∙ ap (λ (body : FlatStatement). in_sequence (sliced s body) nothing)
         (sym (ap first_body
         (one_driver_at design is.is_sound is.is_admitted s is_known k process driven).2

@@ -26,7 +26,7 @@ use Rattle.sv_flat.specs.Design.{SignalForm, TypedTree, PieceForm, ProcessForm, 
 use Rattle.sv_flat.specs.Design.{nothing, after, assign, branch, FlatDesign}
 use Rattle.sv_flat.specs.Clocks.{processes_of}
 use Rattle.sv_flat.specs.SignalLists.{driver_of}
-use Rattle.sv_flat.specs.Views.{process_form, flat_statement, chain_of}
+use Rattle.sv_flat.specs.Views.{process_form, flat_statement, typed_tree, chain_of}
 use Rattle.sv_flat.specs.declared.designs.Process.{Process}
 use Rattle.sv_flat.specs.Assigned.{assigns}
 use Rattle.sv_flat.proofs.Members.{Contains-left, Contains-right}
@@ -39,9 +39,11 @@ use Rattle.sv_obl.specs.declared.indexed.Indexed as indexed
 use Rattle.sv_obl.specs.SliceRoutes.{IsSliceOf, AreSlicesOf, EndsIn}
 use Rattle.sv_obl.specs.BodySlices.{sliced, in_sequence}
 use Rattle.sv_obl.specs.Routes.{RouteForm, routes_before}
-use Rattle.sv_obl.specs.IndexedStatements.{statement_of, row_statements, targets_in, numbers_found}
-use Rattle.sv_obl.specs.IndexedStatements.{numbers_at, ends_in, with_number, numbered, chosen, GoesFor, Tells}
-use Rattle.sv_obl.specs.IndexedStatements.{IsMarked, AreMarked, Same, IsIndexed, AreIndexed, whole_of, SoFar}
+use Rattle.sv_obl.specs.IndexedBodies.{numbers_found, numbers_at, chosen, looked_up}
+use Rattle.sv_obl.specs.IndexedBodies.{parts_looked_up, IsIndexed, AreIndexed}
+use Rattle.sv_obl.specs.IndexedStatements.{statement_of, row_statements, targets_in}
+use Rattle.sv_obl.specs.IndexedStatements.{ends_in, with_number, numbered, GoesFor, Tells}
+use Rattle.sv_obl.specs.IndexedStatements.{IsMarked, AreMarked, Same, IsMadeOf, whole_of, SoFar}
 use Rattle.sv_obl.specs.IndexedStatements.{Covers}
 use Rattle.sv_obl.specs.RouteViews.{piece_forms}
 use Rattle.sv_obl.proofs.SliceChains.{none_ends, no_slices, more_slices, taken_as_one}
@@ -57,7 +59,69 @@ or_of : (a b c : Bool) → ((a || b) || c) ≡ (a || (b || c))
 or_of true b c = refl
 or_of false b c = refl
 
--- ---- statements that go alike
+-- ---- for one target
+
+goes_itself : (s : ℕ) (a : FlatStatement) → GoesFor s a a
+goes_itself s a = record { assigned = refl; parts = λ rest. refl }
+
+goes_then : (s : ℕ) (a b c : FlatStatement) → GoesFor s a b → GoesFor s b c → GoesFor s a c
+goes_then s a b c one two = record {
+  assigned = one.assigned ∙ two.assigned;
+  parts = λ rest. one.parts rest ∙ two.parts rest;
+}
+
+goes_after : (s : ℕ) (a b x y : FlatStatement) → GoesFor s a x → GoesFor s b y
+    → GoesFor s (after a b) (after x y)
+goes_after s a b x y one two = record {
+  assigned = ap₂ (λ m n. m || n) one.assigned two.assigned;
+  parts = λ rest.
+      one.parts (in_sequence (sliced s b) rest) ∙ ap (in_sequence (sliced s x)) (two.parts rest);
+}
+
+-- what does not assign the target leaves the rest as it is
+passes : (s : ℕ) (a x : FlatStatement) → IsFalse (assigns x s) → GoesFor s (after a x) a
+passes s a x none = record {
+  assigned = ap (λ m. assigns a s || m) none ∙ or_none (assigns a s);
+  parts = λ rest. ap (in_sequence (sliced s a)) (slice_is_empty s x none rest);
+}
+
+-- the parts of a slice that is a branch, or nothing
+arms_in_sequence : (c : Bool) (place : Place) (condition : TypedTree) (a b rest : FlatStatement)
+    → in_sequence (cond c (branch place condition a b) nothing) rest
+    ≡ cond c (after (branch place condition (in_sequence a nothing) (in_sequence b nothing)) rest)
+    rest
+arms_in_sequence true place condition a b rest = refl
+arms_in_sequence false place condition a b rest = refl
+
+goes_branch : (s : ℕ) (place : Place) (condition : TypedTree) (a b x y : FlatStatement)
+    → GoesFor s a x → GoesFor s b y
+    → GoesFor s (branch place condition a b) (branch place condition x y)
+goes_branch s place condition a b x y one two = record {
+  assigned = ap₂ (λ m n. m || n) one.assigned two.assigned;
+  parts = λ rest.
+      arms_in_sequence (assigns a s || assigns b s) place condition (sliced s a) (sliced s b) rest
+      ∙ ap₂ (λ (u v : FlatStatement). cond (assigns a s || assigns b s)
+      (after (branch place condition u v) rest) rest) (one.parts nothing) (two.parts nothing)
+      ∙ ap₂ (λ m n. cond (m || n) (after (branch place condition
+      (in_sequence (sliced s x) nothing) (in_sequence (sliced s y) nothing)) rest) rest)
+      one.assigned two.assigned
+      ∙ sym (arms_in_sequence (assigns x s || assigns y s) place condition (sliced s x)
+      (sliced s y) rest);
+}
+
+-- ---- for every target
+
+for_target : (a b : FlatStatement) → Same a b → (s : ℕ) → GoesFor s a b
+for_target a b same s = record {
+  assigned = same.assigned s;
+  parts = same.parts s;
+}
+
+for_all_targets : (a b : FlatStatement) → ((s : ℕ) → GoesFor s a b) → Same a b
+for_all_targets a b goes = record {
+  assigned = λ s. (goes s).assigned;
+  parts = λ s. (goes s).parts;
+}
 
 pub same_itself : (a : FlatStatement) → Same a a
 same_itself a = record { assigned = λ s. refl; parts = λ s rest. refl }
@@ -69,41 +133,19 @@ same_back a b h = record {
 }
 
 pub same_then : (a b c : FlatStatement) → Same a b → Same b c → Same a c
-same_then a b c one two = record {
-  assigned = λ s. one.assigned s ∙ two.assigned s;
-  parts = λ s rest. one.parts s rest ∙ two.parts s rest;
-}
+same_then a b c one two =
+    for_all_targets a c (λ s. goes_then s a b c (for_target a b one s) (for_target b c two s))
 
 pub same_after : (a b x y : FlatStatement) → Same a x → Same b y → Same (after a b) (after x y)
-same_after a b x y one two = record {
-  assigned = λ s. ap₂ (λ m n. m || n) (one.assigned s) (two.assigned s);
-  parts = λ s rest.
-      one.parts s (in_sequence (sliced s b) rest)
-      ∙ ap (in_sequence (sliced s x)) (two.parts s rest);
-}
-
--- the parts of a slice that is a branch, or nothing
-arms_in_sequence : (c : Bool) (place : Place) (condition : TypedTree) (a b rest : FlatStatement)
-    → in_sequence (cond c (branch place condition a b) nothing) rest
-    ≡ cond c (after (branch place condition (in_sequence a nothing) (in_sequence b nothing)) rest)
-    rest
-arms_in_sequence true place condition a b rest = refl
-arms_in_sequence false place condition a b rest = refl
+same_after a b x y one two =
+    for_all_targets (after a b) (after x y)
+    (λ s. goes_after s a b x y (for_target a x one s) (for_target b y two s))
 
 pub same_branch : (place : Place) (condition : TypedTree) (a b x y : FlatStatement)
     → Same a x → Same b y → Same (branch place condition a b) (branch place condition x y)
-same_branch place condition a b x y one two = record {
-  assigned = λ s. ap₂ (λ m n. m || n) (one.assigned s) (two.assigned s);
-  parts = λ s rest.
-      arms_in_sequence (assigns a s || assigns b s) place condition (sliced s a) (sliced s b) rest
-      ∙ ap₂ (λ (u v : FlatStatement). cond (assigns a s || assigns b s)
-      (after (branch place condition u v) rest) rest) (one.parts s nothing) (two.parts s nothing)
-      ∙ ap₂ (λ m n. cond (m || n) (after (branch place condition
-      (in_sequence (sliced s x) nothing) (in_sequence (sliced s y) nothing)) rest) rest)
-      (one.assigned s) (two.assigned s)
-      ∙ sym (arms_in_sequence (assigns x s || assigns y s) place condition (sliced s x)
-      (sliced s y) rest);
-}
+same_branch place condition a b x y one two =
+    for_all_targets (branch place condition a b) (branch place condition x y)
+    (λ s. goes_branch s place condition a b x y (for_target a x one s) (for_target b y two s))
 
 pub regrouped : (a b c : FlatStatement) → Same (after (after a b) c) (after a (after b c))
 regrouped a b c = record {
@@ -253,7 +295,7 @@ module _ (first second a b : Indexed) (keys : List ℕ)
 
     pub branch_indexed : (place : Place) (condition : TypedTree) (met unmet : FlatStatement)
         → statement_of x ≡ branch place condition (statement_of a) (statement_of b)
-        → IsIndexed met first → IsIndexed unmet second → IsIndexed (branch place condition met unmet) x
+        → IsMadeOf met first → IsMadeOf unmet second → IsMadeOf (branch place condition met unmet) x
     branch_indexed place condition met unmet goes m n = record {
       same = subst (Same (branch place condition met unmet))
           (sym (goes
@@ -272,7 +314,7 @@ none_so_far whole = record {
 }
 
 pub one_so_far : (whole first rest : FlatStatement) (old new : List Indexed) (x : Indexed)
-    → SoFar whole (after first rest) old → IsIndexed first x → new ≡ old ++ x ∷ []
+    → SoFar whole (after first rest) old → IsMadeOf first x → new ≡ old ++ x ∷ []
     → SoFar whole rest new
 one_so_far whole first rest old new x so is items = record {
   same =
@@ -303,27 +345,15 @@ row_parts : (v : Vec Indexed) → row_statements (hidden-the_row-Indexed-0 v) �
 row_parts v =
     row_is _ (hidden-the_row-Indexed-0 v) ∙ ap (map statement_of) (items_hidden-the_row-Indexed-0 v)
 
-row_marked : (n : _) (row : Row_of-Indexed n) → AreMarked row
-    → All IsMarked (items-the_row-Indexed n row)
-row_marked _ end_of-Indexed marks = All-nil IsMarked
-row_marked _ (more_of-Indexed x row) marks =
-    All-cons IsMarked x (items-the_row-Indexed _ row) marks.0 (row_marked _ row marks.1)
-
 marked_row : (n : _) (row : Row_of-Indexed n) → All IsMarked (items-the_row-Indexed n row)
     → AreMarked row
 marked_row _ end_of-Indexed marks = tt
 marked_row _ (more_of-Indexed x row) marks =
     (marks 0 x (omega arith), marked_row _ row (λ k d inside. marks (suc k) d (omega arith)))
 
-pub parts_marked : (parts : Vec Indexed) (numbers : BTreeMap ℕ (Vec ℕ))
-    → IsMarked (indexed.Block parts numbers) → All IsMarked parts.items
-parts_marked parts numbers marks =
-    subst (All IsMarked) (items_hidden-the_row-Indexed-0 parts)
-    (row_marked _ (hidden-the_row-Indexed-0 parts) marks.1)
-
 pub block_indexed : (whole : FlatStatement) (parts : Vec Indexed) (numbers : BTreeMap ℕ (Vec ℕ))
     → SoFar whole nothing parts.items → Tells (map statement_of parts.items) numbers
-    → IsIndexed whole (indexed.Block parts numbers)
+    → IsMadeOf whole (indexed.Block parts numbers)
 block_indexed whole parts numbers so tells = record {
   same = subst (λ (xs : List FlatStatement). Same whole (chain_of xs)) (sym (row_parts parts))
       (same_then whole (after (whole_of parts.items) nothing) (whole_of parts.items) so.same
@@ -334,6 +364,84 @@ block_indexed whole parts numbers so tells = record {
         (subst (All IsMarked) (sym (items_hidden-the_row-Indexed-0 parts)) so.marked),
   );
 }
+
+-- ---- what is looked up
+
+-- what is not among the targets is not assigned
+passed_over : (first second : FlatStatement) (targets : BTreeSet ℕ) (s : ℕ)
+    → Covers targets.keys first second → IsFalse (contains nat_cmp targets s)
+    → IsFalse (assigns first s || assigns second s)
+passed_over first second targets s covers none =
+    by_test (assigns first s || assigns second s) refl
+  where
+    by_test : (b : Bool) → (assigns first s || assigns second s) ≡ b → IsFalse b
+    by_test false is = refl
+    by_test true is = absurd (false≢true (sym none
+        ∙ (btree_set_contains_iff nat_cmp_total exact_unsigned targets s).1 (covers s is)))
+
+-- what does not assign the target goes as nothing
+goes_nothing : (s : ℕ) (a : FlatStatement) → IsFalse (assigns a s) → GoesFor s a nothing
+goes_nothing s a none = record { assigned = none; parts = slice_is_empty s a none }
+
+-- parts that go alike, chosen by the same numbers
+chosen_alike : (s : ℕ) (parts others : List FlatStatement)
+    → ((k : ℕ) → GoesFor s (get_or parts k nothing) (get_or others k nothing))
+    → (numbers : List ℕ) → GoesFor s (chosen parts numbers) (chosen others numbers)
+chosen_alike s parts others alike [] = goes_itself s nothing
+chosen_alike s parts others alike (k ∷ numbers) =
+    goes_after s (get_or parts k nothing) (chosen parts numbers) (get_or others k nothing)
+    (chosen others numbers) (alike k) (chosen_alike s parts others alike numbers)
+
+-- a branch, or nothing where it is passed over
+arms_looked_up : (s : ℕ) (place : Place) (condition : TypedTree) (a b x y : FlatStatement)
+    (c : Bool) → GoesFor s a x → GoesFor s b y
+    → (IsFalse c → IsFalse (assigns a s || assigns b s))
+    → GoesFor s (branch place condition a b) (cond c (branch place condition x y) nothing)
+arms_looked_up s place condition a b x y true one two none =
+    goes_branch s place condition a b x y one two
+arms_looked_up s place condition a b x y false one two none =
+    goes_nothing s (branch place condition a b) (none refl)
+
+mutual
+  -- what is looked up for a target goes as the statement
+  goes_looked_up : (s : ℕ) (x : Indexed) → IsMarked x → GoesFor s (statement_of x) (looked_up s x)
+  goes_looked_up s (indexed.Assign pieces place blocking value) marks =
+      goes_itself s (statement_of (indexed.Assign pieces place blocking value))
+  goes_looked_up s (indexed.Block' shape row numbers) marks =
+      goes_then s (chain_of (row_statements row))
+      (chosen (row_statements row) (numbers_at numbers s))
+      (chosen (parts_looked_up s row) (numbers_at numbers s)) (marks.0 s)
+      (chosen_alike s (row_statements row) (parts_looked_up s row) (parts_go s row marks.1)
+      (numbers_at numbers s))
+  goes_looked_up s (indexed.Branch' targets place value p first q second) marks =
+      arms_looked_up s place (typed_tree value.now) (statement_of first) (statement_of second)
+      (looked_up s first) (looked_up s second) (contains nat_cmp targets s)
+      (goes_looked_up s first marks.1) (goes_looked_up s second marks.2)
+      (passed_over (statement_of first) (statement_of second) targets s marks.0)
+
+  parts_go : {n : _} → (s : ℕ) (row : Row_of-Indexed n) → AreMarked row → (k : ℕ)
+      → GoesFor s (get_or (row_statements row) k nothing) (get_or (parts_looked_up s row) k nothing)
+  parts_go s end_of-Indexed marks k = goes_itself s nothing
+  parts_go s (more_of-Indexed x row) marks zero = goes_looked_up s x marks.0
+  parts_go s (more_of-Indexed x row) marks (suc k) = parts_go s row marks.1 k
+
+made_indexed : (statement : FlatStatement) (x : Indexed) → IsMadeOf statement x
+    → IsIndexed statement x
+made_indexed statement x made s =
+    sym (made.same.parts s nothing ∙ (goes_looked_up s x made.marked).parts nothing)
+
+-- the parts of a block as they are looked up
+row_looked_up : (s : ℕ) (n : _) (row : Row_of-Indexed n)
+    → parts_looked_up s row ≡ map (looked_up s) (items-the_row-Indexed n row)
+row_looked_up s _ end_of-Indexed = refl
+row_looked_up s _ (more_of-Indexed x row) =
+    ap (λ xs. looked_up s x ∷ xs) (row_looked_up s _ row)
+
+block_parts : (s : ℕ) (v : Vec Indexed)
+    → parts_looked_up s (hidden-the_row-Indexed-0 v) ≡ map (looked_up s) v.items
+block_parts s v =
+    row_looked_up s _ (hidden-the_row-Indexed-0 v)
+    ∙ ap (map (looked_up s)) (items_hidden-the_row-Indexed-0 v)
 
 -- ---- processes
 
@@ -371,32 +479,7 @@ slice_nothing s a none = record {
   routes = λ signals route. sym (stays signals s a none route);
 }
 
--- ---- for one target
-
-for_target : (a b : FlatStatement) → Same a b → (s : ℕ) → GoesFor s a b
-for_target a b same s = record {
-  assigned = same.assigned s;
-  parts = same.parts s;
-}
-
-goes_then : (s : ℕ) (a b c : FlatStatement) → GoesFor s a b → GoesFor s b c → GoesFor s a c
-goes_then s a b c one two = record {
-  assigned = one.assigned ∙ two.assigned;
-  parts = λ rest. one.parts rest ∙ two.parts rest;
-}
-
-goes_before : (s : ℕ) (a b x : FlatStatement) → GoesFor s a b → GoesFor s (after a x) (after b x)
-goes_before s a b x goes = record {
-  assigned = ap (λ m. m || assigns x s) goes.assigned;
-  parts = λ rest. goes.parts (in_sequence (sliced s x) rest);
-}
-
--- what does not assign the target leaves the rest as it is
-passes : (s : ℕ) (a x : FlatStatement) → IsFalse (assigns x s) → GoesFor s (after a x) a
-passes s a x none = record {
-  assigned = ap (λ m. assigns a s || m) none ∙ or_none (assigns a s);
-  parts = λ rest. ap (in_sequence (sliced s a)) (slice_is_empty s x none rest);
-}
+-- ---- slices of what goes alike
 
 slices_for : (s : ℕ) (a b : FlatStatement) (cs : List BodySlice) → GoesFor s a b → AreSlicesOf s a cs
     → AreSlicesOf s b cs
@@ -426,27 +509,28 @@ chosen_more parts ns k =
     subst (λ (xs : List FlatStatement). Same (chain_of xs) (after (chosen parts ns) (part k)))
     (sym (map-append part ns (k ∷ []))) (one_after (map part ns) (part k))
 
-pub part_at : (parts : List Indexed) (k : ℕ) (part : Indexed) (d : FlatStatement) → k < length parts
-    → part ≡ get_or parts k part → get_or (map statement_of parts) k d ≡ statement_of part
-part_at [] k part d inside is = absurd (omega arith)
-part_at (x ∷ xs) zero part d inside is = ap statement_of (sym is)
-part_at (x ∷ xs) (suc k) part d inside is = part_at xs k part d (omega arith) is
+pub part_at : (f : Indexed → FlatStatement) (parts : List Indexed) (k : ℕ) (part : Indexed)
+    (d : FlatStatement) → k < length parts → part ≡ get_or parts k part
+    → get_or (map f parts) k d ≡ f part
+part_at f [] k part d inside is = absurd (omega arith)
+part_at f (x ∷ xs) zero part d inside is = ap f (sym is)
+part_at f (x ∷ xs) (suc k) part d inside is = part_at f xs k part d (omega arith) is
 
-beyond : (parts : List Indexed) (k : ℕ) → length parts ≤ k
-    → get_or (map statement_of parts) k nothing ≡ nothing
-beyond [] k out = refl
-beyond (x ∷ xs) zero out = absurd (omega arith)
-beyond (x ∷ xs) (suc k) out = beyond xs k (omega arith)
+beyond : (f : Indexed → FlatStatement) (parts : List Indexed) (k : ℕ) → length parts ≤ k
+    → get_or (map f parts) k nothing ≡ nothing
+beyond f [] k out = refl
+beyond f (x ∷ xs) zero out = absurd (omega arith)
+beyond f (x ∷ xs) (suc k) out = beyond f xs k (omega arith)
 
 -- the slice of the part with the next number
 pub next_slice : (s : ℕ) (parts : List Indexed) (ns : List ℕ) (i k : ℕ) (part : Indexed)
     (old new : List BodySlice) (c : BodySlice) → i < length ns → get_or ns i 0 ≡ k
     → k < length parts → part ≡ get_or parts k part
-    → AreSlicesOf s (chosen (map statement_of parts) (take i ns)) old
-    → IsSliceOf s (statement_of part) c → new ≡ old ++ c ∷ []
-    → AreSlicesOf s (chosen (map statement_of parts) (take (i + 1) ns)) new
+    → AreSlicesOf s (chosen (map (looked_up s) parts) (take i ns)) old
+    → IsSliceOf s (looked_up s part) c → new ≡ old ++ c ∷ []
+    → AreSlicesOf s (chosen (map (looked_up s) parts) (take (i + 1) ns)) new
 next_slice s parts ns i k part old new c inside is within at are slice items =
-    let all = map statement_of parts in
+    let all = map (looked_up s) parts in
     let before = chosen all (take i ns) in
     let here = get_or all k nothing in
     subst (λ (ms : List ℕ). AreSlicesOf s (chosen all ms) new) (sym (one_taken ns i 0 k inside is))
@@ -456,15 +540,15 @@ next_slice s parts ns i k part old new c inside is within at are slice items =
     (chosen_more all (take i ns) k)) s)
     (more_slices s before here old new c are
     (subst (λ (x : FlatStatement). IsSliceOf s x c)
-    (sym (part_at parts k part nothing within at)) slice) items))
+    (sym (part_at (looked_up s) parts k part nothing within at)) slice) items))
 
 -- a number beyond all parts names none
 pub no_next_slice : (s : ℕ) (parts : List Indexed) (ns : List ℕ) (i k : ℕ) (cs : List BodySlice)
     → i < length ns → get_or ns i 0 ≡ k → length parts ≤ k
-    → AreSlicesOf s (chosen (map statement_of parts) (take i ns)) cs
-    → AreSlicesOf s (chosen (map statement_of parts) (take (i + 1) ns)) cs
+    → AreSlicesOf s (chosen (map (looked_up s) parts) (take i ns)) cs
+    → AreSlicesOf s (chosen (map (looked_up s) parts) (take (i + 1) ns)) cs
 no_next_slice s parts ns i k cs inside is out are =
-    let all = map statement_of parts in
+    let all = map (looked_up s) parts in
     let before = chosen all (take i ns) in
     subst (λ (ms : List ℕ). AreSlicesOf s (chosen all ms) cs) (sym (one_taken ns i 0 k inside is))
     (slices_for s before (chosen all (take i ns ++ k ∷ [])) cs
@@ -472,27 +556,26 @@ no_next_slice s parts ns i k cs inside is out are =
     (same_back (chosen all (take i ns ++ k ∷ [])) before
     (same_then (chosen all (take i ns ++ k ∷ [])) (after before nothing) before
     (subst (λ (x : FlatStatement). Same (chosen all (take i ns ++ k ∷ [])) (after before x))
-    (beyond parts k out) (chosen_more all (take i ns) k))
+    (beyond (looked_up s) parts k out) (chosen_more all (take i ns) k))
     (nothing_last before))) s) are)
 
 -- the slice of a block
 pub block_slice : (s : ℕ) (parts : Vec Indexed) (numbers : BTreeMap ℕ (Vec ℕ)) (those : List ℕ)
-    (cs : List BodySlice) (whole : BodySlice) → IsMarked (indexed.Block parts numbers)
-    → numbers_at numbers s ≡ those → AreSlicesOf s (chosen (map statement_of parts.items) those) cs
-    → EndsIn cs [] whole → IsSliceOf s (statement_of (indexed.Block parts numbers)) whole
-block_slice s parts numbers those cs whole marks found are ends =
-    let all = map statement_of parts.items in
-    let tells = subst (λ (xs : List FlatStatement). Tells xs numbers) (row_parts parts) marks.0 in
-    subst (λ (xs : List FlatStatement). IsSliceOf s (chain_of xs) whole) (sym (row_parts parts))
-    (slice_for s (chain_of all) (chosen all (numbers_at numbers s)) whole (tells s)
+    (cs : List BodySlice) (whole : BodySlice) → numbers_at numbers s ≡ those
+    → AreSlicesOf s (chosen (map (looked_up s) parts.items) those) cs → EndsIn cs [] whole
+    → IsSliceOf s (looked_up s (indexed.Block parts numbers)) whole
+block_slice s parts numbers those cs whole found are ends =
+    let all = map (looked_up s) parts.items in
+    subst (λ (xs : List FlatStatement). IsSliceOf s (chosen xs (numbers_at numbers s)) whole)
+    (sym (block_parts s parts))
     (subst (λ (ns : List ℕ). IsSliceOf s (chosen all ns) whole) (sym found)
-    (taken_as_one s (chosen all those) cs whole are ends)))
+    (taken_as_one s (chosen all those) cs whole are ends))
 
 pub block_passed : (s : ℕ) (parts : Vec Indexed) (numbers : BTreeMap ℕ (Vec ℕ))
-    → IsMarked (indexed.Block parts numbers) → get nat_cmp numbers s ≡ None
-    → IsSliceOf s (statement_of (indexed.Block parts numbers)) slice.Nothing
-block_passed s parts numbers marks none =
-    block_slice s parts numbers [] [] slice.Nothing marks (ap numbers_found none) (no_slices s)
+    → get nat_cmp numbers s ≡ None
+    → IsSliceOf s (looked_up s (indexed.Block parts numbers)) slice.Nothing
+block_passed s parts numbers none =
+    block_slice s parts numbers [] [] slice.Nothing (ap numbers_found none) (no_slices s)
     (none_ends [])
 
 -- ---- the numbers of parts
@@ -662,7 +745,7 @@ more_told parts i part old new inside at marks gains so = λ s.
     longer : Same (chain_of (take (i + 1) all)) (after start x)
     longer = subst (λ (xs : List FlatStatement). Same (chain_of xs) (after start x))
         (sym (one_taken all i x x (subst (λ n. i < n) (sym (as_long parts)) inside)
-        (part_at parts i part x inside at))) (one_after (take i all) x)
+        (part_at statement_of parts i part x inside at))) (one_after (take i all) x)
 
     changed : (s : ℕ) (b : Bool) → list_any (λ t. t == s) (targets_in part) ≡ b
         → numbers_at new s ≡ cond b (with_number i (numbers_at old s)) (numbers_at old s)
@@ -681,11 +764,11 @@ more_told parts i part old new inside at marks gains so = λ s.
           goes_then s (chain_of (take (i + 1) all)) (after start x) more
               (for_target (chain_of (take (i + 1) all)) (after start x) longer s)
               (goes_then s (after start x) (after (chosen all ns) x) more
-              (goes_before s start (chosen all ns) x told.1)
+              (goes_after s start x (chosen all ns) x told.1 (goes_itself s x))
               (for_target (after (chosen all ns) x) more
               (same_back more (after (chosen all ns) x)
               (subst (λ (y : FlatStatement). Same more (after (chosen all ns) y))
-              (part_at parts i part nothing inside at) (chosen_more all ns i))) s)),
+              (part_at statement_of parts i part nothing inside at) (chosen_more all ns i))) s)),
         )
       where
         below : {k : ℕ} → k < i → k < i + 1
@@ -720,21 +803,9 @@ all_told parts i numbers all so = λ s.
     all_taken (x ∷ xs) (suc n) enough =
         ap (λ ys. statement_of x ∷ ys) (all_taken xs n (omega arith))
 
--- what is not among the targets is not assigned
-pub passed_over : (first second : FlatStatement) (targets : BTreeSet ℕ) (s : ℕ)
-    → Covers targets.keys first second → IsFalse (contains nat_cmp targets s)
-    → IsFalse (assigns first s || assigns second s)
-passed_over first second targets s covers none =
-    by_test (assigns first s || assigns second s) refl
-  where
-    by_test : (b : Bool) → (assigns first s || assigns second s) ≡ b → IsFalse b
-    by_test false is = refl
-    by_test true is = absurd (false≢true (sym none
-        ∙ (btree_set_contains_iff nat_cmp_total exact_unsigned targets s).1 (covers s is)))
-
 pub assign_indexed : (pieces : List PieceForm) (place : Place) (blocking : Bool) (right : TypedTree)
     (x : Indexed) → statement_of x ≡ assign pieces place blocking right → IsMarked x
-    → IsIndexed (assign pieces place blocking right) x
+    → IsMadeOf (assign pieces place blocking right) x
 assign_indexed pieces place blocking right x is marks = record {
   same = subst (Same (assign pieces place blocking right)) (sym is)
       (same_itself (assign pieces place blocking right));
@@ -743,12 +814,13 @@ assign_indexed pieces place blocking right x is marks = record {
 
 pub next_indexed : (ps : List Process) (i : ℕ) (p : Process) (old new : List Indexed) (x : Indexed)
     → i < length ps → p ≡ get_or ps i p → AreIndexed (map process_form (take i ps)) old
-    → IsIndexed (flat_statement p.body) x → new ≡ old ++ x ∷ []
+    → IsMadeOf (flat_statement p.body) x → new ≡ old ++ x ∷ []
     → AreIndexed (map process_form (take (i + 1) ps)) new
-next_indexed ps i p old new x inside is so indexed items =
+next_indexed ps i p old new x inside is so made items =
     subst (AreIndexed (map process_form (take (i + 1) ps))) (sym items)
     (subst (λ fs. AreIndexed fs (old ++ x ∷ [])) (sym forms)
-    (one_more_indexed (map process_form (take i ps)) old (process_form p) x so indexed))
+    (one_more_indexed (map process_form (take i ps)) old (process_form p) x so
+    (made_indexed (flat_statement p.body) x made)))
   where
     forms : map process_form (take (i + 1) ps)
         ≡ map process_form (take i ps) ++ process_form p ∷ []
@@ -773,6 +845,6 @@ module _ (design : FlatDesign) (s k : ℕ) (p : ProcessForm) (xs : List Indexed)
 
 pub same_routes : (statement : FlatStatement) (x : Indexed) → IsIndexed statement x
     → (signals : List SignalForm) (s : ℕ) (route : RouteForm)
-    → routes_before signals s (statement_of x) route ≡ routes_before signals s statement route
+    → routes_before signals s (looked_up s x) route ≡ routes_before signals s statement route
 same_routes statement x is signals s route =
-    sym (same_slice_routes signals s statement (statement_of x) (is.same.parts s nothing) route)
+    same_slice_routes signals s (looked_up s x) statement (is s) route

@@ -2,7 +2,7 @@ use Rattle.std.proofs.Common.{◌+◌, map, drop, sym, ap, subst, All}
 use Rattle.sv_flat.specs.Design.{assign}
 use Rattle.sv_flat.specs.Views.{typed_tree, flat_statement, flat_statements, chain_of}
 use Rattle.sv_obl.specs.declared.indexed.Indexed.TheViews as view
-use Rattle.sv_obl.specs.IndexedStatements.{statement_of, IsMarked, Tells, IsIndexed, SoFar}
+use Rattle.sv_obl.specs.IndexedStatements.{statement_of, IsMarked, Tells, IsMadeOf, SoFar}
 use Rattle.sv_obl.specs.RouteViews.{piece_forms}
 use Rattle.sv_obl.proofs.IndexedFacts.{none_so_far, one_so_far, block_indexed}
 use Rattle.sv_obl.proofs.StatementFacts.{block_is, next_statement}
@@ -10,8 +10,8 @@ use Rattle.sv_obl.proofs.indexed.+indexed.Goals as goal
 
 pub indexed_of-returns-in-Assign : goal.indexed_of-returns-in-Assign
 indexed_of-returns-in-Assign t c =
-    subst (λ st. IsIndexed st c.assigned.result) (sym (ap flat_statement c.in-Assign.is))
-    (subst (λ ps. IsIndexed (assign (piece_forms ps) c.in-Assign.place c.in-Assign.blocking
+    subst (λ st. IsMadeOf st c.assigned.result) (sym (ap flat_statement c.in-Assign.is))
+    (subst (λ ps. IsMadeOf (assign (piece_forms ps) c.in-Assign.place c.in-Assign.blocking
     (typed_tree c.in-Assign.value)) c.assigned.result) c.deref.ensures.value
     c.assigned.ensures)
 
@@ -22,7 +22,7 @@ indexed_of-returns-in_ok-numbers-in-Block t c =
     let numbers = c.in_ok-numbers-in-Block.numbers in
     let so = c.in_ok-parts-in-Block.ensures in
     let same = c.deref-in-Block-2.ensures.value in
-    subst (λ st. IsIndexed st (view.Block parts numbers))
+    subst (λ st. IsMadeOf st (view.Block parts numbers))
     (sym (block_is c.args.stmt.now c.in-Block.stmts c.deref-in-Block.result.now c.in-Block.is
     c.deref-in-Block.ensures.value))
     (block_indexed chain parts numbers so

@@ -1,5 +1,5 @@
 use Rattle.std.proofs.Common.{get_or, refl}
-use Rattle.sv_obl.specs.IndexedStatements.{numbers_at}
+use Rattle.sv_obl.specs.IndexedBodies.{numbers_at}
 use Rattle.sv_obl.proofs.IndexedFacts.{numbered_more}
 use Rattle.sv_obl.proofs.indexed.add_numbers.Goals as goal
 

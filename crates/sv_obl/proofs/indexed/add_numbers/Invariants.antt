@@ -1,5 +1,6 @@
 use Rattle.std.proofs.Common.{◌≡◌, ℕ, take}
-use Rattle.sv_obl.specs.IndexedStatements.{numbers_at, numbered}
+use Rattle.sv_obl.specs.IndexedBodies.{numbers_at}
+use Rattle.sv_obl.specs.IndexedStatements.{numbered}
 use Rattle.sv_obl.proofs.indexed.add_numbers.Given as goal
 
 -- the number was added for the targets so far

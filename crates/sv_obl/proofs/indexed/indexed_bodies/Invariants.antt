@@ -1,6 +1,6 @@
 use Rattle.std.proofs.Common.{take, map}
 use Rattle.sv_flat.specs.Views.{process_form}
-use Rattle.sv_obl.specs.IndexedStatements.{AreIndexed}
+use Rattle.sv_obl.specs.IndexedBodies.{AreIndexed}
 use Rattle.sv_obl.proofs.indexed.indexed_bodies.Given as goal
 
 -- those of the processes so far

@@ -1,5 +1,5 @@
 use Rattle.std.proofs.Common.{sym, ap, ◌∙◌}
-use Rattle.sv_obl.specs.IndexedStatements.{numbers_found}
+use Rattle.sv_obl.specs.IndexedBodies.{numbers_found}
 use Rattle.sv_obl.proofs.indexed.take_out.Goals as goal
 
 pub returns-in-Some-clause-those : goal.returns-in-Some-clause-those

@@ -4,10 +4,10 @@ use Rattle.sv_flat.specs.Clocks.{processes_of}
 use Rattle.sv_flat.specs.Views.{design_of, process_form}
 use Rattle.sv_obl.specs.Answers.{Told}
 use Rattle.sv_obl.specs.Routes.{open_route, routes_before}
-use Rattle.sv_obl.specs.IndexedStatements.{statement_of}
+use Rattle.sv_obl.specs.IndexedBodies.{looked_up}
 use Rattle.sv_obl.proofs.DrivenTargets.{undriven_passed, undriven_listed, driven_excess, has_paths}
 use Rattle.sv_obl.proofs.DrivenTargets.{answers_error}
-use Rattle.sv_obl.proofs.IndexedFacts.{indexed_of_driver, inside_bodies}
+use Rattle.sv_obl.proofs.IndexedFacts.{inside_bodies}
 use Rattle.sv_obl.proofs.TargetFacts.{form_at}
 use Rattle.sv_obl.proofs.WrittenFacts.{few_routes}
 use Rattle.sv_obl.proofs.targets.driven_routes.Goals as goal
@@ -17,16 +17,6 @@ bounds-bodies-place c =
     inside_bodies (design_of c.args.design.now) c.args.target.0 c.in-Some.place
     (process_form c.index-processes-place.result) c.args.bodies.now c.requires.bodies
     (sym c.driver.ensures.driver ∙ c.in-Some.is)
-
-pub paths_within-requires-clause-marked : goal.paths_within-requires-clause-marked
-paths_within-requires-clause-marked c =
-    let design = design_of c.args.design.now in
-    let x = c.index-processes-place.result in
-    (indexed_of_driver design c.args.target.0 c.in-Some.place (process_form x) c.args.bodies.now
-    c.requires.bodies (sym c.driver.ensures.driver ∙ c.in-Some.is) c.index-bodies-place.result
-    (form_at process_form c.processes.result.now (processes_of design) c.in-Some.place x
-    c.index-processes-place.is c.processes.ensures.processes)
-    c.index-bodies-place.is).marked
 
 pub returns-in_err-routes-in-Some-clause-excess :
     goal.returns-in_err-routes-in-Some-clause-excess
@@ -68,7 +58,7 @@ returns-in_ok-routes-in-Some-clause-driven c =
     form_at process_form c.processes.result.now (processes_of design) c.in-Some.place x
     c.index-processes-place.is c.processes.ensures.processes in
     let routes = routes_before (signal_forms c.signals.result.now) c.args.target.0
-    (statement_of c.index-bodies-place.result) open_route in
+    (looked_up c.args.target.0 c.index-bodies-place.result) open_route in
     has_paths c.args.design.now c.driver.ensures.design c.args.target.0 c.requires.known
     c.args.bodies.now c.requires.bodies c.in-Some.place (sym c.driver.ensures.driver ∙ c.in-Some.is)
     (process_form x) there c.index-bodies-place.result c.index-bodies-place.is

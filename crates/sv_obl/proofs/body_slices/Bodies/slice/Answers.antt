@@ -1,9 +1,9 @@
 use Rattle.std.proofs.Common.{◌<◌, sym, subst, ◌∙◌}
 use Rattle.sv_flat.specs.Views.{design_of}
 use Rattle.sv_obl.specs.BodySlices.{sliced, SameParts, slice_statement, driven_body}
-use Rattle.sv_obl.specs.IndexedStatements.{statement_of}
+use Rattle.sv_obl.specs.IndexedBodies.{looked_up}
 use Rattle.sv_obl.specs.SliceRoutes.{IsSliceOf}
-use Rattle.sv_obl.proofs.DrivenTargets.{undriven_slice, has_body, driven_marked, driven_slice}
+use Rattle.sv_obl.proofs.DrivenTargets.{undriven_slice, has_body, driven_slice}
 use Rattle.sv_obl.proofs.SliceChains.{on_ok}
 use Rattle.sv_obl.proofs.body_slices.Bodies.slice.Goals as goal
 
@@ -23,12 +23,11 @@ returns-in-Some c =
     let k = c.in-Some.place in
     let driven = sym c.driver.ensures.driver ∙ c.in-Some.is in
     let x = c.index.result.now in
-    on_ok c.slice_for.result (IsSliceOf s (statement_of x))
+    on_ok c.slice_for.result (IsSliceOf s (looked_up s x))
     (λ slice. SameParts (slice_statement slice) (sliced s (driven_body (design_of flat) s)))
     (λ slice is_slice. driven_slice flat is s c.requires.known bodies c.requires.bodies k driven x
     slice c.index.ensures is_slice)
-    (c.slice_for.ensures (driven_marked flat is s c.requires.known bodies c.requires.bodies k driven
-    x c.index.ensures))
+    c.slice_for.ensures
 
 pub returns-in-None : goal.returns-in-None
 returns-in-None c =

@@ -1,69 +1,59 @@
 -- The walk over a list of declarations, as a loop makes it: what is declared so far, and what is
 -- left.
 use Rattle.std.proofs.Common.{◌≡◌, ℕ, Option, Some, None, List, [], ◌∷◌, ◌++◌, refl, sym, ap, ◌∙◌}
-use Rattle.std.specs.Prelude.{Result, Ok, Err, OnOk, IfErr, IsOk, MatchOption}
+use Rattle.std.specs.Prelude.{Result, Ok, Err}
 use Rattle.sv_num.specs.declared.faults.Fault.{Fault}
 use Rattle.sv_num.specs.declared.faults.Fault.TheVariants.{Rule, OutOfMemory}
-use Rattle.sv_num.specs.declared.faults.Refusal.{Refusal}
-use Rattle.sv_ast.specs.Tree.{ItemTree}
+use Rattle.sv_ast.specs.Tree.{ItemTree, ParameterTree, parameter_item}
 use Rattle.sv_walk.specs.Walks.{Step, ◌>>=◌}
-use Rattle.sv_walk.specs.Declarations.{Site, Declared as WalkDeclared, declaration_walk}
-use Rattle.sv_walk.specs.Declarations.{declarations_walk, declared_until}
+use Rattle.sv_walk.specs.Declarations.{Site, Declared as WalkDeclared, parameter_walk}
+use Rattle.sv_walk.specs.Declarations.{declaration_walk, declarations_walk, declaration_ahead}
+use Rattle.sv_walk.specs.Declarations.{declared_until}
 use Rattle.sv_walk.proofs.WalkLemmas.{end_after, end_broken}
-use Rattle.sv_walk.proofs.DeclarationLemmas.{declared_in_two}
+use Rattle.sv_walk.proofs.DeclarationLemmas.{declared_in_two, until_next, until_stops}
+use Rattle.sv_width.specs.Answers.{IsBreach, step_of}
+use Rattle.sv_width.specs.Scopes.{Known}
 use Rattle.sv_declare.specs.declared.sites.Declared.{Declared}
-use Rattle.sv_declare.specs.Sites.{declared_of, IsSoFar}
-use Rattle.sv_declare.specs.Steps.{Stops}
-use Rattle.sv_declare.proofs.Faults.{stops_on}
+use Rattle.sv_declare.specs.Sites.{bindings_in, declared_of, IsSoFar}
+use Rattle.sv_declare.specs.Steps.{Stops, Binds}
+use Rattle.sv_declare.proofs.Faults.{breach_on}
 
 module _ (base least : ℕ) (s : Site) where
   pub item_found : (d next : WalkDeclared) (item : ItemTree) (items : List ItemTree)
       → (declaration_walk base least s d item).end ≡ Ok next
-      → ((declarations_walk base least s d (item ∷ items)).end ≡
-      (declarations_walk base least s next items).end)
-      × (declared_until base least s d (item ∷ items) ≡ declared_until base least s next items)
-  unfolding declarations_walk declared_until
-  item_found d next item items h = (
-    end_after (declaration_walk base least s d item) (λ x.
-        declarations_walk base least s x items) next h,
-    rw (h, declared_until) refl,
-  )
+      → (declarations_walk base least s d (item ∷ items)).end ≡
+      (declarations_walk base least s next items).end
+  unfolding declarations_walk
+  item_found d next item items h =
+      end_after (declaration_walk base least s d item) (λ x.
+      declarations_walk base least s x items) next h
 
   pub item_stops : (d : WalkDeclared) (item : ItemTree) (items : List ItemTree) (t : Step)
       → (declaration_walk base least s d item).end ≡ Err t
-      → ((declarations_walk base least s d (item ∷ items)).end ≡ Err t)
-      × (declared_until base least s d (item ∷ items) ≡ d)
-  unfolding declarations_walk declared_until
-  item_stops d item items t h = (
-    end_broken (declaration_walk base least s d item) (λ x.
-        declarations_walk base least s x items) t h,
-    rw (h, declared_until) refl,
-  )
+      → (declarations_walk base least s d (item ∷ items)).end ≡ Err t
+  unfolding declarations_walk
+  item_stops d item items t h =
+      end_broken (declaration_walk base least s d item) (λ x.
+      declarations_walk base least s x items) t h
 
-  pub none_left : (d : WalkDeclared) → ((declarations_walk base least s d []).end ≡ Ok d)
-      × (declared_until base least s d [] ≡ d)
-  unfolding declarations_walk declared_until
-  none_left d = (refl, refl)
+  pub none_left : (d : WalkDeclared) → (declarations_walk base least s d []).end ≡ Ok d
+  unfolding declarations_walk
+  none_left d = refl
 
-  -- where nothing is broken, all is declared
-  pub until_ok : (items : List ItemTree) (d next : WalkDeclared)
-      → (declarations_walk base least s d items).end ≡ Ok next
-      → declared_until base least s d items ≡ next
-  until_ok [] d next h =
-      let same : Ok d ≡ Ok next = sym (none_left d).0 ∙ h in
-      (none_left d).1 ∙ cc same
-  until_ok (item ∷ items) d next h =
-      by (declaration_walk base least s d item).end refl (λ x. until_ok items x next)
-    where
-      by : (r : Result WalkDeclared Step) → (declaration_walk base least s d item).end ≡ r
-          → ((x : WalkDeclared) → (declarations_walk base least s x items).end ≡ Ok next
-          → declared_until base least s x items ≡ next)
-          → declared_until base least s d (item ∷ items) ≡ next
-      by (Ok x) e rest =
-          (item_found d x item items e).1 ∙ rest x (sym (item_found d x item items e).0 ∙ h)
-      by (Err t) e rest =
-          let wrong : Err t ≡ Ok next = sym (item_stops d item items t e).0 ∙ h in
-          absurd (cc wrong)
+  until_none : (d : WalkDeclared) → declared_until base least s d [] ≡ d
+  unfolding declared_until
+  until_none d = refl
+
+  -- a parameter knows of no limit
+  parameter_found : (d : WalkDeclared) (p : ParameterTree)
+      → (declaration_walk base least s d (parameter_item p)).end ≡ (parameter_walk base s d p).end
+  unfolding declaration_walk
+  parameter_found d p = refl
+
+  parameter_ahead : (d : WalkDeclared) (p : ParameterTree)
+      → (declaration_ahead base least s d (parameter_item p)).end ≡ (parameter_walk base s d p).end
+  unfolding declaration_ahead
+  parameter_ahead d p = refl
 
   -- where a list ends whole, it was gone through, and where it ends in the middle, so does a longer
   -- one
@@ -89,8 +79,6 @@ pub record Course (base least : ℕ) (s : Site) (from : WalkDeclared) (all : Lis
     (d : Declared) (left : List ItemTree) : Type 0 where
   pub walk : (declarations_walk base least s (declared_of d) left).end
       ≡ (declarations_walk base least s from all).end
-  pub until : declared_until base least s (declared_of d) left ≡
-      declared_until base least s from all
   pub so_far : IsSoFar base s.master d
 
 module _ (base least : ℕ) (s : Site) (from : WalkDeclared) (all : List ItemTree)
@@ -99,42 +87,106 @@ module _ (base least : ℕ) (s : Site) (from : WalkDeclared) (all : List ItemTre
       → Course base least s from all d (item ∷ left)
       → (declaration_walk base least s (declared_of d) item).end ≡ Ok (declared_of e)
       → IsSoFar base s.master e → Course base least s from all e left
-  course_more e item left course h so_far =
-      let found = item_found base least s (declared_of d) (declared_of e) item left h in record {
-        walk = sym found.0 ∙ course.walk;
-        until = sym found.1 ∙ course.until;
-        so_far = so_far;
-      }
+  course_more e item left course h so_far = record {
+    walk = sym (item_found base least s (declared_of d) (declared_of e) item left h) ∙ course.walk;
+    so_far = so_far;
+  }
 
-  pub course_stops : (e : Declared) (item : ItemTree) (left : List ItemTree) (f : Fault)
+  pub course_stops : (t : Step) (item : ItemTree) (left : List ItemTree)
       → Course base least s from all d (item ∷ left)
-      → Stops (declaration_walk base least s (declared_of d) item).end (declared_of d) e f
-      → Stops (declarations_walk base least s from all).end
-      (declared_until base least s from all) e f
-  course_stops e item left f course h =
-      stops_on f (declaration_walk base least s (declared_of d) item).end
-      (declarations_walk base least s from all).end (declared_of d)
-      (declared_until base least s from all) e
-      (λ t stop. let stopped = item_stops base least s (declared_of d) item left t stop in
-      (sym course.walk ∙ stopped.0, sym course.until ∙ stopped.1)) h
+      → (declaration_walk base least s (declared_of d) item).end ≡ Err t
+      → (declarations_walk base least s from all).end ≡ Err t
+  course_stops t item left course h =
+      sym course.walk ∙ item_stops base least s (declared_of d) item left t h
+
+  pub course_broken : (item : ItemTree) (left : List ItemTree) (f : Fault)
+      → Course base least s from all d (item ∷ left)
+      → IsBreach (declaration_walk base least s (declared_of d) item).end f
+      → IsBreach (declarations_walk base least s from all).end f
+  course_broken item left f course h =
+      breach_on f (declaration_walk base least s (declared_of d) item).end
+      (declarations_walk base least s from all).end
+      (λ t stop. course_stops t item left course stop) h
 
   pub course_ends : Course base least s from all d []
       → (declarations_walk base least s from all).end ≡ Ok (declared_of d)
-  course_ends course = sym course.walk ∙ (none_left base least s (declared_of d)).0
+  course_ends course = sym course.walk ∙ none_left base least s (declared_of d)
 
--- what a header declares, where a refusal is told from want of memory
-pub header_until : (base least : ℕ) (s : Site) (from : WalkDeclared) (items : List ItemTree)
-    (d : Declared)
-    (answer : Result (Unit {0}) Fault) (broken : Option Refusal)
-    → MatchOption broken (IsOk answer) (λ r. answer ≡ Err (Rule r))
-    → OnOk answer ((declarations_walk base least s from items).end ≡ Ok (declared_of d))
-    → IfErr answer (Stops (declarations_walk base least s from items).end
-    (declared_until base least s from items) d)
-    → declared_until base least s from items ≡ declared_of d
-header_until base least s from items d (Ok u) broken known found stopped =
-    until_ok base least s items from (declared_of d) found
-header_until base least s from items d (Err (Rule r)) broken known found stopped = stopped.1
-header_until base least s from items d (Err OutOfMemory) None known found stopped =
-    absurd (cc known)
-header_until base least s from items d (Err OutOfMemory) (Some r) known found stopped =
-    absurd (cc known)
+-- what is left comes to the same names as all, whatever signals there are
+pub record Ahead (base least : ℕ) (s : Site) (from : WalkDeclared) (all : List ItemTree)
+    (known : Known) (left : List ItemTree) : Type 0 where
+  pub so_far : WalkDeclared
+  pub names : so_far.bindings ≡ bindings_in known
+  pub until : declared_until base least s so_far left ≡ declared_until base least s from all
+
+module _ (base least : ℕ) (s : Site) (from : WalkDeclared) (all : List ItemTree)
+    (known : Known) where
+  pub ahead_more : (new : Known) (item : ItemTree) (left : List ItemTree)
+      → Ahead base least s from all known (item ∷ left)
+      → Binds (λ d. (declaration_ahead base least s d item).end) known new
+      → Ahead base least s from all new left
+  ahead_more new item left ahead binds =
+      let next = binds ahead.so_far ahead.names in record {
+        so_far = next.0;
+        names = next.2;
+        until = sym (until_next base least s ahead.so_far next.0 item left next.1) ∙ ahead.until;
+      }
+
+  pub ahead_stops : (t : Step) (item : ItemTree) (left : List ItemTree)
+      → Ahead base least s from all known (item ∷ left)
+      → ((d : WalkDeclared) → d.bindings ≡ bindings_in known
+      → (declaration_ahead base least s d item).end ≡ Err t)
+      → (declared_until base least s from all).bindings ≡ bindings_in known
+  ahead_stops t item left ahead broken =
+      ap (λ (d : WalkDeclared). d.bindings)
+      (sym ahead.until
+      ∙ until_stops base least s ahead.so_far item left t (broken ahead.so_far ahead.names))
+      ∙ ahead.names
+
+  pub ahead_ends : Ahead base least s from all known []
+      → (declared_until base least s from all).bindings ≡ bindings_in known
+  ahead_ends ahead =
+      ap (λ (d : WalkDeclared). d.bindings)
+      (sym ahead.until ∙ until_none base least s ahead.so_far)
+      ∙ ahead.names
+
+-- as long as parameters are walked, nothing differs ahead
+pub record Headed (base least : ℕ) (s : Site) (from : WalkDeclared) (all : List ItemTree)
+    (d : Declared) (left : List ItemTree) : Type 0 where
+  pub course : Course base least s from all d left
+  pub until : declared_until base least s (declared_of d) left ≡
+      declared_until base least s from all
+
+module _ (base least : ℕ) (s : Site) (from : WalkDeclared) (all : List ItemTree)
+    (d : Declared) where
+  pub headed_more : (e : Declared) (p : ParameterTree) (left : List ItemTree)
+      → Headed base least s from all d (parameter_item p ∷ left)
+      → (parameter_walk base s (declared_of d) p).end ≡ Ok (declared_of e)
+      → IsSoFar base s.master e → Headed base least s from all e left
+  headed_more e p left headed h so_far = record {
+    course = course_more base least s from all d e (parameter_item p) left headed.course
+        (parameter_found base least s (declared_of d) p ∙ h) so_far;
+    until = sym (until_next base least s (declared_of d) (declared_of e) (parameter_item p) left
+        (parameter_ahead base least s (declared_of d) p ∙ h)) ∙ headed.until;
+  }
+
+  pub headed_stops : (e : Declared) (t : Step) (p : ParameterTree) (left : List ItemTree)
+      → Headed base least s from all d (parameter_item p ∷ left)
+      → (parameter_walk base s (declared_of d) p).end ≡ Err t
+      → declared_of d ≡ declared_of e
+      → ((declared_until base least s from all).bindings ≡ bindings_in e.scope)
+      × ((declarations_walk base least s from all).end ≡ Err t)
+  headed_stops e t p left headed h same = (
+    ap (λ (x : WalkDeclared). x.bindings)
+        (sym headed.until
+        ∙ until_stops base least s (declared_of d) (parameter_item p) left t
+        (parameter_ahead base least s (declared_of d) p ∙ h)
+        ∙ same),
+    course_stops base least s from all d t (parameter_item p) left headed.course
+        (parameter_found base least s (declared_of d) p ∙ h),
+  )
+
+  pub headed_ahead : (left : List ItemTree) → Headed base least s from all d left
+      → Ahead base least s from all d.scope left
+  headed_ahead left headed =
+      record { so_far = declared_of d; names = refl; until = headed.until }

@@ -31,14 +31,6 @@ pub stops_breach : (f : Fault) (end : Result WalkDeclared Step) (until : WalkDec
 stops_breach (Rule r) end until d h = h.0
 stops_breach OutOfMemory end until d h = tt
 
--- what stops one walk stops another
-pub stops_on : (f : Fault) (first second : Result WalkDeclared Step) (before until : WalkDeclared)
-    (d : Declared) → ((s : Step) → first ≡ Err s → (second ≡ Err s) × (until ≡ before))
-    → Stops first before d f → Stops second until d f
-stops_on (Rule r) first second before until d on h =
-    let p = on _ h.0 in (p.0, p.1 ∙ h.1)
-stops_on OutOfMemory first second before until d on h = tt
-
 -- what refuses a name that stands for something already
 pub breach_twice : {X : Type 0} (f : Fault) (known : Known) (n : List ℕ) (place : Place)
     (end : Result X Step) → (IsTrue (is_some (meaning_of known n)) → end ≡ Err (twice place n))

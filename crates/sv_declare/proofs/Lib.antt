@@ -4,6 +4,7 @@ pub mod Entries
 pub mod NameLemmas
 pub mod StepLemmas
 pub mod Courses
+pub mod Headers
 pub mod SiteLemmas
 pub mod LabelEnds
 pub mod OverrideEnds

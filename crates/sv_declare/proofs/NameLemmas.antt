@@ -13,7 +13,8 @@ use Rattle.sv_ast.specs.Scopes.{Number, Binding, parameter, signal, Scope}
 use Rattle.sv_ast.specs.Tree.{SpanTree, ParameterTree, ModuleTree}
 use Rattle.sv_ast.specs.Instances.{all_items, span_width, in_range}
 use Rattle.sv_walk.specs.Names.{Names, is_bound, number_from, names_at, item_declares, names_of}
-use Rattle.sv_walk.specs.Declarations.{Site, override_of}
+use Rattle.sv_walk.specs.Declarations.{Site, override_of, range_steps}
+use Rattle.sv_walk.proofs.ConstantLemmas.{range_alike}
 use Rattle.sv_width.specs.declared.meanings.KnownSignal.{KnownSignal}
 use Rattle.sv_width.specs.declared.meanings.Meaning.{Meaning}
 use Rattle.sv_width.specs.declared.meanings.Meaning.TheVariants as meaning
@@ -21,7 +22,7 @@ use Rattle.sv_width.specs.Scopes.{Known, number_of, binding_of, meaning_of, bind
 use Rattle.sv_width.specs.Scopes.{signal_number, names_ahead, with_meaning}
 use Rattle.sv_width.specs.Scopes as scopes
 use Rattle.sv_declare.specs.Ranges.{ranged}
-use Rattle.sv_declare.specs.Sites.{settings_of, bindings_in, signal_count}
+use Rattle.sv_declare.specs.Sites.{settings_of, bindings_in, signal_count, AreAnnounced}
 use Rattle.sv_declare.proofs.Entries.{entry_first, entry_map, entry_append, first_of_two}
 use Rattle.sv_declare.proofs.Entries.{first_of_none, none_parts}
 
@@ -105,6 +106,24 @@ names_begin base m known none later =
     ∙ ap (λ (ms : List (List ℕ × Meaning)).
     number_from base (map (λ (m : List ℕ × Meaning). (m.0, binding_of m.1)) ms) n) (sym none))
     later
+
+-- a range is asked by the names alone, not by the numbers of signals
+pub range_there : (base : ℕ) (m : ModuleTree) (known : Known) (bs : List (List ℕ × Binding))
+    → AreAnnounced m known → bs ≡ bindings_in known
+    → (span : Option SpanTree)
+    → range_steps (names_ahead known) span ≡ range_steps (names_at base m bs) span
+range_there base m known bs announced same span =
+    let later : List ℕ → Bool = λ n. list_any (bytes_eq n) known.announced in
+    range_alike (bindings_of known) later (number_in known) (number_from base bs) span
+    ∙ ap (λ (l : List ℕ → Bool). range_steps
+    (record { scope = bindings_of known; number = number_from base bs; later = l }) span)
+    (fun_ext announced)
+    ∙ ap (λ (s : Scope). range_steps (record {
+      scope = s;
+      number = number_from base bs;
+      later = λ n. list_any (item_declares n) (all_items m);
+    }) span)
+    (sym (ap entry same ∙ bindings_same known))
 
 module _ (base : ℕ) (m : ModuleTree) (known : Known)
     (so_far : names_ahead known ≡ names_at base m (bindings_in known)) (n : List ℕ) where

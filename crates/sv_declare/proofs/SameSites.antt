@@ -16,12 +16,13 @@ use Rattle.sv_walk.specs.Walks.{Step, Walk, ask, done, ◌>>=◌}
 use Rattle.sv_walk.specs.Rules.{twice, too_many}
 use Rattle.sv_walk.specs.Names.{Names, is_bound, names_at}
 use Rattle.sv_walk.specs.Declarations.{Site, Declared, range_steps, override_of, final_walk}
-use Rattle.sv_walk.specs.Declarations.{parameter_walk, declared_signal, signal_walk}
-use Rattle.sv_walk.specs.Declarations.{declaration_walk, declarations_walk, declared_until}
+use Rattle.sv_walk.specs.Declarations.{parameter_walk, declared_signal, signal_ahead, signal_walk}
+use Rattle.sv_walk.specs.Declarations.{declaration_walk, declarations_walk, declaration_ahead}
+use Rattle.sv_walk.specs.Declarations.{declared_until}
 use Rattle.sv_walk.proofs.WalkLemmas.{parts_done}
+use Rattle.sv_walk.proofs.DeclarationLemmas.{signal_within, until_next, until_stops}
 use Rattle.sv_width.specs.Scopes.{Known, meaning_of}
 use Rattle.sv_declare.specs.Sites.{SameSite, bindings_in}
-use Rattle.sv_declare.proofs.Courses.{item_found, item_stops}
 use Rattle.sv_declare.proofs.Entries.{entry_there}
 use Rattle.sv_declare.proofs.NameLemmas.{bound_is}
 
@@ -44,15 +45,14 @@ module _ (base least : ℕ) (s t : Site) (same : SameSite s t) where
       with t.master (if p.local || is_bound (entry d.bindings p.name) then None else r))
       (same.set p.name)
 
-  signal_same : (d : Declared) (p : DeclarationTree) →
-      signal_walk base least s d p ≡ signal_walk base least t d p
-  unfolding signal_walk
-  signal_same d p =
+  ahead_same : (d : Declared) (p : DeclarationTree) →
+      signal_ahead base least s d p ≡ signal_ahead base least t d p
+  unfolding signal_ahead
+  ahead_same d p =
       let with : ModuleTree → List (List ℕ) → Walk Declared = λ m path.
       let names = names_at base m d.bindings in
       range_steps names p.span >>= λ _.
       ask (not (is_bound (entry d.bindings p.name))) (twice p.place p.name) >>= λ _.
-      ask (nat_lt (base + length d.signals) 4096) (too_many p.place) >>= λ _.
       done (record {
         bindings = d.bindings ++ (p.name, signal (span_width names.scope p.span) p.signed) ∷ [];
         signals = d.signals ++ declared_signal
@@ -61,6 +61,14 @@ module _ (base least : ℕ) (s t : Site) (same : SameSite s t) where
       }) in
       ap (λ (m : ModuleTree). with m s.path) same.master
       ∙ ap (λ (path : List (List ℕ)). with t.master path) same.path
+
+  signal_same : (d : Declared) (p : DeclarationTree) →
+      signal_walk base least s d p ≡ signal_walk base least t d p
+  unfolding signal_walk
+  signal_same d p =
+      ap (λ (w : Walk Declared). w >>= λ next.
+      ask (nat_lt (base + length d.signals) 4096) (too_many p.place) >>= λ _. done next)
+      (ahead_same d p)
 
   item_same : (d : Declared) (i : ItemTree) →
       declaration_walk base least s d i ≡ declaration_walk base least t d i
@@ -84,25 +92,37 @@ module _ (base least : ℕ) (s t : Site) (same : SameSite s t) where
       ∙ ap (λ (more : Declared → Walk Declared). declaration_walk base least t d i >>= more)
       (fun_ext (λ next. same_walk next items))
 
+  item_ahead_same : (d : Declared) (i : ItemTree) →
+      declaration_ahead base least s d i ≡ declaration_ahead base least t d i
+  unfolding declaration_ahead
+  item_ahead_same d (parameter_item p) = parameter_same d p
+  item_ahead_same d (declared p) = ahead_same d p
+  item_ahead_same d (memory_item m) = refl
+  item_ahead_same d (continuous ts p e) = refl
+  item_ahead_same d (released a e b) = refl
+  item_ahead_same d (always_item p k b) = refl
+  item_ahead_same d (invariant_item p e) = refl
+  item_ahead_same d (instance_item i) = refl
+
   pub same_until : (d : Declared) (items : List ItemTree)
       → declared_until base least s d items ≡ declared_until base least t d items
   unfolding declared_until
   same_until d [] = refl
   same_until d (i ∷ items) =
-      by (declaration_walk base least t d i).end refl (λ x. same_until x items)
+      by (declaration_ahead base least t d i).end refl (λ x. same_until x items)
     where
-      by : (r : Result Declared Step) → (declaration_walk base least t d i).end ≡ r
+      by : (r : Result Declared Step) → (declaration_ahead base least t d i).end ≡ r
           → ((x : Declared) → declared_until base least s x items ≡
           declared_until base least t x items)
           → declared_until base least s d (i ∷ items) ≡ declared_until base least t d (i ∷ items)
       by (Ok x) e rest =
-          (item_found base least s d x i items (ap (λ (w : Walk Declared).
-          w.end) (item_same d i) ∙ e)).1
-          ∙ rest x ∙ sym (item_found base least t d x i items e).1
+          until_next base least s d x i items
+          (ap (λ (w : Walk Declared). w.end) (item_ahead_same d i) ∙ e)
+          ∙ rest x ∙ sym (until_next base least t d x i items e)
       by (Err u) e rest =
-          (item_stops base least s d i items u (ap (λ (w : Walk Declared).
-          w.end) (item_same d i) ∙ e)).1
-          ∙ sym (item_stops base least t d i items u e).1
+          until_stops base least s d i items u
+          (ap (λ (w : Walk Declared). w.end) (item_ahead_same d i) ∙ e)
+          ∙ sym (until_stops base least t d i items u e)
 
 -- ---- how many signals are declared
 
@@ -128,11 +148,11 @@ module _ (base least : ℕ) (s : Site) where
       let same : made b.0 ≡ next = cc c.2 in
       ap (λ (x : Declared). x.signals) (sym same)
 
-  signal_signals : (d next : Declared) (p : DeclarationTree)
-      → (signal_walk base least s d p).end ≡ Ok next
+  ahead_signals : (d next : Declared) (p : DeclarationTree)
+      → (signal_ahead base least s d p).end ≡ Ok next
       → length next.signals ≡ length d.signals + 1
-  unfolding signal_walk
-  signal_signals d next p h =
+  unfolding signal_ahead
+  ahead_signals d next p h =
       let names = names_at base s.master d.bindings in
       let form = declared_signal s (span_width names.scope p.span) least p in
       let made : Declared = record {
@@ -140,13 +160,15 @@ module _ (base least : ℕ) (s : Site) where
         signals = d.signals ++ form ∷ [];
       } in
       let new = ask (not (is_bound (entry d.bindings p.name))) (twice p.place p.name) in
-      let room = ask (nat_lt (base + length d.signals) 4096) (too_many p.place) in
-      let a = parts_done (range_steps names p.span) (λ _.
-      new >>= λ _. room >>= λ _. done made) next h in
-      let b = parts_done new (λ _. room >>= λ _. done made) next a.2 in
-      let c = parts_done room (λ _. done made) next b.2 in
-      let same : made ≡ next = cc c.2 in
+      let a = parts_done (range_steps names p.span) (λ _. new >>= λ _. done made) next h in
+      let b = parts_done new (λ _. done made) next a.2 in
+      let same : made ≡ next = cc b.2 in
       ap (λ (x : Declared). length x.signals) (sym same) ∙ length_push d.signals form
+
+  signal_signals : (d next : Declared) (p : DeclarationTree)
+      → (signal_walk base least s d p).end ≡ Ok next
+      → length next.signals ≡ length d.signals + 1
+  signal_signals d next p h = ahead_signals d next p (signal_within base least s d next p h).0
 
   kept_signals : (d next : Declared) (is : List ItemTree) (n : ℕ) → (done d).end ≡ Ok next
       → n ≡ length next.signals + length (filter_map declaration_of is)

@@ -12,7 +12,8 @@ use Rattle.sv_walk.specs.Rules.{twice, too_many, bad_range}
 use Rattle.sv_walk.specs.Names.{Names, is_bound, names_at, place_of}
 use Rattle.sv_walk.specs.ExpressionSteps.{asked, own_divisors, constant_walk}
 use Rattle.sv_walk.specs.Declarations.{Site, Declared, is_range, range_steps, override_of}
-use Rattle.sv_walk.specs.Declarations.{final_walk, parameter_walk, declared_signal, signal_walk}
+use Rattle.sv_walk.specs.Declarations.{final_walk, parameter_walk, declared_signal, signal_ahead}
+use Rattle.sv_walk.specs.Declarations.{signal_walk}
 use Rattle.sv_walk.proofs.WalkLemmas.{end_after, end_broken, parts_done}
 use Rattle.sv_declare.specs.Ranges.{IsRange}
 
@@ -183,62 +184,71 @@ module _ (base : ℕ) (site : Site) (d : Declared) (p : ParameterTree) (names : 
 
 -- ---- a signal
 
-module _ (base least : ℕ) (site : Site) (d : Declared) (t : DeclarationTree) (names : Names)
-    (are : names ≡ names_at base site.master d.bindings) where
-  signal_made : Declared
+module _ (base least : ℕ) (site : Site) (d : Declared) (t : DeclarationTree) where
+  abbrev names_there : Names
+  names_there = names_at base site.master d.bindings
+
+  abbrev pub signal_made : Declared
   signal_made = record {
-    bindings = d.bindings ++ (t.name, signal (span_width names.scope t.span) t.signed) ∷ [];
-    signals = d.signals ++ declared_signal site (span_width names.scope t.span) least t ∷ [];
+    bindings = d.bindings ++ (t.name, signal (span_width (entry d.bindings) t.span) t.signed) ∷ [];
+    signals = d.signals ++ declared_signal site (span_width (entry d.bindings) t.span) least t ∷ [];
   }
 
-  room : Walk Declared
-  room = ask (nat_lt (base + length d.signals) 4096) (too_many t.place) >>= λ _. done signal_made
-
   new : Walk Declared
-  new = ask (not (is_bound (entry d.bindings t.name))) (twice t.place t.name) >>= λ _. room
+  new = ask (not (is_bound (entry d.bindings t.name))) (twice t.place t.name) >>= λ _.
+      done signal_made
 
-  all : (signal_walk base least site d t).end ≡ (range_steps names t.span >>= λ _. new).end
-  unfolding signal_walk new room signal_made
-  all = ap (λ (names : Names). (range_steps names t.span
-      >>= λ _. ask (not (is_bound (entry d.bindings t.name))) (twice t.place t.name)
-      >>= λ _. ask (nat_lt (base + length d.signals) 4096) (too_many t.place)
-      >>= λ _. done (record {
-        bindings = d.bindings ++ (t.name, signal (span_width names.scope t.span) t.signed) ∷ [];
-        signals = d.signals ++ declared_signal site (span_width names.scope t.span) least t ∷ [];
-      })).end) (sym are)
+  all : (signal_ahead base least site d t).end ≡ (range_steps names_there t.span >>= λ _. new).end
+  unfolding signal_ahead new
+  all = refl
 
-  pub signal_range_stops : (s : Step) → (range_steps names t.span).end ≡ Err s
-      → (signal_walk base least site d t).end ≡ Err s
-  signal_range_stops s h = all ∙ end_broken (range_steps names t.span) (λ _. new) s h
+  pub signal_range_stops : (s : Step) → (range_steps names_there t.span).end ≡ Err s
+      → (signal_ahead base least site d t).end ≡ Err s
+  signal_range_stops s h = all ∙ end_broken (range_steps names_there t.span) (λ _. new) s h
 
-  module _ (ranged : (range_steps names t.span).end ≡ Ok tt) where
-    to_new : (signal_walk base least site d t).end ≡ new.end
-    to_new = all ∙ end_after (range_steps names t.span) (λ _. new) tt ranged
+  module _ (ranged : (range_steps names_there t.span).end ≡ Ok tt) where
+    to_new : (signal_ahead base least site d t).end ≡ new.end
+    to_new = all ∙ end_after (range_steps names_there t.span) (λ _. new) tt ranged
 
     pub signal_twice : is_bound (entry d.bindings t.name) ≡ true
-        → (signal_walk base least site d t).end ≡ Err (twice t.place t.name)
+        → (signal_ahead base least site d t).end ≡ Err (twice t.place t.name)
     unfolding new
     signal_twice h =
-        to_new ∙ ap (λ (b : Bool). (ask (not b) (twice t.place t.name) >>= λ _. room).end) h
-
-    to_room : is_bound (entry d.bindings t.name) ≡ false
-        → (signal_walk base least site d t).end ≡ room.end
-    unfolding new
-    to_room h = to_new ∙ ap (λ (b : Bool). (ask (not b) (twice t.place t.name) >>= λ _. room).end) h
-
-    pub signal_over : is_bound (entry d.bindings t.name) ≡ false
-        → nat_lt (base + length d.signals) 4096 ≡ false
-        → (signal_walk base least site d t).end ≡ Err (too_many t.place)
-    unfolding room
-    signal_over h k =
-        to_room h ∙ ap (λ (b : Bool). (ask b (too_many t.place) >>= λ _. done signal_made).end) k
+        to_new
+        ∙ ap (λ (b : Bool). (ask (not b) (twice t.place t.name) >>= λ _. done signal_made).end) h
 
     pub signal_found : is_bound (entry d.bindings t.name) ≡ false
-        → nat_lt (base + length d.signals) 4096 ≡ true
-        → (signal_walk base least site d t).end ≡ Ok (record {
-          bindings = d.bindings ++ (t.name, signal (span_width names.scope t.span) t.signed) ∷ [];
-          signals = d.signals ++ declared_signal site (span_width names.scope t.span) least t ∷ [];
-        })
-    unfolding room signal_made
-    signal_found h k =
-        to_room h ∙ ap (λ (b : Bool). (ask b (too_many t.place) >>= λ _. done signal_made).end) k
+        → (signal_ahead base least site d t).end ≡ Ok signal_made
+    unfolding new
+    signal_found h =
+        to_new
+        ∙ ap (λ (b : Bool). (ask (not b) (twice t.place t.name) >>= λ _. done signal_made).end) h
+
+  -- and then the limit
+  limited : Declared → Walk Declared
+  limited next = ask (nat_lt (base + length d.signals) 4096) (too_many t.place) >>= λ _. done next
+
+  to_limit : (signal_walk base least site d t).end ≡
+      (signal_ahead base least site d t >>= limited).end
+  unfolding signal_walk limited
+  to_limit = refl
+
+  pub signal_broken : (s : Step) → (signal_ahead base least site d t).end ≡ Err s
+      → (signal_walk base least site d t).end ≡ Err s
+  signal_broken s h = to_limit ∙ end_broken (signal_ahead base least site d t) limited s h
+
+  pub signal_over : (next : Declared) → (signal_ahead base least site d t).end ≡ Ok next
+      → nat_lt (base + length d.signals) 4096 ≡ false
+      → (signal_walk base least site d t).end ≡ Err (too_many t.place)
+  unfolding limited
+  signal_over next h k =
+      to_limit ∙ end_after (signal_ahead base least site d t) limited next h
+      ∙ ap (λ (b : Bool). (ask b (too_many t.place) >>= λ _. done next).end) k
+
+  pub signal_within : (next : Declared) → (signal_ahead base least site d t).end ≡ Ok next
+      → nat_lt (base + length d.signals) 4096 ≡ true
+      → (signal_walk base least site d t).end ≡ Ok next
+  unfolding limited
+  signal_within next h k =
+      to_limit ∙ end_after (signal_ahead base least site d t) limited next h
+      ∙ ap (λ (b : Bool). (ask b (too_many t.place) >>= λ _. done next).end) k

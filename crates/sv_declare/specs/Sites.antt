@@ -1,13 +1,15 @@
 -- Instances and what they declare, as the walk has them.
 use Rattle.std.specs.Prelude.{◌≡◌, ℕ, ◌+◌, ◌≤◌, List, [], ◌∷◌, ◌++◌, map, length, Bool}
+use Rattle.std.specs.List.{list_any}
+use Rattle.std.specs.Str.{bytes_eq}
 use Rattle.sv_num.specs.declared.vectors.Bits.{Bits}
 use Rattle.sv_lattice.specs.Maps.{MapRows}
 use Rattle.sv_ast.specs.Scopes.{Number, Binding, parameter, signal}
 use Rattle.sv_ast.specs.Tree.{ItemTree, parameter_item, declared, ModuleTree}
-use Rattle.sv_ast.specs.Instances.{entry}
+use Rattle.sv_ast.specs.Instances.{entry, all_items}
 use Rattle.sv_ast.specs.Views.{module_tree}
 use Rattle.sv_flat.specs.Views.{signal_form}
-use Rattle.sv_walk.specs.Names.{names_at}
+use Rattle.sv_walk.specs.Names.{names_at, item_declares}
 use Rattle.sv_walk.specs.Declarations as walk
 use Rattle.sv_walk.specs.LabelSteps as shared
 use Rattle.sv_width.specs.declared.meanings.Meaning.{Meaning}
@@ -62,6 +64,17 @@ abbrev pub signal_count : List (List ℕ × Binding) → ℕ
 signal_count [] = 0
 signal_count ((n, parameter v) ∷ bindings) = signal_count bindings
 signal_count ((n, signal width signed) ∷ bindings) = signal_count bindings + 1
+
+-- the names that the declarations of the module make signals are announced
+abbrev pub AreAnnounced : ModuleTree → Known → Type 0
+AreAnnounced m known = (n : List ℕ)
+    → list_any (bytes_eq n) known.announced ≡ list_any (item_declares n) (all_items m)
+
+-- the scope has the names of the walk at the next declaration; above the limit of signals their
+-- numbers may differ
+pub record IsAhead (base : ℕ) (m : ModuleTree) (d : Declared) : Type 0 where
+  pub announced : AreAnnounced m d.scope
+  pub few : base + length d.signals.items ≤ 4096
 
 -- the scope has the names and numbers of the walk at the next declaration
 pub record IsSoFar (base : ℕ) (m : ModuleTree) (d : Declared) : Type 0 where

@@ -7,13 +7,13 @@ ghost use Rattle.sv_ast.specs.Instances.{all_items};
 ghost use Rattle.sv_ast.specs.Shape.{is_shaped_item, is_shaped_module};
 ghost use Rattle.sv_ast.specs.Views.{item_tree, module_tree};
 ghost use Rattle.sv_num.specs.declared.faults.Fault.TheVariants.{Rule};
-ghost use Rattle.sv_walk.specs.Declarations.{declaration_walk, declarations_walk, declared_until};
+ghost use Rattle.sv_walk.specs.Declarations.{declaration_walk, declarations_walk};
 ghost use Rattle.sv_walk.specs.Declarations.{nothing_declared};
 ghost use Rattle.sv_walk.specs.Names.{item_declares, names_of};
 ghost use Rattle.sv_width.specs.Answers.{IsBreach};
 ghost use Rattle.sv_width.specs.Scopes as scopes;
-ghost use Rattle.sv_declare.specs.Sites.{site_of, declared_of, header_items, IsSoFar};
-ghost use Rattle.sv_declare.specs.Steps.{Stops, AfterHeader, IsHeaderEnd};
+ghost use Rattle.sv_declare.specs.Sites.{site_of, declared_of, AreAnnounced, IsSoFar};
+ghost use Rattle.sv_declare.specs.Steps.{AfterHeader, IsHeaderEnd, HasHeader, StopsHeader};
 
 use crate::parameters::declare_param;
 use crate::signals::declare_signal;
@@ -27,8 +27,7 @@ use sv_width::Scope;
 // A scope in which the signals of a module are announced.
 fn announced(alloc: Global, master: &Module) -> Result<Scope, OutOfMemory>
     ensures empty { IfOk result (λ scope. scope.meanings ≡ []) }
-    ensures later { IfOk result (λ scope. (n : List ℕ) → list_any (bytes_eq n) scope.announced
-        ≡ list_any (item_declares n) (all_items (module_tree master.now))) }
+    ensures later { IfOk result (AreAnnounced (module_tree master.now)) }
 {
     let mut scope = Scope::new(alloc);
     for port in &master.ports {
@@ -90,66 +89,73 @@ fn declare_item(
         (declared_of declared.old) (item_tree item.now)).end ≡ Ok (declared_of declared.new)) }
     ensures so_far { OnOk result
         (IsSoFar site.now.base (module_tree site.now.master.now) declared.new) }
-    ensures stopped { IfErr result (Stops (declaration_walk site.now.base least.0 (site_of site.now)
-        (declared_of declared.old) (item_tree item.now)).end (declared_of declared.old)
-        declared.new) }
+    ensures broken { IfErr result (IsBreach
+        (declaration_walk site.now.base least.0 (site_of site.now)
+        (declared_of declared.old) (item_tree item.now)).end) }
 {
     match item {
         Item::Param(param) => declare_param(alloc, site, param, declared),
-        Item::Decl(decl) => declare_signal(alloc, least, site, decl, declared),
+        Item::Decl(decl) => match declare_signal(alloc, least, site, decl, declared)? {
+            Some(refusal) => Err(Fault::Rule(refusal)),
+            None => Ok(()),
+        },
         _ => Ok(()),
     }
 }
 
-// Declares what a header declares, up to the first that breaks a rule.
+// Declares what a header declares, up to the first that breaks another rule than 315, and keeps the
+// first refusal by that rule.
 fn declare_header(
     alloc: Global,
     least: Point,
     site: &Site,
-    declared: &mut Declared,
+    header: &mut Header,
 ) -> Result<(), Fault>
     requires shaped { IsTrue (is_shaped_module (module_tree site.now.master.now)) }
-    requires so_far { IsSoFar site.now.base (module_tree site.now.master.now) declared.old }
-    ensures found { OnOk result ((declarations_walk site.now.base least.0 (site_of site.now)
-        (declared_of declared.old) (header_items (module_tree site.now.master.now))).end
-        ≡ Ok (declared_of declared.new)) }
-    ensures so_far { OnOk result
-        (IsSoFar site.now.base (module_tree site.now.master.now) declared.new) }
-    ensures stopped { IfErr result (Stops
-        (declarations_walk site.now.base least.0 (site_of site.now)
-        (declared_of declared.old) (header_items (module_tree site.now.master.now))).end
-        (declared_until site.now.base least.0 (site_of site.now)
-        (declared_of declared.old) (header_items (module_tree site.now.master.now)))
-        declared.new) }
+    requires so_far { IsSoFar site.now.base (module_tree site.now.master.now)
+        header.old.declared }
+    requires first { declared_of header.old.declared ≡ nothing_declared }
+    requires passed { header.old.broken ≡ None }
+    ensures names { OnOk result (HasHeader site.now.base least.0 (site_of site.now)
+        header.new.declared.scope) }
+    ensures ends { OnOk result (IsHeaderEnd site.now.base least.0 (site_of site.now)
+        header.new.declared header.new.broken) }
+    ensures stopped { IfErr result (StopsHeader site.now.base least.0 (site_of site.now)
+        header.new) }
 {
     for param in &site.master.params {
-        declare_param(alloc, site, param, declared)?;
+        declare_param(alloc, site, param, &mut header.declared)?;
     }
     for port in &site.master.ports {
-        declare_signal(alloc, least, site, port, declared)?;
+        let over = declare_signal(alloc, least, site, port, &mut header.declared)?;
+        header.keep(over);
     }
     Ok(())
 }
 
 /// What the header of an instance's module declares, parameters and then ports (IEEE 1364-2005,
-/// clauses 4.10 and 12.3): up to the first declaration that breaks a rule, with the refusal of that
-/// one. Of each declaration are asked its range, its value unless the instance sets it, rule 312
-/// and, for a signal, rule 315.
+/// clauses 4.10 and 12.3), with the refusal of the first declaration that breaks a rule. Of each
+/// declaration are asked its range, its value unless the instance sets it, rule 312 and, for a
+/// signal, rule 315. The names go on behind one that breaks rule 315, and end at another rule.
 pub fn header(alloc: Global, tables: &Tables, site: &Site) -> Result<Header, OutOfMemory>
     requires few { site.now.base ≤ 4096 }
     requires shaped { IsTrue (is_shaped_module (module_tree site.now.master.now)) }
-    ensures until { IfOk result (λ h. declared_until site.now.base tables.now.least.0
-        (site_of site.now) nothing_declared (header_items (module_tree site.now.master.now))
-        ≡ declared_of h.declared) }
+    ensures names { IfOk result (λ h. HasHeader site.now.base tables.now.least.0
+        (site_of site.now) h.declared.scope) }
     ensures ends { IfOk result (λ h. IsHeaderEnd site.now.base tables.now.least.0
         (site_of site.now) h.declared h.broken) }
 {
-    let mut declared = Declared {
+    let declared = Declared {
         scope: announced(alloc, site.master)?,
         signals: Vec::new(alloc),
     };
-    let broken = refused(declare_header(alloc, tables.least, site, &mut declared))?;
-    Ok(Header { declared, broken })
+    let mut header = Header {
+        declared,
+        broken: None,
+    };
+    let stopped = refused(declare_header(alloc, tables.least, site, &mut header))?;
+    header.keep(stopped);
+    Ok(header)
 }
 
 // The refusal of a call that may be refused.

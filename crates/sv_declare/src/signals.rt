@@ -1,12 +1,14 @@
 // Declared signals.
-ghost use Rattle.std.specs.Prelude.{◌≡◌, ◌∷◌, [], ◌++◌, Ok, IfOk, IfErr, OnOk, IsTrue};
+ghost use Rattle.std.specs.Prelude.{◌≡◌, ◌∷◌, [], ◌++◌, None, IfOk, IfErr, OnOk, IsTrue};
 ghost use Rattle.std.specs.List.{join_with_byte};
 ghost use Rattle.sv_ast.specs.Shape.{is_shaped_declaration};
 ghost use Rattle.sv_ast.specs.Views.{declaration_tree, module_tree};
 ghost use Rattle.sv_flat.specs.Views.{signal_form};
-ghost use Rattle.sv_walk.specs.Declarations.{kind_of, declared_signal, signal_walk};
-ghost use Rattle.sv_declare.specs.Sites.{site_of, declared_of, IsSoFar};
-ghost use Rattle.sv_declare.specs.Steps.{Stops};
+ghost use Rattle.sv_walk.specs.Declarations.{kind_of, declared_signal, signal_ahead, signal_walk};
+ghost use Rattle.sv_walk.specs.Rules.{too_many};
+ghost use Rattle.sv_width.specs.Answers.{step_of};
+ghost use Rattle.sv_declare.specs.Sites.{site_of, declared_of, IsSoFar, IsAhead};
+ghost use Rattle.sv_declare.specs.Steps.{Answers, Binds, BindsNone};
 
 use crate::ranges::optional_width;
 use crate::sites::{Declared, Site};
@@ -14,8 +16,7 @@ use std::alloc::Global;
 use sv_ast::{Decl, DeclKind};
 use sv_flat::{SigId, SigKind, Signal};
 use sv_lattice::{Label, Point};
-use sv_num::{Fault, Name, OutOfMemory};
-use sv_width::refusal;
+use sv_num::{Fault, Name, OutOfMemory, Place, Refusal};
 
 // The most signals that a design has.
 const MOST_SIGNALS: usize = 4096;
@@ -68,36 +69,55 @@ fn new_signal(
     })
 }
 
-/// Declares a signal, with the least point as its label. Its range is asked, then rule 312, and
-/// then rule 315; where one of them is broken, nothing is declared.
+// The refusal of the signal at a place by the limit of signals.
+fn too_many(alloc: Global, place: Place) -> Refusal
+    ensures { step_of result ≡ too_many place }
+{
+    Refusal {
+        number: 315,
+        place,
+        names: Vec::new(alloc),
+    }
+}
+
+/// Declares a signal, with the least point as its label. Its range is asked, and then rule 312;
+/// where one of them is broken, nothing is declared. Above the limit of signals the name alone is
+/// declared, with a number that no signal has, and the answer is the refusal by rule 315.
 pub fn declare_signal(
     alloc: Global,
     least: Point,
     site: &Site,
     decl: &Decl,
     declared: &mut Declared,
-) -> Result<(), Fault>
+) -> Result<Option<Refusal>, Fault>
     requires shaped { IsTrue (is_shaped_declaration (declaration_tree decl.now)) }
-    requires so_far { IsSoFar site.now.base (module_tree site.now.master.now) declared.old }
-    ensures found { OnOk result ((signal_walk site.now.base least.0 (site_of site.now)
-        (declared_of declared.old) (declaration_tree decl.now)).end ≡
-        Ok (declared_of declared.new)) }
-    ensures so_far { OnOk result
-        (IsSoFar site.now.base (module_tree site.now.master.now) declared.new) }
-    ensures stopped { IfErr result (Stops (signal_walk site.now.base least.0 (site_of site.now)
-        (declared_of declared.old) (declaration_tree decl.now)).end
-        (declared_of declared.old) declared.new) }
+    requires ahead { IsAhead site.now.base (module_tree site.now.master.now) declared.old }
+    ensures found { IfOk result (Answers (signal_walk site.now.base least.0 (site_of site.now)
+        (declared_of declared.old) (declaration_tree decl.now)).end declared.new) }
+    ensures so_far { IfOk result (λ over. over ≡ None
+        → IsSoFar site.now.base (module_tree site.now.master.now) declared.old
+        → IsSoFar site.now.base (module_tree site.now.master.now) declared.new) }
+    ensures names { OnOk result (Binds (λ so_far. (signal_ahead site.now.base least.0
+        (site_of site.now) so_far (declaration_tree decl.now)).end)
+        declared.old.scope declared.new.scope) }
+    ensures ahead { OnOk result
+        (IsAhead site.now.base (module_tree site.now.master.now) declared.new) }
+    ensures stopped { IfErr result (BindsNone (λ so_far. (signal_ahead site.now.base least.0
+        (site_of site.now) so_far (declaration_tree decl.now)).end)
+        declared.old.scope declared.new.scope) }
 {
     let width = optional_width(alloc, &decl.span, &declared.scope)?.unwrap_or(1);
     let number = site.base + declared.signals.len();
-    if number >= MOST_SIGNALS && declared.scope.find(&decl.name).is_none() {
-        return Err(refusal(alloc, 315, decl.place));
-    }
-    let signal = new_signal(alloc, site, decl, width, least)?;
+    let signal = SigId(number as u32);
     let name = decl.name.copy(alloc)?;
     declared
         .scope
-        .add_signal(name, decl.place, SigId(number as u32), width, decl.signed)?;
-    declared.signals.push(signal)?;
-    Ok(())
+        .add_signal(name, decl.place, signal, width, decl.signed)?;
+    if number >= MOST_SIGNALS {
+        return Ok(Some(too_many(alloc, decl.place)));
+    }
+    declared
+        .signals
+        .push(new_signal(alloc, site, decl, width, least)?)?;
+    Ok(None)
 }

@@ -6,4 +6,5 @@ pub mod StepExamples
 pub mod DesignExamples
 pub mod WalkLemmas
 pub mod DeclarationLemmas
+pub mod ConstantLemmas
 pub mod LatticeLemmas

@@ -1,16 +1,19 @@
 -- The steps of a small text in order, and the limits of signals and instances.
-use Rattle.std.proofs.Common.{◌≡◌, ℕ, true, [], ◌∷◌, None, refl}
+use Rattle.std.proofs.Common.{◌≡◌, ℕ, true, [], ◌∷◌, map, None, refl}
 use Rattle.std.specs.Prelude.{codes, Err, is_ok}
 use Rattle.sv_num.specs.declared.operators.BinOp.TheVariants as binop
-use Rattle.sv_ast.specs.Tree.{ModuleTree, TextTree}
+use Rattle.sv_ast.specs.Tree.{declared, LinkTrees, ordered_links, ModuleTree, TextTree}
 use Rattle.sv_walk.specs.Rules.{no_top, twice, too_many, bad_range, unknown_name, not_constant}
-use Rattle.sv_walk.specs.Declarations.{Site, nothing_declared, signal_walk}
+use Rattle.sv_walk.specs.Rules.{zero_divisor}
+use Rattle.sv_walk.specs.Names.{Names, names_of}
+use Rattle.sv_walk.specs.Declarations.{Site, nothing_declared, signal_walk, declarations_walk}
 use Rattle.sv_walk.specs.LabelSteps.{Tables}
-use Rattle.sv_walk.specs.InstanceSteps.{Built, site_walk}
+use Rattle.sv_walk.specs.Links.{links_walk}
+use Rattle.sv_walk.specs.InstanceSteps.{Built, ports_of, site_walk}
 use Rattle.sv_walk.specs.Texts.{walk_of}
 use Rattle.sv_walk.proofs.Computing.{computing}
-use Rattle.sv_walk.proofs.SmallTexts.{at, name, decimal, op, range, input, wire_with, no_overrides}
-use Rattle.sv_walk.proofs.SmallTexts.{no_links, stands, module_of, text_of}
+use Rattle.sv_walk.proofs.SmallTexts.{at, name, decimal, bits, op, range, input, wire_with}
+use Rattle.sv_walk.proofs.SmallTexts.{no_overrides, no_links, stands, module_of, text_of}
 
 -- module m(input a); wire [3:0] w = a + 1; endmodule
 abbrev small : TextTree
@@ -69,3 +72,39 @@ pub a_signal_too_many : (signal_walk 4096 0 site nothing_declared (input None "a
     Err (too_many (at 16))
 unfolding computing
 a_signal_too_many = refl
+
+-- module s(input [7:0] p); endmodule, as `s u(4'd3 / (4'd15 + 4'd1));` behind 4,096 signals
+abbrev behind_all : Site
+behind_all = record {
+  path = codes "u" ∷ [];
+  around = codes "s" ∷ codes "m" ∷ [];
+  master = module_of "s" 8 [] (input (range (decimal 7 17) (decimal 0 19)) "p" 22 ∷ []) [];
+  set = [];
+}
+
+abbrev quotient : LinkTrees
+quotient =
+    ordered_links (op binop.Div 12 (bits 4 3 7) (op binop.Add 21 (bits 4 15 15) (bits 4 1 23)) ∷ [])
+
+abbrev around_it : Names
+around_it = names_of 0 []
+
+-- the port is one too many
+pub a_port_too_many :
+    (declarations_walk 4096 0 behind_all nothing_declared (map declared behind_all.master.ports)).end
+    ≡ Err (too_many (at 22))
+unfolding computing
+a_port_too_many = refl
+
+-- its link is taken at its 8 bits all the same, where the divisor is 16
+pub a_link_at_full_width : is_ok (links_walk around_it (ports_of 0 behind_all 4096) [] quotient).end
+    ≡ true
+unfolding computing
+a_link_at_full_width = refl
+
+-- at the 4 bits of the expression itself it would be 0
+pub a_link_at_no_width :
+    (links_walk around_it (record { base = 4096; master = behind_all.master; scope = λ n. None }) []
+    quotient).end ≡ Err (zero_divisor (at 21))
+unfolding computing
+a_link_at_no_width = refl

@@ -55,6 +55,12 @@ def signals(folder):
         lines += [f"  s u{i}(.a(a));" for i in range(4)]
         wanted = NOT_BUILT if wires == 1022 else f"refused 315 too-many {1 + wires}:8"
         check(f"{4 * (1 + wires) + 1} signals in instances", "\n".join([*lines, "endmodule"]) + "\n", wanted, folder)
+    # both links are taken at the 8 bits of the ports, of which the second or both are too many: at 4 bits the divisor would be 0
+    for wires, place in ((4094, 37), (4095, 22)):
+        for divisor, wanted in (("4'd15 + 4'd1", f"refused 315 too-many 1:{place}"), ("8'd255 + 8'd1", f"refused 405 zero-divisor {wires + 3}:28")):
+            lines = ["module s(input [7:0] p, input [7:0] q); endmodule", "module m(input a);", *[f"  wire w{i};" for i in range(wires)]]
+            lines += [f"  s u(4'd1, 4'd3 / ({divisor}));", "endmodule"]
+            check(f"a link to a port behind {wires + 1} signals, by {divisor}", "\n".join(lines) + "\n", wanted, folder)
 
 
 def instances(folder):

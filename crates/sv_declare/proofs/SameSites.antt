@@ -165,7 +165,7 @@ module _ (base least : ℕ) (s : Site) where
       let same : made ≡ next = cc b.2 in
       ap (λ (x : Declared). length x.signals) (sym same) ∙ length_push d.signals form
 
-  signal_signals : (d next : Declared) (p : DeclarationTree)
+  pub signal_signals : (d next : Declared) (p : DeclarationTree)
       → (signal_walk base least s d p).end ≡ Ok next
       → length next.signals ≡ length d.signals + 1
   signal_signals d next p h = ahead_signals d next p (signal_within base least s d next p h).0

@@ -12,12 +12,13 @@ use Rattle.sv_ast.specs.Instances.{entry, all_items, span_width, in_range}
 use Rattle.sv_ast.specs.Parts.{declarations, declaration_of}
 use Rattle.sv_flat.specs.Design.{SignalForm}
 use Rattle.sv_walk.specs.Walks.{Step, Walk, ask, done, then_walk, ◌>>=◌}
-use Rattle.sv_walk.specs.Rules.{twice, too_many}
+use Rattle.sv_walk.specs.Rules.{twice}
 use Rattle.sv_walk.specs.Names.{Names, names_at, is_bound}
 use Rattle.sv_walk.specs.Declarations.{Site, Declared, nothing_declared, range_steps, override_of}
-use Rattle.sv_walk.specs.Declarations.{final_walk, parameter_walk, signal_walk, declared_signal}
+use Rattle.sv_walk.specs.Declarations.{final_walk, parameter_walk}
 use Rattle.sv_walk.specs.Declarations.{declaration_walk, declarations_walk}
 use Rattle.sv_walk.specs.LabelSteps.{Tables, given_label, labels_walk}
+use Rattle.sv_declare.proofs.SameSites.{signal_signals}
 
 -- where the walk ends well, the measure of what it found is this number
 record Measures {X : Type 0} (size : X → ℕ) (k : ℕ) (r : Result X Step) : Type 0 where
@@ -58,7 +59,7 @@ module _ (base least : ℕ) (s : Site) where
   one_counted : (d : Declared) (item : ItemTree)
       → Measures signals_of (length d.signals + count (item ∷ []))
       (declaration_walk base least s d item).end
-  unfolding declaration_walk parameter_walk signal_walk
+  unfolding declaration_walk parameter_walk
   one_counted d (parameter_item p) =
       let names = names_at base s.master d.bindings in
       let k = length d.signals + 0 in
@@ -78,23 +79,7 @@ module _ (base least : ℕ) (s : Site) where
       (λ final. always signals_of k new.passed new.end (λ _. done (next final)) (λ z.
       here signals_of k (next final) same)))
   one_counted d (declared e) =
-      let names = names_at base s.master d.bindings in
-      let width = span_width names.scope e.span in
-      let k = length d.signals + 1 in
-      let next : Declared = record {
-        bindings = d.bindings ++ (e.name, signal width e.signed) ∷ [];
-        signals = d.signals ++ declared_signal s width least e ∷ [];
-      } in
-      let few = ask (nat_lt (base + length d.signals) 4096) (too_many e.place) in
-      let new = ask (not (is_bound (entry d.bindings e.name))) (twice e.place e.name) in
-      let last : Walk Declared = few >>= λ _. done next in
-      let rest : Walk Declared = new >>= λ _. last in
-      always signals_of k (range_steps names e.span).passed (range_steps names e.span).end
-      (λ _. rest)
-      (λ x. always signals_of k new.passed new.end (λ _. last)
-      (λ y. always signals_of k few.passed few.end (λ _. done next)
-      (λ z. here signals_of k next
-      (length-append d.signals (declared_signal s width least e ∷ [])))))
+      record { says = λ next h. signal_signals base least s d next e h }
   one_counted d (memory_item m) =
       let same : length d.signals ≡ length d.signals + 0 = omega arith in
       here signals_of (length d.signals + 0) d same

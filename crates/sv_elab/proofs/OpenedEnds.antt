@@ -12,7 +12,6 @@ use Rattle.sv_flat.specs.Design.{SignalForm, ProcessForm}
 use Rattle.sv_walk.specs.Walks.{Step}
 use Rattle.sv_walk.specs.Names.{Names, names_of}
 use Rattle.sv_walk.specs.Declarations.{Site, Declared, nothing_declared, declarations_walk}
-use Rattle.sv_walk.specs.Declarations.{declared_until}
 use Rattle.sv_walk.specs.LabelSteps.{Tables, labels_walk}
 use Rattle.sv_walk.specs.InstanceSteps.{Built, ports_of}
 use Rattle.sv_walk.specs.Links.{Ports, links_walk}
@@ -20,6 +19,7 @@ use Rattle.sv_walk.proofs.WalkLemmas.{end_after, end_broken}
 use Rattle.sv_width.specs.declared.meanings.Meaning.{Meaning}
 use Rattle.sv_width.specs.Scopes.{Known, binding_of}
 use Rattle.sv_declare.specs.Sites.{bindings_in, header_items}
+use Rattle.sv_declare.specs.Steps.{HasHeader}
 use Rattle.sv_declare.proofs.NameLemmas.{bindings_same}
 use Rattle.sv_elab.specs.Instances.{opened_walk, linked_walk, ports_with}
 
@@ -65,16 +65,14 @@ declared_taken (m ∷ ms) n = by (bytes_eq n m.0) (declared_taken ms n)
     by true rest = refl
     by false rest = rest
 
--- the ports of a header, as far as it breaks no rule
-pub ports_are : (base least : ℕ) (site : Site) (known : Known) (signals : List SignalForm)
-    → declared_until base least site nothing_declared (header_items site.master)
-    ≡ record { bindings = bindings_in known; signals = signals }
-    → ports_of least site base ≡ ports_with base site.master known
+-- the ports of a header, as far as it breaks no rule but the limit of signals
+pub ports_are : (base least : ℕ) (site : Site) (known : Known)
+    → HasHeader base least site known → ports_of least site base ≡ ports_with base site.master known
 unfolding ports_of
-ports_are base least site known signals until =
-    ap (λ (d : Declared).
-    let p : Ports = record { base = base; master = site.master; scope = entry d.bindings } in
-    p) until
+ports_are base least site known names =
+    ap (λ (bs : List (List ℕ × Binding)).
+    let p : Ports = record { base = base; master = site.master; scope = entry bs } in
+    p) names
     ∙ ap (λ (s : Scope). let p : Ports = record { base = base; master = site.master; scope = s } in
     p) (bindings_same known)
 

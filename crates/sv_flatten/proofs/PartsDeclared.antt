@@ -17,14 +17,15 @@ use Rattle.sv_ast.specs.Instances.{entry, span_width, in_range, bindings_after}
 use Rattle.sv_ast.specs.Parts.{declaration_of}
 use Rattle.sv_flat.specs.Design.{SignalForm}
 use Rattle.sv_walk.specs.Walks.{done, ask}
-use Rattle.sv_walk.specs.Rules.{twice, too_many, bad_range}
+use Rattle.sv_walk.specs.Rules.{twice, bad_range}
 use Rattle.sv_walk.specs.Names.{Names, is_bound, names_at, number_from, place_of}
 use Rattle.sv_walk.specs.ExpressionSteps.{asked, own_divisors, constant_walk}
 use Rattle.sv_walk.specs.Declarations.{Site, Declared, is_range, range_steps, override_of}
-use Rattle.sv_walk.specs.Declarations.{final_walk, parameter_walk, declared_signal, signal_walk}
-use Rattle.sv_walk.specs.Declarations.{declaration_walk, declarations_walk}
+use Rattle.sv_walk.specs.Declarations.{final_walk, parameter_walk, declared_signal, signal_ahead}
+use Rattle.sv_walk.specs.Declarations.{signal_walk, declaration_walk, declarations_walk}
 use Rattle.sv_width.specs.Agreement.{IsLength}
 use Rattle.sv_walk.proofs.WalkLemmas.{parts_done, asked_true}
+use Rattle.sv_walk.proofs.DeclarationLemmas.{signal_within}
 use Rattle.sv_flatten.proofs.PartsBindings.{entry_old, entry_new, entry_cases}
 use Rattle.sv_flatten.proofs.PartsBindings.{last_entry, signals_in, signals_in_more, number_new}
 use Rattle.sv_flatten.proofs.PartsBindings.{number_old}
@@ -131,18 +132,17 @@ module _ (base least : ℕ) (site : Site) where
   signal_done : (a : Declared) (d : DeclarationTree) (next : Declared)
       → (signal_walk base least site a d).end ≡ Ok next
       → (entry a.bindings d.name ≡ None) × IsLength (width_after a d) × (next ≡ with_signal a d)
-  unfolding signal_walk
+  unfolding signal_ahead
   signal_done a d next h =
       let names = names_at base site.master a.bindings in
-      let first = parts_done (range_steps names d.span) _ next h in
+      let first = parts_done (range_steps names d.span) _ next
+      (signal_within base least site a next d h).0 in
       let second = parts_done
-      (ask (not (is_bound (entry a.bindings d.name))) (twice d.place d.name)) _ next first.2 in
-      let third = parts_done (ask (nat_lt (base + length a.signals) 4096) (too_many d.place)) _ next
-      second.2 in (
+      (ask (not (is_bound (entry a.bindings d.name))) (twice d.place d.name)) _ next first.2 in (
         unbound (entry a.bindings d.name)
             (asked_true (not (is_bound (entry a.bindings d.name))) (twice d.place d.name) second.1),
         range_length names d.span first.0 first.1,
-        sym (same_ok _ next third.2),
+        sym (same_ok _ next second.2),
       )
 
   pub walked : (items : List ItemTree) (a w : Declared) →

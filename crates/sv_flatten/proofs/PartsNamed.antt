@@ -23,12 +23,11 @@ use Rattle.sv_ast.specs.Parts.{Part, part_with, PartSignal, declaration_of, decl
 use Rattle.sv_ast.specs.Parts.{signals_of}
 use Rattle.sv_walk.specs.Names.{Names, names_of}
 use Rattle.sv_walk.specs.Declarations.{Site, Declared, override_of, nothing_declared}
-use Rattle.sv_walk.specs.Declarations.{declarations_walk, declared_until}
+use Rattle.sv_walk.specs.Declarations.{declarations_walk}
 use Rattle.sv_walk.specs.Links.{port_number}
-use Rattle.sv_walk.specs.Walks.{Step}
 use Rattle.sv_walk.specs.InstanceSteps.{ports_of}
 use Rattle.sv_walk.proofs.WalkLemmas.{parts_done}
-use Rattle.sv_walk.proofs.DeclarationLemmas.{declared_in_two}
+use Rattle.sv_walk.proofs.DeclarationLemmas.{declared_in_two, until_done}
 use Rattle.sv_width.specs.Agreement.{AllDeclared, IsLength}
 use Rattle.sv_flat.proofs.Depths.{from_all}
 use Rattle.sv_flatten.proofs.PartsLists.{StandsAt, contains_left, contains_right, filter_map_append}
@@ -308,21 +307,6 @@ module _ {X : Type 0} where
       Some x = sym (ap (λ b. cond b (Some y) (find test xs)) yes') ∙ e in cc in s) ∙ yes')
       (λ no'. find_passes test xs x (sym (ap (λ b. cond b (Some y) (find test xs)) no') ∙ e))
       (cases_Bool (test y))
-
--- what the declarations of a header have made, where they break no rule
-until_done : (base least : ℕ) (site : Site) (items : List ItemTree) (a w : Declared)
-    → (declarations_walk base least site a items).end ≡ Ok w
-    → declared_until base least site a items ≡ w
-unfolding declarations_walk declared_until
-until_done base least site [] a w h = same_ok a w h
-until_done base least site (item ∷ items) a w h =
-    let first = parts_done
-    (Rattle.sv_walk.specs.Declarations.declaration_walk base least site a item)
-    (λ next. declarations_walk base least site next items) w h in
-    subst (λ r. elim r as (λ (x : Result Declared Step). Declared) [
-      | Ok next ↦ declared_until base least site next items
-      | Err s ↦ a
-    ] ≡ w) (sym first.1) (until_done base least site items first.0 w first.2)
 
 -- the number and scope of a port are known before its instance is walked
 pub port_ahead : (base least : ℕ) (site : Site) (w : Declared)

@@ -23,14 +23,16 @@ use Rattle.sv_walk.specs.Targets.{assignment_walk}
 use Rattle.sv_walk.specs.Statements.{statement_walk}
 use Rattle.sv_walk.specs.Declarations.{Site, Declared, declared_signal, nothing_declared}
 use Rattle.sv_walk.specs.Declarations.{range_steps, override_of, final_walk, parameter_walk}
-use Rattle.sv_walk.specs.Declarations.{signal_walk, declaration_walk, declarations_walk}
+use Rattle.sv_walk.specs.Declarations.{signal_ahead, signal_walk, declaration_walk}
+use Rattle.sv_walk.specs.Declarations.{declarations_walk}
 use Rattle.sv_walk.specs.LabelSteps.{Tables, given_label, labels_walk}
 use Rattle.sv_walk.specs.Overrides.{overrides_walk}
 use Rattle.sv_walk.specs.Links.{links_walk}
 use Rattle.sv_walk.specs.InstanceSteps.{Built, ports_of, value_walk, assign_walk, always_walk}
 use Rattle.sv_walk.specs.InstanceSteps.{instance_walk, instance_names, item_walk, items_from}
 use Rattle.sv_walk.specs.InstanceSteps.{module_walk, site_walk}
-use Rattle.sv_walk.proofs.WalkLemmas.{parts_done, asked_true}
+use Rattle.sv_walk.proofs.WalkLemmas.{parts_done}
+use Rattle.sv_walk.proofs.DeclarationLemmas.{signal_within}
 use Rattle.sv_flatten.proofs.PartsDeclared.{same_ok}
 
 -- ---- declarations
@@ -54,20 +56,18 @@ module _ (base least : ℕ) (site : Site) where
 
   signal_few : (a : Declared) (d : DeclarationTree) (next : Declared) →
       (signal_walk base least site a d).end ≡ Ok next → AreFew next
-  unfolding signal_walk
+  unfolding signal_ahead
   signal_few a d next h =
       let names = names_at base site.master a.bindings in
-      let first = parts_done (range_steps names d.span) _ next h in
+      let within = signal_within base least site a next d h in
+      let first = parts_done (range_steps names d.span) _ next within.0 in
       let second = parts_done
       (ask (not (is_bound (entry a.bindings d.name))) (twice d.place d.name)) _ next first.2 in
-      let third = parts_done (ask (nat_lt (base + length a.signals) 4096) (too_many d.place)) _ next
-      second.2 in
       let room : base + length a.signals < 4096 =
-      ltb-true (base + length a.signals) 4096
-      (asked_true (nat_lt (base + length a.signals) 4096) (too_many d.place) third.1) in
+      ltb-true (base + length a.signals) 4096 within.1 in
       let longer = length-append a.signals
       (declared_signal site (span_width names.scope d.span) least d ∷ []) in
-      subst AreFew (same_ok _ next third.2) (omega arith)
+      subst AreFew (same_ok _ next second.2) (omega arith)
 
   pub declared_few : (items : List ItemTree) (a w : Declared)
       → (declarations_walk base least site a items).end ≡ Ok w

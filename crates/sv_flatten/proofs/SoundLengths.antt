@@ -11,14 +11,15 @@ use Rattle.sv_ast.specs.Shape.{is_shaped_expression, is_shaped_override, are_sha
 use Rattle.sv_ast.specs.Instances.{entry, span_width, in_range, open_parameters}
 use Rattle.sv_flat.proofs.Depths.{from_all}
 use Rattle.sv_walk.specs.Walks.{ask}
-use Rattle.sv_walk.specs.Rules.{twice, too_many, wrong_override}
+use Rattle.sv_walk.specs.Rules.{twice, wrong_override}
 use Rattle.sv_walk.specs.Names.{Names, is_bound, names_at}
 use Rattle.sv_walk.specs.ExpressionSteps.{asked, constant_walk}
 use Rattle.sv_walk.specs.Declarations.{Site, Declared, range_steps, override_of, final_walk}
-use Rattle.sv_walk.specs.Declarations.{parameter_walk, signal_walk, declaration_walk}
-use Rattle.sv_walk.specs.Declarations.{declarations_walk}
+use Rattle.sv_walk.specs.Declarations.{parameter_walk, signal_ahead, signal_walk}
+use Rattle.sv_walk.specs.Declarations.{declaration_walk, declarations_walk}
 use Rattle.sv_walk.specs.Overrides.{is_open, named_walk, ordered_walk, overrides_walk}
 use Rattle.sv_walk.proofs.WalkLemmas.{parts_done}
+use Rattle.sv_walk.proofs.DeclarationLemmas.{signal_within}
 use Rattle.sv_width.specs.Agreement.{HaveLengths, IsLength}
 use Rattle.sv_width.proofs.Sound.{passed_sound}
 use Rattle.sv_width.proofs.Lengths.{own_length}
@@ -102,15 +103,14 @@ module _ (base least : ℕ) (site : Site) (set_long : SetHasLengths site.set) wh
   signal_long : (a : Declared) (d : DeclarationTree) (next : Declared)
       → (signal_walk base least site a d).end ≡ Ok next
       → HaveLengths (entry a.bindings) → HaveLengths (entry next.bindings)
-  unfolding signal_walk
+  unfolding signal_ahead
   signal_long a d next h lengths =
       let names = names_at base site.master a.bindings in
-      let first = parts_done (range_steps names d.span) _ next h in
+      let first = parts_done (range_steps names d.span) _ next
+      (signal_within base least site a next d h).0 in
       let second = parts_done
       (ask (not (is_bound (entry a.bindings d.name))) (twice d.place d.name)) _ next first.2 in
-      let third = parts_done (ask (nat_lt (base + length a.signals) 4096) (too_many d.place)) _ next
-      second.2 in
-      subst (λ (x : Declared). HaveLengths (entry x.bindings)) (same_ok _ next third.2)
+      subst (λ (x : Declared). HaveLengths (entry x.bindings)) (same_ok _ next second.2)
       (one_more_long a.bindings d.name (signal (span_width names.scope d.span) d.signed) lengths
       (range_length names d.span first.0 first.1))
 

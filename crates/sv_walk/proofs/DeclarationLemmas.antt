@@ -1,6 +1,6 @@
 -- The declarations of a header may be walked ahead of the others, and those of names ahead of the
 -- limit of signals.
-use Rattle.std.proofs.Common.{◌≡◌, ℕ, ◌+◌, true, List, [], ◌∷◌, ◌++◌, length, refl, sym, ◌∙◌, subst}
+use Rattle.std.proofs.Common.{◌≡◌, ℕ, ◌+◌, true, List, [], ◌∷◌, ◌++◌, length, refl, sym, ◌∙◌}
 use Rattle.std.specs.Prelude.{Result, Ok, Err, nat_lt}
 use Rattle.sv_ast.specs.Tree.{ItemTree, DeclarationTree, parameter_item, declared, memory_item}
 use Rattle.sv_ast.specs.Tree.{continuous, released, always_item, invariant_item, instance_item}

@@ -1,7 +1,7 @@
 use Rattle.std.proofs.Common.{map, ap, ◌∙◌}
 use Rattle.std.proofs.lemmas.Result.{err_from_is_err_and}
 use Rattle.sv_ast.specs.Views.{link_trees}
-use Rattle.sv_flat.specs.Views.{signal_form, process_form}
+use Rattle.sv_flat.specs.Views.{process_form}
 use Rattle.sv_walk.specs.Links.{Ports, links_walk}
 use Rattle.sv_width.specs.Scopes.{names_of}
 use Rattle.sv_declare.specs.Sites.{site_of}
@@ -19,8 +19,7 @@ returns-in_err-add_links-clause-broken c =
     let ps = map process_form c.args.processes.now.items in
     let ls = link_trees c.args.links.now in
     let d = c.in_ok-declared.field-0.declared in
-    let ported = ports_are base least site d.scope (map signal_form d.signals.items)
-    c.in_ok-declared.ensures.until in
+    let ported = ports_are base least site d.scope c.in_ok-declared.ensures.names in
     let p = err_from_is_err_and c.from_residual-in_err-add_links.result
     c.from_residual-in_err-add_links.ensures.1 in
     rw (p.1, p.2)
@@ -38,8 +37,7 @@ returns-in-Some-clause-broken c =
     let ps = map process_form c.args.processes.now.items in
     let ls = link_trees c.args.links.now in
     let d = c.in_ok-declared.field-0.declared in
-    let ported = ports_are base least site d.scope (map signal_form d.signals.items)
-    c.in_ok-declared.ensures.until in
+    let ported = ports_are base least site d.scope c.in_ok-declared.ensures.names in
     let ends = rw c.in-Some.is at c.in_ok-declared.ensures.ends in
     header_broken outer least site base ps ls (map process_form c.add_links.new.processes.items)
     (ap (λ (k : Ports). (links_walk outer k ps ls).end) ported
@@ -54,6 +52,5 @@ returns-in-None-clause-found c =
     let ps = map process_form c.args.processes.now.items in
     let ls = link_trees c.args.links.now in
     let d = c.in_ok-declared.field-0.declared in
-    let ported = ports_are base least site d.scope (map signal_form d.signals.items)
-    c.in_ok-declared.ensures.until in
+    let ported = ports_are base least site d.scope c.in_ok-declared.ensures.names in
     ap (λ (k : Ports). (links_walk outer k ps ls).end) ported ∙ c.in_ok-add_links.ensures.found

@@ -3,6 +3,7 @@ pub mod Lists
 pub mod Entries
 pub mod NameLemmas
 pub mod StepLemmas
+pub mod SignalEnds
 pub mod Courses
 pub mod Headers
 pub mod SiteLemmas

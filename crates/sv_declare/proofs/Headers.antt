@@ -1,24 +1,24 @@
 -- The walk over the ports of a header, as its loop makes it: above the limit of signals the names go
 -- on, and the first refusal stays.
-use Rattle.std.proofs.Common.{◌≡◌, ℕ, Option, Some, None, List, [], ◌∷◌, refl, subst, ◌∙◌}
+use Rattle.std.proofs.Common.{◌≡◌, ℕ, Option, Some, None, List, [], ◌∷◌, refl, sym, subst, ◌∙◌}
 use Rattle.std.specs.Prelude.{Result, Ok, Err, OnOk, IfErr, IsOk, MatchOption}
 use Rattle.std.specs.Option.{option_or}
 use Rattle.sv_num.specs.declared.faults.Fault.{Fault}
 use Rattle.sv_num.specs.declared.faults.Fault.TheVariants.{Rule, OutOfMemory}
 use Rattle.sv_num.specs.declared.faults.Refusal.{Refusal}
-use Rattle.sv_ast.specs.Tree.{ItemTree, DeclarationTree, declared}
+use Rattle.sv_ast.specs.Tree.{ItemTree, DeclarationTree, ParameterTree, parameter_item, declared}
 use Rattle.sv_walk.specs.Walks.{Step, ◌>>=◌}
 use Rattle.sv_walk.specs.Declarations.{Site, Declared as WalkDeclared, nothing_declared}
-use Rattle.sv_walk.specs.Declarations.{signal_ahead, signal_walk, declaration_walk}
-use Rattle.sv_walk.specs.Declarations.{declarations_walk, declaration_ahead, declared_until}
+use Rattle.sv_walk.specs.Declarations.{parameter_walk, signal_ahead, signal_walk}
+use Rattle.sv_walk.specs.Declarations.{declaration_walk, declarations_walk, declaration_ahead}
 use Rattle.sv_width.specs.Answers.{step_of}
 use Rattle.sv_declare.specs.declared.sites.Declared.{Declared}
 use Rattle.sv_declare.specs.declared.sites.Header.{Header}
 use Rattle.sv_declare.specs.Sites.{declared_of, header_items, IsSoFar}
-use Rattle.sv_declare.specs.Steps.{Answers, Binds, BindsNone, AfterHeader, IsHeaderEnd, HasHeader}
+use Rattle.sv_declare.specs.Steps.{Stops, Answers, Binds, BindsNone, IsHeaderEnd, HasHeader}
 use Rattle.sv_declare.specs.Steps.{StopsHeader}
 use Rattle.sv_declare.proofs.Courses.{Course, course_more, course_stops, course_ends, Ahead}
-use Rattle.sv_declare.proofs.Courses.{ahead_more, ahead_stops, ahead_ends}
+use Rattle.sv_declare.proofs.Courses.{ahead_more, ahead_stops, Headed, headed_stops}
 use Rattle.sv_declare.proofs.StepLemmas.{signal_broken}
 
 module _ (base least : ℕ) (s : Site) where
@@ -87,6 +87,22 @@ module _ (base least : ℕ) (s : Site) where
     stops_here d t left r h.broken goes (stops.1 (declared_of d) refl) h.declared,
   )
   port_stops h d t left OutOfMemory ahead goes stops = tt
+
+  -- where a parameter breaks a rule
+  pub parameter_stops : (h : Header) (d : Declared) (p : ParameterTree) (left : List ItemTree)
+      (f : Fault)
+      → Headed base least s nothing_declared (header_items s.master) d (parameter_item p ∷ left)
+      → h.broken ≡ None
+      → Stops (parameter_walk base s (declared_of d) p).end (declared_of d) h.declared f
+      → StopsHeader base least s h f
+  parameter_stops h d p left (Rule r) headed none stops =
+      let stop = headed_stops base least s nothing_declared (header_items s.master) d h.declared
+      (step_of r) p left headed stops.0 stops.1 in (
+        stop.0,
+        subst (λ (b : Option Refusal).
+            IsHeaderEnd base least s h.declared (option_or b (Some r))) (sym none) stop.1,
+      )
+  parameter_stops h d p left OutOfMemory headed none stops = tt
 
   pub ports_end : (d : Declared) (broken : Option Refusal) → Goes d [] broken
       → IsHeaderEnd base least s d broken

@@ -5,22 +5,25 @@ use Rattle.std.specs.Prelude.{Result, Ok, Err, is_some, unwrap_or}
 use Rattle.sv_num.specs.declared.faults.Fault.{Fault}
 use Rattle.sv_num.specs.declared.faults.Fault.TheVariants.{Rule, OutOfMemory}
 use Rattle.sv_ast.specs.Scopes.{Binding, Scope, signal}
-use Rattle.sv_ast.specs.Tree.{DeclarationTree}
+use Rattle.sv_ast.specs.Tree.{DeclarationTree, ModuleTree}
 use Rattle.sv_ast.specs.Instances.{entry, span_width}
 use Rattle.sv_flat.specs.declared.signals.SigId.{SigId}
 use Rattle.sv_walk.specs.Walks.{Step, Steps}
-use Rattle.sv_walk.specs.Names.{is_bound, names_at}
+use Rattle.sv_walk.specs.Names.{Names, is_bound, names_at}
 use Rattle.sv_walk.specs.Declarations.{Site, Declared, range_steps, declared_signal, signal_ahead}
+use Rattle.sv_walk.specs.Declarations.{signal_walk}
 use Rattle.sv_width.specs.declared.meanings.Meaning.{Meaning}
 use Rattle.sv_width.specs.declared.meanings.Meaning.TheVariants as meaning
 use Rattle.sv_width.specs.Answers.{IsBreach, step_of}
 use Rattle.sv_width.specs.Scopes.{Known, names_ahead, meaning_of, bindings_of, IsWithSignal, IsTwice}
 use Rattle.sv_declare.specs.Ranges.{IsRange}
-use Rattle.sv_declare.specs.Sites.{AreAnnounced, bindings_in}
+use Rattle.sv_declare.specs.declared.sites.Declared.{Declared as CodeDeclared}
+use Rattle.sv_declare.specs.Sites.{AreAnnounced, IsAhead, IsSoFar, bindings_in}
 use Rattle.sv_declare.specs.Steps.{Binds, BindsNone}
 use Rattle.sv_declare.proofs.NameLemmas.{bindings_more, bindings_same, bound_is, range_there}
 use Rattle.sv_declare.proofs.NameLemmas.{width_is}
 use Rattle.sv_declare.proofs.StepLemmas.{signal_range_stops, signal_twice, signal_found}
+use Rattle.sv_declare.proofs.StepLemmas.{signal_broken}
 
 module _ (base least : ℕ) (site : Site) (old : Known) (announced : AreAnnounced site.master old)
     (t : DeclarationTree) where
@@ -110,3 +113,20 @@ module _ (base least : ℕ) (site : Site) (old : Known) (announced : AreAnnounce
 
       pub signal_binds : Binds ends old new
       signal_binds so_far same = (made so_far, signal_made_so so_far same, refl)
+
+-- the names and numbers of the walk are its names
+pub is_ahead : (base : ℕ) (m : ModuleTree) (d : CodeDeclared) → IsSoFar base m d → IsAhead base m d
+is_ahead base m d so_far = record {
+  announced = λ n. ap (λ (names : Names). names.later n) so_far.names;
+  few = so_far.few;
+}
+
+-- where a rule is broken ahead of the limit, it is broken
+pub none_broken : (base least : ℕ) (site : Site) (t : DeclarationTree) (d : Declared)
+    (old new : Known) (f : Fault)
+    → d.bindings ≡ bindings_in old
+    → BindsNone (λ so_far. (signal_ahead base least site so_far t).end) old new f
+    → IsBreach (signal_walk base least site d t).end f
+none_broken base least site t d old new (Rule r) same h =
+    signal_broken base least site d t (step_of r) (h.1 d same)
+none_broken base least site t d old new OutOfMemory same h = tt

@@ -4,10 +4,8 @@ use Rattle.std.proofs.lemmas.Result.{err_from_is_err_and}
 use Rattle.sv_ast.specs.declared.modules.Item.{Item}
 use Rattle.sv_ast.specs.Shape.{is_shaped_item}
 use Rattle.sv_ast.specs.Views.{item_tree}
-use Rattle.sv_walk.specs.Declarations.{declarations_walk, declared_until}
 use Rattle.sv_declare.specs.Sites.{site_of, declared_of}
-use Rattle.sv_declare.proofs.Courses.{Course, course_more, course_stops, course_ends}
-use Rattle.sv_declare.proofs.Faults.{stops_breach}
+use Rattle.sv_declare.proofs.Courses.{Course, course_more, course_broken, course_ends}
 use Rattle.sv_declare.proofs.Lists.{left_more, left_none, all_parts}
 use Rattle.sv_declare.proofs.declarations.declare_items.Goals as goal
 
@@ -23,17 +21,14 @@ returns-in_err-declare_item-clause-broken c =
     let item = c.item-item.result in
     let split = left_more items i item c.loop-item-test.true c.item-item.is in
     let f = c.in_err-declare_item.field-0.0 in
-    let new = c.declare_item.new.declared in
     let p = err_from_is_err_and c.from_residual.result c.from_residual.ensures.1 in
     rw (p.1, p.2)
-    (stops_breach f (declarations_walk base least s from all).end
-    (declared_until base least s from all) new
-    (course_stops base least s from all c.loop-item.declared new (item_tree item)
+    (course_broken base least s from all c.loop-item.declared (item_tree item)
     (map item_tree (drop (i + 1) items)) f
     (subst (λ (is : List Item).
     Course base least s from all c.loop-item.declared (map item_tree is)) split
     c.loop-item.invariant.course)
-    c.in_err-declare_item.ensures.stopped))
+    c.in_err-declare_item.ensures.broken)
 
 pub loop-item-preserved : goal.loop-item-preserved
 loop-item-preserved c =

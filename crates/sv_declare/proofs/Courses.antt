@@ -1,21 +1,20 @@
 -- The walk over a list of declarations, as a loop makes it: what is declared so far, and what is
 -- left.
-use Rattle.std.proofs.Common.{◌≡◌, ℕ, Option, Some, None, List, [], ◌∷◌, ◌++◌, refl, sym, ap, ◌∙◌}
-use Rattle.std.specs.Prelude.{Result, Ok, Err}
+use Rattle.std.proofs.Common.{◌≡◌, ℕ, List, [], ◌∷◌, ◌++◌, refl, sym, ap, ◌∙◌}
+use Rattle.std.specs.Prelude.{Ok, Err}
 use Rattle.sv_num.specs.declared.faults.Fault.{Fault}
-use Rattle.sv_num.specs.declared.faults.Fault.TheVariants.{Rule, OutOfMemory}
 use Rattle.sv_ast.specs.Tree.{ItemTree, ParameterTree, parameter_item}
-use Rattle.sv_walk.specs.Walks.{Step, ◌>>=◌}
+use Rattle.sv_walk.specs.Walks.{Step}
 use Rattle.sv_walk.specs.Declarations.{Site, Declared as WalkDeclared, parameter_walk}
 use Rattle.sv_walk.specs.Declarations.{declaration_walk, declarations_walk, declaration_ahead}
 use Rattle.sv_walk.specs.Declarations.{declared_until}
 use Rattle.sv_walk.proofs.WalkLemmas.{end_after, end_broken}
 use Rattle.sv_walk.proofs.DeclarationLemmas.{declared_in_two, until_next, until_stops}
-use Rattle.sv_width.specs.Answers.{IsBreach, step_of}
+use Rattle.sv_width.specs.Answers.{IsBreach}
 use Rattle.sv_width.specs.Scopes.{Known}
 use Rattle.sv_declare.specs.declared.sites.Declared.{Declared}
 use Rattle.sv_declare.specs.Sites.{bindings_in, declared_of, IsSoFar}
-use Rattle.sv_declare.specs.Steps.{Stops, Binds}
+use Rattle.sv_declare.specs.Steps.{Binds}
 use Rattle.sv_declare.proofs.Faults.{breach_on}
 
 module _ (base least : ℕ) (s : Site) where

@@ -1,13 +1,13 @@
 -- The walk over the ports of a header, as its loop makes it: above the limit of signals the names go
 -- on, and the first refusal stays.
 use Rattle.std.proofs.Common.{◌≡◌, ℕ, Option, Some, None, List, [], ◌∷◌, refl, sym, subst, ◌∙◌}
-use Rattle.std.specs.Prelude.{Result, Ok, Err, OnOk, IfErr, IsOk, MatchOption}
+use Rattle.std.specs.Prelude.{Result, Err}
 use Rattle.std.specs.Option.{option_or}
 use Rattle.sv_num.specs.declared.faults.Fault.{Fault}
 use Rattle.sv_num.specs.declared.faults.Fault.TheVariants.{Rule, OutOfMemory}
 use Rattle.sv_num.specs.declared.faults.Refusal.{Refusal}
 use Rattle.sv_ast.specs.Tree.{ItemTree, DeclarationTree, ParameterTree, parameter_item, declared}
-use Rattle.sv_walk.specs.Walks.{Step, ◌>>=◌}
+use Rattle.sv_walk.specs.Walks.{Step}
 use Rattle.sv_walk.specs.Declarations.{Site, Declared as WalkDeclared, nothing_declared}
 use Rattle.sv_walk.specs.Declarations.{parameter_walk, signal_ahead, signal_walk}
 use Rattle.sv_walk.specs.Declarations.{declaration_walk, declarations_walk, declaration_ahead}
@@ -15,7 +15,7 @@ use Rattle.sv_width.specs.Answers.{step_of}
 use Rattle.sv_declare.specs.declared.sites.Declared.{Declared}
 use Rattle.sv_declare.specs.declared.sites.Header.{Header}
 use Rattle.sv_declare.specs.Sites.{declared_of, header_items, IsSoFar}
-use Rattle.sv_declare.specs.Steps.{Stops, Answers, Binds, BindsNone, IsHeaderEnd, HasHeader}
+use Rattle.sv_declare.specs.Steps.{Stops, Answers, Binds, BindsNone, IsHeaderEnd}
 use Rattle.sv_declare.specs.Steps.{StopsHeader}
 use Rattle.sv_declare.proofs.Courses.{Course, course_more, course_stops, course_ends, Ahead}
 use Rattle.sv_declare.proofs.Courses.{ahead_more, ahead_stops, Headed, headed_stops}
@@ -111,33 +111,3 @@ module _ (base least : ℕ) (s : Site) where
     so_far = goes.so_far;
   }
   ports_end d (Some r) goes = goes
-
-  none_after : (r : Option Refusal) → r ≡ option_or r None
-  none_after None = refl
-  none_after (Some r) = refl
-
-  -- a header, where a refusal is told from want of memory
-  pub header_names : (h : Header) (answer : Result (Unit {0}) Fault) (stopped : Option Refusal)
-      → MatchOption stopped (IsOk answer) (λ r. answer ≡ Err (Rule r))
-      → OnOk answer (HasHeader base least s h.declared.scope)
-      → IfErr answer (StopsHeader base least s h) → HasHeader base least s h.declared.scope
-  header_names h (Ok u) stopped known names stops = names
-  header_names h (Err (Rule r)) stopped known names stops = stops.0
-  header_names h (Err OutOfMemory) None known names stops = absurd (cc known)
-  header_names h (Err OutOfMemory) (Some r) known names stops = absurd (cc known)
-
-  pub header_ends : (h : Header) (answer : Result (Unit {0}) Fault) (stopped : Option Refusal)
-      → MatchOption stopped (IsOk answer) (λ r. answer ≡ Err (Rule r))
-      → OnOk answer (IsHeaderEnd base least s h.declared h.broken)
-      → IfErr answer (StopsHeader base least s h)
-      → IsHeaderEnd base least s h.declared (option_or h.broken stopped)
-  header_ends h (Ok u) None known ends stops =
-      subst (IsHeaderEnd base least s h.declared) (none_after h.broken) ends
-  header_ends h (Ok u) (Some r) known ends stops = absurd (cc known)
-  header_ends h (Err (Rule r)) None known ends stops = absurd (cc known)
-  header_ends h (Err (Rule r)) (Some t) known ends stops =
-      let same : r ≡ t = cc known in
-      subst (λ (x : Refusal). IsHeaderEnd base least s h.declared (option_or h.broken (Some x))) same
-      stops.1
-  header_ends h (Err OutOfMemory) None known ends stops = absurd (cc known)
-  header_ends h (Err OutOfMemory) (Some r) known ends stops = absurd (cc known)

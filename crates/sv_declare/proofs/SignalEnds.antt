@@ -1,5 +1,5 @@
 -- How the declaration of a signal ends, from what its range and its name are found to be.
-use Rattle.std.proofs.Common.{◌≡◌, ℕ, ◌+◌, Bool, true, false, List, [], ◌∷◌, ◌++◌, Option, None}
+use Rattle.std.proofs.Common.{◌≡◌, ℕ, Bool, List, [], ◌∷◌, ◌++◌, Option, None}
 use Rattle.std.proofs.Common.{refl, sym, ap, subst, ◌∙◌}
 use Rattle.std.specs.Prelude.{Result, Ok, Err, is_some, unwrap_or}
 use Rattle.sv_num.specs.declared.faults.Fault.{Fault}
@@ -84,8 +84,10 @@ module _ (base least : ℕ) (site : Site) (old : Known) (announced : AreAnnounce
           ++ (t.name, signal (span_width (entry so_far.bindings) t.span) t.signed) ∷ []
           ≡ bindings_in new
       names_now so_far same =
-          ap (λ (bs : List (List ℕ × Binding)). bs ++ (t.name,
-          signal (span_width (entry so_far.bindings) t.span) t.signed) ∷ []) same
+          ap (λ (bs : List (List ℕ × Binding)). bs ++ (
+            t.name,
+            signal (span_width (entry so_far.bindings) t.span) t.signed,
+          ) ∷ []) same
           ∙ ap (λ (k : ℕ). bindings_in old ++ (t.name, signal k t.signed) ∷ [])
           (wide so_far same ∙ sym with.2)
           ∙ ap (λ (s : Bool). bindings_in old ++ (t.name, signal with.0.width s) ∷ []) (sym with.3)

@@ -1,7 +1,7 @@
 -- Modules as lists of declarations.
 use Rattle.std.proofs.Common.{◌≡◌, ℕ, Bool, true, false, ◌||◌, List, [], ◌∷◌, ◌++◌, map, refl, sym}
-use Rattle.std.proofs.Common.{ap, ◌∙◌, append_assoc}
-use Rattle.std.specs.Prelude.{◌&&◌, Result, Ok, Err, if◌then◌else◌}
+use Rattle.std.proofs.Common.{ap, ◌∙◌}
+use Rattle.std.specs.Prelude.{◌&&◌, Ok, Err, if◌then◌else◌}
 use Rattle.std.specs.List.{list_any, list_all}
 use Rattle.std.specs.Str.{bytes_eq}
 use Rattle.std.proofs.lemmas.Bool.{and_parts}
@@ -105,16 +105,6 @@ module _ (base least : ℕ) (s : Site) (d : WalkDeclared) where
       (signal_walk base least s d (declaration_tree t)).end
   unfolding declaration_walk
   item_signal i t is = ap (λ (j : Item). (declaration_walk base least s d (item_tree j)).end) is
-
-  pub header_parameter : (p : ParameterTree)
-      → (declaration_walk base least s d (parameter_item p)).end ≡ (parameter_walk base s d p).end
-  unfolding declaration_walk
-  header_parameter p = refl
-
-  pub header_port : (t : DeclarationTree)
-      → (declaration_walk base least s d (declared t)).end ≡ (signal_walk base least s d t).end
-  unfolding declaration_walk
-  header_port t = refl
 
   pub item_other : (i : Item) → ((p : Param) → i ≡ item.Param p → ⊥)
       → ((t : Decl) → i ≡ item.Decl t → ⊥)

@@ -1,11 +1,11 @@
 -- Where the walk of one declaration ends, by its steps.
-use Rattle.std.proofs.Common.{◌≡◌, ℕ, ◌+◌, Bool, true, false, List, [], ◌∷◌, ◌++◌, length, Option}
+use Rattle.std.proofs.Common.{◌≡◌, ℕ, ◌+◌, Bool, true, false, [], ◌∷◌, ◌++◌, length, Option}
 use Rattle.std.proofs.Common.{Some, None, refl, sym, ap, ◌∙◌, arith}
-use Rattle.std.specs.Prelude.{Result, Ok, Err, not, nat_lt, ℤ, pos, negsuc, option_map}
+use Rattle.std.specs.Prelude.{Ok, Err, not, nat_lt, ℤ}
 use Rattle.sv_num.specs.Vectors.{as_number}
 use Rattle.sv_ast.specs.Scopes.{Number, parameter, signal}
 use Rattle.sv_ast.specs.Tree.{ExpressionTree, SpanTree, DeclarationTree, ParameterTree}
-use Rattle.sv_ast.specs.Values.{constant_of, whole_number, length_of, signed_of}
+use Rattle.sv_ast.specs.Values.{constant_of, whole_number}
 use Rattle.sv_ast.specs.Instances.{entry, span_width, in_range}
 use Rattle.sv_walk.specs.Walks.{Step, Walk, Steps, ask, done, ◌>>=◌}
 use Rattle.sv_walk.specs.Rules.{twice, too_many, bad_range}

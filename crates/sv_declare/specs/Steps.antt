@@ -1,11 +1,10 @@
 -- How calls that declare answer.
-use Rattle.std.specs.Prelude.{◌≡◌, ℕ, List, [], ◌++◌, map, length, Result, Ok, Err, Option, Some}
+use Rattle.std.specs.Prelude.{◌≡◌, ℕ, Result, Ok, Err, Option, Some}
 use Rattle.std.specs.Prelude.{None}
 use Rattle.std.specs.Option.{option_or}
 use Rattle.sv_num.specs.declared.faults.Fault.{Fault}
 use Rattle.sv_num.specs.declared.faults.Fault.TheVariants.{Rule, OutOfMemory}
 use Rattle.sv_num.specs.declared.faults.Refusal.{Refusal}
-use Rattle.sv_ast.specs.Tree.{ItemTree}
 use Rattle.sv_walk.specs.Walks.{Step}
 use Rattle.sv_walk.specs.Declarations as walk
 use Rattle.sv_walk.specs.Declarations.{declarations_walk, declared_until, nothing_declared}

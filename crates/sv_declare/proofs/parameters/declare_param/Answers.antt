@@ -1,21 +1,19 @@
-use Rattle.std.proofs.Common.{◌≡◌, ℕ, List, [], ◌∷◌, ◌++◌, map, Bool, true, false, Option, Some}
-use Rattle.std.proofs.Common.{None, refl, sym, ap, subst, ◌∙◌}
+use Rattle.std.proofs.Common.{◌≡◌, ℕ, List, [], ◌∷◌, ◌++◌, Option}
+use Rattle.std.proofs.Common.{sym, ap, subst, ◌∙◌}
 use Rattle.std.specs.Prelude.{Result, Ok, Err, is_some}
 use Rattle.std.proofs.lemmas.Result.{err_from_is_err_and}
-use Rattle.sv_num.specs.declared.vectors.Bits.{Bits}
 use Rattle.sv_ast.specs.Scopes.{Number, Binding, parameter}
 use Rattle.sv_ast.specs.Views.{parameter_tree, module_tree}
-use Rattle.sv_flat.specs.Views.{signal_form}
 use Rattle.sv_walk.specs.Walks.{Step}
 use Rattle.sv_walk.specs.Declarations.{Declared as WalkDeclared, range_steps, override_of}
 use Rattle.sv_walk.specs.Declarations.{final_walk, parameter_walk}
 use Rattle.sv_walk.specs.Names.{names_at}
 use Rattle.sv_width.specs.declared.meanings.Meaning.{Meaning}
 use Rattle.sv_width.specs.declared.meanings.Meaning.TheVariants as meaning
-use Rattle.sv_width.specs.Scopes.{Known, names_ahead, number_of, meaning_of, with_meaning}
+use Rattle.sv_width.specs.Scopes.{Known, names_ahead, number_of, meaning_of}
 use Rattle.sv_declare.specs.Sites.{site_of, bindings_in, declared_of, signal_count}
 use Rattle.sv_declare.specs.Steps.{Stops}
-use Rattle.sv_declare.proofs.Faults.{breach_on, breach_twice, stops_at, ok_two, ok_each, err_two}
+use Rattle.sv_declare.proofs.Faults.{breach_on, breach_twice, stops_at, ok_two, err_two}
 use Rattle.sv_declare.proofs.NameLemmas.{bindings_more, bound_is, names_parameter}
 use Rattle.sv_declare.proofs.NameLemmas.{count_with_parameter, ranged_is}
 use Rattle.sv_declare.proofs.StepLemmas.{parameter_range_stops, value_stops, parameter_twice}

@@ -1,5 +1,5 @@
 use Rattle.std.proofs.Common.{◌≡◌, Option, Some, None, sym, ap, ◌∙◌}
-use Rattle.std.specs.Prelude.{Result, Ok, Err, option_map}
+use Rattle.std.specs.Prelude.{option_map}
 use Rattle.sv_num.specs.declared.vectors.Bits.{Bits}
 use Rattle.sv_ast.specs.Scopes.{Number}
 use Rattle.sv_ast.specs.Views.{expression_tree, parameter_tree}

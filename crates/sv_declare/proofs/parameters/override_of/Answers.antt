@@ -1,13 +1,12 @@
-use Rattle.std.proofs.Common.{◌≡◌, ℕ, Bool, true, false, List, Option, Some, None, refl, sym, ap}
+use Rattle.std.proofs.Common.{Bool, Option, sym, ap}
 use Rattle.std.proofs.Common.{◌∙◌}
 use Rattle.std.specs.Prelude.{option_map, is_some, ◌||◌}
 use Rattle.sv_num.specs.declared.vectors.Bits.{Bits}
 use Rattle.sv_ast.specs.Instances.{entry}
 use Rattle.sv_ast.specs.Views.{parameter_tree}
 use Rattle.sv_walk.specs.Names.{is_bound}
-use Rattle.sv_walk.specs.Declarations.{override_of}
 use Rattle.sv_width.specs.declared.meanings.Meaning.{Meaning}
-use Rattle.sv_width.specs.Scopes.{number_of, meaning_of}
+use Rattle.sv_width.specs.Scopes.{number_of}
 use Rattle.sv_declare.specs.Sites.{site_of, bindings_in}
 use Rattle.sv_declare.proofs.Entries.{lookup_is_entry}
 use Rattle.sv_declare.proofs.NameLemmas.{bound_is, settings_are, no_override, some_override}

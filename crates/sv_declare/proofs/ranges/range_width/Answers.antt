@@ -1,10 +1,9 @@
-use Rattle.std.proofs.Common.{◌≡◌, ℕ, ◌+◌, ◌≤◌, sym, ap, ◌∙◌, arith}
-use Rattle.std.specs.Prelude.{Result, Ok, Err, Some, ℤ}
+use Rattle.std.proofs.Common.{◌≡◌, ◌+◌, sym, ap, ◌∙◌, arith}
+use Rattle.std.specs.Prelude.{Err, Some, ℤ}
 use Rattle.std.proofs.lemmas.Result.{err_from_is_err_and}
 use Rattle.sv_num.specs.declared.faults.Place.{Place}
 use Rattle.sv_ast.specs.Values.{natural}
-use Rattle.sv_ast.specs.Views.{expression_tree, span_tree}
-use Rattle.sv_walk.specs.Walks.{Step}
+use Rattle.sv_ast.specs.Views.{span_tree}
 use Rattle.sv_walk.specs.Rules.{bad_range}
 use Rattle.sv_walk.specs.ExpressionSteps.{constant_walk}
 use Rattle.sv_walk.specs.Declarations.{range_steps}

@@ -1,4 +1,4 @@
-use Rattle.std.proofs.Common.{◌≡◌, ℕ, ◌+◌, ◌<◌, ◌≤◌, List, [], ◌∷◌, ◌++◌, length, map, true, false}
+use Rattle.std.proofs.Common.{◌≡◌, ℕ, ◌+◌, ◌<◌, List, [], ◌∷◌, ◌++◌, length, map, true, false}
 use Rattle.std.proofs.Common.{refl, sym, ap, subst, ◌∙◌, arith}
 use Rattle.std.specs.Prelude.{Ok, Err, nat_lt}
 use Rattle.std.proofs.lemmas.Bool.{lt-ltb, le-ltb}
@@ -10,7 +10,7 @@ use Rattle.sv_flat.specs.declared.signals.Signal.{Signal}
 use Rattle.sv_flat.specs.Design.{SignalForm}
 use Rattle.sv_flat.specs.Views.{signal_form}
 use Rattle.sv_walk.specs.Walks.{Step}
-use Rattle.sv_walk.specs.Declarations.{Declared as WalkDeclared, declared_signal, signal_ahead}
+use Rattle.sv_walk.specs.Declarations.{signal_ahead}
 use Rattle.sv_walk.specs.Names.{names_at}
 use Rattle.sv_width.specs.Scopes.{Known, names_ahead}
 use Rattle.sv_declare.specs.Sites.{site_of, bindings_in, declared_of, signal_count}

@@ -1,1 +1,0 @@
-use Rattle.sv_declare.proofs.declarations.header.Goals as goal

@@ -1,7 +1,7 @@
 -- What the walk of an instance's declarations makes: the bindings of the source, and a signal for
 -- each declaration, in textual order.
 use Rattle.std.proofs.Common.{◌≡◌, ℕ, zero, suc, ◌+◌, ◌≤◌, Bool, true, false, cond, List}
-use Rattle.std.proofs.Common.{[], ◌∷◌, ◌++◌, map, length, Option, Some, None, refl, sym, ap, subst}
+use Rattle.std.proofs.Common.{[], ◌∷◌, ◌++◌, map, Option, Some, None, refl, sym, ap, subst}
 use Rattle.std.proofs.Common.{◌∙◌, arith, ◌⊎◌, inl, inr, ⊎_elim}
 use Rattle.std.specs.Prelude.{not, ◌||◌, nat_lt, ◌==◌, Contains, Ok}
 use Rattle.std.specs.Prelude.{unwrap_or, ℤ, pos, negsuc}

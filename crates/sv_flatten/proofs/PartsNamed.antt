@@ -3,8 +3,8 @@
 use Rattle.std.proofs.Common.{◌≡◌, ℕ, ◌+◌, ◌^◌, ◌<◌, Bool, true, false, cond, List}
 use Rattle.std.proofs.Common.{[], ◌∷◌, ◌++◌, map, length, Option, Some, None, refl, sym, ap, subst}
 use Rattle.std.proofs.Common.{◌∙◌, arith, ◌⊎◌, inl, inr, ⊎_elim}
-use Rattle.std.specs.Prelude.{not, filter, find, position, unwrap_or, Contains, Result, Ok}
-use Rattle.std.specs.Prelude.{Err, IsTrue}
+use Rattle.std.specs.Prelude.{not, filter, find, position, unwrap_or, Contains, Ok}
+use Rattle.std.specs.Prelude.{IsTrue}
 use Rattle.std.specs.List.{slice_get, filter_map, cons_option, position_or_len}
 use Rattle.std.specs.Str.{bytes_eq}
 use Rattle.std.proofs.lemmas.Bool.{cases_Bool, not-true, lt-ltb}
@@ -35,7 +35,6 @@ use Rattle.sv_flatten.proofs.PartsBindings.{same_name, last_entry}
 use Rattle.sv_flatten.proofs.PartsDeclared.{Declares, walked, known, only_declared, still_bound}
 use Rattle.sv_flatten.proofs.PartsDeclared.{still_numbered, source_bindings, SetIsOpen, KnownAt}
 use Rattle.sv_flatten.proofs.PartsDeclared.{value_after, with_parameter, with_signal, width_after}
-use Rattle.sv_flatten.proofs.PartsDeclared.{same_ok}
 use Rattle.sv_flatten.proofs.PartsOverrides.{AllOpen}
 use Rattle.sv_flatten.proofs.ValuesLow.{constant_fits, in_range_fits}
 

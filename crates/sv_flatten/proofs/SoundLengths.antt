@@ -1,7 +1,7 @@
 -- What an instance's names stand for has 1 to 64 bits, and so has what it sets.
-use Rattle.std.proofs.Common.{◌≡◌, ℕ, ◌+◌, Bool, true, false, cond, List, [], ◌∷◌, ◌++◌, length}
+use Rattle.std.proofs.Common.{◌≡◌, ℕ, Bool, true, false, cond, List, [], ◌∷◌, ◌++◌}
 use Rattle.std.proofs.Common.{Option, Some, None, refl, subst, ⊎_elim}
-use Rattle.std.specs.Prelude.{not, ◌&&◌, ◌||◌, nat_lt, Contains, Ok, is_some}
+use Rattle.std.specs.Prelude.{not, ◌&&◌, ◌||◌, Contains, Ok, is_some}
 use Rattle.sv_system.proofs.Lists.{Contains-head, Contains-later}
 use Rattle.sv_ast.specs.Scopes.{Scope, Number, Binding, parameter, signal, width_of}
 use Rattle.sv_ast.specs.Tree.{ExpressionTree, SpanTree, DeclarationTree, ParameterTree}

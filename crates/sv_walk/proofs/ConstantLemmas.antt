@@ -45,7 +45,7 @@ module _ (scope : Scope) (later : List ℕ → Bool) (first second : List ℕ �
         ask (means_signal one n) (unknown_name p n) >>= λ _. ask (not c) (not_constant p) >>= λ _.
         high >>= λ _. own_divisors scope h >>= λ _. low >>= λ _. own_divisors scope l >>= λ _.
         ask (is_part (width_of (scope n)) (whole_number scope h) (whole_number scope l))
-            (bad_select p) in
+        (bad_select p) in
         ap (λ w. with w (asked one true l)) (asked_alike true h)
         ∙ ap (λ w. with (asked two true h) w) (asked_alike true l)
     asked_alike c (unary op p e) = asked_alike c e
@@ -90,6 +90,6 @@ module _ (scope : Scope) (later : List ℕ → Bool) (first second : List ℕ �
       >>= λ _.
       (low >>= λ _. own_divisors scope span.low >>= λ _. done (constant_of scope span.low)) >>= λ _.
       ask (is_range 64 (whole_number scope span.high) (whole_number scope span.low))
-          (bad_range (place_of span.high)) in
+      (bad_range (place_of span.high)) in
       ap (λ w. with w (asked one true span.low)) (asked_alike true span.high)
       ∙ ap (λ w. with (asked two true span.high) w) (asked_alike true span.low)

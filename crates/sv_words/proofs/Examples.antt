@@ -2,7 +2,7 @@
 use Rattle.std.proofs.Common.{◌≡◌, [], ◌∷◌, Some, None, codes, refl}
 use Rattle.clap.proofs.OnLiterals.{clap_on_literals}
 use Rattle.sv_words.specs.Lines.{found_in, is_read, line_of}
-use Rattle.sv_words.specs.Words.{check, help_asked, list, request_of, sim, usage_of}
+use Rattle.sv_words.specs.Words.{check, cnf, help_asked, list, request_of, sim, usage_of}
 use Rattle.sv_words.specs.declared.command.CommandName.TheVariants.{Check}
 use Rattle.sv_words.specs.declared.command.UsageKind.TheVariants.{NoCommand, UnknownCommand, Words}
 
@@ -91,6 +91,38 @@ listed_of_a_top = refl
 listed_of_a_top_is_right : usage_of (codes "list" ∷ codes "f" ∷ codes "--top=m" ∷ []) ≡ None
 unfolding is_read line_of clap_on_literals
 listed_of_a_top_is_right = refl
+
+-- the clauses of an obligation
+clauses : request_of (codes "cnf" ∷ codes "f" ∷ codes "7" ∷ []) ≡ Some (cnf (codes "f") 7 None)
+unfolding found_in line_of clap_on_literals
+clauses = refl
+
+clauses_are_right : usage_of (codes "cnf" ∷ codes "f" ∷ codes "7" ∷ []) ≡ None
+unfolding is_read line_of clap_on_literals
+clauses_are_right = refl
+
+-- behind `--` the number may be 0 with a minus
+minus_zero : request_of (codes "cnf" ∷ codes "--top=m" ∷ codes "--" ∷ codes "f" ∷ codes "-0" ∷ [])
+    ≡ Some (cnf (codes "f") 0 (Some (codes "m")))
+unfolding found_in line_of clap_on_literals
+minus_zero = refl
+
+minus_zero_is_right : usage_of (codes "cnf" ∷ codes "--top=m" ∷ codes "--" ∷ codes "f"
+    ∷ codes "-0" ∷ []) ≡ None
+unfolding is_read line_of clap_on_literals
+minus_zero_is_right = refl
+
+minus_one : usage_of (codes "cnf" ∷ codes "--" ∷ codes "f" ∷ codes "-1" ∷ []) ≡ Some Words
+unfolding is_read line_of clap_on_literals
+minus_one = refl
+
+too_large_a_number : usage_of (codes "cnf" ∷ codes "f" ∷ codes "4294967296" ∷ []) ≡ Some Words
+unfolding is_read line_of clap_on_literals
+too_large_a_number = refl
+
+no_number : usage_of (codes "cnf" ∷ codes "f" ∷ []) ≡ Some Words
+unfolding is_read line_of clap_on_literals
+no_number = refl
 
 -- a list has no level
 list_at_a_level : usage_of (codes "list" ∷ codes "f" ∷ codes "--level" ∷ codes "L" ∷ [])

@@ -1,10 +1,12 @@
 -- From a parse by `clap` to the words of `specs/Words.antt`.
 use Rattle.std.proofs.Common.{◌≡◌, ◌∙◌, ◌⊎◌, ℕ, true, false, List, [], ◌∷◌, Option, Some, refl, sym}
+use Rattle.std.proofs.Common.{None, is_some}
 use Rattle.std.proofs.Common.{ap, subst, inl, inr, arith, ne_eqb, codes}
-use Rattle.std.specs.Prelude.{option_map, string_bytes, String}
+use Rattle.std.specs.Prelude.{option_map, option_and_then, string_bytes, String}
 use Rattle.std.specs.declared.alloc.Global.{Global}
 use Rattle.clap.specs.Words.{App, HasKind, HasMatchesOf, IsParsedFrom, Kinds, Row, Text, app_of}
-use Rattle.clap.specs.Words.{fault_of, first_of, first_value, is_simple, is_simple_and_free}
+use Rattle.clap.specs.Words.{fault_of, first_of, first_value, found_of, is_simple}
+use Rattle.clap.specs.Words.{is_simple_and_free}
 use Rattle.clap.specs.Words.{kind_of, matches_of, rows_of}
 use Rattle.clap.specs.Walk.{is_empty}
 use Rattle.clap.proofs.OnLiterals.{clap_on_literals}
@@ -16,9 +18,10 @@ use Rattle.clap.specs.declared.error.kind.ErrorKind.TheVariants as kind
 use Rattle.clap.specs.declared.parser.matches.ArgMatches.{ArgMatches}
 use Rattle.clap.specs.declared.parser.matches.Found.{Found}
 use Rattle.sv_words.specs.Found.{HasNumbers, IsReadAs, Rejects}
-use Rattle.sv_words.specs.Lines.{found_in, greatest, is_read, line_of, needed, number}
-use Rattle.sv_words.specs.Words.{Request, check, list, number_of, plain, request_in, request_with}
-use Rattle.sv_words.specs.Words.{sim}
+use Rattle.sv_words.specs.Lines.{found_in, greatest, is_read, line_of, needed}
+use Rattle.sv_words.specs.Lines.{needed_number, number}
+use Rattle.sv_words.specs.Words.{Request, check, list, cnf, sim, number_of, plain, request_in}
+use Rattle.sv_words.specs.Words.{request_with}
 use Rattle.sv_words.specs.declared.command.Command.TheVariants as asked
 use Rattle.sv_words.specs.declared.command.CommandName.{CommandName}
 use Rattle.sv_words.specs.declared.command.CommandName.TheVariants as name
@@ -33,19 +36,26 @@ free_line : (n : CommandName) → is_simple_and_free (line_of n) ≡ true
 unfolding line_of clap_on_literals
 free_line name.Check = refl
 free_line name.List = refl
+free_line name.Cnf = refl
 free_line name.Sim = refl
 
 simple_line : (n : CommandName) → is_simple (line_of n) ≡ true
 unfolding line_of clap_on_literals
 simple_line name.Check = refl
 simple_line name.List = refl
+simple_line name.Cnf = refl
 simple_line name.Sim = refl
 
 file_stands : (n : CommandName) → StandsAt (line_of n) 0 (needed (codes "FILE"))
 unfolding line_of
 file_stands name.Check = record { line = refl; at = refl; once = refl; own = refl }
 file_stands name.List = record { line = refl; at = refl; once = refl; own = refl }
+file_stands name.Cnf = record { line = refl; at = refl; once = refl; own = refl }
 file_stands name.Sim = record { line = refl; at = refl; once = refl; own = refl }
+
+number_stands : StandsAt (line_of name.Cnf) 1 (needed_number (codes "NUMBER"))
+unfolding line_of
+number_stands = record { line = refl; at = refl; once = refl; own = refl }
 
 order_stands : StandsAt (line_of name.Sim) 2 (number (codes "order") 0 greatest)
 unfolding line_of
@@ -53,10 +63,21 @@ order_stands = record { line = refl; at = refl; once = refl; own = refl }
 
 -- ---- what a parse says
 
+some_text : (o : Option Text) → is_some o ≡ true → (t : Text) × (o ≡ Some t)
+some_text None is = absurd cc
+some_text (Some t) is = (t, refl)
+
 holds_numbers : (n : CommandName) (c : Line) (m : ArgMatches) → IsParsedFrom c m
     → app_of c ≡ line_of n → HasNumbers n m
 holds_numbers name.Check c m p same = tt
 holds_numbers name.List c m p same = tt
+holds_numbers name.Cnf c m p same =
+    let there = some_text (first_value (found_of m) (codes "NUMBER"))
+    (required_is_given c m (line_of name.Cnf) 1 (needed_number (codes "NUMBER")) p same
+    number_stands refl refl refl) in
+    let got = value_is_read c m (line_of name.Cnf) 1 (needed_number (codes "NUMBER")) _ there.0 p
+    same number_stands refl there.1 in
+    record { text = there.0; has = there.1; read = got.0; within = got.1 }
 holds_numbers name.Sim c m p same = λ text has.
     value_is_read c m (line_of name.Sim) 2
     (number (codes "order") 0 greatest) _ text p same order_stands refl has
@@ -115,9 +136,18 @@ rejects n c e words k fault same fails is (inr h) =
 
 as_asked : (n : CommandName) (rows : List Row) (file : Text) (request : Request)
     → first_of (codes "FILE") rows ≡ Some file
-    → request_with n file rows ≡ request → request_in n rows ≡ Some request
-as_asked n rows file request f r = ap (option_map (λ (t : Text). request_with n t rows)) f
-    ∙ ap Some r
+    → request_with n file rows ≡ Some request → request_in n rows ≡ Some request
+as_asked n rows file request f r =
+    ap (option_and_then (λ (t : Text). request_with n t rows)) f ∙ r
+
+-- a command with its number
+numbered : (file : Text) (o : Option Text) (top is : Option Text) (number : ℕ)
+    → option_map number_of o ≡ Some number → top ≡ is
+    → option_map (λ (t : Text). cnf file (number_of t) top) o ≡ Some (cnf file number is)
+numbered file None top is number n t = absurd cc
+numbered file (Some text) top is number n t =
+    let same : number_of text ≡ number = cc in
+    λ i. Some (cnf file (same i) (t i))
 
 module _ (f : Found) where
   in_rows : (id : Text) (value : Option (String Global))
@@ -131,7 +161,7 @@ module _ (f : Found) where
       → request_in name.Check (rows_of f) ≡ Some (plain (asked.Check file top))
   asks_check file top is_file is_top = as_asked name.Check (rows_of f) (string_bytes file) _
       (sym (first_value-rows f (codes "FILE")) ∙ is_file)
-      (ap (λ (t : Option Text). check (string_bytes file) t) (in_rows (codes "top") top is_top))
+      (ap (λ (t : Option Text). Some (check (string_bytes file) t)) (in_rows (codes "top") top is_top))
 
   pub asks_list : (file : String Global) (top : Option (String Global))
       → first_value f (codes "FILE") ≡ Some (string_bytes file)
@@ -139,7 +169,21 @@ module _ (f : Found) where
       → request_in name.List (rows_of f) ≡ Some (plain (asked.List file top))
   asks_list file top is_file is_top = as_asked name.List (rows_of f) (string_bytes file) _
       (sym (first_value-rows f (codes "FILE")) ∙ is_file)
-      (ap (λ (t : Option Text). list (string_bytes file) t) (in_rows (codes "top") top is_top))
+      (ap (λ (t : Option Text). Some (list (string_bytes file) t)) (in_rows (codes "top") top is_top))
+
+  pub asks_cnf : (file : String Global) (number : ℕ) (top : Option (String Global))
+      → first_value f (codes "FILE") ≡ Some (string_bytes file)
+      → option_map number_of (first_value f (codes "NUMBER")) ≡ Some number
+      → option_map string_bytes top ≡ first_value f (codes "top")
+      → request_in name.Cnf (rows_of f) ≡ Some (plain (asked.Cnf file number top))
+  asks_cnf file number top is_file is_number is_top =
+      let tops = in_rows (codes "top") top is_top in
+      let numbers = ap (option_map number_of) (sym (first_value-rows f (codes "NUMBER")))
+      ∙ is_number in
+      as_asked name.Cnf (rows_of f) (string_bytes file) _
+      (sym (first_value-rows f (codes "FILE")) ∙ is_file)
+      (numbered (string_bytes file) (first_of (codes "NUMBER") (rows_of f))
+      (first_of (codes "top") (rows_of f)) _ number numbers tops)
 
   pub asks_sim : (file : String Global) (level : Option (String Global)) (order : Option ℕ)
       (top : Option (String Global))
@@ -155,4 +199,4 @@ module _ (f : Found) where
       let tops = in_rows (codes "top") top is_top in
       as_asked name.Sim (rows_of f) (string_bytes file) _
       (sym (first_value-rows f (codes "FILE")) ∙ is_file)
-      (λ i. sim (string_bytes file) (levels i) (orders i) (tops i))
+      (λ i. Some (sim (string_bytes file) (levels i) (orders i) (tops i)))

@@ -1,10 +1,11 @@
 -- Private: how the code goes. What was found in a line that was read; the meaning stands in
 -- `Words.antt`.
-use Rattle.std.specs.Prelude.{◌≡◌, ℕ, List, Some, codes, is_some, true, ⊤}
+use Rattle.std.specs.Prelude.{◌≡◌, ℕ, List, Some, codes, is_some, true, pos, ⊤}
 use Rattle.clap.specs.Words.{Text, first_value, found_of, one_text, rows_of}
-use Rattle.clap.specs.Values.{IsUnsignedIn}
+use Rattle.clap.specs.Lexer.{without_minus}
+use Rattle.clap.specs.Values.{IsSignedIn, IsUnsignedIn}
 use Rattle.clap.specs.declared.parser.matches.ArgMatches.{ArgMatches}
-use Rattle.sv_words.specs.Lines.{found_in, greatest, is_read}
+use Rattle.sv_words.specs.Lines.{found_in, greatest, greatest_small, is_read}
 use Rattle.sv_words.specs.declared.command.CommandName.{CommandName}
 use Rattle.sv_words.specs.declared.command.CommandName.TheVariants as name
 use Rattle.sv_words.specs.declared.command.WordFault.{WordFault}
@@ -21,7 +22,15 @@ abbrev pub HasNumber : Text → ℕ → ℕ → ArgMatches → Type 0
 HasNumber id least most m = (text : Text) → first_value (found_of m) id ≡ Some text
     → (one_text (found_of m) id ≡ Some text) × IsUnsignedIn least most text
 
+-- a number that a u32 holds is there, and read without a `-` before it
+pub record HasNeededNumber (id : Text) (m : ArgMatches) : Type 0 where
+  pub text : Text
+  pub has : first_value (found_of m) id ≡ Some text
+  pub read : one_text (found_of m) id ≡ Some (without_minus text)
+  pub within : IsSignedIn (pos 0) (pos greatest_small) text
+
 abbrev pub HasNumbers : CommandName → ArgMatches → Type 0
+HasNumbers name.Cnf m = HasNeededNumber (codes "NUMBER") m
 HasNumbers name.Sim m = HasNumber (codes "order") 0 greatest m
 HasNumbers _ m = ⊤
 

@@ -1,19 +1,29 @@
--- The words of each command, as the simple command of `clap` that reads them. FILE is a word that
--- stands alone and has to be there; an option is `--NAME VALUE` or `--NAME=VALUE`, before or behind
--- it, once at most; after a word `--` no word is an option.
-use Rattle.std.specs.Prelude.{ℕ, Bool, true, List, Option, Some, None, codes, cond}
+-- The words of each command, as the simple command of `clap` that reads them. FILE and NUMBER are
+-- words that stand alone and have to be there; an option is `--NAME VALUE` or `--NAME=VALUE`, before or behind
+-- them, once at most; after a word `--` no word is an option.
+use Rattle.std.specs.Prelude.{ℕ, Bool, true, List, Option, Some, None, codes, cond, pos}
 use Rattle.std.specs.Str.{bytes_eq}
 use Rattle.clap.specs.Words.{App, Rule, Row, Text, fault_of, matches_of, new_app, new_rule}
 use Rattle.clap.specs.Words.{with_rule}
 use Rattle.clap.specs.Walk.{is_empty}
 use Rattle.clap.specs.declared.builder.action.ArgAction.TheVariants.{Set}
-use Rattle.clap.specs.declared.builder.value_parser.ValueParser.TheVariants.{Unsigned}
+use Rattle.clap.specs.declared.builder.value_parser.ValueParser.TheVariants.{Signed, Unsigned}
 use Rattle.sv_words.specs.declared.command.CommandName.{CommandName}
-use Rattle.sv_words.specs.declared.command.CommandName.TheVariants.{Check, List as ListName, Sim}
+use Rattle.sv_words.specs.declared.command.CommandName.TheVariants.{Check, List as ListName, Cnf}
+use Rattle.sv_words.specs.declared.command.CommandName.TheVariants.{Sim}
 
 -- a word that stands alone and has to be there
 abbrev pub needed : Text → Rule
 needed id = record (new_rule id) { action = Some Set; required = true }
+
+-- the greatest number that a u32 holds
+abbrev pub greatest_small : ℕ
+greatest_small = 4294967295
+
+-- a word that stands alone and has to be there, and is a number that a u32 holds
+abbrev pub needed_number : Text → Rule
+needed_number id =
+    record (needed id) { parser = Some (Signed (pos 0) (pos greatest_small)) }
 
 -- an option with one value, any text
 abbrev pub option : Text → Rule
@@ -41,6 +51,11 @@ abbrev pub list_line : App
 list_line = with_rule (with_rule (named (codes "list")) (needed (codes "FILE")))
     (option (codes "top"))
 
+-- `cnf FILE NUMBER [--top M]`
+abbrev pub cnf_line : App
+cnf_line = with_rule (with_rule (with_rule (named (codes "cnf")) (needed (codes "FILE")))
+    (needed_number (codes "NUMBER"))) (option (codes "top"))
+
 -- `sim FILE [--level P] [--order N] [--top M]`
 abbrev pub sim_line : App
 sim_line = with_rule (with_rule (with_rule (with_rule (named (codes "sim"))
@@ -50,6 +65,7 @@ sim_line = with_rule (with_rule (with_rule (with_rule (named (codes "sim"))
 unfoldable pub line_of : CommandName → App
 line_of Check = check_line
 line_of ListName = list_line
+line_of Cnf = cnf_line
 line_of Sim = sim_line
 
 -- the command that a first word names
@@ -57,7 +73,8 @@ abbrev pub command_named : Text → Option CommandName
 command_named word =
     cond (bytes_eq word (codes "check")) (Some Check)
     (cond (bytes_eq word (codes "list")) (Some ListName)
-    (cond (bytes_eq word (codes "sim")) (Some Sim) None))
+    (cond (bytes_eq word (codes "cnf")) (Some Cnf)
+    (cond (bytes_eq word (codes "sim")) (Some Sim) None)))
 
 -- `clap` reads the words: they begin with the command's name
 unfoldable pub is_read : CommandName → List Text → Bool

@@ -3,7 +3,7 @@ use Rattle.std.specs.Prelude.{◌≡◌, ◌∷◌, ℕ, List, [], map, Option, 
 use Rattle.std.specs.Prelude.{option_map, option_and_then, string_bytes, String}
 use Rattle.std.specs.Option.{option_map_or}
 use Rattle.std.specs.Str.{bytes_eq}
-use Rattle.std.specs.Str.Parse.{digits_value, without_leading_plus}
+use Rattle.std.specs.Str.Parse.{digits_value, without_leading_sign}
 use Rattle.std.specs.declared.alloc.Global.{Global}
 use Rattle.clap.specs.Words.{Row, Text, first_of}
 use Rattle.sv_words.specs.Lines.{command_named, found_in, is_read}
@@ -20,26 +20,32 @@ use Rattle.sv_words.specs.declared.command.WordFault.TheVariants.{Usage, OutOfMe
 abbrev pub words_of : List (String Global) → List Text
 words_of words = map string_bytes words
 
--- a command with what it was given: FILE, and the values of its options, where they are there
+-- a command with what it was given: FILE, NUMBER, and the values of its options, where they are
+-- there
 pub data Request : Type 0 where
   check : (file : Text) → (top : Option Text) → Request
   list : (file : Text) → (top : Option Text) → Request
+  cnf : (file : Text) → (number : ℕ) → (top : Option Text) → Request
   sim : (file : Text) → (level : Option Text) → (order : Option ℕ) → (top : Option Text) → Request
 
--- the number that decimal digits spell, with a `+` before them or not
+-- the number that decimal digits spell, with a sign before them or not; no number that is read is
+-- below 0, so a `-` may stand before zeros alone
 abbrev pub number_of : Text → ℕ
-number_of text = digits_value 10 (without_leading_plus text)
+number_of text = digits_value 10 (without_leading_sign text)
 
-abbrev pub request_with : CommandName → Text → List Row → Request
-request_with name.Check file rows = check file (first_of (codes "top") rows)
-request_with name.List file rows = list file (first_of (codes "top") rows)
-request_with name.Sim file rows = sim file (first_of (codes "level") rows)
-    (option_map number_of (first_of (codes "order") rows)) (first_of (codes "top") rows)
+abbrev pub request_with : CommandName → Text → List Row → Option Request
+request_with name.Check file rows = Some (check file (first_of (codes "top") rows))
+request_with name.List file rows = Some (list file (first_of (codes "top") rows))
+request_with name.Cnf file rows =
+    option_map (λ number. cnf file (number_of number) (first_of (codes "top") rows))
+    (first_of (codes "NUMBER") rows)
+request_with name.Sim file rows = Some (sim file (first_of (codes "level") rows)
+    (option_map number_of (first_of (codes "order") rows)) (first_of (codes "top") rows))
 
 -- what is found in the words of a command asks for
 abbrev pub request_in : CommandName → List Row → Option Request
 request_in name rows =
-    option_map (λ file. request_with name file rows) (first_of (codes "FILE") rows)
+    option_and_then (λ file. request_with name file rows) (first_of (codes "FILE") rows)
 
 -- what the words ask for: of words that are read
 abbrev pub request_of : List Text → Option Request
@@ -64,6 +70,8 @@ help_asked _ = None
 abbrev pub plain : Command → Request
 plain (asked.Check file top) = check (string_bytes file) (option_map string_bytes top)
 plain (asked.List file top) = list (string_bytes file) (option_map string_bytes top)
+plain (asked.Cnf file number top) =
+    cnf (string_bytes file) number (option_map string_bytes top)
 plain (asked.Sim file level order top) = sim (string_bytes file)
     (option_map string_bytes level) order (option_map string_bytes top)
 

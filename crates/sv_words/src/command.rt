@@ -12,6 +12,8 @@ pub enum CommandName {
     Check,
     /// `list`
     List,
+    /// `cnf`
+    Cnf,
     /// `sim`
     Sim,
 }
@@ -31,6 +33,15 @@ pub enum Command {
     List {
         /// The name of the text.
         file: String,
+        /// The module to take as the top.
+        top: Option<String>,
+    },
+    /// `cnf FILE NUMBER [--top M]`: print the clauses of one of the text's obligations.
+    Cnf {
+        /// The name of the text.
+        file: String,
+        /// The number of the obligation.
+        number: u32,
         /// The module to take as the top.
         top: Option<String>,
     },

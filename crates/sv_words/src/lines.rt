@@ -1,8 +1,9 @@
 // The words of each command, as a command of `clap`.
 ghost use Rattle.std.specs.Prelude.{◌≡◌, IfOk, codes, false};
 ghost use Rattle.clap.specs.Words.{app_of, rule_of};
-ghost use Rattle.sv_words.specs.Lines.{command_named, line_of, named, needed, option, number};
-ghost use Rattle.sv_words.specs.Lines.{check_line, list_line, sim_line, greatest};
+ghost use Rattle.sv_words.specs.Lines.{command_named, line_of, named, needed, needed_number};
+ghost use Rattle.sv_words.specs.Lines.{option, number, check_line, list_line, cnf_line, sim_line};
+ghost use Rattle.sv_words.specs.Lines.{greatest};
 
 use crate::command::CommandName;
 use clap::{Arg, ArgAction, value_parser};
@@ -16,6 +17,8 @@ pub fn command_named(word: &str) -> Option<CommandName>
         Some(CommandName::Check)
     } else if word == "list" {
         Some(CommandName::List)
+    } else if word == "cnf" {
+        Some(CommandName::Cnf)
     } else if word == "sim" {
         Some(CommandName::Sim)
     } else {
@@ -30,6 +33,7 @@ pub fn line_of<'a>(alloc: Global, name: CommandName) -> Result<clap::Command<'a>
     match name {
         CommandName::Check => check_line(alloc),
         CommandName::List => list_line(alloc),
+        CommandName::Cnf => cnf_line(alloc),
         CommandName::Sim => sim_line(alloc),
     }
 }
@@ -57,6 +61,20 @@ fn list_line<'a>(alloc: Global) -> Result<clap::Command<'a>, AllocError>
         "List the obligations of a design, one a line",
     )?
     .arg(file_word(alloc))?
+    .arg(top_option(alloc))
+}
+
+fn cnf_line<'a>(alloc: Global) -> Result<clap::Command<'a>, AllocError>
+    ensures { IfOk result (λ line. app_of line ≡ cnf_line) }
+{
+    named(
+        alloc,
+        "cnf",
+        "secv cnf",
+        "Print the clauses of one obligation of a design, as DIMACS",
+    )?
+    .arg(file_word(alloc))?
+    .arg(number_word(alloc))?
     .arg(top_option(alloc))
 }
 
@@ -98,6 +116,17 @@ fn file_word<'a>(alloc: Global) -> Arg<'a>
         .required(true)
         .action(ArgAction::Set)
         .help("The file of the design")
+}
+
+fn number_word<'a>(alloc: Global) -> Arg<'a>
+    ensures rule { rule_of result ≡ needed_number (codes "NUMBER") }
+    ensures local { result.global ≡ false }
+{
+    Arg::new(alloc, "NUMBER")
+        .required(true)
+        .action(ArgAction::Set)
+        .value_parser(value_parser!(u32))
+        .help("The number of the obligation, from 1")
 }
 
 fn top_option<'a>(alloc: Global) -> Arg<'a>

@@ -2,7 +2,8 @@
 ghost use Rattle.std.specs.Prelude.{◌≡◌, ◌≢◌, ◌⊎◌, MatchResult, IfOk, Some, codes, option_map};
 ghost use Rattle.std.specs.Prelude.{string_bytes};
 ghost use Rattle.clap.specs.Words.{first_value, found_of, rows_of};
-ghost use Rattle.sv_words.specs.Found.{HasFile, HasNumber, HasNumbers, IsReadAs, Rejects};
+ghost use Rattle.sv_words.specs.Found.{HasFile, HasNeededNumber, HasNumber, HasNumbers, IsReadAs};
+ghost use Rattle.sv_words.specs.Found.{Rejects};
 ghost use Rattle.sv_words.specs.Lines.{greatest};
 ghost use Rattle.sv_words.specs.Words.{words_of, IsAskedBy, IsFaultOf, number_of, plain};
 ghost use Rattle.sv_words.specs.Words.{request_in};
@@ -16,7 +17,8 @@ use std::alloc::{AllocError, Global};
 /// What the words ask for. The first word names a command, as `check`, and the others are exactly
 /// those that `clap` reads for it: FILE, which may be empty or `-`, and options, each at most once,
 /// as `--top M` or `--top=M`, before or behind FILE; after a word `--` no word is an option. A
-/// number is decimal digits, a `+` before them or not, of a value that its type holds.
+/// number is decimal digits, a `+` before them or not, of a value that its type holds; before the
+/// zeros of NUMBER a `-` may stand too.
 ///
 /// `Usage` comes exactly where the words ask for nothing: `NoCommand` where there are none,
 /// `UnknownCommand` where the first is no command's name, and `Words` where `clap` does not read
@@ -80,6 +82,11 @@ fn command_in(
     Ok(match name {
         CommandName::Check => Command::Check { file, top },
         CommandName::List => Command::List { file, top },
+        CommandName::Cnf => Command::Cnf {
+            file,
+            number: number_in(matches),
+            top,
+        },
         CommandName::Sim => Command::Sim {
             file,
             level: text_of(alloc, matches, "level")?,
@@ -97,6 +104,15 @@ fn file_in(alloc: Global, matches: &ArgMatches<'_>) -> Result<String, AllocError
 {
     let file = text_of(alloc, matches, "FILE")?;
     Ok(file.unwrap())
+}
+
+// NUMBER.
+fn number_in(matches: &ArgMatches<'_>) -> u32
+    requires { HasNeededNumber (codes "NUMBER") matches.now }
+    ensures { option_map number_of (first_value (found_of matches.now) (codes "NUMBER"))
+        ≡ Some result }
+{
+    matches.get_one("NUMBER").unwrap()
 }
 
 // The number of `--order`, where it is there.

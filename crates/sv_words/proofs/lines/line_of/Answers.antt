@@ -9,6 +9,10 @@ pub returns-in-List : goal.returns-in-List
 unfolding line_of
 returns-in-List c = rw c.in-List.is c.list_line.ensures
 
+pub returns-in-Cnf : goal.returns-in-Cnf
+unfolding line_of
+returns-in-Cnf c = rw c.in-Cnf.is c.cnf_line.ensures
+
 pub returns-in-Sim : goal.returns-in-Sim
 unfolding line_of
 returns-in-Sim c = rw c.in-Sim.is c.sim_line.ensures

@@ -1,6 +1,6 @@
 use Rattle.clap.specs.Words.{found_of}
-use Rattle.sv_words.proofs.Reading.{asks_check, asks_list, asks_sim}
-use Rattle.sv_words.proofs.read.command_in.Goals.{in-Check, in-List, in-Sim+in_ok-text_of-in-Sim}
+use Rattle.sv_words.proofs.Reading.{asks_check, asks_list, asks_cnf, asks_sim}
+use Rattle.sv_words.proofs.read.command_in.Goals.{in-Check, in-List, in-Cnf, in-Sim+in_ok-text_of-in-Sim}
 use Rattle.sv_words.proofs.read.command_in.Goals as goal
 
 pub returns : goal.returns
@@ -11,6 +11,9 @@ returns c =
           (asks_check f c.in_ok-file.file c.in_ok-top.top c.in_ok-file.ensures c.in_ok-top.ensures)
       | in-List w ↦ rw (w.in-List.is, w.result-is)
           (asks_list f c.in_ok-file.file c.in_ok-top.top c.in_ok-file.ensures c.in_ok-top.ensures)
+      | in-Cnf w ↦ rw (w.in-Cnf.is, w.result-is)
+          (asks_cnf f c.in_ok-file.file w.number_in.result c.in_ok-top.top c.in_ok-file.ensures
+          w.number_in.ensures c.in_ok-top.ensures)
       | in-Sim+in_ok-text_of-in-Sim w ↦ rw (w.in-Sim.is, w.result-is)
           (asks_sim f c.in_ok-file.file w.in_ok-text_of-in-Sim.field-0 w.order_in.result
           c.in_ok-top.top c.in_ok-file.ensures

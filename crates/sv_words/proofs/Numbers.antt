@@ -1,0 +1,81 @@
+-- How the numbers in words are read.
+use Rattle.std.proofs.Common.{◌≡◌, ◌∙◌, ◌<◌, ◌^◌, ◌==◌, ℕ, Bool, true, false, List, [], ◌∷◌}
+use Rattle.std.proofs.Common.{Option, Some, None, refl, sym, ap, subst, arith, cond, drop, ne_eqb}
+use Rattle.std.specs.Prelude.{Result, Ok, Err, pos, unwrap_or}
+use Rattle.std.specs.Str.Parse.{IsNumeral, ParsesUnsigned, digits_value, starts_with_minus}
+use Rattle.std.specs.Str.Parse.{without_leading_plus}
+use Rattle.std.proofs.lemmas.Int.{ints}
+use Rattle.std.proofs.lemmas.Str.Parse.{digit_from_value}
+use Rattle.clap.specs.Lexer.{without_minus}
+use Rattle.clap.specs.Matches.{ReadsOne}
+use Rattle.clap.specs.Values.{IsSignedIn}
+use Rattle.sv_words.specs.Lines.{greatest_small}
+use Rattle.sv_words.specs.Words.{number_of}
+
+-- a numeral begins with no minus
+no_minus : (ds : List ℕ) → IsNumeral 10 (without_leading_plus ds) → starts_with_minus ds ≡ false
+no_minus [] h = refl
+no_minus (d ∷ ds) h = by_plus (d == 43) refl
+  where
+    by_plus : (b : Bool) → (d == 43) ≡ b → (d == 45) ≡ false
+    by_plus true is = ne_eqb _ _ (λ e. let f : d ≡ 43 = cc in omega (arith, e, f))
+    by_plus false is =
+        let h2 : IsNumeral 10 (d ∷ ds) =
+        subst (λ (b : Bool). IsNumeral 10 (drop (cond b 1 0) (d ∷ ds))) is h in
+        ne_eqb _ _ (λ e. omega (arith, digit_from_value d h2.1.0))
+
+-- behind a plus or no sign the digits are the same
+pub unsigned_number : (t : List ℕ) → IsNumeral 10 (without_leading_plus t)
+    → digits_value 10 (without_leading_plus t) ≡ number_of t
+unsigned_number t numeral =
+    ap (λ (b : Bool). digits_value 10 (cond b (drop 1 t) (without_leading_plus t)))
+    (sym (no_minus t numeral))
+
+-- digits have no plus before them
+no_plus : (ds : List ℕ) → IsNumeral 10 ds → without_leading_plus ds ≡ ds
+no_plus [] h = refl
+no_plus (d ∷ ds) h =
+    ap (λ (b : Bool). drop (cond b 1 0) (d ∷ ds))
+    (ne_eqb _ _ (λ (e : d ≡ 43). omega (arith, e, digit_from_value d h.1.0)))
+
+minus_dropped : (t : List ℕ) → without_minus t ≡ cond (starts_with_minus t) (drop 1 t) t
+minus_dropped [] = refl
+minus_dropped (x ∷ xs) = by_first (x == 45)
+  where
+    by_first : (b : Bool) → unwrap_or (cond b (Some xs) None) (x ∷ xs) ≡ cond b xs (x ∷ xs)
+    by_first true = refl
+    by_first false = refl
+
+-- a text that is a number of 32 bits is read as that number
+pub small_number : (E : Type 0) (G : List ℕ → Result ℕ E → Type 0) (t : List ℕ) (r : Option ℕ)
+    → ReadsOne G (without_minus t) r
+    → ((u : List ℕ) (x : Result ℕ E) → G u x → ParsesUnsigned 32 10 u x)
+    → IsSignedIn (pos 0) (pos greatest_small) t → r ≡ Some (number_of t)
+small_number E G t r read only passed =
+    go (starts_with_minus t) refl r
+    (subst (λ (u : List ℕ). ReadsOne G u r) (minus_dropped t) read)
+  where
+    go : (b : Bool) → starts_with_minus t ≡ b → (o : Option ℕ)
+        → ReadsOne G (cond (starts_with_minus t) (drop 1 t) t) o → o ≡ Some (number_of t)
+    go true minus (Some v) h =
+        let numeral : IsNumeral 10 (drop 1 t) = rw minus at passed.0 in
+        let parsed = only (drop 1 t) (Ok v) (rw minus at h) in
+        ap Some (parsed.1 ∙ ap (digits_value 10) (no_plus (drop 1 t) numeral)
+        ∙ ap (λ (b : Bool). digits_value 10 (cond b (drop 1 t) (without_leading_plus t)))
+        (sym minus))
+    go true minus None h =
+        let low_ok = rw minus at passed.2 in
+        let numeral : IsNumeral 10 (drop 1 t) = rw minus at passed.0 in
+        let same = no_plus (drop 1 t) numeral in
+        let small : digits_value 10 (drop 1 t) < 2 ^ 32 = omega (arith, ints) in
+        absurd (only (drop 1 t) (Err h.0) (rw minus at h.1) (rw same numeral, rw same small))
+    go false minus (Some v) h =
+        let parsed = only t (Ok v) (rw minus at h) in
+        ap Some (parsed.1
+        ∙ ap (λ (b : Bool). digits_value 10 (cond b (drop 1 t) (without_leading_plus t)))
+        (sym minus))
+    go false minus None h =
+        let low_ok = rw minus at passed.2 in
+        let high_ok = rw minus at passed.3 in
+        let numeral = rw minus at passed.0 in
+        absurd (only t (Err h.0) (rw minus at h.1) (numeral, omega (arith, ints)))

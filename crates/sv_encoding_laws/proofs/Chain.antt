@@ -222,7 +222,7 @@ module _ (design : FlatDesign) (checked : IsChecked design) (o : Obligation)
         all_count G all es (λ x at. each x (Contains-later e es x at)) inside,
       )
 
-  named_inside : (t : ℕ) → Contains (named_in design (conditions_of o)) t → InCone t
+  pub named_inside : (t : ℕ) → Contains (named_in design (conditions_of o)) t → InCone t
   named_inside t at =
       let names = named_in design (conditions_of o) in
       let labels = flat_map (label_selectors design) o.reads in
@@ -259,7 +259,7 @@ module _ (design : FlatDesign) (checked : IsChecked design) (o : Obligation)
       let is = word_more_of t (s5.0).variables n (s5.1 t) h (p5.within t held) in
       record { is = is.0; width = is.1 }
 
-  grows5 : (s2.0).variables ≤ (s5.0).variables
+  pub grows5 : (s2.0).variables ≤ (s5.0).variables
   grows5 =
       omega (arith, free3.begins.grows, p4.0.extends.begins.grows, p5.extends.begins.grows)
 
@@ -284,7 +284,7 @@ module _ (design : FlatDesign) (checked : IsChecked design) (o : Obligation)
   base7 : IsBase s7.0
   base7 = base_more s6.0 s7.0 base6 p7.extends
 
-  grows7 : (s5.0).variables ≤ (s7.0).variables
+  pub grows7 : (s5.0).variables ≤ (s7.0).variables
   grows7 = omega (arith, p6.extends.begins.grows, p7.extends.begins.grows)
 
   -- ---- labels
@@ -306,7 +306,7 @@ module _ (design : FlatDesign) (checked : IsChecked design) (o : Obligation)
   TargetMeans goal values label =
       (e f : Environment ℕ) → Spelled values e f → TargetSays goal values label e f
 
-  known_signal : (s : ℕ) → Contains (flat_system design).signals s →
+  pub known_signal : (s : ℕ) → Contains (flat_system design).signals s →
       IsTrue (is_signal design.signals s)
   known_signal s seen = lt-ltb s (length design.signals)
       (seen_below design is_sound checked.admitted s seen)
@@ -331,10 +331,10 @@ module _ (design : FlatDesign) (checked : IsChecked design) (o : Obligation)
       (Contains-left (names ++ labels ++ asked) registers t
       (Contains-left (names ++ labels) asked t (Contains-right names labels t at)))
 
-  now_word : (n : ℕ) → (s2.0).variables ≤ n → (t : ℕ) → InCone t → IsWordOf design t n (s2.1 t)
+  pub now_word : (n : ℕ) → (s2.0).variables ≤ n → (t : ℕ) → InCone t → IsWordOf design t n (s2.1 t)
   now_word n h t held = word_more_of t (s2.0).variables n (s2.1 t) h (p2.within t held)
 
-  next_word : (n : ℕ) → (s5.0).variables ≤ n → (t : ℕ) → InLater t → IsWordOf design t n (s5.1 t)
+  pub next_word : (n : ℕ) → (s5.0).variables ≤ n → (t : ℕ) → InLater t → IsWordOf design t n (s5.1 t)
   next_word n h t held = word_more_of t (s5.0).variables n (s5.1 t) h (p5.within t held)
 
   target_makes : (goal : GoalForm) → IsGoalOf design o goal →
@@ -398,7 +398,7 @@ module _ (design : FlatDesign) (checked : IsChecked design) (o : Obligation)
   base9 : IsBase s9.0
   base9 = base_more s8.0 s9.0 base8 p9.extends
 
-  grows9 : (s7.0).variables ≤ (s9.0).variables
+  pub grows9 : (s7.0).variables ≤ (s9.0).variables
   grows9 = omega (arith, p8.extends.begins.grows, p9.extends.begins.grows)
 
   -- ---- the goal fails

@@ -90,7 +90,7 @@ after_member K (s ∷ ss) t at = ⊎_elim
 
 module _ (design : FlatDesign) (is_sound : IsTrue (sound design)) (admitted : IsAdmitted design) where
   -- each is combinational, and what is read for it has a word before
-  abbrev Ordered : (ℕ → Type 0) → List ℕ → Type 0
+  abbrev pub Ordered : (ℕ → Type 0) → List ℕ → Type 0
   Ordered K [] = Unit {0}
   Ordered K (s ∷ ss) =
       (IsTrue (is_combinational design s) × ((t : ℕ) → IsTrue (is_read_for design s t) → K t))
@@ -256,7 +256,7 @@ module _ (design : FlatDesign) (is_sound : IsTrue (sound design)) (admitted : Is
       IsTrue (is_top_input design s || is_register design s) ⊎ IsTrue (is_combinational design s))
       (closed : (s t : ℕ) → IsTrue (holds cone s) → IsTrue (is_combinational design s) →
       IsTrue (is_read_for design s t) → IsTrue (holds cone t)) where
-    abbrev Given : ℕ → Type 0
+    abbrev pub Given : ℕ → Type 0
     Given t = IsTrue (holds cone t) × IsTrue (is_top_input design t || is_register design t)
 
     abbrev at_depth : ℕ → List ℕ
@@ -313,7 +313,7 @@ module _ (design : FlatDesign) (is_sound : IsTrue (sound design)) (admitted : Is
                   (kinds t inside),
             )
 
-    in_order : Ordered Given (settled_in design cone)
+    pub in_order : Ordered Given (settled_in design cone)
     in_order =
         groups (length design.signals) 1 Given (λ t g. g)
         (λ t inside comb less.

@@ -1,0 +1,55 @@
+-- The words of both cycles, step by step, from what is in hand.
+use Rattle.std.proofs.Common.{◌≡◌, ℕ, List, ap, ◌∙◌}
+use Rattle.sv_flat.specs.Design.{FlatDesign}
+use Rattle.sv_obl.specs.Obligations.{Obligation}
+use Rattle.sv_gates.specs.Formulas.{Formula}
+use Rattle.sv_gates.specs.Gates.{start}
+use Rattle.sv_encoding.specs.Cones.{registers_in, now_cone, next_cone}
+use Rattle.sv_encoding.specs.Encoding.{no_words, fresh_words, given_in, inputs_in, settled_in}
+use Rattle.sv_encoding.specs.Expressions.{Words}
+use Rattle.sv_blast.specs.Steps.{settled_in_turn, next_in_turn, after_given, after_settled}
+use Rattle.sv_blast.specs.Steps.{after_inputs, after_registers, after_next}
+
+module _ (design : FlatDesign) (o : Obligation) where
+  pub given_path : (ss : List ℕ) (words : Words) (gates : Formula) →
+      ss ≡ given_in design (now_cone design o) → words ≡ no_words → gates ≡ start →
+      fresh_words design ss words gates ≡ after_given design o
+  given_path ss words gates e w g =
+      let all = given_in design (now_cone design o) in
+      ap (λ z. fresh_words design z words gates) e
+      ∙ ap (λ (z : Words). fresh_words design all z gates) w
+      ∙ ap (λ z. fresh_words design all no_words z) g
+
+  pub settled_path : (ss : List ℕ) (z : Formula × Words) →
+      ss ≡ settled_in design (now_cone design o) → z ≡ after_given design o →
+      settled_in_turn design ss z.1 z.0 ≡ after_settled design o
+  settled_path ss z e g =
+      ap (λ ss. settled_in_turn design ss z.1 z.0) e
+      ∙ ap (λ (z : Formula × Words). settled_in_turn design (settled_in design (now_cone design o))
+      z.1 z.0) g
+
+  pub inputs_path : (ss : List ℕ) (words : Words) (gates : Formula) →
+      ss ≡ inputs_in design (next_cone design o) → words ≡ no_words →
+      gates ≡ (after_settled design o).0 → fresh_words design ss words gates ≡ after_inputs design o
+  inputs_path ss words gates e w g =
+      let all = inputs_in design (next_cone design o) in
+      ap (λ z. fresh_words design z words gates) e
+      ∙ ap (λ (z : Words). fresh_words design all z gates) w
+      ∙ ap (λ z. fresh_words design all no_words z) g
+
+  pub registers_path : (ss : List ℕ) (now : Words) (z : Formula × Words) →
+      ss ≡ registers_in design (next_cone design o) → now ≡ (after_settled design o).1 →
+      z ≡ after_inputs design o → next_in_turn design now ss z.1 z.0 ≡ after_registers design o
+  registers_path ss now z e n g =
+      let all = registers_in design (next_cone design o) in
+      ap (λ ss. next_in_turn design now ss z.1 z.0) e
+      ∙ ap (λ (w : Words). next_in_turn design w all z.1 z.0) n
+      ∙ ap (λ (z : Formula × Words). next_in_turn design (after_settled design o).1 all z.1 z.0) g
+
+  pub next_path : (ss : List ℕ) (z : Formula × Words) →
+      ss ≡ settled_in design (next_cone design o) → z ≡ after_registers design o →
+      settled_in_turn design ss z.1 z.0 ≡ after_next design o
+  next_path ss z e g =
+      ap (λ ss. settled_in_turn design ss z.1 z.0) e
+      ∙ ap (λ (z : Formula × Words). settled_in_turn design (settled_in design (next_cone design o))
+      z.1 z.0) g

@@ -1,0 +1,174 @@
+-- The words and labels that facts, conditions and the goal ask for are there.
+use Rattle.std.proofs.Common.{◌≡◌, ℕ, ◌<◌, ◌≤◌, List, [], ◌∷◌, ◌++◌, length, map, get_or, arith}
+use Rattle.std.specs.Prelude.{All, Contains, IsTrue}
+use Rattle.std.specs.List.{list_any}
+use Rattle.std.proofs.lemmas.List.Elements.{Contains-get_or}
+use Rattle.sv_system.proofs.Lists.{Contains-head, Contains-map}
+use Rattle.sv_flat.specs.declared.designs.Flat.{Flat}
+use Rattle.sv_flat.specs.Design.{FlatDesign, TypedTree}
+use Rattle.sv_flat.specs.Soundness.{well_formed}
+use Rattle.sv_flat.specs.Readings.{names_signal}
+use Rattle.sv_flat.specs.Views.{design_of}
+use Rattle.sv_flat.proofs.LeastSets.{in_those, some_from}
+use Rattle.sv_flat.proofs.Members.{Contains-left, Contains-right, all_contained}
+use Rattle.sv_obl.specs.declared.frames.Frame.TheVariants.{Now, Next}
+use Rattle.sv_obl.specs.Paths.{StepForm}
+use Rattle.sv_obl.specs.Obligations.{Obligation, GoalForm, flow, holds as must_hold, selector}
+use Rattle.sv_obl.specs.DesignQueries.{IsExpressionOf, IsGoalOf, IsQueryOf}
+use Rattle.sv_obl.specs.Noninterference.{IsChecked}
+use Rattle.sv_encoding.specs.Cones.{label_selectors, named_in, asked_now, asked_next, conditions_of}
+use Rattle.sv_encoding.specs.Expressions.{Words}
+use Rattle.sv_encoding_laws.proofs.Chain.{s2, s5, s6, s7, s8, s9, s10, p6, p7, p8, p9, p10, InCone}
+use Rattle.sv_encoding_laws.proofs.Chain.{InLater, conditions, named_inside, now_word, next_word}
+use Rattle.sv_encoding_laws.proofs.Chain.{asked_inside, labels_inside, grows5, grows7, grows9}
+use Rattle.sv_encoding_laws.proofs.ConeFacts.{seen_below}
+use Rattle.sv_encoding_laws.proofs.QueryCones.{in_flat_map, next_starts}
+use Rattle.sv_blast.specs.Goals.{IsTargetReady, IsHeldReady}
+use Rattle.sv_blast.specs.WordTables.{StandsOf, StandFor}
+
+module _ (flat : Flat) (checked : IsChecked (design_of flat)) (o : Obligation)
+    (query : IsQueryOf (design_of flat) o) where
+  abbrev design : FlatDesign
+  design = design_of flat
+
+  abbrev now_words : Words
+  now_words = (s2 design checked o query).1
+
+  abbrev next_words : Words
+  next_words = (s5 design checked o query).1
+
+  -- ---- expressions
+
+  -- a signal that one of these names is named in them
+  listed : (es : List TypedTree) (e : TypedTree) → Contains es e → IsExpressionOf design e →
+      (s : ℕ) → IsTrue (names_signal design.signals e s) → Contains (named_in design es) s
+  listed es e at is s named =
+      in_those (length design.signals)
+      (λ s. list_any (λ e. names_signal design.signals e s) es) s
+      (seen_below design checked.is_sound checked.admitted s (is.names s named))
+      (some_from (λ (x : TypedTree). names_signal design.signals x s) es e at named)
+
+  named_stands : (n : ℕ) → (s2 design checked o query).0.variables ≤ n → (e : TypedTree) →
+      Contains (conditions_of o) e → IsExpressionOf design e → StandFor design.signals n now_words e
+  named_stands n h e at is s named =
+      now_word design checked o query n h s
+      (named_inside design checked o query s (listed (conditions_of o) e at is s named))
+
+  pub facts_formed : All (λ e. IsTrue (well_formed design.signals e)) o.facts
+  facts_formed k d inside = (query.facts k d inside).formed
+
+  pub facts_stand : All (StandFor design.signals (s5 design checked o query).0.variables now_words)
+      o.facts
+  facts_stand k d inside =
+      named_stands (s5 design checked o query).0.variables (grows5 design checked o query)
+      (get_or o.facts k d)
+      (Contains-left o.facts (map (λ (step : StepForm). step.condition) o.path) (get_or o.facts k d)
+      (Contains-get_or o.facts k d inside))
+      (query.facts k d inside)
+
+  pub path_formed : All (λ (step : StepForm). IsTrue (well_formed design.signals step.condition))
+      o.path
+  path_formed k d inside = (query.path k d inside).formed
+
+  pub path_stands : All (λ (step : StepForm).
+      StandFor design.signals (s6 design checked o query).0.variables now_words step.condition) o.path
+  path_stands k d inside =
+      let step = get_or o.path k d in
+      let more = (p6 design checked o query).extends.begins.grows in
+      named_stands (s6 design checked o query).0.variables
+      (omega (arith, grows5 design checked o query, more)) step.condition
+      (Contains-right o.facts (map (λ (step : StepForm). step.condition) o.path) step.condition
+      (Contains-map (λ (step : StepForm). step.condition) o.path step
+      (Contains-get_or o.path k d inside)))
+      (query.path k d inside)
+
+  -- ---- labels
+
+  target_of : (goal : GoalForm) → IsGoalOf design o goal →
+      ((t : ℕ) → Contains (asked_now design goal) t → InCone design checked o query t) →
+      ((t : ℕ) → Contains (asked_next design goal) t → InLater design checked o query t) →
+      IsTargetReady design (s7 design checked o query).0.variables now_words next_words goal
+  target_of (flow s Now) is now next = (
+    seen_below design checked.is_sound checked.admitted s is.0,
+    λ t at. now_word design checked o query (s7 design checked o query).0.variables
+        (omega (arith, grows5 design checked o query, grows7 design checked o query)) t (now t at),
+  )
+  target_of (flow s Next) is now next = (
+    seen_below design checked.is_sound checked.admitted s is.0,
+    λ t at. next_word design checked o query (s7 design checked o query).0.variables
+        (grows7 design checked o query) t (next t at),
+  )
+  target_of (must_hold e frame) is now next = tt
+  target_of (selector s) is now next = (
+    seen_below design checked.is_sound checked.admitted s is.0,
+    λ t at. now_word design checked o query (s7 design checked o query).0.variables
+        (omega (arith, grows5 design checked o query, grows7 design checked o query)) t (now t at),
+  )
+
+  pub target_ready : IsTargetReady design (s7 design checked o query).0.variables now_words
+      next_words o.goal
+  target_ready =
+      target_of o.goal query.goal (asked_inside design checked o query)
+      (λ t at. next_starts design checked.is_sound checked.admitted o query t at)
+
+  pub reads_stand : (s t : ℕ) → Contains o.reads s → Contains (label_selectors design s) t →
+      StandsOf design.signals (s8 design checked o query).0.variables now_words t
+  reads_stand s t at selects =
+      let more = (p8 design checked o query).extends.begins.grows in
+      now_word design checked o query (s8 design checked o query).0.variables
+      (omega (arith, grows5 design checked o query, grows7 design checked o query, more)) t
+      (labels_inside design checked o query t
+      (in_flat_map (label_selectors design) o.reads s t at selects))
+
+  -- ---- an expression that is to hold
+
+  held_of : (goal : GoalForm) → IsGoalOf design o goal →
+      ((t : ℕ) → Contains (asked_now design goal) t → InCone design checked o query t) →
+      ((t : ℕ) → Contains (asked_next design goal) t → InLater design checked o query t) →
+      IsHeldReady design (s9 design checked o query).0.variables now_words next_words goal
+  held_of (flow s frame) is now next = tt
+  held_of (must_hold e Now) is now next = (
+    is.formed,
+    λ s named. now_word design checked o query (s9 design checked o query).0.variables
+        (omega (
+          arith,
+          grows5 design checked o query,
+          grows7 design checked o query,
+          grows9 design checked o query,
+        )) s (now s (listed (e ∷ []) e (Contains-head e []) is s named)),
+  )
+  held_of (must_hold e Next) is now next = (
+    is.formed,
+    λ s named. next_word design checked o query (s9 design checked o query).0.variables
+        (omega (arith, grows7 design checked o query, grows9 design checked o query)) s
+        (next s (listed (e ∷ []) e (Contains-head e []) is s named)),
+  )
+  held_of (selector s) is now next = tt
+
+  pub held_ready : IsHeldReady design (s9 design checked o query).0.variables now_words next_words
+      o.goal
+  held_ready =
+      held_of o.goal query.goal (asked_inside design checked o query)
+      (λ t at. next_starts design checked.is_sound checked.admitted o query t at)
+
+  -- ---- no step takes variables away
+
+  pub facts_more : (s5 design checked o query).0.variables
+      ≤ (s6 design checked o query).0.variables
+  facts_more = (p6 design checked o query).extends.begins.grows
+
+  pub conditions_more : (s6 design checked o query).0.variables
+      ≤ (s7 design checked o query).0.variables
+  conditions_more = (p7 design checked o query).extends.begins.grows
+
+  pub target_more : (s7 design checked o query).0.variables
+      ≤ (s8 design checked o query).0.variables
+  target_more = (p8 design checked o query).extends.begins.grows
+
+  pub reads_more : (s8 design checked o query).0.variables
+      ≤ (s9 design checked o query).0.variables
+  reads_more = (p9 design checked o query).extends.begins.grows
+
+  pub violation_more : (s9 design checked o query).0.variables
+      ≤ (s10 design checked o query).0.variables
+  violation_more = (p10 design checked o query).extends.begins.grows

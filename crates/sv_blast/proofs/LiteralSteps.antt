@@ -1,0 +1,70 @@
+-- The literals of facts, conditions and the goal, step by step, from what is in hand.
+use Rattle.std.proofs.Common.{◌≡◌, ℕ, ℤ, ◌≤◌, List, ap, ◌∙◌, arith}
+use Rattle.sv_flat.specs.Design.{FlatDesign, TypedTree}
+use Rattle.sv_obl.specs.Obligations.{Obligation}
+use Rattle.sv_obl.specs.Paths.{StepForm}
+use Rattle.std.specs.Prelude.{All}
+use Rattle.sv_gates.specs.Formulas.{Formula, IsLiteral}
+use Rattle.sv_encoding.specs.Encoding.{truth_literals, condition_literals, target_label, violation}
+use Rattle.sv_encoding.specs.Expressions.{Words}
+use Rattle.sv_encoding.specs.Labels.{LabelForm, signal_labels}
+use Rattle.sv_blast.specs.LabelViews.{AreWithin}
+use Rattle.sv_blast.specs.Steps.{after_settled, after_next, after_facts, after_conditions}
+use Rattle.sv_blast.specs.Steps.{after_target, after_reads, after_violation}
+
+-- the literals of a label, over more variables
+pub within_up : (m n : ℕ) (label : LabelForm) → m ≤ n → AreWithin m label → AreWithin n label
+within_up m n label h is k d inside =
+    let one = is k d inside in (one.0, omega (arith, one.1, h))
+
+pub all_up : (m n : ℕ) (literals : List ℤ) → m ≤ n → All (IsLiteral m) literals →
+    All (IsLiteral n) literals
+all_up m n literals h is k d inside =
+    let one = is k d inside in (one.0, omega (arith, one.1, h))
+
+module _ (design : FlatDesign) (o : Obligation) (now next : Words)
+    (is_now : now ≡ (after_settled design o).1) (is_next : next ≡ (after_next design o).1) where
+  pub facts_path : (facts : List TypedTree) (gates : Formula) → facts ≡ o.facts →
+      gates ≡ (after_next design o).0 →
+      truth_literals design now facts gates ≡ after_facts design o
+  facts_path facts gates e g =
+      ap (λ z. truth_literals design now z gates) e
+      ∙ ap (λ (w : Words). truth_literals design w o.facts gates) is_now
+      ∙ ap (truth_literals design (after_settled design o).1 o.facts) g
+
+  pub conditions_path : (path : List StepForm) (gates : Formula) → path ≡ o.path →
+      gates ≡ (after_facts design o).0 →
+      condition_literals design now path gates ≡ after_conditions design o
+  conditions_path path gates e g =
+      ap (λ z. condition_literals design now z gates) e
+      ∙ ap (λ (w : Words). condition_literals design w o.path gates) is_now
+      ∙ ap (condition_literals design (after_settled design o).1 o.path) g
+
+  pub target_path : (gates : Formula) → gates ≡ (after_conditions design o).0 →
+      target_label design now next o.goal gates ≡ after_target design o
+  target_path gates g =
+      ap (λ (w : Words). target_label design w next o.goal gates) is_now
+      ∙ ap (λ (w : Words). target_label design (after_settled design o).1 w o.goal gates) is_next
+      ∙ ap (target_label design (after_settled design o).1 (after_next design o).1 o.goal) g
+
+  pub reads_path : (reads : List ℕ) (gates : Formula) → reads ≡ o.reads →
+      gates ≡ (after_target design o).0 →
+      signal_labels design now reads gates ≡ after_reads design o
+  reads_path reads gates e g =
+      ap (λ z. signal_labels design now z gates) e
+      ∙ ap (λ (w : Words). signal_labels design w o.reads gates) is_now
+      ∙ ap (signal_labels design (after_settled design o).1 o.reads) g
+
+  pub violation_path : (target : LabelForm) (reads : List LabelForm) (gates : Formula) →
+      target ≡ (after_target design o).1 → reads ≡ (after_reads design o).1 →
+      gates ≡ (after_reads design o).0 →
+      violation design now next target reads o.goal gates ≡ after_violation design o
+  violation_path target reads gates t r g =
+      let first = (after_settled design o).1 in
+      let last = (after_next design o).1 in
+      ap (λ (w : Words). violation design w next target reads o.goal gates) is_now
+      ∙ ap (λ (w : Words). violation design first w target reads o.goal gates) is_next
+      ∙ ap (λ (z : LabelForm). violation design first last z reads o.goal gates) t
+      ∙ ap (λ (z : List LabelForm). violation design first last (after_target design o).1 z o.goal
+      gates) r
+      ∙ ap (violation design first last (after_target design o).1 (after_reads design o).1 o.goal) g

@@ -1,0 +1,43 @@
+use Rattle.std.proofs.Common.{rules, ◌≡◌, ◌∙◌, ◌<◌, min, ap, ap₂, sym, subst, arith}
+use Rattle.std.specs.Result.{IsErrOf}
+use Rattle.sv_flat.specs.Views.{design_of}
+use Rattle.sv_gates.specs.Formulas.{most_variables}
+use Rattle.sv_gates.specs.declared.gates.GateFault.TheVariants.{Full}
+use Rattle.sv_obl.specs.Views.{obligation_of}
+use Rattle.sv_encoding.specs.BothWays.{IsWhole}
+use Rattle.sv_encoding.specs.Encoding.{encoding}
+use Rattle.sv_encoding_laws.proofs.SizeExact.{size_is_exact}
+use Rattle.sv_encoding_laws.proofs.Wholeness.{encoding_is_whole}
+use Rattle.sv_blast.specs.Coded.{encoding_of}
+use Rattle.sv_blast.specs.Encoders.{design_in, obligation_in}
+use Rattle.sv_blast.proofs.WholeEncodings.{passes}
+use Rattle.sv_blast.proofs.encoding.encode.Goals as goal
+
+pub returns-then-size-gt-MOST_VARIABLES-clause-large : goal.returns-then-size-gt-MOST_VARIABLES-clause-large
+returns-then-size-gt-MOST_VARIABLES-clause-large c =
+    let exact = size_is_exact (design_of c.args.design.now) (obligation_of c.args.query.now)
+    c.know_design.ensures.checked c.requires in
+    λ e. subst (λ z. most_variables < z) (sym exact)
+    (passes c.in_ok-size.size _ c.in_ok-size.ensures c.if-size-gt-MOST_VARIABLES.true)
+
+pub returns-in-Ok-clause-coded : goal.returns-in-Ok-clause-coded
+returns-in-Ok-clause-coded c =
+    c.in-Ok.ensures.coded
+    ∙ ap₂ encoding c.in_ok-encoder.ensures.design c.in_ok-encoder.ensures.query
+
+pub returns-in-Ok-clause-whole : goal.returns-in-Ok-clause-whole
+returns-in-Ok-clause-whole c =
+    let design = design_of c.args.design.now in
+    let o = obligation_of c.args.query.now in
+    subst (IsWhole design o)
+    (sym (c.in-Ok.ensures.coded
+    ∙ ap₂ encoding c.in_ok-encoder.ensures.design c.in_ok-encoder.ensures.query))
+    (encoding_is_whole design o c.know_design.ensures.checked c.requires)
+
+pub returns-in-Err-Full-clause-large : goal.returns-in-Err-Full-clause-large
+returns-in-Err-Full-clause-large c =
+    let is : IsErrOf c.coded.result Full = search rules in
+    let large = c.coded.ensures.full is in
+    λ e. subst (λ n. most_variables < n)
+    (ap (λ z. z.variables)
+    (ap₂ encoding c.in_ok-encoder.ensures.design c.in_ok-encoder.ensures.query)) large

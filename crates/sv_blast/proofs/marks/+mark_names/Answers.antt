@@ -1,0 +1,34 @@
+use Rattle.std.proofs.Common.{◌==◌, [], sym, ap, ◌∙◌}
+use Rattle.std.specs.List.{list_any}
+use Rattle.sv_flat.specs.Readings.{ReadForm, node_reads, parts_reads, names_signal}
+use Rattle.sv_flat.specs.Views.{node_tree, typed_tree, typed_trees}
+use Rattle.sv_flat.proofs.Parts.{trees}
+use Rattle.sv_flat.proofs.Rows.{row_parts-hidden}
+use Rattle.sv_design.proofs.MarkFacts.{same_marked}
+use Rattle.sv_blast.specs.NamedMarks.{is_named_in}
+use Rattle.sv_blast.proofs.NameMarks.{all_named}
+use Rattle.sv_blast.proofs.marks.+mark_names.Goals as goal
+
+pub mark_names-returns-in-Join : goal.mark_names-returns-in-Join
+mark_names-returns-in-Join t c =
+    let parts = typed_trees c.deref-in-Join.result.now in
+    same_marked c.args.table.now c.mark_all_names.new.table (is_named_in parts)
+    (names_signal [] (typed_tree c.args.expr.now))
+    (λ s. all_named parts s
+    ∙ ap (list_any (λ (r : ReadForm). r.signal == s))
+    (ap (λ es. parts_reads [] (trees es)) c.deref-in-Join.ensures.value
+    ∙ ap (parts_reads []) (sym (row_parts-hidden c.in-Join.parts))
+    ∙ ap (node_reads []) (sym (ap node_tree c.in-Join.is))))
+    c.mark_all_names.ensures
+
+pub mark_names-returns-in-Repeat : goal.mark_names-returns-in-Repeat
+mark_names-returns-in-Repeat t c =
+    let parts = typed_trees c.deref-in-Repeat.result.now in
+    same_marked c.args.table.now c.mark_all_names-in-Repeat.new.table (is_named_in parts)
+    (names_signal [] (typed_tree c.args.expr.now))
+    (λ s. all_named parts s
+    ∙ ap (list_any (λ (r : ReadForm). r.signal == s))
+    (ap (λ es. parts_reads [] (trees es)) c.deref-in-Repeat.ensures.value
+    ∙ ap (parts_reads []) (sym (row_parts-hidden c.in-Repeat.parts))
+    ∙ ap (node_reads []) (sym (ap node_tree c.in-Repeat.is))))
+    c.mark_all_names-in-Repeat.ensures

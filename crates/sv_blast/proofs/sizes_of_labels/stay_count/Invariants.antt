@@ -1,0 +1,9 @@
+use Rattle.std.proofs.Common.{◌≡◌, min}
+use Rattle.std.specs.List.{range_with_len}
+use Rattle.sv_blast.specs.PointSizes.{stays_between}
+use Rattle.sv_blast.proofs.sizes_of_labels.stay_count.Given as goal
+
+-- the points so far
+abbrev pub invariant-loop-point : goal.invariant-loop-point
+invariant-loop-point l =
+    l.total ≡ min (stays_between l.lattice l.label l.target (range_with_len 0 l.point)) 4194305

@@ -1,0 +1,14 @@
+pub mod Coded
+pub mod ConeSizes
+pub mod Decoded
+pub mod Encoders
+pub mod Goals
+pub mod LabelSteps
+pub mod LabelViews
+pub mod NamedMarks
+pub mod NodeWords
+pub mod PointSizes
+pub mod SliceSizes
+pub mod Steps
+pub mod TargetWords
+pub mod WordTables

@@ -1,0 +1,269 @@
+// The encoding of an obligation, step by step.
+ghost use Rattle.std.specs.Prelude.{◌≡◌, ◌<◌, ◌≤◌, ◌++◌, true, false, All, IfOk, OnOk};
+ghost use Rattle.std.specs.Prelude.{IsErrOf, map};
+ghost use Rattle.sv_flat.specs.Views.{design_of};
+ghost use Rattle.sv_gates.specs.Formulas.{IsLiteral, most_variables};
+ghost use Rattle.sv_gates.specs.Gates.{start};
+ghost use Rattle.sv_flat.specs.Clocks.{processes_of};
+ghost use Rattle.sv_obl.specs.DesignQueries.{IsQueryOf};
+ghost use Rattle.sv_obl.specs.IndexedBodies.{AreIndexed};
+ghost use Rattle.sv_obl.specs.Views.{obligation_of};
+ghost use Rattle.sv_encoding.specs.BothWays.{IsWhole};
+ghost use Rattle.sv_encoding.specs.Cones.{now_cone, next_cone};
+ghost use Rattle.sv_encoding.specs.Encoding.{given_in, inputs_in, bit_places, encoding};
+ghost use Rattle.sv_blast.specs.Coded.{place_form, encoding_of};
+ghost use Rattle.sv_blast.specs.Encoders.{design_in, obligation_in, IsEncoder};
+ghost use Rattle.sv_blast.specs.Steps.{after_given, after_settled, after_inputs, after_next};
+ghost use Rattle.sv_blast.specs.Steps.{after_facts, after_conditions, after_violation};
+ghost use Rattle.sv_blast.specs.WordTables.{words_of};
+
+use crate::coded::{BitPlace, BlastFault, Coded};
+use crate::cones::{given_in, inputs_in, next_cone, now_cone, registers_in, settled_in};
+use crate::frames::{make_fresh, make_next, make_settled};
+use crate::goals::{target_label, violation};
+use crate::labels::signal_labels;
+use crate::places::add_places;
+use crate::sizes::encoding_size;
+use crate::tables::WordTable;
+use crate::truths::{conditions, truths};
+use crate::units::add_units;
+use std::alloc::{AllocError, Global};
+use sv_design::Design;
+use sv_flat::SigId;
+use sv_gates::{GateFault, Gates, Literal, MOST_VARIABLES};
+use sv_obl::{Bodies, Query, know_design};
+
+// The literals of facts, of conditions, and of the goal's failing.
+#[derive(Drop)]
+struct Literals {
+    facts: Vec<Literal>,
+    conditions: Vec<Literal>,
+    fails: Literal,
+}
+
+// What makes the encoding of an obligation of a design: the design's bodies, and the signals on
+// whose values in this cycle and in the next one the obligation hangs.
+#[derive(Drop)]
+struct Encoder<'a, 'b, 'c> {
+    alloc: Global,
+    design: &'a Design,
+    bodies: &'b Bodies<'a>,
+    query: &'c Query,
+    now_cone: Vec<SigId>,
+    next_cone: Vec<SigId>,
+}
+
+impl<'a, 'b, 'c> Encoder<'a, 'b, 'c> {
+    // That of an obligation. An error says that memory ran out.
+    fn new(
+        alloc: Global,
+        design: &'a Design,
+        bodies: &'b Bodies<'a>,
+        query: &'c Query,
+    ) -> Result<Encoder<'a, 'b, 'c>, AllocError>
+        requires query { IsQueryOf (design_of design.now) (obligation_of query.now) }
+        requires bodies { AreIndexed (processes_of (design_of design.now)) bodies.now.bodies.items }
+        ensures encoder { IfOk result IsEncoder }
+        ensures design { IfOk result (λ encoder. design_in encoder ≡ design_of design.now) }
+        ensures query { IfOk result (λ encoder. obligation_in encoder ≡ obligation_of query.now) }
+    {
+        let next_cone = next_cone(alloc, design, query)?;
+        let now_cone = now_cone(alloc, design, query, &next_cone)?;
+        Ok(Encoder {
+            alloc,
+            design,
+            bodies,
+            query,
+            now_cone,
+            next_cone,
+        })
+    }
+
+    // Steps 1 and 2: the words of this cycle's signals.
+    fn words_now(&self, gates: &mut Gates, bits: &mut Vec<BitPlace>) -> Result<WordTable, GateFault>
+        requires encoder { IsEncoder self.now }
+        requires begin { gates.old ≡ start }
+        ensures made { IfOk result (λ words.
+            after_settled (design_in self.now) (obligation_in self.now)
+            ≡ (gates.new, words_of words)) }
+        ensures bits { OnOk result (map place_form bits.new.items
+            ≡ map place_form bits.old.items
+            ++ bit_places false (after_given (design_in self.now) (obligation_in self.now)).1
+            (given_in (design_in self.now)
+            (now_cone (design_in self.now) (obligation_in self.now)))) }
+        ensures full { IsErrOf result GateFault.Full → most_variables
+            < ((after_settled (design_in self.now) (obligation_in self.now)).0).variables }
+    {
+        know_design(self.design);
+        let mut words = WordTable::new(self.alloc);
+        let given = given_in(self.alloc, self.design, &self.now_cone)?;
+        make_fresh(self.alloc, gates, self.design, &given, &mut words)?;
+        add_places(bits, false, &words, &given)?;
+        let settled = settled_in(self.alloc, self.design, &self.now_cone)?;
+        make_settled(
+            self.alloc,
+            gates,
+            self.design,
+            self.bodies,
+            &settled,
+            &mut words,
+        )?;
+        Ok(words)
+    }
+
+    // Steps 3 to 5: the words of the next cycle's signals.
+    fn words_next(
+        &self,
+        gates: &mut Gates,
+        now: &WordTable,
+        bits: &mut Vec<BitPlace>,
+    ) -> Result<WordTable, GateFault>
+        requires encoder { IsEncoder self.now }
+        requires now { after_settled (design_in self.now) (obligation_in self.now)
+            ≡ (gates.old, words_of now.now) }
+        ensures made { IfOk result (λ words.
+            after_next (design_in self.now) (obligation_in self.now)
+            ≡ (gates.new, words_of words)) }
+        ensures bits { OnOk result (map place_form bits.new.items
+            ≡ map place_form bits.old.items
+            ++ bit_places true (after_inputs (design_in self.now) (obligation_in self.now)).1
+            (inputs_in (design_in self.now)
+            (next_cone (design_in self.now) (obligation_in self.now)))) }
+        ensures full { IsErrOf result GateFault.Full → most_variables
+            < ((after_next (design_in self.now) (obligation_in self.now)).0).variables }
+    {
+        know_design(self.design);
+        let mut words = WordTable::new(self.alloc);
+        let inputs = inputs_in(self.alloc, self.design, &self.next_cone)?;
+        make_fresh(self.alloc, gates, self.design, &inputs, &mut words)?;
+        add_places(bits, true, &words, &inputs)?;
+        let registers = registers_in(self.alloc, self.design, &self.next_cone)?;
+        make_next(
+            self.alloc,
+            gates,
+            self.design,
+            self.bodies,
+            now,
+            &registers,
+            &mut words,
+        )?;
+        let settled = settled_in(self.alloc, self.design, &self.next_cone)?;
+        make_settled(
+            self.alloc,
+            gates,
+            self.design,
+            self.bodies,
+            &settled,
+            &mut words,
+        )?;
+        Ok(words)
+    }
+
+    // Steps 6 to 10: the facts, the conditions, the labels and the violation.
+    fn literals(
+        &self,
+        gates: &mut Gates,
+        now: &WordTable,
+        next: &WordTable,
+    ) -> Result<Literals, GateFault>
+        requires encoder { IsEncoder self.now }
+        requires now { words_of now.now
+            ≡ (after_settled (design_in self.now) (obligation_in self.now)).1 }
+        requires next { after_next (design_in self.now) (obligation_in self.now)
+            ≡ (gates.old, words_of next.now) }
+        ensures facts { IfOk result (λ made. made.facts.items
+            ≡ (after_facts (design_in self.now) (obligation_in self.now)).1) }
+        ensures conditions { IfOk result (λ made. made.conditions.items
+            ≡ (after_conditions (design_in self.now) (obligation_in self.now)).1) }
+        ensures facts_within { IfOk result (λ made.
+            All (IsLiteral gates.new.variables) made.facts.items) }
+        ensures conditions_within { IfOk result (λ made.
+            All (IsLiteral gates.new.variables) made.conditions.items) }
+        ensures fails_within { IfOk result (λ made. IsLiteral gates.new.variables made.fails) }
+        ensures made { IfOk result (λ made.
+            after_violation (design_in self.now) (obligation_in self.now)
+            ≡ (gates.new, made.fails)) }
+        ensures full { IsErrOf result GateFault.Full → most_variables
+            < ((after_violation (design_in self.now) (obligation_in self.now)).0).variables }
+    {
+        know_design(self.design);
+        let facts = truths(self.alloc, gates, self.design, now, &self.query.facts)?;
+        let conditions = conditions(self.alloc, gates, self.design, now, &self.query.path)?;
+        let goal = &self.query.goal;
+        let target = target_label(self.alloc, gates, self.design, now, next, goal)?;
+        let reads = signal_labels(self.alloc, gates, self.design, now, &self.query.reads)?;
+        let fails = violation(
+            self.alloc,
+            gates,
+            self.design,
+            now,
+            next,
+            &target,
+            &reads,
+            goal,
+        )?;
+        Ok(Literals {
+            facts,
+            conditions,
+            fails,
+        })
+    }
+
+    // All steps, the unit clauses last.
+    fn coded(&self) -> Result<Coded, GateFault>
+        requires encoder { IsEncoder self.now }
+        ensures coded { IfOk result (λ coded. encoding_of coded
+            ≡ encoding (design_in self.now) (obligation_in self.now)) }
+        ensures few { IfOk result (λ coded. coded.variables ≤ most_variables) }
+        ensures full { IsErrOf result GateFault.Full → most_variables
+            < (encoding (design_in self.now) (obligation_in self.now)).variables }
+    {
+        know_design(self.design);
+        let mut gates = Gates::new(self.alloc)?;
+        let mut bits = Vec::new(self.alloc);
+        let now = self.words_now(&mut gates, &mut bits)?;
+        let next = self.words_next(&mut gates, &now, &mut bits)?;
+        let made = self.literals(&mut gates, &now, &next)?;
+        let path = &self.query.path;
+        add_units(&mut gates, &made.facts, path, &made.conditions, made.fails)?;
+        let (variables, clauses) = gates.finish();
+        Ok(Coded {
+            variables,
+            clauses,
+            bits,
+        })
+    }
+}
+
+/// The encoding of an obligation of a design. `TooLarge` says that it has more than 4,194,304
+/// variables, which is found before any of it is made; `OutOfMemory` that memory ran out.
+pub fn encode(alloc: Global, design: &Design, query: &Query) -> Result<Coded, BlastFault>
+    requires { IsQueryOf (design_of design.now) (obligation_of query.now) }
+    ensures coded { IfOk result (λ coded. encoding_of coded
+        ≡ encoding (design_of design.now) (obligation_of query.now)) }
+    ensures whole { IfOk result (λ coded.
+        IsWhole (design_of design.now) (obligation_of query.now) (encoding_of coded)) }
+    ensures few { IfOk result (λ coded. coded.variables ≤ most_variables) }
+    ensures large { IsErrOf result BlastFault.TooLarge → most_variables
+        < (encoding (design_of design.now) (obligation_of query.now)).variables }
+{
+    know_design(design);
+    let bodies = Bodies::new(alloc, design)?;
+    let encoder = Encoder::new(alloc, design, &bodies, query)?;
+    let size = encoding_size(
+        alloc,
+        design,
+        &bodies,
+        query,
+        &encoder.now_cone,
+        &encoder.next_cone,
+    )?;
+    if size > MOST_VARIABLES {
+        return Err(BlastFault::TooLarge);
+    }
+    match encoder.coded() {
+        Ok(coded) => Ok(coded),
+        Err(GateFault::Full) => Err(BlastFault::TooLarge),
+        Err(GateFault::OutOfMemory) => Err(BlastFault::OutOfMemory),
+    }
+}

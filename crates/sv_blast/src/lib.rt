@@ -1,0 +1,42 @@
+//! Encoding: from an obligation of an admitted design to clauses that can be met exactly where it
+//! can be falsified, and from values of their variables back to a valuation.
+//!
+//! Takes a design and a query that is one of its obligations. `encode` gives exactly the encoding
+//! that `sv_encoding` defines, or `TooLarge` exactly where that has more than 4,194,304 variables;
+//! the size is told before a clause is made. `decode` gives the registers and inputs that values of
+//! the variables spell, and 0 where a bit has no place. `problem_line` and `clause_lines` give the
+//! text of clauses, some at a time.
+//!
+//! `specs/Coded.antt` is the plain form of an encoding, `Decoded.antt` says what `decode` asks for
+//! and gives. All other files there are private: they say how the code goes; the meaning stands in
+//! `sv_encoding`.
+#![tactic(auto)]
+
+mod arms;
+mod bodies;
+mod cnf_text;
+mod coded;
+mod cones;
+mod constants;
+mod decoding;
+mod encoding;
+mod expressions;
+mod frames;
+mod goals;
+mod labels;
+mod marks;
+mod operators;
+mod places;
+mod sizes;
+mod sizes_of_expressions;
+mod sizes_of_labels;
+mod sizes_of_operators;
+mod sizes_of_signals;
+mod tables;
+mod truths;
+mod units;
+
+pub use cnf_text::{clause_lines, problem_line};
+pub use coded::{BitPlace, BlastFault, Coded};
+pub use decoding::decode;
+pub use encoding::encode;

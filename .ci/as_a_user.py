@@ -34,14 +34,27 @@ HELP = b"""secv checks designs in SecVerilog: Verilog in which every signal has 
 usage:
   secv check FILE [--top MODULE]    say whether the labels of a design keep every secret
   secv list FILE [--top MODULE]     list the obligations of a design, a line each
+  secv cnf FILE NUMBER [--top MODULE]
+                                    print the clauses of one obligation of a design, as DIMACS
   secv sim FILE [--level POINT] [--order NUMBER] [--top MODULE]
                                     simulate a design on the stimulus of standard input
   secv COMMAND --help               say more of one command
   secv --help                       print this text
   secv --version                    print the version
 
-exit status: 0 accepted, listed or simulated, 1 refused, 2 wrong words,
+exit status: 0 accepted, listed, encoded or simulated, 1 refused, 2 wrong words,
              4 unreadable file or input, 5 unwritable output, 6 out of memory
+"""
+CNF_HELP = b"""Print the clauses of one obligation of a design, as DIMACS
+
+Usage: secv cnf [OPTIONS] <FILE> <NUMBER>
+
+Arguments:
+  <FILE>    The file of the design
+  <NUMBER>  The number of the obligation, from 1
+
+Options:
+      --top <MODULE>  The module to take as the top
 """
 # The help of `check` and of `list`, which take the same words.
 SHORT_HELP = """{what}
@@ -169,6 +182,8 @@ def words_and_faults():
     compare("--version", (version.stdout, version.stderr, version.returncode), (b"secv 0.1.0\n", b"", 0))
     answer = run(["sim", "--help"])
     compare("sim --help", (answer.stdout, answer.stderr, answer.returncode), (SIM_HELP, b"", 0))
+    answer = run(["cnf", "--help"])
+    compare("cnf --help", (answer.stdout, answer.stderr, answer.returncode), (CNF_HELP, b"", 0))
     for word, what in (("check", "Say whether the labels of a design keep every secret"), ("list", "List the obligations of a design, one a line")):
         answer = run([word, "--help"])
         compare(f"{word} --help", (answer.stdout.decode(), answer.stderr, answer.returncode), (SHORT_HELP.format(word=word, what=what), b"", 0))
@@ -182,7 +197,9 @@ def words_and_faults():
                               (["check", "f", "--top"], "words", wrong), (["check", "--top", "a", "f", "--top", "b"], "words", wrong),
                               (["check", "f", "--help"], "words", wrong), (["check", "-h"], "words", wrong), (["sim", "f", "--order", "18446744073709551616"], "words",
                                wrong.replace("check", "sim").replace("FILE ", "FILE [--level POINT] [--order NUMBER] ")),
-                              (["list"], "words", wrong.replace("check", "list")), ([b"\xff"], "words", "an argument is not UTF-8" + USAGE)]:
+                              (["list"], "words", wrong.replace("check", "list")),
+                              *((words, "words", wrong.replace("check", "cnf").replace("FILE ", "FILE NUMBER ")) for words in
+                                (["cnf", "f"], ["cnf", "f", "1", "2"], ["cnf", "f", "x"], ["cnf", "f", "-0"], ["cnf", "--", "f", "-1"], ["cnf", "f", "4294967296"])), ([b"\xff"], "words", "an argument is not UTF-8" + USAGE)]:
         answer = run(words)
         compare(f"words {words}", (answer.stdout, answer.returncode), (f"usage {kind}\n".encode(), 2))
         compare(f"words {words} are explained", answer.stderr.decode(), f"secv: {said}\n")
@@ -335,6 +352,42 @@ def lists():
         compare("list to a full device", (answer.stderr.decode(), answer.returncode), (FULL, 5))
 
 
+def clauses():
+    """The example of docs/formats.md, what stands in the way of clauses, and a text of many pieces."""
+    with open(os.path.join(TOP, "docs", "formats.md"), encoding="utf-8") as file:
+        text = file.read()
+    design = re.search(r"^```verilog\n(.*?)^```$", text, re.M | re.S)[1]
+    shown = re.findall(r"^```\n(.*?)^```$", text.partition("\n# Clauses of an obligation\n")[2], re.M | re.S)[1]
+    with tempfile.TemporaryDirectory() as folder:
+        path = os.path.join(folder, "text.v")
+        for text, words, wanted in [(design, ["3"], shown), (design, ["--top=m", "1"], "p cnf 1 2\n1 0\n-1 0\n"), (design, ["--top", "n", "1"], "refused 310 no-top 1:1\n"),
+                                    *((design, [number], "refused 706 no-obligation\n") for number in ("0", "4", "4294967295")),
+                                    ("module m; endmodule", ["1"], "refused 706 no-obligation\n"), (SELECTED.replace("{Dom(p)} q", "{H} q"), ["3"], "refused 706 no-obligation\n"),
+                                    (MANY, ["0"], "refused 702 paths y\n"), (product_of(190), ["1"], "refused 709 encoding 1\n"),
+                                    (product_of(190), ["2"], "refused 709 encoding 2\n"), (product_of(190), ["3"], "refused 706 no-obligation\n")]:
+            with open(path, "w", encoding="ascii") as file:
+                file.write(text)
+            answer = run(["cnf", path, *words])
+            said = explained(path, wanted) if "no-top" in wanted else ""
+            compare(f"cnf {words} {text[:60]}", (answer.stdout.decode(), answer.stderr.decode(), answer.returncode), (wanted, said, status_of(wanted.encode())))
+        with open(path, "w", encoding="ascii") as file:
+            file.write(product_of(2))
+        answer = run(["cnf", "--", path, "-0"])
+        compare("cnf of -0", (answer.stdout, answer.returncode), (b"refused 706 no-obligation\n", 1))
+        first, *lines = run(["cnf", path, "1"]).stdout.decode().split("\n")
+        # 64 bits, 22,240 gates of a product and 63 of its bits; three clauses for a conjunction, four for an exclusive or
+        compare("a text of many pieces", (first, len(lines), lines[0], lines[-2:]), (f"p cnf 22368 {len(lines) - 1}", 74977, "1 0", ["-1 0", ""]))
+        compare("its clauses are whole", [line for line in lines[:-1] if not re.fullmatch(r"(-?[1-9][0-9]* ){1,3}0", line)], [])
+        with open("/dev/full", "wb") as full:
+            answer = run(["cnf", path, "1"], stdout=full)
+        compare("cnf to a full device", (answer.stderr.decode(), answer.returncode), (FULL, 5))
+
+
+def product_of(factors):
+    """A choice by a product of so many factors of 64 bits."""
+    return f"module m(input [63:0] a, output y);\n  assign y = {'*'.join(['a'] * factors)} ? a[0] : a[1];\nendmodule\n"
+
+
 def simulations():
     """The examples of docs/formats.md, what stops a simulation, and what a user sees of it line by line."""
     with open(os.path.join(TOP, "docs", "formats.md"), encoding="utf-8") as file:
@@ -406,6 +459,7 @@ def main():
     shown_in_readme()
     words_and_faults()
     lists()
+    clauses()
     simulations()
     rules("Elaboration", 25)
     rules("Admission", 7)

@@ -3,11 +3,11 @@ _secv() {
   local word=${COMP_WORDS[COMP_CWORD]} before=${COMP_WORDS[COMP_CWORD - 1]} options
   COMPREPLY=()
   if [ "$COMP_CWORD" -eq 1 ]; then
-    mapfile -t COMPREPLY < <(compgen -W 'check list sim --help --version' -- "$word")
+    mapfile -t COMPREPLY < <(compgen -W 'check list cnf sim --help --version' -- "$word")
     return
   fi
   case ${COMP_WORDS[1]} in
-    check | list) options='--top' ;;
+    check | list | cnf) options='--top' ;;
     sim) options='--level --order --top' ;;
     *) return ;;
   esac

@@ -10,6 +10,7 @@ _secv() {
     commands=(
       'check:say whether the labels of a design keep every secret'
       'list:list the obligations of a design, a line each'
+      'cnf:print the clauses of one obligation of a design, as DIMACS'
       'sim:simulate a design on the stimulus of standard input'
       '--help:print this text'
       '--version:print the version'
@@ -23,6 +24,7 @@ _secv() {
   case $command in
     check) _arguments $top $help $file ;;
     list) _arguments $top $help $file ;;
+    cnf) _arguments $top $help '1:file:_files -g "*.v"' '2:number: ' ;;
     sim)
       _arguments $top $help $file \
         '--level=[Show only the signals whose labels flow to this point]:point: ' \

@@ -3,19 +3,21 @@ use std::alloc::{AllocError, Global};
 use sv_cli::run;
 use sv_io::{MemCabinet, MemSink, MemSource, Sink, Source};
 
-/// The status of a command over the text, with these streams.
+/// The status of these words, a blank between two, over the text, which is `f`, with these streams.
 pub fn status_of<S: Source, K: Sink>(
     alloc: Global,
-    command: &str,
+    words: &str,
     text: &str,
     input: &mut S,
     out: &mut K,
 ) -> Result<u8, AllocError> {
     let mut cabinet = MemCabinet::new(alloc, Vec::new(alloc));
     cabinet.hold("f", text.as_bytes())?;
-    let command = String::from_str(alloc, command)?;
-    let words = vec![in alloc; command, String::from_str(alloc, "f")?]?;
-    Ok(run(alloc, &words, &mut cabinet, input, out).status())
+    let mut list = Vec::new(alloc);
+    for word in words.split(' ') {
+        list.push(String::from_str(alloc, word)?)?;
+    }
+    Ok(run(alloc, &list, &mut cabinet, input, out).status())
 }
 
 /// What the input gives, at most how many bytes a take, and the numbers, from 1, of the take and of
@@ -31,7 +33,7 @@ pub struct Streams<'a> {
 /// The status and all that was written, where the output moves a byte a put.
 pub fn called(
     alloc: Global,
-    command: &str,
+    words: &str,
     text: &str,
     streams: Streams<'_>,
 ) -> Result<(u8, Vec<u8>), AllocError> {
@@ -39,6 +41,6 @@ pub fn called(
     let takes = vec![in alloc; streams.take]?;
     let mut input = MemSource::new(bytes, takes, streams.most.max(1));
     let mut out = MemSink::new(alloc, vec![in alloc; streams.put]?, 1);
-    let status = status_of(alloc, command, text, &mut input, &mut out)?;
+    let status = status_of(alloc, words, text, &mut input, &mut out)?;
     Ok((status, Vec::from_slice(alloc, out.bytes())?))
 }

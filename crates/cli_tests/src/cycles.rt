@@ -11,7 +11,7 @@ fn bytes_of_cycles(alloc: Global, cycles: u32) -> Result<(u8, u64), AllocError> 
     let line = Vec::from_slice(alloc, b"0\n")?;
     let mut input = RepeatSource::new(header, line, cycles, 100_000);
     let mut out = TallySink::new();
-    let status = status_of(alloc, "sim", INVERTERS, &mut input, &mut out)?;
+    let status = status_of(alloc, "sim f", INVERTERS, &mut input, &mut out)?;
     Ok((status, out.bytes()))
 }
 

@@ -7,6 +7,8 @@ use std::test::Fail;
 
 const TURN_LIST: &str = "1 y now +3:19 =3:10 reads turn b\n2 y now -3:19 =3:10 reads turn a\n";
 
+const TURN_CLAUSES: &str = "p cnf 3 6\n1 0\n1 -3 0\n-2 -3 0\n-1 2 3 0\n2 0\n3 0\n";
+
 const STIMULUS: &str = "start q 9\ninputs en d\n1 3\n0 F\n1 0\n";
 
 const TRACE: &str = "0 en=1 d=3 q=9 s=0 n=a\n1 en=0 d=f q=a s=3 n=b\n2 en=1 d=0 q=a s=c n=b\n";
@@ -15,7 +17,7 @@ const TURNED: &str = "inputs a\n0\n1\n";
 
 const INVERTED: &str = "0 a=0 y=1 p=1 q=0\n1 a=1 y=0 p=0 q=1\n";
 
-// A command over a text, a stimulus, at most how many of its bytes a take gives, and what is
+// Words over a text, a stimulus, at most how many of its bytes a take gives, and what is
 // written where nothing fails.
 type Row = (
     &'static str,
@@ -25,18 +27,19 @@ type Row = (
     &'static str,
 );
 
-const ROWS: [Row; 6] = [
-    ("check", GATE, "", 1, "accepted 1 obligations\n"),
-    ("list", TURN, "", 1, TURN_LIST),
-    ("sim", COUNTER, STIMULUS, 1, TRACE),
-    ("sim", INVERTERS, TURNED, 1, INVERTED),
-    ("sim", INVERTERS, TURNED, 2, INVERTED),
-    ("sim", INVERTERS, TURNED, 7, INVERTED),
+const ROWS: [Row; 7] = [
+    ("check f", GATE, "", 1, "accepted 1 obligations\n"),
+    ("list f", TURN, "", 1, TURN_LIST),
+    ("cnf f 1", TURN, "", 1, TURN_CLAUSES),
+    ("sim f", COUNTER, STIMULUS, 1, TRACE),
+    ("sim f", INVERTERS, TURNED, 1, INVERTED),
+    ("sim f", INVERTERS, TURNED, 2, INVERTED),
+    ("sim f", INVERTERS, TURNED, 7, INVERTED),
 ];
 
 // Each put fails once, and has what stands before it written.
 fn fails_at_each_put(rt: &impl Abort, alloc: Global, row: Row) -> Result<(), Fail> {
-    let (command, text, stimulus, most, whole) = row;
+    let (words, text, stimulus, most, whole) = row;
     let mut put = 0_u32;
     for before in 0..whole.len() {
         put = put.saturating_add(1);
@@ -46,7 +49,7 @@ fn fails_at_each_put(rt: &impl Abort, alloc: Global, row: Row) -> Result<(), Fai
             take: 0,
             put,
         };
-        let (status, bytes) = called(alloc, command, text, streams)?;
+        let (status, bytes) = called(alloc, words, text, streams)?;
         assert_eq!(rt; status, 5);
         assert_eq!(rt; bytes.as_slice(), &whole.as_bytes()[..before]);
     }
@@ -100,7 +103,7 @@ fn fails_at_takes(rt: &impl Abort, alloc: Global, cut: Cut) -> Result<(), Fail> 
             take,
             put: 0,
         };
-        let (status, bytes) = called(alloc, "sim", text, streams)?;
+        let (status, bytes) = called(alloc, "sim f", text, streams)?;
         assert_eq!(rt; status, wanted);
         assert_eq!(rt; bytes.as_slice(), printed.as_bytes());
     }

@@ -25,13 +25,15 @@ const HELP: &str =
 usage:
   secv check FILE [--top MODULE]    say whether the labels of a design keep every secret
   secv list FILE [--top MODULE]     list the obligations of a design, a line each
+  secv cnf FILE NUMBER [--top MODULE]
+                                    print the clauses of one obligation of a design, as DIMACS
   secv sim FILE [--level POINT] [--order NUMBER] [--top MODULE]
                                     simulate a design on the stimulus of standard input
   secv COMMAND --help               say more of one command
   secv --help                       print this text
   secv --version                    print the version
 
-exit status: 0 accepted, listed or simulated, 1 refused, 2 wrong words,
+exit status: 0 accepted, listed, encoded or simulated, 1 refused, 2 wrong words,
              4 unreadable file or input, 5 unwritable output, 6 out of memory
 ";
 

@@ -144,6 +144,7 @@ fn file_in(command: &Command) -> &str {
     match command {
         Command::Check { file, .. } => file.as_str(),
         Command::List { file, .. } => file.as_str(),
+        Command::Cnf { file, .. } => file.as_str(),
         Command::Sim { file, .. } => file.as_str(),
     }
 }
@@ -169,6 +170,8 @@ fn explain_rule(rt: &HostRuntime, words: &[String], refusal: &Refusal) {
 fn usage_of(command: &str) -> &'static str {
     if command == "sim" {
         "FILE [--level POINT] [--order NUMBER] [--top MODULE]"
+    } else if command == "cnf" {
+        "FILE NUMBER [--top MODULE]"
     } else {
         "FILE [--top MODULE]"
     }

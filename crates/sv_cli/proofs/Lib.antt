@@ -15,6 +15,8 @@ pub mod Limits
 pub mod Lines
 mod ListVerdicts
 mod OneListing
+mod Encoded
+pub mod Numbered
 pub mod Listed
 pub mod Simulating
 pub mod Preparing

@@ -2,7 +2,7 @@
 use Rattle.std.proofs.Common.{◌≡◌, ℕ, ◌<◌, ◌≤◌, List, [], length, Option, Some, None, inl, inr}
 use Rattle.std.proofs.Common.{◌⊎◌, refl, sym, ap, subst, ◌∙◌}
 use Rattle.std.specs.Prelude.{Result, Ok, Err, IfOk, IsSome, MatchOption, string_bytes, String}
-use Rattle.std.specs.Prelude.{option_map}
+use Rattle.std.specs.Prelude.{option_map, decimal, ◌∷◌}
 use Rattle.std.specs.declared.alloc.AllocError.{AllocError}
 use Rattle.std.specs.declared.alloc.Global.{Global}
 use Rattle.sv_num.specs.declared.faults.Place.{Place}
@@ -12,20 +12,28 @@ use Rattle.sv_flat.specs.Design.{FlatDesign}
 use Rattle.sv_flat.specs.Views.{design_of}
 use Rattle.sv_obl.specs.Limits.{excess}
 use Rattle.sv_obl.specs.ListLines.{list_text}
-use Rattle.sv_words.specs.Words.{Request, check, list, sim, request_of, usage_of}
+use Rattle.sv_gates.specs.Formulas.{most_variables}
+use Rattle.sv_encoding.specs.Encoding.{Encoding, encoding}
+use Rattle.sv_encoding.specs.CnfText.{cnf_text}
+use Rattle.sv_blast.specs.declared.coded.Coded.{Coded}
+use Rattle.sv_blast.specs.Coded.{encoding_of}
+use Rattle.sv_words.specs.Words.{Request, check, list, cnf, sim, request_of, usage_of}
 use Rattle.sv_words.specs.declared.command.UsageKind.{UsageKind}
 use Rattle.sv_cli.specs.declared.prepared.Prepared.{Prepared}
-use Rattle.sv_cli.specs.declared.prepared.Prepared.TheVariants.{Whole, Lines, Simulation}
+use Rattle.sv_cli.specs.declared.prepared.Prepared.TheVariants.{Whole, Lines, Clauses}
+use Rattle.sv_cli.specs.declared.prepared.Prepared.TheVariants.{Simulation}
 use Rattle.sv_cli.specs.declared.report.Report.{Report}
 use Rattle.sv_cli.specs.Command.{top_in}
 use Rattle.sv_cli.specs.Text.{usage_text, refusal_text, limit_text}
 use Rattle.sv_cli.specs.Answer.{Answer, answer_of, done, rule_broken, limit_exceeded}
 use Rattle.sv_cli.specs.Answer.{misused, largest_file, StandsFor, BreaksFirst, Passes}
-use Rattle.sv_cli.specs.Answer.{limit_number, limit_names, IsListing, IsSimulation}
+use Rattle.sv_cli.specs.Answer.{limit_number, limit_names, IsListing, IsEncoding, IsSimulation}
 use Rattle.sv_cli.specs.Answer.{Simulates, IsAnswerBy, IsAnswer, AreCircles}
 use Rattle.sv_cli.specs.Report.{Decides}
 use Rattle.sv_cli.specs.Prepared.{IsOtherOrWith, Prepares, PreparesFor}
-use Rattle.sv_cli.specs.Prepared.{PreparesWords, TellsLimit, ListsDesign}
+use Rattle.sv_cli.specs.Prepared.{PreparesWords, TellsLimit, ListsDesign, TellsNone, TellsLarge}
+use Rattle.sv_cli.specs.Prepared.{HoldsClauses, EncodesDesign}
+use Rattle.sv_cli.proofs.Encoded.{encoding_is_one}
 use Rattle.sv_cli.proofs.ListVerdicts.{listing_is_one}
 use Rattle.sv_cli.proofs.Simulating.{refused_only, large_only, simulation_is, simulation_back}
 use Rattle.sv_cli.proofs.Verdicts.{IsOneAnswer, verdict_is_one}
@@ -71,6 +79,8 @@ module _ (text : List ℕ) (n : ℕ) (p : Place) (ns : List (List ℕ))
       record { within = within; broken = inl broken; prints = refl }
   refused_stands (list file top) broken s =
       record { within = within; broken = broken; prints = refl }
+  refused_stands (cnf file number top) broken s =
+      record { within = within; broken = broken; prints = refl }
   refused_stands (sim file level order top) broken s =
       record { within = within; broken = broken; prints = refl }
 
@@ -85,6 +95,10 @@ module _ (text : List ℕ) (n : ℕ) (p : Place) (ns : List (List ℕ))
       own top (rule_broken n p ns) other (refusal_text n p ns) others
       (listing_is_one top text (rule_broken n p ns) (refusal_text n p ns)
       (refused_stands (list file top) broken s) other others is)
+  refused_alone (cnf file number top) broken s other others is =
+      own top (rule_broken n p ns) other (refusal_text n p ns) others
+      (encoding_is_one number top text (rule_broken n p ns) (refusal_text n p ns)
+      (refused_stands (cnf file number top) broken s) other others is)
   refused_alone (sim file level order top) broken s other others is =
       own top (rule_broken n p ns) other (refusal_text n p ns) others
       (refused_only level order top text s n p ns (refusal_text n p ns)
@@ -105,6 +119,7 @@ module _ (text : List ℕ) (large : largest_file < length text) where
       → IsAnswerBy request text s (limit_exceeded 701 []) (limit_text 701 [])
   large_stands (check file top) s = (large, refl, refl, refl)
   large_stands (list file top) s = inl (large, refl, refl, refl)
+  large_stands (cnf file number top) s = inl (large, refl, refl, refl)
   large_stands (sim file level order top) s = inl (large, refl, refl, refl)
 
   large_alone : (request : Request) (s : List ℕ) (other : Answer) (others : List ℕ)
@@ -117,6 +132,10 @@ module _ (text : List ℕ) (large : largest_file < length text) where
       own top (limit_exceeded 701 []) other (limit_text 701 []) others
       (listing_is_one top text (limit_exceeded 701 []) (limit_text 701 [])
       (large_stands (list file top) s) other others is)
+  large_alone (cnf file number top) s other others is =
+      own top (limit_exceeded 701 []) other (limit_text 701 []) others
+      (encoding_is_one number top text (limit_exceeded 701 []) (limit_text 701 [])
+      (large_stands (cnf file number top) s) other others is)
   large_alone (sim file level order top) s other others is =
       own top (limit_exceeded 701 []) other (limit_text 701 []) others
       (large_only level order top text s 701 [] (limit_text 701 []) (large, refl, refl, refl)
@@ -197,6 +216,7 @@ module _ (file : List ℕ) (top : Option (List ℕ)) (text : List ℕ) where
                   others w),
             );
           }
+      listed_prepared (Clauses coded) told = absurd told
       listed_prepared (Simulation simulated level order) told = absurd told
 
       pub lines_prepared : (r : Result Prepared AllocError)
@@ -204,6 +224,94 @@ module _ (file : List ℕ) (top : Option (List ℕ)) (text : List ℕ) where
           → IfOk r (PreparesFor (list file top) text)
       lines_prepared (Ok prepared) told = listed_prepared prepared told
       lines_prepared (Err e) told = tt
+
+      module _ (asked : ℕ) where
+        -- a report of the only answer
+        told_prepared : (report : Report) (n : ℕ) (ns : List (List ℕ))
+            → answer_of report.outcome ≡ Some (limit_exceeded n ns)
+            → IsEncoding asked top text (limit_exceeded n ns) report.text.items
+            → PreparesFor (cnf file asked top) text (Whole report)
+        told_prepared report n ns gives is =
+            whole_prepared (IsAnswerBy (cnf file asked top) text) _ report (limit_exceeded n ns)
+            gives (λ s. is)
+            (λ s other others w.
+            own top (limit_exceeded n ns) other report.text.items others
+            (encoding_is_one asked top text (limit_exceeded n ns) report.text.items is other others
+            w))
+
+        clauses_held : (coded : Coded) → HoldsClauses (design_of design) asked coded
+            → PreparesFor (cnf file asked top) text (Clauses coded)
+        clauses_held coded held =
+            let printed = cnf_text (encoding_of coded) in
+            let is : IsEncoding asked top text done printed = record {
+              within = within;
+              passes = passes;
+              few = held.few;
+              obligation = held.obligation;
+              found = held.found;
+              fits = subst (λ (e : Encoding). e.variables ≤ most_variables) held.coded_is held.fits;
+              prints = ap cnf_text held.coded_is;
+            } in
+            record {
+              ready = tt;
+              simulates = tt;
+              stands = λ s a others performed.
+                  subst (λ (b : Answer). IsEncoding asked top text b others) (sym performed.0)
+                  (subst (λ (p : List ℕ). IsEncoding asked top text done p) (sym performed.1) is);
+              only = λ s other others w. (
+                done,
+                printed,
+                (refl, refl),
+                own top done other printed others (encoding_is_one asked top text done printed is
+                    other others w),
+              );
+            }
+
+        encoded_prepared : (prepared : Prepared) → EncodesDesign (design_of design) asked prepared
+            → PreparesFor (cnf file asked top) text prepared
+        encoded_prepared (Whole report) (inl told) =
+            let number = limit_number told.exceeded in
+            let names = limit_names (design_of design).signals told.exceeded in
+            told_prepared report number names told.answer (inr (inl (record {
+              within = within;
+              passes = passes;
+              exceeded = told.exceeded;
+              first = told.first;
+              numbered = refl;
+              named = refl;
+              prints = told.text;
+            })))
+        encoded_prepared (Whole report) (inr (inl told)) =
+            told_prepared report 706 [] told.answer (inr (inr (inl (record {
+              within = within;
+              passes = passes;
+              few = told.few;
+              none = told.none;
+              numbered = refl;
+              nameless = refl;
+              prints = told.text;
+            }))))
+        encoded_prepared (Whole report) (inr (inr told)) =
+            told_prepared report 709 (decimal asked ∷ []) told.answer (inr (inr (inr (record {
+              within = within;
+              passes = passes;
+              few = told.few;
+              obligation = told.obligation;
+              found = told.found;
+              large = told.large;
+              numbered = refl;
+              named = refl;
+              prints = told.text;
+            }))))
+        encoded_prepared (Lines listed) told = absurd told
+        encoded_prepared (Clauses coded) held = clauses_held coded held
+        encoded_prepared (Simulation simulated level order) told = absurd told
+
+        pub clauses_prepared : (r : Result Prepared AllocError)
+            → IfOk r (EncodesDesign (design_of design) asked)
+            → IfOk r (PreparesFor (cnf file asked top) text)
+        clauses_prepared (Ok prepared) told = encoded_prepared prepared told
+        clauses_prepared (Err e) told = tt
 
       pub simulation_prepared : (level : Option (String Global)) (order : Option ℕ)
           → PreparesFor (sim file (option_map string_bytes level) order top) text
@@ -269,6 +377,7 @@ module _ (words : List (List ℕ)) where
       → IsOtherOrWith (Simulates words text) prepared
   may_simulate (Whole report) text request none asked may = tt
   may_simulate (Lines design) text request none asked may = tt
+  may_simulate (Clauses coded) text request none asked may = tt
   may_simulate (Simulation design level order) text request none asked may = may words none asked
 
   pub words_prepared : (text : List ℕ) (request : Request) (prepared : Prepared)

@@ -11,7 +11,8 @@ use Rattle.sv_text_laws.specs.SimulatedTexts.{IsWrittenAlike}
 use Rattle.sv_text_laws.proofs.TextLaws.{read_flattened}
 use Rattle.sv_text_laws.proofs.TextSimulations.{written_alike}
 use Rattle.sv_cli.specs.declared.prepared.Prepared.{Prepared}
-use Rattle.sv_cli.specs.declared.prepared.Prepared.TheVariants.{Whole, Lines, Simulation}
+use Rattle.sv_cli.specs.declared.prepared.Prepared.TheVariants.{Whole, Lines, Clauses}
+use Rattle.sv_cli.specs.declared.prepared.Prepared.TheVariants.{Simulation}
 use Rattle.sv_cli.specs.Answer.{Answer, answer_by, done, rule_broken, limit_exceeded, falsified}
 use Rattle.sv_cli.specs.Answer.{stimulus_refused, misused, largest_file, StandsFor, IsTooLarge}
 use Rattle.sv_cli.specs.Answer.{IsRefusedByRule, IsSimulatedText, IsSimulation, Simulates}
@@ -37,6 +38,7 @@ pub cycles_told : (words : List (List ℕ)) (text stimulus old new : List ℕ) (
     → WritesCycles words text stimulus old new
 cycles_told words text stimulus old new (Whole report) may is = absurd is
 cycles_told words text stimulus old new (Lines design) may is = absurd is
+cycles_told words text stimulus old new (Clauses coded) may is = absurd is
 cycles_told words text stimulus old new (Simulation design level order) may is = record {
   level = _;
   design = _;

@@ -7,7 +7,7 @@ use Rattle.std.proofs.lemmas.List.{append-nil, append_cancel_left}
 use Rattle.std.specs.Option.{option_map_or}
 use Rattle.sv_flat.specs.Design.{FlatDesign}
 use Rattle.sv_io.specs.Exchange.{Fetched, whole, nothing, Exchange, fetched}
-use Rattle.sv_words.specs.Words.{Request, request_of, usage_of, check, list, sim}
+use Rattle.sv_words.specs.Words.{Request, request_of, usage_of, check, list, cnf, sim}
 use Rattle.sv_words.specs.declared.command.CommandName.TheVariants as name
 use Rattle.sv_words.specs.declared.command.UsageKind.{UsageKind}
 use Rattle.sv_cli.specs.declared.outcome.Outcome.{Outcome}
@@ -15,7 +15,8 @@ use Rattle.sv_cli.specs.declared.outcome.Outcome.TheVariants.{Done, Refused, Usa
 use Rattle.sv_cli.specs.declared.outcome.Outcome.TheVariants.{WriteFault, OutOfMemory}
 use Rattle.sv_cli.specs.declared.outcome.Broken.TheVariants.{Rule, Limit, Fails, Stimulus}
 use Rattle.sv_cli.specs.declared.prepared.Prepared.{Prepared}
-use Rattle.sv_cli.specs.declared.prepared.Prepared.TheVariants.{Whole, Lines, Simulation}
+use Rattle.sv_cli.specs.declared.prepared.Prepared.TheVariants.{Whole, Lines, Clauses}
+use Rattle.sv_cli.specs.declared.prepared.Prepared.TheVariants.{Simulation}
 use Rattle.sv_cli.specs.Command.{command_in, file_in, command_of, file_of}
 use Rattle.sv_cli.specs.Text.{usage_text}
 use Rattle.sv_cli.specs.Answer.{Answer, answer_of, done, misused, ReadsFile, Reads}
@@ -207,6 +208,7 @@ module _ (words : List (List ℕ)) (before after : List Exchange) where
       × Holds level design
   simulation_of text (Whole report) Holds may is = absurd is
   simulation_of text (Lines design) Holds may is = absurd is
+  simulation_of text (Clauses coded) Holds may is = absurd is
   simulation_of text (Simulation design level order) Holds may is = (_, _, may, is)
 
   module _ (prepared : Prepared)
@@ -249,6 +251,7 @@ module _ (words : List (List ℕ)) (before after : List Exchange) where
     accepted_in (check file top) named is accepts =
         (top, subst (λ (b : Answer). IsVerdict top text b printed) accepts is)
     accepted_in (list file top) named is accepts = absurd cc
+    accepted_in (cnf file number top) named is accepts = absurd cc
     accepted_in (sim file level order top) named is accepts = absurd cc
 
     secrets_in : (u : Option UsageKind) → usage_of words ≡ u → IsRead text → IsAnswered u

@@ -1,7 +1,7 @@
 -- What the program answers, and when.
 use Rattle.std.specs.Prelude.{◌≡◌, ℕ, ◌+◌, ◌<◌, ◌≤◌, ◌⊎◌, ◌++◌, ◌∷◌, Bool, true, false, not, IsTrue}
 use Rattle.std.specs.Prelude.{IsFalse, List, [], length, take, slice_get, Option, Some, None}
-use Rattle.std.specs.Prelude.{IsSome, MatchOption}
+use Rattle.std.specs.Prelude.{IsSome, MatchOption, zero, suc, decimal}
 use Rattle.std.specs.List.{list_all, list_any, find}
 use Rattle.sv_num.specs.declared.faults.Place.{Place}
 use Rattle.sv_system.specs.System.{Noninterferent, HasOneTrace}
@@ -15,6 +15,10 @@ use Rattle.sv_walk.specs.Texts.{flat_of, BreaksRule}
 use Rattle.sv_obl.specs.declared.valuations.Valuation.{Valuation}
 use Rattle.sv_obl.specs.Limits.{Excess, many_paths, large_path, many_obligations, excess}
 use Rattle.sv_obl.specs.ListLines.{name_of, list_text}
+use Rattle.sv_obl.specs.Obligations as of_design
+use Rattle.sv_gates.specs.Formulas.{most_variables}
+use Rattle.sv_encoding.specs.Encoding.{encoding}
+use Rattle.sv_encoding.specs.CnfText.{cnf_text}
 use Rattle.sv_first_ast.specs.Tree.{ModuleTree}
 use Rattle.sv_first_ast.specs.Meaning.{label_of, flows, system}
 use Rattle.sv_first_ast.specs.Form.{is_first_form}
@@ -22,7 +26,7 @@ use Rattle.sv_first_ast.specs.Spelling.{Means}
 use Rattle.sv_first_ast.specs.Obligations.{Obligation, Values, obligations, flow_holds, Falsifies}
 use Rattle.sv_first_ast.specs.Obligations.{zeros}
 use Rattle.sv_trace.specs.declared.faults.StimKind.{StimKind}
-use Rattle.sv_words.specs.Words.{Request, check, list, sim, request_of, usage_of}
+use Rattle.sv_words.specs.Words.{Request, check, list, cnf, sim, request_of, usage_of}
 use Rattle.sv_words.specs.declared.command.UsageKind.{UsageKind}
 use Rattle.sv_simulate.specs.declared.endings.Ending.{Ending}
 use Rattle.sv_simulate.specs.declared.endings.Ending.TheVariants as endings
@@ -47,7 +51,8 @@ status_of outcome.WriteFault = 5
 status_of outcome.OutOfMemory = 6
 
 -- An answer that the words, the text and the stimulus decide, in plain values. `done` is that the
--- text is accepted, that its obligations are listed, or that the whole stimulus is simulated.
+-- text is accepted, that its obligations are listed, that the clauses of one are printed, or that
+-- the whole stimulus is simulated.
 pub data Answer : Type 0 where
   done : Answer
   rule_broken : ℕ → Place → List (List ℕ) → Answer
@@ -252,6 +257,63 @@ IsListing top text (falsified number v) printed = ⊥
 IsListing top text (stimulus_refused source line kind) printed = ⊥
 IsListing top text (misused kind) printed = ⊥
 
+-- ---- the clauses of one obligation
+
+-- the obligation of a design that has this number; they are numbered from 1
+abbrev pub obligation_at : FlatDesign → (number : ℕ) → Option of_design.Obligation
+obligation_at design zero = None
+obligation_at design (suc before) = slice_get (of_design.obligations [] design) before
+
+-- The text breaks no rule and its design exceeds no limit. The obligation of the number that is
+-- asked for is encoded with no more variables than may be: what is printed is its clauses.
+pub record IsEncodedText (asked : ℕ) (top : Option (List ℕ)) (text printed : List ℕ) : Type 0 where
+  pub within : length text ≤ largest_file
+  pub passes : Passes top text
+  pub few : excess passes.design ≡ None
+  pub obligation : of_design.Obligation
+  pub found : obligation_at passes.design asked ≡ Some obligation
+  pub fits : (encoding passes.design obligation).variables ≤ most_variables
+  pub prints : printed ≡ cnf_text (encoding passes.design obligation)
+
+-- The text breaks no rule and its design exceeds no limit, but no obligation has the number.
+pub record LacksObligation (asked : ℕ) (top : Option (List ℕ)) (text : List ℕ) (number : ℕ)
+    (names : List (List ℕ)) (printed : List ℕ) : Type 0 where
+  pub within : length text ≤ largest_file
+  pub passes : Passes top text
+  pub few : excess passes.design ≡ None
+  pub none : obligation_at passes.design asked ≡ None
+  pub numbered : number ≡ 706
+  pub nameless : names ≡ []
+  pub prints : printed ≡ limit_text number names
+
+-- One has, but its encoding takes more variables than may be; it is named by its number.
+pub record ExceedsVariables (asked : ℕ) (top : Option (List ℕ)) (text : List ℕ) (number : ℕ)
+    (names : List (List ℕ)) (printed : List ℕ) : Type 0 where
+  pub within : length text ≤ largest_file
+  pub passes : Passes top text
+  pub few : excess passes.design ≡ None
+  pub obligation : of_design.Obligation
+  pub found : obligation_at passes.design asked ≡ Some obligation
+  pub large : most_variables < (encoding passes.design obligation).variables
+  pub numbered : number ≡ 709
+  pub named : names ≡ decimal asked ∷ []
+  pub prints : printed ≡ limit_text number names
+
+-- What `cnf` answers for a text with this number and top, and what it prints.
+abbrev pub IsEncoding : (asked : ℕ) → (top : Option (List ℕ)) → (text : List ℕ) → Answer →
+    List ℕ → Type 0
+IsEncoding asked top text done printed = IsEncodedText asked top text printed
+IsEncoding asked top text (rule_broken number place names) printed =
+    IsRefusedByRule top text number place names printed
+IsEncoding asked top text (limit_exceeded number names) printed =
+    IsTooLarge text number names printed
+    ⊎ (ExceedsLimit top text number names printed
+    ⊎ (LacksObligation asked top text number names printed
+    ⊎ ExceedsVariables asked top text number names printed))
+IsEncoding asked top text (falsified number v) printed = ⊥
+IsEncoding asked top text (stimulus_refused source line kind) printed = ⊥
+IsEncoding asked top text (misused kind) printed = ⊥
+
 -- ---- simulations
 
 -- what is answered where a simulation ends so
@@ -309,6 +371,8 @@ pub record WritesCycles (words : List (List ℕ)) (text stimulus old new : List 
 abbrev pub IsAnswerBy : Request → (text stimulus : List ℕ) → Answer → List ℕ → Type 0
 IsAnswerBy (check file top) text stimulus answer printed = IsVerdict top text answer printed
 IsAnswerBy (list file top) text stimulus answer printed = IsListing top text answer printed
+IsAnswerBy (cnf file number top) text stimulus answer printed =
+    IsEncoding number top text answer printed
 IsAnswerBy (sim file level order top) text stimulus answer printed =
     IsSimulation level order top text stimulus answer printed
 

@@ -4,3 +4,4 @@ pub mod Text
 pub mod Answer
 pub mod Report
 pub mod Prepared
+pub mod Clauses

@@ -29,8 +29,12 @@ pub fn lines_of_design(alloc: Global, design: Design) -> Result<Prepared, AllocE
     }
 }
 
-// The report of the first limit that a design exceeds.
-fn report_of_fault(alloc: Global, design: &Design, fault: OblFault) -> Result<Report, AllocError>
+/// The report of the first limit that a design exceeds.
+pub fn report_of_fault(
+    alloc: Global,
+    design: &Design,
+    fault: OblFault,
+) -> Result<Report, AllocError>
     requires { Told (excess (design_of design.now)) fault }
     ensures { IfOk result (TellsLimit (design_of design.now)) }
 {

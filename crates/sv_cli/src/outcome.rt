@@ -34,7 +34,8 @@ pub enum Broken {
 /// What `run` comes to.
 #[derive(Debug, Drop)]
 pub enum Outcome {
-    /// The text is accepted, its obligations are listed, or its design is simulated.
+    /// The text is accepted, its obligations are listed, the clauses of one are printed, or its
+    /// design is simulated.
     Done,
     /// The text or the stimulus is refused.
     Refused(Broken),

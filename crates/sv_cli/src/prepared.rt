@@ -8,10 +8,12 @@ ghost use Rattle.sv_cli.specs.Answer.{largest_file, StandsFor};
 ghost use Rattle.sv_cli.specs.Command.{file_in, top_in};
 ghost use Rattle.sv_cli.specs.Prepared.{PreparesFor};
 
+use crate::clauses::clauses_of_design;
 use crate::designs::design_of_text;
 use crate::listing::lines_of_design;
 use crate::report::{Report, report_of_large_file, report_of_refusal, report_on_form};
 use std::alloc::{AllocError, Global};
+use sv_blast::Coded;
 use sv_design::Design;
 use sv_num::Fault;
 use sv_words::Command;
@@ -23,6 +25,8 @@ pub enum Prepared {
     Whole(Report),
     /// To write the line of each obligation of the design, which exceeds no limit.
     Lines(Design),
+    /// To write the clauses of an obligation.
+    Clauses(Coded),
     /// To simulate the design, with the level and the order that are asked for.
     Simulation(Design, Option<String>, Option<u64>),
 }
@@ -34,6 +38,7 @@ pub fn file_in(command: &Command) -> &str
     match command {
         Command::Check { file, .. } => file.as_str(),
         Command::List { file, .. } => file.as_str(),
+        Command::Cnf { file, .. } => file.as_str(),
         Command::Sim { file, .. } => file.as_str(),
     }
 }
@@ -45,6 +50,7 @@ fn top_in(command: &Command) -> Option<&str>
     match command {
         Command::Check { top, .. } => top.as_deref(),
         Command::List { top, .. } => top.as_deref(),
+        Command::Cnf { top, .. } => top.as_deref(),
         Command::Sim { top, .. } => top.as_deref(),
     }
 }
@@ -88,6 +94,7 @@ fn prepare_design(
             Ok(Prepared::Whole(report))
         }
         Command::List { .. } => lines_of_design(alloc, design),
+        Command::Cnf { number, .. } => clauses_of_design(alloc, &design, number),
         Command::Sim { level, order, .. } => Ok(Prepared::Simulation(design, level, order)),
     }
 }

@@ -10,6 +10,8 @@ ghost use Rattle.sv_io.specs.Sink.{WritesFront};
 ghost use Rattle.sv_io.specs.Source.{WhateverFollows};
 ghost use Rattle.sv_obl.specs.Limits.{excess};
 ghost use Rattle.sv_obl.specs.ListLines.{list_text};
+ghost use Rattle.sv_encoding.specs.CnfText.{cnf_text};
+ghost use Rattle.sv_blast.specs.Coded.{encoding_of};
 ghost use Rattle.sv_simulate.specs.Simulated.{largest_stimulus, level_asked, WritesAllCycles};
 ghost use Rattle.sv_words.specs.Words.{words_of, usage_of, plain};
 ghost use Rattle.sv_words.specs.declared.command.CommandName.{CommandName};
@@ -20,12 +22,14 @@ ghost use Rattle.sv_cli.specs.Answer.{IsAnswer, AreCircles, KeepsSecrets, Writes
 ghost use Rattle.sv_cli.specs.Prepared.{IsReady, IsPerformed, Performs, IsSimulationWith};
 ghost use Rattle.sv_cli.specs.Prepared.{PreparesFor, PreparesWords};
 
+use crate::clauses::put_clauses;
 use crate::listing::put_lines;
 use crate::outcome::Outcome;
 use crate::prepared::{Prepared, file_in, prepare_large, prepare_text};
 use crate::report::{Report, report_of_misuse};
 use crate::simulation::simulation;
 use std::alloc::{AllocError, Global};
+use sv_blast::Coded;
 use sv_design::Design;
 use sv_io::{Cabinet, FetchFault, PutFault, Sink, Source, put_all};
 use sv_words::{Command, WordFault, read_words};
@@ -51,8 +55,9 @@ impl From<AllocError> for NoReport {
 }
 
 /// Does what the words ask: `check FILE` checks the file's text, `list FILE` lists its obligations,
-/// and `sim FILE` simulates its design on the stimulus that the input gives, each with the module
-/// of `--top M` as the text's top where that is named. It fetches FILE once, judges what that fetch
+/// `cnf FILE NUMBER` prints the clauses of one of these, and `sim FILE` simulates its design on the
+/// stimulus that the input gives, each with the module of `--top M` as the text's top where that is
+/// named. It fetches FILE once, judges what that fetch
 /// handed out, and writes the answer, as the definitions of `Answer` say. What it says of a text
 /// holds for every cabinet, source and sink, those of the real system among them.
 pub fn run<C: Cabinet, S: Source, K: Sink>(
@@ -312,6 +317,7 @@ fn perform<S: Source, K: Sink>(
     match prepared {
         Prepared::Whole(report) => send(out, report),
         Prepared::Lines(design) => send_lines(alloc, out, &design),
+        Prepared::Clauses(coded) => send_clauses(alloc, out, &coded),
         Prepared::Simulation(design, level, order) => {
             simulation(alloc, &design, level.as_deref(), order, input, out)
         }
@@ -349,6 +355,24 @@ fn send_lines<K: Sink>(alloc: Global, out: &mut K, design: &Design) -> Outcome
     ensures write_fault { result ≡ Outcome.WriteFault → Rose (K.faults out.old) (K.faults out.new) }
 {
     match put_lines(alloc, out, design) {
+        Ok(()) => Outcome::Done,
+        Err(PutFault::Failed) => Outcome::WriteFault,
+        Err(PutFault::OutOfMemory) => Outcome::OutOfMemory,
+    }
+}
+
+// Writes the clauses of an obligation, piece by piece.
+fn send_clauses<K: Sink>(alloc: Global, out: &mut K, coded: &Coded) -> Outcome
+    ensures answered { IfSome (answer_of result) (λ a. a ≡ done) }
+    ensures whole { IfSome (answer_of result)
+        (λ _. K.accepted out.new ≡ K.accepted out.old ++ cnf_text (encoding_of coded.now)) }
+    ensures front { IfNone (answer_of result)
+        (WritesFront (K.accepted out.old) (cnf_text (encoding_of coded.now))
+        (K.accepted out.new)) }
+    ensures no_read { result ≡ Outcome.ReadFault → ⊥ }
+    ensures write_fault { result ≡ Outcome.WriteFault → Rose (K.faults out.old) (K.faults out.new) }
+{
+    match put_clauses(alloc, out, coded) {
         Ok(()) => Outcome::Done,
         Err(PutFault::Failed) => Outcome::WriteFault,
         Err(PutFault::OutOfMemory) => Outcome::OutOfMemory,

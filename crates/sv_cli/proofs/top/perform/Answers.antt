@@ -3,6 +3,8 @@ use Rattle.std.specs.Prelude.{IfSome, IsSome, Option}
 use Rattle.sv_flat.specs.Views.{design_of}
 use Rattle.sv_io.specs.Source.{WhateverFollows}
 use Rattle.sv_obl.specs.ListLines.{list_text}
+use Rattle.sv_encoding.specs.CnfText.{cnf_text}
+use Rattle.sv_blast.specs.Coded.{encoding_of}
 use Rattle.sv_simulate.specs.Simulated.{level_asked, WritesAllCycles}
 use Rattle.sv_cli.specs.declared.prepared.Prepared.{Prepared}
 use Rattle.sv_cli.specs.Answer.{Answer, answer_of, done}
@@ -43,6 +45,21 @@ returns-in-Lines-clause-performed g c =
 
 pub returns-in-Lines-clause-most : goal.returns-in-Lines-clause-most
 returns-in-Lines-clause-most g c = few_taken (g.S.Source.given c.args.input.now)
+
+pub returns-in-Clauses-clause-performed : goal.returns-in-Clauses-clause-performed
+returns-in-Clauses-clause-performed g c =
+    let given = g.S.Source.given c.args.input.now in
+    let left = g.S.Source.left c.args.input.now in
+    let old = g.K.Sink.accepted c.args.out.now in
+    let new = g.K.Sink.accepted c.send_clauses.new.out in
+    subst (λ (p : Prepared). Performs (IsPerformed p) (λ (s : List ℕ). given ≡ given ++ s)
+    g.S.Source.tells left old new (answer_of c.send_clauses.result)) (sym c.in-Clauses.is)
+    (sent (λ (a : Answer). a ≡ done) given (cnf_text (encoding_of c.in-Clauses.coded)) left old new
+    g.S.Source.tells done refl (one_equal done) (answer_of c.send_clauses.result)
+    c.send_clauses.ensures.answered c.send_clauses.ensures.whole c.send_clauses.ensures.front)
+
+pub returns-in-Clauses-clause-most : goal.returns-in-Clauses-clause-most
+returns-in-Clauses-clause-most g c = few_taken (g.S.Source.given c.args.input.now)
 
 pub returns-in-Simulation-clause-performed : goal.returns-in-Simulation-clause-performed
 returns-in-Simulation-clause-performed g c =
@@ -110,6 +127,18 @@ returns-in-Lines-clause-to_the_end g c =
     (λ goes_on taken more same.
     sent_whatever (λ (a : Answer). a ≡ done) (list_text (design_of c.in-Lines.design)) old new
     (answer_of c.send_lines.result) c.send_lines.ensures.answered c.send_lines.ensures.whole)
+
+pub returns-in-Clauses-clause-to_the_end : goal.returns-in-Clauses-clause-to_the_end
+returns-in-Clauses-clause-to_the_end g c =
+    let given = g.S.Source.given c.args.input.now in
+    let old = g.K.Sink.accepted c.args.out.now in
+    let new = g.K.Sink.accepted c.send_clauses.new.out in
+    subst (λ (p : Prepared). WhateverFollows (g.S.Source.ended c.args.input.now) given given
+    (λ stimulus. IfSome (answer_of c.send_clauses.result) (λ a. (printed : List ℕ)
+    × IsPerformed p stimulus a printed × (new ≡ old ++ printed)))) (sym c.in-Clauses.is)
+    (λ goes_on taken more same.
+    sent_whatever (λ (a : Answer). a ≡ done) (cnf_text (encoding_of c.in-Clauses.coded)) old new
+    (answer_of c.send_clauses.result) c.send_clauses.ensures.answered c.send_clauses.ensures.whole)
 
 pub returns-in-Simulation-clause-to_the_end : goal.returns-in-Simulation-clause-to_the_end
 returns-in-Simulation-clause-to_the_end g c =

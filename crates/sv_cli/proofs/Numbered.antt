@@ -1,0 +1,123 @@
+-- The obligation of a number, where those of one target are looked at after the other.
+use Rattle.std.proofs.Common.{◌≡◌, ℕ, ◌+◌, ◌-◌, ◌<◌, ◌≤◌, ◌++◌, zero, suc, List, [], ◌∷◌, map}
+use Rattle.std.proofs.Common.{length, Option, Some, None, refl, sym, ◌∙◌, ap, subst, arith}
+use Rattle.std.proofs.Common.{length-append}
+use Rattle.std.specs.Prelude.{slice_get, option_map, IfSome, All}
+use Rattle.std.proofs.lemmas.List.Elements.{All-get_or}
+use Rattle.std.proofs.lemmas.Option.{slice_get_within, slice_get-map}
+use Rattle.std.proofs.lemmas.Option.{get_or_from_slice_get}
+use Rattle.sv_flat.specs.Design.{FlatDesign}
+use Rattle.sv_obl.specs.DesignQueries.{IsQueryOf}
+use Rattle.sv_obl.specs.ListParts.{IsAt, obligations_before, obligations_from}
+use Rattle.sv_obl.specs.Obligations.{Obligation, obligations, target_obligations}
+use Rattle.sv_obl.specs.Views.{obligation_of}
+use Rattle.sv_obl.specs.declared.list_parts.Listing.{Listing}
+use Rattle.sv_obl.specs.declared.queries.Query.{Query}
+use Rattle.sv_obl.proofs.TargetFacts.{length_mapped}
+use Rattle.sv_obl.proofs.WrittenFacts.{before_and_from, from_next, next_before}
+use Rattle.sv_cli.specs.Clauses.{IsFoundOrNext}
+
+-- ---- lists
+
+none_more : (k : ℕ) → 0 + k ≡ k
+none_more k = omega arith
+
+one_more : (n k : ℕ) → suc n + k ≡ suc (n + k)
+one_more n k = omega arith
+
+module _ {A : Type 0} where
+  -- what stands behind some elements
+  pub get_behind : (xs ys : List A) (k : ℕ) → slice_get (xs ++ ys) (length xs + k) ≡ slice_get ys k
+  get_behind [] ys k = ap (λ n. slice_get ys n) (none_more k)
+  get_behind (x ∷ xs) ys k =
+      ap (λ n. slice_get (x ∷ (xs ++ ys)) n) (one_more (length xs) k) ∙ get_behind xs ys k
+
+  -- what stands in the first of two lists
+  pub get_first : (ys zs : List A) (k : ℕ) (y : A) → slice_get ys k ≡ Some y
+      → slice_get (ys ++ zs) k ≡ Some y
+  get_first [] zs k y is = absurd cc
+  get_first (x ∷ ys) zs zero y is = is
+  get_first (x ∷ ys) zs (suc k) y is = get_first ys zs k y is
+
+  -- what holds of all elements holds of the one that stands there
+  pub get_all : (P : A → Type 0) (xs : List A) (k : ℕ) (x : A) → All P xs
+      → slice_get xs k ≡ Some x → P x
+  get_all P xs k x all is =
+      subst P (get_or_from_slice_get xs k x x is)
+      (All-get_or P xs k x (slice_get_within xs k x is) all)
+
+  -- nothing stands past the end alone
+  pub none_past : (xs : List A) (k : ℕ) → slice_get xs k ≡ None → length xs ≤ k
+  none_past [] k none = omega arith
+  none_past (x ∷ xs) zero none = absurd cc
+  none_past (x ∷ xs) (suc k) none = let low = none_past xs k none in omega arith
+
+two_sums : {a b c d : ℕ} → a ≡ c → b ≡ d → a + b ≡ c + d
+two_sums first second = omega arith
+
+-- ---- obligations
+
+module _ (design : FlatDesign) (before : ℕ) where
+  -- the plain form of what stands at a place
+  plain_at : (queries : List Query) (os : List Obligation) (k : ℕ) (found : Option Query)
+      → map obligation_of queries ≡ os → found ≡ slice_get queries k
+      → option_map obligation_of found ≡ slice_get os k
+  plain_at queries os k found are is =
+      ap (option_map obligation_of) is ∙ sym (slice_get-map obligation_of queries k)
+      ∙ ap (λ (xs : List Obligation). slice_get xs k) are
+
+  -- a query that was found is one of the design
+  pub is_query : (queries : List Query) (k : ℕ) (found : Option Query)
+      → All (IsQueryOf design) (map obligation_of queries) → found ≡ slice_get queries k
+      → IfSome found (λ query. IsQueryOf design (obligation_of query))
+  is_query queries k None all is = tt
+  is_query queries k (Some query) all is =
+      get_all (IsQueryOf design) (map obligation_of queries) k (obligation_of query) all
+      (sym (plain_at queries (map obligation_of queries) k (Some query) refl is))
+
+  -- the place among those behind the first ones
+  place : (first : ℕ) → first ≤ before → before ≡ first + (before - first)
+  place first behind = omega arith
+
+  -- among the obligations of the target that comes next
+  pub found_or_next : (i : ℕ) (old new : Listing) (queries : List Query) (found : Option Query)
+      → i < length design.signals → IsAt design i old → IsAt design (i + 1) new
+      → old.count ≤ before → map obligation_of queries ≡ target_obligations [] design i
+      → All (IsQueryOf design) (map obligation_of queries)
+      → found ≡ slice_get queries (before - old.count)
+      → IsFoundOrNext design (i + 1) before new found
+  found_or_next i old new queries (Some query) inside at next behind are all is =
+      let k = before - old.count in
+      let here = target_obligations [] design i in
+      let before_it = obligations_before design i in
+      let after = obligations_from design (i + 1) in
+      let among : slice_get here k ≡ Some (obligation_of query) =
+      sym (plain_at queries here k (Some query) are is) in
+      let at_place : before ≡ length before_it + k =
+      place old.count behind ∙ ap (λ n. n + k) at.counted.count in (
+        ap (λ n. slice_get (obligations [] design) n) at_place
+            ∙ ap (λ (os : List Obligation). slice_get os (length before_it + k))
+            (sym (before_and_from design i (low i inside)) ∙ ap (λ os. before_it ++ os)
+            (from_next design i inside))
+            ∙ get_behind before_it (here ++ after) k
+            ∙ get_first here after k (obligation_of query) among,
+        is_query queries k (Some query) all is,
+      )
+    where
+      low : (j : ℕ) → j < length design.signals → j ≤ length design.signals
+      low j lt = omega arith
+  found_or_next i old new queries None inside at next behind are all is =
+      (next, above (length queries) past many)
+    where
+      past : length queries ≤ before - old.count
+      past = none_past queries (before - old.count) (sym is)
+
+      many : new.count ≡ old.count + length queries
+      many =
+          next.counted.count
+          ∙ ap length (next_before design i)
+          ∙ length-append (obligations_before design i) (target_obligations [] design i)
+          ∙ two_sums (sym at.counted.count) (sym (ap length are) ∙ length_mapped obligation_of queries)
+
+      above : (n : ℕ) → n ≤ before - old.count → new.count ≡ old.count + n → new.count ≤ before
+      above n le is_many = omega arith

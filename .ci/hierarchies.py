@@ -1,7 +1,7 @@
 #!/usr/bin/env python3
 """Checks hierarchies at the limits of elaboration through ./secv: signals, instances, points and rows of maps at the limit and one past
 it, modules nested and chained, and a hierarchy whose whole size no machine could hold; and blocks of 4,096 signals and of 100,000 statements, with
-a latch and without one. Each wanted line is worked out here from docs/language.md. The last line is 'N passed, M failed'.
+a latch and without one; and encodings at the limit of variables. Each wanted line is worked out here from docs/language.md. The last line is 'N passed, M failed'.
 """
 import os
 import resource
@@ -148,11 +148,35 @@ def statements(folder):
         check(f"{text.count(';') - 3} statements", text, wanted, folder)
 
 
+def encodings(folder):
+    """The clauses of an obligation with 4,194,304 variables, and those of one with one more: 1 that is true, 64 bits of `a`, 22,240 gates for each
+    of 188 products of 64 bits (64 * 65 / 2 for the rows, 5 * 64 for each of 63 sums), 64 for each of 204 words by `^`, one for each of 62 or 63
+    bits by `^`, and one for the label of `h`, which does not flow to that of `y`."""
+    global passed, failed
+    assert 1 + 64 + 188 * (64 * 65 // 2 + 63 * 5 * 64) + 204 * 64 + 62 + 1 == 4194304
+    words = [f"  wire [63:0] p{i} = " + ("a" if i == 0 else f"p{i - 1} * p{i - 1}" if i <= 188 else f"p{i - 1} ^ a") + ";\n" for i in range(393)]
+    path = os.path.join(folder, "text.v")
+    for bits, wanted in ((62, b"p cnf 4194304 "), (63, b"refused 709 encoding 1\n")):
+        lines = [f"  wire x{i} = " + ("p392[0]" if i == 0 else f"x{i - 1} ^ a[0]") + ";\n" for i in range(bits + 1)]
+        with open(path, "w", encoding="ascii") as file:
+            file.write("module m(output reg y, input [63:0] a, input {H} h);\n" + "".join(words + lines)
+                       + f"  always @* if (x{bits}) y = h; else y = 0;\nendmodule\n")
+        with subprocess.Popen([SECV, "cnf", path, "1"], stdin=subprocess.DEVNULL, stdout=subprocess.PIPE, stderr=subprocess.DEVNULL) as program:
+            first = program.stdout.readline()
+            rest = sum(piece.count(b"\n") for piece in iter(lambda: program.stdout.read(1 << 20), b""))
+        told = int(first.split()[3]) if first.startswith(b"p cnf ") else 0
+        if first.startswith(wanted) and rest == told and program.returncode == (0 if told else 1):
+            passed += 1
+        else:
+            failed += 1
+            print(f"{bits} bits by ^\n  wanted {wanted}\n  got    {first!r}, {rest} lines after it, status {program.returncode}")
+
+
 def main():
     # the first run builds the program, which takes more than a run may
     subprocess.run([SECV, "--path"], stdout=subprocess.DEVNULL, check=True)
     with tempfile.TemporaryDirectory() as folder:
-        for group in (signals, instances, astronomical, labels, nest, statements):
+        for group in (signals, instances, astronomical, labels, nest, statements, encodings):
             group(folder)
     print(f"{passed} passed, {failed} failed")
     sys.exit(1 if failed else 0)

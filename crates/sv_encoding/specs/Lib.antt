@@ -2,6 +2,7 @@ pub mod Bodies
 pub mod BothWays
 pub mod CnfText
 pub mod Cones
+pub mod Deciding
 pub mod Encoding
 pub mod Expressions
 pub mod LabelMeanings

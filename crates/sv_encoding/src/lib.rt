@@ -7,8 +7,8 @@
 //! `Cones.antt` the signals that an obligation hangs on, `Labels.antt` labels and flows as
 //! literals, and `Encoding.antt` the whole, step by step.
 //! `Sizes.antt` tells the number of variables without a clause, `CnfText.antt` the text that `secv
-//! cnf` prints, `Valuations.antt` the valuation that values of the variables spell, and
-//! `BothWays.antt` what the clauses mean, with `GivenMeanings.antt` on the words with which a cycle
-//! begins and `LabelMeanings.antt` on labels and flows. None is private. `proofs/` has examples by
-//! computation.
+//! cnf` prints, `Valuations.antt` the valuation that values of the variables spell,
+//! `Deciding.antt` what logs of resolution decide of an obligation, and `BothWays.antt` what the
+//! clauses mean, with `GivenMeanings.antt` on the words with which a cycle begins and
+//! `LabelMeanings.antt` on labels and flows. None is private. `proofs/` has examples by computation.
 #![tactic(auto)]

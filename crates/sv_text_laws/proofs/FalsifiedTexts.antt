@@ -185,12 +185,12 @@ module _ (text : TextTree) (asked : Option (List ℕ)) (design : FlatDesign)
   settled_same state inputs e other_state other_inputs g states all_inputs same =
       join.3 state inputs e other_state other_inputs g states all_inputs (same_seen e g same)
 
-  registers_same : (e : Environment ℕ) (s : ℕ) → IsTrue (first.is_register s)
+  pub registers_same : (e : Environment ℕ) (s : ℕ) → IsTrue (first.is_register s)
       → e s ≡ by_path signals e (to s)
   registers_same e s register =
       same_seen e (by_path signals e) (same_by_path e) s (join.0 s register)
 
-  inputs_same : (e : Environment ℕ) (s : ℕ) → IsTrue (first.is_input s)
+  pub inputs_same : (e : Environment ℕ) (s : ℕ) → IsTrue (first.is_input s)
       → e s ≡ by_path signals e (to s)
   inputs_same e s input = same_seen e (by_path signals e) (same_by_path e) s (join.1 s input)
 

@@ -12,8 +12,9 @@ mod SameSimulations
 mod TextNames
 pub mod TextSimulations
 pub mod TextTopClocks
-mod FalsifiedTexts
+pub mod FalsifiedTexts
 mod OwnRounds
+pub mod ListedValues
 mod TypedSizes
 mod SizeExamples
 mod PlainSignals

@@ -119,7 +119,7 @@ module _ (text : TextTree) (asked : Option (List ℕ)) (design : FlatDesign)
         ∙ own_values (registers design) start (λ s. 0)
         (filter_apart (is_register design) 0 (length design.signals)) fit.count
 
-    started_over : map (by_path signals begin) (registers_in second) ≡ start
+    pub started_over : map (by_path signals begin) (registers_in second) ≡ start
     started_over =
         ap (map (by_path signals begin)) lists.1
         ∙ map_map (by_path signals begin) to (registers_in first)
@@ -134,7 +134,7 @@ module _ (text : TextTree) (asked : Option (List ℕ)) (design : FlatDesign)
       fits = start_fits_kind design is_sound admitted start fit;
     }
 
-    registers_back : (state : Environment Path) → map state (registers_in second) ≡ start
+    pub registers_back : (state : Environment Path) → map state (registers_in second) ≡ start
         → SameGiven first to first.is_register begin state
     registers_back state started = record {
       same = λ s register.
@@ -161,7 +161,7 @@ module _ (text : TextTree) (asked : Option (List ℕ)) (design : FlatDesign)
         each (λ s. IsTrue (first.is_input s) → now s < 2 ^ first.width s) first.signals
         (λ s at input. given_to_fits design.signals (inputs design) values s fit)
 
-    now_over : map (by_path signals now) (inputs_in second) ≡ values
+    pub now_over : map (by_path signals now) (inputs_in second) ≡ values
     now_over =
         ap (map (by_path signals now)) lists.0
         ∙ map_map (by_path signals now) to (inputs_in first)
@@ -173,7 +173,7 @@ module _ (text : TextTree) (asked : Option (List ℕ)) (design : FlatDesign)
     input_over : SameGiven first to first.is_input now (by_path signals now)
     input_over = record { same = λ s input. seen_same now s (lists.3 s input); fits = now_fits }
 
-    input_back : (i : Environment Path) → map i (inputs_in second) ≡ values
+    pub input_back : (i : Environment Path) → map i (inputs_in second) ≡ values
         → SameGiven first to first.is_input now i
     input_back i is = record {
       same = λ s input.

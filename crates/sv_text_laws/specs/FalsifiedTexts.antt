@@ -13,10 +13,12 @@ use Rattle.sv_ast.specs.Tree.{TextTree}
 use Rattle.sv_flat.specs.Design.{FlatDesign}
 use Rattle.sv_obl.specs.declared.frames.Frame.{Frame}
 use Rattle.sv_obl.specs.declared.frames.Frame.TheVariants.{Now, Next}
+use Rattle.sv_obl.specs.declared.valuations.Valuation.{Valuation as Listed}
 use Rattle.sv_obl.specs.Obligations.{GoalForm, flow, holds, selector, Obligation}
 use Rattle.sv_obl.specs.PathValues.{is_true_in, Holds}
 use Rattle.sv_obl.specs.Validity.{Valuation, MeetsFacts, goal_frame}
 use Rattle.sv_flatten.specs.SideBySide.{text_signals, path_at}
+use Rattle.sv_simulate.specs.Traces.{inputs_in, registers_in}
 
 -- ---- values by paths and by numbers
 
@@ -83,3 +85,23 @@ pub record FalsifiesText (text : TextTree) (asked : Option (List ℕ)) (design :
   pub facts : MeetsFacts design o.facts now.numbers
   pub path : Holds design.signals now.numbers o.path
   pub fails : GoalFailsInText text (text_signals text asked) design o.reads now there o.goal
+
+-- ---- values in lists
+
+-- in the text's own order each register, and each input in its cycle, has its listed value
+pub record HasListed (text : TextTree) (asked : Option (List ℕ)) (listed : Listed)
+    (v : Valuation) : Type 0 where
+  pub registers : map (by_path (text_signals text asked) v.registers)
+      (registers_in (text_system text asked)) ≡ listed.regs.items
+  pub inputs : map (by_path (text_signals text asked) v.inputs)
+      (inputs_in (text_system text asked)) ≡ listed.inputs.items
+  pub next_inputs : map (by_path (text_signals text asked) v.next_inputs)
+      (inputs_in (text_system text asked)) ≡ listed.next_inputs.items
+
+-- Values in lists, one for each register and each input of the text: a valuation that has them
+-- falsifies the obligation.
+pub record ListsFalsifyText (text : TextTree) (asked : Option (List ℕ)) (design : FlatDesign)
+    (listed : Listed) (o : Obligation) : Type 0 where
+  pub valuation : Valuation
+  pub has : HasListed text asked listed valuation
+  pub falsifies : FalsifiesText text asked design valuation o

@@ -44,7 +44,9 @@ ghost use Rattle.sv_walk.specs.Texts.{flat_of};
 ghost use Rattle.sv_flatten.specs.FlattenedTexts.{CanBeFlattened, EachItem, ReleasesNothing};
 ghost use Rattle.sv_obl.specs.Validity.{AllValid};
 
-pub use falsified::valuations_falsify_texts_as_their_designs;
+pub use falsified::{
+    listed_values_falsify_texts_as_their_designs, valuations_falsify_texts_as_their_designs,
+};
 pub use meanings::bytes_mean_at_most_one_text;
 pub use rounds::rounds_of_orders_are_those_of_texts;
 pub use signals::flat_signals_are_those_declared;

@@ -15,6 +15,7 @@ pub mod TextTopClocks
 pub mod FalsifiedTexts
 mod OwnRounds
 pub mod ListedValues
+mod SystemLabels
 mod TypedSizes
 mod SizeExamples
 mod PlainSignals

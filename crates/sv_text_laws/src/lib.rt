@@ -15,7 +15,7 @@
 //! Of the way from bytes to the flat design it says besides that bytes mean one text, that typed
 //! expressions are no larger than their sources (`specs/Sizes.antt`), that the signals of the
 //! design and its label maps are those declared (`specs/Signals.antt`, `specs/LabelRows.antt`),
-//! that flows, lattice and clocks are those of the source's own words
+//! that flows, labels, lattice and clocks are those of the source's own words
 //! (`specs/SourceLattices.antt`), and that an admitted design with a clock has one that is an input
 //! of the top module. None of these files is private.
 //!
@@ -54,7 +54,7 @@ pub use simulated::{designs_are_written_as_their_texts, each_stimulus_of_a_text_
 pub use sizes::typed_expressions_are_no_larger;
 pub use sources::{
     clocks_of_texts_are_by_links, lattices_of_texts_are_lattices,
-    texts_without_a_top_clock_have_no_clock,
+    systems_of_texts_have_declared_labels, texts_without_a_top_clock_have_no_clock,
 };
 
 /// The flat design that a text stands for has a lattice of 1 to 32 points: no two different ones

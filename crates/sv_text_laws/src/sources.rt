@@ -1,11 +1,15 @@
-// What the lattice and the clocks of a text are in the source's own words, as contracts of
-// functions that do nothing.
+// What the lattice, the labels and the clocks of a text are in the source's own words, as contracts
+// of functions that do nothing.
 ghost use Rattle.std.specs.Prelude.{◌≡◌, ◌↔◌, ℕ, IsTrue, List, [], Option, Some, None, flat_map};
+ghost use Rattle.std.specs.Prelude.{Contains};
+ghost use Rattle.sv_system.specs.System.{Environment};
 ghost use Rattle.sv_ast.specs.ClockPaths.{IsClock};
-ghost use Rattle.sv_ast.specs.Parts.{Path, same_path, parts, links_of};
+ghost use Rattle.sv_ast.specs.Meaning.{label_in};
+ghost use Rattle.sv_ast.specs.Parts.{Path, same_path, parts, PartSignal, signal_path, links_of};
 ghost use Rattle.sv_ast.specs.Reach.{holds};
 ghost use Rattle.sv_ast.specs.Shape.{is_shaped};
-ghost use Rattle.sv_ast.specs.TextSystem.{text_clocks};
+ghost use Rattle.sv_ast.specs.SourceLabels.{Flows};
+ghost use Rattle.sv_ast.specs.TextSystem.{text_clocks, text_system};
 ghost use Rattle.sv_ast.specs.Tree.{TextTree};
 ghost use Rattle.sv_flat.specs.Admission.{IsAdmitted};
 ghost use Rattle.sv_flat.specs.Clocks.{clocks};
@@ -13,7 +17,8 @@ ghost use Rattle.sv_flat.specs.Design.{FlatDesign};
 ghost use Rattle.sv_flat.specs.SignalLists.{top_clock};
 ghost use Rattle.sv_walk.specs.Texts.{flat_of};
 ghost use Rattle.sv_width.specs.WrittenLengths.{TextHasLengths};
-ghost use Rattle.sv_flatten.specs.FlattenedTexts.{ItemNumbersFit, EachItem};
+ghost use Rattle.sv_flatten.specs.FlattenedTexts.{CanBeFlattened, ItemNumbersFit, EachItem};
+ghost use Rattle.sv_flatten.specs.SideBySide.{text_signals};
 ghost use Rattle.sv_text_laws.specs.SourceLattices.{PassesLattice, IsSourceLattice};
 ghost use Rattle.sv_text_laws.specs.SourceLattices.{FlowsAreOfText};
 
@@ -28,6 +33,22 @@ pub fn lattices_of_texts_are_lattices()
         → flat_of text asked ≡ Some design → PassesLattice text }
     ensures table { (text : TextTree) (asked : Option (List ℕ)) (design : FlatDesign)
         → flat_of text asked ≡ Some design → FlowsAreOfText text design }
+{}
+
+/// In the cycle system of a text that stands for a flat design, a signal has the label of its own
+/// declaration, and one point flows to another exactly where declared pairs lead from the one to
+/// the other (SecVerilog, ASPLOS 2015). For labels the text has the shape that the grammar gives,
+/// releases nothing, and writes numbers that have 1 to 64 bits and fit them.
+pub fn systems_of_texts_have_declared_labels()
+    ensures labels { (text : TextTree) (asked : Option (List ℕ)) (design : FlatDesign)
+        → CanBeFlattened text → flat_of text asked ≡ Some design
+        → (s : PartSignal) → Contains (text_signals text asked) s
+        → Contains (text_system text asked).signals (signal_path s)
+        → (environment : Environment Path)
+        → (text_system text asked).label (signal_path s) environment ≡ label_in text environment s }
+    ensures flows { (text : TextTree) (asked : Option (List ℕ)) (design : FlatDesign)
+        → flat_of text asked ≡ Some design → (a b : List ℕ)
+        → IsTrue ((text_system text asked).flows a b) ↔ Flows text a b }
 {}
 
 /// A signal is among the clocks of a text exactly where it stands after a `posedge`, or links of

@@ -44,23 +44,23 @@ struct Literals {
 // What makes the encoding of an obligation of a design: the design's bodies, and the signals on
 // whose values in this cycle and in the next one the obligation hangs.
 #[derive(Drop)]
-struct Encoder<'a, 'b, 'c> {
+struct Encoder<'a, 'b, 'c, 'd> {
     alloc: Global,
     design: &'a Design,
-    bodies: &'b Bodies<'a>,
+    bodies: &'b Bodies<'d>,
     query: &'c Query,
     now_cone: Vec<SigId>,
     next_cone: Vec<SigId>,
 }
 
-impl<'a, 'b, 'c> Encoder<'a, 'b, 'c> {
+impl<'a, 'b, 'c, 'd> Encoder<'a, 'b, 'c, 'd> {
     // That of an obligation. An error says that memory ran out.
     fn new(
         alloc: Global,
         design: &'a Design,
-        bodies: &'b Bodies<'a>,
+        bodies: &'b Bodies<'d>,
         query: &'c Query,
-    ) -> Result<Encoder<'a, 'b, 'c>, AllocError>
+    ) -> Result<Encoder<'a, 'b, 'c, 'd>, AllocError>
         requires query { IsQueryOf (design_of design.now) (obligation_of query.now) }
         requires bodies { AreIndexed (processes_of (design_of design.now)) bodies.now.bodies.items }
         ensures encoder { IfOk result IsEncoder }
@@ -236,7 +236,8 @@ impl<'a, 'b, 'c> Encoder<'a, 'b, 'c> {
 }
 
 /// The encoding of an obligation of a design. `TooLarge` says that it has more than 4,194,304
-/// variables, which is found before any of it is made; `OutOfMemory` that memory ran out.
+/// variables, which is found before any of it is made; `OutOfMemory` that memory ran out. Who
+/// encodes many obligations of a design makes its bodies once, and calls `encode_by`.
 pub fn encode(alloc: Global, design: &Design, query: &Query) -> Result<Coded, BlastFault>
     requires { IsQueryOf (design_of design.now) (obligation_of query.now) }
     ensures coded { IfOk result (λ coded. encoding_of coded
@@ -247,13 +248,33 @@ pub fn encode(alloc: Global, design: &Design, query: &Query) -> Result<Coded, Bl
     ensures large { IsErrOf result BlastFault.TooLarge → most_variables
         < (encoding (design_of design.now) (obligation_of query.now)).variables }
 {
-    know_design(design);
     let bodies = Bodies::new(alloc, design)?;
-    let encoder = Encoder::new(alloc, design, &bodies, query)?;
+    encode_by(alloc, design, &bodies, query)
+}
+
+/// The same, by the bodies of the design.
+pub fn encode_by(
+    alloc: Global,
+    design: &Design,
+    bodies: &Bodies,
+    query: &Query,
+) -> Result<Coded, BlastFault>
+    requires query { IsQueryOf (design_of design.now) (obligation_of query.now) }
+    requires bodies { AreIndexed (processes_of (design_of design.now)) bodies.now.bodies.items }
+    ensures coded { IfOk result (λ coded. encoding_of coded
+        ≡ encoding (design_of design.now) (obligation_of query.now)) }
+    ensures whole { IfOk result (λ coded.
+        IsWhole (design_of design.now) (obligation_of query.now) (encoding_of coded)) }
+    ensures few { IfOk result (λ coded. coded.variables ≤ most_variables) }
+    ensures large { IsErrOf result BlastFault.TooLarge → most_variables
+        < (encoding (design_of design.now) (obligation_of query.now)).variables }
+{
+    know_design(design);
+    let encoder = Encoder::new(alloc, design, bodies, query)?;
     let size = encoding_size(
         alloc,
         design,
-        &bodies,
+        bodies,
         query,
         &encoder.now_cone,
         &encoder.next_cone,

@@ -39,4 +39,4 @@ mod units;
 pub use cnf_text::{clause_lines, problem_line};
 pub use coded::{BitPlace, BlastFault, Coded};
 pub use decoding::decode;
-pub use encoding::encode;
+pub use encoding::{encode, encode_by};

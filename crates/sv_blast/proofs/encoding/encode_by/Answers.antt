@@ -11,12 +11,12 @@ use Rattle.sv_encoding_laws.proofs.Wholeness.{encoding_is_whole}
 use Rattle.sv_blast.specs.Coded.{encoding_of}
 use Rattle.sv_blast.specs.Encoders.{design_in, obligation_in}
 use Rattle.sv_blast.proofs.WholeEncodings.{passes}
-use Rattle.sv_blast.proofs.encoding.encode.Goals as goal
+use Rattle.sv_blast.proofs.encoding.encode_by.Goals as goal
 
 pub returns-then-size-gt-MOST_VARIABLES-clause-large : goal.returns-then-size-gt-MOST_VARIABLES-clause-large
 returns-then-size-gt-MOST_VARIABLES-clause-large c =
     let exact = size_is_exact (design_of c.args.design.now) (obligation_of c.args.query.now)
-    c.know_design.ensures.checked c.requires in
+    c.know_design.ensures.checked c.requires.query in
     λ e. subst (λ z. most_variables < z) (sym exact)
     (passes c.in_ok-size.size _ c.in_ok-size.ensures c.if-size-gt-MOST_VARIABLES.true)
 
@@ -32,7 +32,7 @@ returns-in-Ok-clause-whole c =
     subst (IsWhole design o)
     (sym (c.in-Ok.ensures.coded
     ∙ ap₂ encoding c.in_ok-encoder.ensures.design c.in_ok-encoder.ensures.query))
-    (encoding_is_whole design o c.know_design.ensures.checked c.requires)
+    (encoding_is_whole design o c.know_design.ensures.checked c.requires.query)
 
 pub returns-in-Err-Full-clause-large : goal.returns-in-Err-Full-clause-large
 returns-in-Err-Full-clause-large c =

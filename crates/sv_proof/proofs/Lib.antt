@@ -8,3 +8,6 @@ pub mod Breaking
 pub mod Beginning
 pub mod Again
 pub mod Writing
+pub mod LinePlaces
+pub mod DerivedSteps
+mod FaultLineExamples

@@ -2,7 +2,8 @@
 ghost use Rattle.std.specs.Prelude.{◌≡◌, ◌+◌, ◌<◌, ◌≤◌, ◌^◌, List, length, map, IfOk, IfErr};
 ghost use Rattle.std.specs.Prelude.{MatchResult};
 ghost use Rattle.sv_clause.specs.Logs.{Step, plain_step};
-ghost use Rattle.sv_proof.specs.Certificate.{plain_logs, log_lines, proof_text, AreLogs};
+ghost use Rattle.sv_proof.specs.Certificate.{plain_logs, log_lines, proof_lines, proof_text};
+ghost use Rattle.sv_proof.specs.Certificate.{AreLogs};
 ghost use Rattle.sv_proof.specs.Reading.{BeginWithSteps, BeginWithLogs, StepsFault, LogsFault};
 ghost use Rattle.sv_proof.specs.Lines.{IsFault};
 ghost use Rattle.sv_proof.specs.declared.read.ProofFault.TheVariants.{OutOfMemory};
@@ -46,6 +47,7 @@ impl<T: Drop> From<AllocFailed<T>> for ProofFault {
 pub fn read_proof(alloc: Global, bytes: &[u8]) -> Result<Vec<Log>, ProofFault>
     ensures logs { IfOk result (λ logs. AreLogs (plain_logs logs.items)) }
     ensures text { IfOk result (λ logs. bytes.now ≡ proof_text (plain_logs logs.items)) }
+    ensures lines { IfOk result (λ logs. length (proof_lines (plain_logs logs.items)) < 2 ^ 63) }
     ensures fault { IfErr result (IsFault bytes.now) }
 
     // What was written is read as the logs that were written, unless memory runs out.

@@ -1,0 +1,53 @@
+use Rattle.std.proofs.Common.{map, All}
+use Rattle.std.specs.List.{AllZip}
+use Rattle.std.proofs.lemmas.Result.{IfOk-weaker}
+use Rattle.sv_flat.specs.Views.{design_of}
+use Rattle.sv_obl.specs.Noninterference.{NoninterferentUnder}
+use Rattle.sv_obl.specs.Validity.{IsValid, AllValid}
+use Rattle.sv_obl.specs.Views.{obligation_of}
+use Rattle.sv_proof.specs.Certificate.{plain_logs}
+use Rattle.sv_accept.specs.Accepting.{IsAccepted}
+use Rattle.sv_accept.proofs.Accepted.{RefutedAreValid, all_valid, obligations_valid}
+use Rattle.sv_accept.proofs.logs.accept.Goals as goal
+
+pub returns-clause-each_valid : goal.returns-clause-each_valid
+returns-clause-each_valid c =
+    let design = design_of c.args.design.now in
+    let list = map obligation_of c.args.queries.now in
+    let logs = plain_logs c.args.logs.now in
+    let law : RefutedAreValid design =
+    λ o steps asked. c.refuted_obligations_are_valid.ensures design o steps
+    c.know_design.ensures.checked asked in
+    IfOk-weaker c.check_queries.result (λ _. AllZip (IsAccepted design) list logs)
+    (λ _. All (IsValid design) list)
+    (λ _ each. all_valid design list logs law c.requires.queries each)
+    c.check_queries.ensures.refuted
+
+pub returns-clause-all_valid : goal.returns-clause-all_valid
+returns-clause-all_valid c facts begins =
+    let design = design_of c.args.design.now in
+    let list = map obligation_of c.args.queries.now in
+    let logs = plain_logs c.args.logs.now in
+    let law : RefutedAreValid design =
+    λ o steps asked. c.refuted_obligations_are_valid.ensures design o steps
+    c.know_design.ensures.checked asked in
+    IfOk-weaker c.check_queries.result (λ _. AllZip (IsAccepted design) list logs)
+    (λ _. AllValid facts design)
+    (λ _ each. obligations_valid facts design list begins
+    (all_valid design list logs law c.requires.queries each))
+    c.check_queries.ensures.refuted
+
+pub returns-clause-noninterferent : goal.returns-clause-noninterferent
+returns-clause-noninterferent c facts begins =
+    let design = design_of c.args.design.now in
+    let list = map obligation_of c.args.queries.now in
+    let logs = plain_logs c.args.logs.now in
+    let checked = c.know_design.ensures.checked in
+    let law : RefutedAreValid design =
+    λ o steps asked. c.refuted_obligations_are_valid.ensures design o steps checked asked in
+    IfOk-weaker c.check_queries.result (λ _. AllZip (IsAccepted design) list logs)
+    (λ _. NoninterferentUnder facts design)
+    (λ _ each. c.valid_obligations_mean_noninterference.ensures facts design checked
+    (obligations_valid facts design list begins
+    (all_valid design list logs law c.requires.queries each)))
+    c.check_queries.ensures.refuted

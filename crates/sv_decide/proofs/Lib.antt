@@ -1,0 +1,7 @@
+pub mod AskedSignals
+pub mod DesignSignals
+pub mod FalsifiedCycles
+pub mod FoundValues
+pub mod LabelPoints
+pub mod SettledCycles
+pub mod SpelledValuations

@@ -1,0 +1,14 @@
+use Rattle.std.proofs.Common.{rules, tests}
+use Rattle.std.proofs.lemmas.Iterator.{YieldsList-from_slice}
+use Rattle.std.proofs.lemmas.Iterator.Search.{all_from_yields_List}
+use Rattle.sv_flat.specs.declared.expressions.FExpr.{FExpr}
+use Rattle.sv_flat.specs.ByNumber.{by_number}
+use Rattle.sv_flat.specs.Views.{design_of, typed_tree}
+use Rattle.sv_obl.specs.PathValues.{is_true_in}
+use Rattle.sv_decide.proofs.failing.meets_facts.Goals as goal
+
+pub returns : goal.returns
+returns c =
+    all_from_yields_List (λ (fact : FExpr). is_true_in (design_of c.args.design.now).signals
+    (by_number c.args.values.now) (typed_tree fact)) _ _ c.all.result c.all.ensures.ran
+    (YieldsList-from_slice c.args.facts.now cc) (λ x b q k. search (rules, tests))

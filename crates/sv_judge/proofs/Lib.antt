@@ -1,0 +1,6 @@
+pub mod Lists
+pub mod WalkFacts
+pub mod WritableFacts
+pub mod ProgressFacts
+pub mod EndedFacts
+pub mod VerifyFacts

@@ -1,0 +1,102 @@
+-- The obligations of a part, which come next.
+use Rattle.std.proofs.Common.{◌≡◌, ℕ, ◌+◌, ◌<◌, ◌≤◌, ◌++◌, List, [], map, flat_map, length, Some}
+use Rattle.std.proofs.Common.{sym, ◌∙◌, ap, subst, arith, append-nil, length-append}
+use Rattle.std.specs.Prelude.{slice_get, option_map, All}
+use Rattle.std.proofs.lemmas.Option.{slice_get_within, slice_get-map}
+use Rattle.sv_flat.specs.Design.{FlatDesign}
+use Rattle.sv_flat.specs.Processes.{signal_numbers}
+use Rattle.sv_obl.specs.DesignQueries.{IsQueryOf, IsPlaced}
+use Rattle.sv_obl.specs.ListParts.{IsAt, obligations_before, obligations_from}
+use Rattle.sv_obl.specs.Obligations.{Obligation, obligations, target_obligations}
+use Rattle.sv_obl.specs.Obligations.{selector_obligations}
+use Rattle.sv_obl.specs.Views.{obligation_of}
+use Rattle.sv_obl.specs.declared.list_parts.Listing.{Listing}
+use Rattle.sv_obl.specs.declared.queries.Query.{Query}
+use Rattle.sv_obl.proofs.TargetFacts.{length_mapped}
+use Rattle.sv_obl.proofs.WrittenFacts.{before_and_from, from_next, next_before}
+use Rattle.sv_judge.specs.Walking.{AreNext}
+use Rattle.sv_judge.proofs.Lists.{get_behind, get_first, get_all}
+
+two_sums : {a b c d : ℕ} → a ≡ c → b ≡ d → a + b ≡ c + d
+two_sums first second = omega arith
+
+module _ (design : FlatDesign) where
+  -- the obligations of a part behind others
+  next_of : (before here after : List Obligation) (count : ℕ) (queries : List Query)
+      → obligations [] design ≡ before ++ (here ++ after) → count ≡ length before
+      → map obligation_of queries ≡ here → count + length queries ≤ 65536
+      → All (IsQueryOf design) (map obligation_of queries)
+      → All IsPlaced (map obligation_of queries) → AreNext design count queries
+  next_of before here after count queries parts counted are few of_design placed = λ k query is.
+      let o = obligation_of query in
+      let inside = slice_get_within queries k query is in
+      let at : slice_get (map obligation_of queries) k ≡ Some o =
+      slice_get-map obligation_of queries k ∙ ap (option_map obligation_of) is in
+      record {
+        among =
+            ap (λ n. slice_get (obligations [] design) (n + k)) counted
+            ∙ ap (λ (os : List Obligation). slice_get os (length before + k)) parts
+            ∙ get_behind before (here ++ after) k
+            ∙ get_first here after k o
+            (ap (λ (os : List Obligation). slice_get os k) (sym are) ∙ at);
+        of_design = get_all (IsQueryOf design) (map obligation_of queries) k o of_design at;
+        placed = get_all IsPlaced (map obligation_of queries) k o placed at;
+        few = omega arith;
+      }
+
+  low : (i : ℕ) → i < length design.signals → i ≤ length design.signals
+  low i inside = omega arith
+
+  -- those of the target that comes next are counted
+  pub target_counted : (i : ℕ) (old new : Listing) (queries : List Query) → IsAt design i old
+      → IsAt design (i + 1) new → map obligation_of queries ≡ target_obligations [] design i
+      → new.count ≡ old.count + length queries
+  target_counted i old new queries at next are =
+      next.counted.count
+      ∙ ap length (next_before design i)
+      ∙ length-append (obligations_before design i) (target_obligations [] design i)
+      ∙ two_sums (sym at.counted.count) (sym (ap length are) ∙ length_mapped obligation_of queries)
+
+  -- and come next
+  pub target_next : (i : ℕ) (old new : Listing) (queries : List Query)
+      → i < length design.signals → IsAt design i old → IsAt design (i + 1) new
+      → map obligation_of queries ≡ target_obligations [] design i
+      → All (IsQueryOf design) (map obligation_of queries)
+      → All IsPlaced (map obligation_of queries) → AreNext design old.count queries
+  target_next i old new queries inside at next are of_design placed =
+      next_of (obligations_before design i) (target_obligations [] design i)
+      (obligations_from design (i + 1)) old.count queries
+      (sym (before_and_from design i (low i inside))
+      ∙ ap (λ os. obligations_before design i ++ os) (from_next design i inside))
+      at.counted.count are
+      (subst (λ n. n ≤ 65536) (target_counted i old new queries at next are) next.counted.few)
+      of_design placed
+
+  abbrev selectors : List Obligation
+  selectors = flat_map (selector_obligations [] design) (signal_numbers design)
+
+  abbrev targets : List Obligation
+  targets = obligations_before design (length design.signals)
+
+  -- those of selectors come behind all targets
+  pub selectors_next : (listing : Listing) (queries : List Query)
+      → IsAt design (length design.signals) listing
+      → map obligation_of queries
+      ≡ flat_map (selector_obligations [] design) (signal_numbers design)
+      → listing.count + length queries ≤ 65536
+      → All (IsQueryOf design) (map obligation_of queries)
+      → All IsPlaced (map obligation_of queries) → AreNext design listing.count queries
+  selectors_next listing queries at are few of_design placed =
+      next_of targets selectors [] listing.count queries
+      (ap (λ os. targets ++ os) (sym (append-nil selectors))) at.counted.count are few of_design
+      placed
+
+  -- and are the last
+  pub selectors_last : (listing : Listing) (queries : List Query)
+      → IsAt design (length design.signals) listing
+      → map obligation_of queries
+      ≡ flat_map (selector_obligations [] design) (signal_numbers design)
+      → listing.count + length queries ≡ length (obligations [] design)
+  selectors_last listing queries at are =
+      two_sums at.counted.count (sym (length_mapped obligation_of queries) ∙ ap length are)
+      ∙ sym (length-append targets selectors)

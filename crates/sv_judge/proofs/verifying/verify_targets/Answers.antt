@@ -1,0 +1,31 @@
+use Rattle.std.proofs.Common.{sym, ◌∙◌, ap, ◌+◌, length, List, subst}
+use Rattle.sv_flat.specs.Views.{design_of}
+use Rattle.sv_obl.specs.declared.queries.Query.{Query}
+use Rattle.sv_proof.specs.Certificate.{plain_logs}
+use Rattle.sv_judge.specs.Certified.{EarlierAreShown}
+use Rattle.sv_judge.specs.Walking.{AreNext}
+use Rattle.sv_judge.proofs.VerifyFacts.{none_shown}
+use Rattle.sv_judge.proofs.verifying.verify_targets.Goals as goal
+
+pub loop-s-init : goal.loop-s-init
+loop-s-init c = record {
+  at = c.requires.at;
+  shown =
+      none_shown (design_of c.args.design.now) (plain_logs c.args.logs.now)
+      c.args.listing.now.count c.requires.at.counted.count;
+}
+
+pub loop-s-preserved : goal.loop-s-preserved
+loop-s-preserved c = record {
+  at = c.in_ok-queries.ensures.at;
+  shown =
+      subst (λ n. EarlierAreShown (design_of c.args.design.now) n (plain_logs c.args.logs.now))
+      (ap (λ (qs : List Query). c.loop-s.listing.count + length qs) c.deref.ensures.value
+      ∙ sym c.in_ok-queries.ensures.count)
+      c.in_ok-verify_part.ensures.shown;
+}
+
+pub verify_part-requires-clause-next : goal.verify_part-requires-clause-next
+verify_part-requires-clause-next c =
+    subst (AreNext (design_of c.args.design.now) c.loop-s.listing.count)
+    (sym c.deref.ensures.value) c.in_ok-queries.ensures.next

@@ -1,0 +1,7 @@
+pub mod Answers
+pub mod Certified
+pub mod Progress
+pub mod Verdicts
+pub mod Verifying
+pub mod Walking
+pub mod Writable

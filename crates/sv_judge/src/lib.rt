@@ -1,0 +1,24 @@
+//! What `check` and `verify` come to for an admitted design that exceeds no limit on obligations.
+//!
+//! `check` decides the obligations in order, target by target, each by the clauses of its encoding:
+//! all are refuted, or one is falsified or too large, which ends the check, or the budget is spent
+//! on some. `verify` takes the bytes of a certificate and decides nothing: it checks that each log
+//! refutes the encoding of its obligation, or tells the line at fault.
+//!
+//! `specs/Verdicts.antt` says what `check` comes to and `Certified.antt` what `verify` does, and
+//! `Answers.antt` of which answer a clause speaks. `Progress.antt`, `Verifying.antt`,
+//! `Walking.antt` and `Writable.antt` are private: they say how the code goes; the meaning stands
+//! in the files before.
+#![tactic(auto)]
+
+mod checking;
+mod progress;
+mod verdicts;
+mod verifying;
+mod walk;
+mod writable;
+
+pub use checking::check;
+pub use std::alloc::AllocError as OutOfMemory;
+pub use verdicts::{Checked, Failure, Spent, Verified};
+pub use verifying::verify;

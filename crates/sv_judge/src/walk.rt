@@ -1,0 +1,53 @@
+// The obligations of a design, part by part: those of one target after the other, and then those of
+// selectors.
+ghost use Rattle.std.specs.Prelude.{◌≡◌, ◌+◌, ◌<◌, ◌≤◌, [], length, IfOk, OnOk};
+ghost use Rattle.sv_flat.specs.Views.{design_of};
+ghost use Rattle.sv_obl.specs.ListParts.{IsAt};
+ghost use Rattle.sv_obl.specs.Obligations.{obligations};
+ghost use Rattle.sv_judge.specs.Walking.{AreNext};
+
+use std::alloc::{AllocError, Global};
+use sv_design::Design;
+use sv_flat::SigId;
+use sv_obl::{Listing, Query};
+
+/// The obligations of the target that comes next, of a design that exceeds no limit. An error says
+/// that memory ran out.
+pub fn target_part(
+    alloc: Global,
+    design: &Design,
+    listing: &mut Listing,
+    target: SigId,
+) -> Result<Vec<Query>, AllocError>
+    requires known { target.0 < length design.now.signals.items }
+    requires at { IsAt (design_of design.now) target.0 listing.old }
+    ensures next { IfOk result (λ queries.
+        AreNext (design_of design.now) listing.old.count queries.items) }
+    ensures count { IfOk result (λ queries.
+        listing.new.count ≡ listing.old.count + length queries.items) }
+    ensures at { OnOk result (IsAt (design_of design.now) (target.0 + 1) listing.new) }
+{
+    match listing.target_queries(alloc, design, target) {
+        Ok(queries) => Ok(queries),
+        Err(_) => Err(AllocError),
+    }
+}
+
+/// The obligations of selectors, behind those of all targets. An error says that memory ran out.
+pub fn selector_part(
+    alloc: Global,
+    design: &Design,
+    listing: &Listing,
+) -> Result<Vec<Query>, AllocError>
+    requires at { IsAt (design_of design.now) (length design.now.signals.items) listing.now }
+    ensures next { IfOk result (λ queries.
+        AreNext (design_of design.now) listing.now.count queries.items) }
+    ensures all { IfOk result (λ queries. listing.now.count + length queries.items
+        ≡ length (obligations [] (design_of design.now))) }
+    ensures few { IfOk result (λ _. length (obligations [] (design_of design.now)) ≤ 65536) }
+{
+    match listing.selector_queries(alloc, design) {
+        Ok(queries) => Ok(queries),
+        Err(_) => Err(AllocError),
+    }
+}

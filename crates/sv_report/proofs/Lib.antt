@@ -1,0 +1,6 @@
+pub mod RuleLaws
+pub mod FrameFacts
+pub mod LabelFacts
+pub mod StayFacts
+pub mod FlowTextFacts
+pub mod OneText

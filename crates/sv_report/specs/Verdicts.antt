@@ -1,0 +1,68 @@
+-- The text of a verdict (this project's profile).
+use Rattle.std.specs.Prelude.{◌≡◌, ℕ, List, Option, Some, None}
+use Rattle.sv_flat.specs.declared.designs.Flat.{Flat}
+use Rattle.sv_flat.specs.Design.{FlatDesign}
+use Rattle.sv_flat.specs.Views.{design_of}
+use Rattle.sv_obl.specs.declared.queries.Query.{Query}
+use Rattle.sv_obl.specs.declared.valuations.Valuation.{Valuation}
+use Rattle.sv_obl.specs.DesignQueries.{IsQueryOf}
+use Rattle.sv_obl.specs.Obligations.{Obligation}
+use Rattle.sv_obl.specs.Validity.{Falsifies}
+use Rattle.sv_obl.specs.Valuations.{FitsDesign, valuation_of}
+use Rattle.sv_obl.specs.Views.{obligation_of}
+use Rattle.sv_report.specs.declared.verdicts.Broken.{Broken}
+use Rattle.sv_report.specs.declared.verdicts.Broken.TheVariants as broken
+use Rattle.sv_report.specs.declared.verdicts.Verdict.{Verdict}
+use Rattle.sv_report.specs.declared.verdicts.Verdict.TheVariants as verdict
+use Rattle.sv_report.specs.FlowText.{AsksFlow, IsFlowText}
+use Rattle.sv_report.specs.Text.{accepted_text, refusal_text, limit_text, fault_text}
+use Rattle.sv_report.specs.Text.{stimulus_text, unknown_text}
+
+-- the obligation is one of the design's, asks of labels, and fails at the values
+pub record FailsAt (design : FlatDesign) (o : Obligation) (v : Valuation) : Type 0 where
+  pub query : IsQueryOf design o
+  pub flow : AsksFlow o.goal
+  pub fits : FitsDesign design v
+  pub fails : Falsifies design (valuation_of design v) o
+
+-- what is given is such a design with such an obligation
+abbrev pub IsGivenFailing : Option Flat → Option Query → Valuation → Type 0
+IsGivenFailing (Some design) (Some query) v = FailsAt (design_of design) (obligation_of query) v
+IsGivenFailing (Some design) None v = ⊥
+IsGivenFailing None query v = ⊥
+
+-- an obligation that fails is given with its design
+abbrev pub HasCause : Option Flat → Option Query → Broken → Type 0
+HasCause design query (broken.Fails number v) = IsGivenFailing design query v
+HasCause design query other = Unit {0}
+
+abbrev pub IsTellable : Option Flat → Option Query → Verdict → Type 0
+IsTellable design query (verdict.Refused cause) = HasCause design query cause
+IsTellable design query other = Unit {0}
+
+-- the text is that of the obligation that is given with its design
+abbrev pub IsGivenFlowText : Option Flat → Option Query → (number : ℕ) → Valuation →
+    (text : List ℕ) → Type 0
+IsGivenFlowText (Some design) (Some query) number v text =
+    IsFlowText (design_of design) number (obligation_of query) v text
+IsGivenFlowText (Some design) None number v text = ⊥
+IsGivenFlowText None query number v text = ⊥
+
+-- the text tells why something is refused
+abbrev pub IsRefusalText : Option Flat → Option Query → Broken → (text : List ℕ) →
+    Type 0
+IsRefusalText design query (broken.Fails number v) text = IsGivenFlowText design query number v text
+IsRefusalText design query (broken.Rule r) text =
+    text ≡ refusal_text r.number r.place r.names.items
+IsRefusalText design query (broken.Limit number names) text = text ≡ limit_text number names.items
+IsRefusalText design query (broken.Proof line) text = text ≡ fault_text line
+IsRefusalText design query (broken.Stimulus source line kind) text =
+    text ≡ stimulus_text source line kind
+
+-- the text tells the verdict
+abbrev pub IsVerdictText : Option Flat → Option Query → Verdict → (text : List ℕ) →
+    Type 0
+IsVerdictText design query (verdict.Accepted count) text = text ≡ accepted_text count
+IsVerdictText design query (verdict.Refused cause) text = IsRefusalText design query cause text
+IsVerdictText design query (verdict.Unknown obligation budget) text =
+    text ≡ unknown_text obligation budget

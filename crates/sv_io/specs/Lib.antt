@@ -11,3 +11,4 @@ pub mod Sink
 pub mod Source
 pub mod Sure
 pub mod System
+pub mod Traffic

@@ -1,5 +1,5 @@
--- What the objects over the real system remember: what passed, how often the system failed, and its
--- last error.
+-- What the objects over the real system remember: what passed, whether a file was read, how often
+-- the system failed, and its last error.
 use Rattle.std.specs.Prelude.{ℕ, Bool, List}
 use Rattle.std.specs.Option.{is_some}
 use Rattle.sv_io.specs.declared.system.FileCabinet.{FileCabinet}
@@ -10,6 +10,10 @@ use Rattle.sv_io.specs.Exchange.{Exchange}
 -- all calls of the files so far
 abbrev pub file_exchanges : {R F O : Type 0} → FileCabinet R F O → List Exchange
 file_exchanges cabinet = cabinet.exchanges.calls
+
+-- whether a file was read so far
+abbrev pub file_fetched : {R F O : Type 0} → FileCabinet R F O → Bool
+file_fetched cabinet = cabinet.fetched
 
 -- how often the system failed
 abbrev pub file_faults : {R F O : Type 0} → FileCabinet R F O → ℕ

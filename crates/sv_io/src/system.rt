@@ -1,6 +1,6 @@
 // A cabinet, a source and a sink over the real system.
-ghost use Rattle.std.specs.Prelude.{◌≡◌, ◌≢◌, ℕ, ◌+◌, ◌<◌, ◌≤◌, ◌↔◌, ◌⊎◌, Bool, false, List, []};
-ghost use Rattle.std.specs.Prelude.{◌∷◌, ◌++◌, take, None, Some, Ok, IfOk, OnOk, OnErr, IsErr};
+ghost use Rattle.std.specs.Prelude.{◌≡◌, ◌≢◌, ℕ, ◌+◌, ◌<◌, ◌≤◌, ◌↔◌, ◌⊎◌, Bool, true, false, List};
+ghost use Rattle.std.specs.Prelude.{[], ◌∷◌, ◌++◌, take, None, Some, Ok, IfOk, OnOk, OnErr, IsErr};
 ghost use Rattle.std.specs.Prelude.{IsErrOf, IsTrue, length, vec_len};
 ghost use Rattle.std.specs.Option.{is_some};
 ghost use Rattle.std.specs.Io.KnownBytes.{Keeps, Appends, Consumes, IsAtEnd};
@@ -21,22 +21,25 @@ use std::{fs, io};
 #[derive(Drop)]
 pub struct FileCabinet<R: Files> {
     runtime: R,
+    fetched: bool,
     faults: u64,
     last_error: Option<io::Error>,
     exchanges: Exchanges,
 }
 
 impl<R: Files> FileCabinet<R> {
-    ghost use Rattle.sv_io.specs.System.{file_exchanges, file_faults, file_failed};
+    ghost use Rattle.sv_io.specs.System.{file_exchanges, file_fetched, file_faults, file_failed};
 
     /// Over the files that the runtime reaches.
     pub fn new(runtime: R) -> FileCabinet<R>
         ensures no_exchange { file_exchanges result ≡ [] }
+        ensures none_fetched { file_fetched result ≡ false }
         ensures no_fault { file_faults result ≡ 0 }
         ensures no_error { file_failed result ≡ false }
     {
         FileCabinet {
             runtime,
+            fetched: false,
             faults: 0,
             last_error: None,
             exchanges: Exchanges::new(),
@@ -51,6 +54,14 @@ impl<R: Files> FileCabinet<R> {
         self.last_error.as_ref()
     }
 
+    /// Whether a fetch read a file so far. It is there for the messages that a program shows to a
+    /// person: where it reads one file after the other, this tells which of them failed.
+    pub fn has_fetched(&self) -> bool
+        ensures { result ≡ file_fetched self.now }
+    {
+        self.fetched
+    }
+
     // All the bytes of the file, or the first of them where they are more than the limit.
     fn read(&mut self, alloc: Global, name: &str, limit: u64) -> Result<Vec<u8>, FetchFault>
         requires { limit < 18446744073709551615 }
@@ -60,6 +71,7 @@ impl<R: Files> FileCabinet<R> {
             Rose (file_faults self.old) (file_faults self.new) }
         ensures counts { file_faults self.old ≤ file_faults self.new }
         ensures cause { IsErrOf result FetchFault.Failed → IsTrue (file_failed self.new) }
+        ensures fetched { IfOk result (λ _. file_fetched self.new ≡ true) }
         ensures exchanges { file_exchanges self.new ≡ file_exchanges self.old }
     {
         let mut bytes = Vec::new(alloc);
@@ -72,6 +84,7 @@ impl<R: Files> FileCabinet<R> {
             self.last_error = Some(error);
             return Err(fault);
         }
+        self.fetched = true;
         if bytes.len() as u64 <= limit {
             return Ok(bytes);
         }

@@ -1,8 +1,8 @@
 #!/usr/bin/env python3
 """Runs what a user runs, through ./secv, and compares whole outputs and statuses with what stands in the repository.
 
-Every design of examples/ against the .out file beside it, and its obligations against the .list file where one is, every command that README.md shows with its output, and the answers
-to wrong words, missing files and failing outputs. The last line is 'N passed, M failed'.
+Every design of examples/ against the .out file beside it, and its obligations against the .list file where one is, every command that README.md shows
+with its output, and the answers to wrong words, missing files and failing outputs. The last line is 'N passed, M failed'.
 """
 import itertools
 import os
@@ -11,7 +11,7 @@ import subprocess
 import sys
 import tempfile
 
-from rules import UNDECIDED, explained
+from rules import UNBUILT, explained
 
 TOP = os.path.dirname(os.path.dirname(os.path.abspath(__file__)))
 SECV = os.path.join(TOP, "secv")
@@ -32,7 +32,10 @@ SYNTAX = [(b"module m; \x80", b"refused 101 bad-byte 1:11\n"), (b"8'q1", b"refus
 HELP = b"""secv checks designs in SecVerilog: Verilog in which every signal has a security label.
 
 usage:
-  secv check FILE [--top MODULE]    say whether the labels of a design keep every secret
+  secv check FILE [--proof NAME] [--budget NUMBER] [--top MODULE]
+                                    say whether the labels of a design keep every secret
+  secv verify FILE PROOF [--top MODULE]
+                                    say whether a certificate proves a design to keep every secret
   secv list FILE [--top MODULE]     list the obligations of a design, a line each
   secv cnf FILE NUMBER [--top MODULE]
                                     print the clauses of one obligation of a design, as DIMACS
@@ -43,7 +46,8 @@ usage:
   secv --version                    print the version
 
 exit status: 0 accepted, listed, encoded or simulated, 1 refused, 2 wrong words,
-             4 unreadable file or input, 5 unwritable output, 6 out of memory
+             3 unknown within the budget, 4 unreadable file or input,
+             5 unwritable output or certificate, 6 out of memory
 """
 CNF_HELP = b"""Print the clauses of one obligation of a design, as DIMACS
 
@@ -56,10 +60,32 @@ Arguments:
 Options:
       --top <MODULE>  The module to take as the top
 """
-# The help of `check` and of `list`, which take the same words.
-SHORT_HELP = """{what}
+CHECK_HELP = b"""Say whether the labels of a design keep every secret
 
-Usage: secv {word} [OPTIONS] <FILE>
+Usage: secv check [OPTIONS] <FILE>
+
+Arguments:
+  <FILE>  The file of the design
+
+Options:
+      --proof <NAME>     Store the certificate of an accepted design in this file
+      --budget <NUMBER>  Learn at most this many clauses for each obligation, 20000 unless given
+      --top <MODULE>     The module to take as the top
+"""
+VERIFY_HELP = b"""Say whether a certificate proves that the labels of a design keep every secret
+
+Usage: secv verify [OPTIONS] <FILE> <PROOF>
+
+Arguments:
+  <FILE>   The file of the design
+  <PROOF>  The file of the certificate
+
+Options:
+      --top <MODULE>  The module to take as the top
+"""
+LIST_HELP = b"""List the obligations of a design, one a line
+
+Usage: secv list [OPTIONS] <FILE>
 
 Arguments:
   <FILE>  The file of the design
@@ -79,8 +105,17 @@ Options:
       --order <NUMBER>  Run the processes in the order of this number
       --top <MODULE>    The module to take as the top
 """
+HELPS = {"check": CHECK_HELP, "verify": VERIFY_HELP, "list": LIST_HELP, "cnf": CNF_HELP, "sim": SIM_HELP}
+# The words that a command takes behind its name.
+WORDS = {"check": "FILE [--proof NAME] [--budget NUMBER] [--top MODULE]", "verify": "FILE PROOF [--top MODULE]", "list": "FILE [--top MODULE]",
+         "cnf": "FILE NUMBER [--top MODULE]", "sim": "FILE [--level POINT] [--order NUMBER] [--top MODULE]"}
+# Words that a command does not take.
+WRONG = [["check"], ["check", "--f"], ["check", "f", "g"], ["check", "f", "--top"], ["check", "--top", "a", "f", "--top", "b"], ["check", "f", "--help"],
+         ["check", "-h"], ["check", "f", "--budget", "0"], ["check", "f", "--budget", "4000000001"], ["check", "f", "--budget=-0"], ["check", "f", "--budget="],
+         ["check", "f", "--budget", "5", "--budget", "6"], ["check", "f", "--proof"], ["check", "f", "--json"], ["verify"], ["verify", "f"],
+         ["verify", "f", "g", "h"], ["verify", "f", "--proof", "g"], ["verify", "f", "g", "--budget", "5"], ["list"], ["cnf", "f"], ["cnf", "f", "1", "2"],
+         ["cnf", "f", "x"], ["cnf", "f", "-0"], ["cnf", "--", "f", "-1"], ["cnf", "f", "4294967296"], ["sim", "f", "--order", "18446744073709551616"]]
 USAGE = "; usage: secv COMMAND FILE [OPTIONS] (`secv --help` says more)"
-UNBUILT = "secv: memories, invariants and released values are not built; docs/language.md says more\n"
 FULL = "secv: the output could not be written: No space left on device (os error 28)\n"
 CLOSED = "secv: the output could not be written: Bad file descriptor (os error 9)\n"
 # Texts, the option that `list` gets, and what it prints. A case of 256 arms, with 16 paths each and one more in the last, has a path too many.
@@ -110,12 +145,12 @@ LISTS = [("module m(output y); endmodule", [], "refused 604 undriven 1:17 y\n"),
          (SELECTED, [], "1 y now =4:10 reads d\n2 d now selector reads q\n"),
          (SELECTED.replace("{Dom(p)} q", "{H} q"), [], "1 y now =4:10 reads d\n2 d now selector reads q\n"),
          (SELECTED.replace("{Dom(p)} q", "q"), [], "1 y now =4:10 reads d\n")]
-STATUS = {"accepted": 0, "refused": 1, "usage": 2}
+STATUS = {"accepted": 0, "refused": 1, "usage": 2, "unknown": 3}
 passed = failed = 0
 
 
-def run(words, stdout=subprocess.PIPE, before=None, given=b""):
-    return subprocess.run([SECV, *words], cwd=TOP, input=given, stdout=stdout, stderr=subprocess.PIPE, preexec_fn=before)
+def run(words, stdout=subprocess.PIPE, before=None, given=b"", folder=TOP):
+    return subprocess.run([SECV, *words], cwd=folder, input=given, stdout=stdout, stderr=subprocess.PIPE, preexec_fn=before)
 
 
 def compare(what, got, wanted):
@@ -151,17 +186,20 @@ def shown_in_readme():
     with open(os.path.join(TOP, "README.md"), encoding="utf-8") as file:
         text = file.read()
     shown = 0
-    for block in re.findall(r"^```console\n(.*?)^```$", text, re.M | re.S):
-        for words, wanted in re.findall(r"^\$ \./secv ([^\n]*)\n((?:[^$\n][^\n]*\n)*)", block, re.M):
-            command, _, path = words.partition(" < ")
-            given = b""
-            if path:
-                with open(os.path.join(TOP, path), "rb") as file:
-                    given = file.read()
-                compare(f"README shows {path}", f"```\n{given.decode()}```\n" in text, True)
-            answer = run(command.split(), given=given)
-            compare(f"README: secv {words}", (answer.stdout, answer.returncode), (wanted.encode(), status_of(wanted.encode())))
-            shown += 1
+    with tempfile.TemporaryDirectory() as here:
+        # where a certificate may be stored
+        os.symlink(os.path.join(TOP, "examples"), os.path.join(here, "examples"))
+        for block in re.findall(r"^```console\n(.*?)^```$", text, re.M | re.S):
+            for words, wanted in re.findall(r"^\$ \./secv ([^\n]*)\n((?:[^$\n][^\n]*\n)*)", block, re.M):
+                command, _, path = words.partition(" < ")
+                given = b""
+                if path:
+                    with open(os.path.join(TOP, path), "rb") as file:
+                        given = file.read()
+                    compare(f"README shows {path}", f"```\n{given.decode()}```\n" in text, True)
+                answer = run(command.split(), given=given, folder=here)
+                compare(f"README: secv {words}", (answer.stdout, answer.returncode), (wanted.encode(), status_of(wanted.encode())))
+                shown += 1
     compare("README shows commands", shown > 0, True)
     folder = os.path.join(TOP, "examples")
     designs = set()
@@ -180,26 +218,16 @@ def words_and_faults():
     compare("--help", (answer.stdout, answer.stderr, answer.returncode), (HELP, b"", 0))
     version = run(["--version"])
     compare("--version", (version.stdout, version.stderr, version.returncode), (b"secv 0.1.0\n", b"", 0))
-    answer = run(["sim", "--help"])
-    compare("sim --help", (answer.stdout, answer.stderr, answer.returncode), (SIM_HELP, b"", 0))
-    answer = run(["cnf", "--help"])
-    compare("cnf --help", (answer.stdout, answer.stderr, answer.returncode), (CNF_HELP, b"", 0))
-    for word, what in (("check", "Say whether the labels of a design keep every secret"), ("list", "List the obligations of a design, one a line")):
+    for word, text in HELPS.items():
         answer = run([word, "--help"])
-        compare(f"{word} --help", (answer.stdout.decode(), answer.stderr, answer.returncode), (SHORT_HELP.format(word=word, what=what), b"", 0))
-    wrong = "`check` does not take these words; usage: secv check FILE [--top MODULE] (`secv check --help` says more)"
+        compare(f"{word} --help", (answer.stdout, answer.stderr, answer.returncode), (text, b"", 0))
     for words, kind, said in [([], "no-command", "no command is given" + USAGE),
                               (["chekc", "f"], "unknown-command", "there is no command chekc; `secv --help` shows all"),
                               (["a\x1b[2Jb\n"], "unknown-command", "there is no command a\\u{1b}[2Jb\\n; `secv --help` shows all"),
                               (["--help", "more"], "unknown-command", "there is no command --help; `secv --help` shows all"),
                               (["-h"], "unknown-command", "there is no command -h; `secv --help` shows all"),
-                              (["check"], "words", wrong), (["check", "--f"], "words", wrong), (["check", "f", "g"], "words", wrong),
-                              (["check", "f", "--top"], "words", wrong), (["check", "--top", "a", "f", "--top", "b"], "words", wrong),
-                              (["check", "f", "--help"], "words", wrong), (["check", "-h"], "words", wrong), (["sim", "f", "--order", "18446744073709551616"], "words",
-                               wrong.replace("check", "sim").replace("FILE ", "FILE [--level POINT] [--order NUMBER] ")),
-                              (["list"], "words", wrong.replace("check", "list")),
-                              *((words, "words", wrong.replace("check", "cnf").replace("FILE ", "FILE NUMBER ")) for words in
-                                (["cnf", "f"], ["cnf", "f", "1", "2"], ["cnf", "f", "x"], ["cnf", "f", "-0"], ["cnf", "--", "f", "-1"], ["cnf", "f", "4294967296"])), ([b"\xff"], "words", "an argument is not UTF-8" + USAGE)]:
+                              *((words, "words", f"`{words[0]}` does not take these words; usage: secv {words[0]} {WORDS[words[0]]} (`secv {words[0]} --help` says more)")
+                                for words in WRONG), ([b"\xff"], "words", "an argument is not UTF-8" + USAGE)]:
         answer = run(words)
         compare(f"words {words}", (answer.stdout, answer.returncode), (f"usage {kind}\n".encode(), 2))
         compare(f"words {words} are explained", answer.stderr.decode(), f"secv: {said}\n")
@@ -218,15 +246,10 @@ def words_and_faults():
             compare("so it is of a broken rule", answer.stderr.decode(), explained(f"{folder}/{escaped}", "refused 201 unexpected 1:1"))
         other = os.path.join(folder, "other.v")
         with open(other, "w", encoding="ascii") as file:
-            file.write("module m(input [7:0] a, output y); assign y = a == 3; endmodule\n")
-        answer = run(["check", other])
-        compare("a text that is not built", (answer.stdout, answer.returncode), (b"refused 199 not-built 1:1\n", 1))
-        compare("it is explained", answer.stderr.decode(), UNDECIDED)
-        with open(other, "w", encoding="ascii") as file:
             file.write("module m(input a, output y); invariant a; assign y = a; endmodule\n")
-        for word in ("list", "sim"):
-            answer = run([word, other])
-            compare(f"an invariant, {word}", (answer.stdout, answer.stderr.decode(), answer.returncode), (b"refused 199 not-built 1:1\n", UNBUILT, 1))
+        for words in (["check", other], ["verify", other, "none"], ["list", other], ["cnf", other, "1"], ["sim", other]):
+            answer = run(words)
+            compare(f"an invariant, {words[0]}", (answer.stdout, answer.stderr.decode(), answer.returncode), (b"refused 199 not-built 1:1\n", UNBUILT, 1))
         for text, wanted in SYNTAX:
             with open(other, "wb") as file:
                 file.write(text)
@@ -467,4 +490,5 @@ def main():
     sys.exit(1 if failed else 0)
 
 
-main()
+if __name__ == "__main__":
+    main()

@@ -1,7 +1,7 @@
 #!/usr/bin/env python3
 """Checks hierarchies at the limits of elaboration through ./secv: signals, instances, points and rows of maps at the limit and one past
 it, modules nested and chained, and a hierarchy whose whole size no machine could hold; and blocks of 4,096 signals and of 100,000 statements, with
-a latch and without one; and encodings at the limit of variables. Each wanted line is worked out here from docs/language.md. The last line is 'N passed, M failed'.
+a latch and without one; and encodings at the limit of variables. Each wanted line, with the number of obligations where nothing is broken, is worked out here from docs/language.md. The last line is 'N passed, M failed'.
 """
 import os
 import resource
@@ -11,7 +11,6 @@ import tempfile
 
 TOP = os.path.dirname(os.path.dirname(os.path.abspath(__file__)))
 SECV = os.path.join(TOP, "secv")
-NOT_BUILT = "refused 199 not-built 1:1"
 MOST_SECONDS = 10
 MOST_MEGABYTES = 256
 passed = failed = 0
@@ -23,6 +22,10 @@ def processor_seconds():
     return used.ru_utime + used.ru_stime
 
 
+def accepted(count):
+    return f"accepted {count} obligations"
+
+
 def check(what, text, wanted, folder, words=()):
     """The program's line for the text, and whether it is the wanted one, in little processor time and memory."""
     global passed, failed
@@ -31,29 +34,33 @@ def check(what, text, wanted, folder, words=()):
         file.write(text)
     limit = f"ulimit -v {MOST_MEGABYTES * 1024}; exec \"$@\""
     before = processor_seconds()
-    answer = subprocess.run(["sh", "-c", limit, "sh", SECV, "check", path, *words], stdin=subprocess.DEVNULL, stdout=subprocess.PIPE,
-                            stderr=subprocess.DEVNULL, timeout=10 * MOST_SECONDS, check=False)
+    try:
+        answer = subprocess.run(["sh", "-c", limit, "sh", SECV, "check", path, *words], stdin=subprocess.DEVNULL, stdout=subprocess.PIPE,
+                                stderr=subprocess.DEVNULL, timeout=10 * MOST_SECONDS, check=False)
+        got = answer.stdout, answer.returncode
+    except subprocess.TimeoutExpired:
+        got = b"nothing so far", None
     took = processor_seconds() - before
-    if (answer.stdout, answer.returncode) == ((wanted + "\n").encode(), 1) and took < MOST_SECONDS:
+    if got == ((wanted + "\n").encode(), 1 if wanted.startswith("refused ") else 0) and took < MOST_SECONDS:
         passed += 1
     else:
         failed += 1
-        print(f"{what}\n  wanted {wanted}\n  got    {answer.stdout!r}, status {answer.returncode}, after {took:.1f} s of the processor")
+        print(f"{what}\n  wanted {wanted}\n  got    {got[0]!r}, status {got[1]}, after {took:.1f} s of the processor")
 
 
 def signals(folder):
-    """4,096 signals and one more, in one module and over instances: the one more is told at its name."""
+    """4,096 signals and one more, in one module and over instances: the one more is told at its name. Each signal but the inputs has an obligation."""
     for count in (4096, 4097):
         wires = count - 2
         lines = ["module m(input [1:0] a, output [1:0] y);", "  assign y = a;"]
         lines += [f"  wire [1:0] w{i} = {'a' if i == 0 else f'w{i - 1}'};" for i in range(wires)]
-        wanted = NOT_BUILT if count == 4096 else f"refused 315 too-many {2 + wires}:14"
+        wanted = accepted(1 + wires) if count == 4096 else f"refused 315 too-many {2 + wires}:14"
         check(f"{count} signals of one module", "\n".join([*lines, "endmodule"]) + "\n", wanted, folder)
     for wires in (1022, 1023):
         # four instances, each with its port and its wires, and the input of the top
         lines = ["module s(input a);", *[f"  wire w{i} = a;" for i in range(wires)], "endmodule", "module m(input a);"]
         lines += [f"  s u{i}(.a(a));" for i in range(4)]
-        wanted = NOT_BUILT if wires == 1022 else f"refused 315 too-many {1 + wires}:8"
+        wanted = accepted(4 * (1 + wires)) if wires == 1022 else f"refused 315 too-many {1 + wires}:8"
         check(f"{4 * (1 + wires) + 1} signals in instances", "\n".join([*lines, "endmodule"]) + "\n", wanted, folder)
     # both links are taken at the 8 bits of the ports, of which the second or both are too many: at 4 bits the divisor would be 0
     for wires, place in ((4094, 37), (4095, 22)):
@@ -64,24 +71,24 @@ def signals(folder):
 
 
 def instances(folder):
-    """1,024 instances, the top among them, and one more: it is told at its module's name."""
+    """1,024 instances, the top among them, and one more: it is told at its module's name. The link to each but the top has an obligation."""
     for count in (1024, 1025):
         lines = ["module s(input a); endmodule", "module m(input a);", *[f"  s u{i}(.a(a));" for i in range(count - 1)], "endmodule"]
-        wanted = NOT_BUILT if count == 1024 else f"refused 315 too-many {count + 1}:3"
+        wanted = accepted(count - 1) if count == 1024 else f"refused 315 too-many {count + 1}:3"
         check(f"{count} instances side by side", "\n".join(lines) + "\n", wanted, folder)
         # of one item, so each instance's place is that of the item's module
         names = ", ".join(f"u{i}(a)" for i in range(count - 1))
         text = f"module s(input a); endmodule\nmodule m(input a);\n  s {names};\nendmodule\n"
-        check(f"{count} instances of one list", text, NOT_BUILT if count == 1024 else "refused 315 too-many 3:3", folder)
+        check(f"{count} instances of one list", text, accepted(count - 1) if count == 1024 else "refused 315 too-many 3:3", folder)
     for count in (64, 1024, 1025):
         lines = [f"module m{i}(input a); {f'm{i + 1} u(.a(a));' if i + 1 < count else ''} endmodule" for i in range(count)]
-        wanted = NOT_BUILT if count <= 1024 else f"refused 315 too-many {count - 1}:{len(f'module m{count - 2}(input a); ') + 1}"
+        wanted = accepted(count - 1) if count <= 1024 else f"refused 315 too-many {count - 1}:{len(f'module m{count - 2}(input a); ') + 1}"
         check(f"{count} modules, each in the one before", "\n".join(lines) + "\n", wanted, folder)
     # a tree: 31 in the top, and 32 in each of these, are 1 + 31 + 31 * 32 = 1,024
     for more in (0, 1):
         lines = ["module s(input a); endmodule", "module r(input a);", *[f"  s u{i}(.a(a));" for i in range(32)], "endmodule"]
         lines += ["module m(input a);", *[f"  r u{i}(.a(a));" for i in range(31)], *["  s v(.a(a));"] * more, "endmodule"]
-        wanted = f"refused 315 too-many {2 + 32 + 1 + 1 + 31 + 1}:3" if more else NOT_BUILT
+        wanted = f"refused 315 too-many {2 + 32 + 1 + 1 + 31 + 1}:3" if more else accepted(1023)
         check(f"a tree of {1024 + more} instances", "\n".join(lines) + "\n", wanted, folder)
 
 
@@ -111,8 +118,8 @@ def labels(folder):
         points = ", ".join(f"P{i}" for i in range(count))
         pairs = " ".join(f"P{i} <= P{i + 1};" for i in range(count - 1))
         text = f"lattice point {points}; {pairs} endlattice\nmodule m(input {{P0}} a, output {{P31}} y); assign y = a & a; endmodule\n"
-        check(f"{count} points", text, NOT_BUILT if count == 32 else "refused 301 lattice-size 1:1", folder)
-    for keys, wanted in ((range(256), NOT_BUILT), (range(255), "refused 308 map-hole 1:10 D"), ([*range(256), 7], "refused 307 map-row 1:10 D"),
+        check(f"{count} points", text, accepted(1) if count == 32 else "refused 301 lattice-size 1:1", folder)
+    for keys, wanted in ((range(256), accepted(1)), (range(255), "refused 308 map-hole 1:10 D"), ([*range(256), 7], "refused 307 map-row 1:10 D"),
                          ([*range(255), 256], "refused 307 map-row 1:10 D")):
         rows = " ".join(f"{key}: {'H' if key % 2 else 'L'};" for key in keys)
         text = f"labelmap D [7:0] {rows} endlabelmap\nmodule m(input [7:0] s, input {{D(s)}} a, output {{H}} y); assign y = a; endmodule\n"
@@ -121,7 +128,8 @@ def labels(folder):
 
 def nest(folder):
     """A block that assigns 4,094 signals, each once on every path through a nest of eight branches: the first arm of a branch assigns all that
-    are left, and the second one 512 of them before the next branch. With one of these assignments left out its signal is a latch."""
+    are left, and the second one 512 of them before the next branch. With one of these assignments left out its signal is a latch. A signal of the
+    Nth 512 has a path for each of the first N arms of the branches up to its own, and one for the second arm of that."""
     names = [f"r{i}" for i in range(4094)]
 
     def text(left_out):
@@ -133,16 +141,18 @@ def nest(folder):
         head = f"module m(input [7:0] a, output [7:0] y);\n  reg [7:0] {', '.join(names)};\n  always @* begin\n"
         return head + "".join(arms) + "end " * 8 + "end\n  assign y = r0;\nendmodule\n"
 
-    check("4,096 signals and a nest of branches", text(None), NOT_BUILT, folder)
+    paths = sum(number // 512 + 2 for number in range(len(names)))
+    check("4,096 signals and a nest of branches", text(None), accepted(paths + 1), folder)
     for left_out in ((0, "if", "r0"), (3, "if", "r4093"), (7, "en", "r3584")):
         check(f"these without an assignment at {left_out}", text(left_out), f"refused 605 latch 3:3 {left_out[2]}", folder)
 
 
 def statements(folder):
-    """A block of 100,000 assignments to 4,093 signals, in two arms that assign the last signal once each; without that in the second it is a latch."""
+    """A block of 100,000 assignments to 4,093 signals, in two arms that assign the last signal once each; without that in the second it is a latch.
+    Each signal has a path for each arm, which ends in its last assignment there."""
     names = ", ".join(f"r{i}" for i in range(4093))
     arm = "".join(f"r{i % 4092}=a;\n" for i in range(49999))
-    for last, wanted in (("r4092=b;\n", NOT_BUILT), ("", "refused 605 latch 3:3 r4092")):
+    for last, wanted in (("r4092=b;\n", accepted(2 * 4093 + 1)), ("", "refused 605 latch 3:3 r4092")):
         head = f"module m(input a, b, output y);\n  reg {names};\n  always @* if (a) begin\n"
         text = head + arm + "r4092=a;\nend else begin\n" + arm + last + "end\n  assign y = r0;\nendmodule\n"
         check(f"{text.count(';') - 3} statements", text, wanted, folder)
@@ -170,6 +180,18 @@ def encodings(folder):
         else:
             failed += 1
             print(f"{bits} bits by ^\n  wanted {wanted}\n  got    {first!r}, {rest} lines after it, status {program.returncode}")
+    # `check` and `verify` make the clauses of no such obligation either: two of `y`, and one for each wire; the certificate is one by its text alone
+    proof = os.path.join(folder, "proof")
+    count = 2 + len(words) + len(lines)
+    with open(proof, "w", encoding="ascii") as file:
+        file.write(f"secv-proof 1\nobligations {count}\n" + "".join(f"o {number} 1\n0 1 0\n" for number in range(1, count + 1)) + "end\n")
+    for asked in (["check", path], ["verify", path, proof]):
+        answer = subprocess.run([SECV, *asked], stdin=subprocess.DEVNULL, stdout=subprocess.PIPE, stderr=subprocess.DEVNULL, timeout=100, check=False)
+        if (answer.stdout, answer.returncode) == (b"refused 709 encoding 1\n", 1):
+            passed += 1
+        else:
+            failed += 1
+            print(f"{asked[0]} of too large an encoding\n  got    {answer.stdout!r}, status {answer.returncode}")
 
 
 def main():

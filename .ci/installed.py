@@ -104,7 +104,8 @@ def bash(told):
             compare(f"bash: {name} a.v --", behind(name, "a.v", "--"), sorted(options))
             compare(f"bash: {name}", behind(name, ""), ["a.v", "sub/"])
             for option in options:
-                compare(f"bash: {name} {option}", behind(name, option, ""), [])
+                compare(f"bash: {name} {option}", behind(name, option, ""), ["a.v", "b.txt", "sub"] if option == "--proof" else [])
+        compare("bash: a certificate", behind("verify", "a.v", ""), ["a.v", "b.txt", "sub"])
         compare("bash: no command", behind("other", "--"), [])
 
 
@@ -114,7 +115,7 @@ def zsh(told):
     for name, value in re.findall(r"^  local (\w+)='(.*)'$", text, re.M):
         text = text.replace(f"${name} ", f"'{value}' ")
     arms = dict(re.findall(r"^    ([a-z]+)\)\s(.*?);;$", text, re.M | re.S))
-    found = {name: dict(re.findall(r"'(--[a-z]+)=\[(.*?)\]:[a-z]+: '", arm)) for name, arm in arms.items()}
+    found = {name: dict(re.findall(r"'(--[a-z]+)=\[(.*?)\]:[a-z]+:(?: |_files)'", arm)) for name, arm in arms.items()}
     compare("zsh: options", found, {name: told.of(name) for name in told.options})
     compare("zsh: --help", [name for name, arm in arms.items() if "'(-)--help[" not in arm], [])
     if shutil.which("zsh"):
@@ -122,7 +123,7 @@ def zsh(told):
 
 
 def fish(told):
-    rows = re.findall(r"^complete -c secv -n (?:'.*?_from ([a-z ]+)'|__fish_use_subcommand)(?: -f -a| -l) (\S+)( -x)? -d '(.*)'$", read("share", "secv.fish"), re.M)
+    rows = re.findall(r"^complete -c secv -n (?:'.*?_from ([a-z ]+)'|__fish_use_subcommand)(?: -f -a| -l) (\S+)( -[rx])? -d '(.*)'$", read("share", "secv.fish"), re.M)
     first = {word if word in told.options else f"--{word}": what for names, word, _, what in rows if not names}
     compare("fish: the first word", first, told.words)
     found = {name: {f"--{word}": what for names, word, takes, what in rows if takes and name in names.split()} for name in told.options}

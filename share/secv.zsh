@@ -9,6 +9,7 @@ _secv() {
     local -a commands
     commands=(
       'check:say whether the labels of a design keep every secret'
+      'verify:say whether a certificate proves a design to keep every secret'
       'list:list the obligations of a design, a line each'
       'cnf:print the clauses of one obligation of a design, as DIMACS'
       'sim:simulate a design on the stimulus of standard input'
@@ -22,7 +23,12 @@ _secv() {
   shift words
   (( CURRENT-- ))
   case $command in
-    check) _arguments $top $help $file ;;
+    check)
+      _arguments $top $help $file \
+        '--proof=[Store the certificate of an accepted design in this file]:name:_files' \
+        '--budget=[Learn at most this many clauses for each obligation, 20000 unless given]:number: '
+      ;;
+    verify) _arguments $top $help '1:file:_files -g "*.v"' '2:proof:_files' ;;
     list) _arguments $top $help $file ;;
     cnf) _arguments $top $help '1:file:_files -g "*.v"' '2:number: ' ;;
     sim)

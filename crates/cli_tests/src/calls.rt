@@ -1,7 +1,16 @@
 // Calls of `run` over files and streams in memory.
 use std::alloc::{AllocError, Global};
-use sv_cli::run;
+use sv_cli::{Outcome, run};
 use sv_io::{MemCabinet, MemSink, MemSource, Sink, Source};
+
+// The words, of which a blank stands between two.
+fn list_of(alloc: Global, words: &str) -> Result<Vec<String>, AllocError> {
+    let mut list = Vec::new(alloc);
+    for word in words.split(' ') {
+        list.push(String::from_str(alloc, word)?)?;
+    }
+    Ok(list)
+}
 
 /// The status of these words, a blank between two, over the text, which is `f`, with these streams.
 pub fn status_of<S: Source, K: Sink>(
@@ -13,10 +22,7 @@ pub fn status_of<S: Source, K: Sink>(
 ) -> Result<u8, AllocError> {
     let mut cabinet = MemCabinet::new(alloc, Vec::new(alloc));
     cabinet.hold("f", text.as_bytes())?;
-    let mut list = Vec::new(alloc);
-    for word in words.split(' ') {
-        list.push(String::from_str(alloc, word)?)?;
-    }
+    let list = list_of(alloc, words)?;
     Ok(run(alloc, &list, &mut cabinet, input, out).status())
 }
 
@@ -43,4 +49,17 @@ pub fn called(
     let mut out = MemSink::new(alloc, vec![in alloc; streams.put]?, 1);
     let status = status_of(alloc, words, text, &mut input, &mut out)?;
     Ok((status, Vec::from_slice(alloc, out.bytes())?))
+}
+
+/// What these words come to over these files and an empty input, and all that was written.
+pub fn answered(
+    alloc: Global,
+    words: &str,
+    cabinet: &mut MemCabinet,
+) -> Result<(Outcome, Vec<u8>), AllocError> {
+    let list = list_of(alloc, words)?;
+    let mut input = MemSource::new(Vec::new(alloc), Vec::new(alloc), 1);
+    let mut out = MemSink::new(alloc, Vec::new(alloc), 1);
+    let outcome = run(alloc, &list, cabinet, &mut input, &mut out);
+    Ok((outcome, Vec::from_slice(alloc, out.bytes())?))
 }

@@ -27,3 +27,10 @@ pub const INVERTERS: &str = "module m(input a, output y);
   assign p = ~a;
 endmodule
 ";
+
+/// Two sums of three bits, one from the left and one from the right, so that the secret input is
+/// never shown. Unit resolution alone does not see that they are equal.
+pub const SUMS: &str = "module m(input a, input b, input c, input l, input {H} h, output y);
+  assign y = ((a ^ b) ^ c) == ((c ^ b) ^ a) ? l : h;
+endmodule
+";

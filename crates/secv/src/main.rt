@@ -2,6 +2,8 @@
 //!
 //! `main` makes the files, the input and the output, and takes the words of the system. `answer`
 //! gives the exit status: of a text about the program, or of the outcome of `run` over these three.
+//! Only `main` holds the runtime: all else reaches the system through these three, memory and
+//! standard error.
 //! What a status says of what passed through them stands in `specs/Ends.antt`. `main` itself has no
 //! contract.
 #![tactic(auto)]
@@ -12,7 +14,7 @@ ghost use Rattle.secv.specs.Ends.{IsShown, Shows, Prints, Ends, traffic};
 
 mod messages;
 
-use messages::{Causes, explain, explain_memory, explain_output, explain_words};
+use messages::{Causes, Person, explain, explain_memory, explain_output, explain_words};
 use std::io::{self, ErrorKind, Stdin, Stdout};
 use std::process::ExitCode;
 use sv_cli::run;
@@ -23,7 +25,10 @@ const HELP: &str =
     "secv checks designs in SecVerilog: Verilog in which every signal has a security label.
 
 usage:
-  secv check FILE [--top MODULE]    say whether the labels of a design keep every secret
+  secv check FILE [--proof NAME] [--budget NUMBER] [--top MODULE]
+                                    say whether the labels of a design keep every secret
+  secv verify FILE PROOF [--top MODULE]
+                                    say whether a certificate proves a design to keep every secret
   secv list FILE [--top MODULE]     list the obligations of a design, a line each
   secv cnf FILE NUMBER [--top MODULE]
                                     print the clauses of one obligation of a design, as DIMACS
@@ -34,7 +39,8 @@ usage:
   secv --version                    print the version
 
 exit status: 0 accepted, listed, encoded or simulated, 1 refused, 2 wrong words,
-             4 unreadable file or input, 5 unwritable output, 6 out of memory
+             3 unknown within the budget, 4 unreadable file or input,
+             5 unwritable output or certificate, 6 out of memory
 ";
 
 const VERSION: &str = "secv 0.1.0\n";
@@ -49,16 +55,20 @@ const WRITE_FAULT: u8 = 5;
 const OUT_OF_MEMORY: u8 = 6;
 
 fn main(rt: HostRuntime) -> ExitCode {
+    let person = Person {
+        alloc: rt.alloc(),
+        stderr: rt.stderr(),
+    };
     let mut cabinet = FileCabinet::new(&rt);
     let mut input = StdSource::new(rt.stdin());
     let mut out = StdSink::new(rt.stdout());
     let status = match words_of(&rt) {
-        Ok(words) => answer(&rt, &words, &mut cabinet, &mut input, &mut out),
+        Ok(words) => answer(person, &words, &mut cabinet, &mut input, &mut out),
         Err(error) if error.kind() == ErrorKind::InvalidData => {
-            explain_words(&rt, "an argument is not UTF-8");
-            print(&rt, &mut out, "usage words\n", WRONG_WORDS)
+            explain_words(person, "an argument is not UTF-8");
+            print(person, &mut out, "usage words\n", WRONG_WORDS)
         }
-        Err(_) => end_without_memory(&rt),
+        Err(_) => end_without_memory(person),
     };
     ExitCode::from(status)
 }
@@ -71,63 +81,65 @@ fn words_of(rt: &HostRuntime) -> io::Result<Vec<String>> {
 
 // The exit status for these words.
 fn answer(
-    rt: &HostRuntime,
+    person: Person,
     words: &[String],
     cabinet: &mut FileCabinet<&HostRuntime>,
     input: &mut StdSource<Stdin>,
     out: &mut StdSink<Stdout>,
 ) -> u8
     ensures shown { IsShown (words_of words.now) → Shows 0 out.old out.new result }
+    ensures alone { IsShown (words_of words.now) →
+        (cabinet.new ≡ cabinet.old) × (input.new ≡ input.old) }
     ensures ends { (IsShown (words_of words.now) → ⊥) →
         Ends (words_of words.now) (traffic cabinet.old input.old out.old)
         (traffic cabinet.new input.new out.new) result }
 {
     match words {
-        [word] if word.as_str() == "--help" => print(rt, out, HELP, DONE),
-        [word] if word.as_str() == "--version" => print(rt, out, VERSION, DONE),
+        [word] if word.as_str() == "--help" => print(person, out, HELP, DONE),
+        [word] if word.as_str() == "--version" => print(person, out, VERSION, DONE),
         words => match help_asked(words) {
-            Some(name) => print_help(rt, out, name),
-            None => command(rt, words, cabinet, input, out),
+            Some(name) => print_help(person, out, name),
+            None => command(person, words, cabinet, input, out),
         },
     }
 }
 
 // The help of a command.
-fn print_help(rt: &HostRuntime, out: &mut StdSink<Stdout>, name: CommandName) -> u8
+fn print_help(person: Person, out: &mut StdSink<Stdout>, name: CommandName) -> u8
     ensures { Shows 0 out.old out.new result }
 {
-    match help_text(rt.alloc(), name) {
-        Ok(text) => print(rt, out, text.as_str(), DONE),
-        Err(_) => end_without_memory(rt),
+    match help_text(person.alloc, name) {
+        Ok(text) => print(person, out, text.as_str(), DONE),
+        Err(_) => end_without_memory(person),
     }
 }
 
 // Writes the text. It gives the status, or that of a write fault or of want of memory.
-fn print(rt: &HostRuntime, out: &mut StdSink<Stdout>, text: &str, status: u8) -> u8
+fn print(person: Person, out: &mut StdSink<Stdout>, text: &str, status: u8) -> u8
     ensures written { Prints text.now status out.old out.new result }
     ensures shown { Shows status out.old out.new result }
 {
     match put_all(out, text.as_bytes()) {
         Ok(()) => status,
         Err(PutFault::Failed) => {
-            explain_output(rt, out.last_error());
+            explain_output(person, out.last_error());
             WRITE_FAULT
         }
-        Err(PutFault::OutOfMemory) => end_without_memory(rt),
+        Err(PutFault::OutOfMemory) => end_without_memory(person),
     }
 }
 
 // Says that memory ran out, and gives the status of that.
-fn end_without_memory(rt: &HostRuntime) -> u8
+fn end_without_memory(person: Person) -> u8
     ensures { result ≡ 6 }
 {
-    explain_memory(rt);
+    explain_memory(person);
     OUT_OF_MEMORY
 }
 
 // The status of what `run` answers.
 fn command(
-    rt: &HostRuntime,
+    person: Person,
     words: &[String],
     cabinet: &mut FileCabinet<&HostRuntime>,
     input: &mut StdSource<Stdin>,
@@ -136,12 +148,13 @@ fn command(
     ensures { Ends (words_of words.now) (traffic cabinet.old input.old out.old)
         (traffic cabinet.new input.new out.new) result }
 {
-    let outcome = run(rt.alloc(), words, cabinet, input, out);
+    let outcome = run(person.alloc, words, cabinet, input, out);
     let causes = Causes {
         file: cabinet.last_error(),
+        one_was_read: cabinet.has_fetched(),
         input: input.last_error(),
         output: out.last_error(),
     };
-    explain(rt, words, &outcome, &causes);
+    explain(person, words, &outcome, &causes);
     outcome.status()
 }

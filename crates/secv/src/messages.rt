@@ -1,44 +1,52 @@
 // What is said to a person on standard error, one line each. Where it cannot be said nothing else
 // changes.
-use std::io;
+use std::alloc::Global;
+use std::io::{self, Stderr};
 use sv_cli::{Broken, Outcome, UsageKind};
 use sv_num::{Place, Refusal};
 use sv_words::{Command, read_words};
-
-const UNDECIDED: &str =
-    "secv: only simple modules of one-bit signals are decided so far; docs/language.md says which";
 
 const UNBUILT: &str =
     "secv: memories, invariants and released values are not built; docs/language.md says more";
 
 const MEMORY: &str = "secv: memory ran out";
 
+/// Who reads standard error, and what memory the messages take.
+#[derive(Clone, Copy)]
+pub struct Person {
+    pub alloc: Global,
+    pub stderr: Stderr,
+}
+
 /// The system's error at the last call that failed, of the files, of the input and of the output.
+/// `one_was_read` says that a file was read before one failed.
 #[derive(Drop)]
 pub struct Causes<'a> {
     pub file: Option<&'a io::Error>,
+    pub one_was_read: bool,
     pub input: Option<&'a io::Error>,
     pub output: Option<&'a io::Error>,
 }
 
 /// What stood in the way of a verdict, or what else than the printed answer a person may want to
 /// know.
-pub fn explain(rt: &HostRuntime, words: &[String], outcome: &Outcome, causes: &Causes) {
+pub fn explain(person: Person, words: &[String], outcome: &Outcome, causes: &Causes) {
     match outcome {
         Outcome::Done => {}
-        Outcome::Refused(Broken::Rule(refusal)) => explain_rule(rt, words, refusal),
+        Outcome::Refused(Broken::Rule(refusal)) => explain_rule(person, words, refusal),
         Outcome::Refused(_) => {}
-        Outcome::Usage(kind) => explain_usage(rt, words, *kind),
-        Outcome::ReadFault => explain_read(rt, words, causes),
-        Outcome::WriteFault => explain_output(rt, causes.output),
-        Outcome::OutOfMemory => explain_memory(rt),
+        Outcome::Usage(kind) => explain_usage(person, words, *kind),
+        Outcome::Unknown(spent) => explain_spent(person, spent.obligation),
+        Outcome::ReadFault => explain_read(person, words, causes),
+        Outcome::WriteFault => explain_write(person, words, causes),
+        Outcome::OutOfMemory => explain_memory(person),
     }
 }
 
 /// That memory ran out.
-pub fn explain_memory(rt: &HostRuntime) {
+pub fn explain_memory(person: Person) {
     // not used: where this cannot be written, the status tells of it
-    let _ = rt.eprintln(MEMORY);
+    let _ = person.stderr.eprintln(MEMORY);
 }
 
 // What is said of each rule.
@@ -136,39 +144,62 @@ fn fault_of(number: u16) -> Option<&'static str> {
 }
 
 // What the words ask for; None where memory runs out, or they ask for nothing.
-fn command_of(rt: &HostRuntime, words: &[String]) -> Option<Command> {
-    read_words(rt.alloc(), words).ok()
+fn command_of(person: Person, words: &[String]) -> Option<Command> {
+    read_words(person.alloc, words).ok()
 }
 
 fn file_in(command: &Command) -> &str {
     match command {
         Command::Check { file, .. } => file.as_str(),
+        Command::Verify { file, .. } => file.as_str(),
         Command::List { file, .. } => file.as_str(),
         Command::Cnf { file, .. } => file.as_str(),
         Command::Sim { file, .. } => file.as_str(),
     }
 }
 
+// The certificate that is read or to be stored.
+fn certificate_in(command: &Command) -> Option<&str> {
+    match command {
+        Command::Check { proof, .. } => proof.as_deref(),
+        Command::Verify { proof, .. } => Some(proof.as_str()),
+        _ => None,
+    }
+}
+
 // What is wrong at the place of a broken rule.
-fn explain_rule(rt: &HostRuntime, words: &[String], refusal: &Refusal) {
-    let Some(command) = command_of(rt, words) else {
-        return explain_memory(rt);
+fn explain_rule(person: Person, words: &[String], refusal: &Refusal) {
+    let Some(command) = command_of(person, words) else {
+        return explain_memory(person);
     };
     let Some(fault) = fault_of(refusal.number) else {
-        let is_check = matches!(command, Command::Check { .. });
         // not used: where this cannot be written, the status tells of the rule
-        let _ = rt.eprintln(if is_check { UNDECIDED } else { UNBUILT });
+        let _ = person.stderr.eprintln(UNBUILT);
         return;
     };
     let name = file_in(&command).escape_debug();
     let Place { line, column } = refusal.place;
     // not used: where this cannot be written, the status tells of the rule
-    let _ = eprintln!(rt; "secv: {name}:{line}:{column}: {fault}; docs/language.md says more");
+    let _ = eprintln!(person.stderr;
+        "secv: {name}:{line}:{column}: {fault}; docs/language.md says more"
+    );
+}
+
+// That the budget did not suffice for an obligation.
+fn explain_spent(person: Person, obligation: u32) {
+    // not used: where this cannot be written, the status tells of it
+    let _ = eprintln!(person.stderr;
+        "secv: the budget does not suffice for obligation {obligation}; --budget NUMBER allows more"
+    );
 }
 
 // The words that a command takes behind its name.
 fn usage_of(command: &str) -> &'static str {
-    if command == "sim" {
+    if command == "check" {
+        "FILE [--proof NAME] [--budget NUMBER] [--top MODULE]"
+    } else if command == "verify" {
+        "FILE PROOF [--top MODULE]"
+    } else if command == "sim" {
         "FILE [--level POINT] [--order NUMBER] [--top MODULE]"
     } else if command == "cnf" {
         "FILE NUMBER [--top MODULE]"
@@ -177,11 +208,11 @@ fn usage_of(command: &str) -> &'static str {
     }
 }
 
-fn explain_usage(rt: &HostRuntime, words: &[String], kind: UsageKind) {
+fn explain_usage(person: Person, words: &[String], kind: UsageKind) {
     match (kind, words) {
         (UsageKind::UnknownCommand, [word, ..]) => {
             // not used: where this cannot be written, the status tells of it
-            let _ = eprintln!(rt;
+            let _ = eprintln!(person.stderr;
                 "secv: there is no command {}; `secv --help` shows all",
                 word.as_str().escape_debug()
             );
@@ -190,55 +221,67 @@ fn explain_usage(rt: &HostRuntime, words: &[String], kind: UsageKind) {
             let command = word.as_str().escape_debug();
             let usage = usage_of(word.as_str());
             // not used: where this cannot be written, the status tells of it
-            let _ = eprintln!(rt;
+            let _ = eprintln!(person.stderr;
                 "secv: `{command}` does not take these words; usage: secv {command} {usage} \
                  (`secv {command} --help` says more)"
             );
         }
-        _ => explain_words(rt, "no command is given"),
+        _ => explain_words(person, "no command is given"),
     }
 }
 
 /// What is wrong with the words, and how they are written.
-pub fn explain_words(rt: &HostRuntime, fault: &str) {
+pub fn explain_words(person: Person, fault: &str) {
     // not used: where this cannot be written, the status tells of it
-    let _ = eprintln!(rt;
+    let _ = eprintln!(person.stderr;
         "secv: {fault}; usage: secv COMMAND FILE [OPTIONS] (`secv --help` says more)"
     );
 }
 
 // Why the system did not read the file, or else the input.
-fn explain_read(rt: &HostRuntime, words: &[String], causes: &Causes) {
+fn explain_read(person: Person, words: &[String], causes: &Causes) {
     match causes.file {
-        Some(error) => explain_file(rt, words, error),
-        None => explain_input(rt, causes.input),
+        Some(error) => explain_file(person, words, causes.one_was_read, error),
+        None => explain_input(person, causes.input),
     }
 }
 
-// The file and why the system did not read it. Control characters of the name are escaped.
-fn explain_file(rt: &HostRuntime, words: &[String], error: &io::Error) {
-    let Some(command) = command_of(rt, words) else {
-        return explain_memory(rt);
+// Why the system did not store the certificate, or else did not write the output.
+fn explain_write(person: Person, words: &[String], causes: &Causes) {
+    match causes.file {
+        Some(error) => explain_file(person, words, true, error),
+        None => explain_output(person, causes.output),
+    }
+}
+
+// The file, or the certificate beside it, and why the system did not read or store it. Control
+// characters of the name are escaped.
+fn explain_file(person: Person, words: &[String], is_certificate: bool, error: &io::Error) {
+    let Some(command) = command_of(person, words) else {
+        return explain_memory(person);
     };
-    let name = file_in(&command).escape_debug();
+    let certificate = certificate_in(&command).filter(|_| is_certificate);
+    let name = certificate.unwrap_or(file_in(&command)).escape_debug();
     // not used: where this cannot be written, the status tells of it
-    let _ = eprintln!(rt; "secv: {name}: {error}");
+    let _ = eprintln!(person.stderr; "secv: {name}: {error}");
 }
 
 // Why the system did not read the input.
-fn explain_input(rt: &HostRuntime, error: Option<&io::Error>) {
+fn explain_input(person: Person, error: Option<&io::Error>) {
     // not used: where this cannot be written, the status tells of it
     let _ = match error {
-        Some(error) => eprintln!(rt; "secv: the input could not be read: {error}"),
-        None => rt.eprintln("secv: the input could not be read"),
+        Some(error) => eprintln!(person.stderr; "secv: the input could not be read: {error}"),
+        None => person.stderr.eprintln("secv: the input could not be read"),
     };
 }
 
 /// Why the system did not write the output.
-pub fn explain_output(rt: &HostRuntime, error: Option<&io::Error>) {
+pub fn explain_output(person: Person, error: Option<&io::Error>) {
     // not used: where this cannot be written, the status tells of it
     let _ = match error {
-        Some(error) => eprintln!(rt; "secv: the output could not be written: {error}"),
-        None => rt.eprintln("secv: the output could not be written"),
+        Some(error) => eprintln!(person.stderr; "secv: the output could not be written: {error}"),
+        None => person
+            .stderr
+            .eprintln("secv: the output could not be written"),
     };
 }

@@ -26,7 +26,6 @@ use Rattle.sv_flat.specs.Values.{signal_of}
 use Rattle.sv_flat.proofs.LeastSets.{either_way}
 use Rattle.sv_flat.proofs.Members.{Contains-either}
 use Rattle.sv_flat.proofs.Orders.{no_circle}
-use Rattle.sv_cli.proofs.Congruence.{two}
 
 -- ---- where members of lists come from
 
@@ -335,4 +334,4 @@ module _ (design : FlatDesign) where
       same_place : (p q : Place) → p.line ≡ q.line → p.column ≡ q.column → p ≡ q
       same_place p q lines columns =
           let at : ℕ → ℕ → Place = λ line column. record { line = line; column = column } in
-          two at p.line q.line p.column q.column lines columns
+          ap (λ line. at line p.column) lines ∙ ap (at q.line) columns

@@ -117,7 +117,8 @@ module _ (design : FlatDesign) (before : ℕ) where
           next.counted.count
           ∙ ap length (next_before design i)
           ∙ length-append (obligations_before design i) (target_obligations [] design i)
-          ∙ two_sums (sym at.counted.count) (sym (ap length are) ∙ length_mapped obligation_of queries)
+          ∙ two_sums (sym at.counted.count)
+          (sym (ap length are) ∙ length_mapped obligation_of queries)
 
       above : (n : ℕ) → n ≤ before - old.count → new.count ≡ old.count + n → new.count ≤ before
       above n le is_many = omega arith

@@ -1,410 +1,600 @@
 -- What is prepared of a text is what is answered for it.
-use Rattle.std.proofs.Common.{◌≡◌, ℕ, ◌<◌, ◌≤◌, List, [], length, Option, Some, None, inl, inr}
-use Rattle.std.proofs.Common.{◌⊎◌, refl, sym, ap, subst, ◌∙◌}
-use Rattle.std.specs.Prelude.{Result, Ok, Err, IfOk, IsSome, MatchOption, string_bytes, String}
-use Rattle.std.specs.Prelude.{option_map, decimal, ◌∷◌}
-use Rattle.std.specs.declared.alloc.AllocError.{AllocError}
-use Rattle.std.specs.declared.alloc.Global.{Global}
-use Rattle.sv_num.specs.declared.faults.Place.{Place}
-use Rattle.sv_flat.specs.declared.designs.Flat.{Flat}
-use Rattle.sv_flat.specs.Admission.{IsAdmitted}
+use Rattle.std.proofs.Common.{◌≡◌, ℕ, ◌+◌, ◌≤◌, List, [], ◌∷◌, length, Option, Some, None, refl, sym}
+use Rattle.std.proofs.Common.{ap, subst, ◌∙◌, inl, inr}
+use Rattle.std.specs.Prelude.{Bool, IsSome, IfOk, IfErr, IsErrAnd, Result, Ok, Err, All}
+use Rattle.std.specs.Prelude.{MatchOption}
+use Rattle.std.specs.Prelude.{option_map, string_bytes}
+use Rattle.std.proofs.lemmas.List.Elements.{All-nil, All-cons}
 use Rattle.sv_flat.specs.Design.{FlatDesign}
 use Rattle.sv_flat.specs.Views.{design_of}
+use Rattle.sv_io.specs.Exchange.{Exchange, Fetched, fetched, whole, too_long, nothing}
+use Rattle.sv_io.specs.Exchange.{fetched_of}
+use Rattle.sv_io.specs.Traffic.{Files, Passed, IsFailed}
+use Rattle.sv_io.specs.Cabinet.{IfLong}
+use Rattle.sv_io.specs.Count.{Rose}
+use Rattle.sv_io.specs.declared.faults.FetchFault.{FetchFault}
+use Rattle.sv_io.specs.declared.faults.FetchFault.TheVariants.{Failed, Long}
+use Rattle.sv_io.specs.declared.faults.FetchFault.TheVariants as faults
+use Rattle.std.specs.Global.{Vec}
 use Rattle.sv_obl.specs.Limits.{excess}
 use Rattle.sv_obl.specs.ListLines.{list_text}
-use Rattle.sv_gates.specs.Formulas.{most_variables}
-use Rattle.sv_encoding.specs.Encoding.{Encoding, encoding}
 use Rattle.sv_encoding.specs.CnfText.{cnf_text}
 use Rattle.sv_blast.specs.declared.coded.Coded.{Coded}
-use Rattle.sv_blast.specs.Coded.{encoding_of}
-use Rattle.sv_words.specs.Words.{Request, check, list, cnf, sim, request_of, usage_of}
+use Rattle.sv_words.specs.Words.{Request, check, verify, list, cnf, sim, request_of, usage_of}
 use Rattle.sv_words.specs.declared.command.UsageKind.{UsageKind}
+use Rattle.sv_cli.specs.declared.prepared.NoReport.{NoReport}
+use Rattle.sv_cli.specs.declared.prepared.NoReport.TheVariants.{Unread, OutOfMemory}
 use Rattle.sv_cli.specs.declared.prepared.Prepared.{Prepared}
 use Rattle.sv_cli.specs.declared.prepared.Prepared.TheVariants.{Whole, Lines, Clauses}
 use Rattle.sv_cli.specs.declared.prepared.Prepared.TheVariants.{Simulation}
 use Rattle.sv_cli.specs.declared.report.Report.{Report}
-use Rattle.sv_cli.specs.Command.{top_in}
-use Rattle.sv_cli.specs.Text.{usage_text, refusal_text, limit_text}
-use Rattle.sv_cli.specs.Answer.{Answer, answer_of, done, rule_broken, limit_exceeded}
-use Rattle.sv_cli.specs.Answer.{misused, largest_file, StandsFor, BreaksFirst, Passes}
-use Rattle.sv_cli.specs.Answer.{limit_number, limit_names, IsListing, IsEncoding, IsSimulation}
-use Rattle.sv_cli.specs.Answer.{Simulates, IsAnswerBy, IsAnswer, AreCircles}
-use Rattle.sv_cli.specs.Report.{Decides}
-use Rattle.sv_cli.specs.Prepared.{IsOtherOrWith, Prepares, PreparesFor}
-use Rattle.sv_cli.specs.Prepared.{PreparesWords, TellsLimit, ListsDesign, TellsNone, TellsLarge}
-use Rattle.sv_cli.specs.Prepared.{HoldsClauses, EncodesDesign}
-use Rattle.sv_cli.proofs.Encoded.{encoding_is_one}
-use Rattle.sv_cli.proofs.ListVerdicts.{listing_is_one}
-use Rattle.sv_cli.proofs.Simulating.{refused_only, large_only, simulation_is, simulation_back}
-use Rattle.sv_cli.proofs.Verdicts.{IsOneAnswer, verdict_is_one}
+use Rattle.sv_report.specs.Text.{refusal_text}
+use Rattle.sv_num.specs.declared.faults.Place.{Place}
+use Rattle.sv_cli.specs.Answer.{Answer, answer_of, misused, rule_broken}
+use Rattle.sv_cli.specs.Checks.{Checks}
+use Rattle.sv_cli.specs.Command.{file_in, top_in}
+use Rattle.sv_cli.specs.Dialogues.{IsDialogue, IsAnswer, own_part, MayExchange, IsExchanged}
+use Rattle.sv_cli.specs.Dialogues as dialogues
+use Rattle.sv_cli.specs.Limits.{TellsLimit, ExceedsLimit}
+use Rattle.sv_cli.specs.Lists as lists
+use Rattle.sv_cli.specs.Prepared.{IsPerformed, IsOtherOrWith, Prepares, MaySimulateDesign, EndsAs}
+use Rattle.sv_cli.specs.Prepared.{PreparesFor, PreparesWords, Explains, Readies, ReadiesFor}
+use Rattle.sv_cli.specs.Prepared.{ReadiesWords, Reports, Says, MayOwn, MayStoreOwn, MayFetchOwn}
+use Rattle.sv_cli.specs.Prepared.{IsSimulationOf, ListsDesign}
+use Rattle.sv_cli.specs.Prepared.{HoldsClauses, EncodesDesign, PreparesOwn, TellsRule}
+use Rattle.sv_cli.specs.Prepared.{PreparesText, MayExchangeFor}
+use Rattle.sv_cli.specs.Text.{usage_text}
+use Rattle.sv_cli.specs.Texts.{largest_file, BreaksFirst, Passes}
+use Rattle.sv_cli.specs.Verifies.{Verifies}
+use Rattle.sv_cli.proofs.Passing.{passed_after, explained_after, made_readied, fault_readied}
+use Rattle.sv_cli.proofs.Simulating.{simulates_text}
 
--- an answer that is given is there
-given_some : (o : Option Answer) (a : Answer) → o ≡ Some a → IsSome o
-given_some o a gives = subst IsSome (sym gives) refl
+-- ---- a report of an answer is all that is to be done
 
--- one answer with one text, or another circle
-abbrev IsOwn : (answer other : Answer) → Type 0
-IsOwn answer other = (other ≡ answer) ⊎ AreCircles other answer
+told_stands : (Is : List ℕ → Answer → List ℕ → Type 0) (Own : Answer → List ℕ → Type 0)
+    (report : Report) → Says Own report → ((s : List ℕ) (a : Answer) (p : List ℕ) → Own a p
+    → Is s a p) → (s : List ℕ) (a : Answer) (p : List ℕ) → IsPerformed (Whole report) s a p
+    → Is s a p
+told_stands Is Own report says gives s a p performed =
+    let same : says.0 ≡ a = let first = says.1 in let second = performed.0 in cc in
+    gives s a p
+    (subst (λ (t : List ℕ). Own a t) (sym performed.1)
+    (subst (λ (b : Answer). Own b report.text.items) same says.2))
 
-own : (top : Option (List ℕ)) (answer other : Answer) (printed others : List ℕ)
-    → IsOneAnswer top answer other printed others → IsOwn answer other
-own top answer other printed others (inl same) = inl same.0
-own top answer other printed others (inr circles) = inr circles
-
--- a report that says the only answer is all that is to be done
-module _ (Is : List ℕ → Answer → List ℕ → Type 0)
-    (May : Option (List ℕ) → FlatDesign → Type 0) (report : Report) (answer : Answer)
-    (gives : answer_of report.outcome ≡ Some answer) where
-  pub whole_prepared : ((s : List ℕ) → Is s answer report.text.items)
-      → ((s : List ℕ) (other : Answer) (others : List ℕ) → Is s other others → IsOwn answer other)
-      → Prepares Is May (Whole report)
-  whole_prepared stands only = record {
-    ready = given_some (answer_of report.outcome) answer gives;
+module _ (Is : List ℕ → Answer → List ℕ → Type 0) (May : Option (List ℕ) → FlatDesign → Type 0)
+    (Own : Answer → List ℕ → Type 0)
+    (gives : (s : List ℕ) (a : Answer) (p : List ℕ) → Own a p → Is s a p) where
+  pub said_prepared : (report : Report) → Says Own report → Prepares Is May (Whole report)
+  said_prepared report says = record {
+    ready = subst IsSome (sym says.1) refl;
     simulates = tt;
-    stands = λ s a printed performed.
-        let same : answer ≡ a = let g = performed.0 in cc in
-        subst (λ (p : List ℕ). Is s a p) (sym performed.1)
-        (subst (λ (b : Answer). Is s b report.text.items) same (stands s));
-    only = λ s other others is.
-        (answer, report.text.items, (gives, refl), only s other others is);
+    stands = told_stands Is Own report says gives;
   }
 
--- ---- refusals, by every command
+  pub reports_prepared : (prepared : Prepared) → Reports Own prepared → Prepares Is May prepared
+  reports_prepared (Whole report) says = said_prepared report says
+  reports_prepared (Lines design) says = absurd says
+  reports_prepared (Clauses coded) says = absurd says
+  reports_prepared (Simulation design level order) says = absurd says
 
-module _ (text : List ℕ) (n : ℕ) (p : Place) (ns : List (List ℕ))
-    (within : length text ≤ largest_file) where
-  refused_stands : (request : Request) → BreaksFirst (top_in request) text n p ns → (s : List ℕ)
-      → IsAnswerBy request text s (rule_broken n p ns) (refusal_text n p ns)
-  refused_stands (check file top) broken s =
-      record { within = within; broken = inl broken; prints = refl }
-  refused_stands (list file top) broken s =
-      record { within = within; broken = broken; prints = refl }
-  refused_stands (cnf file number top) broken s =
-      record { within = within; broken = broken; prints = refl }
-  refused_stands (sim file level order top) broken s =
-      record { within = within; broken = broken; prints = refl }
+-- ---- a text within the limit that the fetch of FILE handed out
 
-  refused_alone : (request : Request) → BreaksFirst (top_in request) text n p ns → (s : List ℕ)
-      (other : Answer) (others : List ℕ) → IsAnswerBy request text s other others
-      → IsOwn (rule_broken n p ns) other
-  refused_alone (check file top) broken s other others is =
-      own top (rule_broken n p ns) other (refusal_text n p ns) others
-      (verdict_is_one top text (rule_broken n p ns) (refusal_text n p ns)
-      (refused_stands (check file top) broken s) other others is)
-  refused_alone (list file top) broken s other others is =
-      own top (rule_broken n p ns) other (refusal_text n p ns) others
-      (listing_is_one top text (rule_broken n p ns) (refusal_text n p ns)
-      (refused_stands (list file top) broken s) other others is)
-  refused_alone (cnf file number top) broken s other others is =
-      own top (rule_broken n p ns) other (refusal_text n p ns) others
-      (encoding_is_one number top text (rule_broken n p ns) (refusal_text n p ns)
-      (refused_stands (cnf file number top) broken s) other others is)
-  refused_alone (sim file level order top) broken s other others is =
-      own top (rule_broken n p ns) other (refusal_text n p ns) others
-      (refused_only level order top text s n p ns (refusal_text n p ns)
-      (refused_stands (sim file level order top) broken s) other others is)
+module _ (request : Request) (text : List ℕ) (within : length text ≤ largest_file) where
+  -- what was exchanged, with the rest
+  abbrev With : List Exchange → List Exchange
+  With rest = fetched (file_in request) (whole text) ∷ rest
 
-  pub refused_prepared : (request : Request) (report : Report)
-      → BreaksFirst (top_in request) text n p ns
-      → answer_of report.outcome ≡ Some (rule_broken n p ns)
-      → report.text.items ≡ refusal_text n p ns → PreparesFor request text (Whole report)
-  refused_prepared request report broken gives prints =
-      whole_prepared (IsAnswerBy request text) _ report (rule_broken n p ns) gives
-      (λ s. subst (λ (t : List ℕ). IsAnswerBy request text s (rule_broken n p ns) t) (sym prints)
-      (refused_stands request broken s))
-      (refused_alone request broken)
+  goes_on : (passes : Passes (top_in request) text) (rest : List Exchange) (s : List ℕ)
+      (a : Answer) (p : List ℕ) → own_part request s text passes rest a p
+      → IsDialogue request (With rest) s a p
+  goes_on passes rest s a p own = dialogues.goes_on (record {
+    text = text;
+    within = within;
+    rest = rest;
+    fetches = refl;
+    passes = passes;
+    own = own;
+  })
 
-module _ (text : List ℕ) (large : largest_file < length text) where
-  large_stands : (request : Request) (s : List ℕ)
-      → IsAnswerBy request text s (limit_exceeded 701 []) (limit_text 701 [])
-  large_stands (check file top) s = (large, refl, refl, refl)
-  large_stands (list file top) s = inl (large, refl, refl, refl)
-  large_stands (cnf file number top) s = inl (large, refl, refl, refl)
-  large_stands (sim file level order top) s = inl (large, refl, refl, refl)
+  refuses : (rest : List Exchange) → rest ≡ [] → (s : List ℕ) (a : Answer) (p : List ℕ)
+      → TellsRule (top_in request) text a p → IsDialogue request (With rest) s a p
+  refuses rest none s a p told = dialogues.refused (record {
+    text = text;
+    within = within;
+    fetches = ap With none;
+    number = told.0;
+    place = told.1;
+    names = told.2;
+    broken = told.3;
+    answers = told.4;
+    prints = told.5;
+  })
 
-  large_alone : (request : Request) (s : List ℕ) (other : Answer) (others : List ℕ)
-      → IsAnswerBy request text s other others → IsOwn (limit_exceeded 701 []) other
-  large_alone (check file top) s other others is =
-      own top (limit_exceeded 701 []) other (limit_text 701 []) others
-      (verdict_is_one top text (limit_exceeded 701 []) (limit_text 701 [])
-      (large_stands (check file top) s) other others is)
-  large_alone (list file top) s other others is =
-      own top (limit_exceeded 701 []) other (limit_text 701 []) others
-      (listing_is_one top text (limit_exceeded 701 []) (limit_text 701 [])
-      (large_stands (list file top) s) other others is)
-  large_alone (cnf file number top) s other others is =
-      own top (limit_exceeded 701 []) other (limit_text 701 []) others
-      (encoding_is_one number top text (limit_exceeded 701 []) (limit_text 701 [])
-      (large_stands (cnf file number top) s) other others is)
-  large_alone (sim file level order top) s other others is =
-      own top (limit_exceeded 701 []) other (limit_text 701 []) others
-      (large_only level order top text s 701 [] (limit_text 701 []) (large, refl, refl, refl)
-      other others is)
+  refused_prepared : (rest : List Exchange) → rest ≡ [] → (prepared : Prepared)
+      → Reports (TellsRule (top_in request) text) prepared
+      → PreparesFor request (With rest) prepared
+  refused_prepared rest none prepared reports =
+      reports_prepared (IsDialogue request (With rest)) _ (TellsRule (top_in request) text)
+      (refuses rest none) prepared reports
 
-  pub large_prepared : (request : Request) (report : Report)
-      → answer_of report.outcome ≡ Some (limit_exceeded 701 [])
-      → report.text.items ≡ limit_text 701 [] → PreparesFor request text (Whole report)
-  large_prepared request report gives prints =
-      whole_prepared (IsAnswerBy request text) _ report (limit_exceeded 701 []) gives
-      (λ s. subst (λ (t : List ℕ). IsAnswerBy request text s (limit_exceeded 701 []) t) (sym prints)
-      (large_stands request s))
-      (large_alone request)
+-- ---- by command
 
--- ---- a text that breaks no rule, by command
+module _ (file : List ℕ) (top : Option (List ℕ)) (text : List ℕ)
+    (within : length text ≤ largest_file) (passes : Passes top text) (rest : List Exchange) where
+  check_prepared : (proof : Option (List ℕ)) (budget : ℕ) (prepared : Prepared)
+      → Reports (Checks proof budget passes.design rest) prepared
+      → PreparesFor (check file proof budget top) (fetched file (whole text) ∷ rest) prepared
+  check_prepared proof budget prepared reports =
+      reports_prepared
+      (IsDialogue (check file proof budget top) (fetched file (whole text) ∷ rest)) _
+      (Checks proof budget passes.design rest)
+      (goes_on (check file proof budget top) text within passes rest) prepared reports
 
-module _ (file : List ℕ) (top : Option (List ℕ)) (text : List ℕ) where
-  pub verdict_prepared : (r : Result Report AllocError)
-      → IfOk r (λ report. Decides top text report.outcome report.text.items)
-      → IfOk r (λ report. PreparesFor (check file top) text (Whole report))
-  verdict_prepared (Err e) decided = tt
-  verdict_prepared (Ok report) decided =
-      whole_prepared (IsAnswerBy (check file top) text) _ report decided.answer decided.gives
-      (λ s. decided.stands)
-      (λ s other others is.
-      own top decided.answer other report.text.items others (decided.only other others is))
+  verify_prepared : (proof : List ℕ) (prepared : Prepared)
+      → Reports (Verifies proof passes.design rest) prepared
+      → PreparesFor (verify file proof top) (fetched file (whole text) ∷ rest) prepared
+  verify_prepared proof prepared reports =
+      reports_prepared (IsDialogue (verify file proof top) (fetched file (whole text) ∷ rest)) _
+      (Verifies proof passes.design rest)
+      (goes_on (verify file proof top) text within passes rest) prepared reports
 
-  module _ (design : Flat) (within : length text ≤ largest_file)
-      (stands : StandsFor top text (design_of design)) (admitted : IsAdmitted (design_of design))
-    where
-      abbrev passes : Passes top text
-      passes = record { design = design_of design; stands = stands; admitted = admitted }
+  module _ (none : rest ≡ []) where
+    list_prepared : (prepared : Prepared) → ListsDesign passes.design prepared
+        → PreparesFor (list file top) (fetched file (whole text) ∷ rest) prepared
+    list_prepared (Whole report) says =
+        said_prepared (IsDialogue (list file top) (fetched file (whole text) ∷ rest)) _
+        (ExceedsLimit passes.design)
+        (λ s a p exceeds.
+        goes_on (list file top) text within passes rest s a p (none, lists.exceeds exceeds))
+        report says
+    list_prepared (Lines listed) is = record {
+      ready = ap excess is.0 ∙ is.1;
+      simulates = tt;
+      stands = λ s a p performed.
+          goes_on (list file top) text within passes rest s a p (
+            none,
+            lists.listed (record {
+              few = is.1;
+              answers = performed.0;
+              prints = performed.1 ∙ ap list_text is.0;
+            }),
+          );
+    }
+    list_prepared (Clauses coded) is = absurd is
+    list_prepared (Simulation design level order) is = absurd is
 
-      limit_prepared : (report : Report) → TellsLimit (design_of design) report
-          → PreparesFor (list file top) text (Whole report)
-      limit_prepared report told =
-          let number = limit_number told.exceeded in
-          let names = limit_names (design_of design).signals told.exceeded in
-          let is : IsListing top text (limit_exceeded number names) report.text.items =
-          inr (record {
-            within = within;
-            passes = passes;
-            exceeded = told.exceeded;
-            first = told.first;
-            numbered = refl;
-            named = refl;
-            prints = told.text;
-          }) in
-          whole_prepared (IsAnswerBy (list file top) text) _ report (limit_exceeded number names)
-          told.answer (λ s. is)
-          (λ s other others w.
-          own top (limit_exceeded number names) other report.text.items others
-          (listing_is_one top text (limit_exceeded number names) report.text.items is other others
-          w))
-
-      listed_prepared : (prepared : Prepared) → ListsDesign (design_of design) prepared
-          → PreparesFor (list file top) text prepared
-      listed_prepared (Whole report) told = limit_prepared report told
-      listed_prepared (Lines listed) told =
-          let printed = list_text (design_of listed) in
-          let is : IsListing top text done printed = record {
-            within = within;
-            passes = passes;
-            few = told.1;
-            prints = ap list_text told.0;
-          } in
-          record {
-            ready = ap excess told.0 ∙ told.1;
-            simulates = tt;
-            stands = λ s a others performed.
-                subst (λ (b : Answer). IsListing top text b others) (sym performed.0)
-                (subst (λ (p : List ℕ). IsListing top text done p) (sym performed.1) is);
-            only = λ s other others w. (
-              done,
-              printed,
-              (refl, refl),
-              own top done other printed others (listing_is_one top text done printed is other
-                  others w),
-            );
-          }
-      listed_prepared (Clauses coded) told = absurd told
-      listed_prepared (Simulation simulated level order) told = absurd told
-
-      pub lines_prepared : (r : Result Prepared AllocError)
-          → IfOk r (ListsDesign (design_of design))
-          → IfOk r (PreparesFor (list file top) text)
-      lines_prepared (Ok prepared) told = listed_prepared prepared told
-      lines_prepared (Err e) told = tt
-
-      module _ (asked : ℕ) where
-        -- a report of the only answer
-        told_prepared : (report : Report) (n : ℕ) (ns : List (List ℕ))
-            → answer_of report.outcome ≡ Some (limit_exceeded n ns)
-            → IsEncoding asked top text (limit_exceeded n ns) report.text.items
-            → PreparesFor (cnf file asked top) text (Whole report)
-        told_prepared report n ns gives is =
-            whole_prepared (IsAnswerBy (cnf file asked top) text) _ report (limit_exceeded n ns)
-            gives (λ s. is)
-            (λ s other others w.
-            own top (limit_exceeded n ns) other report.text.items others
-            (encoding_is_one asked top text (limit_exceeded n ns) report.text.items is other others
-            w))
-
-        clauses_held : (coded : Coded) → HoldsClauses (design_of design) asked coded
-            → PreparesFor (cnf file asked top) text (Clauses coded)
-        clauses_held coded held =
-            let printed = cnf_text (encoding_of coded) in
-            let is : IsEncoding asked top text done printed = record {
-              within = within;
-              passes = passes;
+    clauses_prepared : (asked : ℕ) (coded : Coded) → HoldsClauses passes.design asked coded
+        → PreparesFor (cnf file asked top) (fetched file (whole text) ∷ rest) (Clauses coded)
+    clauses_prepared asked coded held = record {
+      ready = tt;
+      simulates = tt;
+      stands = λ s a p performed.
+          goes_on (cnf file asked top) text within passes rest s a p (
+            none,
+            lists.encoded (record {
               few = held.few;
               obligation = held.obligation;
               found = held.found;
-              fits = subst (λ (e : Encoding). e.variables ≤ most_variables) held.coded_is held.fits;
-              prints = ap cnf_text held.coded_is;
-            } in
-            record {
-              ready = tt;
-              simulates = tt;
-              stands = λ s a others performed.
-                  subst (λ (b : Answer). IsEncoding asked top text b others) (sym performed.0)
-                  (subst (λ (p : List ℕ). IsEncoding asked top text done p) (sym performed.1) is);
-              only = λ s other others w. (
-                done,
-                printed,
-                (refl, refl),
-                own top done other printed others (encoding_is_one asked top text done printed is
-                    other others w),
-              );
-            }
+              fits = held.fits;
+              answers = performed.0;
+              prints = performed.1 ∙ ap cnf_text held.coded_is;
+            }),
+          );
+    }
 
-        encoded_prepared : (prepared : Prepared) → EncodesDesign (design_of design) asked prepared
-            → PreparesFor (cnf file asked top) text prepared
-        encoded_prepared (Whole report) (inl told) =
-            let number = limit_number told.exceeded in
-            let names = limit_names (design_of design).signals told.exceeded in
-            told_prepared report number names told.answer (inr (inl (record {
-              within = within;
-              passes = passes;
-              exceeded = told.exceeded;
-              first = told.first;
-              numbered = refl;
-              named = refl;
-              prints = told.text;
-            })))
-        encoded_prepared (Whole report) (inr (inl told)) =
-            told_prepared report 706 [] told.answer (inr (inr (inl (record {
-              within = within;
-              passes = passes;
-              few = told.few;
-              none = told.none;
-              numbered = refl;
-              nameless = refl;
-              prints = told.text;
-            }))))
-        encoded_prepared (Whole report) (inr (inr told)) =
-            told_prepared report 709 (decimal asked ∷ []) told.answer (inr (inr (inr (record {
-              within = within;
-              passes = passes;
-              few = told.few;
-              obligation = told.obligation;
-              found = told.found;
-              large = told.large;
-              numbered = refl;
-              named = refl;
-              prints = told.text;
-            }))))
-        encoded_prepared (Lines listed) told = absurd told
-        encoded_prepared (Clauses coded) held = clauses_held coded held
-        encoded_prepared (Simulation simulated level order) told = absurd told
+    cnf_prepared : (asked : ℕ) (prepared : Prepared)
+        → EncodesDesign passes.design asked prepared
+        → PreparesFor (cnf file asked top) (fetched file (whole text) ∷ rest) prepared
+    cnf_prepared asked (Whole report) says =
+        said_prepared (IsDialogue (cnf file asked top) (fetched file (whole text) ∷ rest)) _
+        (lists.Encodes asked passes.design)
+        (λ s a p encodes.
+        goes_on (cnf file asked top) text within passes rest s a p (none, encodes)) report says
+    cnf_prepared asked (Lines listed) is = absurd is
+    cnf_prepared asked (Clauses coded) held = clauses_prepared asked coded held
+    cnf_prepared asked (Simulation design level order) is = absurd is
 
-        pub clauses_prepared : (r : Result Prepared AllocError)
-            → IfOk r (EncodesDesign (design_of design) asked)
-            → IfOk r (PreparesFor (cnf file asked top) text)
-        clauses_prepared (Ok prepared) told = encoded_prepared prepared told
-        clauses_prepared (Err e) told = tt
+    module _ (level : Option (List ℕ)) (order : Option ℕ) where
+      -- so the design may be simulated
+      may_simulate : (words : List (List ℕ)) → usage_of words ≡ None
+          → request_of words ≡ Some (sim file level order top)
+          → MaySimulateDesign words (fetched file (whole text) ∷ rest) level passes.design
+      may_simulate words is_command asked = (
+        record {
+          file = file;
+          order = order;
+          top = top;
+          is_command = is_command;
+          asked = asked;
+          text = text;
+          within = within;
+          fetches = ap (λ (es : List Exchange). fetched file (whole text) ∷ es) none;
+          passes = passes;
+        },
+        refl,
+      )
 
-      pub simulation_prepared : (level : Option (String Global)) (order : Option ℕ)
-          → PreparesFor (sim file (option_map string_bytes level) order top) text
-          (Simulation design level order)
-      simulation_prepared level order =
-          let name = option_map string_bytes level in
-          record {
-            ready = tt;
-            simulates = λ words is_command asked. record {
-              file = file;
-              order = order;
-              top = top;
-              is_command = is_command;
-              asked = asked;
-              within = within;
-              stands = stands;
-              admitted = admitted;
-            };
-            stands = λ s a printed performed.
-                subst (λ (b : Answer). IsSimulation name order top text s b printed)
-                (sym performed.1)
-                (simulation_is name order top text s (design_of design) within stands admitted
-                performed.0 printed performed.2);
-            only = λ s other others is. (
-              other,
-              others,
-              simulation_back name order top text s (design_of design) within stands admitted other
-                  others is,
-              inl refl,
-            );
-          }
+      simulates : (s : List ℕ) (a : Answer) (p : List ℕ)
+          → EndsAs passes.design level order s a p
+          → IsDialogue (sim file level order top) (fetched file (whole text) ∷ rest) s a p
+      simulates s a p ends =
+          goes_on (sim file level order top) text within passes rest s a p
+          (none, simulates_text top text passes level order s a p ends)
+
+      sim_prepared : (prepared : Prepared) → IsSimulationOf passes.design level order prepared
+          → PreparesFor (sim file level order top) (fetched file (whole text) ∷ rest) prepared
+      sim_prepared (Whole report) is = absurd is
+      sim_prepared (Lines listed) is = absurd is
+      sim_prepared (Clauses coded) is = absurd is
+      sim_prepared (Simulation design asked drawn) is = record {
+        ready = tt;
+        simulates = λ words is_command requested.
+            subst (λ (l : Option (List ℕ)).
+            MaySimulateDesign words (fetched file (whole text) ∷ rest) l (design_of design))
+            (sym is.1)
+            (subst (MaySimulateDesign words (fetched file (whole text) ∷ rest) level) (sym is.0)
+            (may_simulate words is_command requested));
+        stands = λ s a p ends.
+            simulates s a p
+            (subst (λ (d : FlatDesign). EndsAs d level order s a p) is.0
+            (subst (λ (l : Option (List ℕ)). EndsAs (design_of design) l order s a p) is.1
+            (subst (λ (o : Option ℕ).
+            EndsAs (design_of design) (option_map string_bytes asked) o s a p) is.2 ends)));
+      }
+
+module _ (text : List ℕ) (within : length text ≤ largest_file) (rest : List Exchange)
+    (prepared : Prepared) where
+  own_prepared : (request : Request) (passes : Passes (top_in request) text)
+      → PreparesOwn request passes.design rest prepared
+      → PreparesFor request (fetched (file_in request) (whole text) ∷ rest) prepared
+  own_prepared (check file proof budget top) passes own =
+      check_prepared file top text within passes rest proof budget prepared own
+  own_prepared (verify file proof top) passes own =
+      verify_prepared file top text within passes rest proof prepared own
+  own_prepared (list file top) passes own =
+      list_prepared file top text within passes rest own.0 prepared own.1
+  own_prepared (cnf file number top) passes own =
+      cnf_prepared file top text within passes rest own.0 number prepared own.1
+  own_prepared (sim file level order top) passes own =
+      sim_prepared file top text within passes rest own.0 level order prepared own.1
+
+  text_prepared : (request : Request) → PreparesText request text rest prepared
+      → PreparesFor request (fetched (file_in request) (whole text) ∷ rest) prepared
+  text_prepared request (inl told) =
+      refused_prepared request text within rest told.0 prepared told.1
+  text_prepared request (inr own) = own_prepared request own.0 own.1
+
+-- what may be exchanged for the text may be for the request
+text_exchanged : (request : Request) (text : List ℕ) → length text ≤ largest_file
+    → (rest : List Exchange) → MayExchangeFor request text rest
+    → MayExchange request (fetched (file_in request) (whole text) ∷ rest)
+text_exchanged request text within rest (inl none) =
+    dialogues.text (whole text)
+    (ap (λ (es : List Exchange). fetched (file_in request) (whole text) ∷ es) none)
+text_exchanged request text within rest (inr own) = dialogues.further (record {
+  text = text;
+  within = within;
+  rest = rest;
+  fetches = refl;
+  passes = own.0;
+  few = own.1;
+  own = own.2;
+})
+
+-- ---- what is made ready
+
+-- no exchange failed
+abbrev NoneFailed : List Exchange → Type 0
+NoneFailed exchanges = All (λ (e : Exchange). IsFailed e → ⊥) exchanges
+
+module _ {T : Type 0} (May : List Exchange → Type 0) (Makes : List Exchange → T → Type 0)
+    (tells : Bool) where
+  -- what is made ready in other words
+  module _ (Other : List Exchange → Type 0) (Others : List Exchange → T → Type 0)
+      (may_too : (exchanges : List Exchange) → May exchanges → Other exchanges)
+      (makes_too : (exchanges : List Exchange) (made : T) → Makes exchanges made
+      → Others exchanges made) (old new : Files) where
+    made_too : (r : Result T NoReport) (exchanges : List Exchange)
+        → IfOk r (λ made. Makes exchanges made × NoneFailed exchanges)
+        → IfOk r (λ made. Others exchanges made × NoneFailed exchanges)
+    made_too (Ok made) exchanges is = (makes_too exchanges made is.0, is.1)
+    made_too (Err fault) exchanges is = tt
+
+    pub readies_too : (r : Result T NoReport) → Readies May Makes tells old new r
+        → Readies Other Others tells old new r
+    readies_too r is = record {
+      exchanges = is.exchanges;
+      passed = is.passed;
+      may = may_too is.exchanges is.may;
+      made = made_too r is.exchanges is.made;
+      fault = is.fault;
+    }
+
+-- ---- of a design, by command
+
+module _ (tells : Bool) (old new : Files) (design : FlatDesign) (file : List ℕ)
+    (top : Option (List ℕ)) (r : Result Prepared NoReport) where
+  pub check_readied : (proof : Option (List ℕ)) (budget : ℕ)
+      → Readies (MayStoreOwn proof design)
+      (λ exchanges. Reports (Checks proof budget design exchanges)) tells old new r
+      → Readies (MayOwn (check file proof budget top) design)
+      (PreparesOwn (check file proof budget top) design) tells old new r
+  check_readied proof budget is =
+      readies_too (MayStoreOwn proof design)
+      (λ exchanges. Reports (Checks proof budget design exchanges)) tells
+      (MayOwn (check file proof budget top) design)
+      (PreparesOwn (check file proof budget top) design) (λ exchanges may. may)
+      (λ exchanges prepared made. made) old new r is
+
+  may_fetch : (proof : List ℕ) (exchanges : List Exchange) → MayFetchOwn proof design exchanges
+      → MayOwn (verify file proof top) design exchanges
+  may_fetch proof exchanges (inl none) = inl none
+  may_fetch proof exchanges (inr own) = inr (own.0, (own.1, own.2))
+
+  pub verify_readied : (proof : List ℕ)
+      → Readies (MayFetchOwn proof design)
+      (λ exchanges. Reports (Verifies proof design exchanges)) tells old new r
+      → Readies (MayOwn (verify file proof top) design)
+      (PreparesOwn (verify file proof top) design) tells old new r
+  verify_readied proof is =
+      readies_too (MayFetchOwn proof design)
+      (λ exchanges. Reports (Verifies proof design exchanges)) tells
+      (MayOwn (verify file proof top) design) (PreparesOwn (verify file proof top) design)
+      (may_fetch proof) (λ exchanges prepared made. made) old new r is
+
+module _ (tells : Bool) (files : Files) (design : FlatDesign) (file : List ℕ)
+    (top : Option (List ℕ)) (prepared : Prepared) where
+  pub list_readied : ListsDesign design prepared
+      → (let r : Result Prepared NoReport = Ok prepared in
+      Readies (MayOwn (list file top) design) (PreparesOwn (list file top) design) tells files files
+      r)
+  list_readied is =
+      made_readied (MayOwn (list file top) design) (PreparesOwn (list file top) design) tells files
+      prepared (inl refl) (refl, is)
+
+  pub cnf_readied : (number : ℕ) → EncodesDesign design number prepared
+      → (let r : Result Prepared NoReport = Ok prepared in
+      Readies (MayOwn (cnf file number top) design) (PreparesOwn (cnf file number top) design) tells
+      files files r)
+  cnf_readied number is =
+      made_readied (MayOwn (cnf file number top) design) (PreparesOwn (cnf file number top) design)
+      tells files prepared (inl refl) (refl, is)
+
+  pub sim_readied : (level : Option (List ℕ)) (order : Option ℕ)
+      → IsSimulationOf design level order prepared
+      → (let r : Result Prepared NoReport = Ok prepared in
+      Readies (MayOwn (sim file level order top) design)
+      (PreparesOwn (sim file level order top) design) tells files files r)
+  sim_readied level order is =
+      made_readied (MayOwn (sim file level order top) design)
+      (PreparesOwn (sim file level order top) design) tells files prepared (inl refl) (refl, is)
+
+-- ---- of a text
+
+module _ (request : Request) (text : List ℕ) (tells : Bool) where
+  -- its design
+  may_text : (passes : Passes (top_in request) text) (exchanges : List Exchange)
+      → MayOwn request passes.design exchanges → MayExchangeFor request text exchanges
+  may_text passes exchanges (inl none) = inl none
+  may_text passes exchanges (inr own) = inr (passes, own.0, own.1)
+
+  pub design_readied : (passes : Passes (top_in request) text) (old new : Files)
+      (r : Result Prepared NoReport)
+      → Readies (MayOwn request passes.design) (PreparesOwn request passes.design) tells old new r
+      → Readies (MayExchangeFor request text) (PreparesText request text) tells old new r
+  design_readied passes old new r is =
+      readies_too (MayOwn request passes.design) (PreparesOwn request passes.design) tells
+      (MayExchangeFor request text) (PreparesText request text) (may_text passes)
+      (λ exchanges prepared own. inr (passes, own)) old new r is
+
+  -- the first rule that it breaks
+  pub refusal_readied : (files : Files) (report : Report) (n : ℕ) (place : Place)
+      (names : List (List ℕ)) → BreaksFirst (top_in request) text n place names
+      → answer_of report.outcome ≡ Some (rule_broken n place names)
+      → report.text.items ≡ refusal_text n place names
+      → (let r : Result Prepared NoReport = Ok (Whole report) in
+      Readies (MayExchangeFor request text) (PreparesText request text) tells files files r)
+  refusal_readied files report n place names broken gives prints =
+      made_readied (MayExchangeFor request text) (PreparesText request text) tells files
+      (Whole report) (inl refl)
+      (inl (refl, (rule_broken n place names, gives, (n, place, names, broken, refl, prints))))
+
+-- a text within the limit was fetched, and the rest is ready
+module _ (request : Request) (tells : Bool) (old mid new : Files) (text : List ℕ)
+    (within : length text ≤ largest_file)
+    (first : Passed tells old mid (fetched (file_in request) (whole text) ∷ []))
+    (fetches : (name : List ℕ) → old.fetch_faults name ≤ mid.fetch_faults name)
+    (stores : (name : List ℕ) → old.store_faults name ≤ mid.store_faults name) where
+  made_after : (r : Result Prepared NoReport) (rest : List Exchange)
+      → IfOk r (λ made. PreparesText request text rest made × NoneFailed rest)
+      → IfOk r (λ made. PreparesFor request (fetched (file_in request) (whole text) ∷ rest) made
+      × NoneFailed (fetched (file_in request) (whole text) ∷ rest))
+  made_after (Ok prepared) rest is = (
+    text_prepared text within rest prepared request is.0,
+    All-cons (λ (e : Exchange). IsFailed e → ⊥) (fetched (file_in request) (whole text)) rest
+        (λ fails. fails) is.1,
+  )
+  made_after (Err fault) rest is = tt
+
+  fault_after : (r : Result Prepared NoReport) (rest : List Exchange)
+      → IfErr r (Explains mid new rest)
+      → IfErr r (Explains old new (fetched (file_in request) (whole text) ∷ rest))
+  fault_after (Ok prepared) rest fails = tt
+  fault_after (Err fault) rest fails =
+      explained_after old mid new (fetched (file_in request) (whole text)) rest fetches stores fault
+      fails
+
+  pub text_readied : (r : Result Prepared NoReport)
+      → Readies (MayExchangeFor request text) (PreparesText request text) tells mid new r
+      → ReadiesFor request tells old new r
+  text_readied r is = record {
+    exchanges = fetched (file_in request) (whole text) ∷ is.exchanges;
+    passed =
+        passed_after tells old mid new (file_in request) (whole text) is.exchanges first
+        is.passed;
+    may = text_exchanged request text within is.exchanges is.may;
+    made = made_after r is.exchanges is.made;
+    fault = fault_after r is.exchanges is.fault;
+  }
+
+-- nothing follows the fetch
+module _ (request : Request) (tells : Bool) (old new : Files) (got : Fetched)
+    (passed : Passed tells old new (fetched (file_in request) got ∷ [])) where
+  pub fetch_unreadied : (fault : NoReport) (r : Result Prepared NoReport)
+      → Explains old new (fetched (file_in request) got ∷ []) fault
+      → IsErrAnd r (λ (f : NoReport). f ≡ fault) → ReadiesFor request tells old new r
+  fetch_unreadied fault r explains is =
+      fault_readied (MayExchange request) (PreparesFor request) tells old new
+      (fetched (file_in request) got ∷ []) fault r passed (dialogues.text got refl) explains is
+
+  fetch_readied : (prepared : Prepared) → (IsFailed (fetched (file_in request) got) → ⊥)
+      → PreparesFor request (fetched (file_in request) got ∷ []) prepared
+      → (let r : Result Prepared NoReport = Ok prepared in ReadiesFor request tells old new r)
+  fetch_readied prepared done made = record {
+    exchanges = fetched (file_in request) got ∷ [];
+    passed = passed;
+    may = dialogues.text got refl;
+    made = (
+      made,
+      All-cons (λ (e : Exchange). IsFailed e → ⊥) (fetched (file_in request) got) [] done
+          (All-nil (λ (e : Exchange). IsFailed e → ⊥)),
+    );
+    fault = tt;
+  }
+
+-- the fetch handed out more bytes than a text may have
+module _ (request : Request) (tells : Bool) (old new : Files) (text : List ℕ)
+    (passed : Passed tells old new (fetched (file_in request) (too_long text) ∷ []))
+    (long : length text ≡ largest_file + 1) where
+  pub large_readied : (report : Report) → Says (TellsLimit 701 []) report
+      → (let r : Result Prepared NoReport = Ok (Whole report) in
+      ReadiesFor request tells old new r)
+  large_readied report says =
+      fetch_readied request tells old new (too_long text) passed (Whole report) (λ fails. fails)
+      (said_prepared (IsDialogue request (fetched (file_in request) (too_long text) ∷ [])) _
+      (TellsLimit 701 [])
+      (λ s a p tells_limit. dialogues.oversized (record {
+        text = text;
+        long = long;
+        fetches = refl;
+        tells = tells_limit;
+      }))
+      report says)
+
+-- the fetch ended in a fault
+module _ (request : Request) (tells : Bool) (old new : Files) (file : List ℕ)
+    (same : file ≡ file_in request) (fault : FetchFault)
+    (passed : (let r : Result (Vec ℕ) FetchFault = Err fault in
+    Passed tells old new (fetched file (fetched_of r) ∷ []))) where
+  passed_by : (other : FetchFault) → fault ≡ other
+      → (let r : Result (Vec ℕ) FetchFault = Err other in
+      Passed tells old new (fetched (file_in request) (fetched_of r) ∷ []))
+  passed_by other is =
+      subst (λ (f : FetchFault). let r : Result (Vec ℕ) FetchFault = Err f in
+      Passed tells old new (fetched (file_in request) (fetched_of r) ∷ [])) is
+      (subst (λ (name : List ℕ). let r : Result (Vec ℕ) FetchFault = Err fault in
+      Passed tells old new (fetched name (fetched_of r) ∷ [])) same passed)
+
+  pub long_readied : (bytes : Vec ℕ) → fault ≡ Long bytes
+      → (let r : Result (Vec ℕ) FetchFault = Err fault in
+      IfLong r (λ text. length text ≡ largest_file + 1))
+      → (report : Report) → Says (TellsLimit 701 []) report
+      → (let r : Result Prepared NoReport = Ok (Whole report) in
+      ReadiesFor request tells old new r)
+  long_readied bytes is long report says =
+      large_readied request tells old new bytes.items (passed_by (Long bytes) is)
+      (subst (λ (f : FetchFault). let r : Result (Vec ℕ) FetchFault = Err f in
+      IfLong r (λ text. length text ≡ largest_file + 1)) is long)
+      report says
+
+  pub long_unreadied : (bytes : Vec ℕ) → fault ≡ Long bytes → (r : Result Prepared NoReport)
+      → IsErrAnd r (λ (f : NoReport). f ≡ OutOfMemory) → ReadiesFor request tells old new r
+  long_unreadied bytes is r err =
+      fetch_unreadied request tells old new (too_long bytes.items) (passed_by (Long bytes) is)
+      OutOfMemory r tt err
+
+  pub failed_unreadied : fault ≡ Failed
+      → Rose (old.fetch_faults file) (new.fetch_faults file)
+      → (let r : Result Prepared NoReport = Err Unread in ReadiesFor request tells old new r)
+  failed_unreadied is rose =
+      fetch_unreadied request tells old new nothing (passed_by Failed is) Unread (Err Unread)
+      (record {
+        before = [];
+        name = file_in request;
+        last = refl;
+        rose =
+            subst (λ (name : List ℕ). Rose (old.fetch_faults name) (new.fetch_faults name)) same
+            rose;
+      })
+      refl
+
+  pub spent_unreadied : fault ≡ faults.OutOfMemory
+      → (let r : Result Prepared NoReport = Err OutOfMemory in ReadiesFor request tells old new r)
+  spent_unreadied is =
+      fetch_unreadied request tells old new nothing (passed_by faults.OutOfMemory is) OutOfMemory
+      (Err OutOfMemory) tt refl
 
 -- ---- words
 
 module _ (words : List (List ℕ)) where
   -- what a command answers
-  module _ (request : Request) (none : usage_of words ≡ None)
-      (asked : request_of words ≡ Some request) (text stimulus : List ℕ) (a : Answer)
-      (printed : List ℕ) where
-    answers : IsAnswerBy request text stimulus a printed → IsAnswer words text stimulus a printed
-    answers is =
-        subst (λ (u : Option UsageKind).
-        MatchOption u ((r : Request) × (request_of words ≡ Some r)
-        × IsAnswerBy r text stimulus a printed)
-        (λ kind. (a ≡ misused kind) × (printed ≡ usage_text kind))) (sym none)
-        (request, asked, is)
+  answers : (request : Request) → usage_of words ≡ None → request_of words ≡ Some request
+      → (exchanges : List Exchange) (s : List ℕ) (a : Answer) (p : List ℕ)
+      → IsDialogue request exchanges s a p → IsAnswer words exchanges s a p
+  answers request none asked exchanges s a p is =
+      subst (λ (u : Option UsageKind).
+      MatchOption u ((r : Request) × (request_of words ≡ Some r) × IsDialogue r exchanges s a p)
+      (λ kind. (exchanges ≡ []) × (a ≡ misused kind) × (p ≡ usage_text kind))) (sym none)
+      (request, asked, is)
 
-    answered : IsAnswer words text stimulus a printed → IsAnswerBy request text stimulus a printed
-    answered is =
-        let found : (r : Request) × (request_of words ≡ Some r)
-        × IsAnswerBy r text stimulus a printed =
-        subst (λ (u : Option UsageKind).
-        MatchOption u ((r : Request) × (request_of words ≡ Some r)
-        × IsAnswerBy r text stimulus a printed)
-        (λ kind. (a ≡ misused kind) × (printed ≡ usage_text kind))) none is in
-        let same : found.0 ≡ request = let e = found.1 in cc in
-        subst (λ (r : Request). IsAnswerBy r text stimulus a printed) same found.2
-
-  may_simulate : (prepared : Prepared) (text : List ℕ) (request : Request)
-      → usage_of words ≡ None → request_of words ≡ Some request
+  may_words : (request : Request) → usage_of words ≡ None → request_of words ≡ Some request
+      → (exchanges : List Exchange) (prepared : Prepared)
       → IsOtherOrWith (λ level design. (ws : List (List ℕ)) → usage_of ws ≡ None
-      → request_of ws ≡ Some request → Simulates ws text level design) prepared
-      → IsOtherOrWith (Simulates words text) prepared
-  may_simulate (Whole report) text request none asked may = tt
-  may_simulate (Lines design) text request none asked may = tt
-  may_simulate (Clauses coded) text request none asked may = tt
-  may_simulate (Simulation design level order) text request none asked may = may words none asked
+      → request_of ws ≡ Some request → MaySimulateDesign ws exchanges level design) prepared
+      → IsOtherOrWith (MaySimulateDesign words exchanges) prepared
+  may_words request none asked exchanges (Whole report) may = tt
+  may_words request none asked exchanges (Lines design) may = tt
+  may_words request none asked exchanges (Clauses coded) may = tt
+  may_words request none asked exchanges (Simulation design level order) may =
+      may words none asked
 
-  pub words_prepared : (text : List ℕ) (request : Request) (prepared : Prepared)
-      → usage_of words ≡ None → request_of words ≡ Some request
-      → PreparesFor request text prepared → PreparesWords words text prepared
-  words_prepared text request prepared none asked is = record {
+  words_prepared : (request : Request) → usage_of words ≡ None
+      → request_of words ≡ Some request → (exchanges : List Exchange) (prepared : Prepared)
+      → PreparesFor request exchanges prepared → PreparesWords words exchanges prepared
+  words_prepared request none asked exchanges prepared is = record {
     ready = is.ready;
-    simulates = may_simulate prepared text request none asked is.simulates;
-    stands = λ s a printed performed.
-        answers request none asked text s a printed (is.stands s a printed performed);
-    only = λ s other others w.
-        is.only s other others (answered request none asked text s other others w);
+    simulates = may_words request none asked exchanges prepared is.simulates;
+    stands = λ s a p performed.
+        answers request none asked exchanges s a p (is.stands s a p performed);
   }
 
+  -- what is made ready for a command is so for the words that ask for it
+  pub words_readied : (request : Request) → usage_of words ≡ None
+      → request_of words ≡ Some request → (tells : Bool) (old new : Files)
+      (r : Result Prepared NoReport) → ReadiesFor request tells old new r
+      → ReadiesWords words tells old new r
+  words_readied request none asked tells old new r is =
+      readies_too (MayExchange request) (PreparesFor request) tells (IsExchanged words)
+      (PreparesWords words) (λ exchanges may. inr (request, none, asked, may))
+      (words_prepared request none asked) old new r is
+
+  misuses : (kind : UsageKind) → usage_of words ≡ Some kind → (exchanges : List Exchange)
+      → exchanges ≡ [] → (s : List ℕ) (a : Answer) (p : List ℕ)
+      → (a ≡ misused kind) × (p ≡ usage_text kind) → IsAnswer words exchanges s a p
+  misuses kind usage exchanges none s a p is =
+      subst (λ (u : Option UsageKind).
+      MatchOption u ((r : Request) × (request_of words ≡ Some r) × IsDialogue r exchanges s a p)
+      (λ k. (exchanges ≡ []) × (a ≡ misused k) × (p ≡ usage_text k))) (sym usage)
+      (none, is.0, is.1)
+
   -- where they are no command the answer is what is wrong with them
-  pub misuse_prepared : (text : List ℕ) (kind : UsageKind) (report : Report)
+  pub misuse_readied : (tells : Bool) (files : Files) (kind : UsageKind) (report : Report)
       → usage_of words ≡ Some kind → answer_of report.outcome ≡ Some (misused kind)
-      → report.text.items ≡ usage_text kind → PreparesWords words text (Whole report)
-  misuse_prepared text kind report usage gives prints =
-      whole_prepared (IsAnswer words text) _ report (misused kind) gives
-      (λ s. subst (λ (u : Option UsageKind).
-      MatchOption u ((r : Request) × (request_of words ≡ Some r)
-      × IsAnswerBy r text s (misused kind) report.text.items)
-      (λ k. (misused kind ≡ misused k) × (report.text.items ≡ usage_text k))) (sym usage)
-      (refl, prints))
-      (λ s other others is.
-      inl (subst (λ (u : Option UsageKind).
-      MatchOption u ((r : Request) × (request_of words ≡ Some r)
-      × IsAnswerBy r text s other others)
-      (λ k. (other ≡ misused k) × (others ≡ usage_text k))) usage is).0)
+      → report.text.items ≡ usage_text kind
+      → (let r : Result Prepared NoReport = Ok (Whole report) in
+      ReadiesWords words tells files files r)
+  misuse_readied tells files kind report usage gives prints =
+      made_readied (IsExchanged words) (PreparesWords words) tells files (Whole report) (inl refl)
+      (said_prepared (IsAnswer words []) (MaySimulateDesign words [])
+      (λ a p. (a ≡ misused kind) × (p ≡ usage_text kind)) (misuses kind usage [] refl) report
+      (misused kind, gives, (refl, prints)))

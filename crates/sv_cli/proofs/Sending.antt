@@ -1,16 +1,16 @@
 -- What is sent of what is prepared, and what a simulation comes to.
 use Rattle.std.proofs.Common.{◌≡◌, ℕ, ◌+◌, ◌≤◌, List, [], ◌++◌, length, Option, Some, None, refl}
-use Rattle.std.proofs.Common.{sym, ◌∙◌, ap, subst, arith, inl, inr, ◌⊎◌}
+use Rattle.std.proofs.Common.{sym, ◌∙◌, subst, arith}
 use Rattle.std.specs.Prelude.{Bool, IsTrue, IfSome, IfNone, IsSome}
 use Rattle.std.proofs.lemmas.List.{append-nil, append_cancel_left}
 use Rattle.sv_io.specs.Sink.{WritesFront}
 use Rattle.sv_io.specs.Source.{WhateverFollows}
 use Rattle.sv_flat.specs.Design.{FlatDesign}
-use Rattle.sv_lattice.specs.declared.points.Point.{Point}
 use Rattle.sv_simulate.specs.declared.endings.Ending.{Ending}
-use Rattle.sv_simulate.specs.Simulated.{largest_stimulus, level_asked, IsSimulated, WritesFrontFor}
-use Rattle.sv_cli.specs.Answer.{Answer, answer_by}
+use Rattle.sv_simulate.specs.Simulated.{largest_stimulus, IsSimulated, WritesFrontFor}
+use Rattle.sv_cli.specs.Answer.{Answer}
 use Rattle.sv_cli.specs.Prepared.{EndsAs, Performs}
+use Rattle.sv_cli.specs.Simulates.{answer_by}
 
 -- ---- a text that is sent whole, for whatever stimulus
 
@@ -31,21 +31,19 @@ few_taken g stimulus same =
 
 -- the text was sent for the answers that Is has
 module _ (Is : Answer → Type 0) (g text left old new : List ℕ) (tells : Bool) (a : Answer)
-    (is : Is a) (one : (b c : Answer) → Is b → Is c → b ≡ c) where
+    (is : Is a) where
   pub sent : (o : Option Answer) → IfSome o Is → IfSome o (λ b. new ≡ old ++ text)
       → IfNone o (WritesFront old text new)
       → Performs (λ s b p. Is b × (p ≡ text)) (λ s. g ≡ g ++ s) tells left old new o
   sent None given all front = record {
     answer = tt;
     whole = λ told. tt;
-    only = λ s b p took as_is. tt;
     front = ([], a, text, nothing_more g, (is, refl), front);
     whole_front = λ told. (a, text, (is, refl), front);
   }
   sent (Some b) given all front = record {
     answer = ([], text, nothing_more g, (given, refl), all);
     whole = λ told. (text, (given, refl), all);
-    only = λ s c p took as_is. one b c given as_is.0;
     front = tt;
     whole_front = λ told. tt;
   }
@@ -57,27 +55,12 @@ pub sent_whatever : (Is : Answer → Type 0) (text old new : List ℕ) (o : Opti
 sent_whatever Is text old new None given all = tt
 sent_whatever Is text old new (Some a) given all = (text, (given, refl), all)
 
-pub one_given : (given : Option Answer) (b c : Answer) → given ≡ Some b → given ≡ Some c → b ≡ c
-one_given given b c first second = cc
-
-pub one_equal : (a b c : Answer) → b ≡ a → c ≡ a → b ≡ c
-one_equal a b c first second = first ∙ sym second
-
 -- the answer that is there
 pub some_given : (o : Option Answer) → IsSome o → (a : Answer) × (o ≡ Some a)
 some_given None is = absurd cc
 some_given (Some a) is = (a, refl)
 
 -- ---- a simulation
-
--- a level that is a point, or none
-pub level_cases : (design : FlatDesign) (level : Option (List ℕ)) (Same : Type 0)
-    → (level_asked design level ≡ None → Same) → Same ⊎ IsSome (level_asked design level)
-level_cases design level Same untouched = by_level (level_asked design level) untouched
-  where
-    by_level : (o : Option (Option Point)) → (o ≡ None → Same) → Same ⊎ IsSome o
-    by_level None same = inl (same refl)
-    by_level (Some shown) same = inr refl
 
 module _ (design : FlatDesign) (level : Option (List ℕ)) (order : Option ℕ)
     (Took : List ℕ → Type 0) (tells : Bool) (left old new : List ℕ) where
@@ -88,13 +71,10 @@ module _ (design : FlatDesign) (level : Option (List ℕ)) (order : Option ℕ)
       → (s p : List ℕ) × Took s × IsSimulated design level order s ends p × (new ≡ old ++ p)
       → (IsTrue tells → (p : List ℕ) × IsSimulated design level order left ends p
       × (new ≡ old ++ p))
-      → ((s p : List ℕ) (other : Ending) → Took s → IsSimulated design level order s other p
-      → ends ≡ other)
       → Simulated o
-  ended o ends is answer whole only = subst Simulated (sym is) (record {
+  ended o ends is answer whole = subst Simulated (sym is) (record {
     answer = (answer.0, answer.1, answer.2, (ends, refl, answer.3), answer.4);
     whole = λ told. let w = whole told in (w.0, (ends, refl, w.1), w.2);
-    only = λ s a p took so. ap answer_by (only s p so.0 took so.2) ∙ sym so.1;
     front = tt;
     whole_front = λ told. tt;
   })
@@ -104,7 +84,6 @@ module _ (design : FlatDesign) (level : Option (List ℕ)) (order : Option ℕ)
   stopped front whole = record {
     answer = tt;
     whole = λ told. tt;
-    only = λ s a p took so. tt;
     front =
         let w = front.2 in
         (front.0, answer_by w.ends, w.printed, front.1, (w.ends, refl, w.is), w.front);

@@ -1,350 +1,276 @@
--- From what is prepared and done to what is answered to the words.
-use Rattle.std.proofs.Common.{◌≡◌, ℕ, List, [], ◌∷◌, ◌++◌, Option, Some, None, sym, ◌∙◌, ap}
-use Rattle.std.proofs.Common.{refl, subst, inl, inr, ◌⊎◌}
-use Rattle.std.specs.Prelude.{IfSome, IfNone, IsSome, IfOk, Result, Ok, Err, MatchOption}
-use Rattle.std.specs.Prelude.{option_map, ⊤}
-use Rattle.std.proofs.lemmas.List.{append-nil, append_cancel_left}
-use Rattle.std.specs.Option.{option_map_or}
+-- From what is prepared and done to what the program is for its words.
+use Rattle.std.proofs.Common.{◌≡◌, ℕ, ◌+◌, ◌≤◌, List, [], ◌∷◌, ◌++◌, length, Option, Some, None, sym}
+use Rattle.std.proofs.Common.{refl, ◌∙◌, ap, subst, inl, inr, ◌⊎◌}
+use Rattle.std.specs.Prelude.{Bool, IfSome, IfNone, IsSome, All, Any, MatchOption}
+use Rattle.std.specs.Prelude.{Result, Ok, Err}
 use Rattle.sv_flat.specs.Design.{FlatDesign}
-use Rattle.sv_io.specs.Exchange.{Fetched, whole, nothing, Exchange, fetched}
-use Rattle.sv_words.specs.Words.{Request, request_of, usage_of, check, list, cnf, sim}
-use Rattle.sv_words.specs.declared.command.CommandName.TheVariants as name
+use Rattle.sv_io.specs.Count.{Rose}
+use Rattle.sv_io.specs.Exchange.{Exchange, fetched, whole}
+use Rattle.sv_io.specs.Sink.{WritesFront}
+use Rattle.sv_io.specs.Source.{WhateverFollows}
+use Rattle.sv_io.specs.Traffic.{Files, Input, Output, Traffic, IsFailed, FailsToFetch}
+use Rattle.sv_io.specs.Traffic.{FailsToStore, input_by}
+use Rattle.sv_simulate.specs.Simulated.{largest_stimulus, level_asked, WritesAllCycles}
+use Rattle.sv_words.specs.Words.{Request, request_of, usage_of}
 use Rattle.sv_words.specs.declared.command.UsageKind.{UsageKind}
 use Rattle.sv_cli.specs.declared.outcome.Outcome.{Outcome}
-use Rattle.sv_cli.specs.declared.outcome.Outcome.TheVariants.{Done, Refused, Usage, ReadFault}
-use Rattle.sv_cli.specs.declared.outcome.Outcome.TheVariants.{WriteFault, OutOfMemory}
-use Rattle.sv_cli.specs.declared.outcome.Broken.TheVariants.{Rule, Limit, Fails, Stimulus}
+use Rattle.sv_cli.specs.declared.outcome.Outcome.TheVariants.{Done, ReadFault, WriteFault}
+use Rattle.sv_cli.specs.declared.prepared.NoReport.{NoReport}
 use Rattle.sv_cli.specs.declared.prepared.Prepared.{Prepared}
 use Rattle.sv_cli.specs.declared.prepared.Prepared.TheVariants.{Whole, Lines, Clauses}
 use Rattle.sv_cli.specs.declared.prepared.Prepared.TheVariants.{Simulation}
-use Rattle.sv_cli.specs.Command.{command_in, file_in, command_of, file_of}
+use Rattle.sv_cli.specs.Answer.{Answer, answer_of, done, misused}
+use Rattle.sv_cli.specs.Command.{file_in, top_in}
+use Rattle.sv_cli.specs.Dialogues.{IsDialogue}
+use Rattle.sv_cli.specs.Prepared.{IsPerformed, Performs, IsSimulationWith, IsOtherOrWith}
+use Rattle.sv_cli.specs.Prepared.{MaySimulateDesign, PreparesWords, ReadiesWords}
+use Rattle.sv_cli.specs.Runs.{MayTake, WritesCycles, IsWhole, IsFront, IsUntouched}
+use Rattle.sv_cli.specs.Runs.{Runs}
 use Rattle.sv_cli.specs.Text.{usage_text}
-use Rattle.sv_cli.specs.Answer.{Answer, answer_of, done, misused, ReadsFile, Reads}
-use Rattle.sv_cli.specs.Answer.{IsVerdict, IsAnswerBy, IsAnswer}
-use Rattle.sv_cli.specs.Answer.{IsAccepted, AreCircles, KeepsSecrets, Simulates, WritesCycles}
-use Rattle.sv_cli.specs.Answer.{MayTake}
-use Rattle.sv_cli.specs.Prepared.{IsPerformed, IsSimulationWith, IsOtherOrWith, PreparesFor}
-use Rattle.sv_cli.specs.Prepared.{PreparesWords}
-use Rattle.sv_simulate.specs.Simulated.{level_asked, WritesAllCycles}
-use Rattle.sv_cli.proofs.Deciding.{keeps_secrets}
-use Rattle.sv_cli.proofs.Preparing.{words_prepared}
+use Rattle.sv_cli.specs.Texts.{KeepsSecrets}
+use Rattle.sv_cli.proofs.Sending.{few_taken}
 use Rattle.sv_cli.proofs.Simulating.{cycles_told}
-use Rattle.sv_cli.proofs.Fetches.{reads_one, reads_none, reads_whole}
 
--- ---- words
+-- what fails nowhere fails not somewhere
+none_of : {X : Type 0} (P : X → Type 0) (xs : List X) → All (λ x. P x → ⊥) xs → Any P xs → ⊥
+none_of P xs none some =
+    none some.0 some.1 some.2 (subst P (sym some.3) some.4)
 
--- FILE of words that ask for something
-pub file_is : (words : List (List ℕ)) (request : Request) → request_of words ≡ Some request
-    → file_of words ≡ file_in request
-file_is words request is = ap (λ (r : Option Request). option_map_or file_in r []) is
+untouched : (input : Input) → IsUntouched input input
+untouched input = record { given = refl; left = refl; ended = refl; faults = refl }
 
--- ---- outcomes
+-- an input that is the same is untouched
+pub same_untouched : {S : Type 0} (given left : S → List ℕ) (ended : S → Bool) (faults : S → ℕ)
+    (old new : S) (Other : Type 0) → (new ≡ old) ⊎ Other
+    → IsUntouched (input_by given left ended faults old) (input_by given left ended faults new)
+    ⊎ Other
+same_untouched given left ended faults old new Other (inl same) =
+    inl (record {
+      given = ap given same;
+      left = ap left same;
+      ended = ap ended same;
+      faults = ap faults same;
+    })
+same_untouched given left ended faults old new Other (inr other) = inr other
 
--- an outcome that tells no fault has an answer, or tells that memory ran out
-pub answered : (o : Outcome) → (o ≡ ReadFault → ⊥) → (o ≡ WriteFault → ⊥)
-    → IsSome (answer_of o) ⊎ (o ≡ OutOfMemory)
-answered Done read write = inl refl
-answered (Refused (Rule r)) read write = inl refl
-answered (Refused (Limit number names)) read write = inl refl
-answered (Refused (Fails number v)) read write = inl refl
-answered (Refused (Stimulus source line kind)) read write = inl refl
-answered (Usage kind) read write = inl refl
-answered ReadFault read write = absurd (read refl)
-answered WriteFault read write = absurd (write refl)
-answered OutOfMemory read write = inr refl
+-- ---- what is done with what is prepared
 
-module _ (words : List (List ℕ)) (before after : List Exchange) where
-  abbrev IsRead : List ℕ → Type 0
-  IsRead text = Reads words text before after
+module _ (words : List (List ℕ)) (exchanges : List Exchange) (prepared : Prepared)
+    (found : PreparesWords words exchanges prepared) where
+  module _ (old new : Output) where
+    -- what was accepted
+    abbrev Accepted : List ℕ → Type 0
+    Accepted printed = new.accepted ≡ old.accepted ++ printed
 
-  -- what is read for a command
-  pub command_reads : (text : List ℕ) → usage_of words ≡ None → IsRead text
-      → ReadsFile (file_of words) text before after
-  command_reads text none reads =
-      subst (λ (u : Option UsageKind).
-      MatchOption u (ReadsFile (file_of words) text before after) (λ kind. after ≡ before)) none
-      reads
+    abbrev Front : List ℕ → Type 0
+    Front printed = WritesFront old.accepted printed new.accepted
 
-  pub reads_command : (text : List ℕ) → usage_of words ≡ None
-      → ReadsFile (file_of words) text before after → IsRead text
-  reads_command text none reads =
-      subst (λ (u : Option UsageKind).
-      MatchOption u (ReadsFile (file_of words) text before after) (λ kind. after ≡ before))
-      (sym none) reads
+    answer_told : (o : Option Answer) (Took : List ℕ → Type 0)
+        → IfSome o (λ a. (s p : List ℕ) × Took s × IsPerformed prepared s a p × Accepted p)
+        → IfSome o (λ a. (s : List ℕ) × Took s × IsWhole words exchanges old new a s)
+    answer_told None Took made = tt
+    answer_told (Some a) Took made =
+        (made.0, made.2, (made.1, found.stands made.0 a made.1 made.3, made.4))
 
-  -- what is prepared for a command is prepared for the words that ask for it
-  pub command_told : {E : Type 0} (request : Request) (r : Result Prepared E)
-      → usage_of words ≡ None → request_of words ≡ Some request
-      → IfOk r (λ p. (t : List ℕ) × ReadsFile (file_in request) t before after
-      × PreparesFor request t p)
-      → IfOk r (λ p. (t : List ℕ) × IsRead t × PreparesWords words t p)
-  command_told request (Err e) none asked made = tt
-  command_told request (Ok prepared) none asked made = (
-    made.0,
-    reads_command made.0 none
-        (subst (λ (f : List ℕ). ReadsFile f made.0 before after)
-        (sym (file_is words request asked)) made.1),
-    words_prepared words made.0 request prepared none asked made.2,
-  )
+    whole_told : (o : Option Answer) (stimulus : List ℕ)
+        → IfSome o (λ a. (p : List ℕ) × IsPerformed prepared stimulus a p × Accepted p)
+        → IfSome o (λ a. IsWhole words exchanges old new a stimulus)
+    whole_told None stimulus made = tt
+    whole_told (Some a) stimulus made =
+        (made.0, found.stands stimulus a made.0 made.1, made.2)
 
-  -- the answer is that of any text that was read
-  by_usage : (Is : List ℕ → Type 0) (Misuse : UsageKind → Type 0) (text other : List ℕ)
-      (u : Option UsageKind)
-      → MatchOption u (ReadsFile (file_of words) text before after) (λ kind. after ≡ before)
-      → MatchOption u (ReadsFile (file_of words) other before after) (λ kind. after ≡ before)
-      → MatchOption u (Is text) Misuse → MatchOption u (Is other) Misuse
-  by_usage Is Misuse text other None reads others is =
-      subst Is (reads_one (file_of words) text other before after reads others) is
-  by_usage Is Misuse text other (Some kind) reads others is = is
-
-  same_answer : (text other stimulus : List ℕ) (a : Answer) (printed : List ℕ) → IsRead text
-      → IsRead other → IsAnswer words text stimulus a printed
-      → IsAnswer words other stimulus a printed
-  same_answer text other stimulus a printed reads others is =
-      by_usage (λ t. (r : Request) × (request_of words ≡ Some r)
-      × IsAnswerBy r t stimulus a printed)
-      (λ kind. (a ≡ misused kind) × (printed ≡ usage_text kind)) text other (usage_of words) reads
-      others is
-
-  -- ---- what is done with what is prepared
-
-  module _ (prepared : Prepared)
-      (found : (text : List ℕ) × Reads words text before after
-      × PreparesWords words text prepared) where
-    pub answer_told : (o : Option Answer) (Given Accepted : List ℕ → Type 0)
-        → IfSome o (λ a. (s p : List ℕ) × Given s × IsPerformed prepared s a p × Accepted p)
-        → IfSome o (λ a. (t s p : List ℕ) × IsRead t × Given s × IsAnswer words t s a p
-        × Accepted p)
-    answer_told None Given Accepted made = tt
-    answer_told (Some a) Given Accepted made = (
-      found.0,
-      made.0,
-      made.1,
-      found.1,
-      made.2,
-      found.2.stands made.0 a made.1 made.3,
-      made.4,
-    )
-
-    pub whole_told : (o : Option Answer) (left : List ℕ) (Accepted : List ℕ → Type 0)
-        → IfSome o (λ a. (p : List ℕ) × IsPerformed prepared left a p × Accepted p)
-        → IfSome o (λ a. (t p : List ℕ) × IsRead t × IsAnswer words t left a p × Accepted p)
-    whole_told None left Accepted made = tt
-    whole_told (Some a) left Accepted made =
-        (found.0, made.0, found.1, found.2.stands left a made.0 made.1, made.2)
-
-    -- no other answer is that of what was read and taken
-    pub only_told : (o : Option Answer) (Given : List ℕ → Type 0)
-        → ((s : List ℕ) (a : Answer) (p : List ℕ) → Given s → IsPerformed prepared s a p
-        → IfSome o (λ b. b ≡ a))
-        → (t s : List ℕ) (a : Answer) (p : List ℕ) → IsRead t → Given s
-        → IsAnswer words t s a p → IfSome o (λ b. (b ≡ a) ⊎ AreCircles a b)
-    only_told o Given only t s a p reads given is =
-        let own = found.2.only s a p (same_answer t found.0 s a p reads found.1 is) in
-        sort o own.0 own.3 (only s own.0 own.1 given own.2)
-      where
-        sort : (o : Option Answer) (b : Answer) → (a ≡ b) ⊎ AreCircles a b
-            → IfSome o (λ c. c ≡ b) → IfSome o (λ c. (c ≡ a) ⊎ AreCircles a c)
-        sort None b own is = tt
-        sort (Some c) b (inl one) is = inl (is ∙ sym one)
-        sort (Some c) b (inr circles) is = inr (subst (AreCircles a) (sym is) circles)
-
-    -- without an answer a front of what is defined was accepted
-    pub front_told : (o : Option Answer) (Same : Type 0) (Given Front : List ℕ → Type 0)
-        → IfNone o ((s : List ℕ) × (a : Answer) × (p : List ℕ) × Given s
+    front_told : (o : Option Answer) (Took : List ℕ → Type 0)
+        → IfNone o ((s : List ℕ) × (a : Answer) × (p : List ℕ) × Took s
         × IsPerformed prepared s a p × Front p)
-        → IfNone o (Same ⊎ ((t s : List ℕ) × (a : Answer) × (p : List ℕ) × IsRead t × Given s
-        × IsAnswer words t s a p × Front p))
-    front_told (Some b) Same Given Front made = tt
-    front_told None Same Given Front made =
+        → IfNone o ((new.accepted ≡ old.accepted)
+        ⊎ ((s : List ℕ) × Took s × IsFront words exchanges old new s))
+    front_told (Some b) Took made = tt
+    front_told None Took made =
         inr (
-          found.0,
           made.0,
-          made.1,
-          made.2,
-          found.1,
           made.3,
-          found.2.stands made.0 made.1 made.2 made.4,
-          made.5,
+          (made.1, made.2, found.stands made.0 made.1 made.2 made.4, made.5),
         )
 
-    pub whole_front_told : (o : Option Answer) (Same : Type 0) (left : List ℕ)
-        (Front : List ℕ → Type 0)
-        → IfNone o ((a : Answer) × (p : List ℕ) × IsPerformed prepared left a p × Front p)
-        → IfNone o (Same ⊎ ((t : List ℕ) × (a : Answer) × (p : List ℕ) × IsRead t
-        × IsAnswer words t left a p × Front p))
-    whole_front_told (Some b) Same left Front made = tt
-    whole_front_told None Same left Front made =
-        inr (
-          found.0,
-          made.0,
-          made.1,
-          found.1,
-          found.2.stands left made.0 made.1 made.2,
-          made.3,
-        )
+    whole_front_told : (o : Option Answer) (stimulus : List ℕ)
+        → IfNone o ((a : Answer) × (p : List ℕ) × IsPerformed prepared stimulus a p × Front p)
+        → IfNone o ((new.accepted ≡ old.accepted) ⊎ IsFront words exchanges old new stimulus)
+    whole_front_told (Some b) stimulus made = tt
+    whole_front_told None stimulus made =
+        inr (made.0, made.1, found.stands stimulus made.0 made.1 made.2, made.3)
 
-  -- where a text was read something was handed out
-  pub read_silent : (text : List ℕ) (Same : Type 0) → IsRead text
-      → after ≡ before ++ fetched (file_of words) nothing ∷ [] → Same
-  read_silent text Same reads failed = by_words (usage_of words) reads
-    where
-      by_words : (u : Option UsageKind)
-          → MatchOption u (ReadsFile (file_of words) text before after) (λ kind. after ≡ before)
-          → Same
-      by_words None is =
-          absurd (reads_none (file_of words) text before after is failed)
-      by_words (Some kind) unchanged =
-          let both : before ++ [] ≡ before ++ fetched (file_of words) nothing ∷ [] =
-          append-nil before ∙ sym unchanged ∙ failed in
-          let none = append_cancel_left before [] (fetched (file_of words) nothing ∷ []) both in
-          absurd cc
+  -- what is simulated is the design of the text that was fetched
+  simulation_of : (p : Prepared) (Holds : Option (List ℕ) → FlatDesign → Type 0)
+      → IsOtherOrWith (MaySimulateDesign words exchanges) p → IsSimulationWith Holds p
+      → (level : Option (List ℕ)) × (design : FlatDesign)
+      × MaySimulateDesign words exchanges level design × Holds level design
+  simulation_of (Whole report) Holds may is = absurd is
+  simulation_of (Lines design) Holds may is = absurd is
+  simulation_of (Clauses coded) Holds may is = absurd is
+  simulation_of (Simulation design level order) Holds may is = (_, _, may, is)
 
-  -- what is simulated is the design of the text that was read
-  simulation_of : (text : List ℕ) (prepared : Prepared)
-      (Holds : Option (List ℕ) → FlatDesign → Type 0)
-      → IsOtherOrWith (Simulates words text) prepared → IsSimulationWith Holds prepared
-      → (level : Option (List ℕ)) × (design : FlatDesign) × Simulates words text level design
-      × Holds level design
-  simulation_of text (Whole report) Holds may is = absurd is
-  simulation_of text (Lines design) Holds may is = absurd is
-  simulation_of text (Clauses coded) Holds may is = absurd is
-  simulation_of text (Simulation design level order) Holds may is = (_, _, may, is)
+  -- the input is as it was, or something is simulated
+  unchanged_told : (Same : Type 0)
+      → Same ⊎ IsSimulationWith (λ level design. IsSome (level_asked design level)) prepared
+      → Same ⊎ MayTake words exchanges
+  unchanged_told Same (inl same) = inl same
+  unchanged_told Same (inr is) =
+      let s = simulation_of prepared (λ level design. IsSome (level_asked design level))
+      found.simulates is in
+      inr (record {
+        level = s.0;
+        simulates = s.2.0;
+        shown =
+            subst (λ (d : FlatDesign). IsSome (level_asked d s.0)) (sym s.2.1) s.3;
+      })
 
-  module _ (prepared : Prepared)
-      (found : (text : List ℕ) × Reads words text before after
-      × PreparesWords words text prepared) (Same : Type 0) where
-    -- the input is as it was, or something is simulated
-    pub unchanged_told : Same
-        ⊎ IsSimulationWith (λ level design. IsSome (level_asked design level)) prepared
-        → Same ⊎ MayTake words before after
-    unchanged_told (inl same) = inl same
-    unchanged_told (inr is) =
-        let s = simulation_of found.0 prepared
-        (λ level design. IsSome (level_asked design level)) found.2.simulates is in
-        inr (record {
-          text = found.0;
-          level = s.0;
-          design = s.1;
-          reads = found.1;
-          simulates = s.2;
-          shown = s.3;
-        })
+  -- a fault of the input comes behind the lines of all cycles that were taken
+  cycles_written : (stimulus old new : List ℕ)
+      → IsSimulationWith (λ level design. WritesAllCycles design level stimulus old new) prepared
+      → WritesCycles words exchanges stimulus old new
+  cycles_written stimulus old new is =
+      let s = simulation_of prepared
+      (λ level design. WritesAllCycles design level stimulus old new) found.simulates is in
+      cycles_told words exchanges s.0 s.1 stimulus old new s.2 s.3
 
-  -- ---- what an answer to the words says
+-- ---- what a call is
 
-  module _ (text stimulus printed : List ℕ) (a : Answer) where
-    abbrev IsAnswered : Option UsageKind → Type 0
-    IsAnswered u =
-        MatchOption u ((r : Request) × (request_of words ≡ Some r)
-        × IsAnswerBy r text stimulus a printed)
-        (λ kind. (a ≡ misused kind) × (printed ≡ usage_text kind))
+module _ (files_tell input_tells : Bool) (words : List (List ℕ)) (old new : Traffic) where
+  -- something was prepared, and done
+  module _ (outcome : Outcome) (prepared : Prepared)
+      (ready : (let r : Result Prepared NoReport = Ok prepared in
+      ReadiesWords words files_tell old.files new.files r))
+      (performed : Performs (IsPerformed prepared)
+      (λ s. new.input.given ≡ old.input.given ++ s) input_tells old.input.left
+      old.output.accepted new.output.accepted (answer_of outcome))
+      (to_the_end : WhateverFollows new.input.ended old.input.given new.input.given
+      (λ s. IfSome (answer_of outcome) (λ a. (printed : List ℕ) × IsPerformed prepared s a printed
+      × (new.output.accepted ≡ old.output.accepted ++ printed))))
+      (read_fault : outcome ≡ ReadFault → (s : List ℕ)
+      × (new.input.given ≡ old.input.given ++ s) × Rose old.input.faults new.input.faults
+      × IsSimulationWith (λ level design. WritesAllCycles design level s old.output.accepted
+      new.output.accepted) prepared)
+      (write_fault : outcome ≡ WriteFault → Rose old.output.faults new.output.faults)
+      (unchanged : IsUntouched old.input new.input
+      ⊎ IsSimulationWith (λ level design. IsSome (level_asked design level)) prepared)
+      (most : (s : List ℕ) → new.input.given ≡ old.input.given ++ s
+      → length s ≤ largest_stimulus + 1) where
+    abbrev found : PreparesWords words ready.exchanges prepared
+    found = ready.made.0
 
-    misuse_in : (u : Option UsageKind) → IsAnswered u
-        → MatchOption u ⊤ (λ kind. a ≡ misused kind)
-    misuse_in None is = tt
-    misuse_in (Some kind) is = is.0
+    pub runs_told : Runs files_tell input_tells words old new outcome
+    runs_told = record {
+      exchanges = ready.exchanges;
+      passed = ready.passed;
+      exchanged = ready.may;
+      answer =
+          answer_told words ready.exchanges prepared found old.output new.output
+          (answer_of outcome) (λ s. new.input.given ≡ old.input.given ++ s) performed.answer;
+      whole_stimulus = λ tells.
+          whole_told words ready.exchanges prepared found old.output new.output
+          (answer_of outcome) old.input.left (performed.whole tells);
+      to_the_end = λ goes_on taken more given.
+          whole_told words ready.exchanges prepared found old.output new.output
+          (answer_of outcome) (taken ++ more) (to_the_end goes_on taken more given);
+      front =
+          front_told words ready.exchanges prepared found old.output new.output
+          (answer_of outcome) (λ s. new.input.given ≡ old.input.given ++ s) performed.front;
+      whole_front = λ tells.
+          whole_front_told words ready.exchanges prepared found old.output new.output
+          (answer_of outcome) old.input.left (performed.whole_front tells);
+      silent = λ failed. absurd (none_of IsFailed ready.exchanges ready.made.1 failed);
+      read_fault = λ is.
+          let fault = read_fault is in
+          inr (record {
+            stimulus = fault.0;
+            given = fault.1;
+            rose = fault.2;
+            cycles =
+                cycles_written words ready.exchanges prepared found fault.0 old.output.accepted
+                new.output.accepted fault.3;
+          });
+      write_fault = λ is. inr (write_fault is);
+      input_unchanged =
+          unchanged_told words ready.exchanges prepared found (IsUntouched old.input new.input)
+          unchanged;
+      most = most;
+    }
 
-    -- of words for `check`, that the text is accepted
-    accepted_in : (r : Request) → command_in r ≡ name.Check → IsAnswerBy r text stimulus a printed
-        → a ≡ done → (top : Option (List ℕ)) × IsAccepted top text printed
-    accepted_in (check file top) named is accepts =
-        (top, subst (λ (b : Answer). IsVerdict top text b printed) accepts is)
-    accepted_in (list file top) named is accepts = absurd cc
-    accepted_in (cnf file number top) named is accepts = absurd cc
-    accepted_in (sim file level order top) named is accepts = absurd cc
+-- ---- the headline
 
-    secrets_in : (u : Option UsageKind) → usage_of words ≡ u → IsRead text → IsAnswered u
-        → command_of words ≡ Some name.Check → a ≡ done
-        → (after ≡ before ++ fetched (file_of words) (whole text) ∷ []) × KeepsSecrets text
-    secrets_in (Some kind) usage reads is checks accepts =
-        let both : misused kind ≡ done = sym is.0 ∙ accepts in absurd cc
-    secrets_in None usage reads is checks accepts =
-        let named : Some (command_in is.0) ≡ Some name.Check =
-        sym (ap (option_map command_in) is.1) ∙ checks in
-        let accepted = accepted_in is.0 (let n = named in cc) is.2 accepts in (
-          reads_whole (file_of words) text before after accepted.1.form.within
-              (command_reads text usage reads),
-          keeps_secrets accepted.0 text printed accepted.1,
-        )
+module _ (files_tell : Bool) (words : List (List ℕ)) (old new : Files) (prepared : Prepared)
+    (ready : (let r : Result Prepared NoReport = Ok prepared in
+    ReadiesWords words files_tell old new r))
+    (outcome : Outcome) (Took Accepts : List ℕ → Type 0)
+    (answered : IfSome (answer_of outcome) (λ a. (s p : List ℕ) × Took s
+    × IsPerformed prepared s a p × Accepts p))
+    (is_done : outcome ≡ Done) (request : Request) (asked : request_of words ≡ Some request) where
+  by_words : (u : Option UsageKind) (s p : List ℕ)
+      → MatchOption u ((r : Request) × (request_of words ≡ Some r)
+      × IsDialogue r ready.exchanges s done p)
+      (λ kind. (ready.exchanges ≡ []) × (done ≡ misused kind) × (p ≡ usage_text kind))
+      → IsDialogue request ready.exchanges s done p
+  by_words None s p is =
+      let same : is.0 ≡ request = let first = is.1 in let second = asked in cc in
+      subst (λ (r : Request). IsDialogue r ready.exchanges s done p) same is.2
+  by_words (Some kind) s p is = let wrong = is.1 in absurd cc
 
-  pub usage_told : (o : Option Answer) (Given Accepted : List ℕ → Type 0)
-      → IfSome o (λ a. (t s p : List ℕ) × IsRead t × Given s × IsAnswer words t s a p
-      × Accepted p)
-      → MatchOption (usage_of words) ⊤ (λ kind. IfSome o (λ a. a ≡ misused kind))
-  usage_told None Given Accepted answered = by_words (usage_of words)
-    where
-      by_words : (u : Option UsageKind) → MatchOption u ⊤ (λ kind. ⊤)
-      by_words None = tt
-      by_words (Some kind) = tt
-  usage_told (Some a) Given Accepted answered =
-      misuse_in answered.0 answered.1 answered.2 a (usage_of words) answered.5
+  -- it is a dialogue of the request that ends in acceptance
+  done_told : (s p : List ℕ) × IsDialogue request ready.exchanges s done p
+  done_told =
+      let made = subst (λ (r : Outcome). IfSome (answer_of r) (λ a. (s p : List ℕ) × Took s
+      × IsPerformed prepared s a p × Accepts p)) is_done answered in (
+        made.0,
+        made.1,
+        by_words (usage_of words) made.0 made.1 (ready.made.0.stands made.0 done made.1 made.3),
+      )
 
-  pub secrets_told : (result : Outcome) (Given Accepted : List ℕ → Type 0) → result ≡ Done
-      → command_of words ≡ Some name.Check
-      → IfSome (answer_of result) (λ a. (t s p : List ℕ) × IsRead t × Given s
-      × IsAnswer words t s a p × Accepted p)
-      → (text : List ℕ) × (after ≡ before ++ fetched (file_of words) (whole text) ∷ [])
-      × KeepsSecrets text
-  secrets_told result Given Accepted is_done checks answered =
-      let told = subst (λ (r : Outcome). IfSome (answer_of r) (λ a. (t s p : List ℕ) × IsRead t
-      × Given s × IsAnswer words t s a p × Accepted p)) is_done answered in
-      let kept = secrets_in told.0 told.1 told.2 done (usage_of words) refl told.3 told.5 checks
-      refl in
-      (told.0, kept.0, kept.1)
+  -- and what it says of the exchanges it says of those of the files
+  pub kept_told : ((exchanges : List Exchange) (s p : List ℕ)
+      → IsDialogue request exchanges s done p
+      → (text : List ℕ) × (rest : List Exchange)
+      × (exchanges ≡ fetched (file_in request) (whole text) ∷ rest)
+      × KeepsSecrets (top_in request) text)
+      → (text : List ℕ) × (rest : List Exchange)
+      × (new.exchanges ≡ old.exchanges ++ fetched (file_in request) (whole text) ∷ rest)
+      × KeepsSecrets (top_in request) text
+  kept_told law =
+      let kept = law ready.exchanges done_told.0 done_told.1 done_told.2 in (
+        kept.0,
+        kept.1,
+        ready.passed.called ∙ ap (λ (es : List Exchange). old.exchanges ++ es) kept.2,
+        kept.3,
+      )
 
-  -- what passed: one fetch of FILE, or nothing
-  pub fetch_told : (E R : Type 0) → (E → R)
-      → MatchOption (usage_of words)
-      (((got : Fetched) × (after ≡ before ++ fetched (file_of words) got ∷ []))
-      ⊎ (E × (after ≡ before))) (λ kind. after ≡ before)
-      → MatchOption (usage_of words)
-      (((got : Fetched) × (after ≡ before ++ fetched (file_of words) got ∷ []))
-      ⊎ (R × (after ≡ before))) (λ kind. after ≡ before)
-  fetch_told E R turn passed = by_words (usage_of words) passed
-    where
-      by_words : (u : Option UsageKind)
-          → MatchOption u (((got : Fetched) × (after ≡ before ++ fetched (file_of words) got ∷ []))
-          ⊎ (E × (after ≡ before))) (λ kind. after ≡ before)
-          → MatchOption u (((got : Fetched) × (after ≡ before ++ fetched (file_of words) got ∷ []))
-          ⊎ (R × (after ≡ before))) (λ kind. after ≡ before)
-      by_words None (inl fetch) = inl fetch
-      by_words None (inr other) = inr (turn other.0, other.1)
-      by_words (Some kind) unchanged = unchanged
+-- nothing was prepared: the input and the output are as they were
+module _ (files_tell input_tells : Bool) (words : List (List ℕ)) (old new : Files) (input : Input)
+    (output : Output) (outcome : Outcome) (fault : NoReport)
+    (ready : (let r : Result Prepared NoReport = Err fault in
+    ReadiesWords words files_tell old new r))
+    (none : answer_of outcome ≡ None)
+    (read_fault : outcome ≡ ReadFault → FailsToFetch old new ready.exchanges)
+    (write_fault : outcome ≡ WriteFault → FailsToStore old new ready.exchanges) where
+  silent_some : (Is : Answer → Type 0) → IfSome (answer_of outcome) Is
+  silent_some Is = subst (λ (o : Option Answer). IfSome o Is) (sym none) tt
 
-  -- a fetch that handed out nothing
-  pub failed_fetch : (R : Type 0) → usage_of words ≡ None
-      → after ≡ before ++ fetched (file_of words) nothing ∷ []
-      → MatchOption (usage_of words)
-      (((got : Fetched) × (after ≡ before ++ fetched (file_of words) got ∷ []))
-      ⊎ (R × (after ≡ before))) (λ kind. after ≡ before)
-  failed_fetch R none failed =
-      subst (λ (u : Option UsageKind). MatchOption u
-      (((got : Fetched) × (after ≡ before ++ fetched (file_of words) got ∷ []))
-      ⊎ (R × (after ≡ before))) (λ kind. after ≡ before)) (sym none) (inl (nothing, failed))
+  silent_none : (Is : Type 0) → Is → IfNone (answer_of outcome) Is
+  silent_none Is is = subst (λ (o : Option Answer). IfNone o Is) (sym none) is
 
-  -- no text is read of it
-  pub nothing_read : (text : List ℕ) → usage_of words ≡ None
-      → after ≡ before ++ fetched (file_of words) nothing ∷ [] → IsRead text → ⊥
-  nothing_read text none failed reads =
-      reads_none (file_of words) text before after (command_reads text none reads) failed
-
-  -- ---- a fault of the input
-
-  module _ (prepared : Prepared)
-      (found : (text : List ℕ) × Reads words text before after
-      × PreparesWords words text prepared) (s old new : List ℕ)
-      (is : IsSimulationWith (λ level design. WritesAllCycles design level s old new) prepared)
-    where
-      told_cycles : WritesCycles words found.0 s old new
-      told_cycles = cycles_told words found.0 s old new prepared found.2.simulates is
-
-      pub fault_told : usage_of words ≡ None
-      fault_told = told_cycles.simulates.is_command
-
-      pub prompt_told : (text : List ℕ) → IsRead text → WritesCycles words text s old new
-      prompt_told text reads =
-          subst (λ (t : List ℕ). WritesCycles words t s old new)
-          (reads_one (file_of words) found.0 text before after
-          (command_reads found.0 fault_told found.1) (command_reads text fault_told reads))
-          told_cycles
+  pub runs_silent : Runs files_tell input_tells words
+      (record { files = old; input = input; output = output })
+      (record { files = new; input = input; output = output }) outcome
+  runs_silent = record {
+    exchanges = ready.exchanges;
+    passed = ready.passed;
+    exchanged = ready.may;
+    answer = silent_some _;
+    whole_stimulus = λ tells. silent_some _;
+    to_the_end = λ goes_on taken more given. silent_some _;
+    front = silent_none _ (inl refl);
+    whole_front = λ tells. silent_none _ (inl refl);
+    silent = λ failed. refl;
+    read_fault = λ is. inl (read_fault is);
+    write_fault = λ is. inl (write_fault is);
+    input_unchanged = inl (untouched input);
+    most = few_taken input.given;
+  }

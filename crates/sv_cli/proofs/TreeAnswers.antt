@@ -31,8 +31,8 @@ use Rattle.sv_design.specs.Faults.{IsFaultOf}
 use Rattle.sv_walk.specs.Texts.{walk_of, value_in}
 use Rattle.sv_width.specs.Answers.{IsBreach}
 use Rattle.sv_flatten.specs.FlattenedTexts.{ReleasesNothing, EachItem}
-use Rattle.sv_cli.specs.Answer.{largest_file, is_unbuilt_item, has_unbuilt_item, StandsFor}
-use Rattle.sv_cli.specs.Answer.{BreaksFirst}
+use Rattle.sv_cli.specs.Texts.{largest_file, is_unbuilt_item, has_unbuilt_item, StandsFor}
+use Rattle.sv_cli.specs.Texts.{BreaksFirst}
 use Rattle.sv_cli.specs.Report.{IsFaultBy, BreaksAsTree, IsFlatOf}
 use Rattle.sv_cli.proofs.FewPairs.{few_pairs, few_maps}
 

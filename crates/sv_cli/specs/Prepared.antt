@@ -1,35 +1,51 @@
--- Private: how the code goes. What is prepared of a text before the stimulus is taken, as the code
--- holds it.
-use Rattle.std.specs.Prelude.{◌≡◌, ◌⊎◌, ℕ, List, Option, Some, None, IsSome, option_map}
-use Rattle.std.specs.Prelude.{string_bytes, ⊤, ◌++◌, ◌∷◌, [], ◌<◌, ◌≤◌, Bool, IsTrue, IfSome}
-use Rattle.std.specs.Prelude.{IfNone, decimal}
-use Rattle.sv_io.specs.Sink.{WritesFront}
+-- Private: how the code goes; the meaning stands in `Dialogues` and `Runs`. What is prepared of a
+-- text before the stimulus is taken, as the code holds it.
+use Rattle.std.specs.Prelude.{◌≡◌, ℕ, ◌⊎◌, ◌++◌, List, [], ◌∷◌, Bool, true, IsTrue, All, ⊤}
+use Rattle.std.specs.Prelude.{string_bytes}
+use Rattle.std.specs.Prelude.{Option, Some, None, IsSome, IfSome, IfNone, IfOk, IfErr, Result}
+use Rattle.std.specs.Prelude.{option_map}
 use Rattle.sv_flat.specs.Design.{FlatDesign}
 use Rattle.sv_flat.specs.Views.{design_of}
-use Rattle.sv_obl.specs.Limits.{Excess, excess}
+use Rattle.sv_io.specs.Exchange.{Exchange, Fetched, fetched, stored}
+use Rattle.sv_io.specs.Sink.{WritesFront}
+use Rattle.sv_io.specs.Traffic.{Files, Passed, IsFailed, FailsToFetch, FailsToStore}
+use Rattle.sv_obl.specs.Limits.{excess}
 use Rattle.sv_obl.specs.ListLines.{list_text}
 use Rattle.sv_obl.specs.Obligations.{Obligation}
-use Rattle.sv_gates.specs.Formulas.{most_variables}
+use Rattle.sv_encoding.specs.Deciding.{Fits}
 use Rattle.sv_encoding.specs.Encoding.{encoding}
 use Rattle.sv_encoding.specs.CnfText.{cnf_text}
 use Rattle.sv_blast.specs.Coded.{encoding_of}
-use Rattle.sv_words.specs.Words.{Request, request_of, usage_of}
-use Rattle.sv_simulate.specs.declared.endings.Ending.{Ending}
+use Rattle.sv_blast.specs.declared.coded.Coded.{Coded}
 use Rattle.sv_simulate.specs.Simulated.{IsSimulated}
+use Rattle.sv_simulate.specs.declared.endings.Ending.{Ending}
+use Rattle.sv_words.specs.Words.{Request, check, verify, list, cnf, sim, request_of, usage_of}
+use Rattle.sv_cli.specs.declared.prepared.NoReport.{NoReport}
+use Rattle.sv_cli.specs.declared.prepared.NoReport.TheVariants.{Unread, Unwritten, OutOfMemory}
 use Rattle.sv_cli.specs.declared.prepared.Prepared.{Prepared}
 use Rattle.sv_cli.specs.declared.prepared.Prepared.TheVariants.{Whole, Lines, Clauses}
 use Rattle.sv_cli.specs.declared.prepared.Prepared.TheVariants.{Simulation}
-use Rattle.sv_blast.specs.declared.coded.Coded.{Coded}
 use Rattle.sv_cli.specs.declared.report.Report.{Report}
-use Rattle.sv_cli.specs.Text.{limit_text}
-use Rattle.sv_cli.specs.Answer.{Answer, answer_of, answer_by, done, limit_exceeded, limit_number}
-use Rattle.sv_cli.specs.Answer.{obligation_at, limit_names, AreCircles, IsAnswerBy, IsAnswer, Simulates}
+use Rattle.sv_num.specs.declared.faults.Place.{Place}
+use Rattle.sv_report.specs.Text.{refusal_text}
+use Rattle.sv_cli.specs.Answer.{Answer, answer_of, done, rule_broken}
+use Rattle.sv_cli.specs.Checks.{Checks, MayStore}
+use Rattle.sv_cli.specs.Command.{top_in}
+use Rattle.sv_cli.specs.Dialogues.{IsDialogue, IsAnswer, OwnExchange, MayExchange, IsExchanged}
+use Rattle.sv_cli.specs.Limits.{ExceedsLimit}
+use Rattle.sv_cli.specs.Lists.{Encodes, obligation_at}
+use Rattle.sv_cli.specs.Runs.{MaySimulate}
+use Rattle.sv_cli.specs.Simulates.{answer_by}
+use Rattle.sv_cli.specs.Texts.{BreaksFirst, Passes}
+use Rattle.sv_cli.specs.Verifies.{Verifies, IsOversized, JudgesProof}
 
 -- what was accepted grew by all of the text but what is left
 pub record LeavesOf (old text left new : List ℕ) : Type 0 where
   pub front : List ℕ
   pub whole : text ≡ front ++ left
   pub accepted : new ≡ old ++ front
+
+-- ---- what is performed
 
 abbrev pub IsReady : Prepared → Type 0
 IsReady (Whole report) = IsSome (answer_of report.outcome)
@@ -64,8 +80,6 @@ pub record Performs (Is : (stimulus : List ℕ) → Answer → (printed : List �
       × Is stimulus a printed × (new ≡ old ++ printed))
   pub whole : IsTrue tells
       → IfSome given (λ a. (printed : List ℕ) × Is left a printed × (new ≡ old ++ printed))
-  pub only : (stimulus : List ℕ) (a : Answer) (printed : List ℕ) → Took stimulus
-      → Is stimulus a printed → IfSome given (λ b. b ≡ a)
   -- without an answer a front of the text was accepted
   pub front : IfNone given ((stimulus : List ℕ) × (a : Answer) × (printed : List ℕ)
       × Took stimulus × Is stimulus a printed × WritesFront old printed new)
@@ -89,61 +103,120 @@ IsOtherOrWith Holds (Clauses coded) = ⊤
 IsOtherOrWith Holds (Simulation design level order) =
     Holds (option_map string_bytes level) (design_of design)
 
--- What is made of it for a stimulus is an answer, and nothing else is but another circle. What it
--- simulates may be simulated.
+-- ---- what is prepared
+
+-- what is made of it for a stimulus is an answer, and what it simulates may be simulated
 pub record Prepares (Is : (stimulus : List ℕ) → Answer → (printed : List ℕ) → Type 0)
-    (MaySimulate : Option (List ℕ) → FlatDesign → Type 0) (prepared : Prepared) : Type 0 where
+    (May : Option (List ℕ) → FlatDesign → Type 0) (prepared : Prepared) : Type 0 where
   pub ready : IsReady prepared
-  pub simulates : IsOtherOrWith MaySimulate prepared
+  pub simulates : IsOtherOrWith May prepared
   pub stands : (stimulus : List ℕ) (answer : Answer) (printed : List ℕ)
       → IsPerformed prepared stimulus answer printed → Is stimulus answer printed
-  pub only : (stimulus : List ℕ) (other : Answer) (others : List ℕ) → Is stimulus other others
-      → (answer : Answer) × (printed : List ℕ) × IsPerformed prepared stimulus answer printed
-      × ((other ≡ answer) ⊎ AreCircles other answer)
 
--- of a text for a request
-abbrev pub PreparesFor : Request → (text : List ℕ) → Prepared → Type 0
-PreparesFor request text prepared =
-    Prepares (IsAnswerBy request text) (λ level design.
+-- the words are `sim` with the level, of a text that stands for the design
+abbrev pub MaySimulateDesign : (words : List (List ℕ)) → List Exchange → Option (List ℕ) →
+    FlatDesign → Type 0
+MaySimulateDesign words exchanges level design =
+    (may : MaySimulate words exchanges level) × (may.passes.design ≡ design)
+
+-- for a request, by what was exchanged
+abbrev pub PreparesFor : Request → List Exchange → Prepared → Type 0
+PreparesFor request exchanges prepared =
+    Prepares (IsDialogue request exchanges) (λ level design.
     (words : List (List ℕ)) → usage_of words ≡ None → request_of words ≡ Some request
-    → Simulates words text level design) prepared
+    → MaySimulateDesign words exchanges level design) prepared
 
--- of words, and of the text that is read for them
-abbrev pub PreparesWords : (words : List (List ℕ)) → (text : List ℕ) → Prepared → Type 0
-PreparesWords words text prepared =
-    Prepares (IsAnswer words text) (Simulates words text) prepared
+-- for the words
+abbrev pub PreparesWords : (words : List (List ℕ)) → List Exchange → Prepared → Type 0
+PreparesWords words exchanges prepared =
+    Prepares (IsAnswer words exchanges) (MaySimulateDesign words exchanges) prepared
 
--- the report tells of the first limit that the design exceeds
-pub record TellsLimit (design : FlatDesign) (report : Report) : Type 0 where
-  pub exceeded : Excess
-  pub first : excess design ≡ Some exceeded
-  pub answer : answer_of report.outcome
-      ≡ Some (limit_exceeded (limit_number exceeded) (limit_names design.signals exceeded))
-  pub text : report.text.items
-      ≡ limit_text (limit_number exceeded) (limit_names design.signals exceeded)
+-- why nothing is prepared, by what was exchanged
+abbrev pub Explains : (old new : Files) → List Exchange → NoReport → Type 0
+Explains old new exchanges Unread = FailsToFetch old new exchanges
+Explains old new exchanges Unwritten = FailsToStore old new exchanges
+Explains old new exchanges OutOfMemory = ⊤
+
+-- what was exchanged is what may be; what is made is what Makes says of it, and nothing of it
+-- failed; or it says why nothing is made
+pub record Readies {T : Type 0} (May : List Exchange → Type 0) (Makes : List Exchange → T → Type 0)
+    (tells : Bool) (old new : Files) (result : Result T NoReport) : Type 0 where
+  pub exchanges : List Exchange
+  pub passed : Passed tells old new exchanges
+  pub may : May exchanges
+  pub made : IfOk result (λ made.
+      Makes exchanges made × All (λ exchange. IsFailed exchange → ⊥) exchanges)
+  pub fault : IfErr result (Explains old new exchanges)
+
+abbrev pub ReadiesFor : Request → Bool → (old new : Files) → Result Prepared NoReport → Type 0
+ReadiesFor request = Readies (MayExchange request) (PreparesFor request)
+
+abbrev pub ReadiesWords : (words : List (List ℕ)) → Bool → (old new : Files) →
+    Result Prepared NoReport → Type 0
+ReadiesWords words = Readies (IsExchanged words) (PreparesWords words)
+
+-- ---- of a design
+
+-- the report has an answer, of which and of its text this holds
+abbrev pub Says : (Own : Answer → (printed : List ℕ) → Type 0) → Report → Type 0
+Says Own report =
+    (answer : Answer) × (answer_of report.outcome ≡ Some answer) × Own answer report.text.items
+
+-- it is such a report
+abbrev pub Reports : (Own : Answer → (printed : List ℕ) → Type 0) → Prepared → Type 0
+Reports Own (Whole report) = Says Own report
+Reports Own (Lines design) = ⊥
+Reports Own (Clauses coded) = ⊥
+Reports Own (Simulation design level order) = ⊥
+
+-- nothing more is exchanged, or what the command exchanges of its own where the design exceeds no
+-- limit
+abbrev pub MayOwn : Request → FlatDesign → List Exchange → Type 0
+MayOwn request design exchanges =
+    (exchanges ≡ []) ⊎ ((excess design ≡ None) × OwnExchange request design exchanges)
+
+-- the same of `check`, with the name that is asked for
+abbrev pub MayStoreOwn : (name : Option (List ℕ)) → FlatDesign → List Exchange → Type 0
+MayStoreOwn name design exchanges =
+    (exchanges ≡ []) ⊎ ((excess design ≡ None) × MayStore name design exchanges)
+
+-- and of `verify`
+abbrev pub MayFetchOwn : (proof : List ℕ) → FlatDesign → List Exchange → Type 0
+MayFetchOwn proof design exchanges =
+    (exchanges ≡ []) ⊎ ((excess design ≡ None)
+    × (got : Fetched) × (exchanges ≡ fetched proof got ∷ []))
+
+-- the bytes may be stored under the name, if one is asked for, or the store may fail
+abbrev pub MayStoreBytes : (name : Option (List ℕ)) → (bytes : List ℕ) → List Exchange → Type 0
+MayStoreBytes None bytes exchanges = exchanges ≡ []
+MayStoreBytes (Some name) bytes exchanges =
+    (exchanges ≡ []) ⊎ ((is_done : Bool) × (exchanges ≡ stored name bytes is_done ∷ []))
+
+-- they are stored
+abbrev pub StoresBytes : (name : Option (List ℕ)) → (bytes : List ℕ) → List Exchange → Type 0
+StoresBytes None bytes exchanges = exchanges ≡ []
+StoresBytes (Some name) bytes exchanges = exchanges ≡ stored name bytes true ∷ []
+
+-- it is the simulation of the design with this level and this order
+abbrev pub IsSimulationOf : FlatDesign → Option (List ℕ) → Option ℕ → Prepared → Type 0
+IsSimulationOf design level order (Whole report) = ⊥
+IsSimulationOf design level order (Lines listed) = ⊥
+IsSimulationOf design level order (Clauses coded) = ⊥
+IsSimulationOf design level order (Simulation simulated asked drawn) =
+    (design_of simulated ≡ design) × (option_map string_bytes asked ≡ level) × (drawn ≡ order)
+
+-- what `verify` answers for what the fetch of PROOF handed out
+abbrev pub VerifiesFetched : (proof : List ℕ) → FlatDesign → List Exchange → Answer → List ℕ →
+    Type 0
+VerifiesFetched proof design exchanges answer printed =
+    IsOversized proof exchanges answer printed ⊎ JudgesProof proof design exchanges answer printed
 
 -- what is prepared of an admitted design to list its obligations
 abbrev pub ListsDesign : FlatDesign → Prepared → Type 0
-ListsDesign design (Whole report) = TellsLimit design report
+ListsDesign design (Whole report) = Says (ExceedsLimit design) report
 ListsDesign design (Lines listed) = (design_of listed ≡ design) × (excess design ≡ None)
 ListsDesign design (Clauses coded) = ⊥
 ListsDesign design (Simulation simulated level order) = ⊥
-
--- the report tells that no obligation of the design has the number
-pub record TellsNone (design : FlatDesign) (asked : ℕ) (report : Report) : Type 0 where
-  pub few : excess design ≡ None
-  pub none : obligation_at design asked ≡ None
-  pub answer : answer_of report.outcome ≡ Some (limit_exceeded 706 [])
-  pub text : report.text.items ≡ limit_text 706 []
-
--- the report tells that the encoding of the obligation of this number has too many variables
-pub record TellsLarge (design : FlatDesign) (asked : ℕ) (report : Report) : Type 0 where
-  pub few : excess design ≡ None
-  pub obligation : Obligation
-  pub found : obligation_at design asked ≡ Some obligation
-  pub large : most_variables < (encoding design obligation).variables
-  pub answer : answer_of report.outcome ≡ Some (limit_exceeded 709 (decimal asked ∷ []))
-  pub text : report.text.items ≡ limit_text 709 (decimal asked ∷ [])
 
 -- they are the clauses of the obligation of this number
 pub record HoldsClauses (design : FlatDesign) (asked : ℕ) (coded : Coded) : Type 0 where
@@ -151,12 +224,46 @@ pub record HoldsClauses (design : FlatDesign) (asked : ℕ) (coded : Coded) : Ty
   pub obligation : Obligation
   pub found : obligation_at design asked ≡ Some obligation
   pub coded_is : encoding_of coded ≡ encoding design obligation
-  pub fits : coded.variables ≤ most_variables
+  pub fits : Fits design obligation
 
 -- what is prepared of an admitted design to print the clauses of its obligation of a number
 abbrev pub EncodesDesign : FlatDesign → (asked : ℕ) → Prepared → Type 0
-EncodesDesign design asked (Whole report) =
-    TellsLimit design report ⊎ (TellsNone design asked report ⊎ TellsLarge design asked report)
+EncodesDesign design asked (Whole report) = Says (Encodes asked design) report
 EncodesDesign design asked (Lines listed) = ⊥
 EncodesDesign design asked (Clauses coded) = HoldsClauses design asked coded
 EncodesDesign design asked (Simulation simulated level order) = ⊥
+
+-- what is prepared of a design for a command, by what it exchanged of its own
+abbrev pub PreparesOwn : Request → FlatDesign → List Exchange → Prepared → Type 0
+PreparesOwn (check file proof budget top) design exchanges prepared =
+    Reports (Checks proof budget design exchanges) prepared
+PreparesOwn (verify file proof top) design exchanges prepared =
+    Reports (Verifies proof design exchanges) prepared
+PreparesOwn (list file top) design exchanges prepared =
+    (exchanges ≡ []) × ListsDesign design prepared
+PreparesOwn (cnf file number top) design exchanges prepared =
+    (exchanges ≡ []) × EncodesDesign design number prepared
+PreparesOwn (sim file level order top) design exchanges prepared =
+    (exchanges ≡ []) × IsSimulationOf design level order prepared
+
+-- ---- of a text
+
+-- the report tells of the first rule that the text breaks
+abbrev pub TellsRule : (top : Option (List ℕ)) → (text : List ℕ) → Answer → List ℕ → Type 0
+TellsRule top text answer printed =
+    (number : ℕ) × (place : Place) × (names : List (List ℕ))
+    × BreaksFirst top text number place names × (answer ≡ rule_broken number place names)
+    × (printed ≡ refusal_text number place names)
+
+-- of a text within the limit: its first rule is told, or its design is prepared
+abbrev pub PreparesText : Request → (text : List ℕ) → List Exchange → Prepared → Type 0
+PreparesText request text exchanges prepared =
+    ((exchanges ≡ []) × Reports (TellsRule (top_in request) text) prepared)
+    ⊎ ((passes : Passes (top_in request) text)
+    × PreparesOwn request passes.design exchanges prepared)
+
+-- nothing more is exchanged, or what the command exchanges of its own for the text's design
+abbrev pub MayExchangeFor : Request → (text : List ℕ) → List Exchange → Type 0
+MayExchangeFor request text exchanges =
+    (exchanges ≡ []) ⊎ ((passes : Passes (top_in request) text) × (excess passes.design ≡ None)
+    × OwnExchange request passes.design exchanges)

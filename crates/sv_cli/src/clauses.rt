@@ -1,7 +1,7 @@
 // What `cnf` writes: the clauses of an obligation, or why there are none.
 ghost use Rattle.std.specs.Prelude.{◌≡◌, ◌≤◌, ◌<◌, ◌+◌, ◌++◌, ◌∷◌, [], Some, None, length};
 ghost use Rattle.std.specs.Prelude.{IfOk, IfSome, OnOk, OnErr, IsErrOf, slice_get, flat_map};
-ghost use Rattle.std.specs.Prelude.{decimal, option_map};
+ghost use Rattle.std.specs.Prelude.{option_map};
 ghost use Rattle.sv_flat.specs.Views.{design_of};
 ghost use Rattle.sv_io.specs.Count.{Rose};
 ghost use Rattle.sv_io.specs.Sink.{WritesFront};
@@ -12,21 +12,19 @@ ghost use Rattle.sv_obl.specs.Obligations.{obligations};
 ghost use Rattle.sv_obl.specs.Views.{obligation_of};
 ghost use Rattle.sv_encoding.specs.CnfText.{clause_line, problem_line, cnf_text};
 ghost use Rattle.sv_blast.specs.Coded.{encoding_of};
-ghost use Rattle.sv_cli.specs.Answer.{answer_of, limit_exceeded, obligation_at};
 ghost use Rattle.sv_cli.specs.Clauses.{IsFoundOrNext};
+ghost use Rattle.sv_cli.specs.Lists.{obligation_at};
 ghost use Rattle.sv_cli.specs.Prepared.{EncodesDesign};
-ghost use Rattle.sv_cli.specs.Text.{limit_text};
 
 use crate::listing::report_of_fault;
 use crate::prepared::Prepared;
-use crate::report::{Report, report_of_limit};
+use crate::report::{report_of_bare_limit, report_of_large};
 use std::alloc::{AllocError, Global};
 use sv_blast::{BlastFault, Coded, clause_lines, encode, problem_line};
 use sv_clause::Clause;
 use sv_design::Design;
 use sv_flat::SigId;
 use sv_io::{PutFault, Sink, put_all};
-use sv_num::Name;
 use sv_obl::{Listing, Query, check_limits};
 
 // The clauses of one piece of the text: so many of at most three literals take less than 64 KiB.
@@ -53,7 +51,7 @@ fn clauses_of_number(alloc: Global, design: &Design, number: u32) -> Result<Prep
 {
     match query_of_number(alloc, design, number)? {
         Some(query) => clauses_of_query(alloc, design, number, &query),
-        None => Ok(Prepared::Whole(report_of_none(alloc)?)),
+        None => Ok(Prepared::Whole(report_of_bare_limit(alloc, 706)?)),
     }
 }
 
@@ -74,26 +72,6 @@ fn clauses_of_query(
         Err(BlastFault::TooLarge) => Ok(Prepared::Whole(report_of_large(alloc, number)?)),
         Err(BlastFault::OutOfMemory) => Err(AllocError),
     }
-}
-
-// The report that no obligation has the number.
-fn report_of_none(alloc: Global) -> Result<Report, AllocError>
-    ensures answer { IfOk result
-        (λ report. answer_of report.outcome ≡ Some (limit_exceeded 706 [])) }
-    ensures text { IfOk result (λ report. report.text.items ≡ limit_text 706 []) }
-{
-    report_of_limit(alloc, 706, Vec::new(alloc))
-}
-
-// The report that the obligation of this number takes too many variables.
-fn report_of_large(alloc: Global, number: u32) -> Result<Report, AllocError>
-    ensures answer { IfOk result (λ report. answer_of report.outcome
-        ≡ Some (limit_exceeded 709 (decimal number ∷ []))) }
-    ensures text { IfOk result (λ report.
-        report.text.items ≡ limit_text 709 (decimal number ∷ [])) }
-{
-    let name = Name::new(alloc, format!(in alloc; "{number}")?.as_bytes())?;
-    report_of_limit(alloc, 709, vec![in alloc; name]?)
 }
 
 // The obligation of this number, if there is one.

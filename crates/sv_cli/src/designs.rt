@@ -6,9 +6,9 @@ ghost use Rattle.sv_ast.specs.Views.{item_tree, text_tree};
 ghost use Rattle.sv_flat.specs.Admission.{IsAdmitted, IsRefused};
 ghost use Rattle.sv_flat.specs.Soundness.{sound};
 ghost use Rattle.sv_flat.specs.Views.{design_of};
-ghost use Rattle.sv_cli.specs.Answer.{largest_file, is_unbuilt_item, has_unbuilt_item};
-ghost use Rattle.sv_cli.specs.Answer.{BreaksFirst, StandsFor};
 ghost use Rattle.sv_cli.specs.Report.{IsFaultBy, BreaksAsTree, IsFlatOf};
+ghost use Rattle.sv_cli.specs.Texts.{largest_file, is_unbuilt_item, has_unbuilt_item};
+ghost use Rattle.sv_cli.specs.Texts.{BreaksFirst, StandsFor};
 ghost use Rattle.std.specs.Option.{option_copied};
 
 use std::alloc::Global;
@@ -49,8 +49,8 @@ fn is_unbuilt_item(item: &Item) -> bool
     )
 }
 
-/// What is told of a text with an item, or of a form, that is not built.
-pub fn unbuilt_form(alloc: Global) -> Refusal
+// What is told of a text with an item that is not built.
+fn unbuilt_item(alloc: Global) -> Refusal
     ensures number { result.number ≡ 199 }
     ensures place { result.place ≡ record { line = 1; column = 1 } }
     ensures names { result.names.items ≡ [] }
@@ -75,7 +75,7 @@ fn flat_of_tree(alloc: Global, text: &Text, top: Option<&str>) -> Result<Flat, F
     ensures sound { IfOk result (λ flat. IsTrue (sound (design_of flat))) }
 {
     if has_unbuilt_item(text) {
-        return Err(Fault::Rule(unbuilt_form(alloc)));
+        return Err(Fault::Rule(unbuilt_item(alloc)));
     }
     elaborate(alloc, text, top)
 }

@@ -1,42 +1,62 @@
-// What follows from the meaning of texts, as contracts of functions that do nothing.
-ghost use Rattle.std.specs.Prelude.{◌≡◌, ◌↔◌, ◌⊎◌, ℕ, List, Option, IsTrue};
-ghost use Rattle.sv_cli.specs.Answer.{Answer, IsVerdict, IsListing, IsEncoding, AreCircles};
-ghost use Rattle.sv_first_ast.specs.Form.{is_first_form};
-ghost use Rattle.sv_first_ast.specs.Obligations.{Obligation, Values, flow_holds, Falsifies};
-ghost use Rattle.sv_first_ast.specs.Spelling.{is_shaped};
-ghost use Rattle.sv_first_ast.specs.Tree.{ModuleTree};
+// What follows from the meaning of texts and from the definitions of what `run` does, as contracts of
+// functions that do nothing.
+ghost use Rattle.std.specs.Prelude.{◌≡◌, ◌∷◌, ℕ, List, Option, []};
+ghost use Rattle.sv_flat.specs.Design.{FlatDesign};
+ghost use Rattle.sv_io.specs.Exchange.{Exchange, fetched, whole};
+ghost use Rattle.sv_obl.specs.Validity.{AllValid};
+ghost use Rattle.sv_obl.specs.declared.valuations.Valuation.{Valuation as Listed};
+ghost use Rattle.sv_judge.specs.Verdicts.{IsAccepted, IsFalsified};
+ghost use Rattle.sv_words.specs.Words.{Request};
+ghost use Rattle.sv_cli.specs.Answer.{Answer, done};
+ghost use Rattle.sv_cli.specs.Checks.{IsCertificate};
+ghost use Rattle.sv_cli.specs.Command.{file_in, top_in, Claims};
+ghost use Rattle.sv_cli.specs.Dialogues.{IsDialogue};
+ghost use Rattle.sv_cli.specs.Texts.{Passes, KeepsSecrets};
+ghost use Rattle.sv_cli.specs.Uniqueness.{IsSure, HasOneAnswer};
+ghost use Rattle.sv_cli.specs.Verifies.{Judges};
 
-/// The labels of an obligation's reads flow to its target's exactly where no values falsify the
-/// obligation.
-pub fn flow_holds_where_nothing_falsifies_it()
-    ensures { (m : ModuleTree) → IsTrue (is_shaped m) → IsTrue (is_first_form m) →
-        (o : Obligation) →
-        IsTrue (flow_holds m o) ↔ ((v : Values) → Falsifies m v o → ⊥) }
-{}
+use sv_clause::refuted_has_no_solution;
+use sv_encoding_laws::unmet_clauses_mean_valid;
+use sv_text_laws::each_stimulus_of_a_text_has_one_text;
 
-/// Each text has a verdict for each top, and no other, with one text that is printed for it, but
-/// those that name another circle.
-pub fn each_text_has_one_verdict()
-    ensures { (top : Option (List ℕ)) (text : List ℕ) →
-        (answer : Answer) × (printed : List ℕ) × IsVerdict top text answer printed
-        × ((other : Answer) (others : List ℕ) → IsVerdict top text other others →
-        ((other ≡ answer) × (others ≡ printed)) ⊎ AreCircles other answer) }
-{}
+/// Words, files and a stimulus have one right answer, with one text that is printed for it, but
+/// for another circle of rule 607: of every command but `check`.
+pub fn each_dialogue_has_one_answer()
+    ensures { (request : Request) → IsSure request → HasOneAnswer request }
+{
+    each_stimulus_of_a_text_has_one_text();
+}
 
-/// Each text has an answer to `list` for each top, and no other, with one text that is printed for
-/// it, but those that name another circle.
-pub fn each_text_has_one_list()
-    ensures { (top : Option (List ℕ)) (text : List ℕ) →
-        (answer : Answer) × (printed : List ℕ) × IsListing top text answer printed
-        × ((other : Answer) (others : List ℕ) → IsListing top text other others →
-        ((other ≡ answer) × (others ≡ printed)) ⊎ AreCircles other answer) }
-{}
+/// Of `check` what is free is the valuation that is printed, and whether a budget is spent: a text
+/// that is accepted has valid obligations alone, and one of which a valuation is printed has an
+/// obligation that it falsifies. So no text has both verdicts.
+pub fn no_text_is_accepted_and_falsified()
+    ensures accepted { (top : Option (List ℕ)) (text : List ℕ) (passes : Passes top text) (count : ℕ)
+        → IsAccepted passes.design count → AllValid [] passes.design }
+    ensures apart { (top : Option (List ℕ)) (text : List ℕ) (passes : Passes top text)
+        (count budget number : ℕ) (v : Listed)
+        → IsAccepted passes.design count → IsFalsified passes.design budget number v → ⊥ }
+{
+    refuted_has_no_solution();
+    unmet_clauses_mean_valid();
+}
 
-/// Each text has an answer to `cnf` for each number and top, and no other, with one text that is
-/// printed for it, but those that name another circle.
-pub fn each_text_has_one_encoding()
-    ensures { (asked : ℕ) (top : Option (List ℕ)) (text : List ℕ) →
-        (answer : Answer) × (printed : List ℕ) × IsEncoding asked top text answer printed
-        × ((other : Answer) (others : List ℕ) → IsEncoding asked top text other others →
-        ((other ≡ answer) × (others ≡ printed)) ⊎ AreCircles other answer) }
+/// Where `check` or `verify` accepts, the text that the fetch of FILE handed out keeps its secrets.
+pub fn accepted_texts_keep_secrets()
+    ensures { (request : Request) (exchanges : List Exchange) (stimulus printed : List ℕ)
+        → Claims request → IsDialogue request exchanges stimulus done printed
+        → (text : List ℕ) × (rest : List Exchange)
+        × (exchanges ≡ fetched (file_in request) (whole text) ∷ rest)
+        × KeepsSecrets (top_in request) text }
+{
+    refuted_has_no_solution();
+    unmet_clauses_mean_valid();
+}
+
+/// A certificate that `check` may store for an accepted text, of a size that `verify` reads, is one
+/// that `verify` accepts.
+pub fn stored_certificates_are_accepted()
+    ensures { (design : FlatDesign) (count : ℕ) (bytes : List ℕ) → IsAccepted design count
+        → IsCertificate design bytes → (answer : Answer) (printed : List ℕ)
+        → Judges design bytes answer printed → answer ≡ done }
 {}

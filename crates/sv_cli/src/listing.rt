@@ -8,7 +8,8 @@ ghost use Rattle.sv_obl.specs.Answers.{Told};
 ghost use Rattle.sv_obl.specs.Limits.{excess};
 ghost use Rattle.sv_obl.specs.ListLines.{name_of, list_text};
 ghost use Rattle.sv_obl.specs.ListParts.{IsAt, lines_left};
-ghost use Rattle.sv_cli.specs.Prepared.{LeavesOf, ListsDesign, TellsLimit};
+ghost use Rattle.sv_cli.specs.Limits.{ExceedsLimit};
+ghost use Rattle.sv_cli.specs.Prepared.{LeavesOf, ListsDesign, Says};
 
 use crate::prepared::Prepared;
 use crate::report::{Report, report_of_limit};
@@ -36,7 +37,7 @@ pub fn report_of_fault(
     fault: OblFault,
 ) -> Result<Report, AllocError>
     requires { Told (excess (design_of design.now)) fault }
-    ensures { IfOk result (TellsLimit (design_of design.now)) }
+    ensures { IfOk result (Says (ExceedsLimit (design_of design.now))) }
 {
     match fault {
         OblFault::Paths(target) => report_of_limit(alloc, 702, name_alone(alloc, design, target)?),

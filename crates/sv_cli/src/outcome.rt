@@ -2,48 +2,25 @@
 ghost use Rattle.std.specs.Prelude.{◌≡◌};
 ghost use Rattle.sv_cli.specs.Answer.{status_of};
 
-use sv_num::{Name, Refusal};
-use sv_obl::Valuation;
-use sv_trace::StimKind;
+use sv_judge::Spent;
+use sv_report::Broken;
 use sv_words::UsageKind;
-
-/// Where a stimulus comes from.
-#[derive(Clone, Copy, Debug, PartialEq, Eq)]
-pub enum StimSource {
-    /// The input.
-    Input,
-    /// The first of two files.
-    FileA,
-    /// The second of two files.
-    FileB,
-}
-
-/// Why a text is refused.
-#[derive(Debug, Drop)]
-pub enum Broken {
-    /// The text breaks a rule.
-    Rule(Refusal),
-    /// A limit is exceeded: the rule's number and its names.
-    Limit(u16, Vec<Name>),
-    /// The obligation of this number, from 1, fails at these values.
-    Fails(u32, Valuation),
-    /// The line of this number, from 1, is the first wrong one of the stimulus.
-    Stimulus(StimSource, u64, StimKind),
-}
 
 /// What `run` comes to.
 #[derive(Debug, Drop)]
 pub enum Outcome {
-    /// The text is accepted, its obligations are listed, the clauses of one are printed, or its
-    /// design is simulated.
+    /// The text is accepted, or its certificate; or its obligations are listed, the clauses of one
+    /// are printed, or its design is simulated.
     Done,
-    /// The text or the stimulus is refused.
+    /// The text, its certificate or the stimulus is refused.
     Refused(Broken),
     /// The words are no command.
     Usage(UsageKind),
-    /// The file or the input could not be read.
+    /// No obligation is falsified, and the budget is spent on this one, the first such.
+    Unknown(Spent),
+    /// A file or the input could not be read.
     ReadFault,
-    /// The output could not be written.
+    /// The output could not be written, or the certificate not be stored.
     WriteFault,
     /// Memory ran out.
     OutOfMemory,
@@ -58,6 +35,7 @@ impl Outcome {
             Outcome::Done => 0,
             Outcome::Refused(_) => 1,
             Outcome::Usage(_) => 2,
+            Outcome::Unknown(_) => 3,
             Outcome::ReadFault => 4,
             Outcome::WriteFault => 5,
             Outcome::OutOfMemory => 6,

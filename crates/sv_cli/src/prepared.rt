@@ -1,20 +1,24 @@
 // What a command makes of a text before any stimulus is taken.
-ghost use Rattle.std.specs.Prelude.{◌≡◌, ℕ, ◌<◌, ◌≤◌, List, IfOk, length};
+ghost use Rattle.std.specs.Prelude.{◌≡◌, ◌≤◌, length};
 ghost use Rattle.std.specs.Option.{option_copied};
-ghost use Rattle.sv_flat.specs.Admission.{IsAdmitted};
 ghost use Rattle.sv_flat.specs.Views.{design_of};
-ghost use Rattle.sv_words.specs.Words.{Request, plain};
-ghost use Rattle.sv_cli.specs.Answer.{largest_file, StandsFor};
+ghost use Rattle.sv_io.specs.Traffic.{files_by};
+ghost use Rattle.sv_words.specs.Words.{plain, HasBudget};
 ghost use Rattle.sv_cli.specs.Command.{file_in, top_in};
-ghost use Rattle.sv_cli.specs.Prepared.{PreparesFor};
+ghost use Rattle.sv_cli.specs.Prepared.{Readies, MayOwn, MayExchangeFor};
+ghost use Rattle.sv_cli.specs.Prepared.{PreparesOwn, PreparesText};
+ghost use Rattle.sv_cli.specs.Texts.{largest_file};
 
+use crate::checking::check_design;
 use crate::clauses::clauses_of_design;
 use crate::designs::design_of_text;
 use crate::listing::lines_of_design;
-use crate::report::{Report, report_of_large_file, report_of_refusal, report_on_form};
+use crate::report::{Report, report_of_refusal};
+use crate::verifying::verify_design;
 use std::alloc::{AllocError, Global};
 use sv_blast::Coded;
 use sv_design::Design;
+use sv_io::Cabinet;
 use sv_num::Fault;
 use sv_words::Command;
 
@@ -31,12 +35,32 @@ pub enum Prepared {
     Simulation(Design, Option<String>, Option<u64>),
 }
 
+/// Why nothing is prepared: a file could not be read, the certificate could not be stored, or memory
+/// ran out.
+#[derive(Clone, Copy, Debug)]
+pub enum NoReport {
+    Unread,
+    Unwritten,
+    OutOfMemory,
+}
+
+impl From<AllocError> for NoReport {
+    ghost use Rattle.sv_cli.specs.declared.prepared.NoReport.TheVariants.{OutOfMemory};
+
+    ghost from_gives = { λ _ fault. fault ≡ OutOfMemory };
+
+    fn from(_error: AllocError) -> NoReport {
+        NoReport::OutOfMemory
+    }
+}
+
 /// FILE of a command.
 pub fn file_in(command: &Command) -> &str
     ensures { result.now ≡ file_in (plain command.now) }
 {
     match command {
         Command::Check { file, .. } => file.as_str(),
+        Command::Verify { file, .. } => file.as_str(),
         Command::List { file, .. } => file.as_str(),
         Command::Cnf { file, .. } => file.as_str(),
         Command::Sim { file, .. } => file.as_str(),
@@ -49,52 +73,54 @@ fn top_in(command: &Command) -> Option<&str>
 {
     match command {
         Command::Check { top, .. } => top.as_deref(),
+        Command::Verify { top, .. } => top.as_deref(),
         Command::List { top, .. } => top.as_deref(),
         Command::Cnf { top, .. } => top.as_deref(),
         Command::Sim { top, .. } => top.as_deref(),
     }
 }
 
-/// What is prepared of a text within the limit.
-pub fn prepare_text(alloc: Global, command: Command, bytes: &[u8]) -> Result<Prepared, AllocError>
-    requires { length bytes.now ≤ largest_file }
-    ensures { IfOk result (PreparesFor (plain command) bytes.now) }
-{
-    match design_of_text(alloc, bytes, top_in(&command)) {
-        Ok(design) => prepare_design(alloc, command, bytes, design),
-        Err(Fault::Rule(refusal)) => Ok(Prepared::Whole(report_of_refusal(alloc, refusal)?)),
-        Err(Fault::OutOfMemory) => Err(AllocError),
-    }
-}
-
-/// What is prepared of a text that is larger than the largest file, for every command.
-pub fn prepare_large(alloc: Global) -> Result<Prepared, AllocError>
-    ensures { IfOk result
-        (λ prepared. (request : Request) (text : List ℕ) → largest_file < length text →
-        PreparesFor request text prepared) }
-{
-    Ok(Prepared::Whole(report_of_large_file(alloc)?))
-}
-
-// What is prepared of a text that breaks no rule, and of the design that it stands for.
-fn prepare_design(
+/// What is prepared of a text within the limit that the fetch of FILE handed out.
+pub fn prepare_text<C: Cabinet>(
     alloc: Global,
     command: Command,
     bytes: &[u8],
-    design: Design,
-) -> Result<Prepared, AllocError>
+    cabinet: &mut C,
+) -> Result<Prepared, NoReport>
     requires within { length bytes.now ≤ largest_file }
-    requires stands { StandsFor (top_in (plain command)) bytes.now (design_of design) }
-    requires admitted { IsAdmitted (design_of design) }
-    ensures { IfOk result (PreparesFor (plain command) bytes.now) }
+    requires budget { HasBudget (plain command) }
+    ensures { Readies (MayExchangeFor (plain command) bytes.now)
+        (PreparesText (plain command) bytes.now) C.tells
+        (files_by C.exchanges C.held C.fetch_faults C.store_faults cabinet.old)
+        (files_by C.exchanges C.held C.fetch_faults C.store_faults cabinet.new) result }
+{
+    match design_of_text(alloc, bytes, top_in(&command)) {
+        Ok(design) => prepare_design(alloc, command, design, cabinet),
+        Err(Fault::Rule(refusal)) => Ok(Prepared::Whole(report_of_refusal(alloc, refusal)?)),
+        Err(Fault::OutOfMemory) => Err(NoReport::OutOfMemory),
+    }
+}
+
+// What is prepared of the design that a text stands for which breaks no rule.
+fn prepare_design<C: Cabinet>(
+    alloc: Global,
+    command: Command,
+    design: Design,
+    cabinet: &mut C,
+) -> Result<Prepared, NoReport>
+    requires budget { HasBudget (plain command) }
+    ensures { Readies (MayOwn (plain command) (design_of design))
+        (PreparesOwn (plain command) (design_of design)) C.tells
+        (files_by C.exchanges C.held C.fetch_faults C.store_faults cabinet.old)
+        (files_by C.exchanges C.held C.fetch_faults C.store_faults cabinet.new) result }
 {
     match command {
-        Command::Check { top, .. } => {
-            let report = report_on_form(alloc, bytes, top.as_deref())?;
-            Ok(Prepared::Whole(report))
+        Command::Check { proof, budget, .. } => {
+            check_design(alloc, &design, proof.as_deref(), budget, cabinet)
         }
-        Command::List { .. } => lines_of_design(alloc, design),
-        Command::Cnf { number, .. } => clauses_of_design(alloc, &design, number),
+        Command::Verify { proof, .. } => verify_design(alloc, &design, &proof, cabinet),
+        Command::List { .. } => Ok(lines_of_design(alloc, design)?),
+        Command::Cnf { number, .. } => Ok(clauses_of_design(alloc, &design, number)?),
         Command::Sim { level, order, .. } => Ok(Prepared::Simulation(design, level, order)),
     }
 }

@@ -6,13 +6,15 @@ ghost use Rattle.sv_flat.specs.Views.{design_of};
 ghost use Rattle.sv_io.specs.Count.{Rose};
 ghost use Rattle.sv_io.specs.Source.{WhateverFollows};
 ghost use Rattle.sv_simulate.specs.Simulated.{largest_stimulus, level_asked, WritesAllCycles};
-ghost use Rattle.sv_cli.specs.Answer.{answer_of, answer_by};
+ghost use Rattle.sv_cli.specs.Answer.{answer_of};
 ghost use Rattle.sv_cli.specs.Prepared.{EndsAs, Performs};
+ghost use Rattle.sv_cli.specs.Simulates.{answer_by};
 
-use crate::outcome::{Broken, Outcome, StimSource};
+use crate::outcome::Outcome;
 use std::alloc::Global;
 use sv_design::Design;
 use sv_io::{Sink, Source};
+use sv_report::{Broken, StimSource};
 use sv_simulate::{Ending, SimFault, simulate};
 
 /// Simulates the design on the input, for a level or for all, and says how that ends.

@@ -2,7 +2,7 @@
 use Rattle.std.proofs.Common.{◌≡◌, [], ◌∷◌, Some, None, codes, refl}
 use Rattle.clap.proofs.OnLiterals.{clap_on_literals}
 use Rattle.sv_words.specs.Lines.{found_in, is_read, line_of}
-use Rattle.sv_words.specs.Words.{check, cnf, help_asked, list, request_of, sim, usage_of}
+use Rattle.sv_words.specs.Words.{check, cnf, help_asked, list, request_of, sim, usage_of, verify}
 use Rattle.sv_words.specs.declared.command.CommandName.TheVariants.{Check}
 use Rattle.sv_words.specs.declared.command.UsageKind.TheVariants.{NoCommand, UnknownCommand, Words}
 
@@ -14,7 +14,7 @@ unknown = refl
 
 -- the empty name after `--top=`
 empty_top : request_of (codes "check" ∷ codes "f" ∷ codes "--top=" ∷ [])
-    ≡ Some (check (codes "f") (Some []))
+    ≡ Some (check (codes "f") None 20000 (Some []))
 unfolding found_in line_of clap_on_literals
 empty_top = refl
 
@@ -24,13 +24,82 @@ empty_top_is_right = refl
 
 -- after `--` no word is an option
 past_options : request_of (codes "check" ∷ codes "--" ∷ codes "--top" ∷ [])
-    ≡ Some (check (codes "--top") None)
+    ≡ Some (check (codes "--top") None 20000 None)
 unfolding found_in line_of clap_on_literals
 past_options = refl
 
 past_options_is_right : usage_of (codes "check" ∷ codes "--" ∷ codes "--top" ∷ []) ≡ None
 unfolding is_read line_of clap_on_literals
 past_options_is_right = refl
+
+-- a certificate to store and a budget, before FILE and behind it
+budgeted : request_of (codes "check" ∷ codes "--budget" ∷ codes "+07" ∷ codes "f"
+    ∷ codes "--proof=-x" ∷ [])
+    ≡ Some (check (codes "f") (Some (codes "-x")) 7 None)
+unfolding found_in line_of clap_on_literals
+budgeted = refl
+
+budgeted_is_right : usage_of (codes "check" ∷ codes "--budget" ∷ codes "+07" ∷ codes "f"
+    ∷ codes "--proof=-x" ∷ []) ≡ None
+unfolding is_read line_of clap_on_literals
+budgeted_is_right = refl
+
+-- the bounds of a budget
+least_budget : usage_of (codes "check" ∷ codes "f" ∷ codes "--budget=1" ∷ []) ≡ None
+unfolding is_read line_of clap_on_literals
+least_budget = refl
+
+most_budget : usage_of (codes "check" ∷ codes "f" ∷ codes "--budget=4000000000" ∷ []) ≡ None
+unfolding is_read line_of clap_on_literals
+most_budget = refl
+
+no_budget : usage_of (codes "check" ∷ codes "f" ∷ codes "--budget=0" ∷ []) ≡ Some Words
+unfolding is_read line_of clap_on_literals
+no_budget = refl
+
+too_large_a_budget : usage_of (codes "check" ∷ codes "f" ∷ codes "--budget=4000000001" ∷ [])
+    ≡ Some Words
+unfolding is_read line_of clap_on_literals
+too_large_a_budget = refl
+
+minus_budget : usage_of (codes "check" ∷ codes "f" ∷ codes "--budget=-0" ∷ []) ≡ Some Words
+unfolding is_read line_of clap_on_literals
+minus_budget = refl
+
+two_budgets : usage_of (codes "check" ∷ codes "f" ∷ codes "--budget" ∷ codes "5"
+    ∷ codes "--budget" ∷ codes "6" ∷ []) ≡ Some Words
+unfolding is_read line_of clap_on_literals
+two_budgets = refl
+
+-- a text and its certificate
+certified : request_of (codes "verify" ∷ codes "f" ∷ codes "--top=m" ∷ codes "g" ∷ [])
+    ≡ Some (verify (codes "f") (codes "g") (Some (codes "m")))
+unfolding found_in line_of clap_on_literals
+certified = refl
+
+certified_is_right : usage_of (codes "verify" ∷ codes "f" ∷ codes "--top=m" ∷ codes "g" ∷ [])
+    ≡ None
+unfolding is_read line_of clap_on_literals
+certified_is_right = refl
+
+no_certificate : usage_of (codes "verify" ∷ codes "f" ∷ []) ≡ Some Words
+unfolding is_read line_of clap_on_literals
+no_certificate = refl
+
+-- the certificate of `verify` stands alone, and it has no budget
+no_option : usage_of (codes "verify" ∷ codes "f" ∷ codes "--proof" ∷ codes "g" ∷ []) ≡ Some Words
+unfolding is_read line_of clap_on_literals
+no_option = refl
+
+budget_of_verify : usage_of (codes "verify" ∷ codes "f" ∷ codes "g" ∷ codes "--budget=5" ∷ [])
+    ≡ Some Words
+unfolding is_read line_of clap_on_literals
+budget_of_verify = refl
+
+-- verdicts have one form
+no_json : usage_of (codes "check" ∷ codes "f" ∷ codes "--json" ∷ []) ≡ Some Words
+unfolding is_read line_of clap_on_literals
+no_json = refl
 
 -- a number may have a `+` and zeros before it, and `-` alone is a name
 numbered : request_of (codes "sim" ∷ codes "--order" ∷ codes "+07" ∷ codes "-" ∷ [])

@@ -1,16 +1,20 @@
 -- How the numbers in words are read.
 use Rattle.std.proofs.Common.{◌≡◌, ◌∙◌, ◌<◌, ◌^◌, ◌==◌, ℕ, Bool, true, false, List, [], ◌∷◌}
 use Rattle.std.proofs.Common.{Option, Some, None, refl, sym, ap, subst, arith, cond, drop, ne_eqb}
-use Rattle.std.specs.Prelude.{Result, Ok, Err, pos, unwrap_or}
+use Rattle.std.specs.Prelude.{Result, Ok, Err, pos, unwrap_or, option_map, option_and_then}
+use Rattle.std.specs.Prelude.{slice_get}
+use Rattle.std.specs.Borrow.{Bor}
 use Rattle.std.specs.Str.Parse.{IsNumeral, ParsesUnsigned, digits_value, starts_with_minus}
 use Rattle.std.specs.Str.Parse.{without_leading_plus}
 use Rattle.std.proofs.lemmas.Int.{ints}
 use Rattle.std.proofs.lemmas.Str.Parse.{digit_from_value}
 use Rattle.clap.specs.Lexer.{without_minus}
-use Rattle.clap.specs.Matches.{ReadsOne}
-use Rattle.clap.specs.Values.{IsSignedIn}
-use Rattle.sv_words.specs.Lines.{greatest_small}
-use Rattle.sv_words.specs.Words.{number_of}
+use Rattle.clap.specs.Matches.{ReadsOne, first_value, matched_of, one_text}
+use Rattle.clap.specs.Values.{IsSignedIn, read_as}
+use Rattle.clap.specs.declared.parser.matches.Found.{Found}
+use Rattle.clap.specs.declared.parser.matches.MatchedArg.{MatchedArg}
+use Rattle.sv_words.specs.Lines.{greatest_budget, greatest_small}
+use Rattle.sv_words.specs.Words.{IsBudget, budget_of, default_budget, number_of}
 
 -- a numeral begins with no minus
 no_minus : (ds : List ℕ) → IsNumeral 10 (without_leading_plus ds) → starts_with_minus ds ≡ false
@@ -79,3 +83,68 @@ small_number E G t r read only passed =
         let high_ok = rw minus at passed.3 in
         let numeral = rw minus at passed.0 in
         absurd (only t (Err h.0) (rw minus at h.1) (numeral, omega (arith, ints)))
+
+-- ---- budgets
+
+within_small : (t : List ℕ) → IsSignedIn (pos 1) (pos greatest_budget) t
+    → IsSignedIn (pos 0) (pos greatest_small) t
+within_small t h =
+    let low = h.2 in
+    let high = h.3 in
+    (h.0, h.1, omega (arith, ints), omega (arith, ints))
+
+within_budget : (t : List ℕ) → IsSignedIn (pos 1) (pos greatest_budget) t
+    → IsBudget (number_of t)
+within_budget t passed = go (starts_with_minus t) refl
+  where
+    go : (b : Bool) → starts_with_minus t ≡ b → IsBudget (number_of t)
+    go true minus =
+        let low = rw minus at passed.2 in
+        absurd (omega (arith, ints))
+    go false minus =
+        let low = rw minus at passed.2 in
+        let high = rw minus at passed.3 in
+        let same : number_of t ≡ digits_value 10 (without_leading_plus t) =
+        ap (λ (b : Bool). digits_value 10 (cond b (drop 1 t) (without_leading_plus t))) minus in
+        (omega (arith, ints), omega (arith, ints))
+
+-- an argument that is not there is not read
+no_value : (a : MatchedArg) (o : Option (Bor (List ℕ)))
+    → option_map (λ (s : Bor (List ℕ)). s.now) o ≡ None
+    → option_map (λ (s : Bor (List ℕ)). read_as a.reading s.now) o ≡ None
+no_value a None none = refl
+no_value a (Some s) none = absurd cc
+
+not_read : (f : Found) (id : List ℕ) → first_value f id ≡ None → one_text f id ≡ None
+not_read f id = go (matched_of f id)
+  where
+    go : (o : Option MatchedArg)
+        → option_and_then (λ (a : MatchedArg).
+        option_map (λ (s : Bor (List ℕ)). s.now) (slice_get a.vals.items 0)) o ≡ None
+        → option_and_then (λ (a : MatchedArg).
+        option_map (λ (s : Bor (List ℕ)). read_as a.reading s.now) (slice_get a.vals.items 0)) o
+        ≡ None
+    go None none = refl
+    go (Some a) none = no_value a (slice_get a.vals.items 0) none
+
+-- the value of `--budget` is read as its number, and the default where it is not there
+pub budget_is_read : (E : Type 0) (G : List ℕ → Result ℕ E → Type 0) (f : Found) (id : List ℕ)
+    (r : Option ℕ) → (one_text f id ≡ None → r ≡ None)
+    → ((t : List ℕ) → one_text f id ≡ Some t → ReadsOne G t r)
+    → ((u : List ℕ) (x : Result ℕ E) → G u x → ParsesUnsigned 32 10 u x)
+    → ((t : List ℕ) → first_value f id ≡ Some t → (one_text f id ≡ Some (without_minus t))
+    × IsSignedIn (pos 1) (pos greatest_budget) t)
+    → (unwrap_or r default_budget ≡ budget_of (first_value f id))
+    × IsBudget (unwrap_or r default_budget)
+budget_is_read E G f id r none value only has = go (first_value f id) refl
+  where
+    given : Option (List ℕ) → Option ℕ → Type 0
+    given o n = (unwrap_or n default_budget ≡ budget_of o) × IsBudget (unwrap_or n default_budget)
+
+    go : (o : Option (List ℕ)) → first_value f id ≡ o → given o r
+    go None e = subst (given None) (sym (none (not_read f id e))) (refl, (omega arith, omega arith))
+    go (Some t) e =
+        let h = has t e in
+        subst (given (Some t))
+        (sym (small_number E G t r (value (without_minus t) h.0) only (within_small t h.1)))
+        (refl, within_budget t h.1)

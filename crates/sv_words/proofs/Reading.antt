@@ -17,11 +17,11 @@ use Rattle.clap.specs.declared.error.kind.ErrorKind.{ErrorKind}
 use Rattle.clap.specs.declared.error.kind.ErrorKind.TheVariants as kind
 use Rattle.clap.specs.declared.parser.matches.ArgMatches.{ArgMatches}
 use Rattle.clap.specs.declared.parser.matches.Found.{Found}
-use Rattle.sv_words.specs.Found.{HasNumbers, IsReadAs, Rejects}
-use Rattle.sv_words.specs.Lines.{found_in, greatest, is_read, line_of, needed}
-use Rattle.sv_words.specs.Lines.{needed_number, number}
-use Rattle.sv_words.specs.Words.{Request, check, list, cnf, sim, number_of, plain, request_in}
-use Rattle.sv_words.specs.Words.{request_with}
+use Rattle.sv_words.specs.Found.{HasOthers, IsReadAs, Rejects}
+use Rattle.sv_words.specs.Lines.{found_in, greatest, greatest_budget, is_read, line_of}
+use Rattle.sv_words.specs.Lines.{needed, needed_number, number, small_number}
+use Rattle.sv_words.specs.Words.{Request, check, verify, list, cnf, sim, budget_of, number_of}
+use Rattle.sv_words.specs.Words.{plain, request_in, request_with}
 use Rattle.sv_words.specs.declared.command.Command.TheVariants as asked
 use Rattle.sv_words.specs.declared.command.CommandName.{CommandName}
 use Rattle.sv_words.specs.declared.command.CommandName.TheVariants as name
@@ -35,6 +35,7 @@ use Rattle.sv_words.proofs.Given.{StandsAt, required_is_given, value_is_read}
 free_line : (n : CommandName) → is_simple_and_free (line_of n) ≡ true
 unfolding line_of clap_on_literals
 free_line name.Check = refl
+free_line name.Verify = refl
 free_line name.List = refl
 free_line name.Cnf = refl
 free_line name.Sim = refl
@@ -42,6 +43,7 @@ free_line name.Sim = refl
 simple_line : (n : CommandName) → is_simple (line_of n) ≡ true
 unfolding line_of clap_on_literals
 simple_line name.Check = refl
+simple_line name.Verify = refl
 simple_line name.List = refl
 simple_line name.Cnf = refl
 simple_line name.Sim = refl
@@ -49,9 +51,18 @@ simple_line name.Sim = refl
 file_stands : (n : CommandName) → StandsAt (line_of n) 0 (needed (codes "FILE"))
 unfolding line_of
 file_stands name.Check = record { line = refl; at = refl; once = refl; own = refl }
+file_stands name.Verify = record { line = refl; at = refl; once = refl; own = refl }
 file_stands name.List = record { line = refl; at = refl; once = refl; own = refl }
 file_stands name.Cnf = record { line = refl; at = refl; once = refl; own = refl }
 file_stands name.Sim = record { line = refl; at = refl; once = refl; own = refl }
+
+budget_stands : StandsAt (line_of name.Check) 2 (small_number (codes "budget") 1 greatest_budget)
+unfolding line_of
+budget_stands = record { line = refl; at = refl; once = refl; own = refl }
+
+proof_stands : StandsAt (line_of name.Verify) 1 (needed (codes "PROOF"))
+unfolding line_of
+proof_stands = record { line = refl; at = refl; once = refl; own = refl }
 
 number_stands : StandsAt (line_of name.Cnf) 1 (needed_number (codes "NUMBER"))
 unfolding line_of
@@ -67,18 +78,23 @@ some_text : (o : Option Text) → is_some o ≡ true → (t : Text) × (o ≡ So
 some_text None is = absurd cc
 some_text (Some t) is = (t, refl)
 
-holds_numbers : (n : CommandName) (c : Line) (m : ArgMatches) → IsParsedFrom c m
-    → app_of c ≡ line_of n → HasNumbers n m
-holds_numbers name.Check c m p same = tt
-holds_numbers name.List c m p same = tt
-holds_numbers name.Cnf c m p same =
+holds_others : (n : CommandName) (c : Line) (m : ArgMatches) → IsParsedFrom c m
+    → app_of c ≡ line_of n → HasOthers n m
+holds_others name.Check c m p same = λ text has.
+    value_is_read c m (line_of name.Check) 2
+    (small_number (codes "budget") 1 greatest_budget) _ text p same budget_stands refl has
+holds_others name.Verify c m p same =
+    required_is_given c m (line_of name.Verify) 1 (needed (codes "PROOF")) p same
+    proof_stands refl refl refl
+holds_others name.List c m p same = tt
+holds_others name.Cnf c m p same =
     let there = some_text (first_value (found_of m) (codes "NUMBER"))
     (required_is_given c m (line_of name.Cnf) 1 (needed_number (codes "NUMBER")) p same
     number_stands refl refl refl) in
     let got = value_is_read c m (line_of name.Cnf) 1 (needed_number (codes "NUMBER")) _ there.0 p
     same number_stands refl there.1 in
     record { text = there.0; has = there.1; read = got.0; within = got.1 }
-holds_numbers name.Sim c m p same = λ text has.
+holds_others name.Sim c m p same = λ text has.
     value_is_read c m (line_of name.Sim) 2
     (number (codes "order") 0 greatest) _ text p same order_stands refl has
 
@@ -103,7 +119,7 @@ line_is_read n c m words same p matches fails = record {
   rows = (matches (ap is_simple same ∙ simple_line n)).0 ∙ found_by (app_of c) n words same;
   file = required_is_given c m (line_of n) 0 (needed (codes "FILE")) p same
       (file_stands n) refl refl refl;
-  numbers = holds_numbers n c m p same;
+  others = holds_others n c m p same;
 }
 
 some_kind : (ks : Kinds) (e : Error) → HasKind ks e → (kind_of e ≡ kind.OutOfMemory → ⊥)
@@ -140,6 +156,13 @@ as_asked : (n : CommandName) (rows : List Row) (file : Text) (request : Request)
 as_asked n rows file request f r =
     ap (option_and_then (λ (t : Text). request_with n t rows)) f ∙ r
 
+-- a command with its certificate
+verified : (file proof : Text) (o top is : Option Text) → o ≡ Some proof → top ≡ is
+    → option_map (λ (t : Text). verify file t top) o ≡ Some (verify file proof is)
+verified file proof o top is p t =
+    ap (option_map (λ (x : Text). verify file x top)) p
+    ∙ ap (λ (x : Option Text). Some (verify file proof x)) t
+
 -- a command with its number
 numbered : (file : Text) (o : Option Text) (top is : Option Text) (number : ℕ)
     → option_map number_of o ≡ Some number → top ≡ is
@@ -155,13 +178,32 @@ module _ (f : Found) where
       → first_of id (rows_of f) ≡ option_map string_bytes value
   in_rows id value e = sym (first_value-rows f id) ∙ sym e
 
-  pub asks_check : (file : String Global) (top : Option (String Global))
+  pub asks_check : (file : String Global) (proof : Option (String Global)) (budget : ℕ)
+      (top : Option (String Global))
       → first_value f (codes "FILE") ≡ Some (string_bytes file)
+      → option_map string_bytes proof ≡ first_value f (codes "proof")
+      → budget ≡ budget_of (first_value f (codes "budget"))
       → option_map string_bytes top ≡ first_value f (codes "top")
-      → request_in name.Check (rows_of f) ≡ Some (plain (asked.Check file top))
-  asks_check file top is_file is_top = as_asked name.Check (rows_of f) (string_bytes file) _
+      → request_in name.Check (rows_of f) ≡ Some (plain (asked.Check file proof budget top))
+  asks_check file proof budget top is_file is_proof is_budget is_top =
+      let proofs = in_rows (codes "proof") proof is_proof in
+      let budgets = ap budget_of (sym (first_value-rows f (codes "budget"))) ∙ sym is_budget in
+      let tops = in_rows (codes "top") top is_top in
+      as_asked name.Check (rows_of f) (string_bytes file) _
       (sym (first_value-rows f (codes "FILE")) ∙ is_file)
-      (ap (λ (t : Option Text). Some (check (string_bytes file) t)) (in_rows (codes "top") top is_top))
+      (λ i. Some (check (string_bytes file) (proofs i) (budgets i) (tops i)))
+
+  pub asks_verify : (file proof : String Global) (top : Option (String Global))
+      → first_value f (codes "FILE") ≡ Some (string_bytes file)
+      → first_value f (codes "PROOF") ≡ Some (string_bytes proof)
+      → option_map string_bytes top ≡ first_value f (codes "top")
+      → request_in name.Verify (rows_of f) ≡ Some (plain (asked.Verify file proof top))
+  asks_verify file proof top is_file is_proof is_top =
+      as_asked name.Verify (rows_of f) (string_bytes file) _
+      (sym (first_value-rows f (codes "FILE")) ∙ is_file)
+      (verified (string_bytes file) (string_bytes proof) (first_of (codes "PROOF") (rows_of f))
+      (first_of (codes "top") (rows_of f)) _
+      (sym (first_value-rows f (codes "PROOF")) ∙ is_proof) (in_rows (codes "top") top is_top))
 
   pub asks_list : (file : String Global) (top : Option (String Global))
       → first_value f (codes "FILE") ≡ Some (string_bytes file)

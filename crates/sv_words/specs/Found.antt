@@ -5,7 +5,8 @@ use Rattle.clap.specs.Words.{Text, first_value, found_of, one_text, rows_of}
 use Rattle.clap.specs.Lexer.{without_minus}
 use Rattle.clap.specs.Values.{IsSignedIn, IsUnsignedIn}
 use Rattle.clap.specs.declared.parser.matches.ArgMatches.{ArgMatches}
-use Rattle.sv_words.specs.Lines.{found_in, greatest, greatest_small, is_read}
+use Rattle.sv_words.specs.Lines.{found_in, greatest, greatest_budget, greatest_small}
+use Rattle.sv_words.specs.Lines.{is_read}
 use Rattle.sv_words.specs.declared.command.CommandName.{CommandName}
 use Rattle.sv_words.specs.declared.command.CommandName.TheVariants as name
 use Rattle.sv_words.specs.declared.command.WordFault.{WordFault}
@@ -13,14 +14,21 @@ use Rattle.sv_words.specs.declared.command.WordFault.TheVariants.{Usage, OutOfMe
 use Rattle.sv_words.specs.declared.command.UsageKind.TheVariants.{Words}
 use Rattle.std.specs.Prelude.{false}
 
--- FILE is there
-abbrev pub HasFile : ArgMatches → Type 0
-HasFile m = is_some (first_value (found_of m) (codes "FILE")) ≡ true
+-- the argument is there
+abbrev pub IsGiven : Text → ArgMatches → Type 0
+IsGiven id m = is_some (first_value (found_of m) id) ≡ true
 
 -- where the option is there, its value is a number within the bounds, and read as it is written
 abbrev pub HasNumber : Text → ℕ → ℕ → ArgMatches → Type 0
 HasNumber id least most m = (text : Text) → first_value (found_of m) id ≡ Some text
     → (one_text (found_of m) id ≡ Some text) × IsUnsignedIn least most text
+
+-- where the option is there, its value is a number within the bounds, and read without a `-` before
+-- it
+abbrev pub HasSmallNumber : Text → ℕ → ℕ → ArgMatches → Type 0
+HasSmallNumber id least most m = (text : Text) → first_value (found_of m) id ≡ Some text
+    → (one_text (found_of m) id ≡ Some (without_minus text))
+    × IsSignedIn (pos least) (pos most) text
 
 -- a number that a u32 holds is there, and read without a `-` before it
 pub record HasNeededNumber (id : Text) (m : ArgMatches) : Type 0 where
@@ -29,17 +37,20 @@ pub record HasNeededNumber (id : Text) (m : ArgMatches) : Type 0 where
   pub read : one_text (found_of m) id ≡ Some (without_minus text)
   pub within : IsSignedIn (pos 0) (pos greatest_small) text
 
-abbrev pub HasNumbers : CommandName → ArgMatches → Type 0
-HasNumbers name.Cnf m = HasNeededNumber (codes "NUMBER") m
-HasNumbers name.Sim m = HasNumber (codes "order") 0 greatest m
-HasNumbers _ m = ⊤
+-- what the command has besides FILE and texts that may be left out
+abbrev pub HasOthers : CommandName → ArgMatches → Type 0
+HasOthers name.Check m = HasSmallNumber (codes "budget") 1 greatest_budget m
+HasOthers name.Verify m = IsGiven (codes "PROOF") m
+HasOthers name.Cnf m = HasNeededNumber (codes "NUMBER") m
+HasOthers name.Sim m = HasNumber (codes "order") 0 greatest m
+HasOthers _ m = ⊤
 
 -- the command's words were read, and these are their matches
 pub record IsReadAs (name : CommandName) (words : List Text) (m : ArgMatches) : Type 0 where
   pub read : is_read name words ≡ true
   pub rows : rows_of (found_of m) ≡ found_in name words
-  pub file : HasFile m
-  pub numbers : HasNumbers name m
+  pub file : IsGiven (codes "FILE") m
+  pub others : HasOthers name m
 
 -- why the words were not read
 abbrev pub Rejects : CommandName → List Text → WordFault → Type 0

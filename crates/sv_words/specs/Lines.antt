@@ -1,6 +1,6 @@
--- The words of each command, as the simple command of `clap` that reads them. FILE and NUMBER are
--- words that stand alone and have to be there; an option is `--NAME VALUE` or `--NAME=VALUE`, before or behind
--- them, once at most; after a word `--` no word is an option.
+-- The words of each command, as the simple command of `clap` that reads them. FILE, PROOF and
+-- NUMBER are words that stand alone and have to be there; an option is `--NAME VALUE` or
+-- `--NAME=VALUE`, before or behind them, once at most; after a word `--` no word is an option.
 use Rattle.std.specs.Prelude.{ℕ, Bool, true, List, Option, Some, None, codes, cond, pos}
 use Rattle.std.specs.Str.{bytes_eq}
 use Rattle.clap.specs.Words.{App, Rule, Row, Text, fault_of, matches_of, new_app, new_rule}
@@ -10,7 +10,7 @@ use Rattle.clap.specs.declared.builder.action.ArgAction.TheVariants.{Set}
 use Rattle.clap.specs.declared.builder.value_parser.ValueParser.TheVariants.{Signed, Unsigned}
 use Rattle.sv_words.specs.declared.command.CommandName.{CommandName}
 use Rattle.sv_words.specs.declared.command.CommandName.TheVariants.{Check, List as ListName, Cnf}
-use Rattle.sv_words.specs.declared.command.CommandName.TheVariants.{Sim}
+use Rattle.sv_words.specs.declared.command.CommandName.TheVariants.{Sim, Verify}
 
 -- a word that stands alone and has to be there
 abbrev pub needed : Text → Rule
@@ -33,6 +33,14 @@ option id = record (new_rule id) { long = Some id; action = Some Set; value_name
 abbrev pub number : Text → (least most : ℕ) → Rule
 number id least most = record (option id) { parser = Some (Unsigned least most) }
 
+-- an option whose value is a number from `least` to `most`, where a u32 holds both
+abbrev pub small_number : Text → (least most : ℕ) → Rule
+small_number id least most = record (option id) { parser = Some (Signed (pos least) (pos most)) }
+
+-- the greatest budget
+abbrev pub greatest_budget : ℕ
+greatest_budget = 4000000000
+
 -- the greatest number that a u64 holds
 abbrev pub greatest : ℕ
 greatest = 18446744073709551615
@@ -41,10 +49,16 @@ greatest = 18446744073709551615
 abbrev pub named : Text → App
 named name = let a = new_app name in record a { top = record a.top { disable_help_flag = true } }
 
--- `check FILE [--top M]`
+-- `check FILE [--proof NAME] [--budget N] [--top M]`
 abbrev pub check_line : App
-check_line = with_rule (with_rule (named (codes "check")) (needed (codes "FILE")))
-    (option (codes "top"))
+check_line = with_rule (with_rule (with_rule (with_rule (named (codes "check"))
+    (needed (codes "FILE"))) (option (codes "proof")))
+    (small_number (codes "budget") 1 greatest_budget)) (option (codes "top"))
+
+-- `verify FILE PROOF [--top M]`
+abbrev pub verify_line : App
+verify_line = with_rule (with_rule (with_rule (named (codes "verify")) (needed (codes "FILE")))
+    (needed (codes "PROOF"))) (option (codes "top"))
 
 -- `list FILE [--top M]`
 abbrev pub list_line : App
@@ -64,6 +78,7 @@ sim_line = with_rule (with_rule (with_rule (with_rule (named (codes "sim"))
 
 unfoldable pub line_of : CommandName → App
 line_of Check = check_line
+line_of Verify = verify_line
 line_of ListName = list_line
 line_of Cnf = cnf_line
 line_of Sim = sim_line
@@ -72,9 +87,10 @@ line_of Sim = sim_line
 abbrev pub command_named : Text → Option CommandName
 command_named word =
     cond (bytes_eq word (codes "check")) (Some Check)
+    (cond (bytes_eq word (codes "verify")) (Some Verify)
     (cond (bytes_eq word (codes "list")) (Some ListName)
     (cond (bytes_eq word (codes "cnf")) (Some Cnf)
-    (cond (bytes_eq word (codes "sim")) (Some Sim) None)))
+    (cond (bytes_eq word (codes "sim")) (Some Sim) None))))
 
 -- `clap` reads the words: they begin with the command's name
 unfoldable pub is_read : CommandName → List Text → Bool

@@ -1,12 +1,12 @@
 -- What words ask for, and what is wrong with words that ask for nothing.
-use Rattle.std.specs.Prelude.{◌≡◌, ◌∷◌, ℕ, List, [], map, Option, Some, None, codes, cond, ⊤}
+use Rattle.std.specs.Prelude.{◌≡◌, ◌≤◌, ◌∷◌, ℕ, List, [], map, Option, Some, None, codes, cond, ⊤}
 use Rattle.std.specs.Prelude.{option_map, option_and_then, string_bytes, String}
 use Rattle.std.specs.Option.{option_map_or}
 use Rattle.std.specs.Str.{bytes_eq}
 use Rattle.std.specs.Str.Parse.{digits_value, without_leading_sign}
 use Rattle.std.specs.declared.alloc.Global.{Global}
 use Rattle.clap.specs.Words.{Row, Text, first_of}
-use Rattle.sv_words.specs.Lines.{command_named, found_in, is_read}
+use Rattle.sv_words.specs.Lines.{command_named, found_in, greatest_budget, is_read}
 use Rattle.sv_words.specs.declared.command.Command.{Command}
 use Rattle.sv_words.specs.declared.command.Command.TheVariants as asked
 use Rattle.sv_words.specs.declared.command.CommandName.{CommandName}
@@ -20,10 +20,11 @@ use Rattle.sv_words.specs.declared.command.WordFault.TheVariants.{Usage, OutOfMe
 abbrev pub words_of : List (String Global) → List Text
 words_of words = map string_bytes words
 
--- a command with what it was given: FILE, NUMBER, and the values of its options, where they are
--- there
+-- a command with what it was given: FILE, PROOF, NUMBER, and the values of its options, where they
+-- are there
 pub data Request : Type 0 where
-  check : (file : Text) → (top : Option Text) → Request
+  check : (file : Text) → (proof : Option Text) → (budget : ℕ) → (top : Option Text) → Request
+  verify : (file proof : Text) → (top : Option Text) → Request
   list : (file : Text) → (top : Option Text) → Request
   cnf : (file : Text) → (number : ℕ) → (top : Option Text) → Request
   sim : (file : Text) → (level : Option Text) → (order : Option ℕ) → (top : Option Text) → Request
@@ -33,8 +34,25 @@ pub data Request : Type 0 where
 abbrev pub number_of : Text → ℕ
 number_of text = digits_value 10 (without_leading_sign text)
 
+-- the budget where `--budget` does not stand
+abbrev pub default_budget : ℕ
+default_budget = 20000
+
+-- the bounds of a budget
+abbrev pub IsBudget : ℕ → Type 0
+IsBudget budget = (1 ≤ budget) × (budget ≤ greatest_budget)
+
+-- the budget of the value of `--budget`
+abbrev pub budget_of : Option Text → ℕ
+budget_of value = option_map_or number_of value default_budget
+
+-- what the rows ask for, of a command and FILE
 abbrev pub request_with : CommandName → Text → List Row → Option Request
-request_with name.Check file rows = Some (check file (first_of (codes "top") rows))
+request_with name.Check file rows = Some (check file (first_of (codes "proof") rows)
+    (budget_of (first_of (codes "budget") rows)) (first_of (codes "top") rows))
+request_with name.Verify file rows =
+    option_map (λ proof. verify file proof (first_of (codes "top") rows))
+    (first_of (codes "PROOF") rows)
 request_with name.List file rows = Some (list file (first_of (codes "top") rows))
 request_with name.Cnf file rows =
     option_map (λ number. cnf file (number_of number) (first_of (codes "top") rows))
@@ -68,12 +86,20 @@ help_asked _ = None
 
 -- a command, as the code holds it
 abbrev pub plain : Command → Request
-plain (asked.Check file top) = check (string_bytes file) (option_map string_bytes top)
+plain (asked.Check file proof budget top) = check (string_bytes file)
+    (option_map string_bytes proof) budget (option_map string_bytes top)
+plain (asked.Verify file proof top) =
+    verify (string_bytes file) (string_bytes proof) (option_map string_bytes top)
 plain (asked.List file top) = list (string_bytes file) (option_map string_bytes top)
 plain (asked.Cnf file number top) =
     cnf (string_bytes file) number (option_map string_bytes top)
 plain (asked.Sim file level order top) = sim (string_bytes file)
     (option_map string_bytes level) order (option_map string_bytes top)
+
+-- the budget of a check is within its bounds
+abbrev pub HasBudget : Request → Type 0
+HasBudget (check file proof budget top) = IsBudget budget
+HasBudget _ = ⊤
 
 -- nothing is wrong with the words, and the command is what they ask for
 abbrev pub IsAskedBy : List Text → Command → Type 0

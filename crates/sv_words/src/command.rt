@@ -10,6 +10,8 @@ use thiserror::Error;
 pub enum CommandName {
     /// `check`
     Check,
+    /// `verify`
+    Verify,
     /// `list`
     List,
     /// `cnf`
@@ -19,13 +21,28 @@ pub enum CommandName {
 }
 
 /// What the words ask for. `file` is FILE, and `top` the name after `--top`, where there is one;
-/// either may be empty.
+/// a name may be empty.
 #[derive(Debug, PartialEq, Eq, Drop)]
 pub enum Command {
-    /// `check FILE [--top M]`: say whether the text keeps its secrets.
+    /// `check FILE [--proof NAME] [--budget N] [--top M]`: say whether the text keeps its secrets.
     Check {
         /// The name of the text.
         file: String,
+        /// The name under which to store the certificate.
+        proof: Option<String>,
+        /// How many clauses may be learned for each obligation, 1 to 4,000,000,000; 20,000 where
+        /// the words say nothing.
+        budget: u32,
+        /// The module to take as the top.
+        top: Option<String>,
+    },
+    /// `verify FILE PROOF [--top M]`: say whether a certificate shows that the text keeps its
+    /// secrets.
+    Verify {
+        /// The name of the text.
+        file: String,
+        /// The name of the certificate.
+        proof: String,
         /// The module to take as the top.
         top: Option<String>,
     },

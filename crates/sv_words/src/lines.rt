@@ -2,12 +2,15 @@
 ghost use Rattle.std.specs.Prelude.{◌≡◌, IfOk, codes, false};
 ghost use Rattle.clap.specs.Words.{app_of, rule_of};
 ghost use Rattle.sv_words.specs.Lines.{command_named, line_of, named, needed, needed_number};
-ghost use Rattle.sv_words.specs.Lines.{option, number, check_line, list_line, cnf_line, sim_line};
-ghost use Rattle.sv_words.specs.Lines.{greatest};
+ghost use Rattle.sv_words.specs.Lines.{option, number, small_number, greatest};
+ghost use Rattle.sv_words.specs.Lines.{check_line, verify_line, list_line, cnf_line, sim_line};
+ghost use Rattle.sv_words.specs.Lines.{greatest_budget};
 
 use crate::command::CommandName;
 use clap::{Arg, ArgAction, value_parser};
 use std::alloc::{AllocError, Global};
+
+const GREATEST_BUDGET: i64 = 4_000_000_000;
 
 /// The command of a word.
 pub fn command_named(word: &str) -> Option<CommandName>
@@ -15,6 +18,8 @@ pub fn command_named(word: &str) -> Option<CommandName>
 {
     if word == "check" {
         Some(CommandName::Check)
+    } else if word == "verify" {
+        Some(CommandName::Verify)
     } else if word == "list" {
         Some(CommandName::List)
     } else if word == "cnf" {
@@ -32,6 +37,7 @@ pub fn line_of<'a>(alloc: Global, name: CommandName) -> Result<clap::Command<'a>
 {
     match name {
         CommandName::Check => check_line(alloc),
+        CommandName::Verify => verify_line(alloc),
         CommandName::List => list_line(alloc),
         CommandName::Cnf => cnf_line(alloc),
         CommandName::Sim => sim_line(alloc),
@@ -48,6 +54,22 @@ fn check_line<'a>(alloc: Global) -> Result<clap::Command<'a>, AllocError>
         "Say whether the labels of a design keep every secret",
     )?
     .arg(file_word(alloc))?
+    .arg(proof_option(alloc))?
+    .arg(budget_option(alloc))?
+    .arg(top_option(alloc))
+}
+
+fn verify_line<'a>(alloc: Global) -> Result<clap::Command<'a>, AllocError>
+    ensures { IfOk result (λ line. app_of line ≡ verify_line) }
+{
+    named(
+        alloc,
+        "verify",
+        "secv verify",
+        "Say whether a certificate proves that the labels of a design keep every secret",
+    )?
+    .arg(file_word(alloc))?
+    .arg(proof_word(alloc))?
     .arg(top_option(alloc))
 }
 
@@ -118,6 +140,16 @@ fn file_word<'a>(alloc: Global) -> Arg<'a>
         .help("The file of the design")
 }
 
+fn proof_word<'a>(alloc: Global) -> Arg<'a>
+    ensures rule { rule_of result ≡ needed (codes "PROOF") }
+    ensures local { result.global ≡ false }
+{
+    Arg::new(alloc, "PROOF")
+        .required(true)
+        .action(ArgAction::Set)
+        .help("The file of the certificate")
+}
+
 fn number_word<'a>(alloc: Global) -> Arg<'a>
     ensures rule { rule_of result ≡ needed_number (codes "NUMBER") }
     ensures local { result.global ≡ false }
@@ -127,6 +159,29 @@ fn number_word<'a>(alloc: Global) -> Arg<'a>
         .action(ArgAction::Set)
         .value_parser(value_parser!(u32))
         .help("The number of the obligation, from 1")
+}
+
+fn proof_option<'a>(alloc: Global) -> Arg<'a>
+    ensures rule { rule_of result ≡ option (codes "proof") }
+    ensures local { result.global ≡ false }
+{
+    Arg::new(alloc, "proof")
+        .long("proof")
+        .action(ArgAction::Set)
+        .value_name("NAME")
+        .help("Store the certificate of an accepted design in this file")
+}
+
+fn budget_option<'a>(alloc: Global) -> Arg<'a>
+    ensures rule { rule_of result ≡ small_number (codes "budget") 1 greatest_budget }
+    ensures local { result.global ≡ false }
+{
+    Arg::new(alloc, "budget")
+        .long("budget")
+        .action(ArgAction::Set)
+        .value_name("NUMBER")
+        .value_parser(value_parser!(u32).range(1..=GREATEST_BUDGET))
+        .help("Learn at most this many clauses for each obligation, 20000 unless given")
 }
 
 fn top_option<'a>(alloc: Global) -> Arg<'a>

@@ -2,11 +2,11 @@
 ghost use Rattle.std.specs.Prelude.{◌≡◌, ◌≢◌, ◌⊎◌, MatchResult, IfOk, Some, codes, option_map};
 ghost use Rattle.std.specs.Prelude.{string_bytes};
 ghost use Rattle.clap.specs.Words.{first_value, found_of, rows_of};
-ghost use Rattle.sv_words.specs.Found.{HasFile, HasNeededNumber, HasNumber, HasNumbers, IsReadAs};
-ghost use Rattle.sv_words.specs.Found.{Rejects};
-ghost use Rattle.sv_words.specs.Lines.{greatest};
-ghost use Rattle.sv_words.specs.Words.{words_of, IsAskedBy, IsFaultOf, number_of, plain};
-ghost use Rattle.sv_words.specs.Words.{request_in};
+ghost use Rattle.sv_words.specs.Found.{HasNeededNumber, HasNumber, HasOthers, HasSmallNumber};
+ghost use Rattle.sv_words.specs.Found.{IsGiven, IsReadAs, Rejects};
+ghost use Rattle.sv_words.specs.Lines.{greatest, greatest_budget};
+ghost use Rattle.sv_words.specs.Words.{words_of, HasBudget, IsAskedBy, IsBudget, IsFaultOf};
+ghost use Rattle.sv_words.specs.Words.{budget_of, number_of, plain, request_in};
 
 use crate::command::{Command, CommandName, UsageKind, WordFault};
 use crate::lines::{command_named, line_of};
@@ -14,18 +14,22 @@ use clap::ArgMatches;
 use clap::error::ErrorKind;
 use std::alloc::{AllocError, Global};
 
+const DEFAULT_BUDGET: u32 = 20_000;
+
 /// What the words ask for. The first word names a command, as `check`, and the others are exactly
 /// those that `clap` reads for it: FILE, which may be empty or `-`, and options, each at most once,
 /// as `--top M` or `--top=M`, before or behind FILE; after a word `--` no word is an option. A
 /// number is decimal digits, a `+` before them or not, of a value that its type holds; before the
-/// zeros of NUMBER a `-` may stand too.
+/// zeros of NUMBER a `-` may stand too. The budget of `check` is 1 to 4,000,000,000, and 20,000
+/// where `--budget` does not stand.
 ///
 /// `Usage` comes exactly where the words ask for nothing: `NoCommand` where there are none,
 /// `UnknownCommand` where the first is no command's name, and `Words` where `clap` does not read
 /// the others.
 pub fn read_words(alloc: Global, words: &[String]) -> Result<Command, WordFault>
-    ensures { MatchResult result
+    ensures asked { MatchResult result
         (IsAskedBy (words_of words.now)) (IsFaultOf (words_of words.now)) }
+    ensures budget { IfOk result (λ command. HasBudget (plain command)) }
 {
     let Some(first) = words.first() else {
         return Err(WordFault::Usage(UsageKind::NoCommand));
@@ -72,15 +76,26 @@ fn command_in(
     name: CommandName,
     matches: &ArgMatches<'_>,
 ) -> Result<Command, AllocError>
-    requires file { HasFile matches.now }
-    requires numbers { HasNumbers name matches.now }
-    ensures { IfOk result
+    requires file { IsGiven (codes "FILE") matches.now }
+    requires others { HasOthers name matches.now }
+    ensures asked { IfOk result
         (λ command. request_in name (rows_of (found_of matches.now)) ≡ Some (plain command)) }
+    ensures budget { IfOk result (λ command. HasBudget (plain command)) }
 {
-    let file = file_in(alloc, matches)?;
+    let file = needed_text(alloc, matches, "FILE")?;
     let top = text_of(alloc, matches, "top")?;
     Ok(match name {
-        CommandName::Check => Command::Check { file, top },
+        CommandName::Check => Command::Check {
+            file,
+            proof: text_of(alloc, matches, "proof")?,
+            budget: budget_in(matches),
+            top,
+        },
+        CommandName::Verify => Command::Verify {
+            file,
+            proof: needed_text(alloc, matches, "PROOF")?,
+            top,
+        },
         CommandName::List => Command::List { file, top },
         CommandName::Cnf => Command::Cnf {
             file,
@@ -96,14 +111,23 @@ fn command_in(
     })
 }
 
-// FILE.
-fn file_in(alloc: Global, matches: &ArgMatches<'_>) -> Result<String, AllocError>
-    requires { HasFile matches.now }
-    ensures { IfOk result (λ file.
-        first_value (found_of matches.now) (codes "FILE") ≡ Some (string_bytes file)) }
+// The text of an argument that has to be there.
+fn needed_text(alloc: Global, matches: &ArgMatches<'_>, id: &str) -> Result<String, AllocError>
+    requires { IsGiven id.now matches.now }
+    ensures { IfOk result (λ text.
+        first_value (found_of matches.now) id.now ≡ Some (string_bytes text)) }
 {
-    let file = text_of(alloc, matches, "FILE")?;
-    Ok(file.unwrap())
+    let text = text_of(alloc, matches, id)?;
+    Ok(text.unwrap())
+}
+
+// The number of `--budget`, or the default.
+fn budget_in(matches: &ArgMatches<'_>) -> u32
+    requires { HasSmallNumber (codes "budget") 1 greatest_budget matches.now }
+    ensures value { result ≡ budget_of (first_value (found_of matches.now) (codes "budget")) }
+    ensures bounds { IsBudget result }
+{
+    matches.get_one("budget").unwrap_or(DEFAULT_BUDGET)
 }
 
 // NUMBER.

@@ -13,7 +13,7 @@ returns-in-Ok-clause-performed g c =
     g.S.Source.given c.simulate.new.input ≡ g.S.Source.given c.args.input.now ++ s)
     g.S.Source.tells (g.S.Source.left c.args.input.now) (g.K.Sink.accepted c.args.out.now)
     (g.K.Sink.accepted c.simulate.new.out) (answer_of c.outcome_of.result) c.in-Ok.ending
-    c.outcome_of.ensures c.in-Ok.ensures.answer c.in-Ok.ensures.told c.in-Ok.ensures.only
+    c.outcome_of.ensures c.in-Ok.ensures.answer c.in-Ok.ensures.told
 
 pub returns-in-Err-Read-clause-performed : goal.returns-in-Err-Read-clause-performed
 returns-in-Err-Read-clause-performed g c =

@@ -9,8 +9,7 @@ use Rattle.sv_simulate.specs.Simulated.{level_asked, WritesAllCycles}
 use Rattle.sv_cli.specs.declared.prepared.Prepared.{Prepared}
 use Rattle.sv_cli.specs.Answer.{Answer, answer_of, done}
 use Rattle.sv_cli.specs.Prepared.{IsReady, EndsAs, IsPerformed, Performs, IsSimulationWith}
-use Rattle.sv_cli.proofs.Sending.{few_taken, sent, one_given, one_equal, some_given}
-use Rattle.sv_cli.proofs.Sending.{sent_whatever}
+use Rattle.sv_cli.proofs.Sending.{few_taken, sent, some_given, sent_whatever}
 use Rattle.sv_cli.proofs.top.perform.Goals as goal
 
 pub returns-in-Whole-clause-performed : goal.returns-in-Whole-clause-performed
@@ -25,7 +24,7 @@ returns-in-Whole-clause-performed g c =
     (sent (λ (a : Answer). answer_of report.outcome ≡ Some a)
     (g.S.Source.given c.args.input.now) report.text.items (g.S.Source.left c.args.input.now)
     (g.K.Sink.accepted c.args.out.now) (g.K.Sink.accepted c.send.new.out) g.S.Source.tells first.0
-    first.1 (one_given (answer_of report.outcome)) (answer_of c.send.result)
+    first.1 (answer_of c.send.result)
     c.send.ensures.answered c.send.ensures.whole c.send.ensures.front)
 
 pub returns-in-Whole-clause-most : goal.returns-in-Whole-clause-most
@@ -40,7 +39,7 @@ returns-in-Lines-clause-performed g c =
     subst (λ (p : Prepared). Performs (IsPerformed p) (λ (s : List ℕ). given ≡ given ++ s)
     g.S.Source.tells left old new (answer_of c.send_lines.result)) (sym c.in-Lines.is)
     (sent (λ (a : Answer). a ≡ done) given (list_text (design_of c.in-Lines.design)) left old new
-    g.S.Source.tells done refl (one_equal done) (answer_of c.send_lines.result)
+    g.S.Source.tells done refl (answer_of c.send_lines.result)
     c.send_lines.ensures.answered c.send_lines.ensures.whole c.send_lines.ensures.front)
 
 pub returns-in-Lines-clause-most : goal.returns-in-Lines-clause-most
@@ -55,7 +54,7 @@ returns-in-Clauses-clause-performed g c =
     subst (λ (p : Prepared). Performs (IsPerformed p) (λ (s : List ℕ). given ≡ given ++ s)
     g.S.Source.tells left old new (answer_of c.send_clauses.result)) (sym c.in-Clauses.is)
     (sent (λ (a : Answer). a ≡ done) given (cnf_text (encoding_of c.in-Clauses.coded)) left old new
-    g.S.Source.tells done refl (one_equal done) (answer_of c.send_clauses.result)
+    g.S.Source.tells done refl (answer_of c.send_clauses.result)
     c.send_clauses.ensures.answered c.send_clauses.ensures.whole c.send_clauses.ensures.front)
 
 pub returns-in-Clauses-clause-most : goal.returns-in-Clauses-clause-most

@@ -5,6 +5,10 @@ pub returns-in-Check : goal.returns-in-Check
 unfolding line_of
 returns-in-Check c = rw c.in-Check.is c.check_line.ensures
 
+pub returns-in-Verify : goal.returns-in-Verify
+unfolding line_of
+returns-in-Verify c = rw c.in-Verify.is c.verify_line.ensures
+
 pub returns-in-List : goal.returns-in-List
 unfolding line_of
 returns-in-List c = rw c.in-List.is c.list_line.ensures

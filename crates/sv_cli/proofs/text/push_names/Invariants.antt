@@ -1,8 +1,0 @@
-use Rattle.std.proofs.Common.{◌≡◌, ◌++◌, drop}
-use Rattle.sv_cli.specs.Text.{names_text}
-use Rattle.sv_cli.proofs.text.push_names.Given as goal
-
--- what was written and the text of the names that are left are the whole
-abbrev pub invariant-loop-name : goal.invariant-loop-name
-invariant-loop-name l =
-    l.text.items ++ names_text (drop l.name-index l.names) ≡ l.fn.text.items ++ names_text l.names

@@ -1,0 +1,37 @@
+-- Which answers to the same words and the same files and stimulus are right: one, but for what is
+-- free in `check` and in the circle that is named.
+use Rattle.std.specs.Prelude.{◌≡◌, ◌⊎◌, ℕ, List, ◌∷◌}
+use Rattle.sv_num.specs.declared.faults.Place.{Place}
+use Rattle.sv_io.specs.Exchange.{Exchange}
+use Rattle.sv_words.specs.Words.{Request, check}
+use Rattle.sv_cli.specs.Answer.{Answer, rule_broken}
+use Rattle.sv_cli.specs.Dialogues.{IsDialogue}
+
+-- Two answers that name circles of signals that read each other, both from the signal that rule 607
+-- tells of: where several circles begin there any of them is named.
+pub record AreCircles (answer other : Answer) : Type 0 where
+  pub place : Place
+  pub first : List ℕ
+  pub rest : List (List ℕ)
+  pub rest_of_other : List (List ℕ)
+  pub one : answer ≡ rule_broken 607 place (first ∷ rest)
+  pub two : other ≡ rule_broken 607 place (first ∷ rest_of_other)
+
+-- the two are the same answer, with the same text, or name circles
+abbrev pub AreOneAnswer : (answer other : Answer) → (printed others : List ℕ) → Type 0
+AreOneAnswer answer other printed others =
+    ((other ≡ answer) × (others ≡ printed)) ⊎ AreCircles answer other
+
+-- every command but `check` has one right answer
+abbrev pub IsSure : Request → Type 0
+IsSure (check file proof budget top) = ⊥
+IsSure request = Unit {0}
+
+-- any two answers that are right for the same exchanges and stimulus are one
+abbrev pub HasOneAnswer : Request → Type 0
+HasOneAnswer request =
+    (exchanges : List Exchange) (stimulus : List ℕ) (answer other : Answer)
+    (printed others : List ℕ)
+    → IsDialogue request exchanges stimulus answer printed
+    → IsDialogue request exchanges stimulus other others
+    → AreOneAnswer answer other printed others

@@ -1,2 +1,0 @@
-pub mod Leak
-pub mod Scope

@@ -1,5 +1,6 @@
 #!/bin/sh
-# Times `secv check` on texts of 1/8, 1/4, 1/2 and the whole of the size limit, in five mixtures: expressions, nested statements,
+# Times what `secv` does with a text before its obligations are asked, as `secv sim` on an empty stimulus: reading, elaboration and admission. Of
+# texts of 1/8, 1/4, 1/2 and the whole of the size limit, in five mixtures: expressions, nested statements,
 # declarations, instances, and hierarchies at the limits of instances and signals. Prints a table of times and greatest memory, with
 # the ratio of the last two times (asked: at most 2.2); then iverilog and yosys on the whole text where they are installed, and secv's
 # time and memory against theirs (asked: at most a tenth of their time, a fifth of iverilog's memory; of hierarchies a quarter of
@@ -133,7 +134,7 @@ def run(words, statuses):
         if best is not None and best > 5:
             break
         start = time.perf_counter()
-        child = subprocess.run(["/usr/bin/time", "-v", "-o", told, *words], stdout=subprocess.DEVNULL, stderr=subprocess.DEVNULL)
+        child = subprocess.run(["/usr/bin/time", "-v", "-o", told, *words], stdin=subprocess.DEVNULL, stdout=subprocess.DEVNULL, stderr=subprocess.DEVNULL)
         took = time.perf_counter() - start
         if child.returncode not in statuses:
             sys.exit(f"{words} ended with {child.returncode}")
@@ -159,7 +160,7 @@ for mixture in (expressions, statements, declarations, instances, hierarchies):
         file = os.path.join(work, f"{mixture.__name__}{part}.v")
         with open(file, "w") as out:
             out.write(text(mixture, size))
-        seconds, memory = run([secv, "check", file], (0, 1))
+        seconds, memory = run([secv, "sim", file], (0, 1))
         ratio = "" if before is None else f"{seconds / before:.2f}"
         print(f"{size:>10} {seconds:>9.4f} {memory:>7.1f} {ratio:>6}")
         last = None if before is None else seconds / before

@@ -5,3 +5,4 @@ pub mod FoundValues
 pub mod LabelPoints
 pub mod SettledCycles
 pub mod SpelledValuations
+pub mod SpentSize

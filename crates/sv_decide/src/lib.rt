@@ -5,7 +5,8 @@
 //! `decide` gives a log that refutes the clauses of the obligation's encoding, a valuation that
 //! fits the design and falsifies the obligation, or a log that spends the budget; or it tells that
 //! the encoding has too many variables. `falsifies` tells by simulation whether a valuation
-//! falsifies an obligation, whoever found it.
+//! falsifies an obligation, whoever found it. `laws` says of spent logs, whoever made them, which
+//! budgets they never spend.
 //!
 //! `specs/Decisions.antt` says of which answer a clause speaks. What is decided stands in the
 //! crates below: `Deciding.antt` and `BothWays.antt` in `sv_encoding`, `Validity.antt` and
@@ -16,7 +17,9 @@
 mod deciding;
 mod failing;
 mod falsifying;
+mod laws;
 mod spelling;
 
 pub use deciding::{Decided, decide, decide_by};
 pub use falsifying::falsifies;
+pub use laws::{spent_logs_are_shorter_than_all_clauses, units_are_never_spent};

@@ -4,3 +4,4 @@ pub mod WritableFacts
 pub mod ProgressFacts
 pub mod EndedFacts
 pub mod VerifyFacts
+pub mod NeverSpent

@@ -3,7 +3,8 @@
 //! `check` decides the obligations in order, target by target, each by the clauses of its encoding:
 //! all are refuted, or one is falsified or too large, which ends the check, or the budget is spent
 //! on some. `verify` takes the bytes of a certificate and decides nothing: it checks that each log
-//! refutes the encoding of its obligation, or tells the line at fault.
+//! refutes the encoding of its obligation, or tells the line at fault. `laws` says which budgets
+//! are never spent, whoever made the logs.
 //!
 //! `specs/Verdicts.antt` says what `check` comes to and `Certified.antt` what `verify` does, and
 //! `Answers.antt` of which answer a clause speaks. `Progress.antt`, `Verifying.antt`,
@@ -12,6 +13,7 @@
 #![tactic(auto)]
 
 mod checking;
+mod laws;
 mod progress;
 mod verdicts;
 mod verifying;
@@ -19,6 +21,7 @@ mod walk;
 mod writable;
 
 pub use checking::check;
+pub use laws::{large_budgets_decide, unit_conflicts_decide};
 pub use std::alloc::AllocError as OutOfMemory;
 pub use verdicts::{Checked, Failure, Spent, Verified};
 pub use verifying::verify;

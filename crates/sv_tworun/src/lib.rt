@@ -3,7 +3,8 @@
 //! Takes an admitted design of `sv_design`, simulations of `sv_sim` and stimuli of `sv_trace`.
 //! `view` gives the signals that a level sees in a settled simulation, with their values, and
 //! `same_view` compares two. `compare` runs a design on two stimuli and finds the first cycle and
-//! signal in which a level sees two things.
+//! signal in which a level sees two things. `accept` of `sv_accept` is handed on: the logs that it
+//! takes for all obligations of a design show that it is noninterferent.
 //!
 //! Promises that the view is that of `sv_system/specs/System.antt`, and that `compare` finds what
 //! `specs/Comparisons.antt` says of the traces of both runs, which is one thing; and that for a
@@ -26,4 +27,5 @@ pub use comparing::compare;
 pub use laws::{comparisons_find_one_thing, findings_are_one, noninterferent_systems_show_no_leak};
 pub use levels::view;
 pub use std::alloc::AllocError as OutOfMemory;
+pub use sv_accept::{AcceptFault, accept};
 pub use views::{View, same_view};

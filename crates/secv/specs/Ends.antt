@@ -16,7 +16,7 @@ use Rattle.sv_cli.specs.declared.outcome.Outcome.TheVariants.{Done}
 use Rattle.sv_cli.specs.Answer.{status_of}
 use Rattle.sv_cli.specs.Command.{file_in, top_in, Claims}
 use Rattle.sv_cli.specs.Runs.{Runs}
-use Rattle.sv_cli.specs.Texts.{KeepsSecrets}
+use Rattle.sv_cli.specs.Texts.{HasValidObligations, KeepsSecrets}
 
 -- the words ask for the help of the program, for its version, or for the help of a command
 abbrev pub IsShown : List (List ℕ) → Type 0
@@ -60,4 +60,10 @@ pub record Ends (words : List (List ℕ)) (old new : Traffic) (status : ℕ) : T
       × (new.files.exchanges ≡
       old.files.exchanges ++ fetched (file_in request) (whole text) ∷ rest)
       × KeepsSecrets (top_in request) text
+  pub valid : outcome ≡ Done
+      → (request : Request) → request_of words ≡ Some request → Claims request
+      → (text : List ℕ) × (rest : List Exchange)
+      × (new.files.exchanges ≡
+      old.files.exchanges ++ fetched (file_in request) (whole text) ∷ rest)
+      × HasValidObligations (top_in request) text
   pub runs : Runs false false words old new outcome

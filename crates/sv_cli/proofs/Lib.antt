@@ -19,3 +19,5 @@ mod OneRule
 mod OneCertificate
 mod OneAnswer
 mod Apart
+mod Printed
+mod Complete

@@ -24,7 +24,7 @@ use Rattle.sv_cli.specs.Command.{Claims, file_in, top_in}
 use Rattle.sv_cli.specs.Dialogues as dialogues
 use Rattle.sv_cli.specs.Dialogues.{IsDialogue, AfterText, OwnPart, GoesOn, own_part}
 use Rattle.sv_cli.specs.Limits.{TellsLimit}
-use Rattle.sv_cli.specs.Texts.{Passes, KeepsSecrets}
+use Rattle.sv_cli.specs.Texts.{Passes, HasValidObligations, KeepsSecrets}
 use Rattle.sv_cli.specs.Verifies as verifies
 use Rattle.sv_cli.proofs.TreeAnswers.{releases_nothing}
 
@@ -145,22 +145,36 @@ module _ (law : (design : FlatDesign) → RefutedAreValid design) (stimulus prin
   own_valid (cnf file number top) claims text passes rest own = absurd claims
   own_valid (sim file level order top) claims text passes rest own = absurd claims
 
-  -- what the fetch of FILE handed out keeps its secrets
-  abbrev pub FetchesKeeper : Request → Type 0
-  FetchesKeeper request =
+  -- this holds of what the fetch of FILE handed out
+  abbrev pub Fetches : Request → (List ℕ → Type 0) → Type 0
+  Fetches request Is =
       (text : List ℕ) × (rest : List Exchange)
       × (exchanges ≡ fetched (file_in request) (whole text) ∷ rest)
-      × KeepsSecrets (top_in request) text
+      × Is text
 
-  pub accepted_keeps : (request : Request) → Claims request
-      → IsDialogue request exchanges stimulus done printed → FetchesKeeper request
-  accepted_keeps request claims (dialogues.oversized long) =
+  pub accepted_valid : (request : Request) → Claims request
+      → IsDialogue request exchanges stimulus done printed
+      → Fetches request (HasValidObligations (top_in request))
+  accepted_valid request claims (dialogues.oversized long) =
       absurd (told_limit _ _ printed long.tells)
-  accepted_keeps request claims (dialogues.refused refused) = let a = refused.answers in absurd cc
-  accepted_keeps request claims (dialogues.goes_on on) = (
+  accepted_valid request claims (dialogues.refused refused) = let a = refused.answers in absurd cc
+  accepted_valid request claims (dialogues.goes_on on) = (
     on.text,
     on.rest,
     on.fetches,
-    valid_keeps (top_in request) on.text on.passes
-        (own_valid request claims on.text on.passes on.rest on.own),
+    record {
+      passes = on.passes;
+      valid = own_valid request claims on.text on.passes on.rest on.own;
+    },
   )
+
+  pub accepted_keeps : (request : Request) → Claims request
+      → IsDialogue request exchanges stimulus done printed
+      → Fetches request (KeepsSecrets (top_in request))
+  accepted_keeps request claims is =
+      let found = accepted_valid request claims is in (
+        found.0,
+        found.1,
+        found.2,
+        valid_keeps (top_in request) found.0 found.3.passes found.3.valid,
+      )

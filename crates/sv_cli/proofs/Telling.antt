@@ -20,14 +20,13 @@ use Rattle.sv_cli.specs.declared.prepared.Prepared.{Prepared}
 use Rattle.sv_cli.specs.declared.prepared.Prepared.TheVariants.{Whole, Lines, Clauses}
 use Rattle.sv_cli.specs.declared.prepared.Prepared.TheVariants.{Simulation}
 use Rattle.sv_cli.specs.Answer.{Answer, answer_of, done, misused}
-use Rattle.sv_cli.specs.Command.{file_in, top_in}
+use Rattle.sv_cli.specs.Command.{file_in}
 use Rattle.sv_cli.specs.Dialogues.{IsDialogue}
 use Rattle.sv_cli.specs.Prepared.{IsPerformed, Performs, IsSimulationWith, IsOtherOrWith}
 use Rattle.sv_cli.specs.Prepared.{MaySimulateDesign, PreparesWords, ReadiesWords}
 use Rattle.sv_cli.specs.Runs.{MayTake, WritesCycles, IsWhole, IsFront, IsUntouched}
 use Rattle.sv_cli.specs.Runs.{Runs}
 use Rattle.sv_cli.specs.Text.{usage_text}
-use Rattle.sv_cli.specs.Texts.{KeepsSecrets}
 use Rattle.sv_cli.proofs.Sending.{few_taken}
 use Rattle.sv_cli.proofs.Simulating.{cycles_told}
 
@@ -226,15 +225,15 @@ module _ (files_tell : Bool) (words : List (List ℕ)) (old new : Files) (prepar
       )
 
   -- and what it says of the exchanges it says of those of the files
-  pub kept_told : ((exchanges : List Exchange) (s p : List ℕ)
+  pub kept_told : (Is : List ℕ → Type 0) → ((exchanges : List Exchange) (s p : List ℕ)
       → IsDialogue request exchanges s done p
       → (text : List ℕ) × (rest : List Exchange)
       × (exchanges ≡ fetched (file_in request) (whole text) ∷ rest)
-      × KeepsSecrets (top_in request) text)
+      × Is text)
       → (text : List ℕ) × (rest : List Exchange)
       × (new.exchanges ≡ old.exchanges ++ fetched (file_in request) (whole text) ∷ rest)
-      × KeepsSecrets (top_in request) text
-  kept_told law =
+      × Is text
+  kept_told Is law =
       let kept = law ready.exchanges done_told.0 done_told.1 done_told.2 in (
         kept.0,
         kept.1,

@@ -2,6 +2,7 @@ pub mod Answer
 pub mod Checks
 pub mod Clauses
 pub mod Command
+pub mod Completeness
 pub mod Dialogues
 pub mod Limits
 pub mod Lists

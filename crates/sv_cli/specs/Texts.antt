@@ -9,6 +9,7 @@ use Rattle.sv_ast.specs.TextSystem.{text_system}
 use Rattle.sv_flat.specs.Design.{FlatDesign}
 use Rattle.sv_flat.specs.Admission.{IsAdmitted, IsRefused}
 use Rattle.sv_walk.specs.Texts.{flat_of, BreaksRule}
+use Rattle.sv_obl.specs.Validity.{AllValid}
 
 -- the bytes of the largest source file
 abbrev pub largest_file : ℕ
@@ -76,6 +77,12 @@ pub record Passes (top : Option (List ℕ)) (text : List ℕ) : Type 0 where
   pub design : FlatDesign
   pub stands : StandsFor top text design
   pub admitted : IsAdmitted design
+
+-- each obligation of the flat design that the text stands for is valid: no values of registers and
+-- inputs falsify it
+pub record HasValidObligations (top : Option (List ℕ)) (text : List ℕ) : Type 0 where
+  pub passes : Passes top text
+  pub valid : AllValid [] passes.design
 
 -- ---- the headline
 

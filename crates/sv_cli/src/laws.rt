@@ -1,17 +1,21 @@
 // What follows from the meaning of texts and from the definitions of what `run` does, as contracts of
 // functions that do nothing.
-ghost use Rattle.std.specs.Prelude.{◌≡◌, ◌∷◌, ℕ, List, Option, []};
+ghost use Rattle.std.specs.Prelude.{◌≡◌, ◌≢◌, ◌∷◌, ℕ, List, Option, []};
 ghost use Rattle.sv_flat.specs.Design.{FlatDesign};
 ghost use Rattle.sv_io.specs.Exchange.{Exchange, fetched, whole};
 ghost use Rattle.sv_obl.specs.Validity.{AllValid};
 ghost use Rattle.sv_obl.specs.declared.valuations.Valuation.{Valuation as Listed};
 ghost use Rattle.sv_judge.specs.Verdicts.{IsAccepted, IsFalsified};
+ghost use Rattle.sv_text_laws.specs.FalsifiedTexts.{ListsFalsifyText};
 ghost use Rattle.sv_words.specs.Words.{Request};
 ghost use Rattle.sv_cli.specs.Answer.{Answer, done};
 ghost use Rattle.sv_cli.specs.Checks.{IsCertificate};
 ghost use Rattle.sv_cli.specs.Command.{file_in, top_in, Claims};
+ghost use Rattle.sv_cli.specs.Completeness.{OfEachDecision, IsNotFalsified, IsNotLimit};
+ghost use Rattle.sv_cli.specs.Completeness.{IsNotUndecided, SomeFails, AllFit, IsLarge};
+ghost use Rattle.sv_cli.specs.Completeness.{AllHaveUnitConflicts, Suffices};
 ghost use Rattle.sv_cli.specs.Dialogues.{IsDialogue};
-ghost use Rattle.sv_cli.specs.Texts.{Passes, KeepsSecrets};
+ghost use Rattle.sv_cli.specs.Texts.{Passes, HasValidObligations, KeepsSecrets};
 ghost use Rattle.sv_cli.specs.Uniqueness.{IsSure, HasOneAnswer};
 ghost use Rattle.sv_cli.specs.Verifies.{Judges};
 
@@ -41,13 +45,28 @@ pub fn no_text_is_accepted_and_falsified()
     unmet_clauses_mean_valid();
 }
 
-/// Where `check` or `verify` accepts, the text that the fetch of FILE handed out keeps its secrets.
+/// A valuation that `check` prints falsifies the obligation that is told for the text itself: read
+/// in the order in which the text has its registers and inputs, in environments of the text's own
+/// system that are settled for it, and by labels in the source's own words.
+pub fn printed_values_falsify_their_texts()
+    ensures { (top : Option (List ℕ)) (text : List ℕ) (passes : Passes top text)
+        (budget number : ℕ) (v : Listed) (f : IsFalsified passes.design budget number v)
+        → ListsFalsifyText passes.stands.tree top passes.design v f.obligation }
+{}
+
+/// Where `check` or `verify` accepts, the text that the fetch of FILE handed out keeps its secrets,
+/// and each of its obligations is valid.
 pub fn accepted_texts_keep_secrets()
-    ensures { (request : Request) (exchanges : List Exchange) (stimulus printed : List ℕ)
+    ensures secrets { (request : Request) (exchanges : List Exchange) (stimulus printed : List ℕ)
         → Claims request → IsDialogue request exchanges stimulus done printed
         → (text : List ℕ) × (rest : List Exchange)
         × (exchanges ≡ fetched (file_in request) (whole text) ∷ rest)
         × KeepsSecrets (top_in request) text }
+    ensures valid { (request : Request) (exchanges : List Exchange) (stimulus printed : List ℕ)
+        → Claims request → IsDialogue request exchanges stimulus done printed
+        → (text : List ℕ) × (rest : List Exchange)
+        × (exchanges ≡ fetched (file_in request) (whole text) ∷ rest)
+        × HasValidObligations (top_in request) text }
 {
     refuted_has_no_solution();
     unmet_clauses_mean_valid();
@@ -60,3 +79,27 @@ pub fn stored_certificates_are_accepted()
         → IsCertificate design bytes → (answer : Answer) (printed : List ℕ)
         → Judges design bytes answer printed → answer ≡ done }
 {}
+
+/// What `check` is sure to decide of a text that passes and exceeds no limit on obligations,
+/// whatever is free in it. Where all obligations are valid it prints no valuation, and where one
+/// can be falsified it does not accept; where all encodings fit it tells no limit; and where the
+/// budget is at least 3^n over n variables, or unit resolution refutes each encoding, it does not
+/// answer unknown. So a text whose obligations are valid and fit, with a budget that suffices, is
+/// accepted.
+pub fn check_decides_what_it_can()
+    ensures valid { OfEachDecision (λ design budget answer.
+        AllValid [] design → IsNotFalsified answer) }
+    ensures falsified { OfEachDecision (λ design budget answer.
+        SomeFails design → answer ≢ done) }
+    ensures fits { OfEachDecision (λ design budget answer.
+        AllFit design → IsNotLimit answer) }
+    ensures large { OfEachDecision (λ design budget answer.
+        IsLarge design budget → IsNotUndecided answer) }
+    ensures units { OfEachDecision (λ design budget answer.
+        AllHaveUnitConflicts design → IsNotUndecided answer) }
+    ensures accepts { OfEachDecision (λ design budget answer.
+        AllValid [] design → AllFit design → Suffices design budget → answer ≡ done) }
+{
+    refuted_has_no_solution();
+    unmet_clauses_mean_valid();
+}

@@ -4,7 +4,8 @@
 //! each, whose own parts stand in `Checks.antt`, `Verifies.antt`, `Lists.antt` and
 //! `Simulates.antt`. Where it answers `Done` to `check` or `verify`, no secret reaches a public
 //! signal: any two traces of the text's own cycle meaning that look alike to a level have equal
-//! views for it at every cycle (`KeepsSecrets` of `Texts.antt`).
+//! views for it at every cycle (`KeepsSecrets` of `Texts.antt`), and every obligation of the text
+//! is valid (`HasValidObligations` there).
 //!
 //! Which words are a command is said in `sv_words`, `specs/Command.antt` says what they ask for,
 //! `Answer.antt` which answers and statuses there are, `Texts.antt` which rule a text breaks first,
@@ -30,7 +31,8 @@ mod top;
 mod verifying;
 
 pub use laws::{
-    accepted_texts_keep_secrets, each_dialogue_has_one_answer, no_text_is_accepted_and_falsified,
+    accepted_texts_keep_secrets, check_decides_what_it_can, each_dialogue_has_one_answer,
+    no_text_is_accepted_and_falsified, printed_values_falsify_their_texts,
     stored_certificates_are_accepted,
 };
 pub use outcome::Outcome;

@@ -18,7 +18,7 @@ ghost use Rattle.sv_cli.specs.Command.{file_in, top_in, Claims};
 ghost use Rattle.sv_cli.specs.Prepared.{IsReady, IsPerformed, Performs, IsSimulationWith};
 ghost use Rattle.sv_cli.specs.Prepared.{ReadiesFor, ReadiesWords};
 ghost use Rattle.sv_cli.specs.Runs.{Runs};
-ghost use Rattle.sv_cli.specs.Texts.{KeepsSecrets};
+ghost use Rattle.sv_cli.specs.Texts.{HasValidObligations, KeepsSecrets};
 
 use crate::clauses::put_clauses;
 use crate::fetching::fetch_once;
@@ -62,6 +62,14 @@ pub fn run<C: Cabinet, S: Source, K: Sink>(
         × (C.exchanges cabinet.new ≡
         C.exchanges cabinet.old ++ fetched (file_in request) (whole text) ∷ rest)
         × KeepsSecrets (top_in request) text }
+
+    // And what carries it: each obligation of that text is valid.
+    ensures valid { result ≡ Outcome.Done →
+        (request : Request) → request_of (words_of words.now) ≡ Some request → Claims request →
+        (text : List ℕ) × (rest : List Exchange)
+        × (C.exchanges cabinet.new ≡
+        C.exchanges cabinet.old ++ fetched (file_in request) (whole text) ∷ rest)
+        × HasValidObligations (top_in request) text }
     ensures runs { Runs C.tells S.tells (words_of words.now)
         (record {
           files = files_by C.exchanges C.held C.fetch_faults C.store_faults cabinet.old;

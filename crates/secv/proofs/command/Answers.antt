@@ -5,5 +5,6 @@ returns c = record {
   outcome = c.run-outcome.result;
   is = c.status.ensures;
   noninterference = c.run-outcome.ensures.noninterference;
+  valid = c.run-outcome.ensures.valid;
   runs = c.run-outcome.ensures.runs;
 }

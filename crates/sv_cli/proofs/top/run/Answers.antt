@@ -4,7 +4,9 @@ use Rattle.sv_io.specs.Traffic.{files_by, input_by, output_by}
 use Rattle.sv_simulate.specs.Simulated.{level_asked}
 use Rattle.sv_words.specs.Words.{words_of}
 use Rattle.sv_cli.specs.declared.outcome.Outcome.TheVariants as outcome
+use Rattle.sv_cli.specs.Command.{top_in}
 use Rattle.sv_cli.specs.Prepared.{IsSimulationWith, Explains}
+use Rattle.sv_cli.specs.Texts.{HasValidObligations, KeepsSecrets}
 use Rattle.sv_cli.proofs.Telling.{runs_told, runs_silent, kept_told, same_untouched}
 use Rattle.sv_cli.proofs.top.run.Goals as goal
 
@@ -42,8 +44,23 @@ returns-in-Ok-clause-noninterference g c is_done request asked claims =
     c.in-Ok.prepared c.in-Ok.ensures c.perform.result
     (λ (s : List ℕ). S.given c.perform.new.input ≡ S.given c.args.input.now ++ s)
     (λ (p : List ℕ). K.accepted c.perform.new.out ≡ K.accepted c.args.out.now ++ p)
+    c.perform.ensures.performed.answer is_done request asked (KeepsSecrets (top_in request))
+    (λ exchanges s p. c.accepted_texts_keep_secrets.ensures.secrets request exchanges s p claims)
+
+pub returns-in-Ok-clause-valid : goal.returns-in-Ok-clause-valid
+returns-in-Ok-clause-valid g c is_done request asked claims =
+    let C = g.C.Cabinet in
+    let S = g.S.Source in
+    let K = g.K.Sink in
+    kept_told C.tells (words_of c.args.words.now)
+    (files_by C.exchanges C.held C.fetch_faults C.store_faults c.args.cabinet.now)
+    (files_by C.exchanges C.held C.fetch_faults C.store_faults c.prepare.new.cabinet)
+    c.in-Ok.prepared c.in-Ok.ensures c.perform.result
+    (λ (s : List ℕ). S.given c.perform.new.input ≡ S.given c.args.input.now ++ s)
+    (λ (p : List ℕ). K.accepted c.perform.new.out ≡ K.accepted c.args.out.now ++ p)
     c.perform.ensures.performed.answer is_done request asked
-    (λ exchanges s p. c.accepted_texts_keep_secrets.ensures request exchanges s p claims)
+    (HasValidObligations (top_in request))
+    (λ exchanges s p. c.accepted_texts_keep_secrets.ensures.valid request exchanges s p claims)
 
 pub returns-in-Err-Unread-clause-runs : goal.returns-in-Err-Unread-clause-runs
 returns-in-Err-Unread-clause-runs g c =

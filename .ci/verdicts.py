@@ -98,6 +98,29 @@ module tags(input clk, input rst, input dom, input {Dom(dom)} req, input {Dom(do
 endmodule
 """
 
+LANE = """module lane(input clk, input turn, input req, input bin, input [7:0] {Dom(turn)} d,
+  output reg g, output reg [7:0] lo, output reg [7:0] {H} hi, output bout);
+  assign bout = bin | req;
+  always @(posedge clk) begin
+    g <= req & ~bin & ~turn;
+    if (turn) hi <= d; else lo <= d;
+  end
+endmodule
+"""
+
+
+def lanes(count):
+    """A design of so many lanes, each linked to the one before it, with 14 obligations a lane."""
+    ports = "".join(f"  , input r{i}, input [7:0] {{Dom(turn)}} d{i}, output g{i}, output [7:0] l{i}, output [7:0] {{H}} h{i}\n" for i in range(count))
+    wires = "".join(f"  wire b{i};\n" for i in range(count))
+    before = ["1'b0", *(f"b{i}" for i in range(count - 1))]
+    links = "".join(f"  lane u{i}(.clk(clk), .turn(turn), .req(r{i}), .bin({b}), .d(d{i}), .g(g{i}), .lo(l{i}), .hi(h{i}), .bout(b{i}));\n"
+                    for i, b in enumerate(before))
+    return DOM.replace("D [", "Dom [") + LANE + "module top(input clk, input turn\n" + ports + "  );\n" + wires + links + END
+
+
+LANES = lanes(200)
+
 # The words behind `check f`, the text, and what is written: one list of values alone falsifies what is refused here, and is 0 where nothing hangs on it.
 CHECKS = [
     ("", GATE, "accepted 1 obligations\n"),
@@ -139,6 +162,8 @@ CHECKS = [
     ("", MULTIPLIER.replace("{H} busy", "{L} busy"), MULTIPLIER_LEAK),
     ("", MULTIPLIER.replace("{H} busy", "busy"), MULTIPLIER_LEAK),
     ("", TAGS, "accepted 66 obligations\n"),
+    # 200 lanes in a row
+    ("", LANES, "accepted 2800 obligations\n"),
     # conditions that always hold
     ("", "module m(input [2:0] a, b, input {H} h, output y);\n  assign y = a * b == b * a ? 0 : h;\n" + END, "accepted 2 obligations\n"),
     ("", "module m(input [3:0] a, b, c, input {H} h, output y);\n  assign y = (a + b) + c == a + (b + c) ? 0 : h;\n" + END, "accepted 2 obligations\n"),
@@ -227,7 +252,7 @@ CERTIFICATES = [
 LIMITS = [(MANY, "refused 702 paths y\n"), (LARGE.replace("  end\n", "    y[0] = a;\n  end\n"), "refused 712 obligation-size y\n"),
           (text_of_targets(17), "refused 703 obligations\n")]
 # Texts whose certificate `check --proof` stores and `verify` accepts, with how many obligations they have.
-STORED = [(TURN, 2), (CLEARED, 3), (COMPLETE, 4), (MULTIPLIER, 17), (COUNTERS, 8), (SUMS, 2), (TAGS, 66), ("module m; endmodule", 0),
+STORED = [(TURN, 2), (CLEARED, 3), (COMPLETE, 4), (MULTIPLIER, 17), (COUNTERS, 8), (SUMS, 2), (TAGS, 66), (LANES, 2800), ("module m; endmodule", 0),
           ("module m(output y); assign y = 1; endmodule", 1), (FOUR + "module m(input {Q} a, input {R} b, output {T} y); assign y = a & b; endmodule\n", 1)]
 
 

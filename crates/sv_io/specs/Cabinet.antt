@@ -15,6 +15,13 @@ IfLong (Err Failed) P = Unit {0}
 IfLong (Err (Long bytes)) P = P bytes.items
 IfLong (Err OutOfMemory) P = Unit {0}
 
+-- where a fetch answers with bytes, all of them or the first of too many, this holds
+abbrev pub IfAnswered : Result (Vec ℕ) FetchFault → Type 0 → Type 0
+IfAnswered (Ok bytes) P = P
+IfAnswered (Err Failed) P = Unit {0}
+IfAnswered (Err (Long bytes)) P = P
+IfAnswered (Err OutOfMemory) P = Unit {0}
+
 -- a name holds what it held before, or the first few of the new bytes
 abbrev pub KeepsOrBegins : Option (List ℕ) → List ℕ → Option (List ℕ) → Type 0
 KeepsOrBegins old bytes new = (new ≡ old) ⊎ ((count : ℕ) × (new ≡ Some (take count bytes)))

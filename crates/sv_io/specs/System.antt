@@ -1,4 +1,4 @@
--- What the objects over the real system remember: what passed, whether a file was read, how often
+-- What the objects over the real system remember: what passed, how many files were read, how often
 -- the system failed, and its last error.
 use Rattle.std.specs.Prelude.{ℕ, Bool, List}
 use Rattle.std.specs.Option.{is_some}
@@ -11,13 +11,17 @@ use Rattle.sv_io.specs.Exchange.{Exchange}
 abbrev pub file_exchanges : {R F O : Type 0} → FileCabinet R F O → List Exchange
 file_exchanges cabinet = cabinet.exchanges.calls
 
--- whether a file was read so far
-abbrev pub file_fetched : {R F O : Type 0} → FileCabinet R F O → Bool
-file_fetched cabinet = cabinet.fetched
+-- how many files were read so far
+abbrev pub file_reads : {R F O : Type 0} → FileCabinet R F O → ℕ
+file_reads cabinet = cabinet.files_read
 
--- how often the system failed
-abbrev pub file_faults : {R F O : Type 0} → FileCabinet R F O → ℕ
-file_faults cabinet = cabinet.faults
+-- how often the system failed to hand out a file
+abbrev pub file_fetch_faults : {R F O : Type 0} → FileCabinet R F O → ℕ
+file_fetch_faults cabinet = cabinet.fetch_faults
+
+-- how often the system failed to store a file
+abbrev pub file_store_faults : {R F O : Type 0} → FileCabinet R F O → ℕ
+file_store_faults cabinet = cabinet.store_faults
 
 -- whether it failed so far
 abbrev pub file_failed : {R F O : Type 0} → FileCabinet R F O → Bool

@@ -1,10 +1,10 @@
 // A cabinet, a source and a sink over the real system.
 ghost use Rattle.std.specs.Prelude.{◌≡◌, ◌≢◌, ℕ, ◌+◌, ◌<◌, ◌≤◌, ◌↔◌, ◌⊎◌, Bool, true, false, List};
-ghost use Rattle.std.specs.Prelude.{[], ◌∷◌, ◌++◌, take, None, Some, Ok, IfOk, OnOk, OnErr, IsErr};
-ghost use Rattle.std.specs.Prelude.{IsErrOf, IsTrue, length, vec_len};
+ghost use Rattle.std.specs.Prelude.{[], ◌∷◌, ◌++◌, take, None, Some, Ok, IfOk, OnOk, OnErr, IfSome};
+ghost use Rattle.std.specs.Prelude.{IsErr, IsErrOf, IsTrue, length, vec_len};
 ghost use Rattle.std.specs.Option.{is_some};
 ghost use Rattle.std.specs.Io.KnownBytes.{Keeps, Appends, Consumes, IsAtEnd};
-ghost use Rattle.sv_io.specs.Cabinet.{IfLong};
+ghost use Rattle.sv_io.specs.Cabinet.{IfAnswered, IfLong};
 ghost use Rattle.sv_io.specs.Count.{Rose};
 
 use super::faults::{Failed, FetchFault, PutFault, StoreFault};
@@ -17,30 +17,35 @@ use std::rt::Files;
 use std::{fs, io};
 
 /// The files of the system, by their paths. What they hold is not told. One count, which goes up at
-/// each error of the system, is the count of every name.
+/// each error of the system in a fetch, is the count of fetches of every name, and one is that of
+/// stores.
 #[derive(Drop)]
 pub struct FileCabinet<R: Files> {
     runtime: R,
-    fetched: bool,
-    faults: u64,
+    files_read: u32,
+    fetch_faults: u64,
+    store_faults: u64,
     last_error: Option<io::Error>,
     exchanges: Exchanges,
 }
 
 impl<R: Files> FileCabinet<R> {
-    ghost use Rattle.sv_io.specs.System.{file_exchanges, file_fetched, file_faults, file_failed};
+    ghost use Rattle.sv_io.specs.System.{file_exchanges, file_reads, file_fetch_faults};
+    ghost use Rattle.sv_io.specs.System.{file_store_faults, file_failed};
 
     /// Over the files that the runtime reaches.
     pub fn new(runtime: R) -> FileCabinet<R>
         ensures no_exchange { file_exchanges result ≡ [] }
-        ensures none_fetched { file_fetched result ≡ false }
-        ensures no_fault { file_faults result ≡ 0 }
+        ensures none_read { file_reads result ≡ 0 }
+        ensures no_fetch_failed { file_fetch_faults result ≡ 0 }
+        ensures no_store_failed { file_store_faults result ≡ 0 }
         ensures no_error { file_failed result ≡ false }
     {
         FileCabinet {
             runtime,
-            fetched: false,
-            faults: 0,
+            files_read: 0,
+            fetch_faults: 0,
+            store_faults: 0,
             last_error: None,
             exchanges: Exchanges::new(),
         }
@@ -54,12 +59,13 @@ impl<R: Files> FileCabinet<R> {
         self.last_error.as_ref()
     }
 
-    /// Whether a fetch read a file so far. It is there for the messages that a program shows to a
-    /// person: where it reads one file after the other, this tells which of them failed.
-    pub fn has_fetched(&self) -> bool
-        ensures { result ≡ file_fetched self.now }
+    /// How many files fetches have read so far, 4,294,967,295 where there are more. It is there for
+    /// the messages that a program shows to a person: where it reads one file after the other, this
+    /// tells which of them failed.
+    pub fn files_read(&self) -> u32
+        ensures { result ≡ file_reads self.now }
     {
-        self.fetched
+        self.files_read
     }
 
     // All the bytes of the file, or the first of them where they are more than the limit.
@@ -68,41 +74,83 @@ impl<R: Files> FileCabinet<R> {
         ensures within { IfOk result (λ bytes. vec_len bytes ≤ limit) }
         ensures long_length { IfLong result (λ bytes. length bytes ≡ limit + 1) }
         ensures failed { IsErrOf result FetchFault.Failed →
-            Rose (file_faults self.old) (file_faults self.new) }
-        ensures counts { file_faults self.old ≤ file_faults self.new }
+            Rose (file_fetch_faults self.old) (file_fetch_faults self.new) }
+        ensures counts { file_fetch_faults self.old ≤ file_fetch_faults self.new }
+        ensures kept { IfAnswered result (file_fetch_faults self.new ≡ file_fetch_faults self.old) }
+        ensures store_counts { file_store_faults self.new ≡ file_store_faults self.old }
         ensures cause { IsErrOf result FetchFault.Failed → IsTrue (file_failed self.new) }
-        ensures fetched { IfOk result (λ _. file_fetched self.new ≡ true) }
         ensures exchanges { file_exchanges self.new ≡ file_exchanges self.old }
     {
-        let mut bytes = Vec::new(alloc);
-        if let Err(error) = read_front(&self.runtime, name, limit + 1, &mut bytes) {
-            let fault = match error.kind() {
-                ErrorKind::OutOfMemory => FetchFault::OutOfMemory,
-                _ => FetchFault::Failed,
-            };
-            self.faults = self.faults.saturating_add(1);
-            self.last_error = Some(error);
-            return Err(fault);
+        let opened = fs::open(&self.runtime, name);
+        self.read_opened(alloc, opened, limit)
+    }
+
+    // The same of a file that was opened, or of another reader.
+    fn read_opened<F: Read>(
+        &mut self,
+        alloc: Global,
+        opened: io::Result<F>,
+        limit: u64,
+    ) -> Result<Vec<u8>, FetchFault>
+    where
+        F: Drop,
+        requires { limit < 18446744073709551615 }
+        ensures within { IfOk result (λ bytes. vec_len bytes ≤ limit) }
+        ensures long_length { IfLong result (λ bytes. length bytes ≡ limit + 1) }
+        ensures failed { IsErrOf result FetchFault.Failed →
+            Rose (file_fetch_faults self.old) (file_fetch_faults self.new) }
+        ensures counts { file_fetch_faults self.old ≤ file_fetch_faults self.new }
+        ensures kept { IfAnswered result (file_fetch_faults self.new ≡ file_fetch_faults self.old) }
+        ensures store_counts { file_store_faults self.new ≡ file_store_faults self.old }
+        ensures cause { IsErrOf result FetchFault.Failed → IsTrue (file_failed self.new) }
+        ensures exchanges { file_exchanges self.new ≡ file_exchanges self.old }
+
+        // What is handed out is what the reader gives, where that is known.
+        ensures whole { IfOk opened (λ file. IfSome (F.remaining file)
+            (λ xs. IfOk result (λ bytes. bytes.items ≡ xs))) }
+        ensures long_front { IfOk opened (λ file. IfSome (F.remaining file)
+            (λ xs. IfLong result (λ bytes. bytes ≡ take (limit + 1) xs))) }
+    {
+        match first_bytes(alloc, opened, limit + 1) {
+            Ok(bytes) => {
+                self.files_read = self.files_read.saturating_add(1);
+                within_limit(bytes, limit)
+            }
+            Err(error) => Err(self.fetch_failed(error)),
         }
-        self.fetched = true;
-        if bytes.len() as u64 <= limit {
-            return Ok(bytes);
-        }
-        bytes.truncate(limit as usize + 1);
-        Err(FetchFault::Long(bytes))
+    }
+
+    // Counts a failed fetch, and keeps why it failed.
+    fn fetch_failed(&mut self, error: io::Error) -> FetchFault
+        ensures answer { (result ≡ FetchFault.Failed) ⊎ (result ≡ FetchFault.OutOfMemory) }
+        ensures rose { Rose (file_fetch_faults self.old) (file_fetch_faults self.new) }
+        ensures counts { file_fetch_faults self.old ≤ file_fetch_faults self.new }
+        ensures store_counts { file_store_faults self.new ≡ file_store_faults self.old }
+        ensures cause { IsTrue (file_failed self.new) }
+        ensures exchanges { file_exchanges self.new ≡ file_exchanges self.old }
+    {
+        let fault = match error.kind() {
+            ErrorKind::OutOfMemory => FetchFault::OutOfMemory,
+            _ => FetchFault::Failed,
+        };
+        self.fetch_faults = self.fetch_faults.saturating_add(1);
+        self.last_error = Some(error);
+        fault
     }
 
     // Puts the bytes into the file, in place of what was there.
     fn write(&mut self, name: &str, bytes: &[u8]) -> Result<(), StoreFault>
         ensures failed { IsErrOf result StoreFault.Failed →
-            Rose (file_faults self.old) (file_faults self.new) }
-        ensures counts { file_faults self.old ≤ file_faults self.new }
+            Rose (file_store_faults self.old) (file_store_faults self.new) }
+        ensures counts { file_store_faults self.old ≤ file_store_faults self.new }
+        ensures kept { OnOk result (file_store_faults self.new ≡ file_store_faults self.old) }
+        ensures fetch_counts { file_fetch_faults self.new ≡ file_fetch_faults self.old }
         ensures exchanges { file_exchanges self.new ≡ file_exchanges self.old }
     {
         match fs::write(&self.runtime, name, bytes) {
             Ok(()) => Ok(()),
             Err(error) => {
-                self.faults = self.faults.saturating_add(1);
+                self.store_faults = self.store_faults.saturating_add(1);
                 self.last_error = Some(error);
                 Err(StoreFault::Failed)
             }
@@ -111,7 +159,7 @@ impl<R: Files> FileCabinet<R> {
 }
 
 impl<R: Files> Cabinet for FileCabinet<R> {
-    ghost use Rattle.sv_io.specs.System.{file_exchanges, file_faults};
+    ghost use Rattle.sv_io.specs.System.{file_exchanges, file_fetch_faults, file_store_faults};
 
     ghost exchanges = { file_exchanges };
 
@@ -119,9 +167,9 @@ impl<R: Files> Cabinet for FileCabinet<R> {
 
     ghost held = { λ _ _. None };
 
-    ghost fetch_faults = { λ cabinet _. file_faults cabinet };
+    ghost fetch_faults = { λ cabinet _. file_fetch_faults cabinet };
 
-    ghost store_faults = { λ cabinet _. file_faults cabinet };
+    ghost store_faults = { λ cabinet _. file_store_faults cabinet };
 
     fn fetch(&mut self, alloc: Global, name: &str, limit: u64) -> Result<Vec<u8>, FetchFault> {
         let answer = self.read(alloc, name, limit);
@@ -136,10 +184,32 @@ impl<R: Files> Cabinet for FileCabinet<R> {
     }
 }
 
-// Reads the first bytes of the file, at most `most`.
-fn read_front(files: &impl Files, name: &str, most: u64, bytes: &mut Vec<u8>) -> io::Result<()> {
-    fs::open(files, name)?.take(most).read_to_end(bytes)?;
-    Ok(())
+// The first bytes of a file that was opened, at most `most`.
+fn first_bytes<F: Read>(alloc: Global, opened: io::Result<F>, most: u64) -> io::Result<Vec<u8>>
+where
+    F: Drop,
+    ensures { IfOk opened (λ file. IfSome (F.remaining file)
+        (λ xs. IfOk result (λ bytes. bytes.items ≡ take most xs))) }
+{
+    let mut bytes = Vec::new(alloc);
+    opened?.take(most).read_to_end(&mut bytes)?;
+    Ok(bytes)
+}
+
+// All of the bytes where they are at most `limit`, else the first `limit + 1` of them.
+fn within_limit(mut bytes: Vec<u8>, limit: u64) -> Result<Vec<u8>, FetchFault>
+    requires { limit < 18446744073709551615 }
+    ensures whole { IfOk result (λ all. all.items ≡ bytes.items) }
+    ensures within { IfOk result (λ all. vec_len all ≤ limit) }
+    ensures long { IfLong result (λ front. front ≡ take (limit + 1) bytes.items) }
+    ensures long_length { IfLong result (λ front. length front ≡ limit + 1) }
+    ensures never_failed { IsErrOf result FetchFault.Failed → ⊥ }
+{
+    if bytes.len() as u64 <= limit {
+        return Ok(bytes);
+    }
+    bytes.truncate(limit as usize + 1);
+    Err(FetchFault::Long(bytes))
 }
 
 /// Standard input, or another reader. The bytes that are left are not told.
@@ -205,6 +275,7 @@ impl<R: Read> Source for StdSource<R> {
             (IsTrue (source_ended self.old) ⊎ ((result ≡ Ok 0) × (0 < length buf.old))) }
         ensures failed { IsErr result → Rose (source_faults self.old) (source_faults self.new) }
         ensures counts { source_faults self.old ≤ source_faults self.new }
+        ensures kept { OnOk result (source_faults self.new ≡ source_faults self.old) }
 
         // What is given is what the reader gave, and the end is the reader's, where it is known
         // what a reader gives.
@@ -305,6 +376,7 @@ impl<W: Write> Sink for StdSink<W> {
         ensures failed { IsErrOf result PutFault.Failed →
             Rose (sink_faults self.old) (sink_faults self.new) }
         ensures counts { sink_faults self.old ≤ sink_faults self.new }
+        ensures kept { OnOk result (sink_faults self.new ≡ sink_faults self.old) }
 
         // What is accepted is what the writer took, where it is known what a writer holds.
         ensures written { IfOk result (λ count.

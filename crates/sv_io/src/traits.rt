@@ -2,7 +2,7 @@
 ghost use Rattle.std.specs.Prelude.{◌≡◌, ◌≢◌, ℕ, ◌+◌, ◌<◌, ◌≤◌, ◌↔◌, ◌⊎◌, Bool, IsTrue, List};
 ghost use Rattle.std.specs.Prelude.{[], ◌∷◌, ◌++◌, take, length, Option, Some, Ok, Err, IfOk, OnOk};
 ghost use Rattle.std.specs.Prelude.{OnErr, IsErr, IsErrOf, vec_len};
-ghost use Rattle.sv_io.specs.Cabinet.{bytes_under, IfLong, KeepsOrBegins};
+ghost use Rattle.sv_io.specs.Cabinet.{bytes_under, IfAnswered, IfLong, KeepsOrBegins};
 ghost use Rattle.sv_io.specs.Count.{Rose};
 ghost use Rattle.sv_io.specs.Exchange.{Exchange, fetched, stored, fetched_of, is_done};
 ghost use Rattle.sv_io.specs.Sink.{WritesFront};
@@ -52,8 +52,10 @@ pub trait Cabinet {
         ensures unchanged { (other : List ℕ) → held self.new other ≡ held self.old other }
         ensures fetch_counts { (other : List ℕ) →
             fetch_faults self.old other ≤ fetch_faults self.new other }
+        ensures kept { IfAnswered result ((other : List ℕ) →
+            fetch_faults self.new other ≡ fetch_faults self.old other) }
         ensures store_counts { (other : List ℕ) →
-            store_faults self.old other ≤ store_faults self.new other };
+            store_faults self.new other ≡ store_faults self.old other };
 
     /// Puts the bytes under the name, in place of what was there.
     fn store(&mut self, name: &str, bytes: &[u8]) -> Result<(), StoreFault>
@@ -69,10 +71,12 @@ pub trait Cabinet {
 
         ensures failed { IsErrOf result StoreFault.Failed →
             Rose (store_faults self.old name.now) (store_faults self.new name.now) }
-        ensures fetch_counts { (other : List ℕ) →
-            fetch_faults self.old other ≤ fetch_faults self.new other }
         ensures store_counts { (other : List ℕ) →
-            store_faults self.old other ≤ store_faults self.new other };
+            store_faults self.old other ≤ store_faults self.new other }
+        ensures kept { OnOk result ((other : List ℕ) →
+            store_faults self.new other ≡ store_faults self.old other) }
+        ensures fetch_counts { (other : List ℕ) →
+            fetch_faults self.new other ≡ fetch_faults self.old other };
 }
 
 /// Bytes that are taken piece by piece, as from standard input.
@@ -107,7 +111,8 @@ pub trait Source {
             (IsTrue (ended self.old) ⊎ ((result ≡ Ok 0) × (0 < length buf.old))) }
         ensures refused { IsTrue tells → OnErr result (left self.new ≡ left self.old) }
         ensures failed { IsErr result → Rose (faults self.old) (faults self.new) }
-        ensures counts { faults self.old ≤ faults self.new };
+        ensures counts { faults self.old ≤ faults self.new }
+        ensures kept { OnOk result (faults self.new ≡ faults self.old) };
 }
 
 /// Where bytes are put piece by piece, as to standard output.
@@ -128,7 +133,8 @@ pub trait Sink {
             (λ count. accepted self.new ≡ accepted self.old ++ take count piece.now) }
         ensures refused { OnErr result (accepted self.new ≡ accepted self.old) }
         ensures failed { IsErrOf result PutFault.Failed → Rose (faults self.old) (faults self.new) }
-        ensures counts { faults self.old ≤ faults self.new };
+        ensures counts { faults self.old ≤ faults self.new }
+        ensures kept { OnOk result (faults self.new ≡ faults self.old) };
 }
 
 /// Puts the whole piece. Refused, the front of the piece was accepted.
@@ -138,6 +144,7 @@ pub fn put_all<K: Sink>(out: &mut K, piece: &[u8]) -> Result<(), PutFault>
         (WritesFront (K.accepted out.old) piece.now (K.accepted out.new)) }
     ensures failed { IsErrOf result PutFault.Failed → Rose (K.faults out.old) (K.faults out.new) }
     ensures counts { K.faults out.old ≤ K.faults out.new }
+    ensures kept { OnOk result (K.faults out.new ≡ K.faults out.old) }
 {
     let mut rest = piece;
     while !rest.is_empty() {

@@ -4,3 +4,5 @@ pub mod LabelFacts
 pub mod StayFacts
 pub mod FlowTextFacts
 pub mod OneText
+pub mod JsonFacts
+pub mod JsonExamples

@@ -1,4 +1,7 @@
 pub mod Rules
 pub mod Text
 pub mod FlowText
+pub mod JsonTexts
+pub mod Styles
 pub mod Verdicts
+pub mod JsonVerdicts

@@ -57,3 +57,20 @@ abbrev pub stimulus_text : StimSource → (line : ℕ) → StimKind → List ℕ
 stimulus_text source line kind =
     codes "refused stimulus " ++ source_word source ++ (codes " " ++ decimal line ++ codes " ")
     ++ kind_word kind ++ codes "\n"
+
+-- the inputs of two runs differ: the cycle, from 0, and the first signal that is told apart
+abbrev pub input_text : (cycle : ℕ) → (name : List ℕ) → List ℕ
+input_text cycle name =
+    codes "differ input " ++ decimal cycle ++ codes " " ++ name ++ codes "\n"
+
+-- the inputs look alike, and the views of two runs differ
+abbrev pub view_text : (cycle : ℕ) → (name : List ℕ) → List ℕ
+view_text cycle name = codes "differ view " ++ decimal cycle ++ codes " " ++ name ++ codes "\n"
+
+-- all is alike until the shorter of two runs ends, which has so many cycles
+abbrev pub lengths_text : (cycles : ℕ) → List ℕ
+lengths_text cycles = codes "differ length " ++ decimal cycles ++ codes "\n"
+
+-- all is alike in two runs of so many cycles
+abbrev pub equal_text : (cycles : ℕ) → List ℕ
+equal_text cycles = codes "equal " ++ decimal cycles ++ codes " cycles\n"

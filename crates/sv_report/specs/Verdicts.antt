@@ -1,11 +1,12 @@
 -- The text of a verdict (this project's profile).
-use Rattle.std.specs.Prelude.{◌≡◌, ℕ, List, Option, Some, None}
+use Rattle.std.specs.Prelude.{◌≡◌, ℕ, ◌<◌, List, [], length, Option, Some, None}
 use Rattle.sv_flat.specs.declared.designs.Flat.{Flat}
 use Rattle.sv_flat.specs.Design.{FlatDesign}
 use Rattle.sv_flat.specs.Views.{design_of}
 use Rattle.sv_obl.specs.declared.queries.Query.{Query}
 use Rattle.sv_obl.specs.declared.valuations.Valuation.{Valuation}
 use Rattle.sv_obl.specs.DesignQueries.{IsQueryOf}
+use Rattle.sv_obl.specs.ListLines.{name_of}
 use Rattle.sv_obl.specs.Obligations.{Obligation}
 use Rattle.sv_obl.specs.Validity.{Falsifies}
 use Rattle.sv_obl.specs.Valuations.{FitsDesign, valuation_of}
@@ -16,7 +17,8 @@ use Rattle.sv_report.specs.declared.verdicts.Verdict.{Verdict}
 use Rattle.sv_report.specs.declared.verdicts.Verdict.TheVariants as verdict
 use Rattle.sv_report.specs.FlowText.{AsksFlow, IsFlowText}
 use Rattle.sv_report.specs.Text.{accepted_text, refusal_text, limit_text, fault_text}
-use Rattle.sv_report.specs.Text.{stimulus_text, unknown_text}
+use Rattle.sv_report.specs.Text.{input_text, lengths_text, stimulus_text, unknown_text}
+use Rattle.sv_report.specs.Text.{view_text}
 
 -- the obligation is one of the design's, asks of labels, and fails at the values
 pub record FailsAt (design : FlatDesign) (o : Obligation) (v : Valuation) : Type 0 where
@@ -31,9 +33,16 @@ IsGivenFailing (Some design) (Some query) v = FailsAt (design_of design) (obliga
 IsGivenFailing (Some design) None v = ⊥
 IsGivenFailing None query v = ⊥
 
--- an obligation that fails is given with its design
+-- a design is given, and the signal is one of it
+abbrev pub IsGivenSignal : Option Flat → (signal : ℕ) → Type 0
+IsGivenSignal (Some design) s = s < length design.signals.items
+IsGivenSignal None s = ⊥
+
+-- an obligation that fails is given with its design, and so is a signal
 abbrev pub HasCause : Option Flat → Option Query → Broken → Type 0
 HasCause design query (broken.Fails number v) = IsGivenFailing design query v
+HasCause design query (broken.Input cycle s) = IsGivenSignal design s.0
+HasCause design query (broken.View cycle s) = IsGivenSignal design s.0
 HasCause design query other = Unit {0}
 
 abbrev pub IsTellable : Option Flat → Option Query → Verdict → Type 0
@@ -48,6 +57,11 @@ IsGivenFlowText (Some design) (Some query) number v text =
 IsGivenFlowText (Some design) None number v text = ⊥
 IsGivenFlowText None query number v text = ⊥
 
+-- the name of a signal of the given design; nothing where none is given
+abbrev pub given_name : Option Flat → (signal : ℕ) → List ℕ
+given_name (Some design) s = name_of (design_of design).signals s
+given_name None s = []
+
 -- the text tells why something is refused
 abbrev pub IsRefusalText : Option Flat → Option Query → Broken → (text : List ℕ) →
     Type 0
@@ -58,6 +72,11 @@ IsRefusalText design query (broken.Limit number names) text = text ≡ limit_tex
 IsRefusalText design query (broken.Proof line) text = text ≡ fault_text line
 IsRefusalText design query (broken.Stimulus source line kind) text =
     text ≡ stimulus_text source line kind
+IsRefusalText design query (broken.Input cycle s) text =
+    text ≡ input_text cycle (given_name design s.0)
+IsRefusalText design query (broken.View cycle s) text =
+    text ≡ view_text cycle (given_name design s.0)
+IsRefusalText design query (broken.Lengths cycles) text = text ≡ lengths_text cycles
 
 -- the text tells the verdict
 abbrev pub IsVerdictText : Option Flat → Option Query → Verdict → (text : List ℕ) →

@@ -1,8 +1,9 @@
 // The texts that name no values.
-ghost use Rattle.std.specs.Prelude.{◌≡◌, ◌++◌, IfOk, OnOk};
+ghost use Rattle.std.specs.Prelude.{◌≡◌, ◌++◌, codes, IfOk, OnOk};
 ghost use Rattle.sv_report.specs.Text.{accepted_text, names_text, refusal_text, limit_text};
 ghost use Rattle.sv_report.specs.Text.{fault_text, unknown_text, source_word, kind_word};
-ghost use Rattle.sv_report.specs.Text.{stimulus_text};
+ghost use Rattle.sv_report.specs.Text.{stimulus_text, input_text, view_text, lengths_text};
+ghost use Rattle.sv_report.specs.Text.{equal_text};
 
 use crate::rules::rule_name;
 use crate::verdicts::StimSource;
@@ -115,4 +116,52 @@ pub fn stimulus_text(
     text.extend_from_slice(kind_word(kind).as_bytes())?;
     text.push(b'\n')?;
     Ok(text)
+}
+
+// A line that ends with a name.
+fn line_with(alloc: Global, before: &str, name: &[u8]) -> Result<Vec<u8>, AllocError>
+    ensures { IfOk result (λ text. text.items ≡ before.now ++ name.now ++ codes "\n") }
+{
+    let mut text = Vec::from_slice(alloc, before.as_bytes())?;
+    text.extend_from_slice(name)?;
+    text.push(b'\n')?;
+    Ok(text)
+}
+
+/// That in this cycle, from 0, what a level sees of the inputs of two runs differs, in cycle 0 of
+/// their registers too, and that the signal of this name is the first that tells them apart.
+pub fn input_text(alloc: Global, cycle: u64, name: &[u8]) -> Result<Vec<u8>, AllocError>
+    ensures { IfOk result (λ text. text.items ≡ input_text cycle name.now) }
+{
+    let before = format!(in alloc; "differ input {cycle} ")?;
+    line_with(alloc, &before, name)
+}
+
+/// That in this cycle, from 0, the inputs of two runs look alike and their views differ, and that
+/// the signal of this name is the first that tells them apart.
+pub fn view_text(alloc: Global, cycle: u64, name: &[u8]) -> Result<Vec<u8>, AllocError>
+    ensures { IfOk result (λ text. text.items ≡ view_text cycle name.now) }
+{
+    let before = format!(in alloc; "differ view {cycle} ")?;
+    line_with(alloc, &before, name)
+}
+
+/// That two runs look alike until the shorter one ends, which has so many cycles.
+pub fn lengths_text(alloc: Global, cycles: u64) -> Result<Vec<u8>, AllocError>
+    ensures { IfOk result (λ text. text.items ≡ lengths_text cycles) }
+{
+    Vec::from_slice(
+        alloc,
+        format!(in alloc; "differ length {cycles}\n")?.as_bytes(),
+    )
+}
+
+/// That two runs of so many cycles look alike.
+pub fn equal_text(alloc: Global, cycles: u64) -> Result<Vec<u8>, AllocError>
+    ensures { IfOk result (λ text. text.items ≡ equal_text cycles) }
+{
+    Vec::from_slice(
+        alloc,
+        format!(in alloc; "equal {cycles} cycles\n")?.as_bytes(),
+    )
 }

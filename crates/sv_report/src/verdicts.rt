@@ -1,4 +1,5 @@
 // What is found of a text.
+use sv_flat::SigId;
 use sv_num::{Name, Refusal};
 use sv_obl::Valuation;
 use sv_trace::StimKind;
@@ -14,7 +15,7 @@ pub enum StimSource {
     FileB,
 }
 
-/// Why a text is refused.
+/// Why a text, a certificate, a stimulus or a pair of runs is refused.
 #[derive(Debug, Drop)]
 pub enum Broken {
     /// The text breaks a rule.
@@ -27,6 +28,14 @@ pub enum Broken {
     Proof(u64),
     /// The line of this number, from 1, is the first wrong one of the stimulus.
     Stimulus(StimSource, u64, StimKind),
+    /// In this cycle, from 0, the inputs of two runs differ, in cycle 0 inputs or registers, and
+    /// the signal is the first that tells them apart.
+    Input(u64, SigId),
+    /// In this cycle, from 0, the inputs of two runs look alike and the views differ, and the
+    /// signal is the first that tells them apart.
+    View(u64, SigId),
+    /// Two runs look alike until the shorter one ends, which has so many cycles.
+    Lengths(u64),
 }
 
 /// What a text is found to be.

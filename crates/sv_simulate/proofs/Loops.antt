@@ -34,6 +34,7 @@ use Rattle.sv_simulate.specs.Progress.{HasReached, IsSameAs, LeavesRoom}
 use Rattle.sv_simulate.specs.Runners.{order_in}
 use Rattle.sv_simulate.specs.Runs.{ending_from}
 use Rattle.sv_simulate.specs.Simulated.{largest_stimulus, is_within, read_of, ending_of}
+use Rattle.sv_simulate.proofs.CallFacts.{on_error}
 use Rattle.sv_simulate.proofs.Reached.{failed_front, come_failed, come_all, empty}
 use Rattle.sv_simulate.proofs.ReadFronts.{same_grows}
 use Rattle.sv_simulate.proofs.ReadOf.{within_reads, front_grows, over_more, wrong_reads, ends_wrong}
@@ -406,6 +407,21 @@ under_way before s made going come = record {
 module _ (tells : Bool) (g0 g1 l0 l1 taken : List ℕ) (left : ℕ) (before accepted : List ℕ)
     (s : Simulation) (takes : Takes tells g0 g1 l0 l1 taken)
     (way : IsUnderWay taken left before accepted s) where
+  -- whatever follows the bytes that were taken
+  pub stops_open : (ended : Bool)
+      → WhateverFollows ended g0 g1 (λ bytes. StopsAt bytes before accepted s)
+  stops_open ended goes_on bytes more is =
+      let first : List ℕ = take largest_stimulus taken in
+      let rest : List ℕ = drop largest_stimulus taken in
+      let few : length first ≤ largest_stimulus =
+      omega (arith, length-take largest_stimulus taken) in
+      let same : taken ≡ bytes = append_cancel_left g0 taken bytes (sym takes.given ∙ is) in
+      subst (λ all. StopsAt (all ++ more) before accepted s) same
+      (front_of_come first (rest ++ more) (taken ++ more) before accepted s (order_in s.runner)
+      way.made way.come few
+      (ap (λ all. all ++ more) (sym (take-append-drop largest_stimulus taken))
+      ∙ append_assoc first rest more))
+
   -- nothing more could be taken
   pub stops_taken : StopsWith tells g0 g1 l0 l1 before accepted s
   stops_taken =
@@ -522,6 +538,30 @@ piece_open given_old given_new taken piece rest before accepted ended ends old n
     subst (λ first. HasReached (first ++ more) ends before accepted new) same
     (subst (λ all. HasReached all ends before accepted new) (sym (append_assoc taken piece more))
     (reads more (not_the_end ended piece more shown goes_on)))
+
+-- the piece brought a fault
+pub piece_stops_open : (given_old given_new taken piece : List ℕ) (rest : ℕ)
+    (before accepted : List ℕ) (ended : Bool) (fault : SimFault) (old new : Simulation)
+    → given_new ≡ given_old ++ (taken ++ piece) → (piece ≡ [] → IsTrue ended)
+    → PieceReads taken piece rest before accepted (Err fault) old new
+    → WhateverFollows ended given_old given_new (λ bytes. StopsAt bytes before accepted old)
+piece_stops_open given_old given_new taken piece rest before accepted ended fault old new given
+    shown reads goes_on bytes more is =
+    let same : taken ++ piece ≡ bytes =
+    append_cancel_left given_old (taken ++ piece) bytes (sym given ∙ is) in
+    subst (λ first. StopsAt (first ++ more) before accepted old) same
+    (subst (λ all. StopsAt all before accepted old) (sym (append_assoc taken piece more))
+    (reads more (not_the_end ended piece more shown goes_on)))
+
+-- what is said of one simulation is said of another with the same design, level and order
+pub open_same : {T E : Type 0} (r : Result T E) (ended : Bool)
+    (given_old given_new before accepted : List ℕ) (old new : Simulation) → IsSameAs old new
+    → WhateverFollows ended given_old given_new (λ bytes. StopsAt bytes before accepted new)
+    → WhateverFollows ended given_old given_new
+    (λ bytes. OnErr r (StopsAt bytes before accepted old))
+open_same r ended given_old given_new before accepted old new same stops goes_on taken more is =
+    on_error r
+    (stops_same (taken ++ more) before accepted old new same (stops goes_on taken more is))
 
 -- there were too many bytes
 pub large_open : (given_old given_new taken : List ℕ) (left : ℕ) (before accepted : List ℕ)

@@ -1,6 +1,6 @@
 -- What each step of the loop over the pieces leaves, for the functions of the stimuli.
-use Rattle.std.proofs.Common.{◌≡◌, ℕ, ◌+◌, ◌-◌, ◌≤◌, Bool, List, [], length, take}
-use Rattle.std.proofs.Common.{sym, ap, subst, arith, append-nil}
+use Rattle.std.proofs.Common.{◌≡◌, ℕ, ◌+◌, ◌-◌, ◌<◌, ◌≤◌, ◌↔◌, ◌⊎◌, Bool, List, [], length, take}
+use Rattle.std.proofs.Common.{sym, ap, subst, arith, append-nil, inl, ⊎_elim}
 use Rattle.std.specs.Prelude.{Result, Ok, Err, IsErrAnd, IsTrue}
 use Rattle.std.proofs.lemmas.List.{length-take}
 use Rattle.sv_simulate.specs.declared.endings.Ending.{Ending}
@@ -27,6 +27,21 @@ full_no_write e = cc
 pub read_no_write : fault.Read ≡ fault.Write → ⊥
 read_no_write e = cc
 
+-- ---- the end
+
+-- what showed nothing leaves the input open as it was
+pub still_open : {Shows : Type 0} (old new : Bool) → (IsTrue new ↔ (IsTrue old ⊎ Shows))
+    → (Shows → ⊥) → (IsTrue new ↔ IsTrue old)
+still_open old new shows none = (
+  λ after. ⊎_elim (λ before. before) (λ shown. absurd (none shown)) (shows.0 after),
+  λ before. shows.1 (inl before),
+)
+
+pub open_twice : (old mid new : Bool) → (IsTrue mid ↔ IsTrue old) → (IsTrue new ↔ IsTrue mid)
+    → (IsTrue new ↔ IsTrue old)
+open_twice old mid new first second =
+    (λ after. first.0 (second.0 after), λ before. second.1 (first.1 before))
+
 -- ---- what was taken
 
 -- nothing more was taken
@@ -37,11 +52,22 @@ takes_no_more tells g0 g1 g2 l0 l1 l2 taken first none =
     subst (λ bytes. Takes tells g0 g2 l0 l2 bytes) (append-nil taken)
     (takes_more tells g0 g1 g2 l0 l1 l2 taken [] first none)
 
+-- so many bytes were taken
+abbrev taken_so : ℕ → Result ℕ SimFault
+taken_so count = Ok count
+
 -- a piece is as long as its count
 pub piece_length : (count most : ℕ) (buffer now : List ℕ) → now ≡ buffer
     → (count ≤ most) × (count ≤ length buffer) → length (take count now) ≡ count
 piece_length count most buffer now same within =
     omega (arith, length-take count now, ap length same, within.1)
+
+-- a piece that is not empty shows no end
+pub some_taken : (count : ℕ) (now : List ℕ) → 0 < length (take count now)
+    → taken_so count ≡ taken_so 0 → ⊥
+some_taken count now some same =
+    let none : count ≡ 0 = cc in
+    omega (arith, length-take count now, none, some)
 
 pub piece_fits : (count most : ℕ) (buffer now : List ℕ) → now ≡ buffer
     → (count ≤ most) × (count ≤ length buffer) → most ≡ most - count + length (take count now)

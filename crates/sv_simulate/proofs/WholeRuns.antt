@@ -16,11 +16,12 @@ use Rattle.sv_simulate.specs.declared.endings.SimFault.{SimFault}
 use Rattle.sv_simulate.specs.declared.endings.SimFault.TheVariants as faults
 use Rattle.sv_simulate.specs.declared.simulations.Simulation.{Simulation}
 use Rattle.sv_simulate.specs.Fronts.{WritesFrontAt, WritesAllAt, EndsWith, StopsWith, WritesBy}
-use Rattle.sv_simulate.specs.Fronts.{RunsTo, WritesWhole}
+use Rattle.sv_simulate.specs.Fronts.{RunsTo, StopsAt, WritesWhole}
 use Rattle.sv_simulate.specs.Progress.{flat_of, IsSameAs, HasReached}
 use Rattle.sv_simulate.specs.Runners.{order_in, rounds_in}
 use Rattle.sv_simulate.specs.Simulated.{largest_stimulus, last_line, level_asked, IsSimulatedAt}
 use Rattle.sv_simulate.specs.Simulated.{IsSimulated, WritesFrontFor, WritesAllCycles}
+use Rattle.sv_simulate.proofs.CallFacts.{on_error}
 use Rattle.sv_simulate.proofs.WholeTexts.{Simulates, same_words, nothing_yet, wrote_front}
 use Rattle.sv_simulate.proofs.WholeTexts.{wrote_whole, front_for, all_for, no_other}
 use Rattle.sv_simulate.proofs.WholeTexts.{refused_for, refused_front, refused_only}
@@ -165,7 +166,39 @@ open_run old s before accepted new rounds ends ended given_old given_new same co
     wrote_whole old.design.now old.level (order_in old.runner) rounds s (taken ++ more) before
     accepted new ends (simulates_as old s same) (reached goes_on taken more is) count put
 
+-- a front of the last line was put
+pub open_front : (old s : Simulation) (before accepted new : List ℕ) (rounds : Option ℕ)
+    (ends : Ending) (ended : Bool) (given_old given_new : List ℕ) (r : Result Ending SimFault)
+    → IsSameAs old s → rounds ≡ rounds_in s.runner
+    → WritesFront accepted (last_line ends rounds) new
+    → WhateverFollows ended given_old given_new (λ bytes. HasReached bytes ends before accepted s)
+    → WhateverFollows ended given_old given_new (λ bytes. OnErr r (StopsAt bytes before new old))
+open_front old s before accepted new rounds ends ended given_old given_new r same count put reached
+    goes_on taken more is =
+    on_error r (wrote_front old.design.now old.level (order_in old.runner) rounds s (taken ++ more)
+    before accepted new ends (simulates_as old s same) (reached goes_on taken more is) count put)
+
+-- memory ran out before anything was read
+pub open_none : (design : FlatDesign) (shown : Option Point) (order : Option ℕ) (ended : Bool)
+    (given_old given_new before : List ℕ) (r : Result Ending SimFault) → IsDesign design
+    → WhateverFollows ended given_old given_new (λ bytes.
+    OnErr r (WritesFrontAt design (Some shown) order bytes before before))
+open_none design shown order ended given_old given_new before r admitted goes_on taken more is =
+    on_error r
+    (nothing_yet design admitted (Some shown) order (taken ++ more) before before refl)
+
 -- of a simulation, and of its design, level and order
+pub open_front_so : (flat : Flat) (level : Option Point) (order : Option ℕ) (s : Simulation)
+    (ended : Bool) (given_old given_new before accepted : List ℕ) (r : Result Ending SimFault)
+    → Simulates flat level order s
+    → WhateverFollows ended given_old given_new
+    (λ bytes. OnErr r (StopsAt bytes before accepted s))
+    → WhateverFollows ended given_old given_new (λ bytes.
+    OnErr r (WritesFrontAt (design_of flat) (Some level) order bytes before accepted))
+open_front_so flat level order s ended given_old given_new before accepted r is wrote =
+    same_words (λ d l o. WhateverFollows ended given_old given_new (λ bytes.
+    OnErr r (WritesFrontAt d (Some l) o bytes before accepted))) flat level order s is wrote
+
 pub open_so : (flat : Flat) (level : Option Point) (order : Option ℕ) (s : Simulation)
     (ended : Bool) (given_old given_new before accepted : List ℕ) (r : Result Ending SimFault)
     → Simulates flat level order s
@@ -283,6 +316,18 @@ open_at design level shown order ended given_old given_new before accepted r ask
       subst (λ a. IsSimulatedAt design a order (taken ++ more) ends text.0) (sym asked) text.1,
       text.2,
     ))
+    (wrote goes_on taken more is)
+
+pub open_front_at : (design : FlatDesign) (level : Option (List ℕ)) (shown : Option Point)
+    (order : Option ℕ) (ended : Bool) (given_old given_new before accepted : List ℕ)
+    (r : Result Ending SimFault) → level_asked design level ≡ Some shown
+    → WhateverFollows ended given_old given_new (λ bytes.
+    OnErr r (WritesFrontAt design (Some shown) order bytes before accepted))
+    → WhateverFollows ended given_old given_new (λ bytes.
+    OnErr r (WritesFrontFor design level order bytes before accepted))
+open_front_at design level shown order ended given_old given_new before accepted r asked wrote
+    goes_on taken more is =
+    on_fault r (front_for design level (Some shown) order (taken ++ more) before accepted asked)
     (wrote goes_on taken more is)
 
 -- ---- a level that is no point

@@ -12,10 +12,10 @@ use Rattle.sv_flat.specs.FlatSystem.{flat_system}
 use Rattle.sv_flat.specs.Schedules.{OrderedRun}
 use Rattle.sv_flat.specs.SignalLists.{inputs, registers}
 use Rattle.sv_flat.specs.Given.{given}
-use Rattle.sv_trace.specs.declared.faults.StimKind.{StimKind}
-use Rattle.sv_trace.specs.declared.faults.StimKind.TheVariants as kinds
 use Rattle.sv_trace.specs.Forms.{StimForm, form_of, name_in}
 use Rattle.sv_trace.specs.Stimulus.{LinesRead, read_front, read_whole, start_of, cycles_of}
+use Rattle.sv_report.specs.declared.verdicts.StimSource.TheVariants.{Input}
+use Rattle.sv_report.specs.Text.{limit_text, stimulus_text}
 use Rattle.sv_simulate.specs.declared.endings.Ending.{Ending}
 use Rattle.sv_simulate.specs.declared.endings.Ending.TheVariants as ending
 use Rattle.sv_simulate.specs.Traces.{form_in, IsTraceFrom, lines_from}
@@ -44,21 +44,14 @@ ending_of within read =
 
 -- ---- the last line
 
-abbrev pub kind_name : StimKind → List ℕ
-kind_name kinds.TooLong = codes "too-long"
-kind_name kinds.Header = codes "header"
-kind_name kinds.Name = codes "name"
-kind_name kinds.Value = codes "value"
-
 -- what stands behind the trace: the number of rounds, where an order was asked for and the whole
 -- stimulus was simulated, or why it was not
 abbrev pub last_line : Ending → (rounds : Option ℕ) → List ℕ
 last_line ending.Done None = []
 last_line ending.Done (Some rounds) = codes "rounds " ++ decimal rounds ++ codes "\n"
-last_line ending.NoLevel rounds = codes "refused 707 level\n"
-last_line ending.TooLarge rounds = codes "refused 704 stimulus-size\n"
-last_line (ending.WrongLine line kind) rounds =
-    codes "refused stimulus input " ++ decimal line ++ codes " " ++ kind_name kind ++ codes "\n"
+last_line ending.NoLevel rounds = limit_text 707 []
+last_line ending.TooLarge rounds = limit_text 704 []
+last_line (ending.WrongLine line kind) rounds = stimulus_text Input line kind
 
 -- ---- the whole text
 

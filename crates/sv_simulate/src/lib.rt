@@ -5,6 +5,7 @@
 //! `sv_event` where an order is asked for), and writes the lines of a piece before it takes more:
 //! no clause says when, but that where the input fails all lines of the cycles until then are
 //! written (`prompt`).
+//! A wrong line and an exceeded limit are told by the texts of `sv_report`.
 //!
 //! Promises that what is written is the trace of the stimulus, and then why it ends, which is told
 //! at its end or holds whatever follows: by `specs/Simulated.antt` over a flat design, whose traces

@@ -1,15 +1,14 @@
 // What is written, and when.
-ghost use Rattle.std.specs.Prelude.{◌≡◌, ◌≤◌, ◌++◌, [], None, IfOk, OnOk, OnErr, IsErrOf};
-ghost use Rattle.std.specs.Prelude.{string_bytes};
+ghost use Rattle.std.specs.Prelude.{◌≡◌, ◌≤◌, ◌++◌, [], Some, IfOk, OnOk, OnErr, IsErrOf};
 ghost use Rattle.sv_io.specs.Count.{Rose};
 ghost use Rattle.sv_io.specs.Sink.{WritesFront};
 ghost use Rattle.sv_simulate.specs.Runs.{PutsFront};
-ghost use Rattle.sv_simulate.specs.Simulated.{kind_name as name_of_kind, last_line as line_of};
+ghost use Rattle.sv_simulate.specs.Simulated.{last_line as line_of};
 
 use crate::endings::{Ending, SimFault};
 use std::alloc::{AllocError, Global};
 use sv_io::{Sink, put_all};
-use sv_trace::StimKind;
+use sv_report::{StimSource, limit_text, stimulus_text};
 
 // So many bytes of lines wait at most before they are put.
 const MOST_WAITING: usize = 65_536;
@@ -22,6 +21,7 @@ pub fn put_waiting<K: Sink>(out: &mut K, waiting: &mut Vec<u8>) -> Result<(), Si
         (WritesFront (K.accepted out.old) waiting.old.items (K.accepted out.new)) }
     ensures failed { IsErrOf result SimFault.Write → Rose (K.faults out.old) (K.faults out.new) }
     ensures counts { K.faults out.old ≤ K.faults out.new }
+    ensures kept { OnOk result (K.faults out.new ≡ K.faults out.old) }
     ensures read { IsErrOf result SimFault.Read → ⊥ }
 {
     put_all(out, waiting.as_slice())?;
@@ -37,6 +37,7 @@ pub fn put_line<K: Sink>(out: &mut K, waiting: &mut Vec<u8>, line: &[u8]) -> Res
         (WritesFront (K.accepted out.old) (waiting.old.items ++ line.now) (K.accepted out.new)) }
     ensures failed { IsErrOf result SimFault.Write → Rose (K.faults out.old) (K.faults out.new) }
     ensures counts { K.faults out.old ≤ K.faults out.new }
+    ensures kept { OnOk result (K.faults out.new ≡ K.faults out.old) }
     ensures read { IsErrOf result SimFault.Read → ⊥ }
 {
     waiting.extend_from_slice(line)?;
@@ -47,32 +48,20 @@ pub fn put_line<K: Sink>(out: &mut K, waiting: &mut Vec<u8>, line: &[u8]) -> Res
 }
 
 /// What stands behind the trace.
-pub fn last_line(alloc: Global, ending: Ending, rounds: Option<u64>) -> Result<String, AllocError>
-    ensures { IfOk result (λ line. string_bytes line ≡ line_of ending rounds) }
+pub fn last_line(alloc: Global, ending: Ending, rounds: Option<u64>) -> Result<Vec<u8>, AllocError>
+    ensures { IfOk result (λ line. line.items ≡ line_of ending rounds) }
 {
     match (ending, rounds) {
-        (Ending::Done, None) => Ok(String::new(alloc)),
-        (Ending::Done, Some(rounds)) => format!(in alloc; "rounds {rounds}\n"),
-        (Ending::NoLevel, _) => String::from_str(alloc, "refused 707 level\n"),
-        (Ending::TooLarge, _) => String::from_str(alloc, "refused 704 stimulus-size\n"),
-        (Ending::WrongLine(line, kind), _) => wrong_line(alloc, line, kind),
+        (Ending::Done, None) => Ok(Vec::new(alloc)),
+        (Ending::Done, Some(rounds)) => rounds_line(alloc, rounds),
+        (Ending::NoLevel, _) => limit_text(alloc, 707, &[]),
+        (Ending::TooLarge, _) => limit_text(alloc, 704, &[]),
+        (Ending::WrongLine(line, kind), _) => stimulus_text(alloc, StimSource::Input, line, kind),
     }
 }
 
-fn wrong_line(alloc: Global, line: u64, kind: StimKind) -> Result<String, AllocError>
-    ensures { IfOk result (λ text. string_bytes text ≡ line_of (Ending.WrongLine line kind) None) }
+fn rounds_line(alloc: Global, rounds: u64) -> Result<Vec<u8>, AllocError>
+    ensures { IfOk result (λ line. line.items ≡ line_of Ending.Done (Some rounds)) }
 {
-    let name = kind_name(kind);
-    format!(in alloc; "refused stimulus input {line} {name}\n")
-}
-
-fn kind_name(kind: StimKind) -> &'static str
-    ensures { result.now ≡ name_of_kind kind }
-{
-    match kind {
-        StimKind::TooLong => "too-long",
-        StimKind::Header => "header",
-        StimKind::Name => "name",
-        StimKind::Value => "value",
-    }
+    Vec::from_slice(alloc, format!(in alloc; "rounds {rounds}\n")?.as_bytes())
 }

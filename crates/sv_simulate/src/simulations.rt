@@ -100,6 +100,7 @@ impl<'a> Simulation<'a> {
         ensures failed { IsErrOf result SimFault.Write →
             Rose (K.faults out.old) (K.faults out.new) }
         ensures counts { K.faults out.old ≤ K.faults out.new }
+        ensures kept { OnOk result (K.faults out.new ≡ K.faults out.old) }
         ensures read { IsErrOf result SimFault.Read → ⊥ }
     {
         let found = ending_from(self.reader.feed(piece))?;
@@ -126,6 +127,7 @@ impl<'a> Simulation<'a> {
         ensures failed { IsErrOf result SimFault.Write →
             Rose (K.faults out.old) (K.faults out.new) }
         ensures counts { K.faults out.old ≤ K.faults out.new }
+        ensures kept { OnOk result (K.faults out.new ≡ K.faults out.old) }
         ensures read { IsErrOf result SimFault.Read → ⊥ }
     {
         let found = ending_from(self.reader.finish())?;
@@ -163,6 +165,7 @@ impl<'a> Simulation<'a> {
         ensures failed { IsErrOf result SimFault.Write →
             Rose (K.faults out.old) (K.faults out.new) }
         ensures counts { K.faults out.old ≤ K.faults out.new }
+        ensures kept { OnOk result (K.faults out.new ≡ K.faults out.old) }
         ensures read { IsErrOf result SimFault.Read → ⊥ }
     {
         self.start(alloc)?;
@@ -229,6 +232,7 @@ impl<'a> Simulation<'a> {
         ensures failed { IsErrOf result SimFault.Write →
             Rose (K.faults out.old) (K.faults out.new) }
         ensures counts { K.faults out.old ≤ K.faults out.new }
+        ensures kept { OnOk result (K.faults out.new ≡ K.faults out.old) }
         ensures read { IsErrOf result SimFault.Read → ⊥ }
     {
         self.runner.settle(self.cycle, inputs);

@@ -1,15 +1,16 @@
 // Stimuli from a source.
-ghost use Rattle.std.specs.Prelude.{◌≡◌, ℕ, ◌+◌, ◌-◌, ◌<◌, ◌≤◌, ◌==◌, List, [], ◌++◌, length};
-ghost use Rattle.std.specs.Prelude.{Err, Some, None, IsTrue, IsFalse, IfOk, OnOk, OnErr, IsErrOf};
-ghost use Rattle.std.specs.Prelude.{if◌then◌else◌, IsErr, IfErr, IfSome, take};
+ghost use Rattle.std.specs.Prelude.{◌≡◌, ℕ, ◌+◌, ◌-◌, ◌<◌, ◌≤◌, ◌==◌, ◌↔◌, ◌⊎◌, List, []};
+ghost use Rattle.std.specs.Prelude.{◌++◌, length, Ok, Err, Some, None, IsTrue, IsFalse, IfOk, OnOk};
+ghost use Rattle.std.specs.Prelude.{OnErr, IsErrOf, if◌then◌else◌, IsErr, IfErr, IfSome, take};
 ghost use Rattle.std.specs.Option.{ForSome, option_copied};
 ghost use Rattle.sv_flat.specs.Views.{design_of};
 ghost use Rattle.sv_design.specs.Designs.{IsDesign};
 ghost use Rattle.sv_io.specs.Count.{Rose};
 ghost use Rattle.sv_io.specs.Sink.{WritesFront};
 ghost use Rattle.sv_io.specs.Source.{WhateverFollows};
-ghost use Rattle.sv_simulate.specs.Fronts.{WritesAllAt, Takes, IsUnderWay, PieceReads};
-ghost use Rattle.sv_simulate.specs.Fronts.{EndsWith, StopsWith, RunsTo, WritesWhole};
+ghost use Rattle.sv_simulate.specs.Fronts.{WritesAllAt, WritesFrontAt, Takes, IsUnderWay};
+ghost use Rattle.sv_simulate.specs.Fronts.{PieceReads, EndsWith, StopsAt, StopsWith, RunsTo};
+ghost use Rattle.sv_simulate.specs.Fronts.{WritesWhole};
 ghost use Rattle.sv_simulate.specs.Progress.{flat_of, IsSimulating, IsSameAs, HasCome, HasReached};
 ghost use Rattle.sv_simulate.specs.Runners.{order_in};
 ghost use Rattle.sv_simulate.specs.Simulated.{largest_stimulus, IsSimulated, level_asked};
@@ -79,6 +80,11 @@ pub fn simulate<S: Source, K: Sink>(
     ensures told_front { IsTrue S.tells → OnErr result
         (WritesFrontFor (design_of design.now) (option_copied level.entry) order
         (S.left input.old) (K.accepted out.old) (K.accepted out.new)) }
+    // Unless the input has ended, it is a front of that of whatever begins with these bytes.
+    ensures front_to_the_end { WhateverFollows (S.ended input.new) (S.given input.old)
+        (S.given input.new) (λ bytes. OnErr result
+        (WritesFrontFor (design_of design.now) (option_copied level.entry) order bytes
+        (K.accepted out.old) (K.accepted out.new))) }
     ensures prompt { result ≡ Err SimFault.Read → (taken : List ℕ)
         × (S.given input.new ≡ S.given input.old ++ taken)
         × WritesAllCycles (design_of design.now) (option_copied level.entry) taken
@@ -92,6 +98,14 @@ pub fn simulate<S: Source, K: Sink>(
         Rose (S.faults input.old) (S.faults input.new) }
     ensures write_fault { result ≡ Err SimFault.Write →
         Rose (K.faults out.old) (K.faults out.new) }
+    // An ending comes only where nothing failed.
+    ensures unfailed { OnOk result ((S.faults input.new ≡ S.faults input.old)
+        × (K.faults out.new ≡ K.faults out.old)) }
+    // Behind the end that a take has shown nothing is taken: no fault of the input comes.
+    ensures unended { result ≡ Err SimFault.Read →
+        (IsTrue (S.ended input.new) ↔ IsTrue (S.ended input.old)) }
+    ensures no_write_fault { result ≡ Err SimFault.Read →
+        K.faults out.new ≡ K.faults out.old }
 {
     match shown_at(design, level) {
         Some(shown) => simulate_at(alloc, design, input, out, shown, order),
@@ -118,6 +132,7 @@ fn refuse_level<K: Sink>(alloc: Global, out: &mut K) -> Result<Ending, SimFault>
     ensures front { OnErr result (WritesFront (K.accepted out.old) (line_of Ending.NoLevel None)
         (K.accepted out.new)) }
     ensures failed { IsErrOf result SimFault.Write → Rose (K.faults out.old) (K.faults out.new) }
+    ensures kept { OnOk result (K.faults out.new ≡ K.faults out.old) }
     ensures read { IsErrOf result SimFault.Read → ⊥ }
 {
     put_last_line(alloc, out, Ending::NoLevel, None)?;
@@ -140,10 +155,19 @@ fn simulate_at<S: Source, K: Sink>(
     ensures to_the_end { WhateverFollows (S.ended input.new) (S.given input.old) (S.given input.new)
         (λ bytes. IfOk result (WritesWhole (design_of design.now) shown order bytes
         (K.accepted out.old) (K.accepted out.new))) }
+    ensures front_to_the_end { WhateverFollows (S.ended input.new) (S.given input.old)
+        (S.given input.new) (λ bytes. OnErr result (WritesFrontAt (design_of design.now)
+        (Some shown) order bytes (K.accepted out.old) (K.accepted out.new))) }
     ensures read_fault { IsErrOf result SimFault.Read →
         Rose (S.faults input.old) (S.faults input.new) }
     ensures write_fault { IsErrOf result SimFault.Write →
         Rose (K.faults out.old) (K.faults out.new) }
+    ensures unfailed { OnOk result ((S.faults input.new ≡ S.faults input.old)
+        × (K.faults out.new ≡ K.faults out.old)) }
+    ensures unended { IsErrOf result SimFault.Read →
+        (IsTrue (S.ended input.new) ↔ IsTrue (S.ended input.old)) }
+    ensures no_write_fault { IsErrOf result SimFault.Read →
+        K.faults out.new ≡ K.faults out.old }
 {
     let mut simulation = Simulation::new(alloc, design, shown, order)?;
     run_to_end(alloc, &mut simulation, input, out)
@@ -165,10 +189,19 @@ fn run_to_end<S: Source, K: Sink>(
     ensures to_the_end { WhateverFollows (S.ended input.new) (S.given input.old) (S.given input.new)
         (λ bytes. IfOk result (WritesWhole (flat_of simulation.old) simulation.old.level
         (order_in simulation.old.runner) bytes (K.accepted out.old) (K.accepted out.new))) }
+    ensures front_to_the_end { WhateverFollows (S.ended input.new) (S.given input.old)
+        (S.given input.new) (λ bytes. OnErr result
+        (StopsAt bytes (K.accepted out.old) (K.accepted out.new) simulation.old)) }
     ensures read_fault { IsErrOf result SimFault.Read →
         Rose (S.faults input.old) (S.faults input.new) }
     ensures write_fault { IsErrOf result SimFault.Write →
         Rose (K.faults out.old) (K.faults out.new) }
+    ensures unfailed { OnOk result ((S.faults input.new ≡ S.faults input.old)
+        × (K.faults out.new ≡ K.faults out.old)) }
+    ensures unended { IsErrOf result SimFault.Read →
+        (IsTrue (S.ended input.new) ↔ IsTrue (S.ended input.old)) }
+    ensures no_write_fault { IsErrOf result SimFault.Read →
+        K.faults out.new ≡ K.faults out.old }
 {
     let ending = read_all(alloc, simulation, input, out)?;
     put_last_line(alloc, out, ending, simulation.rounds())?;
@@ -199,11 +232,20 @@ fn read_all<S: Source, K: Sink>(
         × (S.given input.new ≡ S.given input.old ++ taken)
         × WritesAllAt (flat_of simulation.old) simulation.old.level taken (K.accepted out.old)
         (K.accepted out.new) }
+    ensures front_to_the_end { WhateverFollows (S.ended input.new) (S.given input.old)
+        (S.given input.new) (λ bytes. OnErr result
+        (StopsAt bytes (K.accepted out.old) (K.accepted out.new) simulation.old)) }
     ensures counts { K.faults out.old ≤ K.faults out.new }
     ensures read_fault { IsErrOf result SimFault.Read →
         Rose (S.faults input.old) (S.faults input.new) }
     ensures write_fault { IsErrOf result SimFault.Write →
         Rose (K.faults out.old) (K.faults out.new) }
+    ensures unfailed { OnOk result ((S.faults input.new ≡ S.faults input.old)
+        × (K.faults out.new ≡ K.faults out.old)) }
+    ensures unended { IsErrOf result SimFault.Read →
+        (IsTrue (S.ended input.new) ↔ IsTrue (S.ended input.old)) }
+    ensures no_write_fault { IsErrOf result SimFault.Read →
+        K.faults out.new ≡ K.faults out.old }
 {
     let mut buffer = vec![in alloc; 0; PIECE]?;
     // So many bytes may still be taken. The last one shows that there are too many.
@@ -230,8 +272,10 @@ fn take_piece<S: Source>(input: &mut S, buffer: &mut [u8], most: usize) -> Resul
     ensures none { OnErr result (Takes S.tells (S.given input.old) (S.given input.new)
         (S.left input.old) (S.left input.new) []) }
     ensures failed { IfErr result (λ fault. fault ≡ SimFault.Read) }
+    ensures shows { IsTrue (S.ended input.new) ↔ (IsTrue (S.ended input.old) ⊎ (result ≡ Ok 0)) }
     ensures rose { IsErr result → Rose (S.faults input.old) (S.faults input.new) }
     ensures counts { S.faults input.old ≤ S.faults input.new }
+    ensures kept { OnOk result (S.faults input.new ≡ S.faults input.old) }
 {
     let room = most.min(buffer.len());
     let count = input.take(&mut buffer[..room])?;
@@ -259,6 +303,7 @@ fn read_piece<K: Sink>(
     ensures failed { IsErrOf result SimFault.Write →
         Rose (K.faults out.old) (K.faults out.new) }
     ensures counts { K.faults out.old ≤ K.faults out.new }
+    ensures kept { OnOk result (K.faults out.new ≡ K.faults out.old) }
     ensures read { IsErrOf result SimFault.Read → ⊥ }
 {
     if piece.is_empty() {
@@ -287,9 +332,10 @@ fn put_last_line<K: Sink>(
     ensures refused { OnErr result
         (WritesFront (K.accepted out.old) (line_of ending rounds) (K.accepted out.new)) }
     ensures failed { IsErrOf result SimFault.Write → Rose (K.faults out.old) (K.faults out.new) }
+    ensures kept { OnOk result (K.faults out.new ≡ K.faults out.old) }
     ensures read { IsErrOf result SimFault.Read → ⊥ }
 {
     let line = last_line(alloc, ending, rounds)?;
-    put_all(out, line.as_bytes())?;
+    put_all(out, &line)?;
     Ok(())
 }

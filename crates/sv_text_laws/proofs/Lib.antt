@@ -8,8 +8,8 @@ pub mod FineForms
 pub mod FineStatements
 pub mod FineTexts
 pub mod TextLaws
-mod SameSimulations
-mod TextNames
+pub mod SameSimulations
+pub mod TextNames
 pub mod TextSimulations
 pub mod TextTopClocks
 pub mod FalsifiedTexts

@@ -10,9 +10,11 @@ use Rattle.sv_simulate.proofs.CallFacts.{on_error}
 use Rattle.sv_simulate.proofs.Loops.{same_itself, same_twice, under_way, takes_none, takes_more}
 use Rattle.sv_simulate.proofs.Loops.{stops_taken, stops_piece, ends_piece, large_ends, all_taken}
 use Rattle.sv_simulate.proofs.Loops.{stops_with_same, all_same, piece_open, large_open}
+use Rattle.sv_simulate.proofs.Loops.{stops_open, piece_stops_open, open_same}
 use Rattle.sv_simulate.proofs.Pieces.{handed_on, full_no_read, full_no_write, read_no_write}
 use Rattle.sv_simulate.proofs.Pieces.{takes_no_more, piece_length, piece_fits, piece_few, piece_end}
-use Rattle.sv_simulate.proofs.Pieces.{takes_piece, way_fits, piece_shown}
+use Rattle.sv_simulate.proofs.Pieces.{takes_piece, way_fits, piece_shown, still_open, open_twice}
+use Rattle.sv_simulate.proofs.Pieces.{some_taken}
 use Rattle.sv_simulate.proofs.StepFacts.{rose_then}
 use Rattle.sv_simulate.proofs.stimuli.read_all.Goals as goal
 
@@ -54,6 +56,32 @@ pub returns-in_err-buffer-clause-write_fault : goal.returns-in_err-buffer-clause
 returns-in_err-buffer-clause-write_fault g c = λ write.
     absurd (full_no_write (handed_on c.from_residual.result _ _ c.from_residual.ensures.1 write))
 
+pub returns-in_err-buffer-clause-front_to_the_end :
+    goal.returns-in_err-buffer-clause-front_to_the_end
+returns-in_err-buffer-clause-front_to_the_end g c =
+    let given = g.S.Source.given c.args.input.now in
+    let left = g.S.Source.left c.args.input.now in
+    let accepted = g.K.Sink.accepted c.args.out.now in
+    let s = c.args.simulation.now in
+    let ended = g.S.Source.ended c.args.input.now in
+    open_same c.from_residual.result ended given given accepted accepted s s (same_itself s)
+    (stops_open g.S.Source.tells given given left left [] (largest_stimulus + 1) accepted accepted
+    s (takes_none g.S.Source.tells given left)
+    (under_way accepted s c.requires.made c.requires.open c.requires.come) ended)
+
+pub returns-in_err-buffer-clause-unfailed : goal.returns-in_err-buffer-clause-unfailed
+returns-in_err-buffer-clause-unfailed g c =
+    IfOk-from_err c.from_residual.result _ c.from_residual.ensures.0
+
+pub returns-in_err-buffer-clause-unended : goal.returns-in_err-buffer-clause-unended
+returns-in_err-buffer-clause-unended g c = λ read.
+    absurd (full_no_read (handed_on c.from_residual.result _ _ c.from_residual.ensures.1 read))
+
+pub returns-in_err-buffer-clause-no_write_fault :
+    goal.returns-in_err-buffer-clause-no_write_fault
+returns-in_err-buffer-clause-no_write_fault g c = λ read.
+    absurd (full_no_read (handed_on c.from_residual.result _ _ c.from_residual.ensures.1 read))
+
 pub overflow_add-left : goal.overflow_add-left
 overflow_add-left g c = search rules
 
@@ -69,8 +97,9 @@ pieces-init g c =
         under_way accepted c.args.simulation.now c.requires.made c.requires.open c.requires.come,
       );
       room = c.in_ok-buffer.ensures.len;
-      sink_counts = omega arith;
-      source_counts = omega arith;
+      sink_kept = refl;
+      source_kept = refl;
+      unended = (λ after. after, λ before. before);
     }
 
 -- ---- a take
@@ -133,12 +162,12 @@ returns-in_err-count-clause-prompt g c = λ read.
     )
 
 pub returns-in_err-count-clause-counts : goal.returns-in_err-count-clause-counts
-returns-in_err-count-clause-counts g c = c.pieces.invariant.sink_counts
+returns-in_err-count-clause-counts g c = omega (arith, c.pieces.invariant.sink_kept)
 
 pub returns-in_err-count-clause-read_fault : goal.returns-in_err-count-clause-read_fault
 returns-in_err-count-clause-read_fault g c = λ read.
     rose_then (g.S.Source.faults c.args.input.now) (g.S.Source.faults c.pieces.input)
-    (g.S.Source.faults c.take_piece.new.input) c.pieces.invariant.source_counts
+    (g.S.Source.faults c.take_piece.new.input) (omega (arith, c.pieces.invariant.source_kept))
     (c.in_err-count.ensures.rose refl)
 
 pub returns-in_err-count-clause-write_fault : goal.returns-in_err-count-clause-write_fault
@@ -146,6 +175,40 @@ returns-in_err-count-clause-write_fault g c = λ write.
     absurd (read_no_write (sym c.in_err-count.ensures.failed
     ∙ handed_on c.from_residual-in_err-count.result _ _ c.from_residual-in_err-count.ensures.1
     write))
+
+pub returns-in_err-count-clause-front_to_the_end :
+    goal.returns-in_err-count-clause-front_to_the_end
+returns-in_err-count-clause-front_to_the_end g c =
+    let tells = g.S.Source.tells in
+    let given = g.S.Source.given in
+    let left = g.S.Source.left in
+    let before = g.K.Sink.accepted c.args.out.now in
+    let accepted = g.K.Sink.accepted c.pieces.out in
+    let ended = g.S.Source.ended c.take_piece.new.input in
+    let way = c.pieces.invariant.way in
+    let takes = takes_no_more tells (given c.args.input.now) (given c.pieces.input)
+    (given c.take_piece.new.input) (left c.args.input.now) (left c.pieces.input)
+    (left c.take_piece.new.input) way.0 way.1 c.in_err-count.ensures.none in
+    open_same c.from_residual-in_err-count.result ended (given c.args.input.now)
+    (given c.take_piece.new.input) before accepted c.args.simulation.now c.pieces.simulation
+    c.pieces.invariant.same
+    (stops_open tells (given c.args.input.now) (given c.take_piece.new.input)
+    (left c.args.input.now) (left c.take_piece.new.input) way.0 c.pieces.left before accepted
+    c.pieces.simulation takes way.2 ended)
+
+pub returns-in_err-count-clause-unfailed : goal.returns-in_err-count-clause-unfailed
+returns-in_err-count-clause-unfailed g c =
+    IfOk-from_err c.from_residual-in_err-count.result _ c.from_residual-in_err-count.ensures.0
+
+pub returns-in_err-count-clause-unended : goal.returns-in_err-count-clause-unended
+returns-in_err-count-clause-unended g c = λ read.
+    open_twice (g.S.Source.ended c.args.input.now) (g.S.Source.ended c.pieces.input)
+    (g.S.Source.ended c.take_piece.new.input) c.pieces.invariant.unended
+    (still_open (g.S.Source.ended c.pieces.input) (g.S.Source.ended c.take_piece.new.input)
+    c.in_err-count.ensures.shows (λ shown. absurd (cc)))
+
+pub returns-in_err-count-clause-no_write_fault : goal.returns-in_err-count-clause-no_write_fault
+returns-in_err-count-clause-no_write_fault g c = λ read. c.pieces.invariant.sink_kept
 
 pub overflow_sub-left : goal.overflow_sub-left
 overflow_sub-left g c = c.in_ok-count.ensures.within.0
@@ -255,7 +318,7 @@ returns-in_err-ending-clause-prompt g c = λ read.
 
 pub returns-in_err-ending-clause-counts : goal.returns-in_err-ending-clause-counts
 returns-in_err-ending-clause-counts g c =
-    omega (arith, c.pieces.invariant.sink_counts, c.read_piece.ensures.counts)
+    omega (arith, c.pieces.invariant.sink_kept, c.read_piece.ensures.counts)
 
 pub returns-in_err-ending-clause-read_fault : goal.returns-in_err-ending-clause-read_fault
 returns-in_err-ending-clause-read_fault g c = λ read.
@@ -266,10 +329,65 @@ returns-in_err-ending-clause-read_fault g c = λ read.
 pub returns-in_err-ending-clause-write_fault : goal.returns-in_err-ending-clause-write_fault
 returns-in_err-ending-clause-write_fault g c = λ write.
     rose_then (g.K.Sink.faults c.args.out.now) (g.K.Sink.faults c.pieces.out)
-    (g.K.Sink.faults c.read_piece.new.out) c.pieces.invariant.sink_counts
+    (g.K.Sink.faults c.read_piece.new.out) (omega (arith, c.pieces.invariant.sink_kept))
     (c.in_err-ending.ensures.failed
     (ap Err (handed_on c.from_residual-in_err-ending.result _ _
     c.from_residual-in_err-ending.ensures.1 write)))
+
+pub returns-in_err-ending-clause-front_to_the_end :
+    goal.returns-in_err-ending-clause-front_to_the_end
+returns-in_err-ending-clause-front_to_the_end g c =
+    let tells = g.S.Source.tells in
+    let given = g.S.Source.given in
+    let left = g.S.Source.left in
+    let before = g.K.Sink.accepted c.args.out.now in
+    let accepted = g.K.Sink.accepted c.read_piece.new.out in
+    let ended = g.S.Source.ended c.take_piece.new.input in
+    let count = c.in_ok-count.count in
+    let buffer = c.take_piece.new.buffer in
+    let now = c.deref.result.now in
+    let value : c.deref.result.now ≡ c.take_piece.new.buffer =
+    c.deref.ensures.value
+    ∙ written c.pieces.buffer.len c.take_piece.new.buffer
+    c.pieces.buffer.items (c.take_piece.auto.buffer ∙ c.deref_mut.ensures.len) in
+    let within = c.in_ok-count.ensures.within in
+    let rest = c.pieces.left - count in
+    let way = c.pieces.invariant.way in
+    let fits = piece_fits count c.pieces.left buffer now value within in
+    let more = takes_piece tells (given c.pieces.input) (given c.take_piece.new.input)
+    (left c.pieces.input) (left c.take_piece.new.input) count buffer now value
+    c.in_ok-count.ensures.taken in
+    let all = takes_more tells (given c.args.input.now) (given c.pieces.input)
+    (given c.take_piece.new.input) (left c.args.input.now) (left c.pieces.input)
+    (left c.take_piece.new.input) way.0 (take count now) way.1 more in
+    let reads = c.in_err-ending.ensures.reads way.0 before
+    (way_fits way.0 before (g.K.Sink.accepted c.pieces.out) c.pieces.left _ c.pieces.simulation
+    fits way.2) in
+    open_same c.from_residual-in_err-ending.result ended (given c.args.input.now)
+    (given c.take_piece.new.input) before accepted c.args.simulation.now c.pieces.simulation
+    c.pieces.invariant.same
+    (piece_stops_open (given c.args.input.now) (given c.take_piece.new.input) way.0
+    (take count now) rest before accepted ended c.in_err-ending.field-0.0 c.pieces.simulation
+    c.read_piece.new.simulation all.given
+    (piece_shown ended count c.pieces.left buffer now value within c.in_ok-count.ensures.ended)
+    reads)
+
+pub returns-in_err-ending-clause-unfailed : goal.returns-in_err-ending-clause-unfailed
+returns-in_err-ending-clause-unfailed g c =
+    IfOk-from_err c.from_residual-in_err-ending.result _ c.from_residual-in_err-ending.ensures.0
+
+pub returns-in_err-ending-clause-unended : goal.returns-in_err-ending-clause-unended
+returns-in_err-ending-clause-unended g c = λ read.
+    absurd (c.in_err-ending.ensures.read
+    (ap Err (handed_on c.from_residual-in_err-ending.result _ _
+    c.from_residual-in_err-ending.ensures.1 read)))
+
+pub returns-in_err-ending-clause-no_write_fault :
+    goal.returns-in_err-ending-clause-no_write_fault
+returns-in_err-ending-clause-no_write_fault g c = λ read.
+    absurd (c.in_err-ending.ensures.read
+    (ap Err (handed_on c.from_residual-in_err-ending.result _ _
+    c.from_residual-in_err-ending.ensures.1 read)))
 
 -- ---- the ending
 
@@ -357,13 +475,28 @@ returns-in-Some-clause-prompt g c = λ read. absurd (cc)
 
 pub returns-in-Some-clause-counts : goal.returns-in-Some-clause-counts
 returns-in-Some-clause-counts g c =
-    omega (arith, c.pieces.invariant.sink_counts, c.read_piece.ensures.counts)
+    omega (arith, c.pieces.invariant.sink_kept, c.read_piece.ensures.counts)
 
 pub returns-in-Some-clause-read_fault : goal.returns-in-Some-clause-read_fault
 returns-in-Some-clause-read_fault g c = λ read. absurd (cc)
 
 pub returns-in-Some-clause-write_fault : goal.returns-in-Some-clause-write_fault
 returns-in-Some-clause-write_fault g c = λ write. absurd (cc)
+
+pub returns-in-Some-clause-front_to_the_end : goal.returns-in-Some-clause-front_to_the_end
+returns-in-Some-clause-front_to_the_end g c goes_on taken more given = tt
+
+pub returns-in-Some-clause-unfailed : goal.returns-in-Some-clause-unfailed
+returns-in-Some-clause-unfailed g c = (
+  c.in_ok-count.ensures.kept ∙ c.pieces.invariant.source_kept,
+  c.in_ok-ending.ensures.kept ∙ c.pieces.invariant.sink_kept,
+)
+
+pub returns-in-Some-clause-unended : goal.returns-in-Some-clause-unended
+returns-in-Some-clause-unended g c = λ read. absurd (cc)
+
+pub returns-in-Some-clause-no_write_fault : goal.returns-in-Some-clause-no_write_fault
+returns-in-Some-clause-no_write_fault g c = λ read. absurd (cc)
 
 -- ---- the next piece
 
@@ -430,8 +563,13 @@ pieces-preserved g c =
         next.1,
       );
       room = c.pieces.invariant.room;
-      sink_counts = omega (arith, c.pieces.invariant.sink_counts, c.read_piece.ensures.counts);
-      source_counts = omega (arith, c.pieces.invariant.source_counts, c.take_piece.ensures.counts);
+      sink_kept = c.in_ok-ending.ensures.kept ∙ c.pieces.invariant.sink_kept;
+      source_kept = c.in_ok-count.ensures.kept ∙ c.pieces.invariant.source_kept;
+      unended = open_twice (g.S.Source.ended c.args.input.now) (g.S.Source.ended c.pieces.input)
+          (g.S.Source.ended c.take_piece.new.input) c.pieces.invariant.unended
+          (still_open (g.S.Source.ended c.pieces.input) (g.S.Source.ended c.take_piece.new.input)
+          c.in_ok-count.ensures.shows
+          (some_taken count now next.0));
     }
 
 -- ---- too many bytes
@@ -460,10 +598,22 @@ pub returns-clause-prompt : goal.returns-clause-prompt
 returns-clause-prompt g c = λ read. absurd (cc)
 
 pub returns-clause-counts : goal.returns-clause-counts
-returns-clause-counts g c = c.pieces.invariant.sink_counts
+returns-clause-counts g c = omega (arith, c.pieces.invariant.sink_kept)
 
 pub returns-clause-read_fault : goal.returns-clause-read_fault
 returns-clause-read_fault g c = λ read. absurd (cc)
 
 pub returns-clause-write_fault : goal.returns-clause-write_fault
 returns-clause-write_fault g c = λ write. absurd (cc)
+
+pub returns-clause-front_to_the_end : goal.returns-clause-front_to_the_end
+returns-clause-front_to_the_end g c goes_on taken more given = tt
+
+pub returns-clause-unfailed : goal.returns-clause-unfailed
+returns-clause-unfailed g c = (c.pieces.invariant.source_kept, c.pieces.invariant.sink_kept)
+
+pub returns-clause-unended : goal.returns-clause-unended
+returns-clause-unended g c = λ read. absurd (cc)
+
+pub returns-clause-no_write_fault : goal.returns-clause-no_write_fault
+returns-clause-no_write_fault g c = λ read. absurd (cc)

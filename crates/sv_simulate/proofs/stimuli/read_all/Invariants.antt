@@ -1,4 +1,5 @@
-use Rattle.std.proofs.Common.{◌≡◌, ◌≤◌, List, ℕ, vec_len}
+use Rattle.std.proofs.Common.{◌≡◌, ◌↔◌, List, ℕ, vec_len}
+use Rattle.std.specs.Prelude.{IsTrue}
 use Rattle.sv_simulate.specs.Fronts.{Takes, IsUnderWay}
 use Rattle.sv_simulate.specs.Progress.{IsSameAs}
 use Rattle.sv_simulate.proofs.stimuli.read_all.Given as goal
@@ -13,8 +14,9 @@ invariant-pieces g l = record {
       × IsUnderWay taken l.left (g.K.Sink.accepted l.initial.out) (g.K.Sink.accepted l.out)
       l.simulation;
   room : vec_len l.buffer ≡ 4096;
-  sink_counts : g.K.Sink.faults l.initial.out ≤ g.K.Sink.faults l.out;
-  source_counts : g.S.Source.faults l.initial.input ≤ g.S.Source.faults l.input;
+  sink_kept : g.K.Sink.faults l.out ≡ g.K.Sink.faults l.initial.out;
+  source_kept : g.S.Source.faults l.input ≡ g.S.Source.faults l.initial.input;
+  unended : IsTrue (g.S.Source.ended l.input) ↔ IsTrue (g.S.Source.ended l.initial.input);
 }
 
 abbrev pub decreases-pieces : goal.decreases-pieces

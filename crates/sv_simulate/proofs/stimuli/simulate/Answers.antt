@@ -1,10 +1,12 @@
 use Rattle.std.proofs.Common.{refl, sym, ◌++◌}
 use Rattle.std.specs.Option.{option_copied}
+use Rattle.std.proofs.lemmas.Result.{on_ok_weaker}
 use Rattle.sv_flat.specs.Views.{design_of}
 use Rattle.sv_simulate.proofs.WholeRuns.{run_answer, run_told, run_only, run_front}
 use Rattle.sv_simulate.proofs.WholeRuns.{run_told_front, run_prompt, run_most, run_touched}
 use Rattle.sv_simulate.proofs.WholeRuns.{refused_answer, refused_told, refused_alone}
 use Rattle.sv_simulate.proofs.WholeRuns.{refused_stops, refused_left, none_taken, open_at}
+use Rattle.sv_simulate.proofs.WholeRuns.{open_front_at}
 use Rattle.sv_simulate.proofs.stimuli.simulate.Goals as goal
 
 pub returns-in-Some-clause-answer : goal.returns-in-Some-clause-answer
@@ -156,3 +158,43 @@ returns-in-None-clause-read_fault g c =
 pub returns-in-None-clause-write_fault : goal.returns-in-None-clause-write_fault
 returns-in-None-clause-write_fault g c =
     c.refuse_level.ensures.failed
+
+-- ---- whatever follows
+
+pub returns-in-Some-clause-front_to_the_end : goal.returns-in-Some-clause-front_to_the_end
+returns-in-Some-clause-front_to_the_end g c =
+    open_front_at (design_of c.args.design.now) (option_copied c.args.level) c.in-Some.shown
+    c.args.order (g.S.Source.ended c.simulate_at.new.input) (g.S.Source.given c.args.input.now)
+    (g.S.Source.given c.simulate_at.new.input) (g.K.Sink.accepted c.args.out.now)
+    (g.K.Sink.accepted c.simulate_at.new.out) c.simulate_at.result (sym c.in-Some.ensures.asked)
+    c.simulate_at.ensures.front_to_the_end
+
+pub returns-in-None-clause-front_to_the_end : goal.returns-in-None-clause-front_to_the_end
+returns-in-None-clause-front_to_the_end g c =
+    λ goes_on taken more given.
+    refused_left (design_of c.args.design.now) (option_copied c.args.level) c.args.order
+    (taken ++ more) (g.K.Sink.accepted c.args.out.now) (g.K.Sink.accepted c.refuse_level.new.out)
+    c.refuse_level.result (sym c.in-None.ensures.asked) c.refuse_level.ensures.front
+
+-- ---- faults
+
+pub returns-in-Some-clause-unfailed : goal.returns-in-Some-clause-unfailed
+returns-in-Some-clause-unfailed g c = c.simulate_at.ensures.unfailed
+
+pub returns-in-Some-clause-unended : goal.returns-in-Some-clause-unended
+returns-in-Some-clause-unended g c = c.simulate_at.ensures.unended
+
+pub returns-in-Some-clause-no_write_fault : goal.returns-in-Some-clause-no_write_fault
+returns-in-Some-clause-no_write_fault g c = c.simulate_at.ensures.no_write_fault
+
+pub returns-in-None-clause-unfailed : goal.returns-in-None-clause-unfailed
+returns-in-None-clause-unfailed g c =
+    on_ok_weaker c.refuse_level.result (λ put. (refl, put)) c.refuse_level.ensures.kept
+
+pub returns-in-None-clause-unended : goal.returns-in-None-clause-unended
+returns-in-None-clause-unended g c =
+    λ read. absurd (c.refuse_level.ensures.read read)
+
+pub returns-in-None-clause-no_write_fault : goal.returns-in-None-clause-no_write_fault
+returns-in-None-clause-no_write_fault g c =
+    λ read. absurd (c.refuse_level.ensures.read read)

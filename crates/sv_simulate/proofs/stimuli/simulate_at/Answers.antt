@@ -1,5 +1,6 @@
 use Rattle.std.proofs.lemmas.Result.{IfOk-from_err}
 use Rattle.sv_simulate.proofs.WholeRuns.{none_run, not_read, not_written, run_so, open_so}
+use Rattle.sv_simulate.proofs.WholeRuns.{open_none, open_front_so}
 use Rattle.sv_simulate.proofs.stimuli.simulate_at.Goals as goal
 
 pub returns-in_err-simulation-clause-runs : goal.returns-in_err-simulation-clause-runs
@@ -58,3 +59,38 @@ returns-clause-to_the_end g c =
       is_order = c.in_ok-simulation.ensures.order;
     }
     c.run_to_end.ensures.to_the_end
+
+pub returns-in_err-simulation-clause-front_to_the_end :
+    goal.returns-in_err-simulation-clause-front_to_the_end
+returns-in_err-simulation-clause-front_to_the_end g c =
+    open_none _ c.args.shown c.args.order (g.S.Source.ended c.args.input.now)
+    (g.S.Source.given c.args.input.now) (g.S.Source.given c.args.input.now)
+    (g.K.Sink.accepted c.args.out.now) c.from_residual.result c.new.ensures.admitted
+
+pub returns-clause-front_to_the_end : goal.returns-clause-front_to_the_end
+returns-clause-front_to_the_end g c =
+    open_front_so c.args.design.now c.args.shown c.args.order c.in_ok-simulation.simulation
+    (g.S.Source.ended c.run_to_end.new.input) (g.S.Source.given c.args.input.now)
+    (g.S.Source.given c.run_to_end.new.input) (g.K.Sink.accepted c.args.out.now)
+    (g.K.Sink.accepted c.run_to_end.new.out) c.run_to_end.result
+    record {
+      is_design = c.in_ok-simulation.ensures.design;
+      is_level = c.in_ok-simulation.ensures.level;
+      is_order = c.in_ok-simulation.ensures.order;
+    }
+    c.run_to_end.ensures.front_to_the_end
+
+-- ---- faults
+
+pub returns-in_err-simulation-clause-unfailed : goal.returns-in_err-simulation-clause-unfailed
+returns-in_err-simulation-clause-unfailed g c =
+    IfOk-from_err c.from_residual.result _ c.from_residual.ensures.0
+
+pub returns-in_err-simulation-clause-unended : goal.returns-in_err-simulation-clause-unended
+returns-in_err-simulation-clause-unended g c = λ read.
+    absurd (not_read c.from_residual.result c.from_residual.ensures.1 read)
+
+pub returns-in_err-simulation-clause-no_write_fault :
+    goal.returns-in_err-simulation-clause-no_write_fault
+returns-in_err-simulation-clause-no_write_fault g c = λ read.
+    absurd (not_read c.from_residual.result c.from_residual.ensures.1 read)

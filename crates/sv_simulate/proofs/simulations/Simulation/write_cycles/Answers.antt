@@ -1,6 +1,6 @@
 use Rattle.std.proofs.Common.{◌≡◌, ◌+◌, ◌≤◌, ◌++◌, ◌∷◌, [], ℕ, List, length, subst, sym, ap}
 use Rattle.std.proofs.Common.{◌∙◌, refl, arith, length-append}
-use Rattle.std.proofs.lemmas.Result.{on_err_weaker}
+use Rattle.std.proofs.lemmas.Result.{on_err_weaker, on_ok_weaker}
 use Rattle.sv_flat.specs.SignalLists.{inputs}
 use Rattle.sv_flat.specs.Given.{FitListed}
 use Rattle.sv_trace.specs.Reading.{Reading, HasFed, HasRead}
@@ -41,7 +41,7 @@ loop-inputs-init g c = record {
   read_all = λ read before taken has ran. (taken, has, ran);
   fault = refl;
   finished = refl;
-  counts = omega arith;
+  kept = refl;
 }
 
 pub write_cycle-requires-clause-made : goal.write_cycle-requires-clause-made
@@ -186,10 +186,7 @@ loop-inputs-preserved g c =
           );
       fault = ap (λ (r : Reading). r.fault) (reader ∙ same) ∙ inv.fault;
       finished = ap (λ (r : Reading). r.finished) (reader ∙ same) ∙ inv.finished;
-      counts =
-          let before = inv.counts in
-          let more = c.write_cycle.ensures.counts in
-          omega arith;
+      kept = c.in_ok-write_cycle.ensures.kept ∙ inv.kept;
     }
 
 pub returns-clause-made : goal.returns-clause-made
@@ -280,5 +277,10 @@ returns-clause-open g c =
 pub returns-clause-failed : goal.returns-clause-failed
 returns-clause-failed g c = λ write.
     rose_then (g.K.Sink.faults c.args.out.now) (g.K.Sink.faults c.loop-inputs.out)
-    (g.K.Sink.faults c.put_waiting.new.out) c.loop-inputs.invariant.counts
+    (g.K.Sink.faults c.put_waiting.new.out) (omega (arith, c.loop-inputs.invariant.kept))
     (c.put_waiting.ensures.failed write)
+
+pub returns-clause-kept : goal.returns-clause-kept
+returns-clause-kept g c =
+    on_ok_weaker c.put_waiting.result (λ put. put ∙ c.loop-inputs.invariant.kept)
+    c.put_waiting.ensures.kept

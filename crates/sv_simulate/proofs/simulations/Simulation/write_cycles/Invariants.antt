@@ -1,4 +1,4 @@
-use Rattle.std.proofs.Common.{◌≡◌, ◌≤◌, List, ℕ, true, length}
+use Rattle.std.proofs.Common.{◌≡◌, List, ℕ, true, length}
 use Rattle.sv_trace.specs.Reading.{HasFed, HasRead}
 use Rattle.sv_trace.specs.Stimulus.{LinesRead}
 use Rattle.sv_simulate.specs.Progress.{IsSimulating, IsSameAs, HasRoom, HasRunCycles}
@@ -23,7 +23,7 @@ invariant-loop-inputs g l = record {
       × HasRunCycles now before (g.K.Sink.accepted l.out) l.self;
   fault : l.self.reader.fault ≡ l.initial.self.reader.fault;
   finished : l.self.reader.finished ≡ l.initial.self.reader.finished;
-  counts : g.K.Sink.faults l.initial.out ≤ g.K.Sink.faults l.out;
+  kept : g.K.Sink.faults l.out ≡ g.K.Sink.faults l.initial.out;
 }
 
 abbrev pub decreases-loop-inputs : goal.decreases-loop-inputs

@@ -1,9 +1,10 @@
 -- Examples of the definitions, computed.
-use Rattle.std.proofs.Common.{◌≡◌, [], ◌∷◌, Some, None, codes, refl}
+use Rattle.std.proofs.Common.{◌≡◌, [], ◌∷◌, true, false, Some, None, codes, refl}
 use Rattle.clap.proofs.OnLiterals.{clap_on_literals}
 use Rattle.sv_words.specs.Lines.{found_in, is_read, line_of}
-use Rattle.sv_words.specs.Words.{check, cnf, help_asked, list, request_of, sim, usage_of, verify}
-use Rattle.sv_words.specs.declared.command.CommandName.TheVariants.{Check}
+use Rattle.sv_words.specs.Words.{check, cnf, compare, gen, help_asked, list, request_of, sim}
+use Rattle.sv_words.specs.Words.{usage_of, verify}
+use Rattle.sv_words.specs.declared.command.CommandName.TheVariants.{Check, Compare, Gen}
 use Rattle.sv_words.specs.declared.command.UsageKind.TheVariants.{NoCommand, UnknownCommand, Words}
 
 no_words : usage_of [] ≡ Some NoCommand
@@ -14,7 +15,7 @@ unknown = refl
 
 -- the empty name after `--top=`
 empty_top : request_of (codes "check" ∷ codes "f" ∷ codes "--top=" ∷ [])
-    ≡ Some (check (codes "f") None 20000 (Some []))
+    ≡ Some (check (codes "f") None 20000 (Some []) false)
 unfolding found_in line_of clap_on_literals
 empty_top = refl
 
@@ -24,7 +25,7 @@ empty_top_is_right = refl
 
 -- after `--` no word is an option
 past_options : request_of (codes "check" ∷ codes "--" ∷ codes "--top" ∷ [])
-    ≡ Some (check (codes "--top") None 20000 None)
+    ≡ Some (check (codes "--top") None 20000 None false)
 unfolding found_in line_of clap_on_literals
 past_options = refl
 
@@ -35,7 +36,7 @@ past_options_is_right = refl
 -- a certificate to store and a budget, before FILE and behind it
 budgeted : request_of (codes "check" ∷ codes "--budget" ∷ codes "+07" ∷ codes "f"
     ∷ codes "--proof=-x" ∷ [])
-    ≡ Some (check (codes "f") (Some (codes "-x")) 7 None)
+    ≡ Some (check (codes "f") (Some (codes "-x")) 7 None false)
 unfolding found_in line_of clap_on_literals
 budgeted = refl
 
@@ -96,10 +97,57 @@ budget_of_verify : usage_of (codes "verify" ∷ codes "f" ∷ codes "g" ∷ code
 unfolding is_read line_of clap_on_literals
 budget_of_verify = refl
 
--- verdicts have one form
-no_json : usage_of (codes "check" ∷ codes "f" ∷ codes "--json" ∷ []) ≡ Some Words
+-- a flag stands before FILE or behind it, once at most, and has no value
+as_json : request_of (codes "check" ∷ codes "f" ∷ codes "--json" ∷ [])
+    ≡ Some (check (codes "f") None 20000 None true)
+unfolding found_in line_of clap_on_literals
+as_json = refl
+
+as_json_is_right : usage_of (codes "check" ∷ codes "f" ∷ codes "--json" ∷ []) ≡ None
 unfolding is_read line_of clap_on_literals
-no_json = refl
+as_json_is_right = refl
+
+as_json_first : request_of (codes "check" ∷ codes "--json" ∷ codes "f" ∷ [])
+    ≡ Some (check (codes "f") None 20000 None true)
+unfolding found_in line_of clap_on_literals
+as_json_first = refl
+
+as_json_first_is_right : usage_of (codes "check" ∷ codes "--json" ∷ codes "f" ∷ []) ≡ None
+unfolding is_read line_of clap_on_literals
+as_json_first_is_right = refl
+
+json_twice : usage_of (codes "check" ∷ codes "f" ∷ codes "--json" ∷ codes "--json" ∷ [])
+    ≡ Some Words
+unfolding is_read line_of clap_on_literals
+json_twice = refl
+
+json_with_nothing : usage_of (codes "check" ∷ codes "f" ∷ codes "--json=" ∷ []) ≡ Some Words
+unfolding is_read line_of clap_on_literals
+json_with_nothing = refl
+
+json_with_a_value : usage_of (codes "check" ∷ codes "f" ∷ codes "--json=true" ∷ []) ≡ Some Words
+unfolding is_read line_of clap_on_literals
+json_with_a_value = refl
+
+json_and_a_word : usage_of (codes "check" ∷ codes "f" ∷ codes "--json" ∷ codes "x" ∷ [])
+    ≡ Some Words
+unfolding is_read line_of clap_on_literals
+json_and_a_word = refl
+
+json_as_a_top : usage_of (codes "check" ∷ codes "f" ∷ codes "--top" ∷ codes "--json" ∷ [])
+    ≡ Some Words
+unfolding is_read line_of clap_on_literals
+json_as_a_top = refl
+
+json_past_options : usage_of (codes "check" ∷ codes "--" ∷ codes "f" ∷ codes "--json" ∷ [])
+    ≡ Some Words
+unfolding is_read line_of clap_on_literals
+json_past_options = refl
+
+-- `check` alone has it
+a_list_as_json : usage_of (codes "list" ∷ codes "f" ∷ codes "--json" ∷ []) ≡ Some Words
+unfolding is_read line_of clap_on_literals
+a_list_as_json = refl
 
 -- a number may have a `+` and zeros before it, and `-` alone is a name
 numbered : request_of (codes "sim" ∷ codes "--order" ∷ codes "+07" ∷ codes "-" ∷ [])
@@ -199,6 +247,123 @@ list_at_a_level : usage_of (codes "list" ∷ codes "f" ∷ codes "--level" ∷ c
 unfolding is_read line_of clap_on_literals
 list_at_a_level = refl
 
+-- a text and two stimuli, in this order, and a level
+compared : request_of (codes "compare" ∷ codes "f" ∷ codes "a" ∷ codes "b" ∷ codes "--level"
+    ∷ codes "L" ∷ []) ≡ Some (compare (codes "f") (codes "a") (codes "b") (codes "L") None)
+unfolding found_in line_of clap_on_literals
+compared = refl
+
+compared_is_right : usage_of (codes "compare" ∷ codes "f" ∷ codes "a" ∷ codes "b" ∷ codes "--level"
+    ∷ codes "L" ∷ []) ≡ None
+unfolding is_read line_of clap_on_literals
+compared_is_right = refl
+
+compared_of_a_top : request_of (codes "compare" ∷ codes "--level=L" ∷ codes "f" ∷ codes "--top=m"
+    ∷ codes "a" ∷ codes "-" ∷ [])
+    ≡ Some (compare (codes "f") (codes "a") (codes "-") (codes "L") (Some (codes "m")))
+unfolding found_in line_of clap_on_literals
+compared_of_a_top = refl
+
+compared_of_a_top_is_right : usage_of (codes "compare" ∷ codes "--level=L" ∷ codes "f"
+    ∷ codes "--top=m" ∷ codes "a" ∷ codes "-" ∷ []) ≡ None
+unfolding is_read line_of clap_on_literals
+compared_of_a_top_is_right = refl
+
+-- the level has to be there, and may be the empty name
+compared_at_no_name : request_of (codes "compare" ∷ codes "f" ∷ codes "a" ∷ codes "b"
+    ∷ codes "--level=" ∷ []) ≡ Some (compare (codes "f") (codes "a") (codes "b") [] None)
+unfolding found_in line_of clap_on_literals
+compared_at_no_name = refl
+
+compared_at_no_name_is_right : usage_of (codes "compare" ∷ codes "f" ∷ codes "a" ∷ codes "b"
+    ∷ codes "--level=" ∷ []) ≡ None
+unfolding is_read line_of clap_on_literals
+compared_at_no_name_is_right = refl
+
+compared_at_no_level : usage_of (codes "compare" ∷ codes "f" ∷ codes "a" ∷ codes "b" ∷ [])
+    ≡ Some Words
+unfolding is_read line_of clap_on_literals
+compared_at_no_level = refl
+
+compared_at_two_levels : usage_of (codes "compare" ∷ codes "f" ∷ codes "a" ∷ codes "b"
+    ∷ codes "--level=L" ∷ codes "--level=L" ∷ []) ≡ Some Words
+unfolding is_read line_of clap_on_literals
+compared_at_two_levels = refl
+
+one_stimulus : usage_of (codes "compare" ∷ codes "f" ∷ codes "a" ∷ codes "--level=L" ∷ [])
+    ≡ Some Words
+unfolding is_read line_of clap_on_literals
+one_stimulus = refl
+
+three_stimuli : usage_of (codes "compare" ∷ codes "f" ∷ codes "a" ∷ codes "b" ∷ codes "c"
+    ∷ codes "--level=L" ∷ []) ≡ Some Words
+unfolding is_read line_of clap_on_literals
+three_stimuli = refl
+
+-- a sample design, and its verdict
+sample : request_of (codes "gen" ∷ codes "200" ∷ []) ≡ Some (gen 200 false)
+unfolding found_in line_of clap_on_literals
+sample = refl
+
+sample_is_right : usage_of (codes "gen" ∷ codes "200" ∷ []) ≡ None
+unfolding is_read line_of clap_on_literals
+sample_is_right = refl
+
+checked_sample : request_of (codes "gen" ∷ codes "--check" ∷ codes "+01" ∷ []) ≡ Some (gen 1 true)
+unfolding found_in line_of clap_on_literals
+checked_sample = refl
+
+checked_sample_is_right : usage_of (codes "gen" ∷ codes "--check" ∷ codes "+01" ∷ []) ≡ None
+unfolding is_read line_of clap_on_literals
+checked_sample_is_right = refl
+
+checked_twice : usage_of (codes "gen" ∷ codes "1" ∷ codes "--check" ∷ codes "--check" ∷ [])
+    ≡ Some Words
+unfolding is_read line_of clap_on_literals
+checked_twice = refl
+
+checked_with_a_value : usage_of (codes "gen" ∷ codes "1" ∷ codes "--check=x" ∷ []) ≡ Some Words
+unfolding is_read line_of clap_on_literals
+checked_with_a_value = refl
+
+no_lanes : usage_of (codes "gen" ∷ codes "--check" ∷ []) ≡ Some Words
+unfolding is_read line_of clap_on_literals
+no_lanes = refl
+
+lanes_twice : usage_of (codes "gen" ∷ codes "1" ∷ codes "1" ∷ []) ≡ Some Words
+unfolding is_read line_of clap_on_literals
+lanes_twice = refl
+
+-- its top is known
+sample_of_a_top : usage_of (codes "gen" ∷ codes "1" ∷ codes "--top=m" ∷ []) ≡ Some Words
+unfolding is_read line_of clap_on_literals
+sample_of_a_top = refl
+
+-- the lanes are any number that a u32 holds
+most_lanes : request_of (codes "gen" ∷ codes "4294967295" ∷ []) ≡ Some (gen 4294967295 false)
+unfolding found_in line_of clap_on_literals
+most_lanes = refl
+
+most_lanes_is_right : usage_of (codes "gen" ∷ codes "4294967295" ∷ []) ≡ None
+unfolding is_read line_of clap_on_literals
+most_lanes_is_right = refl
+
+minus_no_lanes : request_of (codes "gen" ∷ codes "--" ∷ codes "-0" ∷ []) ≡ Some (gen 0 false)
+unfolding found_in line_of clap_on_literals
+minus_no_lanes = refl
+
+minus_no_lanes_is_right : usage_of (codes "gen" ∷ codes "--" ∷ codes "-0" ∷ []) ≡ None
+unfolding is_read line_of clap_on_literals
+minus_no_lanes_is_right = refl
+
+too_many_lanes : usage_of (codes "gen" ∷ codes "4294967296" ∷ []) ≡ Some Words
+unfolding is_read line_of clap_on_literals
+too_many_lanes = refl
+
+minus_one_lane : usage_of (codes "gen" ∷ codes "--" ∷ codes "-1" ∷ []) ≡ Some Words
+unfolding is_read line_of clap_on_literals
+minus_one_lane = refl
+
 too_large : usage_of (codes "sim" ∷ codes "f" ∷ codes "--order=18446744073709551616" ∷ [])
     ≡ Some Words
 unfolding is_read line_of clap_on_literals
@@ -220,6 +385,12 @@ no_file = refl
 -- `--help` asks for help, and is no word of the command
 helped : help_asked (codes "check" ∷ codes "--help" ∷ []) ≡ Some Check
 helped = refl
+
+helped_to_compare : help_asked (codes "compare" ∷ codes "--help" ∷ []) ≡ Some Compare
+helped_to_compare = refl
+
+helped_to_a_sample : help_asked (codes "gen" ∷ codes "--help" ∷ []) ≡ Some Gen
+helped_to_a_sample = refl
 
 help_is_no_word : usage_of (codes "check" ∷ codes "--help" ∷ []) ≡ Some Words
 unfolding is_read line_of clap_on_literals

@@ -1,12 +1,15 @@
--- How the numbers in words are read.
-use Rattle.std.proofs.Common.{◌≡◌, ◌∙◌, ◌<◌, ◌^◌, ◌==◌, ℕ, Bool, true, false, List, [], ◌∷◌}
+-- How the numbers and flags in words are read.
+use Rattle.std.proofs.Common.{◌≡◌, ◌∙◌, ◌<◌, ◌^◌, ◌==◌, ◌||◌, ℕ, Bool, true, false, List, [], ◌∷◌}
 use Rattle.std.proofs.Common.{Option, Some, None, refl, sym, ap, subst, arith, cond, drop, ne_eqb}
+use Rattle.std.proofs.Common.{codes}
 use Rattle.std.specs.Prelude.{Result, Ok, Err, pos, unwrap_or, option_map, option_and_then}
 use Rattle.std.specs.Prelude.{slice_get}
 use Rattle.std.specs.Borrow.{Bor}
+use Rattle.std.specs.Str.{bytes_eq}
 use Rattle.std.specs.Str.Parse.{IsNumeral, ParsesUnsigned, digits_value, starts_with_minus}
 use Rattle.std.specs.Str.Parse.{without_leading_plus}
 use Rattle.std.proofs.lemmas.Int.{ints}
+use Rattle.std.proofs.lemmas.Slice.Eq.{bytes_eq-Decides}
 use Rattle.std.proofs.lemmas.Str.Parse.{digit_from_value}
 use Rattle.clap.specs.Lexer.{without_minus}
 use Rattle.clap.specs.Matches.{ReadsOne, first_value, matched_of, one_text}
@@ -14,7 +17,7 @@ use Rattle.clap.specs.Values.{IsSignedIn, read_as}
 use Rattle.clap.specs.declared.parser.matches.Found.{Found}
 use Rattle.clap.specs.declared.parser.matches.MatchedArg.{MatchedArg}
 use Rattle.sv_words.specs.Lines.{greatest_budget, greatest_small}
-use Rattle.sv_words.specs.Words.{IsBudget, budget_of, default_budget, number_of}
+use Rattle.sv_words.specs.Words.{IsBudget, budget_of, default_budget, is_set, number_of}
 
 -- a numeral begins with no minus
 no_minus : (ds : List ℕ) → IsNumeral 10 (without_leading_plus ds) → starts_with_minus ds ≡ false
@@ -148,3 +151,27 @@ budget_is_read E G f id r none value only has = go (first_value f id) refl
         subst (given (Some t))
         (sym (small_number E G t r (value (without_minus t) h.0) only (within_small t h.1)))
         (refl, within_budget t h.1)
+
+-- ---- flags
+
+-- a flag is read as whether it stands
+pub flag_is_read : (f : Found) (id : List ℕ) (r : Bool)
+    → (one_text f id ≡ None → r ≡ false) → (one_text f id ≡ Some (codes "true") → r ≡ true)
+    → (one_text f id ≡ Some (codes "false") → r ≡ false)
+    → ((t : List ℕ) → first_value f id ≡ Some t → (one_text f id ≡ Some t)
+    × ((bytes_eq t (codes "true") || bytes_eq t (codes "false")) ≡ true))
+    → r ≡ is_set (first_value f id)
+flag_is_read f id r none if_true if_false has = go (first_value f id) refl
+  where
+    by_text : (t : List ℕ) → one_text f id ≡ Some t → (b : Bool) → bytes_eq t (codes "true") ≡ b
+        → (b || bytes_eq t (codes "false")) ≡ true → r ≡ b
+    by_text t one true is word =
+        if_true (one ∙ ap Some ((bytes_eq-Decides t (codes "true")).0 is))
+    by_text t one false is word =
+        if_false (one ∙ ap Some ((bytes_eq-Decides t (codes "false")).0 word))
+
+    go : (o : Option (List ℕ)) → first_value f id ≡ o → r ≡ is_set o
+    go None e = none (not_read f id e)
+    go (Some t) e =
+        let h = has t e in
+        by_text t h.0 (bytes_eq t (codes "true")) refl h.1

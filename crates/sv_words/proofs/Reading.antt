@@ -1,10 +1,10 @@
 -- From a parse by `clap` to the words of `specs/Words.antt`.
-use Rattle.std.proofs.Common.{◌≡◌, ◌∙◌, ◌⊎◌, ℕ, true, false, List, [], ◌∷◌, Option, Some, refl, sym}
-use Rattle.std.proofs.Common.{None, is_some}
+use Rattle.std.proofs.Common.{◌≡◌, ◌∙◌, ◌⊎◌, ℕ, Bool, true, false, List, [], ◌∷◌, Option, Some}
+use Rattle.std.proofs.Common.{None, is_some, refl, sym}
 use Rattle.std.proofs.Common.{ap, subst, inl, inr, arith, ne_eqb, codes}
 use Rattle.std.specs.Prelude.{option_map, option_and_then, string_bytes, String}
 use Rattle.std.specs.declared.alloc.Global.{Global}
-use Rattle.clap.specs.Words.{App, HasKind, HasMatchesOf, IsParsedFrom, Kinds, Row, Text, app_of}
+use Rattle.clap.specs.Words.{App, HasKind, HasMatchesOf, IsParsedFrom, Kinds, Text, app_of}
 use Rattle.clap.specs.Words.{fault_of, first_of, first_value, found_of, is_simple}
 use Rattle.clap.specs.Words.{is_simple_and_free}
 use Rattle.clap.specs.Words.{kind_of, matches_of, rows_of}
@@ -17,11 +17,11 @@ use Rattle.clap.specs.declared.error.kind.ErrorKind.{ErrorKind}
 use Rattle.clap.specs.declared.error.kind.ErrorKind.TheVariants as kind
 use Rattle.clap.specs.declared.parser.matches.ArgMatches.{ArgMatches}
 use Rattle.clap.specs.declared.parser.matches.Found.{Found}
-use Rattle.sv_words.specs.Found.{HasOthers, IsReadAs, Rejects}
+use Rattle.sv_words.specs.Found.{HasFlag, HasNeededNumber, HasWords, IsGiven, IsReadAs, Rejects}
 use Rattle.sv_words.specs.Lines.{found_in, greatest, greatest_budget, is_read, line_of}
-use Rattle.sv_words.specs.Lines.{needed, needed_number, number, small_number}
-use Rattle.sv_words.specs.Words.{Request, check, verify, list, cnf, sim, budget_of, number_of}
-use Rattle.sv_words.specs.Words.{plain, request_in, request_with}
+use Rattle.sv_words.specs.Lines.{flag, needed, needed_number, needed_option, number, small_number}
+use Rattle.sv_words.specs.Words.{Request, check, verify, list, cnf, sim, compare, gen, budget_of}
+use Rattle.sv_words.specs.Words.{is_set, number_of, of_given, plain, request_in}
 use Rattle.sv_words.specs.declared.command.Command.TheVariants as asked
 use Rattle.sv_words.specs.declared.command.CommandName.{CommandName}
 use Rattle.sv_words.specs.declared.command.CommandName.TheVariants as name
@@ -39,6 +39,8 @@ free_line name.Verify = refl
 free_line name.List = refl
 free_line name.Cnf = refl
 free_line name.Sim = refl
+free_line name.Compare = refl
+free_line name.Gen = refl
 
 simple_line : (n : CommandName) → is_simple (line_of n) ≡ true
 unfolding line_of clap_on_literals
@@ -47,18 +49,40 @@ simple_line name.Verify = refl
 simple_line name.List = refl
 simple_line name.Cnf = refl
 simple_line name.Sim = refl
+simple_line name.Compare = refl
+simple_line name.Gen = refl
 
-file_stands : (n : CommandName) → StandsAt (line_of n) 0 (needed (codes "FILE"))
+file_of_check : StandsAt (line_of name.Check) 0 (needed (codes "FILE"))
 unfolding line_of
-file_stands name.Check = record { line = refl; at = refl; once = refl; own = refl }
-file_stands name.Verify = record { line = refl; at = refl; once = refl; own = refl }
-file_stands name.List = record { line = refl; at = refl; once = refl; own = refl }
-file_stands name.Cnf = record { line = refl; at = refl; once = refl; own = refl }
-file_stands name.Sim = record { line = refl; at = refl; once = refl; own = refl }
+file_of_check = record { line = refl; at = refl; once = refl; own = refl }
+
+file_of_verify : StandsAt (line_of name.Verify) 0 (needed (codes "FILE"))
+unfolding line_of
+file_of_verify = record { line = refl; at = refl; once = refl; own = refl }
+
+file_of_list : StandsAt (line_of name.List) 0 (needed (codes "FILE"))
+unfolding line_of
+file_of_list = record { line = refl; at = refl; once = refl; own = refl }
+
+file_of_cnf : StandsAt (line_of name.Cnf) 0 (needed (codes "FILE"))
+unfolding line_of
+file_of_cnf = record { line = refl; at = refl; once = refl; own = refl }
+
+file_of_sim : StandsAt (line_of name.Sim) 0 (needed (codes "FILE"))
+unfolding line_of
+file_of_sim = record { line = refl; at = refl; once = refl; own = refl }
+
+file_of_compare : StandsAt (line_of name.Compare) 0 (needed (codes "FILE"))
+unfolding line_of
+file_of_compare = record { line = refl; at = refl; once = refl; own = refl }
 
 budget_stands : StandsAt (line_of name.Check) 2 (small_number (codes "budget") 1 greatest_budget)
 unfolding line_of
 budget_stands = record { line = refl; at = refl; once = refl; own = refl }
+
+json_stands : StandsAt (line_of name.Check) 4 (flag (codes "json"))
+unfolding line_of
+json_stands = record { line = refl; at = refl; once = refl; own = refl }
 
 proof_stands : StandsAt (line_of name.Verify) 1 (needed (codes "PROOF"))
 unfolding line_of
@@ -72,31 +96,85 @@ order_stands : StandsAt (line_of name.Sim) 2 (number (codes "order") 0 greatest)
 unfolding line_of
 order_stands = record { line = refl; at = refl; once = refl; own = refl }
 
+a_stands : StandsAt (line_of name.Compare) 1 (needed (codes "A"))
+unfolding line_of
+a_stands = record { line = refl; at = refl; once = refl; own = refl }
+
+b_stands : StandsAt (line_of name.Compare) 2 (needed (codes "B"))
+unfolding line_of
+b_stands = record { line = refl; at = refl; once = refl; own = refl }
+
+level_stands : StandsAt (line_of name.Compare) 3 (needed_option (codes "level"))
+unfolding line_of
+level_stands = record { line = refl; at = refl; once = refl; own = refl }
+
+lanes_stand : StandsAt (line_of name.Gen) 0 (needed_number (codes "LANES"))
+unfolding line_of
+lanes_stand = record { line = refl; at = refl; once = refl; own = refl }
+
+check_stands : StandsAt (line_of name.Gen) 1 (flag (codes "check"))
+unfolding line_of
+check_stands = record { line = refl; at = refl; once = refl; own = refl }
+
 -- ---- what a parse says
 
 some_text : (o : Option Text) → is_some o ≡ true → (t : Text) × (o ≡ Some t)
 some_text None is = absurd cc
 some_text (Some t) is = (t, refl)
 
-holds_others : (n : CommandName) (c : Line) (m : ArgMatches) → IsParsedFrom c m
-    → app_of c ≡ line_of n → HasOthers n m
-holds_others name.Check c m p same = λ text has.
-    value_is_read c m (line_of name.Check) 2
-    (small_number (codes "budget") 1 greatest_budget) _ text p same budget_stands refl has
-holds_others name.Verify c m p same =
-    required_is_given c m (line_of name.Verify) 1 (needed (codes "PROOF")) p same
-    proof_stands refl refl refl
-holds_others name.List c m p same = tt
-holds_others name.Cnf c m p same =
-    let there = some_text (first_value (found_of m) (codes "NUMBER"))
-    (required_is_given c m (line_of name.Cnf) 1 (needed_number (codes "NUMBER")) p same
-    number_stands refl refl refl) in
-    let got = value_is_read c m (line_of name.Cnf) 1 (needed_number (codes "NUMBER")) _ there.0 p
-    same number_stands refl there.1 in
-    record { text = there.0; has = there.1; read = got.0; within = got.1 }
-holds_others name.Sim c m p same = λ text has.
-    value_is_read c m (line_of name.Sim) 2
-    (number (codes "order") 0 greatest) _ text p same order_stands refl has
+-- what a parse by the line of a command has
+module _ (n : CommandName) (c : Line) (m : ArgMatches) (p : IsParsedFrom c m)
+    (same : app_of c ≡ line_of n) where
+  given_at : (k : ℕ) (id : Text) → StandsAt (line_of n) k (needed id) → IsGiven id m
+  given_at k id stands =
+      required_is_given c m (line_of n) k (needed id) p same stands refl refl refl
+
+  number_at : (k : ℕ) (id : Text) → StandsAt (line_of n) k (needed_number id)
+      → HasNeededNumber id m
+  number_at k id stands =
+      let there = some_text (first_value (found_of m) id)
+      (required_is_given c m (line_of n) k (needed_number id) p same stands refl refl refl) in
+      let got = value_is_read c m (line_of n) k (needed_number id) _ there.0 p same stands refl
+      there.1 in
+      record { text = there.0; has = there.1; read = got.0; within = got.1 }
+
+  flag_at : (k : ℕ) (id : Text) → StandsAt (line_of n) k (flag id) → HasFlag id m
+  flag_at k id stands = λ text has.
+      value_is_read c m (line_of n) k (flag id) _ text p same stands refl has
+
+holds_words : (n : CommandName) (c : Line) (m : ArgMatches) → IsParsedFrom c m
+    → app_of c ≡ line_of n → HasWords n m
+holds_words name.Check c m p same = (
+  given_at name.Check c m p same 0 (codes "FILE") file_of_check,
+  λ text has. value_is_read c m (line_of name.Check) 2
+      (small_number (codes "budget") 1 greatest_budget) _ text p same budget_stands refl has,
+  flag_at name.Check c m p same 4 (codes "json") json_stands,
+)
+holds_words name.Verify c m p same = (
+  given_at name.Verify c m p same 0 (codes "FILE") file_of_verify,
+  given_at name.Verify c m p same 1 (codes "PROOF") proof_stands,
+)
+holds_words name.List c m p same = given_at name.List c m p same 0 (codes "FILE") file_of_list
+holds_words name.Cnf c m p same = (
+  given_at name.Cnf c m p same 0 (codes "FILE") file_of_cnf,
+  number_at name.Cnf c m p same 1 (codes "NUMBER") number_stands,
+)
+holds_words name.Sim c m p same = (
+  given_at name.Sim c m p same 0 (codes "FILE") file_of_sim,
+  λ text has. value_is_read c m (line_of name.Sim) 2
+      (number (codes "order") 0 greatest) _ text p same order_stands refl has,
+)
+holds_words name.Compare c m p same = (
+  given_at name.Compare c m p same 0 (codes "FILE") file_of_compare,
+  given_at name.Compare c m p same 1 (codes "A") a_stands,
+  given_at name.Compare c m p same 2 (codes "B") b_stands,
+  required_is_given c m (line_of name.Compare) 3 (needed_option (codes "level")) p same
+      level_stands refl refl refl,
+)
+holds_words name.Gen c m p same = (
+  number_at name.Gen c m p same 0 (codes "LANES") lanes_stand,
+  flag_at name.Gen c m p same 1 (codes "check") check_stands,
+)
 
 rejected_by : (a : App) (n : CommandName) (words : List Text) → a ≡ line_of n
     → is_empty (fault_of a words) ≡ is_read n words
@@ -117,9 +195,7 @@ line_is_read n c m words same p matches fails = record {
   read = sym (rejected_by (app_of c) n words same)
       ∙ ap (λ (k : Kinds). is_empty k) (fails (ap is_simple_and_free same ∙ free_line n));
   rows = (matches (ap is_simple same ∙ simple_line n)).0 ∙ found_by (app_of c) n words same;
-  file = required_is_given c m (line_of n) 0 (needed (codes "FILE")) p same
-      (file_stands n) refl refl refl;
-  others = holds_others n c m p same;
+  has = holds_words n c m p same;
 }
 
 some_kind : (ks : Kinds) (e : Error) → HasKind ks e → (kind_of e ≡ kind.OutOfMemory → ⊥)
@@ -150,48 +226,50 @@ rejects n c e words k fault same fails is (inr h) =
 
 -- ---- what is found
 
-as_asked : (n : CommandName) (rows : List Row) (file : Text) (request : Request)
-    → first_of (codes "FILE") rows ≡ Some file
-    → request_with n file rows ≡ Some request → request_in n rows ≡ Some request
-as_asked n rows file request f r =
-    ap (option_and_then (λ (t : Text). request_with n t rows)) f ∙ r
-
--- a command with its certificate
-verified : (file proof : Text) (o top is : Option Text) → o ≡ Some proof → top ≡ is
-    → option_map (λ (t : Text). verify file t top) o ≡ Some (verify file proof is)
-verified file proof o top is p t =
-    ap (option_map (λ (x : Text). verify file x top)) p
-    ∙ ap (λ (x : Option Text). Some (verify file proof x)) t
-
--- a command with its number
-numbered : (file : Text) (o : Option Text) (top is : Option Text) (number : ℕ)
-    → option_map number_of o ≡ Some number → top ≡ is
-    → option_map (λ (t : Text). cnf file (number_of t) top) o ≡ Some (cnf file number is)
-numbered file None top is number n t = absurd cc
-numbered file (Some text) top is number n t =
-    let same : number_of text ≡ number = cc in
-    λ i. Some (cnf file (same i) (t i))
-
 module _ (f : Found) where
   in_rows : (id : Text) (value : Option (String Global))
       → option_map string_bytes value ≡ first_value f id
       → first_of id (rows_of f) ≡ option_map string_bytes value
   in_rows id value e = sym (first_value-rows f id) ∙ sym e
 
+  flag_in_rows : (id : Text) (flag : Bool) → flag ≡ is_set (first_value f id)
+      → is_set (first_of id (rows_of f)) ≡ flag
+  flag_in_rows id flag e = ap is_set (sym (first_value-rows f id)) ∙ sym e
+
+  -- what is made of an argument that is given
+  made : (id value : Text) (make : Text → Option Request) → first_value f id ≡ Some value
+      → of_given id (rows_of f) make ≡ make value
+  made id value make e = ap (option_and_then make) (sym (first_value-rows f id) ∙ e)
+
+  -- and of a number that is given
+  made_number : (id : Text) (number : ℕ) (make : ℕ → Option Request)
+      → option_map number_of (first_value f id) ≡ Some number
+      → of_given id (rows_of f) (λ (t : Text). make (number_of t)) ≡ make number
+  made_number id number make e =
+      go (first_of id (rows_of f)) (ap (option_map number_of) (sym (first_value-rows f id)) ∙ e)
+    where
+      go : (o : Option Text) → option_map number_of o ≡ Some number
+          → option_and_then (λ (t : Text). make (number_of t)) o ≡ make number
+      go None e = absurd cc
+      go (Some text) e =
+          let same : number_of text ≡ number = cc in
+          ap make same
+
   pub asks_check : (file : String Global) (proof : Option (String Global)) (budget : ℕ)
-      (top : Option (String Global))
+      (top : Option (String Global)) (json : Bool)
       → first_value f (codes "FILE") ≡ Some (string_bytes file)
       → option_map string_bytes proof ≡ first_value f (codes "proof")
       → budget ≡ budget_of (first_value f (codes "budget"))
       → option_map string_bytes top ≡ first_value f (codes "top")
-      → request_in name.Check (rows_of f) ≡ Some (plain (asked.Check file proof budget top))
-  asks_check file proof budget top is_file is_proof is_budget is_top =
+      → json ≡ is_set (first_value f (codes "json"))
+      → request_in name.Check (rows_of f) ≡ Some (plain (asked.Check file proof budget top json))
+  asks_check file proof budget top json is_file is_proof is_budget is_top is_json =
       let proofs = in_rows (codes "proof") proof is_proof in
       let budgets = ap budget_of (sym (first_value-rows f (codes "budget"))) ∙ sym is_budget in
       let tops = in_rows (codes "top") top is_top in
-      as_asked name.Check (rows_of f) (string_bytes file) _
-      (sym (first_value-rows f (codes "FILE")) ∙ is_file)
-      (λ i. Some (check (string_bytes file) (proofs i) (budgets i) (tops i)))
+      let flags = flag_in_rows (codes "json") json is_json in
+      made (codes "FILE") (string_bytes file) _ is_file
+      ∙ (λ i. Some (check (string_bytes file) (proofs i) (budgets i) (tops i) (flags i)))
 
   pub asks_verify : (file proof : String Global) (top : Option (String Global))
       → first_value f (codes "FILE") ≡ Some (string_bytes file)
@@ -199,19 +277,19 @@ module _ (f : Found) where
       → option_map string_bytes top ≡ first_value f (codes "top")
       → request_in name.Verify (rows_of f) ≡ Some (plain (asked.Verify file proof top))
   asks_verify file proof top is_file is_proof is_top =
-      as_asked name.Verify (rows_of f) (string_bytes file) _
-      (sym (first_value-rows f (codes "FILE")) ∙ is_file)
-      (verified (string_bytes file) (string_bytes proof) (first_of (codes "PROOF") (rows_of f))
-      (first_of (codes "top") (rows_of f)) _
-      (sym (first_value-rows f (codes "PROOF")) ∙ is_proof) (in_rows (codes "top") top is_top))
+      let tops = in_rows (codes "top") top is_top in
+      made (codes "FILE") (string_bytes file) _ is_file
+      ∙ (made (codes "PROOF") (string_bytes proof) _ is_proof
+      ∙ (λ i. Some (verify (string_bytes file) (string_bytes proof) (tops i))))
 
   pub asks_list : (file : String Global) (top : Option (String Global))
       → first_value f (codes "FILE") ≡ Some (string_bytes file)
       → option_map string_bytes top ≡ first_value f (codes "top")
       → request_in name.List (rows_of f) ≡ Some (plain (asked.List file top))
-  asks_list file top is_file is_top = as_asked name.List (rows_of f) (string_bytes file) _
-      (sym (first_value-rows f (codes "FILE")) ∙ is_file)
-      (ap (λ (t : Option Text). Some (list (string_bytes file) t)) (in_rows (codes "top") top is_top))
+  asks_list file top is_file is_top =
+      let tops = in_rows (codes "top") top is_top in
+      made (codes "FILE") (string_bytes file) _ is_file
+      ∙ (λ i. Some (list (string_bytes file) (tops i)))
 
   pub asks_cnf : (file : String Global) (number : ℕ) (top : Option (String Global))
       → first_value f (codes "FILE") ≡ Some (string_bytes file)
@@ -220,12 +298,10 @@ module _ (f : Found) where
       → request_in name.Cnf (rows_of f) ≡ Some (plain (asked.Cnf file number top))
   asks_cnf file number top is_file is_number is_top =
       let tops = in_rows (codes "top") top is_top in
-      let numbers = ap (option_map number_of) (sym (first_value-rows f (codes "NUMBER")))
-      ∙ is_number in
-      as_asked name.Cnf (rows_of f) (string_bytes file) _
-      (sym (first_value-rows f (codes "FILE")) ∙ is_file)
-      (numbered (string_bytes file) (first_of (codes "NUMBER") (rows_of f))
-      (first_of (codes "top") (rows_of f)) _ number numbers tops)
+      made (codes "FILE") (string_bytes file) _ is_file
+      ∙ (made_number (codes "NUMBER") number
+      (λ (n : ℕ). Some (cnf (string_bytes file) n (first_of (codes "top") (rows_of f)))) is_number
+      ∙ (λ i. Some (cnf (string_bytes file) number (tops i))))
 
   pub asks_sim : (file : String Global) (level : Option (String Global)) (order : Option ℕ)
       (top : Option (String Global))
@@ -239,6 +315,30 @@ module _ (f : Found) where
       let orders = ap (option_map number_of) (sym (first_value-rows f (codes "order")))
       ∙ sym is_order in
       let tops = in_rows (codes "top") top is_top in
-      as_asked name.Sim (rows_of f) (string_bytes file) _
-      (sym (first_value-rows f (codes "FILE")) ∙ is_file)
-      (λ i. Some (sim (string_bytes file) (levels i) (orders i) (tops i)))
+      made (codes "FILE") (string_bytes file) _ is_file
+      ∙ (λ i. Some (sim (string_bytes file) (levels i) (orders i) (tops i)))
+
+  pub asks_compare : (file a b level : String Global) (top : Option (String Global))
+      → first_value f (codes "FILE") ≡ Some (string_bytes file)
+      → first_value f (codes "A") ≡ Some (string_bytes a)
+      → first_value f (codes "B") ≡ Some (string_bytes b)
+      → first_value f (codes "level") ≡ Some (string_bytes level)
+      → option_map string_bytes top ≡ first_value f (codes "top")
+      → request_in name.Compare (rows_of f) ≡ Some (plain (asked.Compare file a b level top))
+  asks_compare file a b level top is_file is_a is_b is_level is_top =
+      let tops = in_rows (codes "top") top is_top in
+      made (codes "FILE") (string_bytes file) _ is_file
+      ∙ (made (codes "A") (string_bytes a) _ is_a ∙ (made (codes "B") (string_bytes b) _ is_b
+      ∙ (made (codes "level") (string_bytes level) _ is_level
+      ∙ (λ i. Some (compare (string_bytes file) (string_bytes a) (string_bytes b)
+      (string_bytes level) (tops i))))))
+
+  pub asks_gen : (lanes : ℕ) (checks : Bool)
+      → option_map number_of (first_value f (codes "LANES")) ≡ Some lanes
+      → checks ≡ is_set (first_value f (codes "check"))
+      → request_in name.Gen (rows_of f) ≡ Some (plain (asked.Gen lanes checks))
+  asks_gen lanes checks is_lanes is_checks =
+      let flags = flag_in_rows (codes "check") checks is_checks in
+      made_number (codes "LANES") lanes
+      (λ (n : ℕ). Some (gen n (is_set (first_of (codes "check") (rows_of f))))) is_lanes
+      ∙ (λ i. Some (gen lanes (flags i)))

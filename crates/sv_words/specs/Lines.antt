@@ -1,16 +1,19 @@
--- The words of each command, as the simple command of `clap` that reads them. FILE, PROOF and
--- NUMBER are words that stand alone and have to be there; an option is `--NAME VALUE` or
--- `--NAME=VALUE`, before or behind them, once at most; after a word `--` no word is an option.
+-- The words of each command, as the simple command of `clap` that reads them. FILE, PROOF, NUMBER,
+-- A, B and LANES are words that stand alone and have to be there; an option is `--NAME VALUE` or
+-- `--NAME=VALUE`, and a flag `--NAME`, before or behind them, once at most; after a word `--` no
+-- word is an option or a flag.
 use Rattle.std.specs.Prelude.{ℕ, Bool, true, List, Option, Some, None, codes, cond, pos}
 use Rattle.std.specs.Str.{bytes_eq}
 use Rattle.clap.specs.Words.{App, Rule, Row, Text, fault_of, matches_of, new_app, new_rule}
 use Rattle.clap.specs.Words.{with_rule}
 use Rattle.clap.specs.Walk.{is_empty}
-use Rattle.clap.specs.declared.builder.action.ArgAction.TheVariants.{Set}
+use Rattle.clap.specs.declared.builder.action.ArgAction.TheVariants.{Set, SetTrue}
+use Rattle.clap.specs.declared.builder.value_parser.ValueParser.TheVariants as parser
 use Rattle.clap.specs.declared.builder.value_parser.ValueParser.TheVariants.{Signed, Unsigned}
 use Rattle.sv_words.specs.declared.command.CommandName.{CommandName}
 use Rattle.sv_words.specs.declared.command.CommandName.TheVariants.{Check, List as ListName, Cnf}
-use Rattle.sv_words.specs.declared.command.CommandName.TheVariants.{Sim, Verify}
+use Rattle.sv_words.specs.declared.command.CommandName.TheVariants.{Sim, Verify, Compare}
+use Rattle.sv_words.specs.declared.command.CommandName.TheVariants.{Gen}
 
 -- a word that stands alone and has to be there
 abbrev pub needed : Text → Rule
@@ -28,6 +31,18 @@ needed_number id =
 -- an option with one value, any text
 abbrev pub option : Text → Rule
 option id = record (new_rule id) { long = Some id; action = Some Set; value_names = 1 }
+
+-- an option that has to be there, with one value, any text
+abbrev pub needed_option : Text → Rule
+needed_option id = record (option id) { required = true }
+
+-- an option without a value
+abbrev pub flag : Text → Rule
+flag id = record (new_rule id) {
+  long = Some id;
+  action = Some SetTrue;
+  parser = Some parser.Bool;
+}
 
 -- an option whose value is a number from `least` to `most`
 abbrev pub number : Text → (least most : ℕ) → Rule
@@ -49,11 +64,12 @@ greatest = 18446744073709551615
 abbrev pub named : Text → App
 named name = let a = new_app name in record a { top = record a.top { disable_help_flag = true } }
 
--- `check FILE [--proof NAME] [--budget N] [--top M]`
+-- `check FILE [--proof NAME] [--budget N] [--top M] [--json]`
 abbrev pub check_line : App
-check_line = with_rule (with_rule (with_rule (with_rule (named (codes "check"))
+check_line = with_rule (with_rule (with_rule (with_rule (with_rule (named (codes "check"))
     (needed (codes "FILE"))) (option (codes "proof")))
-    (small_number (codes "budget") 1 greatest_budget)) (option (codes "top"))
+    (small_number (codes "budget") 1 greatest_budget)) (option (codes "top")))
+    (flag (codes "json"))
 
 -- `verify FILE PROOF [--top M]`
 abbrev pub verify_line : App
@@ -76,12 +92,25 @@ sim_line = with_rule (with_rule (with_rule (with_rule (named (codes "sim"))
     (needed (codes "FILE"))) (option (codes "level"))) (number (codes "order") 0 greatest))
     (option (codes "top"))
 
+-- `compare FILE A B --level P [--top M]`
+abbrev pub compare_line : App
+compare_line = with_rule (with_rule (with_rule (with_rule (with_rule (named (codes "compare"))
+    (needed (codes "FILE"))) (needed (codes "A"))) (needed (codes "B")))
+    (needed_option (codes "level"))) (option (codes "top"))
+
+-- `gen LANES [--check]`
+abbrev pub gen_line : App
+gen_line = with_rule (with_rule (named (codes "gen")) (needed_number (codes "LANES")))
+    (flag (codes "check"))
+
 unfoldable pub line_of : CommandName → App
 line_of Check = check_line
 line_of Verify = verify_line
 line_of ListName = list_line
 line_of Cnf = cnf_line
 line_of Sim = sim_line
+line_of Compare = compare_line
+line_of Gen = gen_line
 
 -- the command that a first word names
 abbrev pub command_named : Text → Option CommandName
@@ -90,7 +119,9 @@ command_named word =
     (cond (bytes_eq word (codes "verify")) (Some Verify)
     (cond (bytes_eq word (codes "list")) (Some ListName)
     (cond (bytes_eq word (codes "cnf")) (Some Cnf)
-    (cond (bytes_eq word (codes "sim")) (Some Sim) None))))
+    (cond (bytes_eq word (codes "sim")) (Some Sim)
+    (cond (bytes_eq word (codes "compare")) (Some Compare)
+    (cond (bytes_eq word (codes "gen")) (Some Gen) None))))))
 
 -- `clap` reads the words: they begin with the command's name
 unfoldable pub is_read : CommandName → List Text → Bool

@@ -1,6 +1,6 @@
 -- What words ask for, and what is wrong with words that ask for nothing.
-use Rattle.std.specs.Prelude.{◌≡◌, ◌≤◌, ◌∷◌, ℕ, List, [], map, Option, Some, None, codes, cond, ⊤}
-use Rattle.std.specs.Prelude.{option_map, option_and_then, string_bytes, String}
+use Rattle.std.specs.Prelude.{◌≡◌, ◌≤◌, ◌∷◌, ℕ, Bool, false, List, [], map, Option, Some, None}
+use Rattle.std.specs.Prelude.{codes, cond, ⊤, option_map, option_and_then, string_bytes, String}
 use Rattle.std.specs.Option.{option_map_or}
 use Rattle.std.specs.Str.{bytes_eq}
 use Rattle.std.specs.Str.Parse.{digits_value, without_leading_sign}
@@ -20,14 +20,17 @@ use Rattle.sv_words.specs.declared.command.WordFault.TheVariants.{Usage, OutOfMe
 abbrev pub words_of : List (String Global) → List Text
 words_of words = map string_bytes words
 
--- a command with what it was given: FILE, PROOF, NUMBER, and the values of its options, where they
--- are there
+-- a command with what it was given: FILE, PROOF, NUMBER, A, B and LANES, the values of its options,
+-- where they are there, and whether its flags are
 pub data Request : Type 0 where
-  check : (file : Text) → (proof : Option Text) → (budget : ℕ) → (top : Option Text) → Request
+  check : (file : Text) → (proof : Option Text) → (budget : ℕ) → (top : Option Text)
+      → (json : Bool) → Request
   verify : (file proof : Text) → (top : Option Text) → Request
   list : (file : Text) → (top : Option Text) → Request
   cnf : (file : Text) → (number : ℕ) → (top : Option Text) → Request
   sim : (file : Text) → (level : Option Text) → (order : Option ℕ) → (top : Option Text) → Request
+  compare : (file a b level : Text) → (top : Option Text) → Request
+  gen : (lanes : ℕ) → (checks : Bool) → Request
 
 -- the number that decimal digits spell, with a sign before them or not; no number that is read is
 -- below 0, so a `-` may stand before zeros alone
@@ -46,24 +49,34 @@ IsBudget budget = (1 ≤ budget) × (budget ≤ greatest_budget)
 abbrev pub budget_of : Option Text → ℕ
 budget_of value = option_map_or number_of value default_budget
 
--- what the rows ask for, of a command and FILE
-abbrev pub request_with : CommandName → Text → List Row → Option Request
-request_with name.Check file rows = Some (check file (first_of (codes "proof") rows)
-    (budget_of (first_of (codes "budget") rows)) (first_of (codes "top") rows))
-request_with name.Verify file rows =
-    option_map (λ proof. verify file proof (first_of (codes "top") rows))
-    (first_of (codes "PROOF") rows)
-request_with name.List file rows = Some (list file (first_of (codes "top") rows))
-request_with name.Cnf file rows =
-    option_map (λ number. cnf file (number_of number) (first_of (codes "top") rows))
-    (first_of (codes "NUMBER") rows)
-request_with name.Sim file rows = Some (sim file (first_of (codes "level") rows)
-    (option_map number_of (first_of (codes "order") rows)) (first_of (codes "top") rows))
+-- a flag stands: its value is then `true`
+abbrev pub is_set : Option Text → Bool
+is_set value = option_map_or (λ text. bytes_eq text (codes "true")) value false
+
+-- what is made of the value of an argument that has to be there
+abbrev pub of_given : Text → List Row → (Text → Option Request) → Option Request
+of_given id rows make = option_and_then make (first_of id rows)
 
 -- what is found in the words of a command asks for
 abbrev pub request_in : CommandName → List Row → Option Request
-request_in name rows =
-    option_and_then (λ file. request_with name file rows) (first_of (codes "FILE") rows)
+request_in name.Check rows = of_given (codes "FILE") rows
+    (λ file. Some (check file (first_of (codes "proof") rows)
+    (budget_of (first_of (codes "budget") rows)) (first_of (codes "top") rows)
+    (is_set (first_of (codes "json") rows))))
+request_in name.Verify rows = of_given (codes "FILE") rows (λ file. of_given (codes "PROOF") rows
+    (λ proof. Some (verify file proof (first_of (codes "top") rows))))
+request_in name.List rows = of_given (codes "FILE") rows
+    (λ file. Some (list file (first_of (codes "top") rows)))
+request_in name.Cnf rows = of_given (codes "FILE") rows (λ file. of_given (codes "NUMBER") rows
+    (λ number. Some (cnf file (number_of number) (first_of (codes "top") rows))))
+request_in name.Sim rows = of_given (codes "FILE") rows
+    (λ file. Some (sim file (first_of (codes "level") rows)
+    (option_map number_of (first_of (codes "order") rows)) (first_of (codes "top") rows)))
+request_in name.Compare rows = of_given (codes "FILE") rows (λ file. of_given (codes "A") rows
+    (λ a. of_given (codes "B") rows (λ b. of_given (codes "level") rows
+    (λ level. Some (compare file a b level (first_of (codes "top") rows))))))
+request_in name.Gen rows = of_given (codes "LANES") rows
+    (λ lanes. Some (gen (number_of lanes) (is_set (first_of (codes "check") rows))))
 
 -- what the words ask for: of words that are read
 abbrev pub request_of : List Text → Option Request
@@ -86,8 +99,8 @@ help_asked _ = None
 
 -- a command, as the code holds it
 abbrev pub plain : Command → Request
-plain (asked.Check file proof budget top) = check (string_bytes file)
-    (option_map string_bytes proof) budget (option_map string_bytes top)
+plain (asked.Check file proof budget top json) = check (string_bytes file)
+    (option_map string_bytes proof) budget (option_map string_bytes top) json
 plain (asked.Verify file proof top) =
     verify (string_bytes file) (string_bytes proof) (option_map string_bytes top)
 plain (asked.List file top) = list (string_bytes file) (option_map string_bytes top)
@@ -95,10 +108,13 @@ plain (asked.Cnf file number top) =
     cnf (string_bytes file) number (option_map string_bytes top)
 plain (asked.Sim file level order top) = sim (string_bytes file)
     (option_map string_bytes level) order (option_map string_bytes top)
+plain (asked.Compare file a b level top) = compare (string_bytes file) (string_bytes a)
+    (string_bytes b) (string_bytes level) (option_map string_bytes top)
+plain (asked.Gen lanes checks) = gen lanes checks
 
 -- the budget of a check is within its bounds
 abbrev pub HasBudget : Request → Type 0
-HasBudget (check file proof budget top) = IsBudget budget
+HasBudget (check file proof budget top json) = IsBudget budget
 HasBudget _ = ⊤
 
 -- nothing is wrong with the words, and the command is what they ask for

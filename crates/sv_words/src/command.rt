@@ -18,13 +18,18 @@ pub enum CommandName {
     Cnf,
     /// `sim`
     Sim,
+    /// `compare`
+    Compare,
+    /// `gen`
+    Gen,
 }
 
 /// What the words ask for. `file` is FILE, and `top` the name after `--top`, where there is one;
-/// a name may be empty.
+/// a name may be empty. A flag is set where it stands.
 #[derive(Debug, PartialEq, Eq, Drop)]
 pub enum Command {
-    /// `check FILE [--proof NAME] [--budget N] [--top M]`: say whether the text keeps its secrets.
+    /// `check FILE [--proof NAME] [--budget N] [--top M] [--json]`: say whether the text keeps its
+    /// secrets.
     Check {
         /// The name of the text.
         file: String,
@@ -35,6 +40,8 @@ pub enum Command {
         budget: u32,
         /// The module to take as the top.
         top: Option<String>,
+        /// The verdict is wanted as JSON.
+        json: bool,
     },
     /// `verify FILE PROOF [--top M]`: say whether a certificate shows that the text keeps its
     /// secrets.
@@ -72,6 +79,27 @@ pub enum Command {
         order: Option<u64>,
         /// The module to take as the top.
         top: Option<String>,
+    },
+    /// `compare FILE A B --level P [--top M]`: tell the first difference that the level sees
+    /// between the text's design on two stimuli.
+    Compare {
+        /// The name of the text.
+        file: String,
+        /// The name of the first stimulus.
+        a: String,
+        /// The name of the second stimulus.
+        b: String,
+        /// The point whose views are compared.
+        level: String,
+        /// The module to take as the top.
+        top: Option<String>,
+    },
+    /// `gen LANES [--check]`: print a sample design, or its verdict.
+    Gen {
+        /// The number of lanes. The words take any u32; the program makes designs of 1 to 200.
+        lanes: u32,
+        /// The verdict is wanted and not the design.
+        check: bool,
     },
 }
 

@@ -20,3 +20,11 @@ returns-in-Cnf c = rw c.in-Cnf.is c.cnf_line.ensures
 pub returns-in-Sim : goal.returns-in-Sim
 unfolding line_of
 returns-in-Sim c = rw c.in-Sim.is c.sim_line.ensures
+
+pub returns-in-Compare : goal.returns-in-Compare
+unfolding line_of
+returns-in-Compare c = rw c.in-Compare.is c.compare_line.ensures
+
+pub returns-in-Gen : goal.returns-in-Gen
+unfolding line_of
+returns-in-Gen c = rw c.in-Gen.is c.gen_line.ensures

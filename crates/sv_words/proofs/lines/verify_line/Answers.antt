@@ -5,7 +5,7 @@ use Rattle.sv_words.proofs.lines.verify_line.Goals as goal
 
 pub returns : goal.returns
 returns c = IfOk-weaker c.arg-3.result _ _ (λ line h. h.shape c.top_option.ensures.local
-    ∙ ap₂ with_rule (c.in_ok-arg-2.ensures.shape c.proof_word.ensures.local
+    ∙ ap₂ with_rule (c.in_ok-arg-2.ensures.shape c.text_word.ensures.local
     ∙ ap₂ with_rule (c.in_ok-arg.ensures.shape c.file_word.ensures.local
-    ∙ ap₂ with_rule c.in_ok-named.ensures c.file_word.ensures.rule) c.proof_word.ensures.rule)
+    ∙ ap₂ with_rule c.in_ok-named.ensures c.file_word.ensures.rule) c.text_word.ensures.rule)
     c.top_option.ensures.rule) c.arg-3.ensures

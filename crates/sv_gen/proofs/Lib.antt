@@ -1,0 +1,3 @@
+pub mod SampleFacts
+pub mod SampleLength
+pub mod SampleExamples

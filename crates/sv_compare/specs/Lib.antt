@@ -1,0 +1,2 @@
+pub mod ComparedTexts
+pub mod Pairs

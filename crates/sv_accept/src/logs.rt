@@ -2,14 +2,13 @@
 ghost use Rattle.std.specs.Prelude.{◌≡◌, ◌<◌, ◌^◌, List, length, map, All, IfErr, OnOk};
 ghost use Rattle.std.specs.List.{AllZip};
 ghost use Rattle.sv_clause.specs.Logs.{plain_log};
-ghost use Rattle.sv_flat.specs.Clocks.{processes_of};
 ghost use Rattle.sv_flat.specs.Design.{TypedTree};
 ghost use Rattle.sv_flat.specs.Views.{design_of};
 ghost use Rattle.sv_obl.specs.DesignQueries.{IsQueryOf};
-ghost use Rattle.sv_obl.specs.IndexedBodies.{AreIndexed};
 ghost use Rattle.sv_obl.specs.Noninterference.{NoninterferentUnder};
 ghost use Rattle.sv_obl.specs.Validity.{IsValid, AllValid};
 ghost use Rattle.sv_obl.specs.Views.{obligation_of};
+ghost use Rattle.sv_blast.specs.Coders.{IsCoder};
 ghost use Rattle.sv_proof.specs.Certificate.{plain_logs};
 ghost use Rattle.sv_accept.specs.Accepting.{IsAccepted, HasQueryFault, HasAcceptFault};
 ghost use Rattle.sv_accept.specs.Accepting.{numbered_fault, BeginsWithObligations};
@@ -17,36 +16,37 @@ ghost use Rattle.sv_accept.specs.Accepting.{numbered_fault, BeginsWithObligation
 use crate::faults::{AcceptFault, QueryFault};
 use crate::laws::refuted_obligations_are_valid;
 use std::alloc::Global;
-use sv_blast::{BlastFault, encode_by};
+use sv_blast::{BlastFault, Coder};
 use sv_clause::Log;
 use sv_design::Design;
 use sv_obl::{Bodies, Query, know_design, valid_obligations_mean_noninterference};
 use sv_proof::{LogFault, check_log};
 
 /// Checks that a log of fewer than 2 ^ 32 steps refutes the encoding of an obligation of a design,
-/// which is made anew, over the design's bodies, and let go again. `TooLarge` says that it has more
-/// than 4,194,304 variables, `Log` how the log fails, `OutOfMemory` that memory ran out.
+/// which the design's coder makes anew. `TooLarge` says that it has more than 4,194,304 variables,
+/// `Log` how the log fails, `OutOfMemory` that memory ran out.
 pub fn check_query(
     alloc: Global,
     design: &Design,
-    bodies: &Bodies,
+    coder: &mut Coder,
     query: &Query,
     log: &Log,
 ) -> Result<(), QueryFault>
-    requires bodies { AreIndexed (processes_of (design_of design.now)) bodies.now.bodies.items }
+    requires coder { IsCoder (design_of design.now) coder.old }
     requires query { IsQueryOf (design_of design.now) (obligation_of query.now) }
     requires steps { length log.now.steps.items < 2 ^ 32 }
+    ensures coder { IsCoder (design_of design.now) coder.new }
     ensures refuted { OnOk result
         (IsAccepted (design_of design.now) (obligation_of query.now) (plain_log log.now)) }
     ensures fault { IfErr result
         (HasQueryFault (design_of design.now) (obligation_of query.now) (plain_log log.now)) }
 {
-    let coded = match encode_by(alloc, design, bodies, query) {
-        Ok(coded) => coded,
+    match coder.encode(design, query) {
+        Ok(()) => {}
         Err(BlastFault::TooLarge) => return Err(QueryFault::TooLarge),
         Err(BlastFault::OutOfMemory) => return Err(QueryFault::OutOfMemory),
-    };
-    match check_log(alloc, &coded.clauses, log) {
+    }
+    match check_log(alloc, coder.clauses(), log) {
         Ok(()) => Ok(()),
         Err(LogFault::Step(i)) => Err(QueryFault::Log(LogFault::Step(i))),
         Err(LogFault::NotEmpty) => Err(QueryFault::Log(LogFault::NotEmpty)),
@@ -108,8 +108,9 @@ fn check_queries(
         return Err(AcceptFault::Count);
     }
     let bodies = Bodies::new(alloc, design)?;
+    let mut coder = Coder::new(alloc, &bodies);
     'queries: for (i, query) in queries.iter().enumerate() {
-        match check_query(alloc, design, &bodies, query, &logs[i]) {
+        match check_query(alloc, design, &mut coder, query, &logs[i]) {
             Ok(()) => {}
             Err(fault) => return Err(fault_of(i as u32 + 1, fault)),
         }

@@ -27,8 +27,7 @@ use Rattle.sv_obl.specs.Obligations.{Obligation}
 use Rattle.sv_encoding.specs.BothWays.{IsPlace, IsWhole}
 use Rattle.sv_encoding.specs.Valuations.{decoded, placed_value}
 use Rattle.sv_blast.specs.declared.coded.BitPlace.{BitPlace as Place}
-use Rattle.sv_blast.specs.declared.coded.Coded.{Coded}
-use Rattle.sv_blast.specs.Coded.{place_form, encoding_of}
+use Rattle.sv_blast.specs.Coded.{place_form}
 use Rattle.sv_blast.specs.Decoded.{IsBitPlace, IsDecodable, ListsValues}
 use Rattle.sv_blast.proofs.DecodedBits.{placed_small}
 
@@ -109,32 +108,32 @@ module _ (design : FlatDesign) (bits : List BitPlace) (values : ℕ → Bool) wh
 
 -- ---- values that fit
 
-module _ (design : FlatDesign) (made : Encoding) (is : IsDecodable design made)
-    (values : ℕ → Bool) where
+module _ (design : FlatDesign) (variables : ℕ) (bits : List BitPlace)
+    (is : IsDecodable design variables bits) (values : ℕ → Bool) where
   value_fits : (next : Bool) (s : ℕ) →
-      placed_value values made.bits next s < 2 ^ signal_width design.signals s
+      placed_value values bits next s < 2 ^ signal_width design.signals s
   value_fits next s =
-      placed_small values next s (signal_width design.signals s) made.bits is.apart
-      (All-weaker (IsBitPlace design made.variables)
+      placed_small values next s (signal_width design.signals s) bits is.apart
+      (All-weaker (IsBitPlace design variables)
       (λ place. place.signal ≡ s → place.bit < signal_width design.signals s)
       (λ place one same. subst (λ t. place.bit < signal_width design.signals t) same one.inside)
-      made.bits is.places)
+      bits is.places)
 
   list_fits : (next : Bool) (ss listed : List ℕ) →
-      listed ≡ map (placed_value values made.bits next) ss → FitListed design.signals ss listed
+      listed ≡ map (placed_value values bits next) ss → FitListed design.signals ss listed
   list_fits next ss listed e = record {
-    count = ap length e ∙ length-map ss (placed_value values made.bits next);
+    count = ap length e ∙ length-map ss (placed_value values bits next);
     each = λ k inside.
         subst (λ n. n < 2 ^ signal_width design.signals (get_or ss k 0))
         (sym (ap (λ z. get_or z k 0) e
-        ∙ get_or-map (placed_value values made.bits next) ss k 0 0 inside))
+        ∙ get_or-map (placed_value values bits next) ss k 0 0 inside))
         (value_fits next (get_or ss k 0));
   }
 
   pub lists_fit : (listed : Listed) →
-      listed.regs.items ≡ map (placed_value values made.bits false) (registers design) →
-      listed.inputs.items ≡ map (placed_value values made.bits false) (inputs design) →
-      listed.next_inputs.items ≡ map (placed_value values made.bits true) (inputs design) →
+      listed.regs.items ≡ map (placed_value values bits false) (registers design) →
+      listed.inputs.items ≡ map (placed_value values bits false) (inputs design) →
+      listed.next_inputs.items ≡ map (placed_value values bits true) (inputs design) →
       FitsDesign design listed
   lists_fit listed of_registers of_inputs of_next = record {
     of_registers = list_fits false (registers design) listed.regs.items of_registers;
@@ -146,7 +145,7 @@ module _ (design : FlatDesign) (made : Encoding) (is : IsDecodable design made)
 
 -- the places of a whole encoding
 pub whole_decodes : (design : FlatDesign) (o : Obligation) (made : Encoding) →
-    IsWhole design o made → IsDecodable design made
+    IsWhole design o made → IsDecodable design made.variables made.bits
 whole_decodes design o made whole = record {
   places = All-weaker (IsPlace design o made.variables) (IsBitPlace design made.variables)
       (λ place is. record {
@@ -177,29 +176,23 @@ unmapped : {X Y : Type 0} (P : Y → Type 0) (f : X → Y) (xs : List X) → All
 unmapped P f xs all k d inside =
     subst P (get_or-map f xs k d (f d) inside) (all k (f d) (omega (arith, length-map xs f, inside)))
 
-module _ (design : FlatDesign) (coded : Coded) (is : IsDecodable design (encoding_of coded))
-    (bits : List Place) (same : bits ≡ coded.bits.items) where
-  places_there : All (λ (place : Place). IsBitPlace design coded.variables (place_form place)) bits
-  places_there =
-      subst (λ (z : List Place).
-      All (λ (place : Place). IsBitPlace design coded.variables (place_form place)) z) (sym same)
-      (unmapped (IsBitPlace design coded.variables) place_form coded.bits.items is.places)
+module _ (design : FlatDesign) (n : ℕ) (bits : List Place)
+    (is : IsDecodable design n (map place_form bits)) where
+  places_there : All (λ (place : Place). IsBitPlace design n (place_form place)) bits
+  places_there = unmapped (IsBitPlace design n) place_form bits is.places
 
   pub bits_small : IsTrue (sound design) → All (λ (place : Place). place.bit < 64) bits
   bits_small is_sound k d inside =
       bit_small design is_sound _ _ (places_there k d inside).inside
 
-  pub variables_there : (n : ℕ) → n ≡ coded.variables →
-      All (λ (place : Place). (1 ≤ place.variable) × (place.variable ≤ n)) bits
-  variables_there n e k d inside =
-      let here = places_there k d inside in
-      (here.from_one, omega (arith, here.variable, e))
+  pub variables_there : All (λ (place : Place). (1 ≤ place.variable) × (place.variable ≤ n)) bits
+  variables_there k d inside =
+      let here = places_there k d inside in (here.from_one, here.variable)
 
--- the values of listed signals, of the same places and signals
-pub listed_values : (values : ℕ → Bool) (next : Bool) (bits items : List Place)
-    (listed signals new : List ℕ) → bits ≡ items → listed ≡ signals →
+-- the values of listed signals, of the same signals
+pub listed_values : (values : ℕ → Bool) (next : Bool) (bits : List Place)
+    (listed signals new : List ℕ) → listed ≡ signals →
     new ≡ map (placed_value values (map place_form bits) next) listed →
-    new ≡ map (placed_value values (map place_form items) next) signals
-listed_values values next bits items listed signals new eb es e =
-    e ∙ ap₂ (λ (b : List Place) (z : List ℕ). map (placed_value values (map place_form b) next) z)
-    eb es
+    new ≡ map (placed_value values (map place_form bits) next) signals
+listed_values values next bits listed signals new es e =
+    e ∙ ap (map (placed_value values (map place_form bits) next)) es

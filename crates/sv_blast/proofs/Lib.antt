@@ -10,6 +10,7 @@ pub mod DecodedBits
 pub mod DecodedLists
 pub mod FlowSteps
 pub mod FrameSteps
+pub mod FramedSteps
 pub mod Growing
 pub mod KnownSignals
 pub mod LiteralFacts

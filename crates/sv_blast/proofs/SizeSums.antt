@@ -1,10 +1,10 @@
 -- Sums over lists and over the numbers below one.
 use Rattle.std.proofs.Common.{◌≡◌, ℕ, zero, suc, ◌+◌, ◌<◌, ◌≤◌, Bool, true, false, cond, ◌||◌}
 use Rattle.std.proofs.Common.{◌&&◌, ◌==◌, List, [], ◌∷◌, length, map, filter, refl, sym, ap}
-use Rattle.std.proofs.Common.{min, ap₂, ◌∙◌, ⊎_elim, ◌⊎◌, arith, subst, eq-or-lt_of_le}
+use Rattle.std.proofs.Common.{min, ap₂, ◌∙◌, ⊎_elim, arith, subst, eq-or-lt_of_le}
 use Rattle.std.specs.Prelude.{sum, Contains, IsTrue, IsFalse}
 use Rattle.std.specs.List.{range_with_len}
-use Rattle.std.proofs.lemmas.Bool.{false≢true, eqb-true, eq-eqb}
+use Rattle.std.proofs.lemmas.Bool.{false≢true, eqb-true, eq-eqb, ne_eqb}
 use Rattle.std.proofs.lemmas.List.FromFn.{sum_by-map-range_with_len_more}
 use Rattle.sv_system.proofs.Lists.{Contains-head, Contains-later, Contains-nil, Contains-cases}
 use Rattle.sv_flat.specs.Sets.{holds}
@@ -27,20 +27,35 @@ pub capped_same : (sum one whole total : ℕ) → total ≡ min sum 4194305 → 
     → whole ≡ sum + one → total ≡ min whole 4194305
 capped_same sum one whole total so_far none is = omega arith
 
--- five parts and one variable
-pub capped_parts : (here later conditions labels goal a b c d e result : ℕ)
-    → a ≡ min here 4194305 → b ≡ min later 4194305 → c ≡ min conditions 4194305
-    → d ≡ min labels 4194305 → e ≡ min goal 4194305
-    → result ≡ min (min (min (1 + a) 4194305 + b) 4194305
-    + min (min (c + d) 4194305 + e) 4194305) 4194305
-    → result ≡ min (1 + here + later + conditions + labels + goal) 4194305
-capped_parts here later conditions labels goal a b c d e result one two three four five is =
+-- the frames: variable 1 and both cycles
+pub capped_frames : (here later a b result : ℕ) → a ≡ min here 4194305 → b ≡ min later 4194305
+    → result ≡ min (min (1 + a) 4194305 + b) 4194305
+    → result ≡ min (1 + here + later) 4194305
+capped_frames here later a b result one two is = omega arith
+
+-- the parts of an encoding behind its frames, each as far as one over the most
+pub capped_parts : (frames conditions labels goal a c d e result : ℕ) → a ≡ min frames 4194305
+    → c ≡ min conditions 4194305 → d ≡ min labels 4194305 → e ≡ min goal 4194305
+    → result ≡ min (a + min (min (c + d) 4194305 + e) 4194305) 4194305
+    → result ≡ min (frames + conditions + labels + goal) 4194305
+capped_parts frames conditions labels goal a c d e result one three four five is =
     omega arith
 
 -- a chain of gates
 pub capped_chain : (n : ℕ) →
     min (gate_chain_size (min n 4194305)) 4194305 ≡ min (gate_chain_size n) 4194305
 capped_chain n = omega arith
+
+-- none at all
+pub capped_none : (n : ℕ) → (min n 4194305 == 0) ≡ (n == 0)
+capped_none zero = refl
+capped_none (suc n) =
+    ne_eqb (min (suc n) 4194305) 0 (λ none. omega (arith, none))
+    ∙ sym (ne_eqb (suc n) 0 (λ none. omega (arith, none)))
+
+-- few enough
+pub capped_few : (told size : ℕ) → told ≡ min size 4194305 → told ≤ 4194304 → size ≤ 4194304
+capped_few told size is few = omega arith
 
 -- ---- ranges
 

@@ -5,9 +5,7 @@ use Rattle.sv_obl.specs.declared.queries.Step.{Step}
 use Rattle.sv_obl.specs.Views.{step_form}
 use Rattle.sv_circuits.proofs.WordKeeps.{none_left}
 use Rattle.std.specs.Prelude.{if◌then◌else◌, neg_ℤ}
-use Rattle.sv_gates.proofs.GateLaws.{literal_negated}
-use Rattle.std.specs.Prelude.{All}
-use Rattle.std.proofs.lemmas.List.Elements.{All-head, All-tail}
+use Rattle.sv_gates.proofs.GateLaws.{literal_negated, unit_begins}
 use Rattle.sv_obl.specs.Paths.{StepForm}
 use Rattle.sv_gates.specs.Formulas.{Formula, IsLiteral}
 use Rattle.sv_gates.specs.Gates.{with_unit}
@@ -85,3 +83,10 @@ pub units_keep : (literals : List ℤ) (formula : Formula) →
     (units_of literals formula).variables ≡ formula.variables
 units_keep [] formula = refl
 units_keep (l ∷ literals) formula = units_keep literals (with_unit l formula)
+
+-- they are added to what is there
+pub units_begin : (literals : List ℤ) (old : Formula) → Begins old (units_of literals old)
+units_begin [] old = begins_none old
+units_begin (l ∷ literals) old =
+    begins_trans old (with_unit l old) (units_of literals (with_unit l old)) (unit_begins l old)
+    (units_begin literals (with_unit l old))

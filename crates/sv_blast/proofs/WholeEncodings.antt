@@ -1,5 +1,5 @@
 -- The whole encoding from what its steps made.
-use Rattle.std.proofs.Common.{◌≡◌, ℕ, ℤ, ◌<◌, ◌≤◌, List, [], ◌∷◌, ◌++◌, true, false, refl, ap, sym, ◌∙◌}
+use Rattle.std.proofs.Common.{◌≡◌, ℕ, ℤ, ◌<◌, ◌≤◌, List, [], ◌∷◌, ◌++◌, true, false, ap, ◌∙◌}
 use Rattle.std.proofs.Common.{arith, min}
 use Rattle.sv_flat.specs.declared.designs.Flat.{Flat}
 use Rattle.sv_flat.specs.Design.{FlatDesign}
@@ -8,17 +8,19 @@ use Rattle.sv_obl.specs.Obligations.{Obligation}
 use Rattle.sv_obl.specs.Paths.{StepForm}
 use Rattle.sv_obl.specs.DesignQueries.{IsQueryOf}
 use Rattle.sv_obl.specs.Noninterference.{IsChecked}
+use Rattle.sv_gates.specs.Extending.{Begins}
 use Rattle.sv_gates.specs.Formulas.{Formula, most_variables}
+use Rattle.sv_gates.proofs.ExtendingLaws.{begins_trans}
 use Rattle.sv_encoding.specs.Cones.{now_cone, next_cone}
-use Rattle.sv_encoding.specs.Encoding.{BitPlace, Encoding, given_in, inputs_in, bit_places}
+use Rattle.sv_encoding.specs.Encoding.{BitPlace, given_in, inputs_in, bit_places}
 use Rattle.sv_encoding.specs.Encoding.{path_units, with_units, encoding}
-use Rattle.sv_encoding_laws.proofs.Chain.{s2, s3, s5, s10, free3}
+use Rattle.sv_encoding_laws.proofs.Chain.{free3, p6, after_six}
 use Rattle.sv_blast.specs.Steps.{after_given, after_settled, after_inputs, after_next, after_facts}
 use Rattle.sv_blast.specs.Steps.{after_conditions, after_violation}
 use Rattle.sv_blast.proofs.LiteralFacts.{facts_more, conditions_more, target_more, reads_more}
 use Rattle.sv_blast.proofs.LiteralFacts.{violation_more}
 use Rattle.sv_blast.proofs.StepFacts.{registers_more, next_more}
-use Rattle.sv_blast.proofs.UnitClauses.{units_keep}
+use Rattle.sv_blast.proofs.UnitClauses.{units_keep, units_begin}
 
 -- the formula with all unit clauses
 abbrev pub last_formula : FlatDesign → Obligation → Formula
@@ -79,6 +81,19 @@ module _ (flat : Flat) (checked : IsChecked (design_of flat)) (o : Obligation)
       let d = next_more flat checked o query in
       let g = next_within in
       omega (arith, a, b, d, g)
+
+  -- all that comes behind the frames is added to their formula
+  pub next_begins : Begins (after_next design o).0 (last_formula design o)
+  next_begins =
+      let facts = (p6 design checked o query).extends.begins in
+      let others = (after_six design checked o query).begins in
+      let units = units_begin ((after_facts design o).1
+      ++ path_units o.path (after_conditions design o).1 ++ (after_violation design o).1 ∷ [])
+      (after_violation design o).0 in
+      begins_trans (after_next design o).0 (after_violation design o).0 (last_formula design o)
+      (begins_trans (after_next design o).0 (after_facts design o).0 (after_violation design o).0
+      facts others)
+      units
 
 -- a size that is told as more than the most is more
 pub passes : (told size : ℕ) → told ≡ min size 4194305 → 4194304 < told → most_variables < size

@@ -1,11 +1,11 @@
 -- Values of an encoding's variables, as values of registers and inputs in lists.
-use Rattle.std.specs.Prelude.{◌≡◌, ℕ, ◌<◌, ◌≤◌, All, AllPairs, length, map}
+use Rattle.std.specs.Prelude.{◌≡◌, ℕ, ◌<◌, ◌≤◌, List, All, AllPairs, length, map}
 use Rattle.sv_flat.specs.Design.{FlatDesign}
 use Rattle.sv_flat.specs.Values.{signal_width}
 use Rattle.sv_flat.specs.SignalLists.{registers, inputs}
 use Rattle.sv_obl.specs.declared.valuations.Valuation.{Valuation as Listed}
 use Rattle.sv_obl.specs.Validity.{Valuation}
-use Rattle.sv_encoding.specs.Encoding.{BitPlace, Encoding}
+use Rattle.sv_encoding.specs.Encoding.{BitPlace}
 use Rattle.sv_encoding.specs.BothWays.{AreOfOneBit}
 
 -- a place is one of a bit of a signal, and of one of the variables
@@ -15,9 +15,9 @@ pub record IsBitPlace (design : FlatDesign) (variables : ℕ) (place : BitPlace)
   pub variable : place.variable ≤ variables
 
 -- values of the variables say what the bits are: each bit has one place at most
-pub record IsDecodable (design : FlatDesign) (made : Encoding) : Type 0 where
-  pub places : All (IsBitPlace design made.variables) made.bits
-  pub apart : AllPairs (λ a b. ¬ AreOfOneBit a b) made.bits
+pub record IsDecodable (design : FlatDesign) (variables : ℕ) (bits : List BitPlace) : Type 0 where
+  pub places : All (IsBitPlace design variables) bits
+  pub apart : AllPairs (λ a b. ¬ AreOfOneBit a b) bits
 
 -- as many values as the design has registers, inputs, and inputs of the next cycle
 pub record HasSizes (design : FlatDesign) (listed : Listed) : Type 0 where

@@ -1,7 +1,9 @@
 pub mod Coded
+pub mod Coders
 pub mod ConeSizes
 pub mod Decoded
 pub mod Encoders
+pub mod Framed
 pub mod Goals
 pub mod LabelSteps
 pub mod LabelViews

@@ -1,6 +1,6 @@
 // The encoding of an obligation, step by step.
 ghost use Rattle.std.specs.Prelude.{◌≡◌, ◌<◌, ◌≤◌, ◌++◌, true, false, All, IfOk, OnOk};
-ghost use Rattle.std.specs.Prelude.{IsErrOf, map};
+ghost use Rattle.std.specs.Prelude.{IfSome, IsTrue, IsErrOf, map, min};
 ghost use Rattle.sv_flat.specs.Views.{design_of};
 ghost use Rattle.sv_gates.specs.Formulas.{IsLiteral, most_variables};
 ghost use Rattle.sv_gates.specs.Gates.{start};
@@ -13,17 +13,20 @@ ghost use Rattle.sv_encoding.specs.Cones.{now_cone, next_cone};
 ghost use Rattle.sv_encoding.specs.Encoding.{given_in, inputs_in, bit_places, encoding};
 ghost use Rattle.sv_blast.specs.Coded.{place_form, encoding_of};
 ghost use Rattle.sv_blast.specs.Encoders.{design_in, obligation_in, IsEncoder};
+ghost use Rattle.sv_blast.specs.Framed.{encoding_made, frames_size, IsFramed, HasFramesOf};
+ghost use Rattle.sv_blast.specs.Framed.{IsBegun};
 ghost use Rattle.sv_blast.specs.Steps.{after_given, after_settled, after_inputs, after_next};
 ghost use Rattle.sv_blast.specs.Steps.{after_facts, after_conditions, after_violation};
 ghost use Rattle.sv_blast.specs.WordTables.{words_of};
 
 use crate::coded::{BitPlace, BlastFault, Coded};
 use crate::cones::{given_in, inputs_in, next_cone, now_cone, registers_in, settled_in};
+use crate::framed::Framed;
 use crate::frames::{make_fresh, make_next, make_settled};
 use crate::goals::{target_label, violation};
 use crate::labels::signal_labels;
 use crate::places::add_places;
-use crate::sizes::encoding_size;
+use crate::sizes::{frames_size, size_with};
 use crate::tables::WordTable;
 use crate::truths::{conditions, truths};
 use crate::units::add_units;
@@ -209,35 +212,166 @@ impl<'a, 'b, 'c, 'd> Encoder<'a, 'b, 'c, 'd> {
         })
     }
 
-    // All steps, the unit clauses last.
-    fn coded(&self) -> Result<Coded, GateFault>
+    // Whether what was made before begins with the frames of this obligation's cones.
+    fn has_frames(&self, made: &Framed) -> bool
         requires encoder { IsEncoder self.now }
-        ensures coded { IfOk result (λ coded. encoding_of coded
-            ≡ encoding (design_in self.now) (obligation_in self.now)) }
-        ensures few { IfOk result (λ coded. coded.variables ≤ most_variables) }
+        requires framed { IsFramed (design_in self.now) made.now }
+        ensures { IsTrue result → HasFramesOf self.now made.now }
+    {
+        made.now_cone.as_slice() == self.now_cone.as_slice()
+            && made.next_cone.as_slice() == self.next_cone.as_slice()
+    }
+
+    // What was made before, where it begins with this obligation's frames, without what came behind
+    // them.
+    fn kept(&self, before: Option<Framed>) -> Option<Framed>
+        requires encoder { IsEncoder self.now }
+        requires framed { IfSome before (IsFramed (design_in self.now)) }
+        ensures { IfSome result (IsBegun self.now) }
+    {
+        let mut made = before?;
+        if !self.has_frames(&made) {
+            return None;
+        }
+        made.gates.back_to(&made.mark);
+        Some(made)
+    }
+
+    // How many variables the frames have; one over the most where there are more.
+    fn frames_size(&self, kept: &Option<Framed>) -> Result<u32, AllocError>
+        requires encoder { IsEncoder self.now }
+        requires kept { IfSome kept.now (IsBegun self.now) }
+        ensures { IfOk result (λ size. size ≡ min (frames_size (design_in self.now)
+            (now_cone (design_in self.now) (obligation_in self.now))
+            (next_cone (design_in self.now) (obligation_in self.now))) 4194305) }
+    {
+        know_design(self.design);
+        match kept {
+            Some(made) => Ok(made.size),
+            None => frames_size(
+                self.alloc,
+                self.design,
+                self.bodies,
+                &self.now_cone,
+                &self.next_cone,
+            ),
+        }
+    }
+
+    // Steps 1 to 5: the frames alone, which have so many variables.
+    fn frames(&self, size: u32) -> Result<Framed, GateFault>
+        requires encoder { IsEncoder self.now }
+        requires size { size ≡ min (frames_size (design_in self.now)
+            (now_cone (design_in self.now) (obligation_in self.now))
+            (next_cone (design_in self.now) (obligation_in self.now))) 4194305 }
+        ensures begun { IfOk result (IsBegun self.now) }
         ensures full { IsErrOf result GateFault.Full → most_variables
             < (encoding (design_in self.now) (obligation_in self.now)).variables }
     {
         know_design(self.design);
+        let now_cone = self.now_cone.as_slice().to_vec(self.alloc)?;
+        let next_cone = self.next_cone.as_slice().to_vec(self.alloc)?;
         let mut gates = Gates::new(self.alloc)?;
         let mut bits = Vec::new(self.alloc);
         let now = self.words_now(&mut gates, &mut bits)?;
         let next = self.words_next(&mut gates, &now, &mut bits)?;
-        let made = self.literals(&mut gates, &now, &next)?;
-        let path = &self.query.path;
-        add_units(&mut gates, &made.facts, path, &made.conditions, made.fails)?;
-        let (variables, clauses) = gates.finish();
-        Ok(Coded {
-            variables,
-            clauses,
+        let mark = gates.mark();
+        Ok(Framed {
+            now_cone,
+            next_cone,
+            now_words: now,
+            next_words: next,
             bits,
+            size,
+            mark,
+            gates,
         })
+    }
+
+    // Steps 6 to 11, behind the frames: the unit clauses last.
+    fn rest(&self, made: &mut Framed) -> Result<(), GateFault>
+        requires encoder { IsEncoder self.now }
+        requires begun { IsBegun self.now made.old }
+        ensures framed { OnOk result (IsFramed (design_in self.now) made.new) }
+        ensures coded { OnOk result (encoding_made made.new
+            ≡ encoding (design_in self.now) (obligation_in self.now)) }
+        ensures full { IsErrOf result GateFault.Full → most_variables
+            < (encoding (design_in self.now) (obligation_in self.now)).variables }
+    {
+        know_design(self.design);
+        let found = self.literals(&mut made.gates, &made.now_words, &made.next_words)?;
+        let path = &self.query.path;
+        add_units(
+            &mut made.gates,
+            &found.facts,
+            path,
+            &found.conditions,
+            found.fails,
+        )?;
+        Ok(())
+    }
+
+    // All steps, from the frames on that were kept, where some were.
+    fn whole(&self, kept: Option<Framed>, size: u32) -> Result<Framed, GateFault>
+        requires encoder { IsEncoder self.now }
+        requires kept { IfSome kept (IsBegun self.now) }
+        requires size { size ≡ min (frames_size (design_in self.now)
+            (now_cone (design_in self.now) (obligation_in self.now))
+            (next_cone (design_in self.now) (obligation_in self.now))) 4194305 }
+        ensures framed { IfOk result (IsFramed (design_in self.now)) }
+        ensures coded { IfOk result (λ made. encoding_made made
+            ≡ encoding (design_in self.now) (obligation_in self.now)) }
+        ensures full { IsErrOf result GateFault.Full → most_variables
+            < (encoding (design_in self.now) (obligation_in self.now)).variables }
+    {
+        let mut made = match kept {
+            Some(made) => made,
+            None => self.frames(size)?,
+        };
+        self.rest(&mut made)?;
+        Ok(made)
+    }
+}
+
+/// The encoding of an obligation of a design, over its bodies: from the frames on of what was made
+/// before, where they are the same. `TooLarge` says that it has more than 4,194,304 variables,
+/// which is found before any of it is made; `OutOfMemory` that memory ran out.
+pub fn encoded(
+    alloc: Global,
+    design: &Design,
+    bodies: &Bodies,
+    before: Option<Framed>,
+    query: &Query,
+) -> Result<Framed, BlastFault>
+    requires query { IsQueryOf (design_of design.now) (obligation_of query.now) }
+    requires bodies { AreIndexed (processes_of (design_of design.now)) bodies.now.bodies.items }
+    requires before { IfSome before (IsFramed (design_of design.now)) }
+    ensures framed { IfOk result (IsFramed (design_of design.now)) }
+    ensures coded { IfOk result (λ made. encoding_made made
+        ≡ encoding (design_of design.now) (obligation_of query.now)) }
+    ensures whole { IfOk result (λ made.
+        IsWhole (design_of design.now) (obligation_of query.now) (encoding_made made)) }
+    ensures few { IfOk result (λ made. made.gates.variables ≤ most_variables) }
+    ensures large { IsErrOf result BlastFault.TooLarge → most_variables
+        < (encoding (design_of design.now) (obligation_of query.now)).variables }
+{
+    know_design(design);
+    let encoder = Encoder::new(alloc, design, bodies, query)?;
+    let kept = encoder.kept(before);
+    let size = encoder.frames_size(&kept)?;
+    if size_with(design, query, size) > MOST_VARIABLES {
+        return Err(BlastFault::TooLarge);
+    }
+    match encoder.whole(kept, size) {
+        Ok(made) => Ok(made),
+        Err(GateFault::Full) => Err(BlastFault::TooLarge),
+        Err(GateFault::OutOfMemory) => Err(BlastFault::OutOfMemory),
     }
 }
 
 /// The encoding of an obligation of a design. `TooLarge` says that it has more than 4,194,304
 /// variables, which is found before any of it is made; `OutOfMemory` that memory ran out. Who
-/// encodes many obligations of a design makes its bodies once, and calls `encode_by`.
+/// encodes many obligations of a design has a `Coder`.
 pub fn encode(alloc: Global, design: &Design, query: &Query) -> Result<Coded, BlastFault>
     requires { IsQueryOf (design_of design.now) (obligation_of query.now) }
     ensures coded { IfOk result (λ coded. encoding_of coded
@@ -249,42 +383,12 @@ pub fn encode(alloc: Global, design: &Design, query: &Query) -> Result<Coded, Bl
         < (encoding (design_of design.now) (obligation_of query.now)).variables }
 {
     let bodies = Bodies::new(alloc, design)?;
-    encode_by(alloc, design, &bodies, query)
-}
-
-/// The same, by the bodies of the design.
-pub fn encode_by(
-    alloc: Global,
-    design: &Design,
-    bodies: &Bodies,
-    query: &Query,
-) -> Result<Coded, BlastFault>
-    requires query { IsQueryOf (design_of design.now) (obligation_of query.now) }
-    requires bodies { AreIndexed (processes_of (design_of design.now)) bodies.now.bodies.items }
-    ensures coded { IfOk result (λ coded. encoding_of coded
-        ≡ encoding (design_of design.now) (obligation_of query.now)) }
-    ensures whole { IfOk result (λ coded.
-        IsWhole (design_of design.now) (obligation_of query.now) (encoding_of coded)) }
-    ensures few { IfOk result (λ coded. coded.variables ≤ most_variables) }
-    ensures large { IsErrOf result BlastFault.TooLarge → most_variables
-        < (encoding (design_of design.now) (obligation_of query.now)).variables }
-{
-    know_design(design);
-    let encoder = Encoder::new(alloc, design, bodies, query)?;
-    let size = encoding_size(
-        alloc,
-        design,
-        bodies,
-        query,
-        &encoder.now_cone,
-        &encoder.next_cone,
-    )?;
-    if size > MOST_VARIABLES {
-        return Err(BlastFault::TooLarge);
-    }
-    match encoder.coded() {
-        Ok(coded) => Ok(coded),
-        Err(GateFault::Full) => Err(BlastFault::TooLarge),
-        Err(GateFault::OutOfMemory) => Err(BlastFault::OutOfMemory),
-    }
+    let made = encoded(alloc, design, &bodies, None, query)?;
+    let Framed { gates, bits, .. } = made;
+    let (variables, clauses) = gates.finish();
+    Ok(Coded {
+        variables,
+        clauses,
+        bits,
+    })
 }

@@ -3,24 +3,28 @@
 //!
 //! Takes a design and a query that is one of its obligations. `encode` gives exactly the encoding
 //! that `sv_encoding` defines, or `TooLarge` exactly where that has more than 4,194,304 variables;
-//! the size is told before a clause is made. `decode` gives the registers and inputs that values of
-//! the variables spell, and 0 where a bit has no place. `problem_line` and `clause_lines` give the
-//! text of clauses, some at a time.
+//! the size is told before a clause is made, by `check_size` alone. A `Coder` does so for one
+//! obligation after the other, and keeps what two of them begin with. `labels_decide` tells by the
+//! labels whether the first clause and the last one would refute each other. `decode` gives the
+//! registers and inputs that values of the variables spell, and 0 where a bit has no place.
+//! `problem_line` and `clause_lines` give the text of clauses, some at a time.
 //!
-//! `specs/Coded.antt` is the plain form of an encoding, `Decoded.antt` says what `decode` asks for
-//! and gives. All other files there are private: they say how the code goes; the meaning stands in
-//! `sv_encoding`.
+//! `specs/Coded.antt` is the plain form of an encoding, `Coders.antt` says which one a coder holds,
+//! `Decoded.antt` what `decode` asks for and gives. All other files there are private: they say how
+//! the code goes; the meaning stands in `sv_encoding`.
 #![tactic(auto)]
 
 mod arms;
 mod bodies;
 mod cnf_text;
 mod coded;
+mod coder;
 mod cones;
 mod constants;
 mod decoding;
 mod encoding;
 mod expressions;
+mod framed;
 mod frames;
 mod goals;
 mod labels;
@@ -35,8 +39,11 @@ mod sizes_of_signals;
 mod tables;
 mod truths;
 mod units;
+mod without_clauses;
 
 pub use cnf_text::{clause_lines, problem_line};
 pub use coded::{BitPlace, BlastFault, Coded};
+pub use coder::Coder;
 pub use decoding::decode;
-pub use encoding::{encode, encode_by};
+pub use encoding::encode;
+pub use without_clauses::{check_size, labels_decide};

@@ -13,6 +13,7 @@ ghost use Rattle.sv_encoding.specs.Cones.{now_cone, next_cone, conditions_of};
 ghost use Rattle.sv_encoding.specs.Sizes.{encoding_size, label_size, label_of_signal, stays_size};
 ghost use Rattle.sv_encoding.specs.Sizes.{target_size, violation_size, truth_size};
 ghost use Rattle.sv_blast.specs.ConeSizes.{now_size, next_size, now_sizes, next_sizes};
+ghost use Rattle.sv_blast.specs.Framed.{frames_size};
 
 use crate::sizes_of_expressions::{conditions_size, truth_size, truths_size, width_of};
 use crate::sizes_of_labels::{label_size, labels_size, stays_size};
@@ -21,7 +22,7 @@ use crate::sizes_of_signals::signal_size;
 use std::alloc::{AllocError, Global};
 use sv_design::Design;
 use sv_flat::{ProcKind, SigId, SigKind, Signal};
-use sv_obl::{Bodies, Goal, Query};
+use sv_obl::{Bodies, Goal, Query, know_design};
 
 // ---- cones
 
@@ -123,6 +124,26 @@ fn next_sizes(
     Ok(total)
 }
 
+/// What the frames of two cones take, and variable 1; 4,194,305 where that is more than 4,194,304.
+/// An error says that memory ran out.
+pub fn frames_size(
+    alloc: Global,
+    design: &Design,
+    bodies: &Bodies,
+    now: &[SigId],
+    next: &[SigId],
+) -> Result<u32, AllocError>
+    requires bodies { AreIndexed (processes_of (design_of design.now)) bodies.now.bodies.items }
+    requires now { All (λ s. s < length design.now.signals.items) (numbers now.now) }
+    requires next { All (λ s. s < length design.now.signals.items) (numbers next.now) }
+    ensures { IfOk result (λ size. size ≡
+        min (frames_size (design_of design.now) (numbers now.now) (numbers next.now)) 4194305) }
+{
+    let here = now_sizes(alloc, design, bodies, now)?;
+    let later = next_sizes(alloc, design, bodies, next)?;
+    Ok(sum(sum(1, here), later))
+}
+
 // ---- obligations
 
 // A target's label, and whether some read's label does not flow to it.
@@ -165,6 +186,23 @@ fn asked_size(signals: &[Signal], query: &Query) -> u32
     )
 }
 
+/// The number of an encoding's variables, where its frames have so many; 4,194,305 where there are
+/// more than 4,194,304.
+pub fn size_with(design: &Design, query: &Query, frames: u32) -> u32
+    requires query { IsQueryOf (design_of design.now) (obligation_of query.now) }
+    requires frames { frames ≡ min (frames_size (design_of design.now)
+        (now_cone (design_of design.now) (obligation_of query.now))
+        (next_cone (design_of design.now) (obligation_of query.now))) 4194305 }
+    ensures { result ≡
+        min (encoding_size (design_of design.now) (obligation_of query.now)) 4194305 }
+{
+    let signals = design.signals();
+    let labels = labels_size(design, &query.reads);
+    let conditions = asked_size(signals, query);
+    let goal = goal_size(design, query);
+    sum(frames, sum(sum(conditions, labels), goal))
+}
+
 /// The number of an encoding's variables, by the obligation's cones in this cycle and the next one;
 /// 4,194,305 where there are more than 4,194,304. An error says that memory ran out.
 pub fn encoding_size(
@@ -182,11 +220,7 @@ pub fn encoding_size(
     ensures { IfOk result (λ size. size ≡
         min (encoding_size (design_of design.now) (obligation_of query.now)) 4194305) }
 {
-    let signals = design.signals();
-    let here = now_sizes(alloc, design, bodies, now)?;
-    let later = next_sizes(alloc, design, bodies, next)?;
-    let labels = labels_size(design, &query.reads);
-    let conditions = asked_size(signals, query);
-    let goal = goal_size(design, query);
-    Ok(sum(sum(sum(1, here), later), sum(sum(conditions, labels), goal)))
+    know_design(design);
+    let frames = frames_size(alloc, design, bodies, now, next)?;
+    Ok(size_with(design, query, frames))
 }

@@ -6,6 +6,9 @@ use Rattle.sv_accept.specs.Accepting.{HasAcceptFault}
 use Rattle.sv_accept.proofs.Accepted.{asked_here, few_here, accepted_more, numbered_first}
 use Rattle.sv_accept.proofs.logs.check_queries.Goals as goal
 
+pub queries-init : goal.queries-init
+queries-init c = (tt, c.new-coder.ensures (design_of c.args.design.now) c.in_ok-bodies.ensures)
+
 pub check_query-requires-clause-query : goal.check_query-requires-clause-query
 check_query-requires-clause-query c =
     asked_here (design_of c.args.design.now) c.args.queries.now c.args.logs.now c.queries.i
@@ -25,11 +28,13 @@ returns-in-Err-clause-fault c =
     (plain_logs c.args.logs.now)) (sym c.fault_of.ensures)
     (numbered_first design c.args.queries.now c.args.logs.now c.queries.i
     c.index-queries-i.result c.index-logs-i.result (omega arith) (omega arith)
-    c.index-queries-i.is c.index-logs-i.is c.in-Err.fault c.queries.invariant
+    c.index-queries-i.is c.index-logs-i.is c.in-Err.fault c.queries.invariant.0
     c.in-Err.ensures.fault)
 
 pub queries-preserved : goal.queries-preserved
-queries-preserved c =
-    accepted_more (design_of c.args.design.now) c.args.queries.now c.args.logs.now c.queries.i
-    c.index-queries-i.result c.index-logs-i.result (omega arith) (omega arith)
-    c.index-queries-i.is c.index-logs-i.is c.queries.invariant c.in-Ok.ensures.refuted
+queries-preserved c = (
+  accepted_more (design_of c.args.design.now) c.args.queries.now c.args.logs.now c.queries.i
+      c.index-queries-i.result c.index-logs-i.result (omega arith) (omega arith)
+      c.index-queries-i.is c.index-logs-i.is c.queries.invariant.0 c.in-Ok.ensures.refuted,
+  c.check_query.ensures.coder,
+)

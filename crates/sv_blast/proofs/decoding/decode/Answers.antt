@@ -7,7 +7,7 @@ use Rattle.sv_flat.specs.FlatSystem.{flat_system}
 use Rattle.sv_flat.specs.SignalLists.{registers, inputs}
 use Rattle.sv_design.specs.Numbers.{numbers}
 use Rattle.sv_gates.specs.Formulas.{value_of}
-use Rattle.sv_blast.specs.Coded.{place_form, encoding_of}
+use Rattle.sv_blast.specs.Coded.{place_form}
 use Rattle.sv_blast.proofs.DecodedLists.{those_rise, bits_small, variables_there}
 use Rattle.sv_blast.proofs.DecodedLists.{listed_values, lists_values, lists_fit}
 use Rattle.sv_blast.proofs.decoding.decode.Goals as goal
@@ -20,15 +20,13 @@ decode_listed-requires-clause-ascending c =
 
 pub decode_listed-requires-clause-small : goal.decode_listed-requires-clause-small
 decode_listed-requires-clause-small c =
-    bits_small (design_of c.args.design.now) c.args.coded.now c.requires.encoding
-    c.as_slice-bits.result.now c.as_slice-bits.ensures.value
-    c.registers-registers.ensures.design.is_sound
+    bits_small (design_of c.args.design.now) (length c.args.values.now) c.args.bits.now
+    c.requires.bits c.registers-registers.ensures.design.is_sound
 
 pub decode_listed-requires-clause-variables : goal.decode_listed-requires-clause-variables
 decode_listed-requires-clause-variables c =
-    variables_there (design_of c.args.design.now) c.args.coded.now c.requires.encoding
-    c.as_slice-bits.result.now c.as_slice-bits.ensures.value (length c.args.values.now)
-    c.requires.values
+    variables_there (design_of c.args.design.now) (length c.args.values.now) c.args.bits.now
+    c.requires.bits
 
 pub decode_listed-requires-2-clause-ascending : goal.decode_listed-requires-2-clause-ascending
 decode_listed-requires-2-clause-ascending c =
@@ -38,15 +36,13 @@ decode_listed-requires-2-clause-ascending c =
 
 pub decode_listed-requires-2-clause-small : goal.decode_listed-requires-2-clause-small
 decode_listed-requires-2-clause-small c =
-    bits_small (design_of c.args.design.now) c.args.coded.now c.requires.encoding
-    c.as_slice-bits.result.now c.as_slice-bits.ensures.value
-    c.registers-registers.ensures.design.is_sound
+    bits_small (design_of c.args.design.now) (length c.args.values.now) c.args.bits.now
+    c.requires.bits c.registers-registers.ensures.design.is_sound
 
 pub decode_listed-requires-2-clause-variables : goal.decode_listed-requires-2-clause-variables
 decode_listed-requires-2-clause-variables c =
-    variables_there (design_of c.args.design.now) c.args.coded.now c.requires.encoding
-    c.as_slice-bits.result.now c.as_slice-bits.ensures.value (length c.args.values.now)
-    c.requires.values
+    variables_there (design_of c.args.design.now) (length c.args.values.now) c.args.bits.now
+    c.requires.bits
 
 pub decode_listed-requires-3-clause-ascending : goal.decode_listed-requires-3-clause-ascending
 decode_listed-requires-3-clause-ascending c =
@@ -56,66 +52,60 @@ decode_listed-requires-3-clause-ascending c =
 
 pub decode_listed-requires-3-clause-small : goal.decode_listed-requires-3-clause-small
 decode_listed-requires-3-clause-small c =
-    bits_small (design_of c.args.design.now) c.args.coded.now c.requires.encoding
-    c.as_slice-bits.result.now c.as_slice-bits.ensures.value
-    c.registers-registers.ensures.design.is_sound
+    bits_small (design_of c.args.design.now) (length c.args.values.now) c.args.bits.now
+    c.requires.bits c.registers-registers.ensures.design.is_sound
 
 pub decode_listed-requires-3-clause-variables : goal.decode_listed-requires-3-clause-variables
 decode_listed-requires-3-clause-variables c =
-    variables_there (design_of c.args.design.now) c.args.coded.now c.requires.encoding
-    c.as_slice-bits.result.now c.as_slice-bits.ensures.value (length c.args.values.now)
-    c.requires.values
+    variables_there (design_of c.args.design.now) (length c.args.values.now) c.args.bits.now
+    c.requires.bits
 
 pub returns-clause-decoded : goal.returns-clause-decoded
 returns-clause-decoded c =
     let design = design_of c.args.design.now in
     let values = value_of c.args.values.now in
-    let items = c.args.coded.now.bits.items in
-    let bits = c.as_slice-bits.result.now in
-    let same = c.as_slice-bits.ensures.value in
+    let bits = c.args.bits.now in
     let regs = c.registers-registers in
     let ins = c.inputs-inputs in
-    lists_values design (map place_form items) values (record {
+    lists_values design (map place_form bits) values (record {
       regs = with_items c.args.into.now.regs c.decode_listed.new.into;
       inputs = with_items c.args.into.now.inputs c.decode_listed-2.new.into;
       next_inputs = with_items c.args.into.now.next_inputs c.decode_listed-3.new.into;
     })
     (with_items_is c.args.into.now.regs c.decode_listed.new.into
     (c.decode_listed.auto.into ∙ c.as_mut_slice.ensures.len)
-    ∙ listed_values values false bits items (numbers regs.result.now) (registers design)
-    c.decode_listed.new.into same regs.ensures.registers c.decode_listed.ensures)
+    ∙ listed_values values false bits (numbers regs.result.now) (registers design)
+    c.decode_listed.new.into regs.ensures.registers c.decode_listed.ensures)
     (with_items_is c.args.into.now.inputs c.decode_listed-2.new.into
     (c.decode_listed-2.auto.into ∙ c.as_mut_slice-2.ensures.len)
-    ∙ listed_values values false bits items (numbers ins.result.now) (inputs design)
-    c.decode_listed-2.new.into same ins.ensures.inputs c.decode_listed-2.ensures)
+    ∙ listed_values values false bits (numbers ins.result.now) (inputs design)
+    c.decode_listed-2.new.into ins.ensures.inputs c.decode_listed-2.ensures)
     (with_items_is c.args.into.now.next_inputs c.decode_listed-3.new.into
     (c.decode_listed-3.auto.into ∙ c.as_mut_slice-3.ensures.len)
-    ∙ listed_values values true bits items (numbers ins.result.now) (inputs design)
-    c.decode_listed-3.new.into same ins.ensures.inputs c.decode_listed-3.ensures)
+    ∙ listed_values values true bits (numbers ins.result.now) (inputs design)
+    c.decode_listed-3.new.into ins.ensures.inputs c.decode_listed-3.ensures)
 
 pub returns-clause-fits : goal.returns-clause-fits
 returns-clause-fits c =
     let design = design_of c.args.design.now in
     let values = value_of c.args.values.now in
-    let items = c.args.coded.now.bits.items in
-    let bits = c.as_slice-bits.result.now in
-    let same = c.as_slice-bits.ensures.value in
+    let bits = c.args.bits.now in
     let regs = c.registers-registers in
     let ins = c.inputs-inputs in
-    lists_fit design (encoding_of c.args.coded.now) c.requires.encoding values (record {
+    lists_fit design (length c.args.values.now) (map place_form bits) c.requires.bits values (record {
       regs = with_items c.args.into.now.regs c.decode_listed.new.into;
       inputs = with_items c.args.into.now.inputs c.decode_listed-2.new.into;
       next_inputs = with_items c.args.into.now.next_inputs c.decode_listed-3.new.into;
     })
     (with_items_is c.args.into.now.regs c.decode_listed.new.into
     (c.decode_listed.auto.into ∙ c.as_mut_slice.ensures.len)
-    ∙ listed_values values false bits items (numbers regs.result.now) (registers design)
-    c.decode_listed.new.into same regs.ensures.registers c.decode_listed.ensures)
+    ∙ listed_values values false bits (numbers regs.result.now) (registers design)
+    c.decode_listed.new.into regs.ensures.registers c.decode_listed.ensures)
     (with_items_is c.args.into.now.inputs c.decode_listed-2.new.into
     (c.decode_listed-2.auto.into ∙ c.as_mut_slice-2.ensures.len)
-    ∙ listed_values values false bits items (numbers ins.result.now) (inputs design)
-    c.decode_listed-2.new.into same ins.ensures.inputs c.decode_listed-2.ensures)
+    ∙ listed_values values false bits (numbers ins.result.now) (inputs design)
+    c.decode_listed-2.new.into ins.ensures.inputs c.decode_listed-2.ensures)
     (with_items_is c.args.into.now.next_inputs c.decode_listed-3.new.into
     (c.decode_listed-3.auto.into ∙ c.as_mut_slice-3.ensures.len)
-    ∙ listed_values values true bits items (numbers ins.result.now) (inputs design)
-    c.decode_listed-3.new.into same ins.ensures.inputs c.decode_listed-3.ensures)
+    ∙ listed_values values true bits (numbers ins.result.now) (inputs design)
+    c.decode_listed-3.new.into ins.ensures.inputs c.decode_listed-3.ensures)

@@ -1,24 +1,44 @@
-use Rattle.std.proofs.Common.{rules, ◌≡◌, ◌∙◌, ◌<◌, min, ap, ap₂, sym, subst, arith}
+use Rattle.std.proofs.Common.{rules, ◌∙◌, ◌<◌, min, ap, ap₂, sym, subst}
+use Rattle.std.specs.Prelude.{IfSome}
 use Rattle.std.specs.Result.{IsErrOf}
+use Rattle.sv_flat.specs.Design.{FlatDesign}
 use Rattle.sv_flat.specs.Views.{design_of}
 use Rattle.sv_gates.specs.Formulas.{most_variables}
 use Rattle.sv_gates.specs.declared.gates.GateFault.TheVariants.{Full}
+use Rattle.sv_obl.specs.Obligations.{Obligation}
 use Rattle.sv_obl.specs.Views.{obligation_of}
 use Rattle.sv_encoding.specs.BothWays.{IsWhole}
+use Rattle.sv_encoding.specs.Cones.{now_cone, next_cone}
 use Rattle.sv_encoding.specs.Encoding.{encoding}
 use Rattle.sv_encoding_laws.proofs.SizeExact.{size_is_exact}
 use Rattle.sv_encoding_laws.proofs.Wholeness.{encoding_is_whole}
-use Rattle.sv_blast.specs.Coded.{encoding_of}
-use Rattle.sv_blast.specs.Encoders.{design_in, obligation_in}
+use Rattle.sv_blast.specs.Framed.{frames_size, IsFramed}
 use Rattle.sv_blast.proofs.WholeEncodings.{passes}
-use Rattle.sv_blast.proofs.encoding.encode_by.Goals as goal
+use Rattle.sv_blast.proofs.encoding.encoded.Goals as goal
 
-pub returns-then-size-gt-MOST_VARIABLES-clause-large : goal.returns-then-size-gt-MOST_VARIABLES-clause-large
-returns-then-size-gt-MOST_VARIABLES-clause-large c =
+pub kept-kept-requires-clause-framed : goal.kept-kept-requires-clause-framed
+kept-kept-requires-clause-framed c =
+    subst (λ (d : FlatDesign). IfSome c.args.before (IsFramed d))
+    (sym c.in_ok-encoder.ensures.design) c.requires.before
+
+pub size_with-requires-clause-frames : goal.size_with-requires-clause-frames
+size_with-requires-clause-frames c =
+    c.in_ok-size.ensures
+    ∙ ap₂ (λ (d : FlatDesign) (o : Obligation).
+    min (frames_size d (now_cone d o) (next_cone d o)) 4194305)
+    c.in_ok-encoder.ensures.design c.in_ok-encoder.ensures.query
+
+pub returns-then-size_with-gt-MOST_VARIABLES-clause-large : goal.returns-then-size_with-gt-MOST_VARIABLES-clause-large
+returns-then-size_with-gt-MOST_VARIABLES-clause-large c =
     let exact = size_is_exact (design_of c.args.design.now) (obligation_of c.args.query.now)
     c.know_design.ensures.checked c.requires.query in
     λ e. subst (λ z. most_variables < z) (sym exact)
-    (passes c.in_ok-size.size _ c.in_ok-size.ensures c.if-size-gt-MOST_VARIABLES.true)
+    (passes c.size_with.result _ c.size_with.ensures c.if-size_with-gt-MOST_VARIABLES.true)
+
+pub returns-in-Ok-clause-framed : goal.returns-in-Ok-clause-framed
+returns-in-Ok-clause-framed c =
+    subst (λ (d : FlatDesign). IsFramed d c.in-Ok.made) c.in_ok-encoder.ensures.design
+    c.in-Ok.ensures.framed
 
 pub returns-in-Ok-clause-coded : goal.returns-in-Ok-clause-coded
 returns-in-Ok-clause-coded c =
@@ -36,8 +56,8 @@ returns-in-Ok-clause-whole c =
 
 pub returns-in-Err-Full-clause-large : goal.returns-in-Err-Full-clause-large
 returns-in-Err-Full-clause-large c =
-    let is : IsErrOf c.coded.result Full = search rules in
-    let large = c.coded.ensures.full is in
+    let is : IsErrOf c.whole.result Full = search rules in
+    let large = c.whole.ensures.full is in
     λ e. subst (λ n. most_variables < n)
     (ap (λ z. z.variables)
     (ap₂ encoding c.in_ok-encoder.ensures.design c.in_ok-encoder.ensures.query)) large

@@ -3,6 +3,7 @@ pub mod DesignSignals
 pub mod FalsifiedCycles
 pub mod FoundValues
 pub mod LabelPoints
+pub mod LabelRefutations
 pub mod SettledCycles
 pub mod SpelledValuations
 pub mod SpentSize

@@ -1,9 +1,17 @@
 -- What is decided of an obligation, by the answer.
-use Rattle.std.specs.Prelude.{List}
+use Rattle.std.specs.Prelude.{ℕ, ◌≤◌, List, length}
 use Rattle.sv_clause.specs.Logs.{Step, plain_log}
+use Rattle.sv_flat.specs.Design.{FlatDesign}
+use Rattle.sv_obl.specs.Obligations.{Obligation}
 use Rattle.sv_obl.specs.declared.valuations.Valuation.{Valuation}
+use Rattle.sv_encoding.specs.Deciding.{Fits, IsRefutedBy}
 use Rattle.sv_decide.specs.declared.deciding.Decided.{Decided}
 use Rattle.sv_decide.specs.declared.deciding.Decided.TheVariants.{Valid, Fails, Spent}
+
+-- the obligation's encoding fits, and a log of at most so many steps refutes its clauses
+abbrev pub IsProvedWithin : FlatDesign → (most : ℕ) → Obligation → Type 0
+IsProvedWithin design most o =
+    Fits design o × (steps : List Step) × IsRefutedBy design o steps × (length steps ≤ most)
 
 -- a fact for the steps that show an obligation valid
 abbrev pub WhereValid : (List Step → Type 0) → Decided → Type 0

@@ -1,22 +1,21 @@
 // The decision of an obligation.
 ghost use Rattle.std.specs.Prelude.{◌+◌, ◌^◌, ◌≤◌, ℤ, List, length, IfOk, IsErrOf};
 ghost use Rattle.sv_clause.specs.Units.{IsUnitConflict};
-ghost use Rattle.sv_flat.specs.Clocks.{processes_of};
 ghost use Rattle.sv_flat.specs.Views.{design_of};
 ghost use Rattle.sv_obl.specs.DesignQueries.{IsQueryOf};
-ghost use Rattle.sv_obl.specs.IndexedBodies.{AreIndexed};
 ghost use Rattle.sv_obl.specs.Validity.{Falsifies};
 ghost use Rattle.sv_obl.specs.Valuations.{FitsDesign, valuation_of};
 ghost use Rattle.sv_obl.specs.Views.{obligation_of};
 ghost use Rattle.sv_encoding.specs.BothWays.{IsZeroOutside};
 ghost use Rattle.sv_encoding.specs.Deciding.{Fits, IsTooLarge, IsRefutedBy, IsSpentBy};
 ghost use Rattle.sv_encoding.specs.Encoding.{encoding};
+ghost use Rattle.sv_blast.specs.Coders.{IsCoder};
 ghost use Rattle.sv_solve.specs.Answers.{OnlyLastIsEmpty, AreDifferent};
 ghost use Rattle.sv_decide.specs.Decisions.{WhereValid, WhereFails, WhereSpent, IsNotSpent};
 
 use crate::spelling::spelled;
 use std::alloc::Global;
-use sv_blast::{BlastFault, encode_by};
+use sv_blast::{BlastFault, Coder};
 use sv_clause::Log;
 use sv_design::Design;
 use sv_obl::{Bodies, Query, Valuation, know_design};
@@ -69,21 +68,23 @@ pub fn decide(
         IfOk result IsNotSpent }
 {
     let bodies = Bodies::new(alloc, design)?;
-    decide_by(alloc, design, &bodies, query, budget)
+    let mut coder = Coder::new(alloc, &bodies);
+    decide_by(alloc, design, &mut coder, query, budget)
 }
 
-/// The same, by the bodies of the design, which whoever decides many obligations makes once.
+/// The same, by a coder of the design, which whoever decides many obligations keeps.
 pub fn decide_by(
     alloc: Global,
     design: &Design,
-    bodies: &Bodies,
+    coder: &mut Coder,
     query: &Query,
     budget: u32,
 ) -> Result<Decided, BlastFault>
-    requires bodies { AreIndexed (processes_of (design_of design.now)) bodies.now.bodies.items }
+    requires coder { IsCoder (design_of design.now) coder.old }
     requires query { IsQueryOf (design_of design.now) (obligation_of query.now) }
     requires some { 1 ≤ budget }
     requires most { budget ≤ 4000000000 }
+    ensures coder { IsCoder (design_of design.now) coder.new }
     ensures fits { IfOk result (λ _. Fits (design_of design.now) (obligation_of query.now)) }
     ensures valid { IfOk result (WhereValid
         (IsRefutedBy (design_of design.now) (obligation_of query.now))) }
@@ -106,9 +107,9 @@ pub fn decide_by(
         IfOk result IsNotSpent }
 {
     know_design(design);
-    let coded = encode_by(alloc, design, bodies, query)?;
-    match solve(alloc, coded.variables, &coded.clauses, budget)? {
-        Solved::Found(values) => Ok(Decided::Fails(spelled(alloc, design, &coded, &values)?)),
+    coder.encode(design, query)?;
+    match solve(alloc, coder.variables(), coder.clauses(), budget)? {
+        Solved::Found(values) => Ok(Decided::Fails(spelled(alloc, design, coder.bits(), &values)?)),
         Solved::Refuted(log) => Ok(Decided::Valid(log)),
         Solved::Spent(log) => Ok(Decided::Spent(log)),
     }

@@ -4,7 +4,8 @@
 //! Takes a design, a query that is one of its obligations, and a budget of conflict clauses.
 //! `decide` gives a log that refutes the clauses of the obligation's encoding, a valuation that
 //! fits the design and falsifies the obligation, or a log that spends the budget; or it tells that
-//! the encoding has too many variables. `falsifies` tells by simulation whether a valuation
+//! the encoding has too many variables. `is_valid_by_labels` tells without a clause where labels
+//! alone show that an obligation is valid. `falsifies` tells by simulation whether a valuation
 //! falsifies an obligation, whoever found it. `laws` says of spent logs, whoever made them, which
 //! budgets they never spend.
 //!
@@ -14,12 +15,14 @@
 //! `Simulating.antt` is private: it says how the code goes.
 #![tactic(auto)]
 
+mod by_labels;
 mod deciding;
 mod failing;
 mod falsifying;
 mod laws;
 mod spelling;
 
+pub use by_labels::is_valid_by_labels;
 pub use deciding::{Decided, decide, decide_by};
 pub use falsifying::falsifies;
 pub use laws::{spent_logs_are_shorter_than_all_clauses, units_are_never_spent};

@@ -1,14 +1,14 @@
 // The valuation that values of an encoding's variables spell.
-ghost use Rattle.std.specs.Prelude.{◌≡◌, length, map, IfOk};
+ghost use Rattle.std.specs.Prelude.{length, map, IfOk};
 ghost use Rattle.sv_flat.specs.Views.{design_of};
 ghost use Rattle.sv_gates.specs.Formulas.{value_of};
 ghost use Rattle.sv_obl.specs.Valuations.{FitsDesign};
 ghost use Rattle.sv_encoding.specs.Valuations.{decoded};
-ghost use Rattle.sv_blast.specs.Coded.{place_form, encoding_of};
+ghost use Rattle.sv_blast.specs.Coded.{place_form};
 ghost use Rattle.sv_blast.specs.Decoded.{IsDecodable, HasSizes, ListsValues};
 
 use std::alloc::{AllocError, Global};
-use sv_blast::{Coded, decode};
+use sv_blast::{BitPlace, decode};
 use sv_design::Design;
 use sv_obl::Valuation;
 
@@ -30,17 +30,16 @@ fn zeros(alloc: Global, design: &Design) -> Result<Valuation, AllocError>
 pub fn spelled(
     alloc: Global,
     design: &Design,
-    coded: &Coded,
+    bits: &[BitPlace],
     values: &[bool],
 ) -> Result<Valuation, AllocError>
-    requires encoding { IsDecodable (design_of design.now) (encoding_of coded.now) }
-    requires values { length values.now ≡ coded.now.variables }
+    requires bits { IsDecodable (design_of design.now) (length values.now)
+        (map place_form bits.now) }
     ensures spelled { IfOk result (ListsValues (design_of design.now)
-        (decoded (design_of design.now) (map place_form coded.now.bits.items)
-        (value_of values.now))) }
+        (decoded (design_of design.now) (map place_form bits.now) (value_of values.now))) }
     ensures fits { IfOk result (FitsDesign (design_of design.now)) }
 {
     let mut valuation = zeros(alloc, design)?;
-    decode(coded, design, values, &mut valuation);
+    decode(bits, design, values, &mut valuation);
     Ok(valuation)
 }

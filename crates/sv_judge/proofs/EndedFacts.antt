@@ -12,11 +12,11 @@ use Rattle.sv_clause.specs.declared.logs.Log.{Log}
 use Rattle.sv_flat.specs.Design.{FlatDesign}
 use Rattle.sv_obl.specs.Obligations.{Obligation, obligations}
 use Rattle.sv_proof.specs.Certificate.{AreLogs, plain_logs}
-use Rattle.sv_encoding.specs.Deciding.{IsRefutedBy, IsProved, IsPassed}
+use Rattle.sv_encoding.specs.Deciding.{IsRefutedBy, IsPassed}
 use Rattle.sv_judge.specs.Answers.{WhereAccepted, WhereUnknown, IsNotUnknown, HasAtMost}
 use Rattle.sv_judge.specs.Answers.{HasUnitConflict}
 use Rattle.sv_judge.specs.Progress.{first_obligations, IsSpared, IsStanding, AreKept, verdict_of}
-use Rattle.sv_judge.specs.Verdicts.{IsAccepted, AreRefutations, IsSpent}
+use Rattle.sv_judge.specs.Verdicts.{IsProvedFor, IsAccepted, AreRefutations, AreWithin, IsSpent}
 use Rattle.sv_judge.specs.declared.verdicts.Spent.{Spent}
 use Rattle.sv_judge.proofs.Lists.{get_all, zip_length}
 
@@ -30,19 +30,25 @@ module _ (design : FlatDesign) (budget count : ℕ)
   whole = take_all count all (subst (λ n. length all ≤ n) (sym counted) (omega arith))
 
   pub accepted : (logs : Vec Log) (spent : Option Spent) → IsStanding design budget count spent
-      → WhereAccepted (λ n ls. IsAccepted design n) (verdict_of count logs spent)
+      → WhereAccepted (λ n ls. IsAccepted design budget n) (verdict_of count logs spent)
   accepted logs None stands =
-      record { counted = counted; each = subst (All (IsProved design)) whole stands }
+      record { counted = counted; each = subst (All (IsProvedFor design budget)) whole stands }
   accepted logs (Some spent) stands = tt
 
   pub refutations : (logs : Vec Log) (spent : Option Spent)
-      → (spent ≡ None → AreKept design count (plain_logs logs.items))
+      → (spent ≡ None → AreKept design budget count (plain_logs logs.items))
       → WhereAccepted (λ n ls. AreRefutations design ls) (verdict_of count logs spent)
   refutations logs None kept =
       subst (λ os. AllZip (IsRefutedBy design) os (plain_logs logs.items)) whole (kept refl).refute
   refutations logs (Some spent) kept = tt
 
-  are_logs : (logs : List (List Step)) → count < 2 ^ 32 → AreKept design count logs → AreLogs logs
+  pub within : (logs : Vec Log) (spent : Option Spent)
+      → (spent ≡ None → AreKept design budget count (plain_logs logs.items))
+      → WhereAccepted (λ n ls. AreWithin budget ls) (verdict_of count logs spent)
+  within logs None kept = (kept refl).within
+  within logs (Some spent) kept = tt
+
+  are_logs : (logs : List (List Step)) → count < 2 ^ 32 → AreKept design budget count logs → AreLogs logs
   are_logs logs small kept = record {
     count =
         let first = first_obligations design count in
@@ -53,7 +59,7 @@ module _ (design : FlatDesign) (budget count : ℕ)
   }
 
   pub writable : (logs : Vec Log) (spent : Option Spent) → count < 2 ^ 32
-      → (spent ≡ None → AreKept design count (plain_logs logs.items))
+      → (spent ≡ None → AreKept design budget count (plain_logs logs.items))
       → WhereAccepted (λ n ls. AreLogs ls) (verdict_of count logs spent)
   writable logs None small kept = are_logs (plain_logs logs.items) small (kept refl)
   writable logs (Some spent) small kept = tt

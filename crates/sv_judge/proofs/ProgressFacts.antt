@@ -1,16 +1,18 @@
 -- One obligation more is decided.
-use Rattle.std.proofs.Common.{◌≡◌, ℕ, ◌+◌, ◌-◌, ◌++◌, List, [], ◌∷◌, Option, Some, None, inl}
+use Rattle.std.proofs.Common.{◌≡◌, ◌≤◌, ℕ, ◌+◌, ◌-◌, ◌++◌, List, [], ◌∷◌, Option, Some}
+use Rattle.std.proofs.Common.{None, length, inl}
 use Rattle.std.proofs.Common.{inr, refl, sym, ◌∙◌, ap, subst, arith}
 use Rattle.std.specs.Prelude.{slice_get, take, IsTrue, IsFalse, IsSome, All}
 use Rattle.std.specs.List.{AllZip}
 use Rattle.std.proofs.lemmas.List.{map-append}
 use Rattle.std.proofs.lemmas.List.Elements.{All-push}
-use Rattle.sv_clause.specs.Logs.{plain_log}
+use Rattle.sv_clause.specs.Logs.{Step, plain_log}
 use Rattle.sv_clause.specs.declared.logs.Log.{Log}
 use Rattle.sv_flat.specs.Design.{FlatDesign}
 use Rattle.sv_obl.specs.Obligations.{Obligation, obligations}
 use Rattle.sv_proof.specs.Certificate.{IsWritableLog, plain_logs}
-use Rattle.sv_encoding.specs.Deciding.{Fits, IsRefutedBy, IsSpentBy, IsProved, IsPassed}
+use Rattle.sv_encoding.specs.Deciding.{Fits, IsRefutedBy, IsSpentBy, IsPassed}
+use Rattle.sv_judge.specs.Verdicts.{IsProvedFor}
 use Rattle.sv_judge.specs.Progress.{first_obligations, IsSpared, IsStanding, AreKept}
 use Rattle.sv_judge.specs.Progress.{HasDone}
 use Rattle.sv_judge.specs.declared.progress.Progress.{Progress}
@@ -25,55 +27,84 @@ module _ (design : FlatDesign) (budget count : ℕ) (o : Obligation)
   -- ---- a refuted one
 
   refuted_stands : (spent : Option Spent) → IsStanding design budget count spent
-      → IsProved design o → IsStanding design budget (count + 1) spent
-  refuted_stands None stands proved = all_next (IsProved design) all count o is stands proved
+      → IsProvedFor design budget o → IsStanding design budget (count + 1) spent
+  refuted_stands None stands proved =
+      all_next (IsProvedFor design budget) all count o is stands proved
   refuted_stands (Some spent) stands proved = stands
 
-  kept_more : (logs more : List Log) (log : Log) → AreKept design count (plain_logs logs)
-      → IsRefutedBy design o (plain_log log) → IsWritableLog (plain_log log)
-      → more ≡ logs ++ log ∷ [] → AreKept design (count + 1) (plain_logs more)
-  kept_more logs more log kept refutes writable are =
+  kept_more : (logs more : List Log) (log : Log) → AreKept design budget count (plain_logs logs)
+      → IsRefutedBy design o (plain_log log) → length (plain_log log) ≤ budget + 1
+      → IsWritableLog (plain_log log)
+      → more ≡ logs ++ log ∷ [] → AreKept design budget (count + 1) (plain_logs more)
+  kept_more logs more log kept refutes short writable are =
       let plain : plain_logs more ≡ plain_logs logs ++ plain_log log ∷ [] =
       ap plain_logs are ∙ map-append plain_log logs (log ∷ []) in
-      subst (AreKept design (count + 1)) (sym plain) (record {
+      subst (AreKept design budget (count + 1)) (sym plain) (record {
         refute =
             subst (λ os. AllZip (IsRefutedBy design) os (plain_logs logs ++ plain_log log ∷ []))
             (sym (take_next all count o is))
             (zip_push (IsRefutedBy design) (take count all) (plain_logs logs) o (plain_log log)
             kept.refute refutes);
+        within =
+            All-push (λ (steps : List Step). length steps ≤ budget + 1) (plain_logs logs)
+            (plain_log log) kept.within short;
         writable = All-push IsWritableLog (plain_logs logs) (plain_log log) kept.writable writable;
       })
 
+  passed_next : (old new : Progress) → HasDone design budget old → old.count ≡ count
+      → IsProvedFor design budget o → new.count ≡ count + 1
+      → All (IsPassed design budget) (first_obligations design new.count)
+  passed_next old new done at proved counted =
+      subst (λ n. All (IsPassed design budget) (first_obligations design n)) (sym counted)
+      (all_next (IsPassed design budget) all count o is
+      (subst (λ n. All (IsPassed design budget) (first_obligations design n)) at done.passed)
+      (proved.0, inl (proved.1, proved.2)))
+
+  stands_next : (old new : Progress) → HasDone design budget old → old.count ≡ count
+      → IsProvedFor design budget o → new.count ≡ count + 1 → new.spent ≡ old.spent
+      → IsStanding design budget new.count new.spent
+  stands_next old new done at proved counted same =
+      subst (λ n. IsStanding design budget n new.spent) (sym counted)
+      (subst (IsStanding design budget (count + 1)) (sym same)
+      (refuted_stands old.spent
+      (subst (λ n. IsStanding design budget n old.spent) at done.stands) proved))
+
   refuted_at : (old new : Progress) (log : Log) → HasDone design budget old → old.count ≡ count
-      → Fits design o → IsRefutedBy design o (plain_log log) → IsWritableLog (plain_log log)
+      → Fits design o → IsRefutedBy design o (plain_log log)
+      → length (plain_log log) ≤ budget + 1 → IsWritableLog (plain_log log)
       → new.count ≡ count + 1 → new.spent ≡ old.spent → new.keeps ≡ old.keeps
       → (IsTrue old.keeps → old.spent ≡ None → new.logs.items ≡ old.logs.items ++ log ∷ [])
       → (IsFalse old.keeps → new.logs.items ≡ old.logs.items)
       → HasDone design budget new
-  refuted_at old new log done at fits refutes writable counted same keeps logs none_kept =
-      let proved : IsProved design o = (fits, (plain_log log, refutes)) in
+  refuted_at old new log done at fits refutes short writable counted same keeps logs none_kept =
+      let proved : IsProvedFor design budget o = (fits, plain_log log, refutes, short) in
       record {
-        passed =
-            subst (λ n. All (IsPassed design budget) (first_obligations design n)) (sym counted)
-            (all_next (IsPassed design budget) all count o is
-            (subst (λ n. All (IsPassed design budget) (first_obligations design n)) at done.passed)
-            (fits, inl (plain_log log, refutes)));
-        stands =
-            subst (λ n. IsStanding design budget n new.spent) (sym counted)
-            (subst (IsStanding design budget (count + 1)) (sym same)
-            (refuted_stands old.spent
-            (subst (λ n. IsStanding design budget n old.spent) at done.stands) proved));
+        passed = passed_next old new done at proved counted;
+        stands = stands_next old new done at proved counted same;
         logs = λ keep none.
             let kept : IsTrue old.keeps = subst IsTrue keeps keep in
             let unspent : old.spent ≡ None = sym same ∙ none in
-            subst (λ n. AreKept design n (plain_logs new.logs.items)) (sym counted)
+            subst (λ n. AreKept design budget n (plain_logs new.logs.items)) (sym counted)
             (kept_more old.logs.items new.logs.items log
-            (subst (λ n. AreKept design n (plain_logs old.logs.items)) at (done.logs kept unspent))
-            refutes writable (logs kept unspent));
+            (subst (λ n. AreKept design budget n (plain_logs old.logs.items)) at (done.logs kept unspent))
+            refutes short writable (logs kept unspent));
         none_kept = λ no.
             let unkept : IsFalse old.keeps = subst IsFalse keeps no in
             none_kept unkept ∙ done.none_kept unkept;
       }
+
+  -- one of which no log is wanted
+  valid_at : (old new : Progress) → HasDone design budget old → old.count ≡ count
+      → IsProvedFor design budget o → (IsTrue old.keeps → old.spent ≡ None → ⊥)
+      → new.count ≡ count + 1
+      → new.spent ≡ old.spent → new.keeps ≡ old.keeps → new.logs.items ≡ old.logs.items
+      → HasDone design budget new
+  valid_at old new done at proved unwanted counted same keeps logs = record {
+    passed = passed_next old new done at proved counted;
+    stands = stands_next old new done at proved counted same;
+    logs = λ keep none. absurd (unwanted (subst IsTrue keeps keep) (sym same ∙ none));
+    none_kept = λ no. logs ∙ done.none_kept (subst IsFalse keeps no);
+  }
 
   -- ---- one on which the budget is spent
 
@@ -128,7 +159,7 @@ module _ (design : FlatDesign) (budget : ℕ) (o : Obligation) (old new : Progre
     (is : slice_get (obligations [] design) old.count ≡ Some o) (done : HasDone design budget old)
   where
     pub refuted_done : Fits design o → IsRefutedBy design o (plain_log log)
-        → IsWritableLog (plain_log log) → new.count ≡ old.count + 1 → new.spent ≡ old.spent
+        → length (plain_log log) ≤ budget + 1 → IsWritableLog (plain_log log) → new.count ≡ old.count + 1 → new.spent ≡ old.spent
         → new.keeps ≡ old.keeps
         → (IsTrue old.keeps → old.spent ≡ None → new.logs.items ≡ old.logs.items ++ log ∷ [])
         → (IsFalse old.keeps → new.logs.items ≡ old.logs.items)
@@ -141,6 +172,15 @@ module _ (design : FlatDesign) (budget : ℕ) (o : Obligation) (old new : Progre
         → (IsSome old.spent → new.spent ≡ old.spent) → new.keeps ≡ old.keeps
         → (old.logs.items ≡ [] → new.logs.items ≡ []) → HasDone design budget new
     spent_done = spent_at design budget old.count o is old new log done refl
+
+pub valid_done : (design : FlatDesign) (budget : ℕ) (o : Obligation) (old new : Progress)
+    → slice_get (obligations [] design) old.count ≡ Some o → HasDone design budget old
+    → IsProvedFor design budget o → (IsTrue old.keeps → old.spent ≡ None → ⊥)
+    → new.count ≡ old.count + 1
+    → new.spent ≡ old.spent → new.keeps ≡ old.keeps → new.logs.items ≡ old.logs.items
+    → HasDone design budget new
+valid_done design budget o old new is done =
+    valid_at design budget old.count o is old new done refl
 
 -- ---- what ends a check
 

@@ -11,10 +11,11 @@ use Rattle.sv_obl.specs.DesignQueries.{IsQueryOf, IsPlaced}
 use Rattle.sv_obl.specs.Obligations.{Obligation, obligations}
 use Rattle.sv_obl.specs.Views.{obligation_of}
 use Rattle.sv_proof.specs.Certificate.{IsWritableLog, plain_logs}
-use Rattle.sv_encoding.specs.Deciding.{Fits, IsRefutedBy, IsSpentBy, IsProved, IsPassed}
+use Rattle.sv_encoding.specs.Deciding.{Fits, IsRefutedBy, IsSpentBy, IsPassed}
 use Rattle.sv_encoding.specs.Encoding.{encoding}
 use Rattle.sv_judge.specs.Answers.{HasUnitConflict}
-use Rattle.sv_judge.specs.Verdicts.{IsNumbered, IsFalsified, EndsTooLarge}
+use Rattle.sv_judge.specs.Verdicts.{IsNumbered, IsProvedFor, AreWithin, IsFalsified}
+use Rattle.sv_judge.specs.Verdicts.{EndsTooLarge}
 use Rattle.sv_judge.specs.declared.progress.Progress.{Progress}
 use Rattle.sv_judge.specs.declared.progress.Stop.{Stop}
 use Rattle.sv_judge.specs.declared.progress.Stop.TheVariants.{Fails, TooLarge, OutOfMemory}
@@ -39,18 +40,21 @@ pub record IsFirstSpent (design : FlatDesign) (budget : ℕ) (spent : Spent) : T
   pub numbered : IsNumbered design spent.obligation before obligation
   pub fits : Fits design obligation
   pub spends : IsSpentBy design budget obligation (plain_log spent.log)
-  pub earlier : All (IsProved design) (first_obligations design before)
+  pub earlier : All (IsProvedFor design budget) (first_obligations design before)
   pub not_spared : IsSpared design budget obligation → ⊥
 
 -- each of the first so many is proved, or the first that is not is told
 abbrev pub IsStanding : FlatDesign → (budget count : ℕ) → Option Spent → Type 0
-IsStanding design budget count None = All (IsProved design) (first_obligations design count)
+IsStanding design budget count None =
+    All (IsProvedFor design budget) (first_obligations design count)
 IsStanding design budget count (Some spent) = IsFirstSpent design budget spent
 
--- a log refutes each of the first so many, and a certificate can hold it
-pub record AreKept (design : FlatDesign) (count : ℕ) (logs : List (List Step)) : Type 0 where
-  pub refute : AllZip (IsRefutedBy design) (first_obligations design count) logs
-  pub writable : All IsWritableLog logs
+-- a log within the budget refutes each of the first so many, and a certificate can hold it
+pub record AreKept (design : FlatDesign) (budget count : ℕ) (logs : List (List Step)) : Type 0
+  where
+    pub refute : AllZip (IsRefutedBy design) (first_obligations design count) logs
+    pub within : AreWithin budget logs
+    pub writable : All IsWritableLog logs
 
 -- so many obligations are decided, and none of them ends the check; and where all of them are
 -- proved and logs are kept, there is one for each; else none is kept
@@ -58,7 +62,7 @@ pub record HasDone (design : FlatDesign) (budget : ℕ) (progress : Progress) : 
   pub passed : All (IsPassed design budget) (first_obligations design progress.count)
   pub stands : IsStanding design budget progress.count progress.spent
   pub logs : IsTrue progress.keeps → progress.spent ≡ None →
-      AreKept design progress.count (plain_logs progress.logs.items)
+      AreKept design budget progress.count (plain_logs progress.logs.items)
   pub none_kept : IsFalse progress.keeps → progress.logs.items ≡ []
 
 -- the valuation falsifies the obligation of the failure's number, which is its query

@@ -2,20 +2,19 @@
 ghost use Rattle.std.specs.Prelude.{◌≡◌, ◌+◌, ◌-◌, ◌^◌, ◌<◌, ◌≤◌, [], None, Some, length};
 ghost use Rattle.std.specs.Prelude.{ℕ, All, IsTrue, IsFalse, IfOk, IfErr, OnOk, slice_get};
 ghost use Rattle.sv_clause.specs.Logs.{plain_log};
-ghost use Rattle.sv_flat.specs.Clocks.{processes_of};
 ghost use Rattle.sv_flat.specs.Views.{design_of};
 ghost use Rattle.sv_obl.specs.DesignQueries.{IsQueryOf, IsPlaced};
-ghost use Rattle.sv_obl.specs.IndexedBodies.{AreIndexed};
 ghost use Rattle.sv_obl.specs.Limits.{excess};
 ghost use Rattle.sv_obl.specs.ListParts.{IsAt};
 ghost use Rattle.sv_obl.specs.Obligations.{obligations};
 ghost use Rattle.sv_obl.specs.Views.{obligation_of};
+ghost use Rattle.sv_blast.specs.Coders.{IsCoder};
 ghost use Rattle.sv_proof.specs.Certificate.{AreLogs};
 ghost use Rattle.sv_judge.specs.Answers.{WhereAccepted, WhereFails, WhereTooLarge, WhereUnknown};
 ghost use Rattle.sv_judge.specs.Answers.{IsNotUnknown, HasAtMost, HasUnitConflict};
 ghost use Rattle.sv_judge.specs.Progress.{HasDone, IsStop, verdict_of};
-ghost use Rattle.sv_judge.specs.Verdicts.{IsAccepted, AreRefutations, IsFalsified, EndsTooLarge};
-ghost use Rattle.sv_judge.specs.Verdicts.{IsSpent};
+ghost use Rattle.sv_judge.specs.Verdicts.{IsAccepted, AreRefutations, AreWithin, IsFalsified};
+ghost use Rattle.sv_judge.specs.Verdicts.{EndsTooLarge, IsSpent};
 ghost use Rattle.sv_judge.specs.Walking.{IsNext, AreNext};
 
 use crate::progress::{Progress, Stop};
@@ -23,8 +22,8 @@ use crate::verdicts::{Checked, Failure};
 use crate::walk::{selector_part, target_part};
 use crate::writable::know_writable;
 use std::alloc::{AllocError, Global};
-use sv_blast::BlastFault;
-use sv_decide::{Decided, decide_by};
+use sv_blast::{BlastFault, Coder};
+use sv_decide::{Decided, decide_by, is_valid_by_labels};
 use sv_design::Design;
 use sv_flat::SigId;
 use sv_obl::{Bodies, Listing, Query};
@@ -43,9 +42,11 @@ pub fn check(
     requires some { 1 ≤ budget }
     requires most { budget ≤ 4000000000 }
     ensures accepted { IfOk result (WhereAccepted (λ count logs.
-        IsAccepted (design_of design.now) count)) }
+        IsAccepted (design_of design.now) budget count)) }
     ensures refutations { IsTrue keeps → IfOk result (WhereAccepted (λ count logs.
         AreRefutations (design_of design.now) logs)) }
+    ensures within { IsTrue keeps → IfOk result (WhereAccepted (λ count logs.
+        AreWithin budget logs)) }
     ensures writable { IsTrue keeps → IfOk result (WhereAccepted (λ count logs. AreLogs logs)) }
     ensures none_kept { IsFalse keeps → IfOk result (WhereAccepted (λ count logs. logs ≡ [])) }
     ensures fails { IfOk result (WhereFails (λ failure.
@@ -103,9 +104,17 @@ fn decide_all(alloc: Global, design: &Design, budget: u32, keeps: bool) -> Resul
     let mut progress = Progress::new(alloc, keeps);
     let bodies = Bodies::new(alloc, design)?;
     let mut listing = Listing::new(alloc, design)?;
-    decide_targets(alloc, design, &bodies, budget, &mut listing, &mut progress)?;
+    let mut coder = Coder::new(alloc, &bodies);
+    decide_targets(
+        alloc,
+        design,
+        &mut coder,
+        budget,
+        &mut listing,
+        &mut progress,
+    )?;
     let queries = selector_part(alloc, design, &listing)?;
-    decide_part(alloc, design, &bodies, budget, queries, &mut progress)?;
+    decide_part(alloc, design, &mut coder, budget, queries, &mut progress)?;
     Ok(progress)
 }
 
@@ -113,17 +122,18 @@ fn decide_all(alloc: Global, design: &Design, budget: u32, keeps: bool) -> Resul
 fn decide_targets(
     alloc: Global,
     design: &Design,
-    bodies: &Bodies,
+    coder: &mut Coder,
     budget: u32,
     listing: &mut Listing,
     progress: &mut Progress,
 ) -> Result<(), Stop>
-    requires bodies { AreIndexed (processes_of (design_of design.now)) bodies.now.bodies.items }
+    requires coder { IsCoder (design_of design.now) coder.old }
     requires some { 1 ≤ budget }
     requires most { budget ≤ 4000000000 }
     requires at { IsAt (design_of design.now) 0 listing.old }
     requires same { progress.old.count ≡ listing.old.count }
     requires done { HasDone (design_of design.now) budget progress.old }
+    ensures coder { OnOk result (IsCoder (design_of design.now) coder.new) }
     ensures at { OnOk result
         (IsAt (design_of design.now) (length design.now.signals.items) listing.new) }
     ensures same { OnOk result (progress.new.count ≡ listing.new.count) }
@@ -133,7 +143,7 @@ fn decide_targets(
 {
     for s in 0..design.signals().len() {
         let queries = target_part(alloc, design, listing, SigId(s as u32))?;
-        decide_part(alloc, design, bodies, budget, queries, progress)?;
+        decide_part(alloc, design, coder, budget, queries, progress)?;
     }
     Ok(())
 }
@@ -142,16 +152,17 @@ fn decide_targets(
 fn decide_part(
     alloc: Global,
     design: &Design,
-    bodies: &Bodies,
+    coder: &mut Coder,
     budget: u32,
     queries: Vec<Query>,
     progress: &mut Progress,
 ) -> Result<(), Stop>
-    requires bodies { AreIndexed (processes_of (design_of design.now)) bodies.now.bodies.items }
+    requires coder { IsCoder (design_of design.now) coder.old }
     requires some { 1 ≤ budget }
     requires most { budget ≤ 4000000000 }
     requires next { AreNext (design_of design.now) progress.old.count queries.items }
     requires done { HasDone (design_of design.now) budget progress.old }
+    ensures coder { OnOk result (IsCoder (design_of design.now) coder.new) }
     ensures count { OnOk result
         (progress.new.count ≡ progress.old.count + length queries.items) }
     ensures done { OnOk result (HasDone (design_of design.now) budget progress.new) }
@@ -159,32 +170,68 @@ fn decide_part(
     ensures stop { IfErr result (IsStop (design_of design.now) budget) }
 {
     for query in queries {
-        decide_next(alloc, design, bodies, budget, query, progress)?;
+        decide_next(alloc, design, coder, budget, query, progress)?;
     }
     Ok(())
 }
 
-// Decides the obligation that comes next.
+// Decides the obligation that comes next: by labels alone, where they show it valid and no log is
+// wanted, else by clauses.
 fn decide_next(
     alloc: Global,
     design: &Design,
-    bodies: &Bodies,
+    coder: &mut Coder,
     budget: u32,
     query: Query,
     progress: &mut Progress,
 ) -> Result<(), Stop>
-    requires bodies { AreIndexed (processes_of (design_of design.now)) bodies.now.bodies.items }
+    requires coder { IsCoder (design_of design.now) coder.old }
     requires some { 1 ≤ budget }
     requires most { budget ≤ 4000000000 }
     requires next { IsNext (design_of design.now) progress.old.count query }
     requires done { HasDone (design_of design.now) budget progress.old }
+    ensures coder { OnOk result (IsCoder (design_of design.now) coder.new) }
+    ensures count { OnOk result (progress.new.count ≡ progress.old.count + 1) }
+    ensures done { OnOk result (HasDone (design_of design.now) budget progress.new) }
+    ensures keeps { OnOk result (progress.new.keeps ≡ progress.old.keeps) }
+    ensures stop { IfErr result (IsStop (design_of design.now) budget) }
+{
+    if progress.wants_log() {
+        return decide_by_clauses(alloc, design, coder, budget, query, progress);
+    }
+    match is_valid_by_labels(alloc, design, coder.bodies(), &query) {
+        Ok(true) => {
+            progress.add_valid();
+            Ok(())
+        }
+        Ok(false) => decide_by_clauses(alloc, design, coder, budget, query, progress),
+        Err(BlastFault::TooLarge) => Err(Stop::TooLarge(progress.count + 1)),
+        Err(BlastFault::OutOfMemory) => Err(Stop::OutOfMemory),
+    }
+}
+
+// Decides the obligation that comes next by the clauses of its encoding.
+fn decide_by_clauses(
+    alloc: Global,
+    design: &Design,
+    coder: &mut Coder,
+    budget: u32,
+    query: Query,
+    progress: &mut Progress,
+) -> Result<(), Stop>
+    requires coder { IsCoder (design_of design.now) coder.old }
+    requires some { 1 ≤ budget }
+    requires most { budget ≤ 4000000000 }
+    requires next { IsNext (design_of design.now) progress.old.count query }
+    requires done { HasDone (design_of design.now) budget progress.old }
+    ensures coder { OnOk result (IsCoder (design_of design.now) coder.new) }
     ensures count { OnOk result (progress.new.count ≡ progress.old.count + 1) }
     ensures done { OnOk result (HasDone (design_of design.now) budget progress.new) }
     ensures keeps { OnOk result (progress.new.keeps ≡ progress.old.keeps) }
     ensures stop { IfErr result (IsStop (design_of design.now) budget) }
 {
     let number = progress.count + 1;
-    match decide_by(alloc, design, bodies, &query, budget) {
+    match decide_by(alloc, design, coder, &query, budget) {
         Ok(Decided::Valid(log)) => {
             know_writable(&log);
             Ok(progress.add_refuted(log)?)

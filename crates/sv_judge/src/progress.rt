@@ -1,6 +1,6 @@
 // How far a check has come, and what ends it early.
-ghost use Rattle.std.specs.Prelude.{◌≡◌, ◌+◌, ◌<◌, ◌++◌, ◌∷◌, [], ℕ, Some, None, IsTrue, IsSome};
-ghost use Rattle.std.specs.Prelude.{IsFalse, OnOk};
+ghost use Rattle.std.specs.Prelude.{◌≡◌, ◌↔◌, ◌+◌, ◌<◌, ◌++◌, ◌∷◌, [], ℕ, Some, None, IsTrue};
+ghost use Rattle.std.specs.Prelude.{IsFalse, IsSome, OnOk};
 ghost use Rattle.sv_flat.specs.Design.{FlatDesign};
 ghost use Rattle.sv_judge.specs.Progress.{HasDone};
 ghost use Rattle.sv_judge.specs.declared.progress.Stop.TheVariants.{OutOfMemory};
@@ -64,11 +64,29 @@ impl Progress {
         ensures none_kept { OnOk result
             (IsFalse self.old.keeps → self.new.logs.items ≡ self.old.logs.items) }
     {
-        if self.keeps && self.spent.is_none() {
+        if self.wants_log() {
             self.logs.push(log)?;
         }
         self.count += 1;
         Ok(())
+    }
+
+    /// Whether a log of the obligation that comes next is kept, if it is refuted.
+    pub fn wants_log(&self) -> bool
+        ensures { IsTrue result ↔ (IsTrue self.now.keeps × (self.now.spent ≡ None)) }
+    {
+        self.keeps && self.spent.is_none()
+    }
+
+    /// Counts an obligation that has a refutation, where no log of it is wanted.
+    pub fn add_valid(&mut self)
+        requires { self.old.count < 65536 }
+        ensures count { self.new.count ≡ self.old.count + 1 }
+        ensures spent { self.new.spent ≡ self.old.spent }
+        ensures keeps { self.new.keeps ≡ self.old.keeps }
+        ensures logs { self.new.logs.items ≡ self.old.logs.items }
+    {
+        self.count += 1;
     }
 
     /// Counts an obligation on which the log spends the budget. No log is kept from then on.

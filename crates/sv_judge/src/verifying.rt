@@ -1,11 +1,10 @@
 // What `verify` comes to: the logs of a certificate checked in order.
 ghost use Rattle.std.specs.Prelude.{◌≡◌, ◌+◌, ◌^◌, ◌<◌, [], None, length, IfOk, IfErr, OnOk};
-ghost use Rattle.sv_flat.specs.Clocks.{processes_of};
 ghost use Rattle.sv_flat.specs.Views.{design_of};
-ghost use Rattle.sv_obl.specs.IndexedBodies.{AreIndexed};
 ghost use Rattle.sv_obl.specs.Limits.{excess};
 ghost use Rattle.sv_obl.specs.ListParts.{IsAt};
 ghost use Rattle.sv_obl.specs.Obligations.{obligations};
+ghost use Rattle.sv_blast.specs.Coders.{IsCoder};
 ghost use Rattle.sv_proof.specs.Certificate.{AreLogs, plain_logs, proof_lines, proof_text};
 ghost use Rattle.sv_judge.specs.Answers.{WhereVerified, WhereFault, WhereLarge};
 ghost use Rattle.sv_judge.specs.Certified.{EarlierAreShown, IsVerified, IsFaultLine};
@@ -19,6 +18,7 @@ use crate::verdicts::Verified;
 use crate::walk::{selector_part, target_part};
 use std::alloc::{AllocError, Global};
 use sv_accept::{QueryFault, check_query};
+use sv_blast::Coder;
 use sv_clause::Log;
 use sv_design::Design;
 use sv_flat::SigId;
@@ -122,23 +122,25 @@ fn verify_all(alloc: Global, design: &Design, logs: &[Log]) -> Result<(), Flaw>
     ensures flaw { IfErr result (IsFlaw (design_of design.now) (plain_logs logs.now)) }
 {
     let bodies = Bodies::new(alloc, design)?;
+    let mut coder = Coder::new(alloc, &bodies);
     let mut listing = Listing::new(alloc, design)?;
-    verify_targets(alloc, design, &bodies, logs, &mut listing)?;
+    verify_targets(alloc, design, &mut coder, logs, &mut listing)?;
     let queries = selector_part(alloc, design, &listing)?;
-    verify_part(alloc, design, &bodies, logs, listing.count, &queries)
+    verify_part(alloc, design, &mut coder, logs, listing.count, &queries)
 }
 
 // Checks the logs of the obligations of all targets.
 fn verify_targets(
     alloc: Global,
     design: &Design,
-    bodies: &Bodies,
+    coder: &mut Coder,
     logs: &[Log],
     listing: &mut Listing,
 ) -> Result<(), Flaw>
-    requires bodies { AreIndexed (processes_of (design_of design.now)) bodies.now.bodies.items }
+    requires coder { IsCoder (design_of design.now) coder.old }
     requires logs { AreMatched (design_of design.now) (plain_logs logs.now) }
     requires at { IsAt (design_of design.now) 0 listing.old }
+    ensures coder { OnOk result (IsCoder (design_of design.now) coder.new) }
     ensures at { OnOk result
         (IsAt (design_of design.now) (length design.now.signals.items) listing.new) }
     ensures shown { OnOk result
@@ -148,7 +150,7 @@ fn verify_targets(
     for s in 0..design.signals().len() {
         let first = listing.count;
         let queries = target_part(alloc, design, listing, SigId(s as u32))?;
-        verify_part(alloc, design, bodies, logs, first, &queries)?;
+        verify_part(alloc, design, coder, logs, first, &queries)?;
     }
     Ok(())
 }
@@ -157,22 +159,23 @@ fn verify_targets(
 fn verify_part(
     alloc: Global,
     design: &Design,
-    bodies: &Bodies,
+    coder: &mut Coder,
     logs: &[Log],
     first: u32,
     queries: &[Query],
 ) -> Result<(), Flaw>
-    requires bodies { AreIndexed (processes_of (design_of design.now)) bodies.now.bodies.items }
+    requires coder { IsCoder (design_of design.now) coder.old }
     requires logs { AreMatched (design_of design.now) (plain_logs logs.now) }
     requires next { AreNext (design_of design.now) first queries.now }
     requires shown { EarlierAreShown (design_of design.now) first (plain_logs logs.now) }
+    ensures coder { OnOk result (IsCoder (design_of design.now) coder.new) }
     ensures shown { OnOk result (EarlierAreShown (design_of design.now)
         (first + length queries.now) (plain_logs logs.now)) }
     ensures flaw { IfErr result (IsFlaw (design_of design.now) (plain_logs logs.now)) }
 {
     let mut place = first;
     for query in queries {
-        verify_next(alloc, design, bodies, logs, place, query)?;
+        verify_next(alloc, design, coder, logs, place, query)?;
         place += 1;
     }
     Ok(())
@@ -182,20 +185,21 @@ fn verify_part(
 fn verify_next(
     alloc: Global,
     design: &Design,
-    bodies: &Bodies,
+    coder: &mut Coder,
     logs: &[Log],
     place: u32,
     query: &Query,
 ) -> Result<(), Flaw>
-    requires bodies { AreIndexed (processes_of (design_of design.now)) bodies.now.bodies.items }
+    requires coder { IsCoder (design_of design.now) coder.old }
     requires logs { AreMatched (design_of design.now) (plain_logs logs.now) }
     requires next { IsNext (design_of design.now) place query.now }
     requires shown { EarlierAreShown (design_of design.now) place (plain_logs logs.now) }
+    ensures coder { OnOk result (IsCoder (design_of design.now) coder.new) }
     ensures shown { OnOk result
         (EarlierAreShown (design_of design.now) (place + 1) (plain_logs logs.now)) }
     ensures flaw { IfErr result (IsFlaw (design_of design.now) (plain_logs logs.now)) }
 {
-    match check_query(alloc, design, bodies, query, &logs[place as usize]) {
+    match check_query(alloc, design, coder, query, &logs[place as usize]) {
         Ok(()) => Ok(()),
         Err(QueryFault::Log(fault)) => Err(Flaw::Fault(line_of_fault(logs, place, fault))),
         Err(QueryFault::TooLarge) => Err(Flaw::TooLarge(place + 1)),

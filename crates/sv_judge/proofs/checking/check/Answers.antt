@@ -4,9 +4,10 @@ use Rattle.sv_clause.specs.Logs.{plain_log}
 use Rattle.sv_flat.specs.Views.{design_of}
 use Rattle.sv_proof.specs.Certificate.{AreLogs}
 use Rattle.sv_judge.specs.Answers.{WhereAccepted, WhereUnknown, IsNotUnknown}
-use Rattle.sv_judge.specs.Verdicts.{IsAccepted, AreRefutations, IsSpent}
+use Rattle.sv_judge.specs.Verdicts.{IsAccepted, AreRefutations, AreWithin, IsSpent}
 use Rattle.sv_judge.specs.Progress.{IsStop}
-use Rattle.sv_judge.proofs.EndedFacts.{accepted, refutations, writable, none_kept, unknown}
+use Rattle.sv_judge.proofs.EndedFacts.{accepted, refutations, within, writable, none_kept}
+use Rattle.sv_judge.proofs.EndedFacts.{unknown}
 use Rattle.sv_judge.proofs.EndedFacts.{large, units}
 use Rattle.sv_judge.proofs.checking.check.Goals as goal
 
@@ -14,7 +15,7 @@ pub returns-in-Ok-clause-accepted : goal.returns-in-Ok-clause-accepted
 returns-in-Ok-clause-accepted c =
     let design = design_of c.args.design.now in
     let p = c.in-Ok.progress in
-    subst (WhereAccepted (λ n ls. IsAccepted design n)) (sym c.verdict.ensures)
+    subst (WhereAccepted (λ n ls. IsAccepted design c.args.budget n)) (sym c.verdict.ensures)
     (accepted design c.args.budget p.count c.in-Ok.ensures.all p.logs p.spent
     c.in-Ok.ensures.done.stands)
 
@@ -24,6 +25,13 @@ returns-in-Ok-clause-refutations c = λ keeps.
     let p = c.in-Ok.progress in
     subst (WhereAccepted (λ n ls. AreRefutations design ls)) (sym c.verdict.ensures)
     (refutations design c.args.budget p.count c.in-Ok.ensures.all p.logs p.spent
+    (c.in-Ok.ensures.done.logs (subst IsTrue (sym c.in-Ok.ensures.keeps) keeps)))
+
+pub returns-in-Ok-clause-within : goal.returns-in-Ok-clause-within
+returns-in-Ok-clause-within c = λ keeps.
+    let p = c.in-Ok.progress in
+    subst (WhereAccepted (λ n ls. AreWithin c.args.budget ls)) (sym c.verdict.ensures)
+    (within (design_of c.args.design.now) c.args.budget p.count c.in-Ok.ensures.all p.logs p.spent
     (c.in-Ok.ensures.done.logs (subst IsTrue (sym c.in-Ok.ensures.keeps) keeps)))
 
 pub returns-in-Ok-clause-writable : goal.returns-in-Ok-clause-writable

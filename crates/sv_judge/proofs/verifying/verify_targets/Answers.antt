@@ -9,6 +9,7 @@ use Rattle.sv_judge.proofs.verifying.verify_targets.Goals as goal
 
 pub loop-s-init : goal.loop-s-init
 loop-s-init c = record {
+  coder = c.requires.coder;
   at = c.requires.at;
   shown =
       none_shown (design_of c.args.design.now) (plain_logs c.args.logs.now)
@@ -17,6 +18,7 @@ loop-s-init c = record {
 
 pub loop-s-preserved : goal.loop-s-preserved
 loop-s-preserved c = record {
+  coder = c.in_ok-verify_part.ensures.coder;
   at = c.in_ok-queries.ensures.at;
   shown =
       subst (λ n. EarlierAreShown (design_of c.args.design.now) n (plain_logs c.args.logs.now))

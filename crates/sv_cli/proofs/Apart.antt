@@ -11,12 +11,13 @@ use Rattle.sv_cli.specs.Texts.{Passes}
 use Rattle.sv_cli.proofs.Secrets.{RefutedAreValid, all_proved, is_checked}
 
 module _ (law : (design : FlatDesign) → RefutedAreValid design) (top : Option (List ℕ))
-    (text : List ℕ) (passes : Passes top text) (count : ℕ) where
-  pub accepted_valid : IsAccepted passes.design count → AllValid [] passes.design
+    (text : List ℕ) (passes : Passes top text) (most count : ℕ) where
+  pub accepted_valid : IsAccepted passes.design most count → AllValid [] passes.design
   accepted_valid accepted =
-      all_proved passes.design (is_checked top text passes) (law passes.design) accepted.each
+      all_proved passes.design (is_checked top text passes) (law passes.design) most
+      accepted.each
 
-  pub not_falsified : (budget number : ℕ) (v : Listed) → IsAccepted passes.design count
+  pub not_falsified : (budget number : ℕ) (v : Listed) → IsAccepted passes.design most count
       → IsFalsified passes.design budget number v → ⊥
   not_falsified budget number v accepted falsified =
       get_all (IsValid passes.design) (obligations [] passes.design) falsified.before

@@ -6,6 +6,7 @@ use Rattle.std.specs.declared.alloc.AllocError.{AllocError}
 use Rattle.std.specs.Global.{Vec}
 use Rattle.std.proofs.lemmas.List.Elements.{All-nil, All-cons}
 use Rattle.sv_flat.specs.Design.{FlatDesign}
+use Rattle.sv_io.specs.Cabinet.{IfAnswered}
 use Rattle.sv_io.specs.Count.{Rose}
 use Rattle.sv_io.specs.Exchange.{Exchange, Fetched, fetched, fetched_of, whole, too_long, nothing}
 use Rattle.sv_io.specs.Traffic.{Files, Passed, IsFailed}
@@ -16,6 +17,7 @@ use Rattle.sv_obl.specs.Limits.{excess}
 use Rattle.sv_obl.specs.Obligations.{obligations}
 use Rattle.sv_judge.specs.Certified.{IsVerified, IsFaultLine, IsTooLargeToVerify}
 use Rattle.sv_report.specs.Text.{accepted_text, fault_text}
+use Rattle.sv_report.specs.declared.styles.Style.TheVariants.{Lines}
 use Rattle.sv_cli.specs.declared.prepared.NoReport.{NoReport}
 use Rattle.sv_cli.specs.declared.prepared.NoReport.TheVariants.{Unread, OutOfMemory}
 use Rattle.sv_cli.specs.declared.prepared.Prepared.{Prepared}
@@ -24,6 +26,7 @@ use Rattle.sv_cli.specs.declared.report.Report.{Report}
 use Rattle.sv_cli.specs.Answer.{Answer, answer_of, done, wrong_proof}
 use Rattle.sv_cli.specs.Limits.{TellsLimit, ExceedsLimit}
 use Rattle.sv_cli.specs.Prepared.{Readies, Reports, Says, MayFetchOwn, VerifiesFetched}
+use Rattle.sv_cli.specs.Runs.{KeepsCounts}
 use Rattle.sv_cli.specs.Verifies.{largest_proof, Judges, accepts, refuses, too_large, Verifies}
 use Rattle.sv_cli.specs.Verifies.{exceeds, oversized, judges}
 
@@ -54,7 +57,8 @@ module _ (design : FlatDesign) (bytes : List ℕ) where
   )
 
   large_judged : (number : ℕ) → IsTooLargeToVerify design bytes number → (report : Report)
-      → Says (TellsLimit 709 (decimal number ∷ [])) report → Says (Judges design bytes) report
+      → Says (TellsLimit Lines 709 (decimal number ∷ [])) report
+      → Says (Judges design bytes) report
   large_judged number large report (answer, answered, tells) = (
     answer,
     answered,
@@ -81,7 +85,8 @@ module _ (design : FlatDesign) (bytes : List ℕ) where
 
   pub large_reports : (number : ℕ) → IsTooLargeToVerify design bytes number
       → (r : Result Report AllocError)
-      → IfOk r (Says (TellsLimit 709 (decimal number ∷ []))) → IfOk r (Says (Judges design bytes))
+      → IfOk r (Says (TellsLimit Lines 709 (decimal number ∷ [])))
+      → IfOk r (Says (Judges design bytes))
   large_reports number large (Ok report) told = large_judged number large report told
   large_reports number large (Err e) told = tt
 
@@ -107,12 +112,12 @@ module _ (proof : List ℕ) (design : FlatDesign) (few : excess design ≡ None)
   -- what is told of the bytes that were handed out
   pub judged_readied : (bytes : Vec ℕ)
       → Passed tells old new (fetched proof (whole bytes.items) ∷ [])
-      → vec_len bytes ≤ largest_proof → (report : Report)
+      → vec_len bytes ≤ largest_proof → KeepsCounts old new → (report : Report)
       → Says (Judges design bytes.items) report
       → (let r : Result Report NoReport = Ok report in
       Readies (MayFetchOwn proof design)
       (λ exchanges. Says (VerifiesFetched proof design exchanges)) tells old new r)
-  judged_readied bytes passed within report (answer, answered, told) =
+  judged_readied bytes passed within kept report (answer, answered, told) =
       let small : length bytes.items ≤ largest_proof = grind (arith, within) in
       record {
         exchanges = fetched proof (whole bytes.items) ∷ [];
@@ -126,6 +131,7 @@ module _ (proof : List ℕ) (design : FlatDesign) (few : excess design ≡ None)
           ),
           none_failed proof (whole bytes.items) (λ none. none),
         );
+        unfailed = kept;
         fault = tt;
       }
 
@@ -142,12 +148,14 @@ module _ (proof : List ℕ) (design : FlatDesign) (few : excess design ≡ None)
 
     -- what is told where more bytes were handed out than may be
     pub oversized_readied : (bytes : Vec ℕ) → fault ≡ Long bytes
-        → length bytes.items ≡ largest_proof + 1 → (report : Report)
-        → Says (TellsLimit 710 []) report
+        → length bytes.items ≡ largest_proof + 1
+        → (let r : Result (Vec ℕ) FetchFault = Err fault in IfAnswered r (KeepsCounts old new))
+        → (report : Report)
+        → Says (TellsLimit Lines 710 []) report
         → (let r : Result Report NoReport = Ok report in
         Readies (MayFetchOwn proof design)
         (λ exchanges. Says (VerifiesFetched proof design exchanges)) tells old new r)
-    oversized_readied bytes is long report (answer, answered, told) = record {
+    oversized_readied bytes is long kept report (answer, answered, told) = record {
       exchanges = fetched proof (too_long bytes.items) ∷ [];
       passed = passed_by (Long bytes) is;
       may = may_fetch proof design few (too_long bytes.items);
@@ -159,6 +167,9 @@ module _ (proof : List ℕ) (design : FlatDesign) (few : excess design ≡ None)
         ),
         none_failed proof (too_long bytes.items) (λ none. none),
       );
+      unfailed =
+          subst (λ (f : FetchFault). let r : Result (Vec ℕ) FetchFault = Err f in
+          IfAnswered r (KeepsCounts old new)) is kept;
       fault = tt;
     }
 
@@ -173,6 +184,7 @@ module _ (proof : List ℕ) (design : FlatDesign) (few : excess design ≡ None)
         passed = passed_by Failed is;
         may = may_fetch proof design few nothing;
         made = tt;
+        unfailed = tt;
         fault = record { before = []; name = proof; last = refl; rose = rose };
       }
 
@@ -185,13 +197,14 @@ module _ (proof : List ℕ) (design : FlatDesign) (few : excess design ≡ None)
         passed = passed_by faults.OutOfMemory is;
         may = may_fetch proof design few nothing;
         made = tt;
+        unfailed = tt;
         fault = tt;
       }
 
 -- ---- verdicts
 
 module _ (proof : List ℕ) (design : FlatDesign) where
-  pub excess_verified : (report : Report) → Says (ExceedsLimit design) report
+  pub excess_verified : (report : Report) → Says (ExceedsLimit Lines design) report
       → Says (Verifies proof design []) report
   excess_verified report (answer, answered, told) = (answer, answered, exceeds refl told)
 
@@ -211,6 +224,7 @@ module _ (proof : List ℕ) (design : FlatDesign) where
       (readies.made.0.0, readies.made.0.1, by_kind readies.made.0.2),
       readies.made.1,
     );
+    unfailed = readies.unfailed;
     fault = tt;
   }
     where

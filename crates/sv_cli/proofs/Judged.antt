@@ -5,7 +5,8 @@ use Rattle.std.specs.Prelude.{All, filter, flat_map, not, slice_get, decimal, Bo
 use Rattle.std.specs.Prelude.{IsTrue, IsSome, Result, Ok}
 use Rattle.std.specs.Option.{option_copied}
 use denote.Ref.{Bor}
-use Rattle.std.proofs.lemmas.List.Elements.{All-nil, All-append, All-map}
+use Rattle.std.proofs.lemmas.List.Elements.{All-nil, All-append, All-map, All-weaker}
+use Rattle.std.proofs.lemmas.Result.{IfOk-weaker}
 use Rattle.sv_clause.specs.Logs.{Step}
 use Rattle.sv_flat.specs.Clocks.{processes_of}
 use Rattle.sv_flat.specs.Design.{ProcessForm, FlatDesign}
@@ -13,21 +14,24 @@ use Rattle.sv_flat.specs.Processes.{signal_numbers, drivers}
 use Rattle.sv_flat.specs.Selectors.{selectors_of, always_flows}
 use Rattle.sv_flat.specs.Values.{signal_of}
 use Rattle.sv_io.specs.Exchange.{Exchange}
-use Rattle.sv_io.specs.Traffic.{Files}
+use Rattle.sv_io.specs.Traffic.{Files, IsFailed}
 use Rattle.sv_obl.specs.Limits.{excess}
 use Rattle.sv_obl.specs.Obligations.{Obligation, path_obligation, target_obligations}
 use Rattle.sv_obl.specs.Obligations.{selector_obligation, selector_obligations, obligations}
 use Rattle.sv_obl.specs.Paths.{paths}
 use Rattle.sv_obl.specs.declared.valuations.Valuation.{Valuation}
 use Rattle.sv_proof.specs.Certificate.{AreLogs, proof_text}
-use Rattle.sv_judge.specs.Verdicts.{IsAccepted, AreRefutations, IsFalsified, EndsTooLarge, IsSpent}
-use Rattle.sv_report.specs.FlowText.{AsksFlow, IsFlowText}
-use Rattle.sv_report.specs.Text.{accepted_text, unknown_text}
+use Rattle.sv_encoding.specs.Deciding.{Fits}
+use Rattle.sv_judge.specs.Verdicts.{IsProvedFor, IsAccepted, AreRefutations, AreWithin}
+use Rattle.sv_judge.specs.Verdicts.{IsFalsified, EndsTooLarge, IsSpent}
+use Rattle.sv_report.specs.FlowText.{AsksFlow}
+use Rattle.sv_report.specs.Styles.{accepted_in, unknown_in, IsFlowTextIn}
+use Rattle.sv_report.specs.declared.styles.Style.{Style}
 use Rattle.sv_cli.specs.declared.prepared.NoReport.{NoReport}
 use Rattle.sv_cli.specs.declared.prepared.Prepared.{Prepared}
 use Rattle.sv_cli.specs.declared.prepared.Prepared.TheVariants.{Whole}
 use Rattle.sv_cli.specs.declared.report.Report.{Report}
-use Rattle.sv_cli.specs.Answer.{answer_of, done, falsified, undecided}
+use Rattle.sv_cli.specs.Answer.{Answer, answer_of, done, falsified, undecided}
 use Rattle.sv_cli.specs.Checks.{IsCertificate, StoresProof, Accepts, Falsifies}
 use Rattle.sv_cli.specs.Checks.{IsTooLarge, Spends, Decides, accepts, falsifies, too_large, spends}
 use Rattle.sv_cli.specs.Checks.{Checks, exceeds, decides}
@@ -91,13 +95,13 @@ module _ (design : FlatDesign) where
       (place_of number is.before is.numbered.counted) ∙ at)
 
   -- what its report tells
-  pub falsified_told : (budget number : ℕ) (v : Valuation) (o : Obligation)
+  pub falsified_told : (style : Style) (budget number : ℕ) (v : Valuation) (o : Obligation)
       → IsFalsified design budget number v
       → slice_get (obligations [] design) (number - 1) ≡ Some o → (report : Report)
       → Says (λ answer printed.
-      (answer ≡ falsified number v) × IsFlowText design number o v printed) report
-      → Says (Falsifies design budget) report
-  falsified_told budget number v o is at report (answer, answered, (answers, prints)) = (
+      (answer ≡ falsified number v) × IsFlowTextIn style design number o v printed) report
+      → Says (Falsifies style design budget) report
+  falsified_told style budget number v o is at report (answer, answered, (answers, prints)) = (
     answer,
     answered,
     record {
@@ -106,23 +110,25 @@ module _ (design : FlatDesign) where
       falsifies = is;
       answers = answers;
       prints =
-          subst (λ p. IsFlowText design number p v report.text.items)
+          subst (λ p. IsFlowTextIn style design number p v report.text.items)
           (sym (one_falsified budget number v o is at)) prints;
     },
   )
 
   -- ---- one is too large, or the budget is spent
 
-  pub too_large_told : (budget number : ℕ) → EndsTooLarge design budget number → (report : Report)
-      → Says (TellsLimit 709 (decimal number ∷ [])) report
-      → Says (IsTooLarge design budget) report
-  too_large_told budget number large report (answer, answered, tells) =
+  pub too_large_told : (style : Style) (budget number : ℕ) → EndsTooLarge design budget number
+      → (report : Report) → Says (TellsLimit style 709 (decimal number ∷ [])) report
+      → Says (IsTooLarge style design budget) report
+  too_large_told style budget number large report (answer, answered, tells) =
       (answer, answered, record { number = number; large = large; tells = tells })
 
-  pub spent_told : (budget number : ℕ) (steps : List Step) → IsSpent design budget number steps
-      → (report : Report) → answer_of report.outcome ≡ Some (undecided number steps)
-      → report.text.items ≡ unknown_text number budget → Says (Spends design budget) report
-  spent_told budget number steps spent report answered prints = (
+  pub spent_told : (style : Style) (budget number : ℕ) (steps : List Step)
+      → IsSpent design budget number steps → (report : Report)
+      → answer_of report.outcome ≡ Some (undecided number steps)
+      → report.text.items ≡ unknown_in style number budget
+      → Says (Spends style design budget) report
+  spent_told style budget number steps spent report answered prints = (
     undecided number steps,
     answered,
     record {
@@ -136,55 +142,46 @@ module _ (design : FlatDesign) where
 
   -- ---- all are refuted
 
-  pub accepted_told : (count : ℕ) → IsAccepted design count → (report : Report)
-      → answer_of report.outcome ≡ Some done → report.text.items ≡ accepted_text count
-      → Says (Accepts design) report
-  accepted_told count accepted report answered prints = (
-    done,
-    answered,
-    record { count = count; accepted = accepted; answers = refl; prints = prints },
-  )
+  pub accepted_told : (style : Style) (budget count : ℕ) → IsAccepted design budget count
+      → (answer : Answer) (printed : List ℕ) → answer ≡ done → printed ≡ accepted_in style count
+      → Accepts style design budget answer printed
+  accepted_told style budget count accepted answer printed answers prints =
+      record { count = count; accepted = accepted; answers = answers; prints = prints }
 
 -- ---- verdicts
 
-module _ (design : FlatDesign) (proof : Option (List ℕ)) (budget : ℕ) where
-  pub by_falsified : (report : Report) → Says (Falsifies design budget) report
-      → Says (Decides proof budget design []) report
+module _ (style : Style) (design : FlatDesign) (proof : Option (List ℕ)) (budget : ℕ) where
+  pub by_falsified : (report : Report) → Says (Falsifies style design budget) report
+      → Says (Decides style proof budget design []) report
   by_falsified report (answer, answered, told) = (answer, answered, falsifies refl told)
 
-  pub by_too_large : (report : Report) → Says (IsTooLarge design budget) report
-      → Says (Decides proof budget design []) report
+  pub by_too_large : (report : Report) → Says (IsTooLarge style design budget) report
+      → Says (Decides style proof budget design []) report
   by_too_large report (answer, answered, told) = (answer, answered, too_large refl told)
 
-  pub by_spent : (report : Report) → Says (Spends design budget) report
-      → Says (Decides proof budget design []) report
+  pub by_spent : (report : Report) → Says (Spends style design budget) report
+      → Says (Decides style proof budget design []) report
   by_spent report (answer, answered, told) = (answer, answered, spends refl told)
 
-  pub by_accepted : (exchanges : List Exchange) (report : Report)
-      → Says (λ answer printed.
-      StoresProof proof design exchanges × Accepts design answer printed) report
-      → Says (Decides proof budget design exchanges) report
-  by_accepted exchanges report (answer, answered, (stores, told)) =
-      (answer, answered, accepts stores told)
-
-  pub by_excess : (report : Report) → Says (ExceedsLimit design) report
-      → Says (Checks proof budget design []) report
+  pub by_excess : (report : Report) → Says (ExceedsLimit style design) report
+      → Says (Checks style proof budget design []) report
   by_excess report (answer, answered, told) = (answer, answered, exceeds refl told)
 
   -- what is decided is what is checked where no limit is exceeded
   pub decided_checked : (tells : Bool) (old new : Files) (report : Report) → excess design ≡ None
       → (let r : Result Report NoReport = Ok report in
-      Readies (MayStoreOwn proof design) (λ exchanges. Says (Decides proof budget design exchanges))
-      tells old new r)
+      Readies (MayStoreOwn proof design budget)
+      (λ exchanges. Says (Decides style proof budget design exchanges)) tells old new r)
       → (let r : Result Prepared NoReport = Ok (Whole report) in
-      Readies (MayStoreOwn proof design)
-      (λ exchanges. Reports (Checks proof budget design exchanges)) tells old new r)
+      Readies (MayStoreOwn proof design budget)
+      (λ exchanges. Reports (Checks style proof budget design exchanges)) tells old new r)
   decided_checked tells old new report few readies = record {
     exchanges = readies.exchanges;
     passed = readies.passed;
     may = readies.may;
     made =
         ((readies.made.0.0, readies.made.0.1, decides few readies.made.0.2), readies.made.1);
+    unfailed = readies.unfailed;
     fault = tt;
   }
 
@@ -199,47 +196,92 @@ pub asked_for : (o : Option (Bor (List ℕ))) (is : Bool) → is ≡ is_some o
     → IsSome (option_copied o) → IsTrue is
 asked_for o is same some = same ∙ sym (same_some o) ∙ some
 
-module _ (design : FlatDesign) (few : excess design ≡ None) (logs : List (List Step)) where
-  certificate : AreRefutations design logs × AreLogs logs → IsCertificate design (proof_text logs)
-  certificate certified =
-      record { logs = logs; refute = certified.0; are_logs = certified.1; text = refl }
+-- logs that refute all obligations within the budget, and that a certificate can hold
+abbrev pub AreCertified : FlatDesign → (budget : ℕ) → List (List Step) → Type 0
+AreCertified design budget logs =
+    AreRefutations design logs × AreWithin budget logs × AreLogs logs
+
+module _ (design : FlatDesign) (few : excess design ≡ None) (budget count : ℕ)
+    (accepted : IsAccepted design budget count) (logs : List (List Step)) where
+  certificate : AreCertified design budget logs
+      → IsCertificate design budget (proof_text logs)
+  certificate certified = record {
+    logs = logs;
+    fit =
+        All-weaker (IsProvedFor design budget) (Fits design) (λ o proved. proved.0)
+        (obligations [] design) accepted.each;
+    refute = certified.0;
+    within = certified.1;
+    are_logs = certified.2;
+    text = refl;
+  }
 
   -- what may be stored of it may be stored
-  pub may_store : (name : Option (List ℕ)) (exchanges : List Exchange)
-      → (IsSome name → AreRefutations design logs × AreLogs logs)
-      → MayStoreBytes name (proof_text logs) exchanges → MayStoreOwn name design exchanges
+  may_store : (name : Option (List ℕ)) (exchanges : List Exchange)
+      → (IsSome name → AreCertified design budget logs)
+      → MayStoreBytes name (proof_text logs) exchanges → MayStoreOwn name design budget exchanges
   may_store None exchanges certified none = inl none
   may_store (Some name) exchanges certified (inl none) = inl none
   may_store (Some name) exchanges certified (inr (is_done, is)) =
       inr (few, (proof_text logs, is_done, certificate (certified refl), is))
 
   -- and what is stored is it
-  pub stores : (name : Option (List ℕ)) (exchanges : List Exchange)
-      → (IsSome name → AreRefutations design logs × AreLogs logs)
-      → StoresBytes name (proof_text logs) exchanges → StoresProof name design exchanges
+  stores : (name : Option (List ℕ)) (exchanges : List Exchange)
+      → (IsSome name → AreCertified design budget logs)
+      → StoresBytes name (proof_text logs) exchanges → StoresProof name design budget exchanges
   stores None exchanges certified none = none
   stores (Some name) exchanges certified is =
       (proof_text logs, certificate (certified refl), is)
 
-  -- what is told where it is stored and all obligations are refuted
-  pub proved_readied : (name : Option (List ℕ)) (tells : Bool) {U : Type 0} (old new : Files)
-      (unit : U) (report : Report)
-      → (IsSome name → AreRefutations design logs × AreLogs logs)
-      → (let r : Result U NoReport = Ok unit in
-      Readies (MayStoreBytes name (proof_text logs))
-      (λ exchanges _. StoresBytes name (proof_text logs) exchanges) tells old new r)
-      → Says (Accepts design) report
-      → (let r : Result Report NoReport = Ok report in
-      Readies (MayStoreOwn name design) (λ exchanges. Says (λ answer printed.
-      StoresProof name design exchanges × Accepts design answer printed)) tells old new r)
-  proved_readied name tells old new unit report certified readies (answer, answered, told) =
-      record {
-        exchanges = readies.exchanges;
-        passed = readies.passed;
-        may = may_store name readies.exchanges certified readies.may;
-        made = (
-          (answer, answered, (stores name readies.exchanges certified readies.made.0, told)),
-          readies.made.1,
-        );
-        fault = tt;
-      }
+  -- what is stored and told where all obligations are refuted is what is decided
+  pub proved_decided : (style : Style) (name : Option (List ℕ)) (tells : Bool) (old new : Files)
+      (r : Result Report NoReport) → (IsSome name → AreCertified design budget logs)
+      → Readies (MayStoreBytes name (proof_text logs))
+      (λ exchanges. Says (λ answer printed. StoresBytes name (proof_text logs) exchanges
+      × (answer ≡ done) × (printed ≡ accepted_in style count))) tells old new r
+      → Readies (MayStoreOwn name design budget)
+      (λ exchanges. Says (Decides style name budget design exchanges)) tells old new r
+  proved_decided style name tells old new r certified readies = record {
+    exchanges = readies.exchanges;
+    passed = readies.passed;
+    may = may_store name readies.exchanges certified readies.may;
+    made =
+        IfOk-weaker r
+        (λ (report : Report). Says (λ answer printed.
+        StoresBytes name (proof_text logs) readies.exchanges
+        × (answer ≡ done) × (printed ≡ accepted_in style count)) report
+        × All (λ (e : Exchange). IsFailed e → ⊥) readies.exchanges)
+        (λ (report : Report). Says (Decides style name budget design readies.exchanges) report
+        × All (λ (e : Exchange). IsFailed e → ⊥) readies.exchanges)
+        (λ report is. (
+          (
+            is.0.0,
+            is.0.1,
+            accepts (stores name readies.exchanges certified is.0.2.0)
+                (accepted_told design style budget count accepted is.0.0 report.text.items is.0.2.1 is.0.2.2),
+          ),
+          is.1,
+        )) readies.made;
+    unfailed = readies.unfailed;
+    fault = readies.fault;
+  }
+
+-- what is told where the logs are stored
+pub stored_told : (style : Style) (count : ℕ) (bytes : List ℕ) (name : Option (List ℕ))
+    (tells : Bool) {U : Type 0} (old new : Files) (unit : U) (report : Report)
+    → (let r : Result U NoReport = Ok unit in
+    Readies (MayStoreBytes name bytes) (λ exchanges _. StoresBytes name bytes exchanges) tells old
+    new r)
+    → answer_of report.outcome ≡ Some done → report.text.items ≡ accepted_in style count
+    → (let r : Result Report NoReport = Ok report in
+    Readies (MayStoreBytes name bytes)
+    (λ exchanges. Says (λ answer printed. StoresBytes name bytes exchanges
+    × (answer ≡ done) × (printed ≡ accepted_in style count))) tells old new r)
+stored_told style count bytes name tells old new unit report readies answered prints = record {
+  exchanges = readies.exchanges;
+  passed = readies.passed;
+  may = readies.may;
+  made = ((done, answered, (readies.made.0, refl, prints)), readies.made.1);
+  unfailed = readies.unfailed;
+  fault = tt;
+}

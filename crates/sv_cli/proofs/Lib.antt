@@ -13,11 +13,19 @@ pub mod Certificates
 pub mod Encodings
 pub mod Secrets
 pub mod Simulating
+pub mod OneFetch
+pub mod Compared
+pub mod ComparedFiles
 pub mod Preparing
+pub mod Sampled
 mod Admissions
 mod OneRule
 mod OneCertificate
+mod OneExchange
+mod OneFinding
+mod Leaks
 mod OneAnswer
 mod Apart
 mod Printed
 mod Complete
+mod Refusals

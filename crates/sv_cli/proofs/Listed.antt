@@ -7,6 +7,7 @@ use Rattle.sv_flat.specs.Design.{FlatDesign}
 use Rattle.sv_flat.specs.Views.{signal_form, design_of}
 use Rattle.sv_obl.specs.Limits.{Excess, excess}
 use Rattle.sv_obl.proofs.TargetFacts.{length_mapped}
+use Rattle.sv_report.specs.declared.styles.Style.{Style}
 use Rattle.sv_cli.specs.declared.report.Report.{Report}
 use Rattle.sv_cli.specs.Limits.{TellsLimit, limit_number, limit_names, ExceedsLimit}
 use Rattle.sv_cli.specs.Prepared.{Says}
@@ -20,12 +21,13 @@ name_below flat exceeded first =
     (told_below (design_of flat) exceeded first)
 
 -- a report of the limit tells that it is exceeded
-pub tells_excess : (design : FlatDesign) (exceeded : Excess) (names : List (List ℕ))
+pub tells_excess : (style : Style) (design : FlatDesign) (exceeded : Excess)
+    (names : List (List ℕ))
     → excess design ≡ Some exceeded → names ≡ limit_names design.signals exceeded
     → (r : Result Report AllocError)
-    → IfOk r (Says (TellsLimit (limit_number exceeded) names))
-    → IfOk r (Says (ExceedsLimit design))
-tells_excess design exceeded names first named (Ok report) (answer, answered, tells) = (
+    → IfOk r (Says (TellsLimit style (limit_number exceeded) names))
+    → IfOk r (Says (ExceedsLimit style design))
+tells_excess style design exceeded names first named (Ok report) (answer, answered, tells) = (
   answer,
   answered,
   record {
@@ -33,7 +35,7 @@ tells_excess design exceeded names first named (Ok report) (answer, answered, te
     first = first;
     tells =
         subst (λ (ns : List (List ℕ)).
-        TellsLimit (limit_number exceeded) ns answer report.text.items) named tells;
+        TellsLimit style (limit_number exceeded) ns answer report.text.items) named tells;
   },
 )
-tells_excess design exceeded names first named (Err e) told = tt
+tells_excess style design exceeded names first named (Err e) told = tt

@@ -13,7 +13,7 @@ use Rattle.sv_clause.specs.Logs.{Step as LogStep}
 use Rattle.sv_flat.specs.Design.{FlatDesign}
 use Rattle.sv_gates.specs.Formulas.{most_variables}
 use Rattle.sv_obl.specs.Obligations.{Obligation, obligations}
-use Rattle.sv_encoding.specs.Deciding.{Fits, IsTooLarge, IsRefutedBy, IsProved}
+use Rattle.sv_encoding.specs.Deciding.{Fits, IsTooLarge, IsRefutedBy}
 use Rattle.sv_encoding.specs.Encoding.{encoding}
 use Rattle.sv_proof.specs.Certificate.{text_of}
 use Rattle.sv_proof.specs.Checking.{IsFirstUnderived, HasFault}
@@ -26,8 +26,10 @@ use Rattle.sv_proof.proofs.Splitting.{same_split}
 use Rattle.sv_judge.specs.Certified.{IsShown, AreCertified, IsVerified, HasWrongCount}
 use Rattle.sv_judge.specs.Certified.{EarlierAreShown, FailsFirst, IsFaultLine, text, count, log}
 use Rattle.sv_judge.specs.Certified.{IsTooLargeToVerify}
-use Rattle.sv_judge.specs.Verdicts.{IsAccepted}
-use Rattle.sv_report.specs.Text.{limit_text, fault_text}
+use Rattle.sv_report.specs.Styles.{limit_in}
+use Rattle.sv_report.specs.Text.{fault_text}
+use Rattle.sv_report.specs.declared.styles.Style.{Style}
+use Rattle.sv_report.specs.declared.styles.Style.TheVariants.{Lines}
 use Rattle.sv_cli.specs.Answer.{Answer, done, limit_exceeded, wrong_proof}
 use Rattle.sv_cli.specs.Checks.{IsCertificate}
 use Rattle.sv_cli.specs.Limits.{TellsLimit}
@@ -178,16 +180,18 @@ module _ {A B : Type 0} (R : A → B → Type 0) where
 abbrev pub IsSame : (answer other : Answer) (printed others : List ℕ) → Type 0
 IsSame answer other printed others = (other ≡ answer) × (others ≡ printed)
 
-told : (n m : ℕ) (ns ms : List (List ℕ)) → n ≡ m → ns ≡ ms
-    → (limit_exceeded m ms ≡ limit_exceeded n ns) × (limit_text m ms ≡ limit_text n ns)
-told n m ns ms numbers names = (cc, cc)
+module _ (style : Style) where
+  told : (n m : ℕ) (ns ms : List (List ℕ)) → n ≡ m → ns ≡ ms
+      → (limit_exceeded m ms ≡ limit_exceeded n ns) × (limit_in style m ms ≡ limit_in style n ns)
+  told n m ns ms numbers names =
+      (cc, ap (λ k. limit_in style k ms) (sym numbers) ∙ ap (limit_in style n) (sym names))
 
-pub one_limit : (n m : ℕ) (ns ms : List (List ℕ)) (answer other : Answer)
-    (printed others : List ℕ) → n ≡ m → ns ≡ ms → TellsLimit n ns answer printed
-    → TellsLimit m ms other others → IsSame answer other printed others
-one_limit n m ns ms answer other printed others numbers names a b =
-    let same = told n m ns ms numbers names in
-    (b.answers ∙ same.0 ∙ sym a.answers, b.prints ∙ same.1 ∙ sym a.prints)
+  pub one_limit : (n m : ℕ) (ns ms : List (List ℕ)) (answer other : Answer)
+      (printed others : List ℕ) → n ≡ m → ns ≡ ms → TellsLimit style n ns answer printed
+      → TellsLimit style m ms other others → IsSame answer other printed others
+  one_limit n m ns ms answer other printed others numbers names a b =
+      let same = told n m ns ms numbers names in
+      (b.answers ∙ same.0 ∙ sym a.answers, b.prints ∙ same.1 ∙ sym a.prints)
 
 fits_or_not : (n m : ℕ) → n ≤ m → m < n → ⊥
 fits_or_not n m fits large = omega arith
@@ -363,25 +367,25 @@ module _ (design : FlatDesign) (bytes : List ℕ) where
   one_judgement answer other printed others (too_large a) (refuses b) =
       absurd (fault_or_large b.line a.number b.faulty a.large)
   one_judgement answer other printed others (too_large a) (too_large b) =
-      one_limit 709 709 (decimal a.number ∷ []) (decimal b.number ∷ []) answer other printed others
-      refl (ap (λ n. decimal n ∷ []) (one_number a.number b.number a.large b.large)) a.tells
+      one_limit Lines 709 709 (decimal a.number ∷ []) (decimal b.number ∷ []) answer other printed
+      others refl (ap (λ n. decimal n ∷ []) (one_number a.number b.number a.large b.large)) a.tells
       b.tells
 
-  -- ---- a certificate of an accepted design
+  -- ---- a certificate that is stored
 
-  shown_all : (os : List Obligation) (logs : List (List LogStep)) → All (IsProved design) os
+  shown_all : (os : List Obligation) (logs : List (List LogStep)) → All (Fits design) os
       → AllZip (IsRefutedBy design) os logs → AllZip (IsShown design) os logs
-  shown_all [] [] proved refute = tt
-  shown_all [] (steps ∷ logs) proved refute = absurd refute
-  shown_all (o ∷ os) [] proved refute = absurd refute
-  shown_all (o ∷ os) (steps ∷ logs) proved refute = (
-    ((All-head (IsProved design) o os proved).0, refute.0),
-    shown_all os logs (All-tail (IsProved design) o os proved) refute.1,
+  shown_all [] [] fit refute = tt
+  shown_all [] (steps ∷ logs) fit refute = absurd refute
+  shown_all (o ∷ os) [] fit refute = absurd refute
+  shown_all (o ∷ os) (steps ∷ logs) fit refute = (
+    (All-head (Fits design) o os fit, refute.0),
+    shown_all os logs (All-tail (Fits design) o os fit) refute.1,
   )
 
-  certificate_verified : (number : ℕ) → IsAccepted design number → IsCertificate design bytes
+  certificate_verified : (budget : ℕ) → IsCertificate design budget bytes
       → IsVerified design bytes
-  certificate_verified number accepted certificate = record {
+  certificate_verified budget certificate = record {
     logs = certificate.logs;
     certified = record {
       are_logs = certificate.are_logs;
@@ -391,14 +395,14 @@ module _ (design : FlatDesign) (bytes : List ℕ) where
           certificate.refute;
     };
     each =
-        shown_all (obligations [] design) certificate.logs accepted.each certificate.refute;
+        shown_all (obligations [] design) certificate.logs certificate.fit certificate.refute;
   }
 
-  pub stored_accepted : (number : ℕ) → IsAccepted design number → IsCertificate design bytes
+  pub stored_accepted : (budget : ℕ) → IsCertificate design budget bytes
       → (answer : Answer) (printed : List ℕ) → Judges design bytes answer printed → answer ≡ done
-  stored_accepted number accepted certificate answer printed judges =
+  stored_accepted budget certificate answer printed judges =
       (one_judgement done answer _ printed (accepts (record {
-        verified = certificate_verified number accepted certificate;
+        verified = certificate_verified budget certificate;
         answers = refl;
         prints = refl;
       })) judges).0

@@ -13,10 +13,11 @@ use Rattle.sv_flat.specs.Admission.{IsRefused}
 use Rattle.sv_walk.specs.Walks.{Step}
 use Rattle.sv_walk.specs.Rules.{step}
 use Rattle.sv_walk.specs.Texts.{flat_of, value_in, BreaksRule}
-use Rattle.sv_report.specs.Text.{refusal_text}
+use Rattle.sv_report.specs.Styles.{refusal_in}
+use Rattle.sv_report.specs.declared.styles.Style.{Style}
 use Rattle.sv_cli.specs.Answer.{Answer, rule_broken}
 use Rattle.sv_cli.specs.Texts.{has_unbuilt_item, HasUnbuiltItem, IsNotBuilt, BreaksElaboration}
-use Rattle.sv_cli.specs.Texts.{StandsFor, BreaksAdmission, BreaksFirst, Passes}
+use Rattle.sv_cli.specs.Texts.{StandsFor, BreaksAdmission, BreaksFirst, RefusesText, Passes}
 use Rattle.sv_cli.specs.Uniqueness.{AreOneAnswer}
 use Rattle.sv_cli.proofs.Admissions.{AreFromOne, admitted_breaks_none, refused_once}
 
@@ -141,32 +142,48 @@ module _ (top : Option (List ℕ)) where
 
     -- ---- two refusals
 
-    told : n ≡ m → p ≡ q → ns ≡ ms → (rule_broken m q ms ≡ rule_broken n p ns)
-        × (refusal_text m q ms ≡ refusal_text n p ns)
-    told numbers places names = (cc, cc)
+    module _ (style : Style) where
+      told : n ≡ m → p ≡ q → ns ≡ ms → (rule_broken m q ms ≡ rule_broken n p ns)
+          × (refusal_in style m q ms ≡ refusal_in style n p ns)
+      told numbers places names = (
+        cc,
+        ap (λ k. refusal_in style k q ms) (sym numbers)
+            ∙ ap (λ s. refusal_in style n s ms) (sym places)
+            ∙ ap (refusal_in style n p) (sym names),
+      )
 
-    pub refused_alike : IsOneRule n m p q ns ms → (answer other : Answer) (printed others : List ℕ)
-        → answer ≡ rule_broken n p ns → printed ≡ refusal_text n p ns
-        → other ≡ rule_broken m q ms → others ≡ refusal_text m q ms
-        → AreOneAnswer answer other printed others
-    refused_alike (numbers, places, inl names) answer other printed others answers prints answers'
-        prints' =
-        let same = told numbers places names in
-        inl (answers' ∙ same.0 ∙ sym answers, prints' ∙ same.1 ∙ sym prints)
-    refused_alike (numbers, places, inr circles) answer other printed others answers prints
-        answers' prints' =
-        inr (record {
-          place = p;
-          first = circles.first;
-          rest = circles.rest;
-          rest_of_other = circles.rest_of_others;
-          one =
-              answers
-              ∙ ap (λ k. rule_broken k p ns) circles.is_circle
-              ∙ ap (rule_broken 607 p) circles.one;
-          two =
-              answers'
-              ∙ ap (λ k. rule_broken k q ms) (sym numbers ∙ circles.is_circle)
-              ∙ ap (λ s. rule_broken 607 s ms) (sym places)
-              ∙ ap (rule_broken 607 p) circles.other;
-        })
+      refused_alike : IsOneRule n m p q ns ms → (answer other : Answer)
+          (printed others : List ℕ)
+          → answer ≡ rule_broken n p ns → printed ≡ refusal_in style n p ns
+          → other ≡ rule_broken m q ms → others ≡ refusal_in style m q ms
+          → AreOneAnswer answer other printed others
+      refused_alike (numbers, places, inl names) answer other printed others answers prints
+          answers' prints' =
+          let same = told numbers places names in
+          inl (answers' ∙ same.0 ∙ sym answers, prints' ∙ same.1 ∙ sym prints)
+      refused_alike (numbers, places, inr circles) answer other printed others answers prints
+          answers' prints' =
+          inr (record {
+            place = p;
+            first = circles.first;
+            rest = circles.rest;
+            rest_of_other = circles.rest_of_others;
+            one =
+                answers
+                ∙ ap (λ k. rule_broken k p ns) circles.is_circle
+                ∙ ap (rule_broken 607 p) circles.one;
+            two =
+                answers'
+                ∙ ap (λ k. rule_broken k q ms) (sym numbers ∙ circles.is_circle)
+                ∙ ap (λ s. rule_broken 607 s ms) (sym places)
+                ∙ ap (rule_broken 607 p) circles.other;
+          })
+
+  -- a text that is refused is refused with one rule
+  pub one_refusal : (style : Style) (text : List ℕ) (answer other : Answer)
+      (printed others : List ℕ) → RefusesText style top text answer printed
+      → RefusesText style top text other others → AreOneAnswer answer other printed others
+  one_refusal style text answer other printed others a b =
+      refused_alike text a.number b.number a.place b.place a.names b.names style
+      (one_first text a.number b.number a.place b.place a.names b.names a.broken b.broken)
+      answer other printed others a.answers a.prints b.answers b.prints

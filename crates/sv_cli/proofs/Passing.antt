@@ -8,7 +8,7 @@ use Rattle.std.specs.Prelude.{unwrap_or}
 use Rattle.std.specs.Global.{Vec}
 use Rattle.std.proofs.lemmas.Result.{IfOk-weaker}
 use Rattle.std.proofs.lemmas.List.Elements.{All-nil, All-cons, All-head, All-tail, All-weaker}
-use Rattle.sv_io.specs.Cabinet.{bytes_under, IfLong, KeepsOrBegins}
+use Rattle.sv_io.specs.Cabinet.{bytes_under, IfAnswered, IfLong, KeepsOrBegins}
 use Rattle.sv_io.specs.Count.{Rose}
 use Rattle.sv_io.specs.Exchange.{Exchange, Fetched, fetched, stored, fetched_of, is_done}
 use Rattle.sv_io.specs.Traffic.{Files, HandsOut, IsTold, IsLeft, IsStoreOf, Passed}
@@ -19,6 +19,7 @@ use Rattle.sv_io.specs.declared.faults.FetchFault.TheVariants as faults
 use Rattle.sv_cli.specs.declared.prepared.NoReport.{NoReport}
 use Rattle.sv_cli.specs.declared.prepared.NoReport.TheVariants.{Unread, Unwritten, OutOfMemory}
 use Rattle.sv_cli.specs.Prepared.{Explains, Readies}
+use Rattle.sv_cli.specs.Runs.{KeepsCounts}
 
 -- ---- one exchange, or none
 
@@ -136,6 +137,31 @@ module _ (tells : Bool) where
           ∙ held_same other;
     }
 
+-- ---- counts of failures
+
+-- nothing failed where nothing is exchanged
+pub counts_same : (files : Files) → KeepsCounts files files
+counts_same files = record { fetches = λ name. refl; stores = λ name. refl }
+
+-- and in neither of two parts, so not in both
+pub counts_after : (old mid new : Files) → KeepsCounts old mid → KeepsCounts mid new
+    → KeepsCounts old new
+counts_after old mid new first second = record {
+  fetches = λ name. second.fetches name ∙ first.fetches name;
+  stores = λ name. second.stores name ∙ first.stores name;
+}
+
+-- a fetch that answers with bytes did not fail
+pub fetch_kept : (old new : Files) (r : Result (Vec ℕ) FetchFault)
+    → IfAnswered r ((name : List ℕ) → new.fetch_faults name ≡ old.fetch_faults name)
+    → ((name : List ℕ) → new.store_faults name ≡ old.store_faults name)
+    → IfAnswered r (KeepsCounts old new)
+fetch_kept old new (Ok bytes) fetches stores = record { fetches = fetches; stores = stores }
+fetch_kept old new (Err Failed) fetches stores = tt
+fetch_kept old new (Err (Long bytes)) fetches stores =
+    record { fetches = fetches; stores = stores }
+fetch_kept old new (Err faults.OutOfMemory) fetches stores = tt
+
 -- a count that rose after it did not fall rose
 risen : (a b c : ℕ) → a ≤ b → Rose b c → Rose a c
 risen a b c low (inl more) = inl (omega arith)
@@ -184,6 +210,7 @@ readied_as May Makes Builds tells old new r build readies = record {
       (λ made. Builds readies.exchanges made
       × All (λ (e : Exchange). IsFailed e → ⊥) readies.exchanges)
       (λ made is. (build readies.exchanges made is.0, is.1)) readies.made;
+  unfailed = readies.unfailed;
   fault = readies.fault;
 }
 
@@ -197,6 +224,7 @@ made_readied May Makes tells files made may makes = record {
   passed = none_passed tells files;
   may = may;
   made = (makes, All-nil (λ (e : Exchange). IsFailed e → ⊥));
+  unfailed = counts_same files;
   fault = tt;
 }
 
@@ -214,6 +242,7 @@ module _ {T : Type 0} (May : List Exchange → Type 0) (Makes : List Exchange �
     passed = passed;
     may = may;
     made = tt;
+    unfailed = tt;
     fault = subst (Explains old new exchanges) (sym is) explains;
   }
 

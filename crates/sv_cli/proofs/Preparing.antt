@@ -1,8 +1,8 @@
 -- What is prepared of a text is what is answered for it.
 use Rattle.std.proofs.Common.{◌≡◌, ℕ, ◌+◌, ◌≤◌, List, [], ◌∷◌, length, Option, Some, None, refl, sym}
-use Rattle.std.proofs.Common.{ap, subst, ◌∙◌, inl, inr}
-use Rattle.std.specs.Prelude.{Bool, IsSome, IfOk, IfErr, IsErrAnd, Result, Ok, Err, All}
-use Rattle.std.specs.Prelude.{MatchOption}
+use Rattle.std.proofs.Common.{ap, subst, ◌∙◌, inl, inr, arith}
+use Rattle.std.specs.Prelude.{Bool, IsSome, IsTrue, IfOk, IfErr, IsErrAnd, Result, Ok, Err, All}
+use Rattle.std.specs.Prelude.{MatchOption, ◌⊎◌}
 use Rattle.std.specs.Prelude.{option_map, string_bytes}
 use Rattle.std.proofs.lemmas.List.Elements.{All-nil, All-cons}
 use Rattle.sv_flat.specs.Design.{FlatDesign}
@@ -10,7 +10,7 @@ use Rattle.sv_flat.specs.Views.{design_of}
 use Rattle.sv_io.specs.Exchange.{Exchange, Fetched, fetched, whole, too_long, nothing}
 use Rattle.sv_io.specs.Exchange.{fetched_of}
 use Rattle.sv_io.specs.Traffic.{Files, Passed, IsFailed}
-use Rattle.sv_io.specs.Cabinet.{IfLong}
+use Rattle.sv_io.specs.Cabinet.{IfAnswered, IfLong}
 use Rattle.sv_io.specs.Count.{Rose}
 use Rattle.sv_io.specs.declared.faults.FetchFault.{FetchFault}
 use Rattle.sv_io.specs.declared.faults.FetchFault.TheVariants.{Failed, Long}
@@ -20,7 +20,8 @@ use Rattle.sv_obl.specs.Limits.{excess}
 use Rattle.sv_obl.specs.ListLines.{list_text}
 use Rattle.sv_encoding.specs.CnfText.{cnf_text}
 use Rattle.sv_blast.specs.declared.coded.Coded.{Coded}
-use Rattle.sv_words.specs.Words.{Request, check, verify, list, cnf, sim, request_of, usage_of}
+use Rattle.sv_words.specs.Words.{Request, check, verify, list, cnf, sim, compare, gen}
+use Rattle.sv_words.specs.Words.{request_of, usage_of}
 use Rattle.sv_words.specs.declared.command.UsageKind.{UsageKind}
 use Rattle.sv_cli.specs.declared.prepared.NoReport.{NoReport}
 use Rattle.sv_cli.specs.declared.prepared.NoReport.TheVariants.{Unread, OutOfMemory}
@@ -28,25 +29,32 @@ use Rattle.sv_cli.specs.declared.prepared.Prepared.{Prepared}
 use Rattle.sv_cli.specs.declared.prepared.Prepared.TheVariants.{Whole, Lines, Clauses}
 use Rattle.sv_cli.specs.declared.prepared.Prepared.TheVariants.{Simulation}
 use Rattle.sv_cli.specs.declared.report.Report.{Report}
-use Rattle.sv_report.specs.Text.{refusal_text}
+use Rattle.sv_report.specs.Styles.{refusal_in}
+use Rattle.sv_report.specs.declared.styles.Style.TheVariants as styles
 use Rattle.sv_num.specs.declared.faults.Place.{Place}
 use Rattle.sv_cli.specs.Answer.{Answer, answer_of, misused, rule_broken}
 use Rattle.sv_cli.specs.Checks.{Checks}
-use Rattle.sv_cli.specs.Command.{file_in, top_in}
-use Rattle.sv_cli.specs.Dialogues.{IsDialogue, IsAnswer, own_part, MayExchange, IsExchanged}
+use Rattle.sv_cli.specs.Command.{file_in, top_in, style_in}
+use Rattle.sv_cli.specs.Comparing.{ComparesDesign, MayFetchStimuli}
+use Rattle.sv_cli.specs.Dialogues.{IsDialogue, IsAnswer, own_part, AfterText, Alone, OwnExchange}
+use Rattle.sv_cli.specs.Dialogues.{MayExchange, MayExchangeWith, IsExchanged}
 use Rattle.sv_cli.specs.Dialogues as dialogues
+use Rattle.sv_cli.specs.Generates.{Generates}
 use Rattle.sv_cli.specs.Limits.{TellsLimit, ExceedsLimit}
 use Rattle.sv_cli.specs.Lists as lists
 use Rattle.sv_cli.specs.Prepared.{IsPerformed, IsOtherOrWith, Prepares, MaySimulateDesign, EndsAs}
 use Rattle.sv_cli.specs.Prepared.{PreparesFor, PreparesWords, Explains, Readies, ReadiesFor}
 use Rattle.sv_cli.specs.Prepared.{ReadiesWords, Reports, Says, MayOwn, MayStoreOwn, MayFetchOwn}
 use Rattle.sv_cli.specs.Prepared.{IsSimulationOf, ListsDesign}
-use Rattle.sv_cli.specs.Prepared.{HoldsClauses, EncodesDesign, PreparesOwn, TellsRule}
-use Rattle.sv_cli.specs.Prepared.{PreparesText, MayExchangeFor}
+use Rattle.sv_cli.specs.Prepared.{HoldsClauses, EncodesDesign, PreparesOwn, PreparesText}
+use Rattle.sv_cli.specs.Prepared.{MayExchangeOf}
+use Rattle.sv_cli.specs.Runs.{KeepsCounts}
 use Rattle.sv_cli.specs.Text.{usage_text}
-use Rattle.sv_cli.specs.Texts.{largest_file, BreaksFirst, Passes}
+use Rattle.sv_cli.specs.Texts.{largest_file, BreaksFirst, RefusesText, Passes}
 use Rattle.sv_cli.specs.Verifies.{Verifies}
+use Rattle.sv_cli.proofs.Compared.{compares_over, level_is}
 use Rattle.sv_cli.proofs.Passing.{passed_after, explained_after, made_readied, fault_readied}
+use Rattle.sv_cli.proofs.Passing.{counts_after}
 use Rattle.sv_cli.proofs.Simulating.{simulates_text}
 
 -- ---- a report of an answer is all that is to be done
@@ -77,81 +85,119 @@ module _ (Is : List ℕ → Answer → List ℕ → Type 0) (May : Option (List 
   reports_prepared (Clauses coded) says = absurd says
   reports_prepared (Simulation design level order) says = absurd says
 
--- ---- a text within the limit that the fetch of FILE handed out
+-- ---- FILE of a request
 
-module _ (request : Request) (text : List ℕ) (within : length text ≤ largest_file) where
+pub has_file : (request : Request) (file : List ℕ) → file_in request ≡ Some file
+    → IsSome (file_in request)
+has_file request file is_file = subst IsSome (sym is_file) refl
+
+module _ (request : Request) (file : List ℕ) (is_file : file_in request ≡ Some file) where
+  -- what is said of its text is said of the command
+  after_text : (exchanges : List Exchange) (s : List ℕ) (a : Answer) (p : List ℕ)
+      → AfterText (style_in request) file (top_in request) (own_part request s) exchanges a p
+      → IsDialogue request exchanges s a p
+  after_text exchanges s a p is =
+      subst (λ (f : Option (List ℕ)). MatchOption f ((exchanges ≡ []) × Alone request a p)
+      (λ name. AfterText (style_in request) name (top_in request) (own_part request s) exchanges a
+      p)) (sym is_file) is
+
+  may_with : (exchanges : List Exchange) → MayExchangeWith file request exchanges
+      → MayExchange request exchanges
+  may_with exchanges may =
+      subst (λ (f : Option (List ℕ)). MatchOption f (exchanges ≡ [])
+      (λ name. MayExchangeWith name request exchanges)) (sym is_file) may
+
+-- ---- a text within the limit that its fetch handed out
+
+module _ (request : Request) (file : List ℕ) (is_file : file_in request ≡ Some file)
+    (text : List ℕ) (within : length text ≤ largest_file) where
   -- what was exchanged, with the rest
   abbrev With : List Exchange → List Exchange
-  With rest = fetched (file_in request) (whole text) ∷ rest
+  With rest = fetched file (whole text) ∷ rest
 
   goes_on : (passes : Passes (top_in request) text) (rest : List Exchange) (s : List ℕ)
       (a : Answer) (p : List ℕ) → own_part request s text passes rest a p
       → IsDialogue request (With rest) s a p
-  goes_on passes rest s a p own = dialogues.goes_on (record {
-    text = text;
-    within = within;
-    rest = rest;
-    fetches = refl;
-    passes = passes;
-    own = own;
-  })
+  goes_on passes rest s a p own =
+      after_text request file is_file (With rest) s a p (dialogues.goes_on (record {
+        text = text;
+        within = within;
+        rest = rest;
+        fetches = refl;
+        passes = passes;
+        own = own;
+      }))
 
   refuses : (rest : List Exchange) → rest ≡ [] → (s : List ℕ) (a : Answer) (p : List ℕ)
-      → TellsRule (top_in request) text a p → IsDialogue request (With rest) s a p
-  refuses rest none s a p told = dialogues.refused (record {
-    text = text;
-    within = within;
-    fetches = ap With none;
-    number = told.0;
-    place = told.1;
-    names = told.2;
-    broken = told.3;
-    answers = told.4;
-    prints = told.5;
-  })
+      → RefusesText (style_in request) (top_in request) text a p
+      → IsDialogue request (With rest) s a p
+  refuses rest none s a p told =
+      after_text request file is_file (With rest) s a p (dialogues.refused (record {
+        text = text;
+        within = within;
+        fetches = ap With none;
+        refuses = told;
+      }))
 
   refused_prepared : (rest : List Exchange) → rest ≡ [] → (prepared : Prepared)
-      → Reports (TellsRule (top_in request) text) prepared
+      → Reports (RefusesText (style_in request) (top_in request) text) prepared
       → PreparesFor request (With rest) prepared
   refused_prepared rest none prepared reports =
-      reports_prepared (IsDialogue request (With rest)) _ (TellsRule (top_in request) text)
-      (refuses rest none) prepared reports
+      reports_prepared (IsDialogue request (With rest)) _
+      (RefusesText (style_in request) (top_in request) text) (refuses rest none) prepared reports
 
 -- ---- by command
 
-module _ (file : List ℕ) (top : Option (List ℕ)) (text : List ℕ)
+file_same : (f file : List ℕ) → Some f ≡ Some file → f ≡ file
+file_same f file h = cc
+
+module _ (f file : List ℕ) (is_file : Some f ≡ Some file) (top : Option (List ℕ)) (text : List ℕ)
     (within : length text ≤ largest_file) (passes : Passes top text) (rest : List Exchange) where
-  check_prepared : (proof : Option (List ℕ)) (budget : ℕ) (prepared : Prepared)
-      → Reports (Checks proof budget passes.design rest) prepared
-      → PreparesFor (check file proof budget top) (fetched file (whole text) ∷ rest) prepared
-  check_prepared proof budget prepared reports =
+  check_prepared : (proof : Option (List ℕ)) (budget : ℕ) (json : Bool) (prepared : Prepared)
+      → Reports (Checks (style_in (check f proof budget top json)) proof budget passes.design rest)
+      prepared
+      → PreparesFor (check f proof budget top json) (fetched file (whole text) ∷ rest) prepared
+  check_prepared proof budget json prepared reports =
       reports_prepared
-      (IsDialogue (check file proof budget top) (fetched file (whole text) ∷ rest)) _
-      (Checks proof budget passes.design rest)
-      (goes_on (check file proof budget top) text within passes rest) prepared reports
+      (IsDialogue (check f proof budget top json) (fetched file (whole text) ∷ rest)) _
+      (Checks (style_in (check f proof budget top json)) proof budget passes.design rest)
+      (goes_on (check f proof budget top json) file is_file text within passes rest) prepared
+      reports
 
   verify_prepared : (proof : List ℕ) (prepared : Prepared)
       → Reports (Verifies proof passes.design rest) prepared
-      → PreparesFor (verify file proof top) (fetched file (whole text) ∷ rest) prepared
+      → PreparesFor (verify f proof top) (fetched file (whole text) ∷ rest) prepared
   verify_prepared proof prepared reports =
-      reports_prepared (IsDialogue (verify file proof top) (fetched file (whole text) ∷ rest)) _
+      reports_prepared (IsDialogue (verify f proof top) (fetched file (whole text) ∷ rest)) _
       (Verifies proof passes.design rest)
-      (goes_on (verify file proof top) text within passes rest) prepared reports
+      (goes_on (verify f proof top) file is_file text within passes rest) prepared reports
+
+  compare_prepared : (a b level : List ℕ) (prepared : Prepared)
+      → Reports (ComparesDesign a b level passes.design rest) prepared
+      → PreparesFor (compare f a b level top) (fetched file (whole text) ∷ rest) prepared
+  compare_prepared a b level prepared reports =
+      reports_prepared (IsDialogue (compare f a b level top) (fetched file (whole text) ∷ rest)) _
+      (ComparesDesign a b level passes.design rest)
+      (λ s answer p compares.
+      goes_on (compare f a b level top) file is_file text within passes rest s answer p
+      (compares_over top text passes a b level rest answer p compares))
+      prepared reports
 
   module _ (none : rest ≡ []) where
     list_prepared : (prepared : Prepared) → ListsDesign passes.design prepared
-        → PreparesFor (list file top) (fetched file (whole text) ∷ rest) prepared
+        → PreparesFor (list f top) (fetched file (whole text) ∷ rest) prepared
     list_prepared (Whole report) says =
-        said_prepared (IsDialogue (list file top) (fetched file (whole text) ∷ rest)) _
-        (ExceedsLimit passes.design)
+        said_prepared (IsDialogue (list f top) (fetched file (whole text) ∷ rest)) _
+        (ExceedsLimit styles.Lines passes.design)
         (λ s a p exceeds.
-        goes_on (list file top) text within passes rest s a p (none, lists.exceeds exceeds))
+        goes_on (list f top) file is_file text within passes rest s a p
+        (none, lists.exceeds exceeds))
         report says
     list_prepared (Lines listed) is = record {
       ready = ap excess is.0 ∙ is.1;
       simulates = tt;
       stands = λ s a p performed.
-          goes_on (list file top) text within passes rest s a p (
+          goes_on (list f top) file is_file text within passes rest s a p (
             none,
             lists.listed (record {
               few = is.1;
@@ -164,12 +210,12 @@ module _ (file : List ℕ) (top : Option (List ℕ)) (text : List ℕ)
     list_prepared (Simulation design level order) is = absurd is
 
     clauses_prepared : (asked : ℕ) (coded : Coded) → HoldsClauses passes.design asked coded
-        → PreparesFor (cnf file asked top) (fetched file (whole text) ∷ rest) (Clauses coded)
+        → PreparesFor (cnf f asked top) (fetched file (whole text) ∷ rest) (Clauses coded)
     clauses_prepared asked coded held = record {
       ready = tt;
       simulates = tt;
       stands = λ s a p performed.
-          goes_on (cnf file asked top) text within passes rest s a p (
+          goes_on (cnf f asked top) file is_file text within passes rest s a p (
             none,
             lists.encoded (record {
               few = held.few;
@@ -184,12 +230,13 @@ module _ (file : List ℕ) (top : Option (List ℕ)) (text : List ℕ)
 
     cnf_prepared : (asked : ℕ) (prepared : Prepared)
         → EncodesDesign passes.design asked prepared
-        → PreparesFor (cnf file asked top) (fetched file (whole text) ∷ rest) prepared
+        → PreparesFor (cnf f asked top) (fetched file (whole text) ∷ rest) prepared
     cnf_prepared asked (Whole report) says =
-        said_prepared (IsDialogue (cnf file asked top) (fetched file (whole text) ∷ rest)) _
+        said_prepared (IsDialogue (cnf f asked top) (fetched file (whole text) ∷ rest)) _
         (lists.Encodes asked passes.design)
         (λ s a p encodes.
-        goes_on (cnf file asked top) text within passes rest s a p (none, encodes)) report says
+        goes_on (cnf f asked top) file is_file text within passes rest s a p (none, encodes))
+        report says
     cnf_prepared asked (Lines listed) is = absurd is
     cnf_prepared asked (Clauses coded) held = clauses_prepared asked coded held
     cnf_prepared asked (Simulation design level order) is = absurd is
@@ -197,18 +244,21 @@ module _ (file : List ℕ) (top : Option (List ℕ)) (text : List ℕ)
     module _ (level : Option (List ℕ)) (order : Option ℕ) where
       -- so the design may be simulated
       may_simulate : (words : List (List ℕ)) → usage_of words ≡ None
-          → request_of words ≡ Some (sim file level order top)
+          → request_of words ≡ Some (sim f level order top)
           → MaySimulateDesign words (fetched file (whole text) ∷ rest) level passes.design
       may_simulate words is_command asked = (
         record {
-          file = file;
+          file = f;
           order = order;
           top = top;
           is_command = is_command;
           asked = asked;
           text = text;
           within = within;
-          fetches = ap (λ (es : List Exchange). fetched file (whole text) ∷ es) none;
+          fetches =
+              ap (λ (es : List Exchange). fetched file (whole text) ∷ es) none
+              ∙ ap (λ (name : List ℕ). fetched name (whole text) ∷ [])
+              (sym (file_same f file is_file));
           passes = passes;
         },
         refl,
@@ -216,13 +266,13 @@ module _ (file : List ℕ) (top : Option (List ℕ)) (text : List ℕ)
 
       simulates : (s : List ℕ) (a : Answer) (p : List ℕ)
           → EndsAs passes.design level order s a p
-          → IsDialogue (sim file level order top) (fetched file (whole text) ∷ rest) s a p
+          → IsDialogue (sim f level order top) (fetched file (whole text) ∷ rest) s a p
       simulates s a p ends =
-          goes_on (sim file level order top) text within passes rest s a p
+          goes_on (sim f level order top) file is_file text within passes rest s a p
           (none, simulates_text top text passes level order s a p ends)
 
       sim_prepared : (prepared : Prepared) → IsSimulationOf passes.design level order prepared
-          → PreparesFor (sim file level order top) (fetched file (whole text) ∷ rest) prepared
+          → PreparesFor (sim f level order top) (fetched file (whole text) ∷ rest) prepared
       sim_prepared (Whole report) is = absurd is
       sim_prepared (Lines listed) is = absurd is
       sim_prepared (Clauses coded) is = absurd is
@@ -242,44 +292,78 @@ module _ (file : List ℕ) (top : Option (List ℕ)) (text : List ℕ)
             EndsAs (design_of design) (option_map string_bytes asked) o s a p) is.2 ends)));
       }
 
-module _ (text : List ℕ) (within : length text ≤ largest_file) (rest : List Exchange)
-    (prepared : Prepared) where
-  own_prepared : (request : Request) (passes : Passes (top_in request) text)
+module _ (file : List ℕ) (text : List ℕ) (within : length text ≤ largest_file)
+    (rest : List Exchange) (prepared : Prepared) where
+  own_prepared : (request : Request) → file_in request ≡ Some file
+      → (passes : Passes (top_in request) text)
       → PreparesOwn request passes.design rest prepared
-      → PreparesFor request (fetched (file_in request) (whole text) ∷ rest) prepared
-  own_prepared (check file proof budget top) passes own =
-      check_prepared file top text within passes rest proof budget prepared own
-  own_prepared (verify file proof top) passes own =
-      verify_prepared file top text within passes rest proof prepared own
-  own_prepared (list file top) passes own =
-      list_prepared file top text within passes rest own.0 prepared own.1
-  own_prepared (cnf file number top) passes own =
-      cnf_prepared file top text within passes rest own.0 number prepared own.1
-  own_prepared (sim file level order top) passes own =
-      sim_prepared file top text within passes rest own.0 level order prepared own.1
+      → PreparesFor request (fetched file (whole text) ∷ rest) prepared
+  own_prepared (check f proof budget top json) is_file passes own =
+      check_prepared f file is_file top text within passes rest proof budget json prepared own
+  own_prepared (verify f proof top) is_file passes own =
+      verify_prepared f file is_file top text within passes rest proof prepared own
+  own_prepared (list f top) is_file passes own =
+      list_prepared f file is_file top text within passes rest own.0 prepared own.1
+  own_prepared (cnf f number top) is_file passes own =
+      cnf_prepared f file is_file top text within passes rest own.0 number prepared own.1
+  own_prepared (sim f level order top) is_file passes own =
+      sim_prepared f file is_file top text within passes rest own.0 level order prepared own.1
+  own_prepared (compare f a b level top) is_file passes own =
+      compare_prepared f file is_file top text within passes rest a b level prepared own
+  own_prepared (gen lanes checks) is_file passes own = absurd own
 
-  text_prepared : (request : Request) → PreparesText request text rest prepared
-      → PreparesFor request (fetched (file_in request) (whole text) ∷ rest) prepared
-  text_prepared request (inl told) =
-      refused_prepared request text within rest told.0 prepared told.1
-  text_prepared request (inr own) = own_prepared request own.0 own.1
+  text_prepared : (request : Request) → file_in request ≡ Some file
+      → PreparesText request text rest prepared
+      → PreparesFor request (fetched file (whole text) ∷ rest) prepared
+  text_prepared request is_file (inl told) =
+      refused_prepared request file is_file text within rest told.0 prepared told.1
+  text_prepared request is_file (inr own) = own_prepared request is_file own.0 own.1
 
--- what may be exchanged for the text may be for the request
-text_exchanged : (request : Request) (text : List ℕ) → length text ≤ largest_file
-    → (rest : List Exchange) → MayExchangeFor request text rest
-    → MayExchange request (fetched (file_in request) (whole text) ∷ rest)
-text_exchanged request text within rest (inl none) =
-    dialogues.text (whole text)
-    (ap (λ (es : List Exchange). fetched (file_in request) (whole text) ∷ es) none)
-text_exchanged request text within rest (inr own) = dialogues.further (record {
-  text = text;
-  within = within;
-  rest = rest;
-  fetches = refl;
-  passes = own.0;
-  few = own.1;
-  own = own.2;
-})
+-- ---- what may be exchanged
+
+module _ (text : List ℕ) (rest : List Exchange) where
+  -- of its own a command exchanges nothing, or what it may for the text
+  own_exchanged : (request : Request) (passes : Passes (top_in request) text)
+      → MayOwn request passes.design rest → (rest ≡ []) ⊎ OwnExchange request text passes rest
+  own_exchanged (check f proof budget top json) passes own = own
+  own_exchanged (verify f proof top) passes own = own
+  own_exchanged (list f top) passes own = inl own
+  own_exchanged (cnf f number top) passes own = inl own
+  own_exchanged (sim f level order top) passes own = inl own
+  own_exchanged (compare f a b level top) passes (inl none) = inl none
+  own_exchanged (compare f a b level top) passes (inr own) =
+      inr (subst IsTrue (level_is top text passes level) own.0, own.1)
+  own_exchanged (gen lanes checks) passes own = inl own
+
+  module _ (request : Request) (file : List ℕ) (is_file : file_in request ≡ Some file)
+      (within : length text ≤ largest_file) where
+    none_exchanged : rest ≡ [] → MayExchange request (fetched file (whole text) ∷ rest)
+    none_exchanged none =
+        may_with request file is_file (fetched file (whole text) ∷ rest)
+        (dialogues.text (whole text)
+        (ap (λ (es : List Exchange). fetched file (whole text) ∷ es) none))
+
+    further_exchanged : (passes : Passes (top_in request) text)
+        → (rest ≡ []) ⊎ OwnExchange request text passes rest
+        → MayExchange request (fetched file (whole text) ∷ rest)
+    further_exchanged passes (inl none) = none_exchanged none
+    further_exchanged passes (inr own) =
+        may_with request file is_file (fetched file (whole text) ∷ rest)
+        (dialogues.further (record {
+          text = text;
+          within = within;
+          rest = rest;
+          fetches = refl;
+          passes = passes;
+          own = own;
+        }))
+
+    -- what may be exchanged for the text may be for the request
+    text_exchanged : MayExchangeOf request text rest
+        → MayExchange request (fetched file (whole text) ∷ rest)
+    text_exchanged (inl none) = none_exchanged none
+    text_exchanged (inr own) =
+        further_exchanged own.0 (own_exchanged request own.0 own.1)
 
 -- ---- what is made ready
 
@@ -307,6 +391,7 @@ module _ {T : Type 0} (May : List Exchange → Type 0) (Makes : List Exchange �
       passed = is.passed;
       may = may_too is.exchanges is.may;
       made = made_too r is.exchanges is.made;
+      unfailed = is.unfailed;
       fault = is.fault;
     }
 
@@ -314,33 +399,27 @@ module _ {T : Type 0} (May : List Exchange → Type 0) (Makes : List Exchange �
 
 module _ (tells : Bool) (old new : Files) (design : FlatDesign) (file : List ℕ)
     (top : Option (List ℕ)) (r : Result Prepared NoReport) where
-  pub check_readied : (proof : Option (List ℕ)) (budget : ℕ)
-      → Readies (MayStoreOwn proof design)
-      (λ exchanges. Reports (Checks proof budget design exchanges)) tells old new r
-      → Readies (MayOwn (check file proof budget top) design)
-      (PreparesOwn (check file proof budget top) design) tells old new r
-  check_readied proof budget is =
-      readies_too (MayStoreOwn proof design)
-      (λ exchanges. Reports (Checks proof budget design exchanges)) tells
-      (MayOwn (check file proof budget top) design)
-      (PreparesOwn (check file proof budget top) design) (λ exchanges may. may)
-      (λ exchanges prepared made. made) old new r is
-
-  may_fetch : (proof : List ℕ) (exchanges : List Exchange) → MayFetchOwn proof design exchanges
-      → MayOwn (verify file proof top) design exchanges
-  may_fetch proof exchanges (inl none) = inl none
-  may_fetch proof exchanges (inr own) = inr (own.0, (own.1, own.2))
+  pub check_readied : (proof : Option (List ℕ)) (budget : ℕ) (json : Bool)
+      → Readies (MayStoreOwn proof design budget) (λ exchanges. Reports
+      (Checks (style_in (check file proof budget top json)) proof budget design exchanges)) tells
+      old new r
+      → Readies (MayOwn (check file proof budget top json) design)
+      (PreparesOwn (check file proof budget top json) design) tells old new r
+  check_readied proof budget json is = is
 
   pub verify_readied : (proof : List ℕ)
       → Readies (MayFetchOwn proof design)
       (λ exchanges. Reports (Verifies proof design exchanges)) tells old new r
       → Readies (MayOwn (verify file proof top) design)
       (PreparesOwn (verify file proof top) design) tells old new r
-  verify_readied proof is =
-      readies_too (MayFetchOwn proof design)
-      (λ exchanges. Reports (Verifies proof design exchanges)) tells
-      (MayOwn (verify file proof top) design) (PreparesOwn (verify file proof top) design)
-      (may_fetch proof) (λ exchanges prepared made. made) old new r is
+  verify_readied proof is = is
+
+  pub compare_readied : (a b level : List ℕ)
+      → Readies (MayFetchStimuli a b level design)
+      (λ exchanges. Reports (ComparesDesign a b level design exchanges)) tells old new r
+      → Readies (MayOwn (compare file a b level top) design)
+      (PreparesOwn (compare file a b level top) design) tells old new r
+  compare_readied a b level is = is
 
 module _ (tells : Bool) (files : Files) (design : FlatDesign) (file : List ℕ)
     (top : Option (List ℕ)) (prepared : Prepared) where
@@ -350,7 +429,7 @@ module _ (tells : Bool) (files : Files) (design : FlatDesign) (file : List ℕ)
       r)
   list_readied is =
       made_readied (MayOwn (list file top) design) (PreparesOwn (list file top) design) tells files
-      prepared (inl refl) (refl, is)
+      prepared refl (refl, is)
 
   pub cnf_readied : (number : ℕ) → EncodesDesign design number prepared
       → (let r : Result Prepared NoReport = Ok prepared in
@@ -358,7 +437,7 @@ module _ (tells : Bool) (files : Files) (design : FlatDesign) (file : List ℕ)
       files files r)
   cnf_readied number is =
       made_readied (MayOwn (cnf file number top) design) (PreparesOwn (cnf file number top) design)
-      tells files prepared (inl refl) (refl, is)
+      tells files prepared refl (refl, is)
 
   pub sim_readied : (level : Option (List ℕ)) (order : Option ℕ)
       → IsSimulationOf design level order prepared
@@ -367,172 +446,221 @@ module _ (tells : Bool) (files : Files) (design : FlatDesign) (file : List ℕ)
       (PreparesOwn (sim file level order top) design) tells files files r)
   sim_readied level order is =
       made_readied (MayOwn (sim file level order top) design)
-      (PreparesOwn (sim file level order top) design) tells files prepared (inl refl) (refl, is)
+      (PreparesOwn (sim file level order top) design) tells files prepared refl (refl, is)
+
+-- nothing of its own is exchanged
+pub none_own : (request : Request) (design : FlatDesign) → MayOwn request design []
+none_own (check file proof budget top json) design = inl refl
+none_own (verify file proof top) design = inl refl
+none_own (list file top) design = refl
+none_own (cnf file number top) design = refl
+none_own (sim file level order top) design = refl
+none_own (compare file a b level top) design = inl refl
+none_own (gen lanes checks) design = refl
 
 -- ---- of a text
 
 module _ (request : Request) (text : List ℕ) (tells : Bool) where
   -- its design
-  may_text : (passes : Passes (top_in request) text) (exchanges : List Exchange)
-      → MayOwn request passes.design exchanges → MayExchangeFor request text exchanges
-  may_text passes exchanges (inl none) = inl none
-  may_text passes exchanges (inr own) = inr (passes, own.0, own.1)
-
   pub design_readied : (passes : Passes (top_in request) text) (old new : Files)
       (r : Result Prepared NoReport)
       → Readies (MayOwn request passes.design) (PreparesOwn request passes.design) tells old new r
-      → Readies (MayExchangeFor request text) (PreparesText request text) tells old new r
+      → Readies (MayExchangeOf request text) (PreparesText request text) tells old new r
   design_readied passes old new r is =
       readies_too (MayOwn request passes.design) (PreparesOwn request passes.design) tells
-      (MayExchangeFor request text) (PreparesText request text) (may_text passes)
-      (λ exchanges prepared own. inr (passes, own)) old new r is
+      (MayExchangeOf request text) (PreparesText request text)
+      (λ exchanges own. inr (passes, own)) (λ exchanges prepared own. inr (passes, own)) old new r
+      is
 
   -- the first rule that it breaks
   pub refusal_readied : (files : Files) (report : Report) (n : ℕ) (place : Place)
       (names : List (List ℕ)) → BreaksFirst (top_in request) text n place names
       → answer_of report.outcome ≡ Some (rule_broken n place names)
-      → report.text.items ≡ refusal_text n place names
+      → report.text.items ≡ refusal_in (style_in request) n place names
       → (let r : Result Prepared NoReport = Ok (Whole report) in
-      Readies (MayExchangeFor request text) (PreparesText request text) tells files files r)
+      Readies (MayExchangeOf request text) (PreparesText request text) tells files files r)
   refusal_readied files report n place names broken gives prints =
-      made_readied (MayExchangeFor request text) (PreparesText request text) tells files
+      made_readied (MayExchangeOf request text) (PreparesText request text) tells files
       (Whole report) (inl refl)
-      (inl (refl, (rule_broken n place names, gives, (n, place, names, broken, refl, prints))))
+      (inl (
+        refl,
+        (
+          rule_broken n place names,
+          gives,
+          record {
+            number = n;
+            place = place;
+            names = names;
+            broken = broken;
+            answers = refl;
+            prints = prints;
+          },
+        ),
+      ))
 
 -- a text within the limit was fetched, and the rest is ready
-module _ (request : Request) (tells : Bool) (old mid new : Files) (text : List ℕ)
-    (within : length text ≤ largest_file)
-    (first : Passed tells old mid (fetched (file_in request) (whole text) ∷ []))
-    (fetches : (name : List ℕ) → old.fetch_faults name ≤ mid.fetch_faults name)
-    (stores : (name : List ℕ) → old.store_faults name ≤ mid.store_faults name) where
-  made_after : (r : Result Prepared NoReport) (rest : List Exchange)
-      → IfOk r (λ made. PreparesText request text rest made × NoneFailed rest)
-      → IfOk r (λ made. PreparesFor request (fetched (file_in request) (whole text) ∷ rest) made
-      × NoneFailed (fetched (file_in request) (whole text) ∷ rest))
-  made_after (Ok prepared) rest is = (
-    text_prepared text within rest prepared request is.0,
-    All-cons (λ (e : Exchange). IsFailed e → ⊥) (fetched (file_in request) (whole text)) rest
-        (λ fails. fails) is.1,
-  )
-  made_after (Err fault) rest is = tt
+module _ (request : Request) (file : List ℕ) (is_file : file_in request ≡ Some file) (tells : Bool)
+    (old mid new : Files) (text : List ℕ) (within : length text ≤ largest_file)
+    (first : Passed tells old mid (fetched file (whole text) ∷ [])) (kept : KeepsCounts old mid)
+  where
+    made_after : (r : Result Prepared NoReport) (rest : List Exchange)
+        → IfOk r (λ made. PreparesText request text rest made × NoneFailed rest)
+        → IfOk r (λ made. PreparesFor request (fetched file (whole text) ∷ rest) made
+        × NoneFailed (fetched file (whole text) ∷ rest))
+    made_after (Ok prepared) rest is = (
+      text_prepared file text within rest prepared request is_file is.0,
+      All-cons (λ (e : Exchange). IsFailed e → ⊥) (fetched file (whole text)) rest (λ fails. fails)
+          is.1,
+    )
+    made_after (Err fault) rest is = tt
 
-  fault_after : (r : Result Prepared NoReport) (rest : List Exchange)
-      → IfErr r (Explains mid new rest)
-      → IfErr r (Explains old new (fetched (file_in request) (whole text) ∷ rest))
-  fault_after (Ok prepared) rest fails = tt
-  fault_after (Err fault) rest fails =
-      explained_after old mid new (fetched (file_in request) (whole text)) rest fetches stores fault
-      fails
+    kept_after : (r : Result Prepared NoReport) → IfOk r (λ _. KeepsCounts mid new)
+        → IfOk r (λ _. KeepsCounts old new)
+    kept_after (Ok prepared) is = counts_after old mid new kept is
+    kept_after (Err fault) is = tt
 
-  pub text_readied : (r : Result Prepared NoReport)
-      → Readies (MayExchangeFor request text) (PreparesText request text) tells mid new r
-      → ReadiesFor request tells old new r
-  text_readied r is = record {
-    exchanges = fetched (file_in request) (whole text) ∷ is.exchanges;
-    passed =
-        passed_after tells old mid new (file_in request) (whole text) is.exchanges first
-        is.passed;
-    may = text_exchanged request text within is.exchanges is.may;
-    made = made_after r is.exchanges is.made;
-    fault = fault_after r is.exchanges is.fault;
-  }
+    fault_after : (r : Result Prepared NoReport) (rest : List Exchange)
+        → IfErr r (Explains mid new rest)
+        → IfErr r (Explains old new (fetched file (whole text) ∷ rest))
+    fault_after (Ok prepared) rest fails = tt
+    fault_after (Err fault) rest fails =
+        explained_after old mid new (fetched file (whole text)) rest
+        (λ name. let same = kept.fetches name in omega arith)
+        (λ name. let same = kept.stores name in omega arith) fault fails
+
+    pub text_readied : (r : Result Prepared NoReport)
+        → Readies (MayExchangeOf request text) (PreparesText request text) tells mid new r
+        → ReadiesFor request tells old new r
+    text_readied r is = record {
+      exchanges = fetched file (whole text) ∷ is.exchanges;
+      passed = passed_after tells old mid new file (whole text) is.exchanges first is.passed;
+      may = text_exchanged text is.exchanges request file is_file within is.may;
+      made = made_after r is.exchanges is.made;
+      unfailed = kept_after r is.unfailed;
+      fault = fault_after r is.exchanges is.fault;
+    }
 
 -- nothing follows the fetch
-module _ (request : Request) (tells : Bool) (old new : Files) (got : Fetched)
-    (passed : Passed tells old new (fetched (file_in request) got ∷ [])) where
+module _ (request : Request) (file : List ℕ) (is_file : file_in request ≡ Some file) (tells : Bool)
+    (old new : Files) (got : Fetched) (passed : Passed tells old new (fetched file got ∷ [])) where
   pub fetch_unreadied : (fault : NoReport) (r : Result Prepared NoReport)
-      → Explains old new (fetched (file_in request) got ∷ []) fault
+      → Explains old new (fetched file got ∷ []) fault
       → IsErrAnd r (λ (f : NoReport). f ≡ fault) → ReadiesFor request tells old new r
   fetch_unreadied fault r explains is =
       fault_readied (MayExchange request) (PreparesFor request) tells old new
-      (fetched (file_in request) got ∷ []) fault r passed (dialogues.text got refl) explains is
+      (fetched file got ∷ []) fault r passed
+      (may_with request file is_file (fetched file got ∷ []) (dialogues.text got refl)) explains is
 
-  fetch_readied : (prepared : Prepared) → (IsFailed (fetched (file_in request) got) → ⊥)
-      → PreparesFor request (fetched (file_in request) got ∷ []) prepared
+  fetch_readied : (prepared : Prepared) → (IsFailed (fetched file got) → ⊥)
+      → KeepsCounts old new → PreparesFor request (fetched file got ∷ []) prepared
       → (let r : Result Prepared NoReport = Ok prepared in ReadiesFor request tells old new r)
-  fetch_readied prepared done made = record {
-    exchanges = fetched (file_in request) got ∷ [];
+  fetch_readied prepared done kept made = record {
+    exchanges = fetched file got ∷ [];
     passed = passed;
-    may = dialogues.text got refl;
+    may = may_with request file is_file (fetched file got ∷ []) (dialogues.text got refl);
     made = (
       made,
-      All-cons (λ (e : Exchange). IsFailed e → ⊥) (fetched (file_in request) got) [] done
+      All-cons (λ (e : Exchange). IsFailed e → ⊥) (fetched file got) [] done
           (All-nil (λ (e : Exchange). IsFailed e → ⊥)),
     );
+    unfailed = kept;
     fault = tt;
   }
 
 -- the fetch handed out more bytes than a text may have
-module _ (request : Request) (tells : Bool) (old new : Files) (text : List ℕ)
-    (passed : Passed tells old new (fetched (file_in request) (too_long text) ∷ []))
-    (long : length text ≡ largest_file + 1) where
-  pub large_readied : (report : Report) → Says (TellsLimit 701 []) report
+module _ (request : Request) (file : List ℕ) (is_file : file_in request ≡ Some file) (tells : Bool)
+    (old new : Files) (text : List ℕ)
+    (passed : Passed tells old new (fetched file (too_long text) ∷ []))
+    (long : length text ≡ largest_file + 1) (kept : KeepsCounts old new) where
+  pub large_readied : (report : Report) → Says (TellsLimit (style_in request) 701 []) report
       → (let r : Result Prepared NoReport = Ok (Whole report) in
       ReadiesFor request tells old new r)
   large_readied report says =
-      fetch_readied request tells old new (too_long text) passed (Whole report) (λ fails. fails)
-      (said_prepared (IsDialogue request (fetched (file_in request) (too_long text) ∷ [])) _
-      (TellsLimit 701 [])
-      (λ s a p tells_limit. dialogues.oversized (record {
+      fetch_readied request file is_file tells old new (too_long text) passed (Whole report)
+      (λ fails. fails) kept
+      (said_prepared (IsDialogue request (fetched file (too_long text) ∷ [])) _
+      (TellsLimit (style_in request) 701 [])
+      (λ s a p tells_limit.
+      after_text request file is_file (fetched file (too_long text) ∷ []) s a p
+      (dialogues.oversized (record {
         text = text;
         long = long;
         fetches = refl;
         tells = tells_limit;
-      }))
+      })))
       report says)
 
 -- the fetch ended in a fault
-module _ (request : Request) (tells : Bool) (old new : Files) (file : List ℕ)
-    (same : file ≡ file_in request) (fault : FetchFault)
+module _ (request : Request) (file : List ℕ) (is_file : file_in request ≡ Some file) (tells : Bool)
+    (old new : Files) (fault : FetchFault)
     (passed : (let r : Result (Vec ℕ) FetchFault = Err fault in
     Passed tells old new (fetched file (fetched_of r) ∷ []))) where
   passed_by : (other : FetchFault) → fault ≡ other
       → (let r : Result (Vec ℕ) FetchFault = Err other in
-      Passed tells old new (fetched (file_in request) (fetched_of r) ∷ []))
+      Passed tells old new (fetched file (fetched_of r) ∷ []))
   passed_by other is =
       subst (λ (f : FetchFault). let r : Result (Vec ℕ) FetchFault = Err f in
-      Passed tells old new (fetched (file_in request) (fetched_of r) ∷ [])) is
-      (subst (λ (name : List ℕ). let r : Result (Vec ℕ) FetchFault = Err fault in
-      Passed tells old new (fetched name (fetched_of r) ∷ [])) same passed)
+      Passed tells old new (fetched file (fetched_of r) ∷ [])) is passed
 
   pub long_readied : (bytes : Vec ℕ) → fault ≡ Long bytes
       → (let r : Result (Vec ℕ) FetchFault = Err fault in
       IfLong r (λ text. length text ≡ largest_file + 1))
-      → (report : Report) → Says (TellsLimit 701 []) report
+      → (let r : Result (Vec ℕ) FetchFault = Err fault in IfAnswered r (KeepsCounts old new))
+      → (report : Report) → Says (TellsLimit (style_in request) 701 []) report
       → (let r : Result Prepared NoReport = Ok (Whole report) in
       ReadiesFor request tells old new r)
-  long_readied bytes is long report says =
-      large_readied request tells old new bytes.items (passed_by (Long bytes) is)
+  long_readied bytes is long kept report says =
+      large_readied request file is_file tells old new bytes.items (passed_by (Long bytes) is)
       (subst (λ (f : FetchFault). let r : Result (Vec ℕ) FetchFault = Err f in
       IfLong r (λ text. length text ≡ largest_file + 1)) is long)
+      (subst (λ (f : FetchFault). let r : Result (Vec ℕ) FetchFault = Err f in
+      IfAnswered r (KeepsCounts old new)) is kept)
       report says
 
   pub long_unreadied : (bytes : Vec ℕ) → fault ≡ Long bytes → (r : Result Prepared NoReport)
       → IsErrAnd r (λ (f : NoReport). f ≡ OutOfMemory) → ReadiesFor request tells old new r
   long_unreadied bytes is r err =
-      fetch_unreadied request tells old new (too_long bytes.items) (passed_by (Long bytes) is)
-      OutOfMemory r tt err
+      fetch_unreadied request file is_file tells old new (too_long bytes.items)
+      (passed_by (Long bytes) is) OutOfMemory r tt err
 
   pub failed_unreadied : fault ≡ Failed
       → Rose (old.fetch_faults file) (new.fetch_faults file)
       → (let r : Result Prepared NoReport = Err Unread in ReadiesFor request tells old new r)
   failed_unreadied is rose =
-      fetch_unreadied request tells old new nothing (passed_by Failed is) Unread (Err Unread)
-      (record {
-        before = [];
-        name = file_in request;
-        last = refl;
-        rose =
-            subst (λ (name : List ℕ). Rose (old.fetch_faults name) (new.fetch_faults name)) same
-            rose;
-      })
-      refl
+      fetch_unreadied request file is_file tells old new nothing (passed_by Failed is) Unread
+      (Err Unread) (record { before = []; name = file; last = refl; rose = rose }) refl
 
   pub spent_unreadied : fault ≡ faults.OutOfMemory
       → (let r : Result Prepared NoReport = Err OutOfMemory in ReadiesFor request tells old new r)
   spent_unreadied is =
-      fetch_unreadied request tells old new nothing (passed_by faults.OutOfMemory is) OutOfMemory
-      (Err OutOfMemory) tt refl
+      fetch_unreadied request file is_file tells old new nothing
+      (passed_by faults.OutOfMemory is) OutOfMemory (Err OutOfMemory) tt refl
+
+-- ---- without a file
+
+module _ (lanes : ℕ) (checks : Bool) (tells : Bool) (old new : Files) where
+  gen_made : (r : Result Prepared NoReport) (exchanges : List Exchange) → exchanges ≡ []
+      → IfOk r (λ made. Reports (Generates lanes checks) made × NoneFailed exchanges)
+      → IfOk r (λ made. PreparesFor (gen lanes checks) exchanges made × NoneFailed exchanges)
+  gen_made (Ok prepared) exchanges none is = (
+    reports_prepared (IsDialogue (gen lanes checks) exchanges) _ (Generates lanes checks)
+        (λ s a p told. (none, told)) prepared is.0,
+    is.1,
+  )
+  gen_made (Err fault) exchanges none is = tt
+
+  pub gen_readied : (r : Result Prepared NoReport)
+      → Readies (λ exchanges. exchanges ≡ []) (λ _. Reports (Generates lanes checks)) tells old new
+      r
+      → ReadiesFor (gen lanes checks) tells old new r
+  gen_readied r is = record {
+    exchanges = is.exchanges;
+    passed = is.passed;
+    may = is.may;
+    made = gen_made r is.exchanges is.may is.made;
+    unfailed = is.unfailed;
+    fault = is.fault;
+  }
 
 -- ---- words
 

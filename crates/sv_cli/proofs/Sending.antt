@@ -55,6 +55,14 @@ pub sent_whatever : (Is : Answer → Type 0) (text old new : List ℕ) (o : Opti
 sent_whatever Is text old new None given all = tt
 sent_whatever Is text old new (Some a) given all = (text, (given, refl), all)
 
+-- a front of it, whatever the stimulus
+pub front_whatever : (Is : Answer → Type 0) (text old new : List ℕ) (a : Answer) → Is a
+    → (o : Option Answer) → IfNone o (WritesFront old text new)
+    → IfNone o ((b : Answer) × (printed : List ℕ) × (Is b × (printed ≡ text))
+    × WritesFront old printed new)
+front_whatever Is text old new a is None front = (a, text, (is, refl), front)
+front_whatever Is text old new a is (Some b) front = tt
+
 -- the answer that is there
 pub some_given : (o : Option Answer) → IsSome o → (a : Answer) × (o ≡ Some a)
 some_given None is = absurd cc
@@ -106,3 +114,14 @@ ended_whatever design level order is_ended given_old given_new old new o ends is
     subst (λ (answer : Option Answer). IfSome answer (λ a. (printed : List ℕ)
     × EndsAs design level order (taken ++ more) a printed × (new ≡ old ++ printed))) (sym is)
     (text.0, (ends, refl, text.1), text.2)
+
+pub stopped_whatever : (design : FlatDesign) (level : Option (List ℕ)) (order : Option ℕ)
+    (is_ended : Bool) (given_old given_new old new : List ℕ)
+    → WhateverFollows is_ended given_old given_new (λ stimulus.
+    WritesFrontFor design level order stimulus old new)
+    → WhateverFollows is_ended given_old given_new (λ stimulus. (a : Answer) × (printed : List ℕ)
+    × EndsAs design level order stimulus a printed × WritesFront old printed new)
+stopped_whatever design level order is_ended given_old given_new old new front goes_on taken more
+    given =
+    let w = front goes_on taken more given in
+    (answer_by w.ends, w.printed, (w.ends, refl, w.is), w.front)

@@ -9,6 +9,7 @@ use Rattle.sv_io.specs.declared.faults.StoreFault.{StoreFault}
 use Rattle.sv_cli.specs.declared.prepared.NoReport.{NoReport}
 use Rattle.sv_cli.specs.declared.prepared.NoReport.TheVariants.{Unwritten, OutOfMemory}
 use Rattle.sv_cli.specs.Prepared.{Readies, MayStoreBytes, StoresBytes}
+use Rattle.sv_cli.specs.Runs.{KeepsCounts}
 
 pub failed_is : {U : Type 0} (f g : StoreFault) → f ≡ g
     → ◌≡◌ {A = Result U StoreFault} (Err f) (Err g)
@@ -24,10 +25,11 @@ module _ {U : Type 0} (name bytes given : List ℕ) (same : given ≡ bytes) (te
     (old new : Files) where
   -- it is stored
   pub stored_readied : (unit : U) → Passed tells old new (stored name given true ∷ [])
+      → KeepsCounts old new
       → (let r : Result U NoReport = Ok unit in
       Readies (MayStoreBytes (Some name) bytes)
       (λ exchanges _. StoresBytes (Some name) bytes exchanges) tells old new r)
-  stored_readied unit passed = record {
+  stored_readied unit passed kept = record {
     exchanges = stored name bytes true ∷ [];
     passed = passed_as name bytes given same tells old new true passed;
     may = inr (true, refl);
@@ -36,6 +38,7 @@ module _ {U : Type 0} (name bytes given : List ℕ) (same : given ≡ bytes) (te
       All-cons (λ (e : Exchange). IsFailed e → ⊥) (stored name bytes true) [] (λ none. none)
           (All-nil (λ (e : Exchange). IsFailed e → ⊥)),
     );
+    unfailed = kept;
     fault = tt;
   }
 
@@ -50,6 +53,7 @@ module _ {U : Type 0} (name bytes given : List ℕ) (same : given ≡ bytes) (te
       passed = passed_as name bytes given same tells old new false passed;
       may = inr (false, refl);
       made = tt;
+      unfailed = tt;
       fault = record { before = []; name = name; bytes = bytes; last = refl; rose = rose };
     }
 
@@ -62,5 +66,6 @@ module _ {U : Type 0} (name bytes given : List ℕ) (same : given ≡ bytes) (te
       passed = passed_as name bytes given same tells old new false passed;
       may = inr (false, refl);
       made = tt;
+      unfailed = tt;
       fault = tt;
     }

@@ -1,11 +1,11 @@
 -- From what is prepared and done to what the program is for its words.
-use Rattle.std.proofs.Common.{◌≡◌, ℕ, ◌+◌, ◌≤◌, List, [], ◌∷◌, ◌++◌, length, Option, Some, None, sym}
-use Rattle.std.proofs.Common.{refl, ◌∙◌, ap, subst, inl, inr, ◌⊎◌}
-use Rattle.std.specs.Prelude.{Bool, IfSome, IfNone, IsSome, All, Any, MatchOption}
+use Rattle.std.proofs.Common.{◌≡◌, ℕ, ◌+◌, ◌≤◌, List, [], ◌++◌, length, Option, Some, None, sym}
+use Rattle.std.proofs.Common.{refl, ap, subst, inl, inr, ◌⊎◌}
+use Rattle.std.specs.Prelude.{◌↔◌, Bool, IsTrue, IfSome, IfNone, IsSome, All, Any, MatchOption}
 use Rattle.std.specs.Prelude.{Result, Ok, Err}
 use Rattle.sv_flat.specs.Design.{FlatDesign}
 use Rattle.sv_io.specs.Count.{Rose}
-use Rattle.sv_io.specs.Exchange.{Exchange, fetched, whole}
+use Rattle.sv_io.specs.Exchange.{Exchange}
 use Rattle.sv_io.specs.Sink.{WritesFront}
 use Rattle.sv_io.specs.Source.{WhateverFollows}
 use Rattle.sv_io.specs.Traffic.{Files, Input, Output, Traffic, IsFailed, FailsToFetch}
@@ -14,18 +14,17 @@ use Rattle.sv_simulate.specs.Simulated.{largest_stimulus, level_asked, WritesAll
 use Rattle.sv_words.specs.Words.{Request, request_of, usage_of}
 use Rattle.sv_words.specs.declared.command.UsageKind.{UsageKind}
 use Rattle.sv_cli.specs.declared.outcome.Outcome.{Outcome}
-use Rattle.sv_cli.specs.declared.outcome.Outcome.TheVariants.{Done, ReadFault, WriteFault}
+use Rattle.sv_cli.specs.declared.outcome.Outcome.TheVariants.{ReadFault, WriteFault}
 use Rattle.sv_cli.specs.declared.prepared.NoReport.{NoReport}
 use Rattle.sv_cli.specs.declared.prepared.Prepared.{Prepared}
 use Rattle.sv_cli.specs.declared.prepared.Prepared.TheVariants.{Whole, Lines, Clauses}
 use Rattle.sv_cli.specs.declared.prepared.Prepared.TheVariants.{Simulation}
-use Rattle.sv_cli.specs.Answer.{Answer, answer_of, done, misused}
-use Rattle.sv_cli.specs.Command.{file_in}
-use Rattle.sv_cli.specs.Dialogues.{IsDialogue}
+use Rattle.sv_cli.specs.Answer.{Answer, answer_of, done, views_differ, misused}
+use Rattle.sv_cli.specs.Dialogues.{IsDialogue, IsTextOf}
 use Rattle.sv_cli.specs.Prepared.{IsPerformed, Performs, IsSimulationWith, IsOtherOrWith}
 use Rattle.sv_cli.specs.Prepared.{MaySimulateDesign, PreparesWords, ReadiesWords}
-use Rattle.sv_cli.specs.Runs.{MayTake, WritesCycles, IsWhole, IsFront, IsUntouched}
-use Rattle.sv_cli.specs.Runs.{Runs}
+use Rattle.sv_cli.specs.Runs.{MayTake, WritesCycles, IsWhole, IsFront, IsUntouched, KeepsCounts}
+use Rattle.sv_cli.specs.Runs.{IsUnfailed, Runs}
 use Rattle.sv_cli.specs.Text.{usage_text}
 use Rattle.sv_cli.proofs.Sending.{few_taken}
 use Rattle.sv_cli.proofs.Simulating.{cycles_told}
@@ -51,6 +50,15 @@ same_untouched given left ended faults old new Other (inl same) =
       faults = ap faults same;
     })
 same_untouched given left ended faults old new Other (inr other) = inr other
+
+-- no fetch, no store, no take and no put failed
+unfailed_told : (old new : Traffic) (o : Option Answer) → KeepsCounts old.files new.files
+    → IfSome o (λ a. (new.input.faults ≡ old.input.faults)
+    × (new.output.faults ≡ old.output.faults))
+    → IfSome o (λ a. IsUnfailed old new)
+unfailed_told old new None files rest = tt
+unfailed_told old new (Some a) files rest =
+    record { files = files; takes = rest.0; puts = rest.1 }
 
 -- ---- what is done with what is prepared
 
@@ -90,6 +98,17 @@ module _ (words : List (List ℕ)) (exchanges : List Exchange) (prepared : Prepa
           made.3,
           (made.1, made.2, found.stands made.0 made.1 made.2 made.4, made.5),
         )
+
+    open_front_told : (o : Option Answer) (ended : Bool) (given_old given_new : List ℕ)
+        → WhateverFollows ended given_old given_new (λ s. IfNone o ((a : Answer) × (p : List ℕ)
+        × IsPerformed prepared s a p × Front p))
+        → IfNone o ((new.accepted ≡ old.accepted)
+        ⊎ WhateverFollows ended given_old given_new (IsFront words exchanges old new))
+    open_front_told (Some b) ended given_old given_new made = tt
+    open_front_told None ended given_old given_new made =
+        inr (λ goes_on taken more given.
+        let m = made goes_on taken more given in
+        (m.0, m.1, found.stands (taken ++ more) m.0 m.1 m.2, m.3))
 
     whole_front_told : (o : Option Answer) (stimulus : List ℕ)
         → IfNone o ((a : Answer) × (p : List ℕ) × IsPerformed prepared stimulus a p × Front p)
@@ -145,8 +164,15 @@ module _ (files_tell input_tells : Bool) (words : List (List ℕ)) (old new : Tr
       (to_the_end : WhateverFollows new.input.ended old.input.given new.input.given
       (λ s. IfSome (answer_of outcome) (λ a. (printed : List ℕ) × IsPerformed prepared s a printed
       × (new.output.accepted ≡ old.output.accepted ++ printed))))
+      (front_to_the_end : WhateverFollows new.input.ended old.input.given new.input.given
+      (λ s. IfNone (answer_of outcome) ((a : Answer) × (printed : List ℕ)
+      × IsPerformed prepared s a printed
+      × WritesFront old.output.accepted printed new.output.accepted)))
+      (unfailed : IfSome (answer_of outcome) (λ a. (new.input.faults ≡ old.input.faults)
+      × (new.output.faults ≡ old.output.faults)))
       (read_fault : outcome ≡ ReadFault → (s : List ℕ)
       × (new.input.given ≡ old.input.given ++ s) × Rose old.input.faults new.input.faults
+      × (IsTrue new.input.ended ↔ IsTrue old.input.ended)
       × IsSimulationWith (λ level design. WritesAllCycles design level s old.output.accepted
       new.output.accepted) prepared)
       (write_fault : outcome ≡ WriteFault → Rose old.output.faults new.output.faults)
@@ -171,9 +197,13 @@ module _ (files_tell input_tells : Bool) (words : List (List ℕ)) (old new : Tr
       to_the_end = λ goes_on taken more given.
           whole_told words ready.exchanges prepared found old.output new.output
           (answer_of outcome) (taken ++ more) (to_the_end goes_on taken more given);
+      unfailed = unfailed_told old new (answer_of outcome) ready.unfailed unfailed;
       front =
           front_told words ready.exchanges prepared found old.output new.output
           (answer_of outcome) (λ s. new.input.given ≡ old.input.given ++ s) performed.front;
+      front_to_the_end =
+          open_front_told words ready.exchanges prepared found old.output new.output
+          (answer_of outcome) new.input.ended old.input.given new.input.given front_to_the_end;
       whole_front = λ tells.
           whole_front_told words ready.exchanges prepared found old.output new.output
           (answer_of outcome) old.input.left (performed.whole_front tells);
@@ -184,9 +214,10 @@ module _ (files_tell input_tells : Bool) (words : List (List ℕ)) (old new : Tr
             stimulus = fault.0;
             given = fault.1;
             rose = fault.2;
+            unended = fault.3;
             cycles =
                 cycles_written words ready.exchanges prepared found fault.0 old.output.accepted
-                new.output.accepted fault.3;
+                new.output.accepted fault.4;
           });
       write_fault = λ is. inr (write_fault is);
       input_unchanged =
@@ -197,49 +228,71 @@ module _ (files_tell input_tells : Bool) (words : List (List ℕ)) (old new : Tr
 
 -- ---- the headline
 
+-- words that are no command are answered by nothing else
+pub done_told : (kind : UsageKind) → done ≡ misused kind → ⊥
+done_told kind e = cc
+
+pub views_told : (cycle signal : ℕ) (kind : UsageKind)
+    → views_differ cycle signal ≡ misused kind → ⊥
+views_told cycle signal kind e = cc
+
 module _ (files_tell : Bool) (words : List (List ℕ)) (old new : Files) (prepared : Prepared)
     (ready : (let r : Result Prepared NoReport = Ok prepared in
     ReadiesWords words files_tell old new r))
     (outcome : Outcome) (Took Accepts : List ℕ → Type 0)
     (answered : IfSome (answer_of outcome) (λ a. (s p : List ℕ) × Took s
     × IsPerformed prepared s a p × Accepts p))
-    (is_done : outcome ≡ Done) (request : Request) (asked : request_of words ≡ Some request) where
+    (answer : Answer) (told : (kind : UsageKind) → answer ≡ misused kind → ⊥)
+    (is_answer : answer_of outcome ≡ Some answer) where
   by_words : (u : Option UsageKind) (s p : List ℕ)
       → MatchOption u ((r : Request) × (request_of words ≡ Some r)
-      × IsDialogue r ready.exchanges s done p)
-      (λ kind. (ready.exchanges ≡ []) × (done ≡ misused kind) × (p ≡ usage_text kind))
-      → IsDialogue request ready.exchanges s done p
-  by_words None s p is =
-      let same : is.0 ≡ request = let first = is.1 in let second = asked in cc in
-      subst (λ (r : Request). IsDialogue r ready.exchanges s done p) same is.2
-  by_words (Some kind) s p is = let wrong = is.1 in absurd cc
+      × IsDialogue r ready.exchanges s answer p)
+      (λ kind. (ready.exchanges ≡ []) × (answer ≡ misused kind) × (p ≡ usage_text kind))
+      → (r : Request) × (request_of words ≡ Some r) × IsDialogue r ready.exchanges s answer p
+  by_words None s p is = is
+  by_words (Some kind) s p is = absurd (told kind is.1)
 
-  -- it is a dialogue of the request that ends in acceptance
-  done_told : (s p : List ℕ) × IsDialogue request ready.exchanges s done p
-  done_told =
-      let made = subst (λ (r : Outcome). IfSome (answer_of r) (λ a. (s p : List ℕ) × Took s
-      × IsPerformed prepared s a p × Accepts p)) is_done answered in (
-        made.0,
-        made.1,
-        by_words (usage_of words) made.0 made.1 (ready.made.0.stands made.0 done made.1 made.3),
-      )
+  -- it is a dialogue of a request that ends in the answer
+  dialogue_told : (s p : List ℕ) × (r : Request) × (request_of words ≡ Some r)
+      × IsDialogue r ready.exchanges s answer p
+  dialogue_told =
+      let made = subst (λ (o : Option Answer). IfSome o (λ a. (s p : List ℕ) × Took s
+      × IsPerformed prepared s a p × Accepts p)) is_answer answered in
+      let asked = by_words (usage_of words) made.0 made.1
+      (ready.made.0.stands made.0 answer made.1 made.3) in
+      (made.0, made.1, asked.0, asked.1, asked.2)
 
   -- and what it says of the exchanges it says of those of the files
-  pub kept_told : (Is : List ℕ → Type 0) → ((exchanges : List Exchange) (s p : List ℕ)
-      → IsDialogue request exchanges s done p
-      → (text : List ℕ) × (rest : List Exchange)
-      × (exchanges ≡ fetched (file_in request) (whole text) ∷ rest)
-      × Is text)
-      → (text : List ℕ) × (rest : List Exchange)
-      × (new.exchanges ≡ old.exchanges ++ fetched (file_in request) (whole text) ∷ rest)
-      × Is text
-  kept_told Is law =
-      let kept = law ready.exchanges done_told.0 done_told.1 done_told.2 in (
-        kept.0,
-        kept.1,
-        ready.passed.called ∙ ap (λ (es : List Exchange). old.exchanges ++ es) kept.2,
-        kept.3,
-      )
+  pub text_told : (Is : Request → List ℕ → Type 0) → ((request : Request)
+      (exchanges : List Exchange) (s p : List ℕ) → request_of words ≡ Some request
+      → IsDialogue request exchanges s answer p
+      → (text : List ℕ) × IsTextOf request exchanges text × Is request text)
+      → (request : Request) × (text : List ℕ) × (exchanges : List Exchange)
+      × (request_of words ≡ Some request) × (new.exchanges ≡ old.exchanges ++ exchanges)
+      × IsTextOf request exchanges text × Is request text
+  text_told Is law =
+      let d = dialogue_told in
+      let kept = law d.2 ready.exchanges d.0 d.1 d.3 d.4 in
+      (d.2, kept.0, ready.exchanges, d.3, ready.passed.called, kept.1, kept.2)
+
+-- the words ask for one request
+pub same_request : (words : List (List ℕ)) (first second : Request)
+    → request_of words ≡ Some first → request_of words ≡ Some second → first ≡ second
+same_request words first second asked also = cc
+
+-- what is told of the request that the words ask for
+pub text_of_asked : (words : List (List ℕ)) (old new : List Exchange)
+    (Is : Request → List ℕ → Type 0) (request : Request) → request_of words ≡ Some request
+    → (r : Request) × (text : List ℕ) × (exchanges : List Exchange)
+    × (request_of words ≡ Some r) × (new ≡ old ++ exchanges)
+    × IsTextOf r exchanges text × Is r text
+    → (text : List ℕ) × (exchanges : List Exchange) × (new ≡ old ++ exchanges)
+    × IsTextOf request exchanges text × Is request text
+text_of_asked words old new Is request asked told =
+    let same : told.0 ≡ request = same_request words told.0 request told.3 asked in
+    subst (λ (r : Request). (text : List ℕ) × (exchanges : List Exchange)
+    × (new ≡ old ++ exchanges) × IsTextOf r exchanges text × Is r text) same
+    (told.1, told.2, told.4, told.5, told.6)
 
 -- nothing was prepared: the input and the output are as they were
 module _ (files_tell input_tells : Bool) (words : List (List ℕ)) (old new : Files) (input : Input)
@@ -265,7 +318,9 @@ module _ (files_tell input_tells : Bool) (words : List (List ℕ)) (old new : Fi
     answer = silent_some _;
     whole_stimulus = λ tells. silent_some _;
     to_the_end = λ goes_on taken more given. silent_some _;
+    unfailed = silent_some _;
     front = silent_none _ (inl refl);
+    front_to_the_end = silent_none _ (inl refl);
     whole_front = λ tells. silent_none _ (inl refl);
     silent = λ failed. refl;
     read_fault = λ is. inl (read_fault is);

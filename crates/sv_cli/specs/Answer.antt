@@ -22,8 +22,10 @@ status_of outcome.OutOfMemory = 6
 
 -- An answer that the words and what the outside hands in decide, in plain values. `done` is that
 -- the text or its certificate is accepted, that its obligations are listed, that the clauses of one
--- are printed, or that the whole stimulus is simulated; `undecided` is that the steps spend the
--- budget on the obligation of this number.
+-- are printed, that the whole stimulus is simulated, that two runs look the same, or that the sample
+-- is printed; `undecided` is that the steps spend the budget on the obligation of this number. Where
+-- two runs differ, the cycle is told and the signal by its number, or how many cycles the shorter
+-- run has.
 pub data Answer : Type 0 where
   done : Answer
   rule_broken : ℕ → Place → List (List ℕ) → Answer
@@ -32,6 +34,9 @@ pub data Answer : Type 0 where
   wrong_proof : (line : ℕ) → Answer
   stimulus_refused : StimSource → (line : ℕ) → StimKind → Answer
   undecided : ℕ → List Step → Answer
+  inputs_differ : (cycle signal : ℕ) → Answer
+  views_differ : (cycle signal : ℕ) → Answer
+  lengths_differ : (cycles : ℕ) → Answer
   misused : UsageKind → Answer
 
 -- the answer of an outcome; a failing object and want of memory give none
@@ -43,6 +48,9 @@ answer_of (outcome.Refused (broken.Fails number v)) = Some (falsified number v)
 answer_of (outcome.Refused (broken.Proof line)) = Some (wrong_proof line)
 answer_of (outcome.Refused (broken.Stimulus source line kind)) =
     Some (stimulus_refused source line kind)
+answer_of (outcome.Refused (broken.Input cycle signal)) = Some (inputs_differ cycle signal.0)
+answer_of (outcome.Refused (broken.View cycle signal)) = Some (views_differ cycle signal.0)
+answer_of (outcome.Refused (broken.Lengths cycles)) = Some (lengths_differ cycles)
 answer_of (outcome.Usage kind) = Some (misused kind)
 answer_of (outcome.Unknown spent) = Some (undecided spent.obligation (plain_log spent.log))
 answer_of outcome.ReadFault = None

@@ -8,6 +8,7 @@ use Rattle.sv_obl.specs.Validity.{Valuation, Falsifies}
 use Rattle.sv_obl.specs.declared.valuations.Valuation.{Valuation as Listed}
 use Rattle.sv_encoding.specs.Deciding.{Fits}
 use Rattle.sv_judge.specs.Answers.{HasAtMost, HasUnitConflict}
+use Rattle.sv_report.specs.declared.styles.Style.{Style}
 use Rattle.sv_cli.specs.Answer.{Answer, falsified, limit_exceeded, undecided}
 use Rattle.sv_cli.specs.Checks.{Decides}
 use Rattle.sv_cli.specs.Texts.{Passes}
@@ -56,7 +57,7 @@ Suffices design budget = IsLarge design budget ⊎ AllHaveUnitConflicts design
 abbrev pub OfEachDecision : (FlatDesign → (budget : ℕ) → Answer → Type 0) → Type 0
 OfEachDecision Says =
     (top : Option (List ℕ)) (text : List ℕ) (passes : Passes top text)
-    (proof : Option (List ℕ)) (budget : ℕ) (exchanges : List Exchange) (answer : Answer)
-    (printed : List ℕ)
-    → Decides proof budget passes.design exchanges answer printed
+    (style : Style) (proof : Option (List ℕ)) (budget : ℕ) (exchanges : List Exchange)
+    (answer : Answer) (printed : List ℕ)
+    → Decides style proof budget passes.design exchanges answer printed
     → Says passes.design budget answer

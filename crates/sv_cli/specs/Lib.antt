@@ -2,8 +2,11 @@ pub mod Answer
 pub mod Checks
 pub mod Clauses
 pub mod Command
+pub mod Compares
+pub mod Comparing
 pub mod Completeness
 pub mod Dialogues
+pub mod Generates
 pub mod Limits
 pub mod Lists
 pub mod Prepared

@@ -3,14 +3,15 @@ use Rattle.std.specs.Prelude.{◌≡◌, ℕ, List, [], ◌∷◌, Some}
 use Rattle.sv_flat.specs.Design.{SignalForm, FlatDesign}
 use Rattle.sv_obl.specs.Limits.{Excess, many_paths, large_path, many_obligations, excess}
 use Rattle.sv_obl.specs.ListLines.{name_of}
-use Rattle.sv_report.specs.Text.{limit_text}
+use Rattle.sv_report.specs.Styles.{limit_in}
+use Rattle.sv_report.specs.declared.styles.Style.{Style}
 use Rattle.sv_cli.specs.Answer.{Answer, limit_exceeded}
 
 -- this limit is told, with these names
-pub record TellsLimit (number : ℕ) (names : List (List ℕ)) (answer : Answer) (printed : List ℕ)
-    : Type 0 where
+pub record TellsLimit (style : Style) (number : ℕ) (names : List (List ℕ)) (answer : Answer)
+    (printed : List ℕ) : Type 0 where
   pub answers : answer ≡ limit_exceeded number names
-  pub prints : printed ≡ limit_text number names
+  pub prints : printed ≡ limit_in style number names
 
 -- the number of a limit on obligations, and what is named with it: the target, where one is told
 abbrev pub limit_number : Excess → ℕ
@@ -24,8 +25,9 @@ limit_names signals (large_path target) = name_of signals target ∷ []
 limit_names signals many_obligations = []
 
 -- the first limit on obligations that the design exceeds is told
-pub record ExceedsLimit (design : FlatDesign) (answer : Answer) (printed : List ℕ) : Type 0 where
+pub record ExceedsLimit (style : Style) (design : FlatDesign) (answer : Answer)
+    (printed : List ℕ) : Type 0 where
   pub exceeded : Excess
   pub first : excess design ≡ Some exceeded
-  pub tells : TellsLimit (limit_number exceeded) (limit_names design.signals exceeded) answer
-      printed
+  pub tells : TellsLimit style (limit_number exceeded) (limit_names design.signals exceeded)
+      answer printed

@@ -8,6 +8,7 @@ use Rattle.sv_obl.specs.Obligations.{Obligation, obligations}
 use Rattle.sv_encoding.specs.CnfText.{cnf_text}
 use Rattle.sv_encoding.specs.Deciding.{Fits, IsTooLarge}
 use Rattle.sv_encoding.specs.Encoding.{encoding}
+use Rattle.sv_report.specs.declared.styles.Style.TheVariants.{Lines}
 use Rattle.sv_cli.specs.Answer.{Answer, done}
 use Rattle.sv_cli.specs.Limits.{TellsLimit, ExceedsLimit}
 
@@ -20,7 +21,7 @@ pub record IsListed (design : FlatDesign) (answer : Answer) (printed : List ℕ)
   pub prints : printed ≡ list_text design
 
 pub data Lists (design : FlatDesign) (answer : Answer) (printed : List ℕ) : Type 0 where
-  exceeds : ExceedsLimit design answer printed → Lists design answer printed
+  exceeds : ExceedsLimit Lines design answer printed → Lists design answer printed
   listed : IsListed design answer printed → Lists design answer printed
 
 -- ---- the clauses of one obligation
@@ -46,7 +47,7 @@ pub record LacksObligation (asked : ℕ) (design : FlatDesign) (answer : Answer)
     : Type 0 where
   pub few : excess design ≡ None
   pub none : obligation_at design asked ≡ None
-  pub tells : TellsLimit 706 [] answer printed
+  pub tells : TellsLimit Lines 706 [] answer printed
 
 -- one has, but its encoding takes more variables than may be; it is named by its number
 pub record ExceedsVariables (asked : ℕ) (design : FlatDesign) (answer : Answer) (printed : List ℕ)
@@ -55,11 +56,11 @@ pub record ExceedsVariables (asked : ℕ) (design : FlatDesign) (answer : Answer
   pub obligation : Obligation
   pub found : obligation_at design asked ≡ Some obligation
   pub large : IsTooLarge design obligation
-  pub tells : TellsLimit 709 (decimal asked ∷ []) answer printed
+  pub tells : TellsLimit Lines 709 (decimal asked ∷ []) answer printed
 
 pub data Encodes (asked : ℕ) (design : FlatDesign) (answer : Answer) (printed : List ℕ) : Type 0
   where
-    exceeds : ExceedsLimit design answer printed → Encodes asked design answer printed
+    exceeds : ExceedsLimit Lines design answer printed → Encodes asked design answer printed
     lacks : LacksObligation asked design answer printed → Encodes asked design answer printed
     too_large : ExceedsVariables asked design answer printed → Encodes asked design answer printed
     encoded : IsEncoded asked design answer printed → Encodes asked design answer printed

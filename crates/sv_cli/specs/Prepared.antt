@@ -19,24 +19,25 @@ use Rattle.sv_blast.specs.Coded.{encoding_of}
 use Rattle.sv_blast.specs.declared.coded.Coded.{Coded}
 use Rattle.sv_simulate.specs.Simulated.{IsSimulated}
 use Rattle.sv_simulate.specs.declared.endings.Ending.{Ending}
-use Rattle.sv_words.specs.Words.{Request, check, verify, list, cnf, sim, request_of, usage_of}
+use Rattle.sv_words.specs.Words.{Request, check, verify, list, cnf, sim, compare, gen}
+use Rattle.sv_words.specs.Words.{request_of, usage_of}
 use Rattle.sv_cli.specs.declared.prepared.NoReport.{NoReport}
 use Rattle.sv_cli.specs.declared.prepared.NoReport.TheVariants.{Unread, Unwritten, OutOfMemory}
 use Rattle.sv_cli.specs.declared.prepared.Prepared.{Prepared}
 use Rattle.sv_cli.specs.declared.prepared.Prepared.TheVariants.{Whole, Lines, Clauses}
 use Rattle.sv_cli.specs.declared.prepared.Prepared.TheVariants.{Simulation}
 use Rattle.sv_cli.specs.declared.report.Report.{Report}
-use Rattle.sv_num.specs.declared.faults.Place.{Place}
-use Rattle.sv_report.specs.Text.{refusal_text}
-use Rattle.sv_cli.specs.Answer.{Answer, answer_of, done, rule_broken}
+use Rattle.sv_report.specs.declared.styles.Style.TheVariants as Style
+use Rattle.sv_cli.specs.Answer.{Answer, answer_of, done}
 use Rattle.sv_cli.specs.Checks.{Checks, MayStore}
-use Rattle.sv_cli.specs.Command.{top_in}
-use Rattle.sv_cli.specs.Dialogues.{IsDialogue, IsAnswer, OwnExchange, MayExchange, IsExchanged}
+use Rattle.sv_cli.specs.Command.{top_in, style_in}
+use Rattle.sv_cli.specs.Comparing.{ComparesDesign, MayFetchStimuli}
+use Rattle.sv_cli.specs.Dialogues.{IsDialogue, IsAnswer, MayExchange, IsExchanged}
 use Rattle.sv_cli.specs.Limits.{ExceedsLimit}
 use Rattle.sv_cli.specs.Lists.{Encodes, obligation_at}
-use Rattle.sv_cli.specs.Runs.{MaySimulate}
+use Rattle.sv_cli.specs.Runs.{MaySimulate, KeepsCounts}
 use Rattle.sv_cli.specs.Simulates.{answer_by}
-use Rattle.sv_cli.specs.Texts.{BreaksFirst, Passes}
+use Rattle.sv_cli.specs.Texts.{RefusesText, Passes}
 use Rattle.sv_cli.specs.Verifies.{Verifies, IsOversized, JudgesProof}
 
 -- what was accepted grew by all of the text but what is left
@@ -146,6 +147,7 @@ pub record Readies {T : Type 0} (May : List Exchange → Type 0) (Makes : List E
   pub may : May exchanges
   pub made : IfOk result (λ made.
       Makes exchanges made × All (λ exchange. IsFailed exchange → ⊥) exchanges)
+  pub unfailed : IfOk result (λ _. KeepsCounts old new)
   pub fault : IfErr result (Explains old new exchanges)
 
 abbrev pub ReadiesFor : Request → Bool → (old new : Files) → Result Prepared NoReport → Type 0
@@ -169,22 +171,27 @@ Reports Own (Lines design) = ⊥
 Reports Own (Clauses coded) = ⊥
 Reports Own (Simulation design level order) = ⊥
 
--- nothing more is exchanged, or what the command exchanges of its own where the design exceeds no
+-- by `check` nothing more is exchanged, or the certificate is stored where the design exceeds no
 -- limit
-abbrev pub MayOwn : Request → FlatDesign → List Exchange → Type 0
-MayOwn request design exchanges =
-    (exchanges ≡ []) ⊎ ((excess design ≡ None) × OwnExchange request design exchanges)
+abbrev pub MayStoreOwn : (name : Option (List ℕ)) → FlatDesign → (budget : ℕ) → List Exchange →
+    Type 0
+MayStoreOwn name design budget exchanges =
+    (exchanges ≡ []) ⊎ ((excess design ≡ None) × MayStore name design budget exchanges)
 
--- the same of `check`, with the name that is asked for
-abbrev pub MayStoreOwn : (name : Option (List ℕ)) → FlatDesign → List Exchange → Type 0
-MayStoreOwn name design exchanges =
-    (exchanges ≡ []) ⊎ ((excess design ≡ None) × MayStore name design exchanges)
-
--- and of `verify`
+-- by `verify` nothing, or PROOF is fetched
 abbrev pub MayFetchOwn : (proof : List ℕ) → FlatDesign → List Exchange → Type 0
 MayFetchOwn proof design exchanges =
     (exchanges ≡ []) ⊎ ((excess design ≡ None)
     × (got : Fetched) × (exchanges ≡ fetched proof got ∷ []))
+
+-- nothing more is exchanged, or what the command exchanges of its own for a design
+abbrev pub MayOwn : Request → FlatDesign → List Exchange → Type 0
+MayOwn (check file proof budget top json) design exchanges =
+    MayStoreOwn proof design budget exchanges
+MayOwn (verify file proof top) design exchanges = MayFetchOwn proof design exchanges
+MayOwn (compare file a b level top) design exchanges =
+    MayFetchStimuli a b level design exchanges
+MayOwn request design exchanges = exchanges ≡ []
 
 -- the bytes may be stored under the name, if one is asked for, or the store may fail
 abbrev pub MayStoreBytes : (name : Option (List ℕ)) → (bytes : List ℕ) → List Exchange → Type 0
@@ -213,7 +220,7 @@ VerifiesFetched proof design exchanges answer printed =
 
 -- what is prepared of an admitted design to list its obligations
 abbrev pub ListsDesign : FlatDesign → Prepared → Type 0
-ListsDesign design (Whole report) = Says (ExceedsLimit design) report
+ListsDesign design (Whole report) = Says (ExceedsLimit Style.Lines design) report
 ListsDesign design (Lines listed) = (design_of listed ≡ design) × (excess design ≡ None)
 ListsDesign design (Clauses coded) = ⊥
 ListsDesign design (Simulation simulated level order) = ⊥
@@ -235,8 +242,9 @@ EncodesDesign design asked (Simulation simulated level order) = ⊥
 
 -- what is prepared of a design for a command, by what it exchanged of its own
 abbrev pub PreparesOwn : Request → FlatDesign → List Exchange → Prepared → Type 0
-PreparesOwn (check file proof budget top) design exchanges prepared =
-    Reports (Checks proof budget design exchanges) prepared
+PreparesOwn (check file proof budget top json) design exchanges prepared =
+    Reports (Checks (style_in (check file proof budget top json)) proof budget design exchanges)
+    prepared
 PreparesOwn (verify file proof top) design exchanges prepared =
     Reports (Verifies proof design exchanges) prepared
 PreparesOwn (list file top) design exchanges prepared =
@@ -245,25 +253,22 @@ PreparesOwn (cnf file number top) design exchanges prepared =
     (exchanges ≡ []) × EncodesDesign design number prepared
 PreparesOwn (sim file level order top) design exchanges prepared =
     (exchanges ≡ []) × IsSimulationOf design level order prepared
+PreparesOwn (compare file a b level top) design exchanges prepared =
+    Reports (ComparesDesign a b level design exchanges) prepared
+PreparesOwn (gen lanes checks) design exchanges prepared = ⊥
 
 -- ---- of a text
-
--- the report tells of the first rule that the text breaks
-abbrev pub TellsRule : (top : Option (List ℕ)) → (text : List ℕ) → Answer → List ℕ → Type 0
-TellsRule top text answer printed =
-    (number : ℕ) × (place : Place) × (names : List (List ℕ))
-    × BreaksFirst top text number place names × (answer ≡ rule_broken number place names)
-    × (printed ≡ refusal_text number place names)
 
 -- of a text within the limit: its first rule is told, or its design is prepared
 abbrev pub PreparesText : Request → (text : List ℕ) → List Exchange → Prepared → Type 0
 PreparesText request text exchanges prepared =
-    ((exchanges ≡ []) × Reports (TellsRule (top_in request) text) prepared)
+    ((exchanges ≡ [])
+    × Reports (RefusesText (style_in request) (top_in request) text) prepared)
     ⊎ ((passes : Passes (top_in request) text)
     × PreparesOwn request passes.design exchanges prepared)
 
 -- nothing more is exchanged, or what the command exchanges of its own for the text's design
-abbrev pub MayExchangeFor : Request → (text : List ℕ) → List Exchange → Type 0
-MayExchangeFor request text exchanges =
-    (exchanges ≡ []) ⊎ ((passes : Passes (top_in request) text) × (excess passes.design ≡ None)
-    × OwnExchange request passes.design exchanges)
+abbrev pub MayExchangeOf : Request → (text : List ℕ) → List Exchange → Type 0
+MayExchangeOf request text exchanges =
+    (exchanges ≡ []) ⊎ ((passes : Passes (top_in request) text)
+    × MayOwn request passes.design exchanges)

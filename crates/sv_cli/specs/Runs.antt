@@ -1,12 +1,12 @@
 -- What a call of the program is: what it answers for its words, by what passed between it and the
 -- files, the input and the output.
-use Rattle.std.specs.Prelude.{◌≡◌, ℕ, ◌+◌, ◌≤◌, ◌⊎◌, ◌++◌, ◌∷◌, List, [], Bool, IsTrue, Any}
+use Rattle.std.specs.Prelude.{◌≡◌, ◌↔◌, ℕ, ◌+◌, ◌≤◌, ◌⊎◌, ◌++◌, ◌∷◌, List, [], Bool, IsTrue, Any}
 use Rattle.std.specs.Prelude.{Option, Some, None, IsSome, IfSome, IfNone, length}
 use Rattle.sv_io.specs.Count.{Rose}
 use Rattle.sv_io.specs.Exchange.{Exchange, fetched, whole}
 use Rattle.sv_io.specs.Sink.{WritesFront}
 use Rattle.sv_io.specs.Source.{WhateverFollows}
-use Rattle.sv_io.specs.Traffic.{Traffic, Input, Output, Passed, IsFailed, FailsToFetch}
+use Rattle.sv_io.specs.Traffic.{Traffic, Files, Input, Output, Passed, IsFailed, FailsToFetch}
 use Rattle.sv_io.specs.Traffic.{FailsToStore}
 use Rattle.sv_simulate.specs.Simulated.{largest_stimulus, level_asked}
 use Rattle.sv_text_laws.specs.SimulatedTexts.{WritesTextCycles}
@@ -44,13 +44,14 @@ pub record WritesCycles (words : List (List ℕ)) (exchanges : List Exchange)
   pub simulates : MaySimulate words exchanges level
   pub cycles : WritesTextCycles simulates.passes.stands.tree simulates.top level stimulus old new
 
--- The input failed: its count tells, and the lines of all cycles that the bytes taken let read
--- were accepted.
+-- The input failed: its count tells, this call has not shown its end, and the lines of all cycles
+-- that the bytes taken let read were accepted.
 pub record FailsToTake (words : List (List ℕ)) (exchanges : List Exchange) (old new : Traffic)
     : Type 0 where
   pub stimulus : List ℕ
   pub given : new.input.given ≡ old.input.given ++ stimulus
   pub rose : Rose old.input.faults new.input.faults
+  pub unended : IsTrue new.input.ended ↔ IsTrue old.input.ended
   pub cycles : WritesCycles words exchanges stimulus old.output.accepted new.output.accepted
 
 -- the answer is that of the words, of what was exchanged, and of this stimulus, and the whole of
@@ -67,6 +68,17 @@ abbrev pub IsFront : (words : List (List ℕ)) → (exchanges : List Exchange) �
 IsFront words exchanges old new stimulus =
     (answer : Answer) × (printed : List ℕ) × IsAnswer words exchanges stimulus answer printed
     × WritesFront old.accepted printed new.accepted
+
+-- no fetch and no store failed
+pub record KeepsCounts (old new : Files) : Type 0 where
+  pub fetches : (name : List ℕ) → new.fetch_faults name ≡ old.fetch_faults name
+  pub stores : (name : List ℕ) → new.store_faults name ≡ old.store_faults name
+
+-- nothing failed: no fetch, no store, no take and no put
+pub record IsUnfailed (old new : Traffic) : Type 0 where
+  pub files : KeepsCounts old.files new.files
+  pub takes : new.input.faults ≡ old.input.faults
+  pub puts : new.output.faults ≡ old.output.faults
 
 -- nothing of the input was taken, and it was not asked
 pub record IsUntouched (old new : Input) : Type 0 where
@@ -94,10 +106,16 @@ pub record Runs (files_tell input_tells : Bool) (words : List (List ℕ)) (old n
   pub to_the_end : WhateverFollows new.input.ended old.input.given new.input.given
       (λ stimulus. IfSome (answer_of outcome)
       (λ a. IsWhole words exchanges old.output new.output a stimulus))
-  -- without an answer nothing was accepted, or a front of what is defined
+  -- an answer comes only where nothing failed
+  pub unfailed : IfSome (answer_of outcome) (λ _. IsUnfailed old new)
+  -- Without an answer nothing was accepted, or a front of what is defined: for the bytes that the
+  -- input gave, and, unless its end was shown, for whatever begins with them.
   pub front : IfNone (answer_of outcome) ((new.output.accepted ≡ old.output.accepted)
       ⊎ ((stimulus : List ℕ) × (new.input.given ≡ old.input.given ++ stimulus)
       × IsFront words exchanges old.output new.output stimulus))
+  pub front_to_the_end : IfNone (answer_of outcome) ((new.output.accepted ≡ old.output.accepted)
+      ⊎ WhateverFollows new.input.ended old.input.given new.input.given
+      (IsFront words exchanges old.output new.output))
   pub whole_front : IsTrue input_tells → IfNone (answer_of outcome)
       ((new.output.accepted ≡ old.output.accepted)
       ⊎ IsFront words exchanges old.output new.output old.input.left)
@@ -108,7 +126,8 @@ pub record Runs (files_tell input_tells : Bool) (words : List (List ℕ)) (old n
       ⊎ FailsToTake words exchanges old new
   pub write_fault : outcome ≡ WriteFault → FailsToStore old.files new.files exchanges
       ⊎ Rose old.output.faults new.output.faults
-  -- the input is left as it was but by `sim`, and no more of it is taken than the largest stimulus
+  -- the input is left as it was but by `sim`, and at most one byte more of it is taken than the
+  -- largest stimulus has
   pub input_unchanged : IsUntouched old.input new.input ⊎ MayTake words exchanges
   pub most : (stimulus : List ℕ) → new.input.given ≡ old.input.given ++ stimulus
       → length stimulus ≤ largest_stimulus + 1

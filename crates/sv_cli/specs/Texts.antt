@@ -10,6 +10,9 @@ use Rattle.sv_flat.specs.Design.{FlatDesign}
 use Rattle.sv_flat.specs.Admission.{IsAdmitted, IsRefused}
 use Rattle.sv_walk.specs.Texts.{flat_of, BreaksRule}
 use Rattle.sv_obl.specs.Validity.{AllValid}
+use Rattle.sv_report.specs.Styles.{refusal_in}
+use Rattle.sv_report.specs.declared.styles.Style.{Style}
+use Rattle.sv_cli.specs.Answer.{Answer, rule_broken}
 
 -- the bytes of the largest source file
 abbrev pub largest_file : ℕ
@@ -71,6 +74,16 @@ BreaksFirst top text number place names =
     ⊎ ((HasUnbuiltItem text × IsNotBuilt number place names)
     ⊎ (BreaksElaboration top text number place names
     ⊎ BreaksAdmission top text number place names))
+
+-- the first rule that the text breaks is told, with its place and its names
+pub record RefusesText (style : Style) (top : Option (List ℕ)) (text : List ℕ) (answer : Answer)
+    (printed : List ℕ) : Type 0 where
+  pub number : ℕ
+  pub place : Place
+  pub names : List (List ℕ)
+  pub broken : BreaksFirst top text number place names
+  pub answers : answer ≡ rule_broken number place names
+  pub prints : printed ≡ refusal_in style number place names
 
 -- the text breaks none of them
 pub record Passes (top : Option (List ℕ)) (text : List ℕ) : Type 0 where

@@ -1,10 +1,10 @@
 -- Which answers to the same words and the same files and stimulus are right: one, but for what is
--- free in `check` and in the circle that is named.
-use Rattle.std.specs.Prelude.{◌≡◌, ◌⊎◌, ℕ, List, ◌∷◌}
+-- free where obligations are decided and in the circle that is named.
+use Rattle.std.specs.Prelude.{◌≡◌, ◌⊎◌, ℕ, IsFalse, List, ◌∷◌}
 use Rattle.sv_num.specs.declared.faults.Place.{Place}
 use Rattle.sv_io.specs.Exchange.{Exchange}
-use Rattle.sv_words.specs.Words.{Request, check}
-use Rattle.sv_cli.specs.Answer.{Answer, rule_broken}
+use Rattle.sv_words.specs.Words.{Request, check, gen}
+use Rattle.sv_cli.specs.Answer.{Answer, done, rule_broken, limit_exceeded, falsified, undecided}
 use Rattle.sv_cli.specs.Dialogues.{IsDialogue}
 
 -- Two answers that name circles of signals that read each other, both from the signal that rule 607
@@ -22,9 +22,10 @@ abbrev pub AreOneAnswer : (answer other : Answer) → (printed others : List ℕ
 AreOneAnswer answer other printed others =
     ((other ≡ answer) × (others ≡ printed)) ⊎ AreCircles answer other
 
--- every command but `check` has one right answer
+-- every command that decides no obligation has one right answer
 abbrev pub IsSure : Request → Type 0
-IsSure (check file proof budget top) = ⊥
+IsSure (check file proof budget top json) = ⊥
+IsSure (gen lanes checks) = IsFalse checks
 IsSure request = Unit {0}
 
 -- any two answers that are right for the same exchanges and stimulus are one
@@ -35,3 +36,26 @@ HasOneAnswer request =
     → IsDialogue request exchanges stimulus answer printed
     → IsDialogue request exchanges stimulus other others
     → AreOneAnswer answer other printed others
+
+-- The answer is a decision on obligations: that all are proved, that one is falsified, that the
+-- encoding of one is too large, or that the budget is spent on one.
+abbrev pub IsDecision : Answer → Type 0
+IsDecision done = Unit {0}
+IsDecision (limit_exceeded number names) = number ≡ 709
+IsDecision (falsified number valuation) = Unit {0}
+IsDecision (undecided number steps) = Unit {0}
+IsDecision answer = ⊥
+
+-- the two are the same answer, or both are decisions
+abbrev pub AreOneOrDecisions : (answer other : Answer) → (printed others : List ℕ) → Type 0
+AreOneOrDecisions answer other printed others =
+    AreOneAnswer answer other printed others ⊎ (IsDecision answer × IsDecision other)
+
+-- of any two answers that are right for the same exchanges and stimulus
+abbrev pub HasSureRefusals : Request → Type 0
+HasSureRefusals request =
+    (exchanges : List Exchange) (stimulus : List ℕ) (answer other : Answer)
+    (printed others : List ℕ)
+    → IsDialogue request exchanges stimulus answer printed
+    → IsDialogue request exchanges stimulus other others
+    → AreOneOrDecisions answer other printed others

@@ -6,6 +6,7 @@ use Rattle.sv_obl.specs.Limits.{excess}
 use Rattle.sv_obl.specs.Obligations.{obligations}
 use Rattle.sv_judge.specs.Certified.{IsVerified, IsFaultLine, IsTooLargeToVerify}
 use Rattle.sv_report.specs.Text.{accepted_text, fault_text}
+use Rattle.sv_report.specs.declared.styles.Style.TheVariants.{Lines}
 use Rattle.sv_cli.specs.Answer.{Answer, done, wrong_proof}
 use Rattle.sv_cli.specs.Limits.{TellsLimit, ExceedsLimit}
 
@@ -33,7 +34,7 @@ pub record IsTooLarge (design : FlatDesign) (bytes : List ℕ) (answer : Answer)
     : Type 0 where
   pub number : ℕ
   pub large : IsTooLargeToVerify design bytes number
-  pub tells : TellsLimit 709 (decimal number ∷ []) answer printed
+  pub tells : TellsLimit Lines 709 (decimal number ∷ []) answer printed
 
 -- what is answered for the bytes of a certificate within the limit
 pub data Judges (design : FlatDesign) (bytes : List ℕ) (answer : Answer) (printed : List ℕ) : Type 0
@@ -48,7 +49,7 @@ pub record IsOversized (proof : List ℕ) (exchanges : List Exchange) (answer : 
   pub bytes : List ℕ
   pub long : length bytes ≡ largest_proof + 1
   pub fetches : exchanges ≡ fetched proof (too_long bytes) ∷ []
-  pub tells : TellsLimit 710 [] answer printed
+  pub tells : TellsLimit Lines 710 [] answer printed
 
 -- it handed out a certificate within the limit
 pub record JudgesProof (proof : List ℕ) (design : FlatDesign) (exchanges : List Exchange)
@@ -58,9 +59,10 @@ pub record JudgesProof (proof : List ℕ) (design : FlatDesign) (exchanges : Lis
   pub fetches : exchanges ≡ fetched proof (whole bytes) ∷ []
   pub judges : Judges design bytes answer printed
 
+-- what is answered of any design
 pub data Verifies (proof : List ℕ) (design : FlatDesign) (exchanges : List Exchange)
     (answer : Answer) (printed : List ℕ) : Type 0 where
-  exceeds : exchanges ≡ [] → ExceedsLimit design answer printed
+  exceeds : exchanges ≡ [] → ExceedsLimit Lines design answer printed
       → Verifies proof design exchanges answer printed
   oversized : excess design ≡ None → IsOversized proof exchanges answer printed
       → Verifies proof design exchanges answer printed

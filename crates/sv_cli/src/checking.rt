@@ -9,11 +9,11 @@ ghost use Rattle.sv_obl.specs.Limits.{excess};
 ghost use Rattle.sv_obl.specs.Validity.{Falsifies as IsFalsifiedBy};
 ghost use Rattle.sv_obl.specs.Valuations.{FitsDesign, valuation_of};
 ghost use Rattle.sv_obl.specs.Views.{obligation_of};
-ghost use Rattle.sv_proof.specs.Certificate.{AreLogs, plain_logs, proof_text};
-ghost use Rattle.sv_judge.specs.Verdicts.{AreRefutations, IsAccepted};
-ghost use Rattle.sv_report.specs.FlowText.{AsksFlow, IsFlowText};
-ghost use Rattle.sv_cli.specs.Answer.{falsified};
-ghost use Rattle.sv_cli.specs.Checks.{Checks, Decides, Accepts, StoresProof};
+ghost use Rattle.sv_proof.specs.Certificate.{plain_logs, proof_text};
+ghost use Rattle.sv_report.specs.FlowText.{AsksFlow};
+ghost use Rattle.sv_report.specs.Styles.{accepted_in, IsFlowTextIn};
+ghost use Rattle.sv_cli.specs.Answer.{done, falsified};
+ghost use Rattle.sv_cli.specs.Checks.{Checks, Decides};
 ghost use Rattle.sv_cli.specs.Prepared.{Readies, Reports, Says, MayStoreOwn, MayStoreBytes};
 ghost use Rattle.sv_cli.specs.Prepared.{StoresBytes};
 
@@ -28,12 +28,13 @@ use sv_io::{Cabinet, StoreFault};
 use sv_judge::{Checked, Failure, check};
 use sv_obl::check_limits;
 use sv_proof::write_proof;
-use sv_report::{Broken, flow_text};
+use sv_report::{Broken, Style, flow_text_in};
 
 /// What is prepared of an admitted design to say its verdict, with the name under which the
 /// certificate is to be stored, if any.
 pub fn check_design<C: Cabinet>(
     alloc: Global,
+    style: Style,
     design: &Design,
     proof: Option<&str>,
     budget: u32,
@@ -41,21 +42,22 @@ pub fn check_design<C: Cabinet>(
 ) -> Result<Prepared, NoReport>
     requires some { 1 ≤ budget }
     requires most { budget ≤ 4000000000 }
-    ensures { Readies (MayStoreOwn (option_copied proof.entry) (design_of design.now))
+    ensures { Readies (MayStoreOwn (option_copied proof.entry) (design_of design.now) budget)
         (λ exchanges. Reports
-        (Checks (option_copied proof.entry) budget (design_of design.now) exchanges)) C.tells
+        (Checks style (option_copied proof.entry) budget (design_of design.now) exchanges)) C.tells
         (files_by C.exchanges C.held C.fetch_faults C.store_faults cabinet.old)
         (files_by C.exchanges C.held C.fetch_faults C.store_faults cabinet.new) result }
 {
     match check_limits(alloc, design) {
-        Ok(_) => Ok(Prepared::Whole(decide_design(alloc, design, proof, budget, cabinet)?)),
-        Err(fault) => Ok(Prepared::Whole(report_of_fault(alloc, design, fault)?)),
+        Ok(_) => Ok(Prepared::Whole(decide_design(alloc, style, design, proof, budget, cabinet)?)),
+        Err(fault) => Ok(Prepared::Whole(report_of_fault(alloc, style, design, fault)?)),
     }
 }
 
 // The verdict of a design that exceeds no limit on obligations.
 fn decide_design<C: Cabinet>(
     alloc: Global,
+    style: Style,
     design: &Design,
     proof: Option<&str>,
     budget: u32,
@@ -64,45 +66,41 @@ fn decide_design<C: Cabinet>(
     requires some { 1 ≤ budget }
     requires most { budget ≤ 4000000000 }
     requires few { excess (design_of design.now) ≡ None }
-    ensures { Readies (MayStoreOwn (option_copied proof.entry) (design_of design.now))
+    ensures { Readies (MayStoreOwn (option_copied proof.entry) (design_of design.now) budget)
         (λ exchanges. Says
-        (Decides (option_copied proof.entry) budget (design_of design.now) exchanges)) C.tells
+        (Decides style (option_copied proof.entry) budget (design_of design.now) exchanges)) C.tells
         (files_by C.exchanges C.held C.fetch_faults C.store_faults cabinet.old)
         (files_by C.exchanges C.held C.fetch_faults C.store_faults cabinet.new) result }
 {
     match check(alloc, design, budget, proof.is_some())? {
         Checked::Accepted(count, logs) => {
-            report_of_proved(alloc, design, proof, count, &logs, cabinet)
+            report_of_proved(alloc, style, proof, count, &logs, cabinet)
         }
-        Checked::Fails(failure) => Ok(report_of_failure(alloc, design, failure)?),
-        Checked::TooLarge(number) => Ok(report_of_large(alloc, number)?),
-        Checked::Unknown(spent) => Ok(report_of_spent(alloc, spent, budget)?),
+        Checked::Fails(failure) => Ok(report_of_failure(alloc, style, design, failure)?),
+        Checked::TooLarge(number) => Ok(report_of_large(alloc, style, number)?),
+        Checked::Unknown(spent) => Ok(report_of_spent(alloc, style, spent, budget)?),
     }
 }
 
-// That all obligations of a design hold, so many; their logs are stored where a name is given.
+// That so many obligations hold, which are all; their logs are stored where a name is given.
 fn report_of_proved<C: Cabinet>(
     alloc: Global,
-    design: &Design,
+    style: Style,
     proof: Option<&str>,
     count: u32,
     logs: &[Log],
     cabinet: &mut C,
 ) -> Result<Report, NoReport>
-    requires few { excess (design_of design.now) ≡ None }
-    requires accepted { IsAccepted (design_of design.now) count }
-    requires logs { IsSome (option_copied proof) →
-        AreRefutations (design_of design.now) (plain_logs logs.now)
-        × AreLogs (plain_logs logs.now) }
-    ensures { Readies (MayStoreOwn (option_copied proof.entry) (design_of design.now))
+    ensures { Readies
+        (MayStoreBytes (option_copied proof.entry) (proof_text (plain_logs logs.now)))
         (λ exchanges. Says (λ answer printed.
-        StoresProof (option_copied proof.entry) (design_of design.now) exchanges
-        × Accepts (design_of design.now) answer printed)) C.tells
+        StoresBytes (option_copied proof.entry) (proof_text (plain_logs logs.now)) exchanges
+        × (answer ≡ done) × (printed ≡ accepted_in style count))) C.tells
         (files_by C.exchanges C.held C.fetch_faults C.store_faults cabinet.old)
         (files_by C.exchanges C.held C.fetch_faults C.store_faults cabinet.new) result }
 {
     store_proof(alloc, proof, logs, cabinet)?;
-    Ok(report_of_acceptance(alloc, count)?)
+    Ok(report_of_acceptance(alloc, style, count)?)
 }
 
 // Stores the certificate of logs, where a name is given.
@@ -148,7 +146,12 @@ fn store_logs<C: Cabinet>(
 }
 
 // That an obligation of the design is falsified, and by which values.
-fn report_of_failure(alloc: Global, design: &Design, failure: Failure) -> Result<Report, AllocError>
+fn report_of_failure(
+    alloc: Global,
+    style: Style,
+    design: &Design,
+    failure: Failure,
+) -> Result<Report, AllocError>
     requires query { IsQueryOf (design_of design.now) (obligation_of failure.query) }
     requires asks { AsksFlow (obligation_of failure.query).goal }
     requires fits { FitsDesign (design_of design.now) failure.valuation }
@@ -156,11 +159,12 @@ fn report_of_failure(alloc: Global, design: &Design, failure: Failure) -> Result
         (valuation_of (design_of design.now) failure.valuation) (obligation_of failure.query) }
     ensures { IfOk result (Says (λ answer printed.
         (answer ≡ falsified failure.number failure.valuation)
-        × IsFlowText (design_of design.now) failure.number (obligation_of failure.query)
+        × IsFlowTextIn style (design_of design.now) failure.number (obligation_of failure.query)
         failure.valuation printed)) }
 {
-    let text = flow_text(
+    let text = flow_text_in(
         alloc,
+        style,
         design,
         failure.number,
         &failure.query,

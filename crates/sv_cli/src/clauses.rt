@@ -26,6 +26,7 @@ use sv_design::Design;
 use sv_flat::SigId;
 use sv_io::{PutFault, Sink, put_all};
 use sv_obl::{Listing, Query, check_limits};
+use sv_report::Style;
 
 // The clauses of one piece of the text: so many of at most three literals take less than 64 KiB.
 const PIECE: usize = 2_048;
@@ -40,7 +41,7 @@ pub fn clauses_of_design(
 {
     match check_limits(alloc, design) {
         Ok(_) => clauses_of_number(alloc, design, number),
-        Err(fault) => Ok(Prepared::Whole(report_of_fault(alloc, design, fault)?)),
+        Err(fault) => Ok(Prepared::Whole(report_of_fault(alloc, Style::Lines, design, fault)?)),
     }
 }
 
@@ -51,7 +52,7 @@ fn clauses_of_number(alloc: Global, design: &Design, number: u32) -> Result<Prep
 {
     match query_of_number(alloc, design, number)? {
         Some(query) => clauses_of_query(alloc, design, number, &query),
-        None => Ok(Prepared::Whole(report_of_bare_limit(alloc, 706)?)),
+        None => Ok(Prepared::Whole(report_of_bare_limit(alloc, Style::Lines, 706)?)),
     }
 }
 
@@ -69,7 +70,9 @@ fn clauses_of_query(
 {
     match encode(alloc, design, query) {
         Ok(coded) => Ok(Prepared::Clauses(coded)),
-        Err(BlastFault::TooLarge) => Ok(Prepared::Whole(report_of_large(alloc, number)?)),
+        Err(BlastFault::TooLarge) => {
+            Ok(Prepared::Whole(report_of_large(alloc, Style::Lines, number)?))
+        }
         Err(BlastFault::OutOfMemory) => Err(AllocError),
     }
 }
@@ -183,6 +186,7 @@ pub fn put_clauses<K: Sink>(alloc: Global, out: &mut K, coded: &Coded) -> Result
         (WritesFront (K.accepted out.old) (cnf_text (encoding_of coded.now))
         (K.accepted out.new)) }
     ensures failed { IsErrOf result PutFault.Failed → Rose (K.faults out.old) (K.faults out.new) }
+    ensures kept { OnOk result (K.faults out.new ≡ K.faults out.old) }
 {
     put_problem(alloc, out, coded)?;
     put_pieces(alloc, out, &coded.clauses)
@@ -196,6 +200,7 @@ fn put_problem<K: Sink>(alloc: Global, out: &mut K, coded: &Coded) -> Result<(),
         (WritesFront (K.accepted out.old) (problem_line (encoding_of coded.now))
         (K.accepted out.new)) }
     ensures failed { IsErrOf result PutFault.Failed → Rose (K.faults out.old) (K.faults out.new) }
+    ensures kept { OnOk result (K.faults out.new ≡ K.faults out.old) }
     ensures counts { K.faults out.old ≤ K.faults out.new }
 {
     match problem_line(alloc, coded) {
@@ -212,6 +217,7 @@ fn put_pieces<K: Sink>(alloc: Global, out: &mut K, clauses: &[Clause]) -> Result
         (WritesFront (K.accepted out.old) (flat_map clause_line clauses.now)
         (K.accepted out.new)) }
     ensures failed { IsErrOf result PutFault.Failed → Rose (K.faults out.old) (K.faults out.new) }
+    ensures kept { OnOk result (K.faults out.new ≡ K.faults out.old) }
     ensures counts { K.faults out.old ≤ K.faults out.new }
 {
     let mut left = clauses;
@@ -231,6 +237,7 @@ fn put_piece<K: Sink>(alloc: Global, out: &mut K, clauses: &[Clause]) -> Result<
         (WritesFront (K.accepted out.old) (flat_map clause_line clauses.now)
         (K.accepted out.new)) }
     ensures failed { IsErrOf result PutFault.Failed → Rose (K.faults out.old) (K.faults out.new) }
+    ensures kept { OnOk result (K.faults out.new ≡ K.faults out.old) }
     ensures counts { K.faults out.old ≤ K.faults out.new }
 {
     match clause_lines(alloc, clauses) {

@@ -18,6 +18,7 @@
 
 mod checking;
 mod clauses;
+mod comparing;
 mod designs;
 mod fetching;
 mod laws;
@@ -25,6 +26,7 @@ mod listing;
 mod outcome;
 mod prepared;
 mod report;
+mod sample;
 mod simulation;
 mod text;
 mod top;
@@ -32,8 +34,8 @@ mod verifying;
 
 pub use laws::{
     accepted_texts_keep_secrets, check_decides_what_it_can, each_dialogue_has_one_answer,
-    no_text_is_accepted_and_falsified, printed_values_falsify_their_texts,
-    stored_certificates_are_accepted,
+    no_text_is_accepted_and_falsified, printed_values_falsify_their_texts, refusals_are_sure,
+    secret_keepers_show_no_leak, stored_certificates_are_accepted,
 };
 pub use outcome::Outcome;
 pub use sv_judge::Spent;

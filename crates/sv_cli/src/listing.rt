@@ -19,6 +19,7 @@ use sv_flat::SigId;
 use sv_io::{PutFault, Sink, put_all};
 use sv_num::Name;
 use sv_obl::{Listing, OblFault, check_limits};
+use sv_report::Style;
 
 /// What is prepared of an admitted design to list its obligations.
 pub fn lines_of_design(alloc: Global, design: Design) -> Result<Prepared, AllocError>
@@ -26,23 +27,28 @@ pub fn lines_of_design(alloc: Global, design: Design) -> Result<Prepared, AllocE
 {
     match check_limits(alloc, &design) {
         Ok(_) => Ok(Prepared::Lines(design)),
-        Err(fault) => Ok(Prepared::Whole(report_of_fault(alloc, &design, fault)?)),
+        Err(fault) => Ok(Prepared::Whole(report_of_fault(alloc, Style::Lines, &design, fault)?)),
     }
 }
 
 /// The report of the first limit that a design exceeds.
 pub fn report_of_fault(
     alloc: Global,
+    style: Style,
     design: &Design,
     fault: OblFault,
 ) -> Result<Report, AllocError>
     requires { Told (excess (design_of design.now)) fault }
-    ensures { IfOk result (Says (ExceedsLimit (design_of design.now))) }
+    ensures { IfOk result (Says (ExceedsLimit style (design_of design.now))) }
 {
     match fault {
-        OblFault::Paths(target) => report_of_limit(alloc, 702, name_alone(alloc, design, target)?),
-        OblFault::Large(target) => report_of_limit(alloc, 712, name_alone(alloc, design, target)?),
-        OblFault::Many => report_of_limit(alloc, 703, Vec::new(alloc)),
+        OblFault::Paths(target) => {
+            report_of_limit(alloc, style, 702, name_alone(alloc, design, target)?)
+        }
+        OblFault::Large(target) => {
+            report_of_limit(alloc, style, 712, name_alone(alloc, design, target)?)
+        }
+        OblFault::Many => report_of_limit(alloc, style, 703, Vec::new(alloc)),
         OblFault::OutOfMemory => Err(AllocError),
     }
 }
@@ -66,6 +72,7 @@ pub fn put_lines<K: Sink>(alloc: Global, out: &mut K, design: &Design) -> Result
     ensures refused { OnErr result
         (WritesFront (K.accepted out.old) (list_text (design_of design.now)) (K.accepted out.new)) }
     ensures failed { IsErrOf result PutFault.Failed → Rose (K.faults out.old) (K.faults out.new) }
+    ensures kept { OnOk result (K.faults out.new ≡ K.faults out.old) }
 {
     match Listing::new(alloc, design) {
         Ok(mut listing) => {
@@ -94,6 +101,7 @@ fn put_targets<K: Sink>(
         (WritesFront (K.accepted out.old) (lines_left (design_of design.now) 0)
         (K.accepted out.new)) }
     ensures failed { IsErrOf result PutFault.Failed → Rose (K.faults out.old) (K.faults out.new) }
+    ensures kept { OnOk result (K.faults out.new ≡ K.faults out.old) }
     ensures counts { K.faults out.old ≤ K.faults out.new }
 {
     for s in 0..design.signals().len() {
@@ -120,6 +128,7 @@ fn put_target<K: Sink>(
         (WritesFront (K.accepted out.old) (lines_left (design_of design.now) target.0)
         (K.accepted out.new)) }
     ensures failed { IsErrOf result PutFault.Failed → Rose (K.faults out.old) (K.faults out.new) }
+    ensures kept { OnOk result (K.faults out.new ≡ K.faults out.old) }
     ensures counts { K.faults out.old ≤ K.faults out.new }
 {
     match listing.target_lines(alloc, design, target) {
@@ -143,6 +152,7 @@ fn put_selectors<K: Sink>(
         (lines_left (design_of design.now) (length design.now.signals.items))
         (K.accepted out.new)) }
     ensures failed { IsErrOf result PutFault.Failed → Rose (K.faults out.old) (K.faults out.new) }
+    ensures kept { OnOk result (K.faults out.new ≡ K.faults out.old) }
     ensures counts { K.faults out.old ≤ K.faults out.new }
 {
     match listing.selector_lines(alloc, design) {

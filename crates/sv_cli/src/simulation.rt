@@ -1,12 +1,13 @@
 // What `sim` comes to.
-ghost use Rattle.std.specs.Prelude.{◌≡◌, ℕ, ◌++◌, ◌≤◌, ◌+◌, ◌⊎◌, List, Some, IsSome, IfSome};
-ghost use Rattle.std.specs.Prelude.{length};
+ghost use Rattle.std.specs.Prelude.{◌≡◌, ◌↔◌, ℕ, ◌++◌, ◌≤◌, ◌+◌, ◌⊎◌, List, Some, IsSome, IfSome};
+ghost use Rattle.std.specs.Prelude.{IfNone, IsTrue, length};
 ghost use Rattle.std.specs.Option.{option_copied};
 ghost use Rattle.sv_flat.specs.Views.{design_of};
 ghost use Rattle.sv_io.specs.Count.{Rose};
+ghost use Rattle.sv_io.specs.Sink.{WritesFront};
 ghost use Rattle.sv_io.specs.Source.{WhateverFollows};
 ghost use Rattle.sv_simulate.specs.Simulated.{largest_stimulus, level_asked, WritesAllCycles};
-ghost use Rattle.sv_cli.specs.Answer.{answer_of};
+ghost use Rattle.sv_cli.specs.Answer.{Answer, answer_of};
 ghost use Rattle.sv_cli.specs.Prepared.{EndsAs, Performs};
 ghost use Rattle.sv_cli.specs.Simulates.{answer_by};
 
@@ -33,10 +34,18 @@ pub fn simulation<S: Source, K: Sink>(
         (λ stimulus. IfSome (answer_of result) (λ a. (printed : List ℕ)
         × EndsAs (design_of design.now) (option_copied level.entry) order stimulus a printed
         × (K.accepted out.new ≡ K.accepted out.old ++ printed))) }
+    ensures front_to_the_end { WhateverFollows (S.ended input.new) (S.given input.old)
+        (S.given input.new) (λ stimulus. IfNone (answer_of result) ((a : Answer)
+        × (printed : List ℕ)
+        × EndsAs (design_of design.now) (option_copied level.entry) order stimulus a printed
+        × WritesFront (K.accepted out.old) printed (K.accepted out.new))) }
+    ensures unfailed { IfSome (answer_of result) (λ _.
+        (S.faults input.new ≡ S.faults input.old) × (K.faults out.new ≡ K.faults out.old)) }
     ensures read_fault { result ≡ Outcome.ReadFault →
         (stimulus : List ℕ)
         × (S.given input.new ≡ S.given input.old ++ stimulus)
         × Rose (S.faults input.old) (S.faults input.new)
+        × (IsTrue (S.ended input.new) ↔ IsTrue (S.ended input.old))
         × WritesAllCycles (design_of design.now) (option_copied level.entry) stimulus
         (K.accepted out.old) (K.accepted out.new) }
     ensures write_fault { result ≡ Outcome.WriteFault → Rose (K.faults out.old) (K.faults out.new) }

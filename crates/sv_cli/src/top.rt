@@ -1,9 +1,9 @@
 // The top call.
-ghost use Rattle.std.specs.Prelude.{◌≡◌, ◌∷◌, ◌++◌, ◌+◌, ◌≤◌, ◌⊎◌, ℕ, List, None, Some, ⊤};
-ghost use Rattle.std.specs.Prelude.{IfSome, IfNone, IsSome, length};
+ghost use Rattle.std.specs.Prelude.{◌≡◌, ◌↔◌, ◌++◌, ◌+◌, ◌≤◌, ◌⊎◌, ℕ, List, None, Some};
+ghost use Rattle.std.specs.Prelude.{IfSome, IfNone, IsSome, IsTrue, length};
 ghost use Rattle.sv_flat.specs.Views.{design_of};
 ghost use Rattle.sv_io.specs.Count.{Rose};
-ghost use Rattle.sv_io.specs.Exchange.{Exchange, fetched, whole};
+ghost use Rattle.sv_io.specs.Exchange.{Exchange};
 ghost use Rattle.sv_io.specs.Sink.{WritesFront};
 ghost use Rattle.sv_io.specs.Source.{WhateverFollows};
 ghost use Rattle.sv_io.specs.Traffic.{files_by, input_by, output_by};
@@ -13,8 +13,9 @@ ghost use Rattle.sv_encoding.specs.CnfText.{cnf_text};
 ghost use Rattle.sv_blast.specs.Coded.{encoding_of};
 ghost use Rattle.sv_simulate.specs.Simulated.{largest_stimulus, level_asked, WritesAllCycles};
 ghost use Rattle.sv_words.specs.Words.{Request, request_of, words_of, plain, HasBudget};
-ghost use Rattle.sv_cli.specs.Answer.{answer_of, done};
+ghost use Rattle.sv_cli.specs.Answer.{Answer, answer_of, done, views_differ};
 ghost use Rattle.sv_cli.specs.Command.{file_in, top_in, Claims};
+ghost use Rattle.sv_cli.specs.Dialogues.{IsTextOf};
 ghost use Rattle.sv_cli.specs.Prepared.{IsReady, IsPerformed, Performs, IsSimulationWith};
 ghost use Rattle.sv_cli.specs.Prepared.{ReadiesFor, ReadiesWords};
 ghost use Rattle.sv_cli.specs.Runs.{Runs};
@@ -22,11 +23,12 @@ ghost use Rattle.sv_cli.specs.Texts.{HasValidObligations, KeepsSecrets};
 
 use crate::clauses::put_clauses;
 use crate::fetching::fetch_once;
-use crate::laws::accepted_texts_keep_secrets;
+use crate::laws::{accepted_texts_keep_secrets, secret_keepers_show_no_leak};
 use crate::listing::put_lines;
 use crate::outcome::Outcome;
-use crate::prepared::{NoReport, Prepared, file_in, prepare_text};
+use crate::prepared::{NoReport, Prepared, file_in, prepare_text, style_in};
 use crate::report::{Report, report_of_bare_limit, report_of_misuse};
+use crate::sample::prepare_sample;
 use crate::simulation::simulation;
 use std::alloc::Global;
 use sv_blast::Coded;
@@ -37,15 +39,16 @@ use sv_words::{Command, WordFault, read_words};
 // The bytes of the largest source file.
 const LARGEST_FILE: u64 = 1_048_576;
 
-/// Does what the words ask: `check FILE` says the verdict of the file's text, and stores the
-/// certificate under NAME with `--proof NAME`; `verify FILE PROOF` says whether the certificate of
-/// the file PROOF shows that the text keeps its secrets; `list FILE` lists its obligations,
-/// `cnf FILE NUMBER` prints the clauses of one of these, and `sim FILE` simulates its design on the
-/// stimulus that the input gives; each with the module of `--top M` as the text's top where that is
-/// named.
+/// Does what the words ask: `check FILE` says the verdict of the file's text, as JSON with `--json`,
+/// and stores the certificate under NAME with `--proof NAME`; `verify FILE PROOF` says whether the
+/// certificate of the file PROOF shows that the text keeps its secrets; `list FILE` lists its
+/// obligations, `cnf FILE NUMBER` prints the clauses of one of these, and `sim FILE` simulates its
+/// design on the stimulus that the input gives; `compare FILE A B` tells the first difference that
+/// the level of `--level` sees of its runs on two stimuli; each with the module of `--top M` as the
+/// text's top where that is named. `gen LANES` prints a sample design, or judges it with `--check`.
 ///
-/// It fetches FILE once, judges what that fetch handed out, and writes the answer, as the
-/// definitions of `Dialogues` say. What it says of a text holds for every cabinet, source and sink,
+/// It fetches FILE once, where the command has one, judges what that fetch handed out, and writes
+/// the answer, as the definitions of `Dialogues` say. What it says of a text holds for every cabinet, source and sink,
 /// those of the real system among them.
 pub fn run<C: Cabinet, S: Source, K: Sink>(
     alloc: Global,
@@ -54,22 +57,30 @@ pub fn run<C: Cabinet, S: Source, K: Sink>(
     input: &mut S,
     out: &mut K,
 ) -> Outcome
-    // The headline: the text that the fetch of FILE handed out keeps its secrets, from the module
-    // asked for as the top, where `check` or `verify` accepts it.
+    // The headline: the text that the fetch of FILE handed out, or the sample of `gen`, keeps its
+    // secrets, from the module asked for as the top, where `check`, `verify` or `gen --check`
+    // accepts it.
     ensures noninterference { result ≡ Outcome.Done →
         (request : Request) → request_of (words_of words.now) ≡ Some request → Claims request →
-        (text : List ℕ) × (rest : List Exchange)
-        × (C.exchanges cabinet.new ≡
-        C.exchanges cabinet.old ++ fetched (file_in request) (whole text) ∷ rest)
-        × KeepsSecrets (top_in request) text }
+        (text : List ℕ) × (exchanges : List Exchange)
+        × (C.exchanges cabinet.new ≡ C.exchanges cabinet.old ++ exchanges)
+        × IsTextOf request exchanges text × KeepsSecrets (top_in request) text }
 
     // And what carries it: each obligation of that text is valid.
     ensures valid { result ≡ Outcome.Done →
         (request : Request) → request_of (words_of words.now) ≡ Some request → Claims request →
-        (text : List ℕ) × (rest : List Exchange)
-        × (C.exchanges cabinet.new ≡
-        C.exchanges cabinet.old ++ fetched (file_in request) (whole text) ∷ rest)
-        × HasValidObligations (top_in request) text }
+        (text : List ℕ) × (exchanges : List Exchange)
+        × (C.exchanges cabinet.new ≡ C.exchanges cabinet.old ++ exchanges)
+        × IsTextOf request exchanges text × HasValidObligations (top_in request) text }
+
+    // Where `compare` tells that views differ, of inputs that look alike, the text that the fetch of
+    // FILE handed out does not keep its secrets.
+    ensures no_leak { (cycle signal : ℕ) → answer_of result ≡ Some (views_differ cycle signal) →
+        (request : Request) × (text : List ℕ) × (exchanges : List Exchange)
+        × (request_of (words_of words.now) ≡ Some request)
+        × (C.exchanges cabinet.new ≡ C.exchanges cabinet.old ++ exchanges)
+        × IsTextOf request exchanges text
+        × (KeepsSecrets (top_in request) text → ⊥) }
     ensures runs { Runs C.tells S.tells (words_of words.now)
         (record {
           files = files_by C.exchanges C.held C.fetch_faults C.store_faults cabinet.old;
@@ -84,6 +95,7 @@ pub fn run<C: Cabinet, S: Source, K: Sink>(
         result }
 {
     accepted_texts_keep_secrets();
+    secret_keepers_show_no_leak();
     match prepare(alloc, words, cabinet) {
         Ok(prepared) => perform(alloc, prepared, input, out),
         Err(NoReport::Unread) => Outcome::ReadFault,
@@ -120,11 +132,33 @@ fn prepare_command<C: Cabinet>(
         (files_by C.exchanges C.held C.fetch_faults C.store_faults cabinet.old)
         (files_by C.exchanges C.held C.fetch_faults C.store_faults cabinet.new) result }
 {
-    match fetch_once(alloc, file_in(&command), LARGEST_FILE, cabinet) {
-        Ok(bytes) => prepare_text(alloc, command, &bytes, cabinet),
-        Err(FetchFault::Long(_)) => Ok(Prepared::Whole(report_of_bare_limit(alloc, 701)?)),
-        Err(FetchFault::Failed) => Err(NoReport::Unread),
-        Err(FetchFault::OutOfMemory) => Err(NoReport::OutOfMemory),
+    match file_in(&command) {
+        Some(file) => match fetch_once(alloc, file, LARGEST_FILE, cabinet) {
+            Ok(bytes) => prepare_text(alloc, command, &bytes, cabinet),
+            Err(FetchFault::Long(_)) => {
+                Ok(Prepared::Whole(report_of_bare_limit(alloc, style_in(&command), 701)?))
+            }
+            Err(FetchFault::Failed) => Err(NoReport::Unread),
+            Err(FetchFault::OutOfMemory) => Err(NoReport::OutOfMemory),
+        },
+        None => prepare_alone(alloc, &command, cabinet),
+    }
+}
+
+// What is prepared for a command that reads no file.
+fn prepare_alone<C: Cabinet>(
+    alloc: Global,
+    command: &Command,
+    cabinet: &mut C,
+) -> Result<Prepared, NoReport>
+    requires { file_in (plain command.now) ≡ None }
+    ensures { ReadiesFor (plain command.now) C.tells
+        (files_by C.exchanges C.held C.fetch_faults C.store_faults cabinet.old)
+        (files_by C.exchanges C.held C.fetch_faults C.store_faults cabinet.new) result }
+{
+    match command {
+        Command::Gen { lanes, check } => prepare_sample(alloc, *lanes, *check, cabinet),
+        _ => unreachable!(),
     }
 }
 
@@ -143,10 +177,17 @@ fn perform<S: Source, K: Sink>(
         (λ stimulus. IfSome (answer_of result) (λ a. (printed : List ℕ)
         × IsPerformed prepared stimulus a printed
         × (K.accepted out.new ≡ K.accepted out.old ++ printed))) }
+    ensures front_to_the_end { WhateverFollows (S.ended input.new) (S.given input.old)
+        (S.given input.new) (λ stimulus. IfNone (answer_of result) ((a : Answer)
+        × (printed : List ℕ) × IsPerformed prepared stimulus a printed
+        × WritesFront (K.accepted out.old) printed (K.accepted out.new))) }
+    ensures unfailed { IfSome (answer_of result) (λ _.
+        (S.faults input.new ≡ S.faults input.old) × (K.faults out.new ≡ K.faults out.old)) }
     ensures read_fault { result ≡ Outcome.ReadFault →
         (stimulus : List ℕ)
         × (S.given input.new ≡ S.given input.old ++ stimulus)
         × Rose (S.faults input.old) (S.faults input.new)
+        × (IsTrue (S.ended input.new) ↔ IsTrue (S.ended input.old))
         × IsSimulationWith (λ level design.
         WritesAllCycles design level stimulus (K.accepted out.old) (K.accepted out.new)) prepared }
     ensures write_fault { result ≡ Outcome.WriteFault → Rose (K.faults out.old) (K.faults out.new) }
@@ -173,6 +214,7 @@ fn send<K: Sink>(out: &mut K, report: Report) -> Outcome
         (λ _. K.accepted out.new ≡ K.accepted out.old ++ report.text.items) }
     ensures front { IfNone (answer_of result)
         (WritesFront (K.accepted out.old) report.text.items (K.accepted out.new)) }
+    ensures unfailed { IfSome (answer_of result) (λ _. K.faults out.new ≡ K.faults out.old) }
     ensures no_read { result ≡ Outcome.ReadFault → ⊥ }
     ensures write_fault { result ≡ Outcome.WriteFault → Rose (K.faults out.old) (K.faults out.new) }
 {
@@ -192,6 +234,7 @@ fn send_lines<K: Sink>(alloc: Global, out: &mut K, design: &Design) -> Outcome
     ensures front { IfNone (answer_of result)
         (WritesFront (K.accepted out.old) (list_text (design_of design.now))
         (K.accepted out.new)) }
+    ensures unfailed { IfSome (answer_of result) (λ _. K.faults out.new ≡ K.faults out.old) }
     ensures no_read { result ≡ Outcome.ReadFault → ⊥ }
     ensures write_fault { result ≡ Outcome.WriteFault → Rose (K.faults out.old) (K.faults out.new) }
 {
@@ -210,6 +253,7 @@ fn send_clauses<K: Sink>(alloc: Global, out: &mut K, coded: &Coded) -> Outcome
     ensures front { IfNone (answer_of result)
         (WritesFront (K.accepted out.old) (cnf_text (encoding_of coded.now))
         (K.accepted out.new)) }
+    ensures unfailed { IfSome (answer_of result) (λ _. K.faults out.new ≡ K.faults out.old) }
     ensures no_read { result ≡ Outcome.ReadFault → ⊥ }
     ensures write_fault { result ≡ Outcome.WriteFault → Rose (K.faults out.old) (K.faults out.new) }
 {

@@ -18,6 +18,7 @@ use sv_design::Design;
 use sv_io::{Cabinet, FetchFault};
 use sv_judge::{Verified, verify};
 use sv_obl::check_limits;
+use sv_report::Style;
 
 // The bytes of the largest certificate.
 const LARGEST_PROOF: u64 = 268_435_456;
@@ -37,7 +38,7 @@ pub fn verify_design<C: Cabinet>(
 {
     match check_limits(alloc, design) {
         Ok(count) => Ok(Prepared::Whole(verify_fetched(alloc, design, count, proof, cabinet)?)),
-        Err(fault) => Ok(Prepared::Whole(report_of_fault(alloc, design, fault)?)),
+        Err(fault) => Ok(Prepared::Whole(report_of_fault(alloc, Style::Lines, design, fault)?)),
     }
 }
 
@@ -58,7 +59,7 @@ fn verify_fetched<C: Cabinet>(
 {
     match fetch_once(alloc, proof, LARGEST_PROOF, cabinet) {
         Ok(bytes) => Ok(report_of_proof(alloc, design, count, &bytes)?),
-        Err(FetchFault::Long(_)) => Ok(report_of_bare_limit(alloc, 710)?),
+        Err(FetchFault::Long(_)) => Ok(report_of_bare_limit(alloc, Style::Lines, 710)?),
         Err(FetchFault::Failed) => Err(NoReport::Unread),
         Err(FetchFault::OutOfMemory) => Err(NoReport::OutOfMemory),
     }
@@ -76,8 +77,8 @@ fn report_of_proof(
     ensures { IfOk result (Says (Judges (design_of design.now) bytes.now)) }
 {
     match verify(alloc, design, count, bytes)? {
-        Verified::Accepted(count) => report_of_acceptance(alloc, count),
+        Verified::Accepted(count) => report_of_acceptance(alloc, Style::Lines, count),
         Verified::Fault(line) => report_of_line(alloc, line),
-        Verified::TooLarge(number) => report_of_large(alloc, number),
+        Verified::TooLarge(number) => report_of_large(alloc, Style::Lines, number),
     }
 }

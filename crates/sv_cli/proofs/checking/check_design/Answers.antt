@@ -14,9 +14,9 @@ returns-in_err-decide_design-in-Ok g c =
     let C = g.C.Cabinet in
     let design = design_of c.args.design.now in
     let name = option_copied c.args.proof in
-    passed_on (MayStoreOwn name design) (MayStoreOwn name design)
-    (λ exchanges. Says (Decides name c.args.budget design exchanges))
-    (λ exchanges. Reports (Checks name c.args.budget design exchanges)) C.tells
+    passed_on (MayStoreOwn name design c.args.budget) (MayStoreOwn name design c.args.budget)
+    (λ exchanges. Says (Decides c.args.style name c.args.budget design exchanges))
+    (λ exchanges. Reports (Checks c.args.style name c.args.budget design exchanges)) C.tells
     (files_by C.exchanges C.held C.fetch_faults C.store_faults c.args.cabinet.now)
     (files_by C.exchanges C.held C.fetch_faults C.store_faults c.decide_design.new.cabinet)
     c.in_err-decide_design-in-Ok.field-0.0 c.from_residual.result (λ exchanges may. may)
@@ -25,7 +25,7 @@ returns-in_err-decide_design-in-Ok g c =
 pub returns-in_ok-decide_design-in-Ok : goal.returns-in_ok-decide_design-in-Ok
 returns-in_ok-decide_design-in-Ok g c =
     let C = g.C.Cabinet in
-    decided_checked (design_of c.args.design.now) (option_copied c.args.proof) c.args.budget
+    decided_checked c.args.style (design_of c.args.design.now) (option_copied c.args.proof) c.args.budget
     C.tells
     (files_by C.exchanges C.held C.fetch_faults C.store_faults c.args.cabinet.now)
     (files_by C.exchanges C.held C.fetch_faults C.store_faults c.decide_design.new.cabinet)
@@ -37,8 +37,8 @@ returns-in_err-report_of_fault-in-Err g c =
     let design = design_of c.args.design.now in
     let name = option_copied c.args.proof in
     let files = files_by C.exchanges C.held C.fetch_faults C.store_faults c.args.cabinet.now in
-    spent_readied (MayStoreOwn name design)
-    (λ exchanges. Reports (Checks name c.args.budget design exchanges)) C.tells files files []
+    spent_readied (MayStoreOwn name design c.args.budget)
+    (λ exchanges. Reports (Checks c.args.style name c.args.budget design exchanges)) C.tells files files []
     c.from_residual-in_err-report_of_fault-in-Err.result (none_passed C.tells files) (inl refl)
     c.from_residual-in_err-report_of_fault-in-Err.ensures.1
 
@@ -49,7 +49,7 @@ returns-in_ok-report_of_fault-in-Err g c =
     let name = option_copied c.args.proof in
     let files = files_by C.exchanges C.held C.fetch_faults C.store_faults c.args.cabinet.now in
     let report = c.in_ok-report_of_fault-in-Err.field-0 in
-    made_readied (MayStoreOwn name design)
-    (λ exchanges. Reports (Checks name c.args.budget design exchanges)) C.tells files
+    made_readied (MayStoreOwn name design c.args.budget)
+    (λ exchanges. Reports (Checks c.args.style name c.args.budget design exchanges)) C.tells files
     (Whole report) (inl refl)
-    (by_excess design name c.args.budget report c.in_ok-report_of_fault-in-Err.ensures)
+    (by_excess c.args.style design name c.args.budget report c.in_ok-report_of_fault-in-Err.ensures)

@@ -9,35 +9,20 @@ use Rattle.sv_obl.specs.Obligations.{obligations, Obligation}
 use Rattle.sv_obl.specs.Validity.{Falsifies}
 use Rattle.sv_obl.specs.Valuations.{valuation_of}
 use Rattle.sv_obl.specs.Views.{obligation_of}
-use Rattle.sv_proof.specs.Certificate.{AreLogs, plain_logs}
+use Rattle.sv_proof.specs.Certificate.{AreLogs, plain_logs, proof_text}
 use Rattle.sv_judge.specs.Answers.{WhereAccepted, WhereFails, WhereTooLarge, WhereUnknown}
-use Rattle.sv_judge.specs.Verdicts.{IsAccepted, AreRefutations, IsFalsified, EndsTooLarge, IsSpent}
+use Rattle.sv_judge.specs.Verdicts.{IsAccepted, AreRefutations, AreWithin, IsFalsified}
+use Rattle.sv_judge.specs.Verdicts.{EndsTooLarge, IsSpent}
 use Rattle.sv_judge.specs.declared.verdicts.Failure.{Failure}
 use Rattle.sv_judge.specs.declared.verdicts.Spent.{Spent}
-use Rattle.sv_cli.specs.Checks.{Decides, StoresProof, Accepts}
-use Rattle.sv_cli.specs.Prepared.{Says, MayStoreOwn}
+use Rattle.sv_report.specs.Styles.{accepted_in}
+use Rattle.sv_cli.specs.Answer.{done}
+use Rattle.sv_cli.specs.Checks.{Decides}
+use Rattle.sv_cli.specs.Prepared.{Readies, Says, MayStoreOwn, MayStoreBytes, StoresBytes}
 use Rattle.sv_cli.proofs.Judged.{asked_for, one_asks, one_falsified, falsified_told, too_large_told}
-use Rattle.sv_cli.proofs.Judged.{spent_told, by_falsified, by_too_large, by_spent, by_accepted}
-use Rattle.sv_cli.proofs.Passing.{none_passed, readied_as, made_readied, spent_readied}
+use Rattle.sv_cli.proofs.Judged.{spent_told, by_falsified, by_too_large, by_spent, proved_decided}
+use Rattle.sv_cli.proofs.Passing.{none_passed, made_readied, spent_readied}
 use Rattle.sv_cli.proofs.checking.decide_design.Goals as goal
-
-pub report_of_proved-requires-clause-accepted : goal.report_of_proved-requires-clause-accepted
-report_of_proved-requires-clause-accepted g c =
-    let design = design_of c.args.design.now in
-    subst (WhereAccepted (λ count logs. IsAccepted design count)) c.in-Accepted.is
-    c.in_ok-count.ensures.accepted
-
-pub report_of_proved-requires-clause-logs : goal.report_of_proved-requires-clause-logs
-report_of_proved-requires-clause-logs g c some =
-    let design = design_of c.args.design.now in
-    let keeps = asked_for c.args.proof c.is_some.result c.is_some.ensures some in
-    subst (λ ls. AreRefutations design (plain_logs ls) × AreLogs (plain_logs ls))
-    (sym c.deref.ensures.value) (
-      subst (WhereAccepted (λ count ls. AreRefutations design ls)) c.in-Accepted.is
-          (c.in_ok-count.ensures.refutations keeps),
-      subst (WhereAccepted (λ count ls. AreLogs ls)) c.in-Accepted.is
-          (c.in_ok-count.ensures.writable keeps),
-    )
 
 pub report_of_failure-requires-clause-query : goal.report_of_failure-requires-clause-query
 report_of_failure-requires-clause-query g c =
@@ -84,22 +69,41 @@ returns-in_err-count g c =
     let design = design_of c.args.design.now in
     let name = option_copied c.args.proof in
     let files = files_by C.exchanges C.held C.fetch_faults C.store_faults c.args.cabinet.now in
-    spent_readied (MayStoreOwn name design)
-    (λ exchanges. Says (Decides name c.args.budget design exchanges)) C.tells files files []
+    spent_readied (MayStoreOwn name design c.args.budget)
+    (λ exchanges. Says (Decides c.args.style name c.args.budget design exchanges)) C.tells files files []
     c.from_residual.result (none_passed C.tells files) (inl refl) c.from_residual.ensures.1
 
 pub returns-in-Accepted : goal.returns-in-Accepted
 returns-in-Accepted g c =
     let C = g.C.Cabinet in
     let design = design_of c.args.design.now in
+    let budget = c.args.budget in
     let name = option_copied c.args.proof in
-    readied_as (MayStoreOwn name design)
-    (λ exchanges. Says (λ answer printed.
-    StoresProof name design exchanges × Accepts design answer printed))
-    (λ exchanges. Says (Decides name c.args.budget design exchanges)) C.tells
+    let kept = plain_logs c.in-Accepted.logs.items in
+    let told = c.in_ok-count.ensures in
+    let accepted : IsAccepted design budget c.in-Accepted.count =
+    subst (WhereAccepted (λ count logs. IsAccepted design budget count)) c.in-Accepted.is
+    told.accepted in
+    proved_decided design c.requires.few budget c.in-Accepted.count accepted kept c.args.style name
+    C.tells
     (files_by C.exchanges C.held C.fetch_faults C.store_faults c.args.cabinet.now)
     (files_by C.exchanges C.held C.fetch_faults C.store_faults c.report_of_proved.new.cabinet)
-    c.report_of_proved.result (by_accepted design name c.args.budget) c.report_of_proved.ensures
+    c.report_of_proved.result
+    (λ some.
+    let keeps = asked_for c.args.proof c.is_some.result c.is_some.ensures some in (
+      subst (WhereAccepted (λ count ls. AreRefutations design ls)) c.in-Accepted.is
+          (told.refutations keeps),
+      subst (WhereAccepted (λ count ls. AreWithin budget ls)) c.in-Accepted.is
+          (told.within keeps),
+      subst (WhereAccepted (λ count ls. AreLogs ls)) c.in-Accepted.is (told.writable keeps),
+    ))
+    (subst (λ ls. let bytes = proof_text (plain_logs ls) in
+    Readies (MayStoreBytes name bytes)
+    (λ exchanges. Says (λ answer printed. StoresBytes name bytes exchanges
+    × (answer ≡ done) × (printed ≡ accepted_in c.args.style c.in-Accepted.count))) C.tells
+    (files_by C.exchanges C.held C.fetch_faults C.store_faults c.args.cabinet.now)
+    (files_by C.exchanges C.held C.fetch_faults C.store_faults c.report_of_proved.new.cabinet)
+    c.report_of_proved.result) c.deref.ensures.value c.report_of_proved.ensures)
 
 pub returns-in_err-report_of_failure-in-Fails : goal.returns-in_err-report_of_failure-in-Fails
 returns-in_err-report_of_failure-in-Fails g c =
@@ -107,8 +111,8 @@ returns-in_err-report_of_failure-in-Fails g c =
     let design = design_of c.args.design.now in
     let name = option_copied c.args.proof in
     let files = files_by C.exchanges C.held C.fetch_faults C.store_faults c.args.cabinet.now in
-    spent_readied (MayStoreOwn name design)
-    (λ exchanges. Says (Decides name c.args.budget design exchanges)) C.tells files files []
+    spent_readied (MayStoreOwn name design c.args.budget)
+    (λ exchanges. Says (Decides c.args.style name c.args.budget design exchanges)) C.tells files files []
     c.from_residual-in_err-report_of_failure-in-Fails.result (none_passed C.tells files) (inl refl)
     c.from_residual-in_err-report_of_failure-in-Fails.ensures.1
 
@@ -120,11 +124,11 @@ returns-in_ok-report_of_failure-in-Fails g c =
     let files = files_by C.exchanges C.held C.fetch_faults C.store_faults c.args.cabinet.now in
     let failure = c.in-Fails.failure in
     let report = c.in_ok-report_of_failure-in-Fails.field-0 in
-    made_readied (MayStoreOwn name design)
-    (λ exchanges. Says (Decides name c.args.budget design exchanges)) C.tells files report
+    made_readied (MayStoreOwn name design c.args.budget)
+    (λ exchanges. Says (Decides c.args.style name c.args.budget design exchanges)) C.tells files report
     (inl refl)
-    (by_falsified design name c.args.budget report
-    (falsified_told design c.args.budget failure.number failure.valuation
+    (by_falsified c.args.style design name c.args.budget report
+    (falsified_told design c.args.style c.args.budget failure.number failure.valuation
     (obligation_of failure.query)
     (subst (WhereFails (λ (f : Failure).
     IsFalsified design c.args.budget f.number f.valuation)) c.in-Fails.is
@@ -140,8 +144,8 @@ returns-in_err-report_of_large-in-TooLarge g c =
     let design = design_of c.args.design.now in
     let name = option_copied c.args.proof in
     let files = files_by C.exchanges C.held C.fetch_faults C.store_faults c.args.cabinet.now in
-    spent_readied (MayStoreOwn name design)
-    (λ exchanges. Says (Decides name c.args.budget design exchanges)) C.tells files files []
+    spent_readied (MayStoreOwn name design c.args.budget)
+    (λ exchanges. Says (Decides c.args.style name c.args.budget design exchanges)) C.tells files files []
     c.from_residual-in_err-report_of_large-in-TooLarge.result (none_passed C.tells files) (inl refl)
     c.from_residual-in_err-report_of_large-in-TooLarge.ensures.1
 
@@ -152,11 +156,11 @@ returns-in_ok-report_of_large-in-TooLarge g c =
     let name = option_copied c.args.proof in
     let files = files_by C.exchanges C.held C.fetch_faults C.store_faults c.args.cabinet.now in
     let report = c.in_ok-report_of_large-in-TooLarge.field-0 in
-    made_readied (MayStoreOwn name design)
-    (λ exchanges. Says (Decides name c.args.budget design exchanges)) C.tells files report
+    made_readied (MayStoreOwn name design c.args.budget)
+    (λ exchanges. Says (Decides c.args.style name c.args.budget design exchanges)) C.tells files report
     (inl refl)
-    (by_too_large design name c.args.budget report
-    (too_large_told design c.args.budget c.in-TooLarge.number
+    (by_too_large c.args.style design name c.args.budget report
+    (too_large_told design c.args.style c.args.budget c.in-TooLarge.number
     (subst (WhereTooLarge (EndsTooLarge design c.args.budget)) c.in-TooLarge.is
     c.in_ok-count.ensures.too_large)
     report c.in_ok-report_of_large-in-TooLarge.ensures))
@@ -167,8 +171,8 @@ returns-in_err-report_of_spent-in-Unknown g c =
     let design = design_of c.args.design.now in
     let name = option_copied c.args.proof in
     let files = files_by C.exchanges C.held C.fetch_faults C.store_faults c.args.cabinet.now in
-    spent_readied (MayStoreOwn name design)
-    (λ exchanges. Says (Decides name c.args.budget design exchanges)) C.tells files files []
+    spent_readied (MayStoreOwn name design c.args.budget)
+    (λ exchanges. Says (Decides c.args.style name c.args.budget design exchanges)) C.tells files files []
     c.from_residual-in_err-report_of_spent-in-Unknown.result (none_passed C.tells files) (inl refl)
     c.from_residual-in_err-report_of_spent-in-Unknown.ensures.1
 
@@ -180,11 +184,11 @@ returns-in_ok-report_of_spent-in-Unknown g c =
     let files = files_by C.exchanges C.held C.fetch_faults C.store_faults c.args.cabinet.now in
     let spent = c.in-Unknown.spent in
     let report = c.in_ok-report_of_spent-in-Unknown.field-0 in
-    made_readied (MayStoreOwn name design)
-    (λ exchanges. Says (Decides name c.args.budget design exchanges)) C.tells files report
+    made_readied (MayStoreOwn name design c.args.budget)
+    (λ exchanges. Says (Decides c.args.style name c.args.budget design exchanges)) C.tells files report
     (inl refl)
-    (by_spent design name c.args.budget report
-    (spent_told design c.args.budget spent.obligation (plain_log spent.log)
+    (by_spent c.args.style design name c.args.budget report
+    (spent_told design c.args.style c.args.budget spent.obligation (plain_log spent.log)
     (subst (WhereUnknown (λ (s : Spent).
     IsSpent design c.args.budget s.obligation (plain_log s.log))) c.in-Unknown.is
     c.in_ok-count.ensures.unknown)

@@ -32,6 +32,7 @@ returns-in-Ok g c =
     (store_passed C.tells {T = Unit {0}} {E = StoreFault} old new name given
     (Ok (tt {0})) c.in-Ok.ensures.exchange
     c.in-Ok.ensures.stored c.in-Ok.ensures.refused c.in-Ok.ensures.others)
+    (record { fetches = c.in-Ok.ensures.fetch_counts; stores = c.in-Ok.ensures.kept })
 
 pub returns-in-Err-Failed : goal.returns-in-Err-Failed
 returns-in-Err-Failed g c =

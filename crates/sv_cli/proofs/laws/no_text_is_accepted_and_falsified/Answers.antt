@@ -3,15 +3,15 @@ use Rattle.sv_cli.proofs.Apart.{accepted_valid, not_falsified}
 use Rattle.sv_cli.proofs.laws.no_text_is_accepted_and_falsified.Goals as goal
 
 pub returns-clause-accepted : goal.returns-clause-accepted
-returns-clause-accepted c top text passes count accepted =
+returns-clause-accepted c top text passes budget count accepted =
     accepted_valid (λ design checked o steps asked refutes.
     c.unmet_clauses_mean_valid.ensures design o checked asked
     (c.refuted_has_no_solution.ensures (encoding design o).clauses steps refutes))
-    top text passes count accepted
+    top text passes budget count accepted
 
 pub returns-clause-apart : goal.returns-clause-apart
-returns-clause-apart c top text passes count budget number v accepted falsified =
+returns-clause-apart c top text passes most count budget number v accepted falsified =
     not_falsified (λ design checked o steps asked refutes.
     c.unmet_clauses_mean_valid.ensures design o checked asked
     (c.refuted_has_no_solution.ensures (encoding design o).clauses steps refutes))
-    top text passes count budget number v accepted falsified
+    top text passes most count budget number v accepted falsified

@@ -1,4 +1,4 @@
-use Rattle.std.proofs.Common.{◌+◌, arith}
+use Rattle.std.proofs.Common.{◌+◌, ◌∙◌, refl}
 use Rattle.sv_flat.specs.Views.{design_of}
 use Rattle.sv_obl.specs.ListParts.{lines_left}
 use Rattle.sv_cli.proofs.Lines.{none_put, then_put, front_after, on_error}
@@ -6,7 +6,7 @@ use Rattle.sv_cli.proofs.listing.put_targets.Goals as goal
 
 pub loop-s-init : goal.loop-s-init
 loop-s-init g c = record {
-  counts = omega arith;
+  kept = refl;
   at = c.requires.at;
   put = none_put (g.K.Sink.accepted c.args.out.now) (lines_left (design_of c.args.design.now) 0);
 }
@@ -15,10 +15,7 @@ pub loop-s-preserved : goal.loop-s-preserved
 loop-s-preserved g c =
     let left = lines_left (design_of c.args.design.now) in
     record {
-      counts =
-          let before = c.loop-s.invariant.counts in
-          let more = c.in_ok-put_target.ensures.counts in
-          omega arith;
+      kept = c.in_ok-put_target.ensures.kept ∙ c.loop-s.invariant.kept;
       at = c.in_ok-put_target.ensures.next;
       put = then_put (g.K.Sink.accepted c.args.out.now) (left 0) (left c.loop-s.s)
           (left (c.loop-s.s + 1)) (g.K.Sink.accepted c.loop-s.out)

@@ -7,5 +7,5 @@ use Rattle.sv_cli.proofs.report.report_of_bare_limit.Goals as goal
 pub returns : goal.returns
 returns c =
     subst (λ (ns : List (List ℕ)).
-    IfOk c.report_of_limit.result (Says (TellsLimit c.args.number ns))) c.new.ensures.items
+    IfOk c.report_of_limit.result (Says (TellsLimit c.args.style c.args.number ns))) c.new.ensures.items
     c.report_of_limit.ensures

@@ -1,5 +1,5 @@
 use Rattle.std.proofs.Common.{refl, ap, ◌∙◌}
-use Rattle.sv_report.specs.Text.{limit_text}
+use Rattle.sv_report.specs.Styles.{limit_in}
 use Rattle.sv_cli.specs.Answer.{limit_exceeded}
 use Rattle.sv_cli.proofs.report.report_of_limit.Goals as goal
 
@@ -9,6 +9,7 @@ returns c = (
   refl,
   record {
     answers = refl;
-    prints = c.in_ok-text.ensures ∙ ap (limit_text c.args.number) c.deref.ensures.value;
+    prints =
+        c.in_ok-text.ensures ∙ ap (limit_in c.args.style c.args.number) c.deref.ensures.value;
   },
 )

@@ -3,7 +3,7 @@ use Rattle.std.specs.Prelude.{Err}
 use Rattle.std.specs.Option.{option_copied}
 use Rattle.sv_flat.specs.Views.{design_of}
 use Rattle.sv_cli.specs.Answer.{answer_of}
-use Rattle.sv_cli.proofs.Sending.{ended, stopped, ended_whatever}
+use Rattle.sv_cli.proofs.Sending.{ended, stopped, ended_whatever, stopped_whatever}
 use Rattle.sv_cli.proofs.simulation.simulation.Goals as goal
 
 pub returns-in-Ok-clause-performed : goal.returns-in-Ok-clause-performed
@@ -48,7 +48,7 @@ pub returns-in-Err-Read-clause-read_fault : goal.returns-in-Err-Read-clause-read
 returns-in-Err-Read-clause-read_fault g c fault =
     let read = c.in-Err-Read.is ∙ ap Err c.in-Err-Read.field-0-is in
     let all = c.simulate.ensures.prompt read in
-    (all.0, all.1, c.simulate.ensures.read_fault read, all.2)
+    (all.0, all.1, c.simulate.ensures.read_fault read, c.simulate.ensures.unended read, all.2)
 
 pub returns-in-Err-Write-clause-write_fault : goal.returns-in-Err-Write-clause-write_fault
 returns-in-Err-Write-clause-write_fault g c fault =
@@ -63,3 +63,27 @@ returns-in-Ok-clause-to_the_end g c =
     (g.S.Source.given c.simulate.new.input) (g.K.Sink.accepted c.args.out.now)
     (g.K.Sink.accepted c.simulate.new.out) (answer_of c.outcome_of.result) c.in-Ok.ending
     c.outcome_of.ensures c.in-Ok.ensures.to_the_end
+
+pub returns-in-Err-Read-clause-front_to_the_end :
+    goal.returns-in-Err-Read-clause-front_to_the_end
+returns-in-Err-Read-clause-front_to_the_end g c =
+    stopped_whatever (design_of c.args.design.now) (option_copied c.args.level) c.args.order
+    (g.S.Source.ended c.simulate.new.input) (g.S.Source.given c.args.input.now)
+    (g.S.Source.given c.simulate.new.input) (g.K.Sink.accepted c.args.out.now)
+    (g.K.Sink.accepted c.simulate.new.out) c.in-Err-Read.ensures.front_to_the_end
+
+pub returns-in-Err-Write-clause-front_to_the_end :
+    goal.returns-in-Err-Write-clause-front_to_the_end
+returns-in-Err-Write-clause-front_to_the_end g c =
+    stopped_whatever (design_of c.args.design.now) (option_copied c.args.level) c.args.order
+    (g.S.Source.ended c.simulate.new.input) (g.S.Source.given c.args.input.now)
+    (g.S.Source.given c.simulate.new.input) (g.K.Sink.accepted c.args.out.now)
+    (g.K.Sink.accepted c.simulate.new.out) c.in-Err-Write.ensures.front_to_the_end
+
+pub returns-in-Err-OutOfMemory-clause-front_to_the_end :
+    goal.returns-in-Err-OutOfMemory-clause-front_to_the_end
+returns-in-Err-OutOfMemory-clause-front_to_the_end g c =
+    stopped_whatever (design_of c.args.design.now) (option_copied c.args.level) c.args.order
+    (g.S.Source.ended c.simulate.new.input) (g.S.Source.given c.args.input.now)
+    (g.S.Source.given c.simulate.new.input) (g.K.Sink.accepted c.args.out.now)
+    (g.K.Sink.accepted c.simulate.new.out) c.in-Err-OutOfMemory.ensures.front_to_the_end

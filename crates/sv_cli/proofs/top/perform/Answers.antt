@@ -1,5 +1,6 @@
 use Rattle.std.proofs.Common.{◌≡◌, ℕ, List, ◌++◌, Some, ◌⊎◌, refl, sym, subst}
-use Rattle.std.specs.Prelude.{IfSome, IsSome, Option}
+use Rattle.std.specs.Prelude.{IfSome, IfNone, IsSome, Option}
+use Rattle.sv_io.specs.Sink.{WritesFront}
 use Rattle.sv_flat.specs.Views.{design_of}
 use Rattle.sv_io.specs.Source.{WhateverFollows}
 use Rattle.sv_obl.specs.ListLines.{list_text}
@@ -9,7 +10,7 @@ use Rattle.sv_simulate.specs.Simulated.{level_asked, WritesAllCycles}
 use Rattle.sv_cli.specs.declared.prepared.Prepared.{Prepared}
 use Rattle.sv_cli.specs.Answer.{Answer, answer_of, done}
 use Rattle.sv_cli.specs.Prepared.{IsReady, EndsAs, IsPerformed, Performs, IsSimulationWith}
-use Rattle.sv_cli.proofs.Sending.{few_taken, sent, some_given, sent_whatever}
+use Rattle.sv_cli.proofs.Sending.{few_taken, sent, some_given, sent_whatever, front_whatever}
 use Rattle.sv_cli.proofs.top.perform.Goals as goal
 
 pub returns-in-Whole-clause-performed : goal.returns-in-Whole-clause-performed
@@ -81,13 +82,14 @@ returns-in-Simulation-clause-read_fault g c failed =
       fault.0,
       fault.1,
       fault.2,
+      fault.3,
       subst (λ (p : Prepared). IsSimulationWith (λ level design.
           WritesAllCycles design level fault.0 (g.K.Sink.accepted c.args.out.now)
           (g.K.Sink.accepted c.simulation.new.out)) p) (sym c.in-Simulation.is)
           (subst (λ (l : Option (List ℕ)).
           WritesAllCycles (design_of c.in-Simulation.design) l fault.0
           (g.K.Sink.accepted c.args.out.now) (g.K.Sink.accepted c.simulation.new.out))
-          c.as_deref.ensures.value fault.3),
+          c.as_deref.ensures.value fault.4),
     )
 
 pub returns-in-Simulation-clause-input_unchanged :
@@ -153,3 +155,59 @@ returns-in-Simulation-clause-to_the_end g c =
     IfSome (answer_of c.simulation.result) (λ a. (printed : List ℕ)
     × EndsAs (design_of c.in-Simulation.design) l c.in-Simulation.order stimulus a printed
     × (new ≡ old ++ printed)))) c.as_deref.ensures.value c.simulation.ensures.to_the_end)
+
+pub returns-in-Whole-clause-front_to_the_end : goal.returns-in-Whole-clause-front_to_the_end
+returns-in-Whole-clause-front_to_the_end g c =
+    let report = c.in-Whole.report in
+    let given = g.S.Source.given c.args.input.now in
+    let old = g.K.Sink.accepted c.args.out.now in
+    let new = g.K.Sink.accepted c.send.new.out in
+    let ready : IsSome (answer_of report.outcome) = subst IsReady c.in-Whole.is c.requires in
+    let first = some_given (answer_of report.outcome) ready in
+    subst (λ (p : Prepared). WhateverFollows (g.S.Source.ended c.args.input.now) given given
+    (λ stimulus. IfNone (answer_of c.send.result) ((a : Answer) × (printed : List ℕ)
+    × IsPerformed p stimulus a printed × WritesFront old printed new))) (sym c.in-Whole.is)
+    (λ goes_on taken more same.
+    front_whatever (λ (a : Answer). answer_of report.outcome ≡ Some a) report.text.items old new
+    first.0 first.1 (answer_of c.send.result) c.send.ensures.front)
+
+pub returns-in-Lines-clause-front_to_the_end : goal.returns-in-Lines-clause-front_to_the_end
+returns-in-Lines-clause-front_to_the_end g c =
+    let given = g.S.Source.given c.args.input.now in
+    let old = g.K.Sink.accepted c.args.out.now in
+    let new = g.K.Sink.accepted c.send_lines.new.out in
+    subst (λ (p : Prepared). WhateverFollows (g.S.Source.ended c.args.input.now) given given
+    (λ stimulus. IfNone (answer_of c.send_lines.result) ((a : Answer) × (printed : List ℕ)
+    × IsPerformed p stimulus a printed × WritesFront old printed new))) (sym c.in-Lines.is)
+    (λ goes_on taken more same.
+    front_whatever (λ (a : Answer). a ≡ done) (list_text (design_of c.in-Lines.design)) old new
+    done refl (answer_of c.send_lines.result) c.send_lines.ensures.front)
+
+pub returns-in-Clauses-clause-front_to_the_end : goal.returns-in-Clauses-clause-front_to_the_end
+returns-in-Clauses-clause-front_to_the_end g c =
+    let given = g.S.Source.given c.args.input.now in
+    let old = g.K.Sink.accepted c.args.out.now in
+    let new = g.K.Sink.accepted c.send_clauses.new.out in
+    subst (λ (p : Prepared). WhateverFollows (g.S.Source.ended c.args.input.now) given given
+    (λ stimulus. IfNone (answer_of c.send_clauses.result) ((a : Answer) × (printed : List ℕ)
+    × IsPerformed p stimulus a printed × WritesFront old printed new))) (sym c.in-Clauses.is)
+    (λ goes_on taken more same.
+    front_whatever (λ (a : Answer). a ≡ done) (cnf_text (encoding_of c.in-Clauses.coded)) old new
+    done refl (answer_of c.send_clauses.result) c.send_clauses.ensures.front)
+
+pub returns-in-Simulation-clause-front_to_the_end :
+    goal.returns-in-Simulation-clause-front_to_the_end
+returns-in-Simulation-clause-front_to_the_end g c =
+    let ended = g.S.Source.ended c.simulation.new.input in
+    let given_old = g.S.Source.given c.args.input.now in
+    let given_new = g.S.Source.given c.simulation.new.input in
+    let old = g.K.Sink.accepted c.args.out.now in
+    let new = g.K.Sink.accepted c.simulation.new.out in
+    subst (λ (p : Prepared). WhateverFollows ended given_old given_new (λ stimulus.
+    IfNone (answer_of c.simulation.result) ((a : Answer) × (printed : List ℕ)
+    × IsPerformed p stimulus a printed × WritesFront old printed new))) (sym c.in-Simulation.is)
+    (subst (λ (l : Option (List ℕ)). WhateverFollows ended given_old given_new (λ stimulus.
+    IfNone (answer_of c.simulation.result) ((a : Answer) × (printed : List ℕ)
+    × EndsAs (design_of c.in-Simulation.design) l c.in-Simulation.order stimulus a printed
+    × WritesFront old printed new))) c.as_deref.ensures.value
+    c.simulation.ensures.front_to_the_end)

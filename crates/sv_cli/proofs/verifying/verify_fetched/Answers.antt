@@ -36,7 +36,7 @@ returns-in-Ok g c =
     let new = files_by C.exchanges C.held C.fetch_faults C.store_faults c.fetch_once.new.cabinet in
     let report = c.in_ok-report_of_proof-in-Ok.field-0 in
     judged_readied proof design c.requires.few C.tells old new c.in-Ok.bytes
-    c.in-Ok.ensures.passed c.in-Ok.ensures.within report
+    c.in-Ok.ensures.passed c.in-Ok.ensures.within c.in-Ok.ensures.kept report
     (subst (λ (bytes : List ℕ). Says (Judges design bytes) report) c.deref.ensures.value
     c.in_ok-report_of_proof-in-Ok.ensures)
 
@@ -69,7 +69,7 @@ returns-in-Err-Long g c =
     (subst (λ (f : FetchFault). let r : Result (Vec ℕ) FetchFault = Err f in
     IfLong r (λ bytes. length bytes ≡ largest_proof + 1)) c.in-Err-Long.field-0-is
     c.in-Err-Long.ensures.long)
-    c.in_ok-report_of_bare_limit-in-Err-Long.field-0
+    c.in-Err-Long.ensures.kept c.in_ok-report_of_bare_limit-in-Err-Long.field-0
     c.in_ok-report_of_bare_limit-in-Err-Long.ensures
 
 pub returns-in-Err-Failed : goal.returns-in-Err-Failed

@@ -8,9 +8,10 @@
 //! contract.
 #![tactic(auto)]
 
-ghost use Rattle.std.specs.Prelude.{◌≡◌};
+ghost use Rattle.std.specs.Prelude.{◌≡◌, ℕ, List, [], ◌∷◌, codes};
 ghost use Rattle.sv_words.specs.Words.{words_of};
-ghost use Rattle.secv.specs.Ends.{IsShown, Shows, Prints, Ends, traffic};
+ghost use Rattle.secv.specs.Ends.{IsHelp, IsShown, Prints, Ends, traffic};
+ghost use Rattle.secv.specs.Shown.{help_text, version_text};
 
 mod messages;
 
@@ -25,7 +26,7 @@ const HELP: &str =
     "secv checks designs in SecVerilog: Verilog in which every signal has a security label.
 
 usage:
-  secv check FILE [--proof NAME] [--budget NUMBER] [--top MODULE]
+  secv check FILE [--proof NAME] [--budget NUMBER] [--json] [--top MODULE]
                                     say whether the labels of a design keep every secret
   secv verify FILE PROOF [--top MODULE]
                                     say whether a certificate proves a design to keep every secret
@@ -34,13 +35,18 @@ usage:
                                     print the clauses of one obligation of a design, as DIMACS
   secv sim FILE [--level POINT] [--order NUMBER] [--top MODULE]
                                     simulate a design on the stimulus of standard input
+  secv compare FILE A B --level POINT [--top MODULE]
+                                    run a design on two stimuli and tell the first difference
+                                    that a level sees
+  secv gen LANES [--check]          print a sample design of 1 to 200 lanes, or check it
   secv COMMAND --help               say more of one command
   secv --help                       print this text
   secv --version                    print the version
 
-exit status: 0 accepted, listed, encoded or simulated, 1 refused, 2 wrong words,
-             3 unknown within the budget, 4 unreadable file or input,
-             5 unwritable output or certificate, 6 out of memory
+exit status: 0 accepted, printed or equal, 1 refused or two runs differ,
+             2 wrong words, 3 unknown within the budget,
+             4 unreadable file or input, 5 unwritable output or certificate,
+             6 out of memory
 ";
 
 const VERSION: &str = "secv 0.1.0\n";
@@ -87,7 +93,11 @@ fn answer(
     input: &mut StdSource<Stdin>,
     out: &mut StdSink<Stdout>,
 ) -> u8
-    ensures shown { IsShown (words_of words.now) → Shows 0 out.old out.new result }
+    ensures help { IsHelp (words_of words.now) → Prints help_text 0 out.old out.new result }
+    ensures version { words_of words.now ≡ codes "--version" ∷ [] →
+        Prints version_text 0 out.old out.new result }
+    ensures shown { IsShown (words_of words.now) →
+        (text : List ℕ) × Prints text 0 out.old out.new result }
     ensures alone { IsShown (words_of words.now) →
         (cabinet.new ≡ cabinet.old) × (input.new ≡ input.old) }
     ensures ends { (IsShown (words_of words.now) → ⊥) →
@@ -96,6 +106,7 @@ fn answer(
 {
     match words {
         [word] if word.as_str() == "--help" => print(person, out, HELP, DONE),
+        [word] if word.as_str() == "-h" => print(person, out, HELP, DONE),
         [word] if word.as_str() == "--version" => print(person, out, VERSION, DONE),
         words => match help_asked(words) {
             Some(name) => print_help(person, out, name),
@@ -106,7 +117,7 @@ fn answer(
 
 // The help of a command.
 fn print_help(person: Person, out: &mut StdSink<Stdout>, name: CommandName) -> u8
-    ensures { Shows 0 out.old out.new result }
+    ensures { (text : List ℕ) × Prints text 0 out.old out.new result }
 {
     match help_text(person.alloc, name) {
         Ok(text) => print(person, out, text.as_str(), DONE),
@@ -116,8 +127,7 @@ fn print_help(person: Person, out: &mut StdSink<Stdout>, name: CommandName) -> u
 
 // Writes the text. It gives the status, or that of a write fault or of want of memory.
 fn print(person: Person, out: &mut StdSink<Stdout>, text: &str, status: u8) -> u8
-    ensures written { Prints text.now status out.old out.new result }
-    ensures shown { Shows status out.old out.new result }
+    ensures { Prints text.now status out.old out.new result }
 {
     match put_all(out, text.as_bytes()) {
         Ok(()) => status,
@@ -151,7 +161,7 @@ fn command(
     let outcome = run(person.alloc, words, cabinet, input, out);
     let causes = Causes {
         file: cabinet.last_error(),
-        one_was_read: cabinet.has_fetched(),
+        files_read: cabinet.files_read(),
         input: input.last_error(),
         output: out.last_error(),
     };

@@ -19,11 +19,11 @@ pub struct Person {
 }
 
 /// The system's error at the last call that failed, of the files, of the input and of the output.
-/// `one_was_read` says that a file was read before one failed.
+/// `files_read` says how many files were read before one failed.
 #[derive(Drop)]
 pub struct Causes<'a> {
     pub file: Option<&'a io::Error>,
-    pub one_was_read: bool,
+    pub files_read: u32,
     pub input: Option<&'a io::Error>,
     pub output: Option<&'a io::Error>,
 }
@@ -148,6 +148,7 @@ fn command_of(person: Person, words: &[String]) -> Option<Command> {
     read_words(person.alloc, words).ok()
 }
 
+// FILE of a command; `gen` has none, and its text is the sample.
 fn file_in(command: &Command) -> &str {
     match command {
         Command::Check { file, .. } => file.as_str(),
@@ -155,15 +156,29 @@ fn file_in(command: &Command) -> &str {
         Command::List { file, .. } => file.as_str(),
         Command::Cnf { file, .. } => file.as_str(),
         Command::Sim { file, .. } => file.as_str(),
+        Command::Compare { file, .. } => file.as_str(),
+        Command::Gen { .. } => "sample",
     }
 }
 
-// The certificate that is read or to be stored.
-fn certificate_in(command: &Command) -> Option<&str> {
+// The file that a command reads once it has read so many.
+fn next_file(command: &Command, files_read: u32) -> &str {
     match command {
-        Command::Check { proof, .. } => proof.as_deref(),
-        Command::Verify { proof, .. } => Some(proof.as_str()),
-        _ => None,
+        Command::Verify { proof, .. } if files_read > 0 => proof.as_str(),
+        Command::Compare { a, .. } if files_read == 1 => a.as_str(),
+        Command::Compare { b, .. } if files_read > 1 => b.as_str(),
+        _ => file_in(command),
+    }
+}
+
+// The file that a command stores.
+fn stored_file(command: &Command) -> &str {
+    match command {
+        Command::Check {
+            proof: Some(name),
+            ..
+        } => name.as_str(),
+        _ => file_in(command),
     }
 }
 
@@ -196,7 +211,11 @@ fn explain_spent(person: Person, obligation: u32) {
 // The words that a command takes behind its name.
 fn usage_of(command: &str) -> &'static str {
     if command == "check" {
-        "FILE [--proof NAME] [--budget NUMBER] [--top MODULE]"
+        "FILE [--proof NAME] [--budget NUMBER] [--json] [--top MODULE]"
+    } else if command == "compare" {
+        "FILE A B --level POINT [--top MODULE]"
+    } else if command == "gen" {
+        "LANES [--check]"
     } else if command == "verify" {
         "FILE PROOF [--top MODULE]"
     } else if command == "sim" {
@@ -240,28 +259,27 @@ pub fn explain_words(person: Person, fault: &str) {
 
 // Why the system did not read the file, or else the input.
 fn explain_read(person: Person, words: &[String], causes: &Causes) {
-    match causes.file {
-        Some(error) => explain_file(person, words, causes.one_was_read, error),
-        None => explain_input(person, causes.input),
+    match (causes.file, command_of(person, words)) {
+        (Some(error), Some(command)) => {
+            explain_file(person, next_file(&command, causes.files_read), error)
+        }
+        (Some(_), None) => explain_memory(person),
+        (None, _) => explain_input(person, causes.input),
     }
 }
 
 // Why the system did not store the certificate, or else did not write the output.
 fn explain_write(person: Person, words: &[String], causes: &Causes) {
-    match causes.file {
-        Some(error) => explain_file(person, words, true, error),
-        None => explain_output(person, causes.output),
+    match (causes.file, command_of(person, words)) {
+        (Some(error), Some(command)) => explain_file(person, stored_file(&command), error),
+        (Some(_), None) => explain_memory(person),
+        (None, _) => explain_output(person, causes.output),
     }
 }
 
-// The file, or the certificate beside it, and why the system did not read or store it. Control
-// characters of the name are escaped.
-fn explain_file(person: Person, words: &[String], is_certificate: bool, error: &io::Error) {
-    let Some(command) = command_of(person, words) else {
-        return explain_memory(person);
-    };
-    let certificate = certificate_in(&command).filter(|_| is_certificate);
-    let name = certificate.unwrap_or(file_in(&command)).escape_debug();
+// A file, and why the system did not read or store it. Control characters of the name are escaped.
+fn explain_file(person: Person, file: &str, error: &io::Error) {
+    let name = file.escape_debug();
     // not used: where this cannot be written, the status tells of it
     let _ = eprintln!(person.stderr; "secv: {name}: {error}");
 }

@@ -6,5 +6,6 @@ returns c = record {
   is = c.status.ensures;
   noninterference = c.run-outcome.ensures.noninterference;
   valid = c.run-outcome.ensures.valid;
+  no_leak = c.run-outcome.ensures.no_leak;
   runs = c.run-outcome.ensures.runs;
 }

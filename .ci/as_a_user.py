@@ -32,7 +32,7 @@ SYNTAX = [(b"module m; \x80", b"refused 101 bad-byte 1:11\n"), (b"8'q1", b"refus
 HELP = b"""secv checks designs in SecVerilog: Verilog in which every signal has a security label.
 
 usage:
-  secv check FILE [--proof NAME] [--budget NUMBER] [--top MODULE]
+  secv check FILE [--proof NAME] [--budget NUMBER] [--json] [--top MODULE]
                                     say whether the labels of a design keep every secret
   secv verify FILE PROOF [--top MODULE]
                                     say whether a certificate proves a design to keep every secret
@@ -41,13 +41,18 @@ usage:
                                     print the clauses of one obligation of a design, as DIMACS
   secv sim FILE [--level POINT] [--order NUMBER] [--top MODULE]
                                     simulate a design on the stimulus of standard input
+  secv compare FILE A B --level POINT [--top MODULE]
+                                    run a design on two stimuli and tell the first difference
+                                    that a level sees
+  secv gen LANES [--check]          print a sample design of 1 to 200 lanes, or check it
   secv COMMAND --help               say more of one command
   secv --help                       print this text
   secv --version                    print the version
 
-exit status: 0 accepted, listed, encoded or simulated, 1 refused, 2 wrong words,
-             3 unknown within the budget, 4 unreadable file or input,
-             5 unwritable output or certificate, 6 out of memory
+exit status: 0 accepted, printed or equal, 1 refused or two runs differ,
+             2 wrong words, 3 unknown within the budget,
+             4 unreadable file or input, 5 unwritable output or certificate,
+             6 out of memory
 """
 CNF_HELP = b"""Print the clauses of one obligation of a design, as DIMACS
 
@@ -71,6 +76,7 @@ Options:
       --proof <NAME>     Store the certificate of an accepted design in this file
       --budget <NUMBER>  Learn at most this many clauses for each obligation, 20000 unless given
       --top <MODULE>     The module to take as the top
+      --json             Print the verdict as JSON, on one line
 """
 VERIFY_HELP = b"""Say whether a certificate proves that the labels of a design keep every secret
 
@@ -105,16 +111,49 @@ Options:
       --order <NUMBER>  Run the processes in the order of this number
       --top <MODULE>    The module to take as the top
 """
-HELPS = {"check": CHECK_HELP, "verify": VERIFY_HELP, "list": LIST_HELP, "cnf": CNF_HELP, "sim": SIM_HELP}
+COMPARE_HELP = b"""Run a design on two stimuli and tell the first difference that a level sees
+
+Usage: secv compare [OPTIONS] --level <POINT> <FILE> <A> <B>
+
+Arguments:
+  <FILE>  The file of the design
+  <A>     The file of the first stimulus
+  <B>     The file of the second stimulus
+
+Options:
+      --level <POINT>  Compare only the signals whose labels flow to this point
+      --top <MODULE>   The module to take as the top
+"""
+GEN_HELP = b"""Print a sample design of so many lanes, or check it
+
+Usage: secv gen [OPTIONS] <LANES>
+
+Arguments:
+  <LANES>  The number of lanes, 1 to 200
+
+Options:
+      --check  Print the verdict on the design, and not the design
+"""
+HELPS = {"check": CHECK_HELP, "verify": VERIFY_HELP, "list": LIST_HELP, "cnf": CNF_HELP, "sim": SIM_HELP, "compare": COMPARE_HELP, "gen": GEN_HELP}
 # The words that a command takes behind its name.
-WORDS = {"check": "FILE [--proof NAME] [--budget NUMBER] [--top MODULE]", "verify": "FILE PROOF [--top MODULE]", "list": "FILE [--top MODULE]",
-         "cnf": "FILE NUMBER [--top MODULE]", "sim": "FILE [--level POINT] [--order NUMBER] [--top MODULE]"}
+WORDS = {"check": "FILE [--proof NAME] [--budget NUMBER] [--json] [--top MODULE]", "verify": "FILE PROOF [--top MODULE]", "list": "FILE [--top MODULE]",
+         "cnf": "FILE NUMBER [--top MODULE]", "sim": "FILE [--level POINT] [--order NUMBER] [--top MODULE]",
+         "compare": "FILE A B --level POINT [--top MODULE]", "gen": "LANES [--check]"}
 # Words that a command does not take.
 WRONG = [["check"], ["check", "--f"], ["check", "f", "g"], ["check", "f", "--top"], ["check", "--top", "a", "f", "--top", "b"], ["check", "f", "--help"],
          ["check", "-h"], ["check", "f", "--budget", "0"], ["check", "f", "--budget", "4000000001"], ["check", "f", "--budget=-0"], ["check", "f", "--budget="],
-         ["check", "f", "--budget", "5", "--budget", "6"], ["check", "f", "--proof"], ["check", "f", "--json"], ["verify"], ["verify", "f"],
+         ["check", "f", "--budget", "5", "--budget", "6"], ["check", "f", "--proof"], ["check", "f", "--json", "--json"], ["check", "f", "--json="],
+         ["check", "f", "--json", "g"], ["check", "f", "--check"], ["check", "--json"], ["list", "f", "--json"], ["verify", "f", "g", "--json"], ["verify"], ["verify", "f"],
          ["verify", "f", "g", "h"], ["verify", "f", "--proof", "g"], ["verify", "f", "g", "--budget", "5"], ["list"], ["cnf", "f"], ["cnf", "f", "1", "2"],
-         ["cnf", "f", "x"], ["cnf", "f", "-0"], ["cnf", "--", "f", "-1"], ["cnf", "f", "4294967296"], ["sim", "f", "--order", "18446744073709551616"]]
+         ["cnf", "f", "x"], ["cnf", "f", "-0"], ["cnf", "--", "f", "-1"], ["cnf", "f", "4294967296"], ["sim", "f", "--order", "18446744073709551616"],
+         ["compare"], ["compare", "f", "g", "h"], ["compare", "f", "g", "--level", "L"], ["compare", "f", "g", "h", "i", "--level", "L"],
+         ["compare", "f", "g", "h", "--level"], ["compare", "f", "g", "h", "--level", "L", "--order", "1"], ["compare", "f", "g", "h", "--level", "L", "--check"],
+         ["compare", "-h"], ["gen"], ["gen", "x"], ["gen", "1", "2"], ["gen", "-1"], ["gen", "4294967296"], ["gen", "1", "--check", "--check"], ["gen", "1", "--check=1"],
+         ["gen", "1", "--json"], ["gen", "1", "--top", "top"], ["gen", "-h"]]
+# A comparison one of whose files is `?`.
+DESIGN, STIMULUS = "examples/multiplier_leak.v", "examples/multiplier_short.stim"
+COMPARED = [["compare", "?", STIMULUS, STIMULUS, "--level", "L"], ["compare", DESIGN, "?", STIMULUS, "--level", "L"], ["compare", DESIGN, STIMULUS, "?", "--level", "L"],
+            ["compare", DESIGN, "?", "none.stim", "--level", "L"]]
 USAGE = "; usage: secv COMMAND FILE [OPTIONS] (`secv --help` says more)"
 FULL = "secv: the output could not be written: No space left on device (os error 28)\n"
 CLOSED = "secv: the output could not be written: Bad file descriptor (os error 9)\n"
@@ -145,7 +184,7 @@ LISTS = [("module m(output y); endmodule", [], "refused 604 undriven 1:17 y\n"),
          (SELECTED, [], "1 y now =4:10 reads d\n2 d now selector reads q\n"),
          (SELECTED.replace("{Dom(p)} q", "{H} q"), [], "1 y now =4:10 reads d\n2 d now selector reads q\n"),
          (SELECTED.replace("{Dom(p)} q", "q"), [], "1 y now =4:10 reads d\n")]
-STATUS = {"accepted": 0, "refused": 1, "usage": 2, "unknown": 3}
+STATUS = {"accepted": 0, "refused": 1, "differ": 1, "usage": 2, "unknown": 3}
 passed = failed = 0
 
 
@@ -214,8 +253,9 @@ def shown_in_readme():
 
 
 def words_and_faults():
-    answer = run(["--help"])
-    compare("--help", (answer.stdout, answer.stderr, answer.returncode), (HELP, b"", 0))
+    for word in ("--help", "-h"):
+        answer = run([word])
+        compare(word, (answer.stdout, answer.stderr, answer.returncode), (HELP, b"", 0))
     version = run(["--version"])
     compare("--version", (version.stdout, version.stderr, version.returncode), (b"secv 0.1.0\n", b"", 0))
     for word, text in HELPS.items():
@@ -225,7 +265,9 @@ def words_and_faults():
                               (["chekc", "f"], "unknown-command", "there is no command chekc; `secv --help` shows all"),
                               (["a\x1b[2Jb\n"], "unknown-command", "there is no command a\\u{1b}[2Jb\\n; `secv --help` shows all"),
                               (["--help", "more"], "unknown-command", "there is no command --help; `secv --help` shows all"),
-                              (["-h"], "unknown-command", "there is no command -h; `secv --help` shows all"),
+                              (["-h", "more"], "unknown-command", "there is no command -h; `secv --help` shows all"),
+                              (["-H"], "unknown-command", "there is no command -H; `secv --help` shows all"),
+                              (["-h", "-h"], "unknown-command", "there is no command -h; `secv --help` shows all"),
                               *((words, "words", f"`{words[0]}` does not take these words; usage: secv {words[0]} {WORDS[words[0]]} (`secv {words[0]} --help` says more)")
                                 for words in WRONG), ([b"\xff"], "words", "an argument is not UTF-8" + USAGE)]:
         answer = run(words)
@@ -234,12 +276,15 @@ def words_and_faults():
     with tempfile.TemporaryDirectory() as folder:
         for name, path, cause in [("a missing file", os.path.join(folder, "none.v"), "No such file or directory (os error 2)"),
                                   ("a directory", folder, "Is a directory (os error 21)")]:
-            answer = run(["check", path])
-            compare(name, (answer.stdout, answer.returncode), (b"", 4))
-            compare(f"{name} is explained", answer.stderr.decode(), f"secv: {path}: {cause}\n")
+            for words in (["check", "?"], *COMPARED):
+                answer = run([path if word == "?" else word for word in words])
+                compare(f"{name}, {words}", (answer.stdout, answer.returncode), (b"", 4))
+                compare(f"{name} is explained, {words}", answer.stderr.decode(), f"secv: {path}: {cause}\n")
         for name, escaped in [("no\nne.v", "no\\nne.v"), ("no\x1b[2Jne\r\x7f.v", "no\\u{1b}[2Jne\\r\\u{7f}.v")]:
-            answer = run(["check", os.path.join(folder, name)])
-            compare("a name with control characters is escaped", answer.stderr.decode(), f"secv: {folder}/{escaped}: No such file or directory (os error 2)\n")
+            for words in (["check", "?"], *COMPARED):
+                answer = run([os.path.join(folder, name) if word == "?" else word for word in words])
+                compare(f"a name with control characters is escaped, {words}", answer.stderr.decode(),
+                        f"secv: {folder}/{escaped}: No such file or directory (os error 2)\n")
             with open(os.path.join(folder, name), "wb"):
                 pass
             answer = run(["check", os.path.join(folder, name)])
@@ -247,7 +292,8 @@ def words_and_faults():
         other = os.path.join(folder, "other.v")
         with open(other, "w", encoding="ascii") as file:
             file.write("module m(input a, output y); invariant a; assign y = a; endmodule\n")
-        for words in (["check", other], ["verify", other, "none"], ["list", other], ["cnf", other, "1"], ["sim", other]):
+        for words in (["check", other], ["verify", other, "none"], ["list", other], ["cnf", other, "1"], ["sim", other],
+                      ["compare", other, "none", "none", "--level", "L"]):
             answer = run(words)
             compare(f"an invariant, {words[0]}", (answer.stdout, answer.stderr.decode(), answer.returncode), (b"refused 199 not-built 1:1\n", UNBUILT, 1))
         for text, wanted in SYNTAX:
@@ -256,7 +302,7 @@ def words_and_faults():
             answer = run(["check", other])
             compare(f"a text {text!r}", (answer.stdout, answer.returncode), (wanted, 1))
             compare(f"it is explained, {text!r}", answer.stderr.decode(), explained(other, wanted.decode()))
-    for words in (["check", "examples/and.v"], ["--help"]):
+    for words in (["check", "examples/and.v"], ["--help"], ["-h"]):
         with open("/dev/full", "wb") as full:
             answer = run(words, stdout=full)
         compare(f"a full device, {words}", answer.returncode, 5)
@@ -414,7 +460,7 @@ def product_of(factors):
 def simulations():
     """The examples of docs/formats.md, what stops a simulation, and what a user sees of it line by line."""
     with open(os.path.join(TOP, "docs", "formats.md"), encoding="utf-8") as file:
-        text = file.read().partition("\n# Stimulus and trace\n")[2]
+        text = file.read().partition("\n# Stimulus and trace\n")[2].partition("\n# ")[0]
     shown = re.findall(r"^```(?:verilog)?\n(.*?)^```$", text, re.M | re.S)
     design, stimulus, trace, public, nested, started, counted, refused, inverters, turned, ordered = shown
     wrong = stimulus.replace("0 F", "0 10")

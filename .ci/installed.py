@@ -43,18 +43,24 @@ class Help:
         text = run(SECV, "--help")
         self.version = run(SECV, "--version").strip()
         usage, _, ends = text.partition("usage:\n")[2].partition("\nexit status: ")
-        found = re.findall(r"^  (secv(?: \S+)+)(?:  +|\n {10,})(.*)$", usage, re.M)
+        # What a row does may stand on lines of its own.
+        rows = re.findall(r"^  (secv(?: \S+)+)(?:  +|\n {10,})((?:.*\n {10,})*.*)$", usage, re.M)
+        found = [(line, re.sub(r"\n +", " ", what)) for line, what in rows]
         self.usages = [line for line, _ in found]
         # What each first word does: a command's name, or an option that stands alone.
         self.words = {line.split()[1]: what for line, what in found if "COMMAND" not in line}
+        # What each option of a command does, with the name of its value, which a flag has none of.
         self.options = {}
         for name in [word for word in self.words if not word.startswith("-")]:
-            rows = re.findall(r"^ +(--[a-z]+) <([A-Z]+)> +(\S.*)$", run(SECV, name, "--help"), re.M)
+            rows = re.findall(r"^ +(--[a-z]+)(?: <([A-Z]+)>)? +(\S.*)$", run(SECV, name, "--help"), re.M)
             self.options[name] = {option: (value, what) for option, value, what in rows}
         self.statuses = re.findall(r"([0-9]) ([a-z ,]+?)(?:, (?=[0-9])|$)", re.sub(r",?\s*\n\s*", ", ", ends.strip()))
 
     def of(self, name):
         return {option: what for option, (_, what) in self.options[name].items()}
+
+    def flags(self, name):
+        return {option for option, (value, _) in self.options[name].items() if not value}
 
 
 def installs():
@@ -80,9 +86,11 @@ def page(told):
     usages = [re.sub(r" +", " ", it).strip() for it in re.split(r"(?:^|(?<= ))(?=secv)", " ".join(lines)) if it.strip()]
     compare("the page's synopsis", usages, told.usages)
     compare("the page's commands", re.findall(r"^\.TP\n\.B (\S+)\n", parts["COMMANDS"], re.M), list(told.options))
-    rows = re.findall(r'^\.TP\n\.BI (--[a-z]+) " ([A-Z]+)"\n(.*?)\.\n', parts["OPTIONS"], re.M)
+    rows = re.findall(r'^\.TP\n\.B[I]? (--[a-z]+)(?: " ([A-Z]+)")?\n(.*?)\.\n', parts["OPTIONS"], re.M)
     wanted = {(option, value, what) for options in told.options.values() for option, (value, what) in options.items()}
-    compare("the page's options", sorted(rows), sorted(wanted))
+    compare("the page's options", sorted(row for row in rows if row[0] != "--version"), sorted(wanted))
+    alone = re.findall(r"^\.TP\n\.BR? (.*)\nAs the only word: (.*)\.$", parts["OPTIONS"], re.M)
+    compare("the page's words that stand alone", alone, [('--help ", " -h', "print what the words are"), ("--version", told.words["--version"])])
     compare("the page's statuses", re.findall(r"^\.TP\n\.B ([0-9])\n(.*)$", parts["EXIT STATUS"], re.M), told.statuses)
 
 
@@ -102,10 +110,12 @@ def bash(told):
         for name, options in told.options.items():
             compare(f"bash: {name} --", behind(name, "--"), sorted([*options, "--help"]))
             compare(f"bash: {name} a.v --", behind(name, "a.v", "--"), sorted(options))
-            compare(f"bash: {name}", behind(name, ""), ["a.v", "sub/"])
+            compare(f"bash: {name}", behind(name, ""), [] if name == "gen" else ["a.v", "sub/"])
             for option in options:
-                compare(f"bash: {name} {option}", behind(name, option, ""), ["a.v", "b.txt", "sub"] if option == "--proof" else [])
-        compare("bash: a certificate", behind("verify", "a.v", ""), ["a.v", "b.txt", "sub"])
+                wanted = ["a.v", "b.txt", "sub"] if option == "--proof" else ["a.v", "sub/"] if option == "--json" else []
+                compare(f"bash: {name} {option}", behind(name, option, ""), wanted)
+        for words in (("verify", "a.v"), ("compare", "a.v"), ("compare", "a.v", "b.txt")):
+            compare(f"bash: any file behind {words}", behind(*words, ""), ["a.v", "b.txt", "sub"])
         compare("bash: no command", behind("other", "--"), [])
 
 
@@ -115,8 +125,9 @@ def zsh(told):
     for name, value in re.findall(r"^  local (\w+)='(.*)'$", text, re.M):
         text = text.replace(f"${name} ", f"'{value}' ")
     arms = dict(re.findall(r"^    ([a-z]+)\)\s(.*?);;$", text, re.M | re.S))
-    found = {name: dict(re.findall(r"'(--[a-z]+)=\[(.*?)\]:[a-z]+:(?: |_files)'", arm)) for name, arm in arms.items()}
-    compare("zsh: options", found, {name: told.of(name) for name in told.options})
+    rows = {name: re.findall(r"'(--[a-z]+)(=?)\[(.*?)\](?:'|:[a-z]+:(?: |_files)')", arm) for name, arm in arms.items()}
+    compare("zsh: options", {name: {option: what for option, _, what in found} for name, found in rows.items()}, {name: told.of(name) for name in told.options})
+    compare("zsh: flags", {name: {option for option, takes, _ in found if not takes} for name, found in rows.items()}, {name: told.flags(name) for name in told.options})
     compare("zsh: --help", [name for name, arm in arms.items() if "'(-)--help[" not in arm], [])
     if shutil.which("zsh"):
         compare("zsh reads it", run("zsh", "-n", os.path.join(TOP, "share", "secv.zsh")), "")
@@ -126,8 +137,10 @@ def fish(told):
     rows = re.findall(r"^complete -c secv -n (?:'.*?_from ([a-z ]+)'|__fish_use_subcommand)(?: -f -a| -l) (\S+)( -[rx])? -d '(.*)'$", read("share", "secv.fish"), re.M)
     first = {word if word in told.options else f"--{word}": what for names, word, _, what in rows if not names}
     compare("fish: the first word", first, told.words)
-    found = {name: {f"--{word}": what for names, word, takes, what in rows if takes and name in names.split()} for name in told.options}
-    compare("fish: options", found, {name: told.of(name) for name in told.options})
+    found = {name: {f"--{word}": (takes, what) for names, word, takes, what in rows if word != "help" and name in names.split()} for name in told.options}
+    compare("fish: options", {name: {word: what for word, (_, what) in options.items()} for name, options in found.items()}, {name: told.of(name) for name in told.options})
+    compare("fish: flags", {name: {word for word, (takes, _) in options.items() if not takes} for name, options in found.items()},
+            {name: told.flags(name) for name in told.options})
     compare("fish: --help", [names.split() for names, word, takes, _ in rows if names and not takes and word == "help"], [list(told.options)])
     if shutil.which("fish"):
         compare("fish reads it", run("fish", "--no-execute", os.path.join(TOP, "share", "secv.fish")), "")
@@ -141,7 +154,7 @@ def texts_of_source():
             shutil.copy(os.path.join(TOP, name), folder)
         for name in ("tools", "crates/secv/src"):
             shutil.copytree(os.path.join(TOP, name), os.path.join(folder, name))
-        for word in ("--help", "--version"):
+        for word in ("--help", "-h", "--version"):
             compare(f"{word} of the source", run(os.path.join(folder, "secv"), word), run(SECV, word))
 
 

@@ -488,7 +488,8 @@ def texts(at):
     """No text about the program is a reason to build; where no program stands, it is the one of the source."""
     help_text = MAIN.partition('"')[2].partition('";')[0]
     for _ in range(2):
-        compare("--help", (at.run("--help"), at.calls()), ((help_text, "", 0), []))
+        for word in ("--help", "-h"):
+            compare(word, (at.run(word), at.calls()), ((help_text, "", 0), []))
         compare("--version", (at.run("--version"), at.calls()), (("secv 1.2\n", "", 0), []))
         compare("check --help", (at.run("check", "--help"), at.calls()), (("", NO_TEXT, 70), []))
         at.write("crates/secv/out/secv" if os.path.isdir(out_of(at)) else "crates/low/src/lib.rt", "of other sources")

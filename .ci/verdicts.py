@@ -21,6 +21,7 @@ END = "endmodule\n"
 DOM = "labelmap D [0:0] 0: L; default: H; endlabelmap\n"
 TWO = "labelmap T [0:0] [0:0] 0, 0: L; default: H; endlabelmap\n"
 FOUR = "lattice point P, Q, R, T; P <= Q; P <= R; Q <= T; R <= T; endlattice\n"
+MISSING, FOLDER = "No such file or directory (os error 2)", "Is a directory (os error 21)"
 passed = failed = 0
 
 TURNED_LEAK = TURN.replace("b : a", "a : b")
@@ -248,6 +249,10 @@ CERTIFICATES = [
     ("module m(output y); endmodule\n", BY_HAND, "refused 604 undriven 1:17 y\n"),
     ("module m(input a, output y); invariant a; assign y = a; endmodule\n", BY_HAND, "refused 199 not-built 1:1\n"),
 ]
+# Words whose file `?` is read, and such as store a certificate in it.
+READERS = ["check ?", "check ? --json", "check ? --proof q", "verify ? p", "verify f ?", "list ?", "cnf ? 1", "sim ?", "compare ? A B --level L",
+           "compare f ? B --level L", "compare f A ? --level L"]
+STORERS = ["check f --proof ?", "check f --json --proof=?"]
 # Texts that exceed a limit on their obligations, which is asked before any of these is decided and before PROOF is fetched.
 LIMITS = [(MANY, "refused 702 paths y\n"), (LARGE.replace("  end\n", "    y[0] = a;\n  end\n"), "refused 712 obligation-size y\n"),
           (text_of_targets(17), "refused 703 obligations\n")]
@@ -362,14 +367,36 @@ def stored(folder):
         compare("what was there stays", held(folder, "r"), "old")
 
 
+def told(folder, words):
+    """What the program writes, what it says to a person, and its status."""
+    answer = subprocess.run([SECV, *words.split()], cwd=folder, stdin=subprocess.DEVNULL, stdout=subprocess.PIPE, stderr=subprocess.PIPE,
+                            timeout=MOST_SECONDS, check=False)
+    return answer.stdout.decode(), answer.stderr.decode(), answer.returncode
+
+
+def faults(folder):
+    """Where a file cannot be read or stored nothing is written, the file is named, and each file stays as it was."""
+    held_files = {"f": TURN, "p": BY_HAND, "A": "inputs turn a b\n0 1 0\n", "B": "inputs turn a b\n0 1 1\n"}
+    for name, text in held_files.items():
+        put(folder, name, text)
+    os.mkdir(os.path.join(folder, "d"))
+    for lines, status, files in ((READERS, 4, (("none", MISSING), ("none/f", MISSING), ("d", FOLDER), ("f/f", "Not a directory (os error 20)"))),
+                                 (STORERS, 5, (("none/q", MISSING), ("d", FOLDER), (".", FOLDER), ("f/q", "Not a directory (os error 20)"),
+                                               ("/dev/full", "No space left on device (os error 28)")))):
+        for line in lines:
+            for file, cause in files:
+                words = line.replace("?", file)
+                compare(words, told(folder, words), ("", f"secv: {file}: {cause}\n", status))
+    compare("no file was left, changed or made", {name: held(folder, name) for name in os.listdir(folder) if name != "d"}, held_files)
+    compare("nor in the folder", os.listdir(os.path.join(folder, "d")), [])
+
+
 def names(folder):
-    """Files that cannot be read or stored, and names that are one."""
+    """Faults that come before others, and names that are one."""
     put(folder, "f", TURN)
     put(folder, "p", BY_HAND)
-    os.mkdir(os.path.join(folder, "d"))
-    for words, status in (("check none", 4), ("check d", 4), ("verify none p", 4), ("verify d p", 4), ("verify f none", 4), ("verify f d", 4),
-                          ("check f --proof d", 5), ("check f --proof .", 5), ("check f --proof none/p", 5), ("check f --proof /dev/full", 5)):
-        compare(words, run(folder, words), ("", status))
+    compare("FILE is read before PROOF", told(folder, "verify none none/p"), ("", f"secv: none: {MISSING}\n", 4))
+    compare("and what it breaks is told first", run(folder, "verify f none --top n"), ("refused 310 no-top 1:1\n", 1))
     compare("a certificate is not stored for a text that is refused", run(folder, "check f --proof none/p --top n"), ("refused 310 no-top 1:1\n", 1))
     with open("/dev/full", "wb") as full:
         compare("a full device behind the certificate", run(folder, "check f --proof q", stdout=full)[1], 5)
@@ -397,7 +424,7 @@ def sizes(folder):
 def main():
     # the first run builds the program, which takes more than a run may
     subprocess.run([SECV, "--path"], stdout=subprocess.DEVNULL, check=True)
-    for group in (checks, limits, falsified, certificates, stored, names, sizes):
+    for group in (checks, limits, falsified, certificates, stored, faults, names, sizes):
         with tempfile.TemporaryDirectory() as folder:
             group(folder)
     print(f"{passed} passed, {failed} failed")

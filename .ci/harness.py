@@ -1,0 +1,63 @@
+"""What parts of the gate share: a program that is run in a folder, outputs that are compared, and how many were as wanted."""
+import os
+import subprocess
+import sys
+import tempfile
+
+TOP = os.path.dirname(os.path.dirname(os.path.abspath(__file__)))
+SECV = os.path.join(TOP, "secv")
+MOST_SECONDS = 60
+STATUS = {"accepted": 0, "equal": 0, "refused": 1, "differ": 1, "usage": 2, "unknown": 3}
+COUNTS = {"passed": 0, "failed": 0}
+
+
+def compare(what, got, wanted):
+    if got == wanted:
+        COUNTS["passed"] += 1
+        return
+    COUNTS["failed"] += 1
+    print(f"{what}\n  wanted {wanted!r}"[:600] + f"\n  got    {got!r}"[:600])
+
+
+def status_of(text):
+    """The status that goes with a verdict."""
+    return STATUS[text.split()[0]]
+
+
+def put(folder, name, text):
+    with open(os.path.join(folder, name), "w", encoding="latin-1", newline="") as file:
+        file.write(text)
+
+
+def put_zeros(folder, name, size):
+    """A file of so many zero bytes, which takes no room."""
+    with open(os.path.join(folder, name), "wb") as file:
+        file.truncate(size)
+
+
+def run(folder, words, stdout=subprocess.PIPE):
+    """What the program writes and its status; the words are a list, or a text where none has a blank or is empty."""
+    listed = words.split() if isinstance(words, str) else words
+    try:
+        answer = subprocess.run([SECV, *listed], cwd=folder, stdin=subprocess.DEVNULL, stdout=stdout, stderr=subprocess.DEVNULL, timeout=MOST_SECONDS, check=False)
+    except subprocess.TimeoutExpired:
+        return f"nothing in {MOST_SECONDS} seconds", None
+    return (answer.stdout or b"").decode(), answer.returncode
+
+
+def documented(section):
+    """What stands in a section of docs/formats.md."""
+    with open(os.path.join(TOP, "docs", "formats.md"), encoding="utf-8") as file:
+        text = file.read()
+    return text.partition(f"\n# {section}\n")[2].partition("\n# ")[0]
+
+
+def finish(groups):
+    """Runs each group in a folder of its own, and ends with how many comparisons passed and failed."""
+    # the first run builds the program, which takes more than a run may
+    subprocess.run([SECV, "--path"], stdout=subprocess.DEVNULL, check=True)
+    for group in groups:
+        with tempfile.TemporaryDirectory() as folder:
+            group(folder)
+    print(f"{COUNTS['passed']} passed, {COUNTS['failed']} failed")
+    sys.exit(1 if COUNTS["failed"] else 0)

@@ -1,10 +1,11 @@
 #!/bin/sh
 # Times `secv check`, `secv check --proof` and `secv verify` on designs that are accepted: the store of tags and the multiplier of examples/, caches of
-# 2, 4, 8 and 16 ways for each of two domains, and conditions that always hold, of sums of 4 and 6 bits and of products of 3 and 4 bits. Prints a table of
-# obligations, times, greatest memory and bytes of the certificate, for caches with the ratio of the time of `check` to that of half the ways; where a
-# solver is installed (minisat, cadical), also its time on the clauses of all obligations of each design that has at most 100, as `secv cnf` prints them.
-# Then come the largest ratio of the time of `verify` to that of `check`, and of `check --proof` to that of `check`. Memory is the greatest resident size
-# that GNU time tells (`/usr/bin/time`). The variable SECV may name another program to measure.
+# 2, 4, 8 and 16 ways for each of two domains, a cache of 64 lines (`cache.py`), a pipeline of eight stages (`pipeline.py`), and conditions that always hold,
+# of sums of 4 and 6 bits and of products of 3 and 4 bits. Prints a table of obligations, times, greatest memory and bytes of the certificate, for caches of
+# ways with the ratio of the time of `check` to that of half the ways; where a solver is installed (minisat, cadical), also its time on the clauses of all
+# obligations of each design that has at most 100, as `secv cnf` prints them. Then come the largest ratio of the time of `verify` to that of `check`, and of
+# `check --proof` to that of `check`. Memory is the greatest resident size that GNU time tells (`/usr/bin/time`). The variable SECV may name another program
+# to measure. verdict.md has figures that were read.
 set -eu
 if ! [ -x /usr/bin/time ]; then
     echo "verdict.sh: GNU time is missing; on Debian and Ubuntu it is the package 'time'" >&2
@@ -25,6 +26,11 @@ SOLVERS = [("minisat", ["minisat", "-verb=0"]), ("cadical", ["cadical", "-q"])]
 def example(name):
     with open(os.path.join(top, "examples", name), encoding="utf-8") as file:
         return file.read()
+
+
+def generated(script):
+    """What a generator beside this prints."""
+    return subprocess.run([sys.executable, os.path.join(top, "bench", script)], stdout=subprocess.PIPE, text=True, check=True).stdout
 
 
 def looked_up(domain, ways):
@@ -89,6 +95,7 @@ def solved(solver, file, count):
 
 designs = [("tags", example("tags.v")), ("multiplier", example("multiplier_mended.v"))]
 designs += [(f"cache {ways}", cache(ways)) for ways in (2, 4, 8, 16)]
+designs += [(name, generated(script)) for name, script in (("64 lines", "cache.py"), ("8 stages", "pipeline.py"))]
 designs += [(f"sums {bits}", always(bits, "(a + b) + c == a + (b + c)")) for bits in (4, 6)]
 designs += [(f"products {bits}", always(bits, "a * b == b * a")) for bits in (3, 4)]
 there = [(name, words) for name, words in SOLVERS if shutil.which(name)]

@@ -13,6 +13,8 @@ _secv() {
       'list:list the obligations of a design, a line each'
       'cnf:print the clauses of one obligation of a design, as DIMACS'
       'sim:simulate a design on the stimulus of standard input'
+      'compare:run a design on two stimuli and tell the first difference that a level sees'
+      'gen:print a sample design of 1 to 200 lanes, or check it'
       '--help:print this text'
       '--version:print the version'
     )
@@ -26,7 +28,8 @@ _secv() {
     check)
       _arguments $top $help $file \
         '--proof=[Store the certificate of an accepted design in this file]:name:_files' \
-        '--budget=[Learn at most this many clauses for each obligation, 20000 unless given]:number: '
+        '--budget=[Learn at most this many clauses for each obligation, 20000 unless given]:number: ' \
+        '--json[Print the verdict as JSON, on one line]'
       ;;
     verify) _arguments $top $help '1:file:_files -g "*.v"' '2:proof:_files' ;;
     list) _arguments $top $help $file ;;
@@ -36,6 +39,11 @@ _secv() {
         '--level=[Show only the signals whose labels flow to this point]:point: ' \
         '--order=[Run the processes in the order of this number]:number: '
       ;;
+    compare)
+      _arguments $top $help '1:file:_files -g "*.v"' '2:a stimulus:_files' '3:another stimulus:_files' \
+        '--level=[Compare only the signals whose labels flow to this point]:point: '
+      ;;
+    gen) _arguments $help '1:lanes: ' '--check[Print the verdict on the design, and not the design]' ;;
   esac
 }
 

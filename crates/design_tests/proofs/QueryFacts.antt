@@ -1,12 +1,16 @@
 -- What holds of each obligation of a list.
-use Rattle.std.proofs.Common.{ℕ, ◌<◌, zero, suc, List, [], ◌∷◌, map, length, arith, get_or}
+use Rattle.std.proofs.Common.{ℕ, ◌<◌, ◌≤◌, ◌≡◌, zero, suc, List, [], ◌∷◌, map, length, arith}
+use Rattle.std.proofs.Common.{get_or, subst, sym, ap, ◌∙◌, ◌++◌}
 use Rattle.std.specs.Prelude.{All}
-use Rattle.std.proofs.lemmas.List.Elements.{All-head, All-tail}
+use Rattle.std.proofs.lemmas.List.Elements.{All-head, All-tail, All-nil, All-cons}
 use Rattle.sv_flat.specs.Design.{FlatDesign}
+use Rattle.sv_flat.specs.declared.expressions.FExpr.{FExpr}
+use Rattle.sv_flat.specs.Views.{typed_tree}
+use Rattle.sv_obl.specs.declared.queries.Step.{Step}
 use Rattle.sv_obl.specs.declared.queries.Query.{Query}
-use Rattle.sv_obl.specs.DesignQueries.{IsQueryOf, IsPlaced}
+use Rattle.sv_obl.specs.DesignQueries.{IsQueryOf, IsPlaced, IsExpressionOf, IsStepOf}
 use Rattle.sv_obl.specs.Obligations.{Obligation}
-use Rattle.sv_obl.specs.Views.{obligation_of}
+use Rattle.sv_obl.specs.Views.{obligation_of, step_form}
 
 held_at : (P : Obligation → Type 0) (queries : List Query) (k : ℕ) (d : Query)
     → All P (map obligation_of queries) → k < length queries
@@ -27,3 +31,38 @@ pub placed_at : (queries : List Query) (k : ℕ) (d : Query)
     → All IsPlaced (map obligation_of queries) → k < length queries
     → IsPlaced (obligation_of (get_or queries k d))
 placed_at queries k d all inside = held_at IsPlaced queries k d all inside
+
+condition_at : (design : FlatDesign) (steps : List Step) (k : ℕ) (step : Step)
+    → All (IsStepOf design) (map step_form steps) → k < length steps → step ≡ get_or steps k step
+    → IsExpressionOf design (typed_tree step.cond)
+condition_at design [] k step all inside is = absurd (omega arith)
+condition_at design (s ∷ steps) zero step all inside is =
+    subst (λ (x : Step). IsExpressionOf design (typed_tree x.cond)) (sym is)
+    (All-head (IsStepOf design) (step_form s) (map step_form steps) all)
+condition_at design (s ∷ steps) (suc k) step all inside is =
+    condition_at design steps k step
+    (All-tail (IsStepOf design) (step_form s) (map step_form steps) all) (omega arith) is
+
+-- the conditions of three steps are expressions of the design
+pub three_conditions : (design : FlatDesign) (steps : List Step) (a b c : Step)
+    → All (IsStepOf design) (map step_form steps) → 3 ≤ length steps
+    → a ≡ get_or steps 0 a → b ≡ get_or steps 1 b → c ≡ get_or steps 2 c
+    → IsExpressionOf design (typed_tree a.cond) × IsExpressionOf design (typed_tree b.cond)
+    × IsExpressionOf design (typed_tree c.cond)
+three_conditions design steps a b c all long first second third = (
+  condition_at design steps 0 a all (omega arith) first,
+  condition_at design steps 1 b all (omega arith) second,
+  condition_at design steps 2 c all (omega arith) third,
+)
+
+-- two expressions that are put into an empty list one after the other
+pub two_facts : (design : FlatDesign) (none one two : List FExpr) (a b : FExpr) → none ≡ []
+    → one ≡ none ++ a ∷ [] → two ≡ one ++ b ∷ []
+    → IsExpressionOf design (typed_tree a) → IsExpressionOf design (typed_tree b)
+    → All (IsExpressionOf design) (map typed_tree two)
+two_facts design none one two a b empty first second is_a is_b =
+    let P = IsExpressionOf design in
+    let both = second ∙ ap (λ z. z ++ b ∷ []) (first ∙ ap (λ z. z ++ a ∷ []) empty) in
+    subst (λ es. All P (map typed_tree es)) (sym both)
+    (All-cons P (typed_tree a) (typed_tree b ∷ []) is_a
+    (All-cons P (typed_tree b) [] is_b (All-nil P)))

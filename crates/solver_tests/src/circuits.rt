@@ -1,6 +1,7 @@
 // Words of operators: the solver finds the values of their gates.
-ghost use Rattle.std.specs.Prelude.{IfOk};
+ghost use Rattle.std.specs.Prelude.{All, IfOk, IsTrue};
 ghost use Rattle.sv_circuits.specs.Circuits.{IsWord};
+ghost use Rattle.sv_solve.specs.Answers.{IsWithin};
 
 use std::alloc::Global;
 use std::test::Fail;
@@ -8,9 +9,10 @@ use sv_circuits::{
     BitGate, binary, chosen, equal_number, extended, falsity, fresh, inverted, joined_to, not_zero,
     number_word, part, picked, repeated, replaced, truth, unary, zero_filled,
 };
+use sv_clause::Clause;
 use sv_gates::{Gates, Literal};
-use sv_num::{BinOp, UnOp};
-use sv_solve::{Solved, solve};
+use sv_num::{BinOp, Bits, UnOp, apply_binary, is_division};
+use sv_solve::{Solved, is_within, solve};
 
 // The number that a word spells under the values of the variables, the first for variable 1.
 fn number_under(values: &[bool], word: &[Literal]) -> u64 {
@@ -93,20 +95,116 @@ fn comparisons(rt: HostRuntime) -> Result<(), Fail> {
     Ok(())
 }
 
-// The bit of a number of 3 bits at an index of 3 bits.
-fn picked_of(alloc: Global, a: u64, index: u64) -> Result<u64, Fail> {
+// All operators but `/` and `%`, which have no circuit, and `&&` and `||`, whose operands are bits.
+const OPERATORS: [BinOp; 17] = [
+    BinOp::Mul,
+    BinOp::Add,
+    BinOp::Sub,
+    BinOp::Shl,
+    BinOp::Shr,
+    BinOp::SignShl,
+    BinOp::SignShr,
+    BinOp::Lt,
+    BinOp::Le,
+    BinOp::Gt,
+    BinOp::Ge,
+    BinOp::Eq,
+    BinOp::Ne,
+    BinOp::And,
+    BinOp::Xor,
+    BinOp::Xnor,
+    BinOp::Or,
+];
+
+fn are_within(variables: u32, clauses: &[Clause]) -> bool
+    ensures { IsTrue result → All (IsWithin variables) clauses.now }
+{
+    clauses.iter().all(|clause| is_within(variables, clause))
+}
+
+// The number that a word spells where all gates have their values, and the variables of another
+// word have the low bits of a number.
+fn spelled_at(
+    alloc: Global,
+    gates: Gates,
+    given: &[Literal],
+    number: u64,
+    word: &[Literal],
+) -> Result<u64, Fail> {
+    let (variables, mut clauses) = gates.finish();
+    let mut rest = number;
+    'bits: for literal in given {
+        let bit = if rest % 2 == 1 {
+            *literal
+        } else {
+            literal.negated()
+        };
+        clauses.push(Clause::new(alloc, &[bit.signed()])?.ok_or("no clause")?)?;
+        rest /= 2;
+    }
+    if !are_within(variables, &clauses) {
+        return Err(Fail::from("a literal is out of range"));
+    }
+    match solve(alloc, variables, &clauses, 5)? {
+        Solved::Found(values) => Ok(number_under(&values, word)),
+        _ => Err(Fail::from("no values")),
+    }
+}
+
+// What the circuit of an operator on words of 3 variables makes of two numbers, the first in the
+// lower bits of one number and the second above it.
+fn encoded(alloc: Global, op: BinOp, signed: bool, numbers: u64) -> Result<u64, Fail> {
     let mut gates = Gates::new(alloc)?;
-    let a = operand(alloc, &gates, a)?;
-    let index = operand(alloc, &gates, index)?;
-    let bit = picked(&mut gates, &a, &index, false)?;
-    spelled(alloc, gates, &[bit])
+    let words = fresh(alloc, &mut gates, 6)?;
+    let word = binary(alloc, &mut gates, op, signed, &words[..3], &words[3..])?;
+    spelled_at(alloc, gates, &words, numbers, &word)
+}
+
+// What the operator itself makes of them.
+fn valued(op: BinOp, signed: bool, numbers: u64) -> Result<u64, Fail> {
+    let a = Bits::new(3, signed, numbers % 8).ok_or("3 bits")?;
+    let b = Bits::new(3, signed, numbers / 8).ok_or("3 bits")?;
+    if is_division(op) {
+        return Err(Fail::from("no circuit"));
+    }
+    Ok(apply_binary(op, a, b).value())
+}
+
+// Whether the two are the same for all numbers of 3 bits.
+fn agrees(alloc: Global, op: BinOp, signed: bool) -> Result<bool, Fail> {
+    'numbers: for numbers in 0..64 {
+        if encoded(alloc, op, signed, numbers)? != valued(op, signed, numbers)? {
+            return Ok(false);
+        }
+    }
+    Ok(true)
 }
 
 #[test]
-fn bits_by_an_index(rt: HostRuntime) -> Result<(), Fail> {
-    assert_eq!(rt; picked_of(rt.alloc(), 5, 1)?, 0);
-    assert_eq!(rt; picked_of(rt.alloc(), 5, 2)?, 1);
-    assert_eq!(rt; picked_of(rt.alloc(), 5, 3)?, 0);
+fn operators_on_all_words(rt: HostRuntime) -> Result<(), Fail> {
+    for op in OPERATORS {
+        assert!(rt; agrees(rt.alloc(), op, false)?, "unsigned {op:?}");
+        assert!(rt; agrees(rt.alloc(), op, true)?, "signed {op:?}");
+    }
+    Ok(())
+}
+
+// The bit of a word of 3 variables at an index of 3 variables, for two such numbers.
+fn picked_by(alloc: Global, signed: bool, numbers: u64) -> Result<u64, Fail> {
+    let mut gates = Gates::new(alloc)?;
+    let words = fresh(alloc, &mut gates, 6)?;
+    let bit = picked(&mut gates, &words[..3], &words[3..], signed)?;
+    spelled_at(alloc, gates, &words, numbers, &[bit])
+}
+
+#[test]
+fn bits_of_all_words(rt: HostRuntime) -> Result<(), Fail> {
+    for numbers in 0..64_u64 {
+        // an index from 3 up, or one below 0, lies outside
+        let want = (numbers % 8 >> numbers / 8) % 2;
+        assert_eq!(rt; picked_by(rt.alloc(), false, numbers)?, want);
+        assert_eq!(rt; picked_by(rt.alloc(), true, numbers)?, want);
+    }
     Ok(())
 }
 

@@ -1,7 +1,7 @@
 #!/usr/bin/env python3
 """Checks hierarchies at the limits of elaboration through ./secv: signals, instances, points and rows of maps at the limit and one past
 it, modules nested and chained, and a hierarchy whose whole size no machine could hold; and blocks of 4,096 signals and of 100,000 statements, with
-a latch and without one; and encodings at the limit of variables. Each wanted line, with the number of obligations where nothing is broken, is worked out here from docs/language.md. The last line is 'N passed, M failed'.
+a latch and without one; and encodings at the limit of variables, of the longest chain of `else`, and of as many labels as fit. Each wanted line, with the number of obligations where nothing is broken, is worked out here from docs/language.md. The last line is 'N passed, M failed'.
 """
 import os
 import resource
@@ -158,6 +158,27 @@ def statements(folder):
         check(f"{text.count(';') - 3} statements", text, wanted, folder)
 
 
+def clauses(what, text, wanted, folder, number=1):
+    """The first line of an obligation's clauses, and whether it is the wanted one and as many lines follow as it tells, in little processor time. Returns
+    where the text stands."""
+    global passed, failed
+    path = os.path.join(folder, "text.v")
+    with open(path, "w", encoding="ascii") as file:
+        file.write(text)
+    before = processor_seconds()
+    with subprocess.Popen([SECV, "cnf", path, str(number)], stdin=subprocess.DEVNULL, stdout=subprocess.PIPE, stderr=subprocess.DEVNULL) as program:
+        first = program.stdout.readline().decode()
+        rest = sum(piece.count(b"\n") for piece in iter(lambda: program.stdout.read(1 << 20), b""))
+    took = processor_seconds() - before
+    told = int(first.split()[3]) if first.startswith("p cnf ") else 0
+    if first.startswith(wanted) and rest == told and program.returncode == (0 if told else 1) and took < MOST_SECONDS:
+        passed += 1
+    else:
+        failed += 1
+        print(f"{what}\n  wanted {wanted!r}\n  got    {first!r}, {rest} lines after it, status {program.returncode}, after {took:.1f} s of the processor")
+    return path
+
+
 def encodings(folder):
     """The clauses of an obligation with 4,194,304 variables, and those of one with one more: 1 that is true, 64 bits of `a`, 22,240 gates for each
     of 188 products of 64 bits (64 * 65 / 2 for the rows, 5 * 64 for each of 63 sums), 64 for each of 204 words by `^`, one for each of 62 or 63
@@ -165,21 +186,10 @@ def encodings(folder):
     global passed, failed
     assert 1 + 64 + 188 * (64 * 65 // 2 + 63 * 5 * 64) + 204 * 64 + 62 + 1 == 4194304
     words = [f"  wire [63:0] p{i} = " + ("a" if i == 0 else f"p{i - 1} * p{i - 1}" if i <= 188 else f"p{i - 1} ^ a") + ";\n" for i in range(393)]
-    path = os.path.join(folder, "text.v")
-    for bits, wanted in ((62, b"p cnf 4194304 "), (63, b"refused 709 encoding 1\n")):
+    for bits, wanted in ((62, "p cnf 4194304 "), (63, "refused 709 encoding 1\n")):
         lines = [f"  wire x{i} = " + ("p392[0]" if i == 0 else f"x{i - 1} ^ a[0]") + ";\n" for i in range(bits + 1)]
-        with open(path, "w", encoding="ascii") as file:
-            file.write("module m(output reg y, input [63:0] a, input {H} h);\n" + "".join(words + lines)
-                       + f"  always @* if (x{bits}) y = h; else y = 0;\nendmodule\n")
-        with subprocess.Popen([SECV, "cnf", path, "1"], stdin=subprocess.DEVNULL, stdout=subprocess.PIPE, stderr=subprocess.DEVNULL) as program:
-            first = program.stdout.readline()
-            rest = sum(piece.count(b"\n") for piece in iter(lambda: program.stdout.read(1 << 20), b""))
-        told = int(first.split()[3]) if first.startswith(b"p cnf ") else 0
-        if first.startswith(wanted) and rest == told and program.returncode == (0 if told else 1):
-            passed += 1
-        else:
-            failed += 1
-            print(f"{bits} bits by ^\n  wanted {wanted}\n  got    {first!r}, {rest} lines after it, status {program.returncode}")
+        text = ("module m(output reg y, input [63:0] a, input {H} h);\n" + "".join(words + lines) + f"  always @* if (x{bits}) y = h; else y = 0;\nendmodule\n")
+        path = clauses(f"{bits} bits by ^", text, wanted, folder)
     # `check` and `verify` make the clauses of no such obligation either: two of `y`, and one for each wire; the certificate is one by its text alone
     proof = os.path.join(folder, "proof")
     count = 2 + len(words) + len(lines)
@@ -194,11 +204,61 @@ def encodings(folder):
             print(f"{asked[0]} of too large an encoding\n  got    {answer.stdout!r}, status {answer.returncode}")
 
 
+def nested_cases(sizes):
+    """Cases with so many arms, each in the last arm of the one before it: a chain of `else` with a path for each arm but for those that hold a case."""
+    lines = []
+    for depth, arms in enumerate(sizes):
+        lines += [f"case (s{depth})", *(f"{key}: y = {key % 2};" for key in range(arms - 1)), "default:"]
+    selectors = ", ".join(f"s{depth}" for depth in range(len(sizes)))
+    return f"module m(input [7:0] {selectors}, input a, output reg y);\n  always @*\n" + "\n".join([*lines, "y = a;", *["endcase"] * len(sizes)]) + "\nendmodule\n"
+
+
+def chains(folder):
+    """64 cases in one another, with as many paths as a signal may have, and with one more. The last path has 4,095 conditions as false, each of which says
+    that 8 bits, continued with 24 false ones, are a number below 256. So it has the variable 1, those of 64 selectors, and for each condition 32
+    gates `^` and 31 of the chain: of 4 clauses each, 2 where both bits are numbers, and 3. Then come a unit for each condition and for the violation."""
+    most = [65] * 63 + [64]
+    assert sum(arms - 1 for arms in most) + 1 == 4096
+    variables, lines = 1 + 64 * 8 + 4095 * (32 + 31), 1 + 4095 * (8 * 4 + 24 * 2 + 31 * 3) + 4095 + 1
+    clauses("the longest chain of else", nested_cases(most), f"p cnf {variables} {lines}\n", folder, 4096)
+    # `check` holds all paths of a signal with their conditions, which grow with the square of the chain
+    check("a chain of 512 else in 64 levels", nested_cases([9] * 64), accepted(513), folder)
+    one_more = nested_cases([65] * 64)
+    clauses("a chain with one more else", one_more, "refused 702 paths y\n", folder)
+    check("a chain with one more else", one_more, "refused 702 paths y", folder)
+
+
+def reads_of(counts, label):
+    """A signal that is 1 where so many conditions hold, each of which reads so many inputs; their labels hang on a table of 256 rows."""
+    rows = " ".join(f"{key}: {'H' if key % 2 else 'L'};" for key in range(256))
+    inputs = [f"d{i}" for i in range(sum(counts))]
+    conditions = [" ^ ".join(inputs[sum(counts[:i]):sum(counts[:i + 1])]) for i in range(len(counts))]
+    return (f"labelmap D [7:0] {rows} endlabelmap\nmodule m(input [7:0] s, input {{D(s)}} {', '.join(inputs)}, output reg {{{label}}} y);\n"
+            "  always @* begin\n    y = 0;\n" + "".join(f"    if ({condition})\n" for condition in conditions) + "      y = 1;\n  end\nendmodule\n")
+
+
+def reads(folder):
+    """As many reads with such labels as the variables allow, one gate more, and as many as the signals allow. A label has 256 chains of 7 gates, and a
+    chain for each of two points, which has 254 gates in all; each gate has 3 clauses. The variables before are 1, 8 of `s` and one for each input, and
+    a condition on k inputs has k - 1 gates `^`. The label `H` of `y` has none, and where it is that of the inputs each read has a gate for the
+    violation, and the chain of these one less. A path holds all conditions, and each other one ends in the first that is false."""
+    label, fit = 256 * 7 + 254, [256] * 7 + [128] * 2
+    assert 1 + 8 + 2048 + (2048 - 9) + 2048 * label == 4194304
+    clauses("2,048 reads", reads_of(fit, "H"), f"p cnf 4194304 {1 + 4 * (2048 - 9) + 3 * 2048 * label + 9 + 1}\n", folder)
+    check("2,048 reads", reads_of(fit, "H"), accepted(10), folder)
+    variables = 1 + 8 + 64 + (64 - 1) + 65 * label + 64 + 63
+    clauses("64 reads", reads_of([64], "D(s)"), f"p cnf {variables} {1 + 4 * (64 - 1) + 3 * (65 * label + 64 + 63) + 1 + 1}\n", folder)
+    check("64 reads", reads_of([64], "D(s)"), accepted(2), folder)
+    for what, counts in (("2,048 reads and a gate more", [256] * 8), ("4,094 reads", [512] * 7 + [510])):
+        clauses(what, reads_of(counts, "H"), "refused 709 encoding 1\n", folder)
+        check(what, reads_of(counts, "H"), "refused 709 encoding 1", folder)
+
+
 def main():
     # the first run builds the program, which takes more than a run may
     subprocess.run([SECV, "--path"], stdout=subprocess.DEVNULL, check=True)
     with tempfile.TemporaryDirectory() as folder:
-        for group in (signals, instances, astronomical, labels, nest, statements, encodings):
+        for group in (signals, instances, astronomical, labels, nest, statements, encodings, chains, reads):
             group(folder)
     print(f"{passed} passed, {failed} failed")
     sys.exit(1 if failed else 0)

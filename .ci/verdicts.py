@@ -4,6 +4,7 @@ made by hand, damaged ones, and those that `check --proof` stores; and files tha
 docs/formats.md and docs/language.md, or by a second reading of these that shares nothing with the program. Where more than one list of values
 falsifies an obligation, the values that are printed are tried here. The last line is 'N passed, M failed'.
 """
+import hashlib
 import os
 import subprocess
 import sys
@@ -121,6 +122,19 @@ def lanes(count):
 
 
 LANES = lanes(200)
+
+# The store where each domain looks at the tags of the other one, and where the public tags are filled in both domains.
+SWAPPED = TAGS.replace("if (dom == 0) begin\n        if", "if (dom == 1) begin\n        if")
+FILLED = TAGS.replace("else if (dom == 0) begin", "else begin")
+
+# A text, how many obligations it has, those whose clauses can be met, and the first digits of the SHA-256 of all their clauses, as `cnf` prints them. A
+# solver of 60 lines told it of these very clauses, which splits and propagates, learns nothing and shares nothing with the program: of the store as
+# it is, 66 times that they cannot be met. Where the clauses change, ask any solver that reads DIMACS again.
+ANSWERS = [
+    (TAGS, 66, [], "f2cc8102b8b6bfc2"),
+    (SWAPPED, 66, [4, 5, 6, 11, 12, 13], "a3ad45dbafa7b787"),
+    (FILLED, 61, [20, 21, 22, 24, 25, 26, 38, 39, 40, 42, 43, 44, 46, 47], "78c584e2af530814"),
+]
 
 # The words behind `check f`, the text, and what is written: one list of values alone falsifies what is refused here, and is 0 where nothing hangs on it.
 CHECKS = [
@@ -300,6 +314,19 @@ def checks(folder):
         compare(f"check f {words}: {text[:80]!r}", run(folder, f"check f {words}"), (wanted, status_of(wanted)))
 
 
+def answers(folder):
+    """The clauses are those that another solver decided, and the first that can be met, where some can, is the obligation that fails."""
+    for text, count, met, digits in ANSWERS:
+        put(folder, "f", text)
+        printed = [run(folder, f"cnf f {number}") for number in range(1, count + 1)]
+        compare(f"whether {count} obligations have clauses", {status for _, status in printed}, {0})
+        compare(f"the clauses of {count} obligations", hashlib.sha256("".join(clauses for clauses, _ in printed).encode()).hexdigest()[:len(digits)], digits)
+        compare(f"obligation {count + 1}", run(folder, f"cnf f {count + 1}"), ("refused 706 no-obligation\n", 1))
+        verdict, status = run(folder, "check f")
+        wanted = ["refused", "flow", str(met[0])] if met else ["accepted", str(count), "obligations"]
+        compare(f"check f, of which {len(met)} fail", (verdict.split()[:3], status), (wanted, status_of(wanted[0])))
+
+
 def limits(folder):
     for text, wanted in LIMITS:
         put(folder, "f", text)
@@ -424,7 +451,7 @@ def sizes(folder):
 def main():
     # the first run builds the program, which takes more than a run may
     subprocess.run([SECV, "--path"], stdout=subprocess.DEVNULL, check=True)
-    for group in (checks, limits, falsified, certificates, stored, faults, names, sizes):
+    for group in (checks, answers, limits, falsified, certificates, stored, faults, names, sizes):
         with tempfile.TemporaryDirectory() as folder:
             group(folder)
     print(f"{passed} passed, {failed} failed")

@@ -35,11 +35,11 @@ def put_zeros(folder, name, size):
         file.truncate(size)
 
 
-def run(folder, words, stdout=subprocess.PIPE):
+def run(folder, words, stdout=subprocess.PIPE, stdin=subprocess.DEVNULL):
     """What the program writes and its status; the words are a list, or a text where none has a blank or is empty."""
     listed = words.split() if isinstance(words, str) else words
     try:
-        answer = subprocess.run([SECV, *listed], cwd=folder, stdin=subprocess.DEVNULL, stdout=stdout, stderr=subprocess.DEVNULL, timeout=MOST_SECONDS, check=False)
+        answer = subprocess.run([SECV, *listed], cwd=folder, stdin=stdin, stdout=stdout, stderr=subprocess.DEVNULL, timeout=MOST_SECONDS, check=False)
     except subprocess.TimeoutExpired:
         return f"nothing in {MOST_SECONDS} seconds", None
     return (answer.stdout or b"").decode(), answer.returncode

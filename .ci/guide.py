@@ -1,0 +1,200 @@
+#!/usr/bin/env python3
+"""Does what docs/guide.md says, in its order and in one folder, and compares whole outputs, standard error among them: each console block is run, each
+diff is made in the design of the five steps, each text marked `before` is refused as its last line says, and `list` takes every other one. The numbers of
+its table stand in the definitions, its rules have the names that the program gives them, and what it gives to editors matches real messages. The last line
+is 'N passed, M failed'.
+"""
+import json
+import os
+import re
+import shutil
+import subprocess
+
+from harness import MOST_SECONDS, TOP, compare, finish, put, run
+
+DESIGN = "dma.v"  # that of the five steps
+MOST_BYTES, MOST_COLUMNS = 20000, 120
+UNSOLVED = "no solver: minisat is not installed\n"
+
+
+def stored(*parts):
+    with open(os.path.join(TOP, *parts), encoding="utf-8") as file:
+        return file.read()
+
+
+GUIDE = stored("docs", "guide.md")
+BLOCKS = re.findall(r"^```([^\n]+)\n(.*?)^```$", GUIDE, re.M | re.S)
+# How a definition has each number of the table, which stands for @, in the table's order.
+LIMITS = [
+    ("sv_cli", "Texts", "largest_file = @"),
+    ("sv_token", "Numerals", "nat_le 1 n && nat_le n @"),
+    ("sv_token", "Numerals", "value_bound None = @"),
+    ("sv_token", "Numerals", "value_bound (Some size) = @"),
+    ("sv_ast", "GrammarRules", "all_limits = record { levels = Some @;"),
+    ("sv_ast", "GrammarRules", "tokens = Some @;"),
+    ("sv_ast", "GrammarRules", "arms = Some @;"),
+    ("sv_walk", "Lattices", "nat_le (length t.points) @)"),
+    ("sv_walk", "LabelMaps", "nat_le bits @)"),
+    ("sv_walk", "Declarations", "nat_lt (base + length so_far.signals) @)"),
+    ("sv_walk", "InstanceSteps", "nat_lt built.instances @)"),
+    ("sv_walk", "Declarations", "is_range @ (whole_number names.scope span.high)"),
+    ("sv_walk", "ExpressionSteps", "nat_le (joined_length names.scope es) @)"),
+    ("sv_walk", "ExpressionSteps", "is_count (pos n) = nat_le 1 n && nat_le n @"),
+    ("sv_obl", "Limits", "nat_lt @ (length found)"),
+    ("sv_obl", "Limits", "nat_lt @ path.nodes"),
+    ("sv_obl", "Limits", "nat_lt @ (total + length found)"),
+    ("sv_gates", "Formulas", "most_variables = @"),
+    ("sv_words", "Words", "default_budget = @"),
+    ("sv_words", "Lines", "greatest_budget = @"),
+    ("sv_cli", "Verifies", "largest_proof = @"),
+    ("sv_trace", "Stimulus", "nat_lt @ (length line)"),
+    ("sv_simulate", "Simulated", "largest_stimulus = @"),
+    ("sv_cli", "Compares", "largest_compared = @"),
+    ("sv_words", "Lines", "greatest = @"),
+    ("sv_gen", "Sample", "(lanes ≤ @)"),
+]
+
+
+def typed(folder, command):
+    """What a terminal shows of a command."""
+    taken = {name: value for name, value in os.environ.items() if name not in ("SECV", "SOLVER", "SLOTS")}
+    answer = subprocess.run(["sh", "-c", command], cwd=folder, env=taken, stdin=subprocess.DEVNULL, stdout=subprocess.PIPE, stderr=subprocess.STDOUT,
+                            timeout=MOST_SECONDS, check=False)
+    return answer.stdout.decode()
+
+
+def console(folder, block):
+    for command, wanted in re.findall(r"^\$ ([^\n]*)\n((?:(?!\$ )[^\n]*\n)*)", block, re.M):
+        if "solve_all.sh" in command and shutil.which("minisat") is None:
+            wanted = UNSOLVED
+        compare(command, typed(folder, command), wanted)
+
+
+def changed(text, block):
+    """A text with lines of a diff taken out, each run of them where it stands once, and others put in their place."""
+    for old, new in re.findall(r"((?:^-[^\n]*\n)+)((?:^\+[^\n]*\n)+)", block, re.M):
+        before, after = (re.sub(r"^[-+]", "", lines, flags=re.M) for lines in (old, new))
+        compare(f"the design has these lines once: {before}", text.count(before), 1)
+        text = text.replace(before, after)
+    return text
+
+
+def obligations(folder, design):
+    """What `list` tells of a design, but for the places in its text."""
+    return re.sub(r"\d+:\d+", "", run(folder, f"list {design}")[0])
+
+
+def refused(folder, block):
+    put(folder, "text.v", block)
+    told, status = run(folder, "check text.v")
+    compare(f"before: {block}", (told, status), (block.splitlines()[-1].removeprefix("// ") + "\n", 1))
+
+
+def taken(folder, block):
+    put(folder, "text.v", block)
+    told, status = run(folder, "list text.v")
+    compare(f"list takes {block}", status, 0)
+    compare(f"it has obligations: {block}", told != "", True)
+
+
+def in_order(folder):
+    for name in ("secv", "examples"):
+        os.symlink(os.path.join(TOP, name), os.path.join(folder, name))
+    steps = []
+    for kind, block in BLOCKS:
+        language, _, mark = kind.partition(" ")
+        if kind == "console":
+            console(folder, block)
+        elif kind == "diff":
+            with open(os.path.join(folder, DESIGN), encoding="utf-8") as file:
+                text = file.read()
+            put(folder, DESIGN, changed(text, block))
+            steps.append(obligations(folder, DESIGN))
+        elif kind == "verilog before":
+            refused(folder, block)
+        elif language == "verilog":
+            taken(folder, block)
+        else:
+            compare(f"a block of a kind that is tried: {kind}", kind in ("sh ci.sh", "sed plain.sed", "vim", "json"), True)
+        if mark.endswith((".v", ".sh", ".sed")):
+            put(folder, mark, block)
+    compare("the last steps lead to the pair of examples/", steps[-2:], [obligations(folder, f"examples/dma_{word}.v") for word in ("leak", "mended")])
+    marks = [kind for kind, _ in BLOCKS if kind in ("verilog before", "verilog after")]
+    compare("behind each text stands what it is rewritten as", marks, ["verilog before", "verilog after"] * 11)
+
+
+def without_labels(folder):
+    """The guide's script takes all labels away, and nothing else: what is left of a design of examples/ is accepted, and of the DMA engine it is dma_plain.v."""
+    put(folder, "plain.sed", dict(BLOCKS)["sed plain.sed"])
+    os.symlink(os.path.join(TOP, "examples"), os.path.join(folder, "examples"))
+    for name in sorted(os.listdir(os.path.join(TOP, "examples"))):
+        if name.endswith(".v") and name != "unknown_value.v":
+            put(folder, name, typed(folder, f"sed -E -f plain.sed examples/{name}"))
+            compare(f"{name} without labels", run(folder, f"check {name}")[0].split()[0], "accepted")
+    lines = [[line.replace("dma_leak", "dma_plain") for line in text.splitlines() if line and not line.startswith("//")]
+             for text in (typed(folder, "cat dma_leak.v"), stored("examples", "dma_plain.v"))]
+    compare("the DMA engine without labels", *lines)
+
+
+def two_events(folder):
+    """What the guide says of other lists of events in a sentence."""
+    for events, line in (("posedge clk or posedge rst", "1:55 or"), ("a or b", "1:43 sensitivity-list")):
+        put(folder, "text.v", f"module m(input a, output reg q); always @({events}) ; endmodule\n")
+        compare(events, run(folder, "check text.v"), (f"refused 202 unsupported {line}\n", 1))
+
+
+def solvers(folder):
+    """What solve_all.sh says where a solver is missing or has no answer."""
+    os.symlink(os.path.join(TOP, "examples"), os.path.join(folder, "examples"))
+    script, design = os.path.join("examples", "solve_all.sh"), os.path.join("examples", "turn.v")
+    for words, wanted in ((f"SOLVER=no-solver sh {script} {design}", "no solver: no-solver is not installed\nstatus 2\n"),
+                          (f"SOLVER=false sh {script} {design} | tail -n 1", "0 of 2 obligations hold\nstatus 0\n"),
+                          (f"SOLVER=false sh {script} {design} >none", "status 3\n"),
+                          (f"sh {script} examples/unknown_value.v 2>none", "refused 104 unsupported 3:34 four-state\nstatus 1\n")):
+        if shutil.which("minisat") is None and "SOLVER" not in words:
+            wanted = f"{UNSOLVED}status 2\n"
+        compare(words, typed(folder, f"{words}; echo status $?"), wanted)
+
+
+def limits(_):
+    rows = re.findall(r"^\| ([\d,^]+) \| [^|]* \| `([^`]*)` \|$", GUIDE, re.M)
+    compare("rows of the table of limits", len(rows), len(LIMITS))
+    for (number, _), (crate, file, form) in zip(rows, LIMITS):
+        digits = number.replace(",", "").replace("^", " ^ ")
+        text = stored("crates", crate, "specs", f"{file}.antt")
+        compare(f"{crate} {file}: {form} with {digits}", re.search(re.escape(form.replace("@", digits)) + r"(?!\d)", text) is not None, True)
+    names = dict(re.findall(r'\((\d+), codes "([^"]*)"\)', stored("crates", "sv_report", "specs", "Rules.antt")))
+    told = re.findall(r"`(?:refused )?(\d{3}) ([a-z-]+)`", GUIDE) + re.findall(r"refused (\d{3}) ([a-z-]+)", GUIDE)
+    compare("the rules have these names", {number: name for number, name in told}, {number: names.get(number) for number, _ in told})
+
+
+def editors(folder):
+    """What the guide gives to vim and to VS Code finds the file, the place and the message in lines of standard error."""
+    blocks = dict(BLOCKS)
+    vim = re.search(r"^set errorformat=(.*)$", blocks["vim"], re.M).group(1).replace("\\ ", " ")
+    for item, form in (("%f", "(.+?)"), ("%l", r"(\d+)"), ("%c", r"(\d+)"), ("%m", "(.+)")):
+        vim = vim.replace(item, form)
+    pattern = json.loads(blocks["json"])["pattern"]
+    compare("the parts of the matcher", [pattern[part] for part in ("file", "line", "column", "message")], [1, 2, 3, 4])
+    for name in ("text.v", "a b.v"):
+        put(folder, name, "module m;\n  initial ;\nendmodule\n")
+        line = subprocess.run([os.path.join(TOP, "secv"), "check", name], cwd=folder, stdout=subprocess.DEVNULL, stderr=subprocess.PIPE, check=False).stderr
+        for form in (vim, pattern["regexp"]):
+            found = re.fullmatch(form, line.decode().removesuffix("\n"))
+            compare(f"{form} in {line}", found and found.groups(), (name, "2", "3", "this form of Verilog is left out; docs/language.md says more"))
+
+
+def form(_):
+    compare("the guide is short", len(GUIDE.encode()) < MOST_BYTES, True)
+    prose = re.sub(r"^```.*?^```$", "", GUIDE, flags=re.M | re.S).splitlines()
+    compare("its lines are short", [line for line in prose if len(line) > MOST_COLUMNS and not line.startswith("|")], [])
+    for name in set(re.findall(r"`((?:docs|examples|\.ci)/[\w./]+)`", GUIDE)):
+        compare(f"{name} is there", os.path.exists(os.path.join(TOP, name)), True)
+    files = os.listdir(os.path.join(TOP, "examples"))
+    rows = re.search(r"\| Pairs of [^\n]*\n[^\n]*\n((?:\|[^\n]*\n)+)", GUIDE).group(1).splitlines()
+    for name in [name for row in rows for name in re.findall(r"`(\w+)`", row.split("|")[3])]:
+        compare(f"a pair of {name}", f"{name}_mended.v" in files and (f"{name}_leak.v" in files or f"{name}.v" in files), True)
+
+
+if __name__ == "__main__":
+    finish([in_order, without_labels, two_events, solvers, limits, editors, form])

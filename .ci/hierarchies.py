@@ -226,6 +226,8 @@ def chains(folder):
     one_more = nested_cases([65] * 64)
     clauses("a chain with one more else", one_more, "refused 702 paths y\n", folder)
     check("a chain with one more else", one_more, "refused 702 paths y", folder)
+    check("64 levels of 256 arms", nested_cases([256] * 64), "refused 702 paths y", folder)
+    clauses("64 levels of 256 arms", nested_cases([256] * 64), "refused 702 paths y\n", folder)
 
 
 def reads_of(counts, label):

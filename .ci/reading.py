@@ -2,7 +2,7 @@
 """What a reader has to believe of `run` and of the law on the whole language: the definitions that their clauses cite, and those that these cite.
 
 Walks from the clauses over the definitions of `specs/`, name by name, and over the types of the code that they name. Fails where it meets a file that is
-private (its first line begins '-- Private:'), or where the list that stands in docs/architecture.md between its two markers is another one. With --list it
+private (its first line begins '-- Private:'), or where the list that stands in docs/reading.md between its two markers is another one. With --list it
 prints the list, with --write it puts it there. The last line is 'N passed, M failed'.
 """
 import os
@@ -11,7 +11,7 @@ import sys
 from functools import cache
 
 TOP = os.path.dirname(os.path.dirname(os.path.abspath(__file__)))
-PAGE = os.path.join(TOP, "docs", "architecture.md")
+PAGE = os.path.join(TOP, "docs", "reading.md")
 BEGIN, END = "<!-- reading list: made by .ci/reading.py --write -->", "<!-- end of the reading list -->"
 
 # What is read, from which function of which file, by which of its clauses (None: by all).
@@ -270,7 +270,7 @@ def main():
     with open(PAGE, encoding="utf-8") as file:
         page = file.read()
     if page.count(BEGIN) != 1 or page.count(END) != 1:
-        wrong.append("docs/architecture.md has no place for the reading list")
+        wrong.append("docs/reading.md has no place for the reading list")
     else:
         front, behind = page.partition(BEGIN)[0], page.partition(END)[2]
         made = f"{front}{BEGIN}\n\n{table}\n\n{END}{behind}"
@@ -278,7 +278,7 @@ def main():
             with open(PAGE, "w", encoding="utf-8") as file:
                 file.write(made)
         elif made != page:
-            wrong.append("the reading list in docs/architecture.md is another one: python3 .ci/reading.py --write puts it right")
+            wrong.append("the reading list in docs/reading.md is another one: python3 .ci/reading.py --write puts it right")
     if "--list" in sys.argv[1:]:
         print(table)
     for line in wrong:

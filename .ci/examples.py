@@ -66,7 +66,7 @@ def traces(_):
 
 def shown(_):
     """The commands of README.md with the first line that each prints, or the file that stands for all of it; and all files stand in it."""
-    text = stored("README.md")
+    text = re.sub(r"\s+", " ", stored("README.md"))
     commands = re.findall(r"`\.\./secv (check|verify|list|compare|sim) ([^`]*)`(: | prints )`([^`]*)`", text)
     compare("README.md tells of each command what it prints", len(commands), len(re.findall(r"`\.\./secv (?!check DESIGN)", text)))
     for command, words, how, told in commands:

@@ -163,7 +163,7 @@ def limits(_):
         digits = number.replace(",", "").replace("^", " ^ ")
         text = stored("crates", crate, "specs", f"{file}.antt")
         compare(f"{crate} {file}: {form} with {digits}", re.search(re.escape(form.replace("@", digits)) + r"(?!\d)", text) is not None, True)
-    names = dict(re.findall(r'\((\d+), codes "([^"]*)"\)', stored("crates", "sv_report", "specs", "Rules.antt")))
+    names = dict(re.findall(r'\((\d+), codes "([^"]*)"\)', stored("crates", "sv_num", "specs", "Rules.antt")))
     told = re.findall(r"`(?:refused )?(\d{3}) ([a-z-]+)`", GUIDE) + re.findall(r"refused (\d{3}) ([a-z-]+)", GUIDE)
     compare("the rules have these names", {number: name for number, name in told}, {number: names.get(number) for number, _ in told})
 

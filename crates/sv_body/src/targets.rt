@@ -23,7 +23,7 @@ use crate::parts::Part;
 use std::alloc::Global;
 use sv_ast::{Expr, Select, Target};
 use sv_flat::{FStmt, Piece};
-use sv_num::{Bits, Fault, OutOfMemory, Place};
+use sv_num::{Bits, Fault, OutOfMemory, Place, Rule};
 use sv_width::{
     Meaning, Scope, constant_in_reach, natural, part_inside, place_of, refusal, typed, unknown_name,
 };
@@ -61,7 +61,7 @@ fn selected(alloc: Global, target: &Target, width: u8, scope: &Scope) -> Result<
             let bits = constant_in_reach(alloc, index, scope)?;
             match bit_inside(width, bits) {
                 Some(bit) => Ok((bit, bit)),
-                None => Err(refusal(alloc, 403, place_of(index))),
+                None => Err(refusal(alloc, Rule::BadSelect, place_of(index))),
             }
         }
         Select::Part(high, low) => {
@@ -69,7 +69,7 @@ fn selected(alloc: Global, target: &Target, width: u8, scope: &Scope) -> Result<
             let low = constant_in_reach(alloc, low, scope)?;
             match part_inside(width, high, low) {
                 Some(bounds) => Ok(bounds),
-                None => Err(refusal(alloc, 403, target.place)),
+                None => Err(refusal(alloc, Rule::BadSelect, target.place)),
             }
         }
     }
@@ -169,7 +169,7 @@ pub fn assignment(
     let parts = parts_of(alloc, targets, scope)?;
     let width = total_width(&parts);
     if width > 64 {
-        return Err(refusal(alloc, 402, place));
+        return Err(refusal(alloc, Rule::TooWide, place));
     }
     let width = width as u8;
     let value = typed(alloc, value, scope, width)?;

@@ -10,16 +10,16 @@ use Rattle.sv_lattice.specs.declared.points.Point.{Point}
 use Rattle.sv_flat.specs.Design.{FlatDesign}
 use Rattle.sv_io.specs.Exchange.{Exchange, fetched, whole, too_long}
 use Rattle.sv_trace.specs.declared.faults.StimFault.TheVariants.{Line}
-use Rattle.sv_trace.specs.declared.faults.StimKind.{StimKind}
+use Rattle.sv_texts.specs.declared.stimuli.StimKind.{StimKind}
 use Rattle.sv_trace.specs.Forms.{form_of, name_in}
 use Rattle.sv_trace.specs.Stimulus.{read_whole, fault_of}
 use Rattle.sv_tworun.specs.Forms.{Finding}
 use Rattle.sv_compare.specs.ComparedTexts.{IsDesignCompared, named, signal_told}
 use Rattle.sv_compare.specs.Pairs.{IsRight}
 use Rattle.sv_compare.proofs.ToldSignals.{told_itself}
-use Rattle.sv_report.specs.Text.{stimulus_text}
+use Rattle.sv_texts.specs.Texts.{stimulus_text}
 use Rattle.sv_report.specs.declared.styles.Style.TheVariants.{Lines}
-use Rattle.sv_report.specs.declared.verdicts.StimSource.TheVariants.{FileA, FileB}
+use Rattle.sv_texts.specs.declared.stimuli.StimSource.TheVariants.{FileA, FileB}
 use Rattle.sv_cli.specs.declared.report.Report.{Report}
 use Rattle.sv_cli.specs.Answer.{Answer, answer_of, stimulus_refused}
 use Rattle.sv_cli.specs.Compares.{answer_of_finding, finding_text, largest_compared}

@@ -17,7 +17,7 @@ use Rattle.sv_flatten.specs.FlattenedTexts.{EachItem, ReleasesNothing}
 use Rattle.sv_walk.specs.Texts.{flat_of}
 use Rattle.sv_trace.specs.declared.faults.StimFault.{StimFault}
 use Rattle.sv_trace.specs.declared.faults.StimFault.TheVariants.{Line}
-use Rattle.sv_trace.specs.declared.faults.StimKind.{StimKind}
+use Rattle.sv_texts.specs.declared.stimuli.StimKind.{StimKind}
 use Rattle.sv_trace.specs.Forms.{StimForm}
 use Rattle.sv_trace.specs.Stimulus.{LinesRead, read_whole}
 use Rattle.sv_tworun.specs.Forms.{Finding}
@@ -25,10 +25,10 @@ use Rattle.sv_text_laws.specs.FalsifiedTexts.{number_of}
 use Rattle.sv_text_laws.specs.Signals.{text_signals, dotted}
 use Rattle.sv_text_laws.specs.SimulatedTexts.{text_form}
 use Rattle.sv_compare.specs.ComparedTexts.{IsTextCompared, HasOneFinding, numbered, named}
-use Rattle.sv_report.specs.Text.{stimulus_text}
+use Rattle.sv_texts.specs.Texts.{stimulus_text}
 use Rattle.sv_report.specs.declared.styles.Style.TheVariants.{Lines}
-use Rattle.sv_report.specs.declared.verdicts.StimSource.{StimSource}
-use Rattle.sv_report.specs.declared.verdicts.StimSource.TheVariants.{FileA, FileB}
+use Rattle.sv_texts.specs.declared.stimuli.StimSource.{StimSource}
+use Rattle.sv_texts.specs.declared.stimuli.StimSource.TheVariants.{FileA, FileB}
 use Rattle.sv_cli.specs.Answer.{Answer, stimulus_refused}
 use Rattle.sv_cli.specs.Compares as compares
 use Rattle.sv_cli.specs.Compares.{answer_of_finding, finding_text, TellsFinding, TellsOfBoth, Finds}

@@ -3,9 +3,9 @@ use Rattle.std.specs.Prelude.{ℕ, List, Option, Some, None}
 use Rattle.sv_num.specs.declared.faults.Place.{Place}
 use Rattle.sv_clause.specs.Logs.{Step, plain_log}
 use Rattle.sv_obl.specs.declared.valuations.Valuation.{Valuation}
-use Rattle.sv_trace.specs.declared.faults.StimKind.{StimKind}
+use Rattle.sv_texts.specs.declared.stimuli.StimKind.{StimKind}
 use Rattle.sv_words.specs.declared.command.UsageKind.{UsageKind}
-use Rattle.sv_report.specs.declared.verdicts.StimSource.{StimSource}
+use Rattle.sv_texts.specs.declared.stimuli.StimSource.{StimSource}
 use Rattle.sv_report.specs.declared.verdicts.Broken.TheVariants as broken
 use Rattle.sv_cli.specs.declared.outcome.Outcome.{Outcome}
 use Rattle.sv_cli.specs.declared.outcome.Outcome.TheVariants as outcome

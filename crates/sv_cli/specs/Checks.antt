@@ -5,6 +5,7 @@ use Rattle.std.specs.Prelude.{decimal}
 use Rattle.sv_clause.specs.Logs.{Step}
 use Rattle.sv_flat.specs.Design.{FlatDesign}
 use Rattle.sv_io.specs.Exchange.{Exchange, stored}
+use Rattle.sv_obl.specs.Asked.{asked}
 use Rattle.sv_obl.specs.Limits.{excess}
 use Rattle.sv_obl.specs.Obligations.{obligations}
 use Rattle.sv_obl.specs.declared.valuations.Valuation.{Valuation}
@@ -21,7 +22,7 @@ use Rattle.sv_cli.specs.Limits.{TellsLimit, ExceedsLimit}
 -- budget; no encoding is too large
 pub record IsCertificate (design : FlatDesign) (budget : ℕ) (bytes : List ℕ) : Type 0 where
   pub logs : List (List Step)
-  pub fit : All (Fits design) (obligations [] design)
+  pub fit : All (Fits design) (asked design)
   pub refute : AreRefutations design logs
   pub within : AreWithin budget logs
   pub are_logs : AreLogs logs

@@ -1,9 +1,9 @@
 -- Private: how the code goes. How an obligation is looked for, target by target.
-use Rattle.std.specs.Prelude.{◌≡◌, ◌≤◌, ℕ, [], Option, Some, None, slice_get}
+use Rattle.std.specs.Prelude.{◌≡◌, ◌≤◌, ℕ, Option, Some, None, slice_get}
 use Rattle.sv_flat.specs.Design.{FlatDesign}
+use Rattle.sv_obl.specs.Asked.{asked}
 use Rattle.sv_obl.specs.DesignQueries.{IsQueryOf}
 use Rattle.sv_obl.specs.ListParts.{IsAt}
-use Rattle.sv_obl.specs.Obligations.{obligations}
 use Rattle.sv_obl.specs.Views.{obligation_of}
 use Rattle.sv_obl.specs.declared.list_parts.Listing.{Listing}
 use Rattle.sv_obl.specs.declared.queries.Query.{Query}
@@ -12,7 +12,7 @@ use Rattle.sv_obl.specs.declared.queries.Query.{Query}
 -- the target comes next.
 abbrev pub IsFoundOrNext : FlatDesign → (target before : ℕ) → Listing → Option Query → Type 0
 IsFoundOrNext design target before listing (Some query) =
-    (slice_get (obligations [] design) before ≡ Some (obligation_of query))
+    (slice_get (asked design) before ≡ Some (obligation_of query))
     × IsQueryOf design (obligation_of query)
 IsFoundOrNext design target before listing None =
     IsAt design target listing × (listing.count ≤ before)

@@ -8,7 +8,7 @@ use Rattle.sv_ast.specs.SourceLabels.{points}
 use Rattle.sv_ast.specs.Tree.{TextTree}
 use Rattle.sv_flatten.specs.SideBySide.{text_signals}
 use Rattle.sv_trace.specs.declared.faults.StimFault.TheVariants.{Line}
-use Rattle.sv_trace.specs.declared.faults.StimKind.{StimKind}
+use Rattle.sv_texts.specs.declared.stimuli.StimKind.{StimKind}
 use Rattle.sv_trace.specs.Forms.{StimForm}
 use Rattle.sv_trace.specs.Stimulus.{LinesRead, read_whole, fault_of}
 use Rattle.sv_tworun.specs.Forms.{Finding}
@@ -17,10 +17,11 @@ use Rattle.sv_text_laws.specs.FalsifiedTexts.{number_of}
 use Rattle.sv_text_laws.specs.Signals.{dotted}
 use Rattle.sv_text_laws.specs.SimulatedTexts.{text_form}
 use Rattle.sv_compare.specs.ComparedTexts.{IsTextCompared, numbered, named}
-use Rattle.sv_report.specs.Text.{stimulus_text, equal_text, input_text, view_text, lengths_text}
+use Rattle.sv_report.specs.Text.{equal_text, input_text, view_text, lengths_text}
+use Rattle.sv_texts.specs.Texts.{stimulus_text}
 use Rattle.sv_report.specs.declared.styles.Style.TheVariants.{Lines}
-use Rattle.sv_report.specs.declared.verdicts.StimSource.{StimSource}
-use Rattle.sv_report.specs.declared.verdicts.StimSource.TheVariants.{FileA, FileB}
+use Rattle.sv_texts.specs.declared.stimuli.StimSource.{StimSource}
+use Rattle.sv_texts.specs.declared.stimuli.StimSource.TheVariants.{FileA, FileB}
 use Rattle.sv_cli.specs.Answer.{Answer, done, inputs_differ, views_differ, lengths_differ}
 use Rattle.sv_cli.specs.Answer.{stimulus_refused}
 use Rattle.sv_cli.specs.Limits.{TellsLimit}

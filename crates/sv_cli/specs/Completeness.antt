@@ -1,8 +1,9 @@
 -- What `check` is sure to decide of a text that passes: of which answers it gives none.
-use Rattle.std.specs.Prelude.{◌≢◌, ◌⊎◌, ℕ, ◌≤◌, ◌^◌, List, [], Option, All, Any}
+use Rattle.std.specs.Prelude.{◌≢◌, ◌⊎◌, ℕ, ◌≤◌, ◌^◌, List, Option, All, Any}
 use Rattle.sv_clause.specs.Logs.{Step}
 use Rattle.sv_flat.specs.Design.{FlatDesign}
 use Rattle.sv_io.specs.Exchange.{Exchange}
+use Rattle.sv_obl.specs.Asked.{asked}
 use Rattle.sv_obl.specs.Obligations.{obligations}
 use Rattle.sv_obl.specs.Validity.{Valuation, Falsifies}
 use Rattle.sv_obl.specs.declared.valuations.Valuation.{Valuation as Listed}
@@ -31,20 +32,20 @@ IsNotUndecided answer = (number : ℕ) (steps : List Step) → answer ≢ undeci
 
 -- some valuation falsifies an obligation of the design
 abbrev pub SomeFails : FlatDesign → Type 0
-SomeFails design = Any (λ o. (v : Valuation) × Falsifies design v o) (obligations [] design)
+SomeFails design = Any (λ o. (v : Valuation) × Falsifies design v o) (asked design)
 
 -- the encoding of each obligation has no more variables than may be
 abbrev pub AllFit : FlatDesign → Type 0
-AllFit design = All (Fits design) (obligations [] design)
+AllFit design = All (Fits design) (asked design)
 
 -- no encoding has more than n variables, and the budget is at least 3 ^ n
 abbrev pub IsLarge : FlatDesign → (budget : ℕ) → Type 0
 IsLarge design budget =
-    (most : ℕ) × All (HasAtMost design most) (obligations [] design) × (3 ^ most ≤ budget)
+    (most : ℕ) × All (HasAtMost design most) (asked design) × (3 ^ most ≤ budget)
 
 -- unit resolution alone refutes each encoding
 abbrev pub AllHaveUnitConflicts : FlatDesign → Type 0
-AllHaveUnitConflicts design = All (HasUnitConflict design) (obligations [] design)
+AllHaveUnitConflicts design = All (HasUnitConflict design) (asked design)
 
 -- no log spends the budget: it is large, or unit resolution decides
 abbrev pub Suffices : FlatDesign → (budget : ℕ) → Type 0

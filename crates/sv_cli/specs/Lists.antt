@@ -2,6 +2,7 @@
 use Rattle.std.specs.Prelude.{◌≡◌, ℕ, zero, suc, List, [], ◌∷◌, Option, Some, None}
 use Rattle.std.specs.Prelude.{slice_get, decimal}
 use Rattle.sv_flat.specs.Design.{FlatDesign}
+use Rattle.sv_obl.specs.Asked.{asked}
 use Rattle.sv_obl.specs.Limits.{excess}
 use Rattle.sv_obl.specs.ListLines.{list_text}
 use Rattle.sv_obl.specs.Obligations.{Obligation, obligations}
@@ -29,7 +30,7 @@ pub data Lists (design : FlatDesign) (answer : Answer) (printed : List ℕ) : Ty
 -- the obligation of a design that has this number; they are numbered from 1
 abbrev pub obligation_at : FlatDesign → (number : ℕ) → Option Obligation
 obligation_at design zero = None
-obligation_at design (suc before) = slice_get (obligations [] design) before
+obligation_at design (suc before) = slice_get (asked design) before
 
 -- the obligation of the number that is asked for is encoded with no more variables than may be:
 -- what is printed is its clauses

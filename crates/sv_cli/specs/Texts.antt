@@ -9,7 +9,7 @@ use Rattle.sv_ast.specs.TextSystem.{text_system}
 use Rattle.sv_flat.specs.Design.{FlatDesign}
 use Rattle.sv_flat.specs.Admission.{IsAdmitted, IsRefused}
 use Rattle.sv_walk.specs.Texts.{flat_of, BreaksRule}
-use Rattle.sv_obl.specs.Validity.{AllValid}
+use Rattle.sv_obl.specs.Asked.{asked, AskedHold}
 use Rattle.sv_report.specs.Styles.{refusal_in}
 use Rattle.sv_report.specs.declared.styles.Style.{Style}
 use Rattle.sv_cli.specs.Answer.{Answer, rule_broken}
@@ -95,7 +95,7 @@ pub record Passes (top : Option (List ℕ)) (text : List ℕ) : Type 0 where
 -- inputs falsify it
 pub record HasValidObligations (top : Option (List ℕ)) (text : List ℕ) : Type 0 where
   pub passes : Passes top text
-  pub valid : AllValid [] passes.design
+  pub valid : AskedHold passes.design
 
 -- ---- the headline
 

@@ -2,8 +2,8 @@
 use Rattle.std.specs.Prelude.{◌≡◌, ℕ, ◌+◌, ◌≤◌, List, [], ◌∷◌, None, length, decimal}
 use Rattle.sv_flat.specs.Design.{FlatDesign}
 use Rattle.sv_io.specs.Exchange.{Exchange, fetched, whole, too_long}
+use Rattle.sv_obl.specs.Asked.{asked}
 use Rattle.sv_obl.specs.Limits.{excess}
-use Rattle.sv_obl.specs.Obligations.{obligations}
 use Rattle.sv_judge.specs.Certified.{IsVerified, IsFaultLine, IsTooLargeToVerify}
 use Rattle.sv_report.specs.Text.{accepted_text, fault_text}
 use Rattle.sv_report.specs.declared.styles.Style.TheVariants.{Lines}
@@ -19,7 +19,7 @@ pub record Accepts (design : FlatDesign) (bytes : List ℕ) (answer : Answer) (p
     : Type 0 where
   pub verified : IsVerified design bytes
   pub answers : answer ≡ done
-  pub prints : printed ≡ accepted_text (length (obligations [] design))
+  pub prints : printed ≡ accepted_text (length (asked design))
 
 -- this line of the certificate is the first at fault
 pub record Refuses (design : FlatDesign) (bytes : List ℕ) (answer : Answer) (printed : List ℕ)

@@ -5,10 +5,10 @@ ghost use Rattle.std.specs.Prelude.{option_map};
 ghost use Rattle.sv_flat.specs.Views.{design_of};
 ghost use Rattle.sv_io.specs.Count.{Rose};
 ghost use Rattle.sv_io.specs.Sink.{WritesFront};
+ghost use Rattle.sv_obl.specs.Asked.{asked};
 ghost use Rattle.sv_obl.specs.DesignQueries.{IsQueryOf};
 ghost use Rattle.sv_obl.specs.Limits.{excess};
 ghost use Rattle.sv_obl.specs.ListParts.{IsAt};
-ghost use Rattle.sv_obl.specs.Obligations.{obligations};
 ghost use Rattle.sv_obl.specs.Views.{obligation_of};
 ghost use Rattle.sv_encoding.specs.CnfText.{clause_line, problem_line, cnf_text};
 ghost use Rattle.sv_blast.specs.Coded.{encoding_of};
@@ -25,6 +25,7 @@ use sv_clause::Clause;
 use sv_design::Design;
 use sv_flat::SigId;
 use sv_io::{PutFault, Sink, put_all};
+use sv_num::Rule;
 use sv_obl::{Listing, Query, check_limits};
 use sv_report::Style;
 
@@ -52,7 +53,7 @@ fn clauses_of_number(alloc: Global, design: &Design, number: u32) -> Result<Prep
 {
     match query_of_number(alloc, design, number)? {
         Some(query) => clauses_of_query(alloc, design, number, &query),
-        None => Ok(Prepared::Whole(report_of_bare_limit(alloc, Style::Lines, 706)?)),
+        None => Ok(Prepared::Whole(report_of_bare_limit(alloc, Style::Lines, Rule::NoObligation)?)),
     }
 }
 
@@ -96,7 +97,7 @@ fn query_of_number(alloc: Global, design: &Design, number: u32) -> Result<Option
 fn query_behind(alloc: Global, design: &Design, before: u32) -> Result<Option<Query>, AllocError>
     requires { excess (design_of design.now) ≡ None }
     ensures found { IfOk result (λ found. option_map obligation_of found
-        ≡ slice_get (obligations [] (design_of design.now)) before) }
+        ≡ slice_get (asked (design_of design.now)) before) }
     ensures query { IfOk result (λ found.
         IfSome found (λ query. IsQueryOf (design_of design.now) (obligation_of query))) }
 {
@@ -157,7 +158,7 @@ fn selector_query(
     requires at { IsAt (design_of design.now) (length design.now.signals.items) listing.now }
     requires behind { listing.now.count ≤ before }
     ensures found { IfOk result (λ found. option_map obligation_of found
-        ≡ slice_get (obligations [] (design_of design.now)) before) }
+        ≡ slice_get (asked (design_of design.now)) before) }
     ensures query { IfOk result (λ found.
         IfSome found (λ query. IsQueryOf (design_of design.now) (obligation_of query))) }
 {

@@ -26,7 +26,7 @@ use sv_design::Design;
 use sv_flat::SigId;
 use sv_io::{Cabinet, FetchFault};
 use sv_lattice::Point;
-use sv_num::Name;
+use sv_num::{Name, Rule};
 use sv_report::{StimSource, Style, equal_text, input_text, lengths_text, view_text};
 use sv_tworun::Compared;
 
@@ -51,7 +51,7 @@ pub fn compare_design<C: Cabinet>(
 {
     match design.point_named(level) {
         Some(point) => Ok(Prepared::Whole(compare_files(alloc, design, a, b, point, cabinet)?)),
-        None => Ok(Prepared::Whole(report_of_bare_limit(alloc, Style::Lines, 707)?)),
+        None => Ok(Prepared::Whole(report_of_bare_limit(alloc, Style::Lines, Rule::Level)?)),
     }
 }
 
@@ -109,7 +109,12 @@ fn report_of_size(alloc: Global, file: &str) -> Result<Report, AllocError>
     ensures { IfOk result (Says (TellsLimit Lines 711 (file.now ∷ []))) }
 {
     let name = Name::new(alloc, file.as_bytes())?;
-    report_of_limit(alloc, Style::Lines, 711, vec![in alloc; name]?)
+    report_of_limit(
+        alloc,
+        Style::Lines,
+        Rule::StimulusFile,
+        vec![in alloc; name]?,
+    )
 }
 
 // What is found of the bytes of both stimuli.

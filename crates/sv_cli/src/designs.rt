@@ -16,7 +16,7 @@ use sv_ast::{Item, Module, Text};
 use sv_design::Design;
 use sv_elab::elaborate;
 use sv_flat::Flat;
-use sv_num::{Fault, Place, Refusal};
+use sv_num::{Fault, Place, Refusal, Rule};
 use sv_parse::read_text;
 
 // Whether a memory, an invariant or a released value stands in the text.
@@ -56,7 +56,7 @@ fn unbuilt_item(alloc: Global) -> Refusal
     ensures names { result.names.items ≡ [] }
 {
     Refusal {
-        number: 199,
+        number: Rule::NotBuilt.number(),
         place: Place { line: 1, column: 1 },
         names: Vec::new(alloc),
     }

@@ -3,7 +3,7 @@
 ghost use Rattle.std.specs.Prelude.{◌≡◌, ◌≢◌, ◌∷◌, ℕ, List, Option, []};
 ghost use Rattle.sv_flat.specs.Design.{FlatDesign};
 ghost use Rattle.sv_io.specs.Exchange.{Exchange};
-ghost use Rattle.sv_obl.specs.Validity.{AllValid};
+ghost use Rattle.sv_obl.specs.Asked.{asked, AskedHold};
 ghost use Rattle.sv_obl.specs.declared.valuations.Valuation.{Valuation as Listed};
 ghost use Rattle.sv_judge.specs.Verdicts.{IsAccepted, IsFalsified};
 ghost use Rattle.sv_text_laws.specs.FalsifiedTexts.{ListsFalsifyText};
@@ -50,7 +50,7 @@ pub fn refusals_are_sure()
 pub fn no_text_is_accepted_and_falsified()
     ensures accepted { (top : Option (List ℕ)) (text : List ℕ) (passes : Passes top text)
         (budget count : ℕ)
-        → IsAccepted passes.design budget count → AllValid [] passes.design }
+        → IsAccepted passes.design budget count → AskedHold passes.design }
     ensures apart { (top : Option (List ℕ)) (text : List ℕ) (passes : Passes top text)
         (most count budget number : ℕ) (v : Listed)
         → IsAccepted passes.design most count → IsFalsified passes.design budget number v → ⊥ }
@@ -112,7 +112,7 @@ pub fn stored_certificates_are_accepted()
 /// accepted.
 pub fn check_decides_what_it_can()
     ensures valid { OfEachDecision (λ design budget answer.
-        AllValid [] design → IsNotFalsified answer) }
+        AskedHold design → IsNotFalsified answer) }
     ensures falsified { OfEachDecision (λ design budget answer.
         SomeFails design → answer ≢ done) }
     ensures fits { OfEachDecision (λ design budget answer.
@@ -122,7 +122,7 @@ pub fn check_decides_what_it_can()
     ensures units { OfEachDecision (λ design budget answer.
         AllHaveUnitConflicts design → IsNotUndecided answer) }
     ensures accepts { OfEachDecision (λ design budget answer.
-        AllValid [] design → AllFit design → Suffices design budget → answer ≡ done) }
+        AskedHold design → AllFit design → Suffices design budget → answer ≡ done) }
 {
     refuted_has_no_solution();
     unmet_clauses_mean_valid();

@@ -17,7 +17,7 @@ use std::alloc::{AllocError, Global};
 use sv_design::Design;
 use sv_flat::SigId;
 use sv_io::{PutFault, Sink, put_all};
-use sv_num::Name;
+use sv_num::{Name, Rule};
 use sv_obl::{Listing, OblFault, check_limits};
 use sv_report::Style;
 
@@ -43,12 +43,22 @@ pub fn report_of_fault(
 {
     match fault {
         OblFault::Paths(target) => {
-            report_of_limit(alloc, style, 702, name_alone(alloc, design, target)?)
+            report_of_limit(
+                alloc,
+                style,
+                Rule::Paths,
+                name_alone(alloc, design, target)?,
+            )
         }
         OblFault::Large(target) => {
-            report_of_limit(alloc, style, 712, name_alone(alloc, design, target)?)
+            report_of_limit(
+                alloc,
+                style,
+                Rule::ObligationSize,
+                name_alone(alloc, design, target)?,
+            )
         }
-        OblFault::Many => report_of_limit(alloc, style, 703, Vec::new(alloc)),
+        OblFault::Many => report_of_limit(alloc, style, Rule::Obligations, Vec::new(alloc)),
         OblFault::OutOfMemory => Err(AllocError),
     }
 }

@@ -1,5 +1,6 @@
 // What is answered, and the text that says so.
 ghost use Rattle.std.specs.Prelude.{◌≡◌, ◌∷◌, [], Some, IfOk, decimal};
+ghost use Rattle.sv_num.specs.Rules.{rule_number};
 ghost use Rattle.sv_clause.specs.Logs.{plain_log};
 ghost use Rattle.sv_cli.specs.Answer.{answer_of, done, rule_broken, undecided, wrong_proof};
 ghost use Rattle.sv_cli.specs.Answer.{misused, stimulus_refused};
@@ -8,19 +9,20 @@ ghost use Rattle.sv_cli.specs.Prepared.{Says};
 ghost use Rattle.sv_cli.specs.Text.{usage_text};
 ghost use Rattle.sv_cli.specs.Compares.{answer_of_finding};
 ghost use Rattle.sv_report.specs.Styles.{accepted_in, refusal_in, unknown_in};
-ghost use Rattle.sv_report.specs.Text.{fault_text, stimulus_text};
+ghost use Rattle.sv_report.specs.Text.{fault_text};
+ghost use Rattle.sv_texts.specs.Texts.{stimulus_text};
 ghost use Rattle.sv_tworun.specs.Forms.{finding};
 
 use crate::outcome::Outcome;
 use crate::text::usage_text;
 use std::alloc::{AllocError, Global};
 use sv_judge::Spent;
-use sv_num::{Name, Refusal};
+use sv_num::{Name, Refusal, Rule};
 use sv_report::{
     Broken, StimSource, Style, accepted_in, fault_text, limit_in, refusal_in, stimulus_text,
     unknown_in,
 };
-use sv_trace::StimKind;
+use sv_texts::StimKind;
 use sv_tworun::Compared;
 use sv_words::UsageKind;
 
@@ -47,11 +49,12 @@ pub fn report_of_misuse(alloc: Global, kind: UsageKind) -> Result<Report, AllocE
 pub fn report_of_limit(
     alloc: Global,
     style: Style,
-    number: u16,
+    limit: Rule,
     names: Vec<Name>,
 ) -> Result<Report, AllocError>
-    ensures { IfOk result (Says (TellsLimit style number names.items)) }
+    ensures { IfOk result (Says (TellsLimit style (rule_number limit) names.items)) }
 {
+    let number = limit.number();
     let text = limit_in(alloc, style, number, &names)?;
     Ok(Report {
         outcome: Outcome::Refused(Broken::Limit(number, names)),
@@ -60,10 +63,10 @@ pub fn report_of_limit(
 }
 
 /// Of a limit that is exceeded, without names.
-pub fn report_of_bare_limit(alloc: Global, style: Style, number: u16) -> Result<Report, AllocError>
-    ensures { IfOk result (Says (TellsLimit style number [])) }
+pub fn report_of_bare_limit(alloc: Global, style: Style, limit: Rule) -> Result<Report, AllocError>
+    ensures { IfOk result (Says (TellsLimit style (rule_number limit) [])) }
 {
-    report_of_limit(alloc, style, number, Vec::new(alloc))
+    report_of_limit(alloc, style, limit, Vec::new(alloc))
 }
 
 /// That the encoding of the obligation of this number takes too many variables.
@@ -71,7 +74,7 @@ pub fn report_of_large(alloc: Global, style: Style, number: u32) -> Result<Repor
     ensures { IfOk result (Says (TellsLimit style 709 (decimal number ∷ []))) }
 {
     let name = Name::new(alloc, format!(in alloc; "{number}")?.as_bytes())?;
-    report_of_limit(alloc, style, 709, vec![in alloc; name]?)
+    report_of_limit(alloc, style, Rule::Encoding, vec![in alloc; name]?)
 }
 
 /// Of a broken rule.

@@ -14,7 +14,7 @@ use crate::report::{Report, report_of_bare_limit, report_of_refusal};
 use std::alloc::Global;
 use sv_gen::{GenFault, generate};
 use sv_io::Cabinet;
-use sv_num::Fault;
+use sv_num::{Fault, Rule};
 use sv_report::Style;
 
 // The budget of `gen --check`, in learned clauses for each obligation.
@@ -38,7 +38,7 @@ pub fn prepare_sample<C: Cabinet>(
             text,
         })),
         Err(GenFault::Range) => {
-            Ok(Prepared::Whole(report_of_bare_limit(alloc, Style::Lines, 705)?))
+            Ok(Prepared::Whole(report_of_bare_limit(alloc, Style::Lines, Rule::Gen)?))
         }
         Err(GenFault::OutOfMemory) => Err(NoReport::OutOfMemory),
     }

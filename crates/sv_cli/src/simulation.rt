@@ -1,13 +1,14 @@
 // What `sim` comes to.
 ghost use Rattle.std.specs.Prelude.{◌≡◌, ◌↔◌, ℕ, ◌++◌, ◌≤◌, ◌+◌, ◌⊎◌, List, Some, IsSome, IfSome};
-ghost use Rattle.std.specs.Prelude.{IfNone, IsTrue, length};
+ghost use Rattle.std.specs.Prelude.{[], IfNone, IsTrue, length};
 ghost use Rattle.std.specs.Option.{option_copied};
+ghost use Rattle.sv_num.specs.Rules.{rule_number};
 ghost use Rattle.sv_flat.specs.Views.{design_of};
 ghost use Rattle.sv_io.specs.Count.{Rose};
 ghost use Rattle.sv_io.specs.Sink.{WritesFront};
 ghost use Rattle.sv_io.specs.Source.{WhateverFollows};
 ghost use Rattle.sv_simulate.specs.Simulated.{largest_stimulus, level_asked, WritesAllCycles};
-ghost use Rattle.sv_cli.specs.Answer.{Answer, answer_of};
+ghost use Rattle.sv_cli.specs.Answer.{Answer, answer_of, limit_exceeded};
 ghost use Rattle.sv_cli.specs.Prepared.{EndsAs, Performs};
 ghost use Rattle.sv_cli.specs.Simulates.{answer_by};
 
@@ -15,6 +16,7 @@ use crate::outcome::Outcome;
 use std::alloc::Global;
 use sv_design::Design;
 use sv_io::{Sink, Source};
+use sv_num::Rule;
 use sv_report::{Broken, StimSource};
 use sv_simulate::{Ending, SimFault, simulate};
 
@@ -62,13 +64,19 @@ pub fn simulation<S: Source, K: Sink>(
     }
 }
 
+fn over_limit(alloc: Global, limit: Rule) -> Outcome
+    ensures { answer_of result ≡ Some (limit_exceeded (rule_number limit) []) }
+{
+    Outcome::Refused(Broken::Limit(limit.number(), Vec::new(alloc)))
+}
+
 fn outcome_of(alloc: Global, ending: Ending) -> Outcome
     ensures { answer_of result ≡ Some (answer_by ending) }
 {
     match ending {
         Ending::Done => Outcome::Done,
-        Ending::NoLevel => Outcome::Refused(Broken::Limit(707, Vec::new(alloc))),
-        Ending::TooLarge => Outcome::Refused(Broken::Limit(704, Vec::new(alloc))),
+        Ending::NoLevel => over_limit(alloc, Rule::Level),
+        Ending::TooLarge => over_limit(alloc, Rule::StimulusSize),
         Ending::WrongLine(line, kind) => {
             Outcome::Refused(Broken::Stimulus(StimSource::Input, line, kind))
         }

@@ -34,6 +34,7 @@ use std::alloc::Global;
 use sv_blast::Coded;
 use sv_design::Design;
 use sv_io::{Cabinet, FetchFault, PutFault, Sink, Source, put_all};
+use sv_num::Rule;
 use sv_words::{Command, WordFault, read_words};
 
 // The bytes of the largest source file.
@@ -136,7 +137,11 @@ fn prepare_command<C: Cabinet>(
         Some(file) => match fetch_once(alloc, file, LARGEST_FILE, cabinet) {
             Ok(bytes) => prepare_text(alloc, command, &bytes, cabinet),
             Err(FetchFault::Long(_)) => {
-                Ok(Prepared::Whole(report_of_bare_limit(alloc, style_in(&command), 701)?))
+                Ok(Prepared::Whole(report_of_bare_limit(
+                    alloc,
+                    style_in(&command),
+                    Rule::FileSize,
+                )?))
             }
             Err(FetchFault::Failed) => Err(NoReport::Unread),
             Err(FetchFault::OutOfMemory) => Err(NoReport::OutOfMemory),

@@ -2,6 +2,7 @@
 ghost use Rattle.std.specs.Prelude.{◌≡◌, ◌≤◌, ◌∷◌, [], None, IfOk, length};
 ghost use Rattle.sv_flat.specs.Views.{design_of};
 ghost use Rattle.sv_io.specs.Traffic.{files_by};
+ghost use Rattle.sv_obl.specs.Asked.{asked};
 ghost use Rattle.sv_obl.specs.Limits.{excess};
 ghost use Rattle.sv_obl.specs.Obligations.{obligations};
 ghost use Rattle.sv_cli.specs.Verifies.{Verifies, Judges, largest_proof};
@@ -17,6 +18,7 @@ use std::alloc::{AllocError, Global};
 use sv_design::Design;
 use sv_io::{Cabinet, FetchFault};
 use sv_judge::{Verified, verify};
+use sv_num::Rule;
 use sv_obl::check_limits;
 use sv_report::Style;
 
@@ -51,7 +53,7 @@ fn verify_fetched<C: Cabinet>(
     cabinet: &mut C,
 ) -> Result<Report, NoReport>
     requires few { excess (design_of design.now) ≡ None }
-    requires count { count ≡ length (obligations [] (design_of design.now)) }
+    requires count { count ≡ length (asked (design_of design.now)) }
     ensures { Readies (MayFetchOwn proof.now (design_of design.now))
         (λ exchanges. Says (VerifiesFetched proof.now (design_of design.now) exchanges)) C.tells
         (files_by C.exchanges C.held C.fetch_faults C.store_faults cabinet.old)
@@ -59,7 +61,7 @@ fn verify_fetched<C: Cabinet>(
 {
     match fetch_once(alloc, proof, LARGEST_PROOF, cabinet) {
         Ok(bytes) => Ok(report_of_proof(alloc, design, count, &bytes)?),
-        Err(FetchFault::Long(_)) => Ok(report_of_bare_limit(alloc, Style::Lines, 710)?),
+        Err(FetchFault::Long(_)) => Ok(report_of_bare_limit(alloc, Style::Lines, Rule::ProofSize)?),
         Err(FetchFault::Failed) => Err(NoReport::Unread),
         Err(FetchFault::OutOfMemory) => Err(NoReport::OutOfMemory),
     }
@@ -73,7 +75,7 @@ fn report_of_proof(
     bytes: &[u8],
 ) -> Result<Report, AllocError>
     requires few { excess (design_of design.now) ≡ None }
-    requires count { count ≡ length (obligations [] (design_of design.now)) }
+    requires count { count ≡ length (asked (design_of design.now)) }
     ensures { IfOk result (Says (Judges (design_of design.now) bytes.now)) }
 {
     match verify(alloc, design, count, bytes)? {

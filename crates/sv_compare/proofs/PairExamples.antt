@@ -1,7 +1,7 @@
 -- Which of two small stimuli is refused, by computation.
 use Rattle.std.proofs.Common.{ℕ, List, [], ◌∷◌, refl}
 use Rattle.std.specs.Prelude.{codes}
-use Rattle.sv_trace.specs.declared.faults.StimKind.TheVariants.{Header, Value}
+use Rattle.sv_texts.specs.declared.stimuli.StimKind.TheVariants.{Header, Value}
 use Rattle.sv_trace.specs.Forms.{StimForm}
 use Rattle.sv_compare.specs.declared.faults.CompareFault.TheVariants.{First, Second}
 use Rattle.sv_compare.specs.Pairs.{IsRight, HasCompareFault}

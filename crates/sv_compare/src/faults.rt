@@ -3,7 +3,7 @@ ghost use Rattle.std.specs.Prelude.{◌≡◌};
 ghost use Rattle.sv_compare.specs.declared.faults.CompareFault.TheVariants.{OutOfMemory};
 
 use std::alloc::AllocError;
-use sv_trace::StimKind;
+use sv_texts::StimKind;
 use thiserror::Error;
 
 /// Why two stimuli are not compared. Lines are numbered from 1.

@@ -24,7 +24,7 @@ use std::alloc::Global;
 use sv_ast::{Decl, Item, LabelText, Module};
 use sv_flat::Signal;
 use sv_lattice::{Label, Point};
-use sv_num::{Fault, Name, OutOfMemory, Place};
+use sv_num::{Fault, Name, OutOfMemory, Place, Rule};
 use sv_width::{KnownSignal, Meaning, Scope, refusal_naming};
 
 // A label map: its number, and the widths of its ranges.
@@ -64,7 +64,7 @@ fn selector(alloc: Global, scope: &Scope, place: Place, name: &Name) -> Result<K
 {
     match scope.find(name) {
         Some(Meaning::Signal(signal)) => Ok(signal),
-        _ => Err(refusal_naming(alloc, 410, place, name)),
+        _ => Err(refusal_naming(alloc, Rule::Label, place, name)),
     }
 }
 
@@ -100,7 +100,7 @@ fn fits(
     if signal.width == width {
         Ok(())
     } else {
-        Err(refusal_naming(alloc, 410, place, name))
+        Err(refusal_naming(alloc, Rule::Label, place, name))
     }
 }
 
@@ -151,7 +151,7 @@ fn point_label(alloc: Global, tables: &Tables, name: &Name, place: Place) -> Res
 {
     match tables.points.get_index_of(name) {
         Some(index) => Ok(Label::Point(Point(index as u8))),
-        None => Err(refusal_naming(alloc, 410, place, name)),
+        None => Err(refusal_naming(alloc, Rule::Label, place, name)),
     }
 }
 
@@ -172,12 +172,12 @@ fn table_label(
         (table_label map.now first.now second.now place)).end) }
 {
     let Some(found) = find_map(tables, map) else {
-        return Err(refusal_naming(alloc, 410, place, map));
+        return Err(refusal_naming(alloc, Rule::Label, place, map));
     };
     let first_signal = selector(alloc, scope, place, first)?;
     let second_signal = optional_selector(alloc, scope, place, second)?;
     if !same_number(found.second, second_signal) {
-        return Err(refusal_naming(alloc, 410, place, map));
+        return Err(refusal_naming(alloc, Rule::Label, place, map));
     }
     fits(alloc, place, first, first_signal, found.first)?;
     second_fits(alloc, place, second, second_signal, found.second)?;

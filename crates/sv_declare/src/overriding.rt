@@ -17,7 +17,7 @@ ghost use Rattle.sv_declare.specs.Sites.{settings_of};
 use indexmap::{IndexMap, IndexSet};
 use std::alloc::Global;
 use sv_ast::{Expr, Item, Module, Overrides, Param};
-use sv_num::{Bits, Fault, Name, OutOfMemory, Place};
+use sv_num::{Bits, Fault, Name, OutOfMemory, Place, Rule};
 use sv_width::{Scope, constant_in_reach, place_of, refusal, refusal_naming};
 
 // The parameters of a header.
@@ -107,7 +107,7 @@ fn named(
     let mut set = IndexMap::new(alloc);
     for (name, place, value) in values {
         if !is_free_name(&free, &set, name) {
-            return Err(refusal_naming(alloc, 316, *place, name));
+            return Err(refusal_naming(alloc, Rule::Parameter, *place, name));
         }
         let bits = constant_in_reach(alloc, value, outer)?;
         set.insert(name.copy(alloc)?, bits)?;
@@ -150,7 +150,7 @@ fn ordered(
     let mut set = IndexMap::new(alloc);
     for (index, value) in values.iter().enumerate() {
         if index >= free.len() {
-            return Err(refusal(alloc, 316, place_of(value)));
+            return Err(refusal(alloc, Rule::Parameter, place_of(value)));
         }
         let param = free[index];
         let bits = constant_in_reach(alloc, value, outer)?;

@@ -12,7 +12,7 @@ ghost use Rattle.sv_declare.specs.Ranges.{IsWidthOf, IsWidth, IsRange};
 
 use std::alloc::Global;
 use sv_ast::Span;
-use sv_num::{Bits, Fault};
+use sv_num::{Bits, Fault, Rule};
 use sv_width::{Scope, constant, natural, place_of, refusal};
 
 // The most bits that a range gives.
@@ -44,7 +44,7 @@ fn range_width(alloc: Global, span: &Span, scope: &Scope) -> Result<u8, Fault>
     let low = constant(alloc, &span.low, scope)?;
     match width_of(high, low) {
         Some(width) => Ok(width),
-        None => Err(refusal(alloc, 409, place_of(&span.high))),
+        None => Err(refusal(alloc, Rule::BadRange, place_of(&span.high))),
     }
 }
 

@@ -16,7 +16,7 @@ use std::alloc::Global;
 use sv_ast::{Decl, DeclKind};
 use sv_flat::{SigId, SigKind, Signal};
 use sv_lattice::{Label, Point};
-use sv_num::{Fault, Name, OutOfMemory, Place, Refusal};
+use sv_num::{Fault, Name, OutOfMemory, Place, Refusal, Rule};
 
 // The most signals that a design has.
 const MOST_SIGNALS: usize = 4096;
@@ -74,7 +74,7 @@ fn too_many(alloc: Global, place: Place) -> Refusal
     ensures { step_of result ≡ too_many place }
 {
     Refusal {
-        number: 315,
+        number: Rule::TooMany.number(),
         place,
         names: Vec::new(alloc),
     }

@@ -35,7 +35,7 @@ use crate::signal_lists::{inputs_of, registers_of, seen_of, top_clock};
 use crate::tables::Tables;
 use std::alloc::{AllocError, Global};
 use sv_flat::{Flat, Process, SigId};
-use sv_num::Fault;
+use sv_num::{Fault, Rule};
 
 // The clocks and drivers of a design with one driver for each signal.
 #[derive(Drop)]
@@ -54,15 +54,15 @@ fn check_drivers(alloc: Global, flat: &Flat, zeros: &[u64]) -> Result<Driven, Fa
     ensures refused { IfErr result (IsFaultOf (design_of flat.now)) }
 {
     let assign = first_wrong_assign(alloc, flat)?;
-    refuse(alloc, flat, 601, assign)?;
+    refuse(alloc, flat, Rule::WrongAssign, assign)?;
     let clocks = clock_table(alloc, flat)?;
     let clock = first_wrong_clock(alloc, flat, zeros, &clocks)?;
-    refuse(alloc, flat, 602, clock)?;
+    refuse(alloc, flat, Rule::Clock, clock)?;
     let drivers = drivers_of(alloc, flat, &clocks)?;
     let extra = first_extra_driver(flat, &drivers);
     let lacking = first_undriven(flat, &clocks, &drivers);
-    refuse(alloc, flat, 603, extra)?;
-    refuse(alloc, flat, 604, lacking)?;
+    refuse(alloc, flat, Rule::Drivers, extra)?;
+    refuse(alloc, flat, Rule::Undriven, lacking)?;
     Ok(Driven { clocks, drivers })
 }
 
@@ -74,8 +74,8 @@ fn check_blocks(alloc: Global, flat: &Flat) -> Result<(), Fault>
     ensures refused { IfErr result (IsFaultOf (design_of flat.now)) }
 {
     let faults = first_block_faults(alloc, flat)?;
-    refuse(alloc, flat, 605, faults.latch)?;
-    refuse(alloc, flat, 606, faults.phase)?;
+    refuse(alloc, flat, Rule::Latch, faults.latch)?;
+    refuse(alloc, flat, Rule::Phase, faults.phase)?;
     Ok(())
 }
 
@@ -126,7 +126,7 @@ fn check_order(alloc: Global, flat: &Flat, reads: &Reads, order: &[SigId]) -> Re
     match circle {
         Some(found) => {
             let signals = found.signals.as_slice();
-            Err(refusal(alloc, flat, 607, found.first.place, signals))
+            Err(refusal(alloc, flat, Rule::Loop, found.first.place, signals))
         }
         None => Ok(()),
     }

@@ -1,6 +1,7 @@
 // The faults of broken rules.
 ghost use Rattle.std.specs.Prelude.{◌≡◌, ◌<◌, ℕ, None, length, Contains, IsTrue, IfOk, IfErr};
 ghost use Rattle.std.specs.Prelude.{IfSome, OnOk};
+ghost use Rattle.sv_num.specs.Rules.{rule_number};
 ghost use Rattle.sv_flat.specs.Admission.{IsFirstBreach};
 ghost use Rattle.sv_flat.specs.Soundness.{sound};
 ghost use Rattle.sv_flat.specs.Values.{signal_of};
@@ -13,7 +14,7 @@ ghost use Rattle.sv_design.specs.Refusals.{breach_with, names_at};
 use crate::found::Found;
 use std::alloc::{AllocError, Global};
 use sv_flat::{Flat, SigId};
-use sv_num::{Fault, Name, Place};
+use sv_num::{Fault, Name, Place, Rule};
 
 // The name of a signal.
 fn name_of(alloc: Global, flat: &Flat, signal: SigId) -> Result<Name, AllocError>
@@ -37,29 +38,29 @@ fn names_of(alloc: Global, flat: &Flat, signals: &[SigId]) -> Result<Vec<Name>, 
     Ok(names)
 }
 
-/// The fault of the first rule that a design breaks, by its number, its place and its signals. It
+/// The fault of the first rule that a design breaks, its place and its signals. It
 /// tells of memory instead where that runs out.
-pub fn refusal(alloc: Global, flat: &Flat, number: u16, place: Place, signals: &[SigId]) -> Fault
+pub fn refusal(alloc: Global, flat: &Flat, rule: Rule, place: Place, signals: &[SigId]) -> Fault
     requires sound { IsTrue (sound (design_of flat.now)) }
-    requires first { IsFirstBreach (design_of flat.now) (breach_with number place signals.now) }
+    requires first { IsFirstBreach (design_of flat.now) (breach_with (rule_number rule) place signals.now) }
     ensures { IsFaultOf (design_of flat.now) result }
 {
     match names_of(alloc, flat, signals) {
-        Ok(names) => Fault::broken(number, place, names),
+        Ok(names) => Fault::broken(rule, place, names),
         Err(_) => Fault::OutOfMemory,
     }
 }
 
 /// An error where something was found, which is the first breach of the design.
-pub fn refuse(alloc: Global, flat: &Flat, number: u16, found: Option<Found>) -> Result<(), Fault>
+pub fn refuse(alloc: Global, flat: &Flat, rule: Rule, found: Option<Found>) -> Result<(), Fault>
     requires sound { IsTrue (sound (design_of flat.now)) }
     requires first { IfSome found (λ found.
-        IsFirstBreach (design_of flat.now) (breach_of number found)) }
+        IsFirstBreach (design_of flat.now) (breach_of (rule_number rule) found)) }
     ensures none { OnOk result (found ≡ None) }
     ensures refused { IfErr result (IsFaultOf (design_of flat.now)) }
 {
     match found {
-        Some(found) => Err(refusal(alloc, flat, number, found.place, &[found.signal])),
+        Some(found) => Err(refusal(alloc, flat, rule, found.place, &[found.signal])),
         None => Ok(()),
     }
 }

@@ -33,7 +33,7 @@ use std::alloc::Global;
 use sv_ast::{Instance, Item, Links, Module};
 use sv_declare::{Declared, Header, Site, Tables, body, header, labels, overrides};
 use sv_flat::Process;
-use sv_num::{Fault, Name};
+use sv_num::{Fault, Name, Rule};
 use sv_width::{Scope, refusal_naming};
 
 // The most instances that a text has, the top among them.
@@ -79,16 +79,16 @@ fn master_of<'a>(
         (taken_in inside.now) built.now.instances (instance_tree instance.now)).end) }
 {
     let Some(master) = module_named(shared.tables.modules, shared.names, &instance.module) else {
-        return Err(refusal_naming(alloc, 311, instance.place, &instance.module));
+        return Err(refusal_naming(alloc, Rule::UnknownModule, instance.place, &instance.module));
     };
     if inside.is_taken(&instance.name) {
-        return Err(refusal_naming(alloc, 312, instance.name_place, &instance.name));
+        return Err(refusal_naming(alloc, Rule::Twice, instance.name_place, &instance.name));
     }
     if nest.is_around(&instance.module) {
-        return Err(refusal_naming(alloc, 314, instance.place, &instance.module));
+        return Err(refusal_naming(alloc, Rule::Recursive, instance.place, &instance.module));
     }
     if built.instances >= MOST_INSTANCES {
-        return Err(Fault::broken(315, instance.place, Vec::new(alloc)));
+        return Err(Fault::broken(Rule::TooMany, instance.place, Vec::new(alloc)));
     }
     Ok(master)
 }

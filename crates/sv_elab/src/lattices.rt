@@ -3,6 +3,7 @@ ghost use Rattle.std.specs.Prelude.{◌≡◌, ℕ, nat_le, ◌&&◌, ◌≤◌,
 ghost use Rattle.std.specs.Prelude.{Option, Some, Ok, Err, map, option_map, unwrap_or, length};
 ghost use Rattle.std.specs.Prelude.{slice_index_or, IfSome, IfOk, IfErr};
 ghost use Rattle.std.specs.List.{All};
+ghost use Rattle.sv_num.specs.Rules.{rule_number};
 ghost use Rattle.sv_lattice.specs.Flows.{IsKnown, IsPointCount};
 ghost use Rattle.sv_lattice.specs.Tables.{IsLatticeTable};
 ghost use Rattle.sv_ast.specs.Views.{lattice_tree, pair_tree, text_tree};
@@ -18,7 +19,7 @@ use std::alloc::{AllocError, Global};
 use std::marker::Model;
 use sv_ast::{LatticeText, Text};
 use sv_lattice::{Lattice, LatticeFault, Point};
-use sv_num::{Fault, Name, OutOfMemory, Place};
+use sv_num::{Fault, Name, OutOfMemory, Place, Rule};
 
 // The most points that a lattice has.
 const MOST_POINTS: usize = 32;
@@ -130,7 +131,7 @@ fn copies(alloc: Global, a: &Name, b: &Name) -> Result<Vec<Name>, OutOfMemory>
 // The refusal by a rule that names two points.
 fn two_points(
     alloc: Global,
-    rule: u16,
+    rule: Rule,
     place: Place,
     names: &IndexSet<Name>,
     a: u32,
@@ -139,7 +140,7 @@ fn two_points(
     requires a { a < length names.now.keys }
     requires b { b < length names.now.keys }
     ensures { (end : Result Order Step)
-        → end ≡ Err (step rule place
+        → end ≡ Err (step (rule_number rule) place
         (slice_index_or names.now.keys a [] ∷ slice_index_or names.now.keys b [] ∷ []))
         → IsBreach end result }
 {
@@ -173,9 +174,30 @@ fn ordered(
 {
     match Lattice::build(alloc, names.len() as u32, pairs) {
         Ok(lattice) => Ok(Points { names, lattice }),
-        Err(LatticeFault::Circle(a, b)) => Err(two_points(alloc, 303, place, &names, a, b)),
-        Err(LatticeFault::NoJoin(a, b)) => Err(two_points(alloc, 304, place, &names, a, b)),
-        Err(LatticeFault::NoMeet(a, b)) => Err(two_points(alloc, 305, place, &names, a, b)),
+        Err(LatticeFault::Circle(a, b)) => Err(two_points(
+            alloc,
+            Rule::Circle,
+            place,
+            &names,
+            a,
+            b,
+        )),
+        Err(LatticeFault::NoJoin(a, b)) => Err(two_points(
+            alloc,
+            Rule::NoJoin,
+            place,
+            &names,
+            a,
+            b,
+        )),
+        Err(LatticeFault::NoMeet(a, b)) => Err(two_points(
+            alloc,
+            Rule::NoMeet,
+            place,
+            &names,
+            a,
+            b,
+        )),
         Err(LatticeFault::OutOfMemory) => Err(Fault::OutOfMemory),
         Err(LatticeFault::Size) => unreachable!(),
         Err(LatticeFault::Unknown(_)) => unreachable!(),
@@ -196,7 +218,7 @@ fn declared(alloc: Global, text: &LatticeText) -> Result<Points, Fault>
     ensures broken { IfErr result (IsBreach (lattice_walk (Some (lattice_tree text.now))).end) }
 {
     if !is_count(&text.points) {
-        return Err(Fault::broken(301, text.place, Vec::new(alloc)));
+        return Err(Fault::broken(Rule::LatticeSize, text.place, Vec::new(alloc)));
     }
     let names = distinct_names(alloc, text)?;
     let pairs = numbered(alloc, &names, &text.pairs)?;

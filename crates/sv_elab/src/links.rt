@@ -24,7 +24,7 @@ use indexmap::{IndexMap, IndexSet};
 use std::alloc::{AllocError, Global};
 use sv_ast::{Decl, DeclKind, Expr, Links, Module};
 use sv_flat::{FExpr, FNode, ProcKind, Process, SigId};
-use sv_num::{Fault, Name, OutOfMemory, Place};
+use sv_num::{Fault, Name, OutOfMemory, Place, Rule};
 use sv_width::{Scope, place_of, refusal_naming, typed};
 
 /// The ports of an instance: how many signals stand before them, their module, the place of the
@@ -140,7 +140,7 @@ fn link_out(
     let place = place_of(expr);
     let known = match whole_signal(outer, expr) {
         Some(known) => known,
-        None => return Err(refusal_naming(alloc, 313, place, &port.name)),
+        None => return Err(refusal_naming(alloc, Rule::Port, place, &port.name)),
     };
     let value = ports.value(port, known.width, place)?;
     Ok(whole_assignment(
@@ -193,10 +193,10 @@ fn new_port<'a>(
 {
     let index = match ports.places.get(name) {
         Some(index) => *index,
-        None => return Err(refusal_naming(alloc, 313, place, name)),
+        None => return Err(refusal_naming(alloc, Rule::Port, place, name)),
     };
     if !add_name(alloc, linked, name)? {
-        return Err(refusal_naming(alloc, 313, place, name));
+        return Err(refusal_naming(alloc, Rule::Port, place, name));
     }
     Ok(&ports.master.ports[index])
 }
@@ -275,7 +275,7 @@ fn add_ordered(
     for (index, expr) in exprs.iter().enumerate() {
         let port = match ports.master.ports.get(index) {
             Some(port) => port,
-            None => return Err(Fault::broken(313, place_of(expr), Vec::new(alloc))),
+            None => return Err(Fault::broken(Rule::Port, place_of(expr), Vec::new(alloc))),
         };
         processes.push(link(alloc, outer, ports, port, expr)?)?;
     }

@@ -25,7 +25,7 @@ use indexmap::IndexMap;
 use std::alloc::Global;
 use sv_ast::{Expr, MapText, Span};
 use sv_lattice::{LabelMap, Point};
-use sv_num::{Bits, Fault, Name, OutOfMemory, Place};
+use sv_num::{Bits, Fault, Name, OutOfMemory, Place, Rule};
 use sv_token::Lit;
 use sv_width::{natural, refusal_naming};
 
@@ -166,7 +166,7 @@ fn filled(
     for row in &text.rows {
         match row_entry(points, ranges, &table, row) {
             Some((value, point)) => table[value] = Some(point),
-            None => return Err(refusal_naming(alloc, 307, text.place, &text.name)),
+            None => return Err(refusal_naming(alloc, Rule::MapRow, text.place, &text.name)),
         }
     }
     Ok(table)
@@ -185,7 +185,7 @@ fn other_point(alloc: Global, points: &Points, text: &MapText) -> Result<Option<
         None => Ok(None),
         Some(name) => match points.find(name) {
             Some(point) => Ok(Some(point)),
-            None => Err(refusal_naming(alloc, 307, text.place, &text.name)),
+            None => Err(refusal_naming(alloc, Rule::MapRow, text.place, &text.name)),
         },
     }
 }
@@ -229,7 +229,7 @@ fn label_map(alloc: Global, points: &Points, text: &MapText) -> Result<LabelMap,
 {
     match widths(text) {
         Some(ranges) => map_of(alloc, points, ranges, text),
-        None => Err(refusal_naming(alloc, 307, text.place, &text.name)),
+        None => Err(refusal_naming(alloc, Rule::MapRow, text.place, &text.name)),
     }
 }
 
@@ -244,7 +244,7 @@ fn map_of(alloc: Global, points: &Points, ranges: Ranges, text: &MapText) -> Res
     let other = other_point(alloc, points, text)?;
     match all_points(alloc, &table, other)? {
         Some(rows) => Ok(new_map(ranges, rows)),
-        None => Err(refusal_naming(alloc, 308, text.place, &text.name)),
+        None => Err(refusal_naming(alloc, Rule::MapHole, text.place, &text.name)),
     }
 }
 
@@ -263,7 +263,7 @@ pub fn label_maps(
     let mut maps = IndexMap::new(alloc);
     for text in texts {
         if maps.contains_key(&text.name) {
-            return Err(refusal_naming(alloc, 306, text.place, &text.name));
+            return Err(refusal_naming(alloc, Rule::MapName, text.place, &text.name));
         }
         let map = label_map(alloc, points, text)?;
         maps.insert(text.name.copy(alloc)?, map)?;

@@ -15,7 +15,7 @@ use crate::wrong_names::add_name;
 use indexmap::IndexSet;
 use std::alloc::Global;
 use sv_ast::{Item, Module};
-use sv_num::{Fault, Name, OutOfMemory, Place};
+use sv_num::{Fault, Name, OutOfMemory, Place, Rule};
 use sv_width::refusal_naming;
 
 /// The names of modules, each with the number of its module. Rule 312 refuses the first name that
@@ -28,7 +28,7 @@ pub fn module_names(alloc: Global, modules: &[Module]) -> Result<IndexSet<Name>,
     let mut names = IndexSet::new(alloc);
     for module in modules {
         if !add_name(alloc, &mut names, &module.name)? {
-            return Err(refusal_naming(alloc, 312, module.place, &module.name));
+            return Err(refusal_naming(alloc, Rule::Twice, module.place, &module.name));
         }
     }
     Ok(names)
@@ -132,6 +132,6 @@ pub fn top_module<'a>(
 {
     match find_top(alloc, modules, names, asked)? {
         Some(module) => Ok(module),
-        None => Err(Fault::broken(310, Place { line: 1, column: 1 }, Vec::new(alloc))),
+        None => Err(Fault::broken(Rule::NoTop, Place { line: 1, column: 1 }, Vec::new(alloc))),
     }
 }

@@ -13,7 +13,7 @@ ghost use Rattle.sv_elab.specs.Earliest.{name_steps};
 use indexmap::IndexSet;
 use std::alloc::Global;
 use sv_ast::LatticeText;
-use sv_num::{Fault, Name, OutOfMemory, Place};
+use sv_num::{Fault, Name, OutOfMemory, Place, Rule};
 use sv_width::refusal_naming;
 
 /// A name that breaks rule 302, with its place.
@@ -105,7 +105,7 @@ pub fn distinct_names(alloc: Global, text: &LatticeText) -> Result<IndexSet<Name
 {
     let (names, wrong) = declared_names(alloc, &text.points)?;
     match with_pairs(&names, &text.pairs, wrong) {
-        Some(wrong) => Err(refusal_naming(alloc, 302, wrong.place, wrong.name)),
+        Some(wrong) => Err(refusal_naming(alloc, Rule::LatticeName, wrong.place, wrong.name)),
         None => Ok(names),
     }
 }

@@ -1,10 +1,11 @@
 -- What `verify` comes to for the bytes of a certificate, of an admitted design that exceeds no
 -- limit on obligations: the text is read, its number of obligations is the design's, and then the
 -- logs are checked in order, each behind the size of its obligation's encoding.
-use Rattle.std.specs.Prelude.{◌≡◌, ◌≢◌, ℕ, List, [], length, take, slice_get, Some}
+use Rattle.std.specs.Prelude.{◌≡◌, ◌≢◌, ℕ, List, length, take, slice_get, Some}
 use Rattle.std.specs.List.{AllZip}
 use Rattle.sv_clause.specs.Logs.{Step}
 use Rattle.sv_flat.specs.Design.{FlatDesign}
+use Rattle.sv_obl.specs.Asked.{asked}
 use Rattle.sv_obl.specs.Obligations.{Obligation, obligations}
 use Rattle.sv_proof.specs.Certificate.{AreLogs, proof_text}
 use Rattle.sv_proof.specs.Checking.{HasFault}
@@ -25,25 +26,25 @@ pub record AreCertified (design : FlatDesign) (bytes : List ℕ) (logs : List (L
   where
     pub are_logs : AreLogs logs
     pub text : bytes ≡ proof_text logs
-    pub count : length logs ≡ length (obligations [] design)
+    pub count : length logs ≡ length (asked design)
 
 -- the log of each obligation, in order, refutes its encoding, which fits
 pub record IsVerified (design : FlatDesign) (bytes : List ℕ) : Type 0 where
   pub logs : List (List Step)
   pub certified : AreCertified design bytes logs
-  pub each : AllZip (IsShown design) (obligations [] design) logs
+  pub each : AllZip (IsShown design) (asked design) logs
 
 -- the bytes are the certificate of logs, but not of as many as the design has obligations
 pub record HasWrongCount (design : FlatDesign) (bytes : List ℕ) : Type 0 where
   pub logs : List (List Step)
   pub are_logs : AreLogs logs
   pub text : bytes ≡ proof_text logs
-  pub other : length logs ≢ length (obligations [] design)
+  pub other : length logs ≢ length (asked design)
 
 -- the logs before this place refute the encodings of their obligations, which fit
 abbrev pub EarlierAreShown : FlatDesign → (before : ℕ) → List (List Step) → Type 0
 EarlierAreShown design before logs =
-    AllZip (IsShown design) (take before (obligations [] design)) (take before logs)
+    AllZip (IsShown design) (take before (asked design)) (take before logs)
 
 -- the first log that does not refute its obligation's encoding, which fits, and why; none before it
 -- is of an encoding that is too large
@@ -53,7 +54,7 @@ pub record FailsFirst (design : FlatDesign) (bytes : List ℕ) (line : ℕ) : Ty
   pub before : ℕ
   pub obligation : Obligation
   pub steps : List Step
-  pub among : slice_get (obligations [] design) before ≡ Some obligation
+  pub among : slice_get (asked design) before ≡ Some obligation
   pub log : slice_get logs before ≡ Some steps
   pub earlier : EarlierAreShown design before logs
   pub fits : Fits design obligation

@@ -7,6 +7,7 @@ use Rattle.std.specs.Global.{Vec}
 use Rattle.sv_clause.specs.Logs.{Step, plain_log}
 use Rattle.sv_clause.specs.declared.logs.Log.{Log}
 use Rattle.sv_flat.specs.Design.{FlatDesign}
+use Rattle.sv_obl.specs.Asked.{asked}
 use Rattle.sv_obl.specs.DesignQueries.{IsQueryOf, IsPlaced}
 use Rattle.sv_obl.specs.Obligations.{Obligation, obligations}
 use Rattle.sv_obl.specs.Views.{obligation_of}
@@ -26,7 +27,7 @@ use Rattle.sv_judge.specs.declared.verdicts.Spent.{Spent}
 
 -- the first so many obligations
 abbrev pub first_obligations : FlatDesign → (count : ℕ) → List Obligation
-first_obligations design count = take count (obligations [] design)
+first_obligations design count = take count (asked design)
 
 -- the budget cannot be spent on the obligation: it is large, or unit resolution refutes it
 abbrev pub IsSpared : FlatDesign → (budget : ℕ) → Obligation → Type 0
@@ -69,7 +70,7 @@ pub record HasDone (design : FlatDesign) (budget : ℕ) (progress : Progress) : 
 pub record IsFailing (design : FlatDesign) (budget : ℕ) (failure : Failure) : Type 0 where
   pub falsified : IsFalsified design budget failure.number failure.valuation
   pub among :
-      slice_get (obligations [] design) (failure.number - 1) ≡ Some (obligation_of failure.query)
+      slice_get (asked design) (failure.number - 1) ≡ Some (obligation_of failure.query)
   pub query : IsQueryOf design (obligation_of failure.query)
   pub placed : IsPlaced (obligation_of failure.query)
 

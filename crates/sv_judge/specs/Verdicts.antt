@@ -1,11 +1,12 @@
 -- What `check` comes to for an admitted design that exceeds no limit on obligations: its
 -- obligations in order, each decided by the clauses of its encoding. Which valuation falsifies one,
 -- and whether a budget is spent, is free; so a design may have several of these verdicts.
-use Rattle.std.specs.Prelude.{◌≡◌, ◌≤◌, ℕ, ◌+◌, List, [], length, take, drop, slice_get}
+use Rattle.std.specs.Prelude.{◌≡◌, ◌≤◌, ℕ, ◌+◌, List, length, take, drop, slice_get}
 use Rattle.std.specs.Prelude.{Some, All}
 use Rattle.std.specs.List.{AllZip}
 use Rattle.sv_clause.specs.Logs.{Step}
 use Rattle.sv_flat.specs.Design.{FlatDesign}
+use Rattle.sv_obl.specs.Asked.{asked}
 use Rattle.sv_obl.specs.Obligations.{Obligation, obligations}
 use Rattle.sv_obl.specs.Validity.{Falsifies}
 use Rattle.sv_obl.specs.Valuations.{FitsDesign, valuation_of}
@@ -17,7 +18,7 @@ use Rattle.sv_decide.specs.Decisions.{IsProvedWithin}
 -- this obligation of a design has this number, counted from 1, and so many stand before it
 pub record IsNumbered (design : FlatDesign) (number before : ℕ) (o : Obligation) : Type 0 where
   pub counted : number ≡ before + 1
-  pub among : slice_get (obligations [] design) before ≡ Some o
+  pub among : slice_get (asked design) before ≡ Some o
 
 -- the encoding fits and has a refutation of no more clauses than the budget allows, and the empty
 -- one
@@ -26,12 +27,12 @@ IsProvedFor design budget o = IsProvedWithin design (budget + 1) o
 
 -- the design has so many obligations, and each is proved
 pub record IsAccepted (design : FlatDesign) (budget count : ℕ) : Type 0 where
-  pub counted : count ≡ length (obligations [] design)
-  pub each : All (IsProvedFor design budget) (obligations [] design)
+  pub counted : count ≡ length (asked design)
+  pub each : All (IsProvedFor design budget) (asked design)
 
 -- one log for each obligation, in order, refutes its encoding
 abbrev pub AreRefutations : FlatDesign → List (List Step) → Type 0
-AreRefutations design logs = AllZip (IsRefutedBy design) (obligations [] design) logs
+AreRefutations design logs = AllZip (IsRefutedBy design) (asked design) logs
 
 -- none of the logs has more clauses than the budget allows, and the empty one
 abbrev pub AreWithin : (budget : ℕ) → List (List Step) → Type 0
@@ -43,7 +44,7 @@ pub record IsFalsified (design : FlatDesign) (budget number : ℕ) (v : Listed) 
   pub before : ℕ
   pub obligation : Obligation
   pub numbered : IsNumbered design number before obligation
-  pub earlier : All (IsPassed design budget) (take before (obligations [] design))
+  pub earlier : All (IsPassed design budget) (take before (asked design))
   pub small : Fits design obligation
   pub fits : FitsDesign design v
   pub falsifies : Falsifies design (valuation_of design v) obligation
@@ -55,7 +56,7 @@ pub record EndsTooLarge (design : FlatDesign) (budget number : ℕ) : Type 0 whe
   pub before : ℕ
   pub obligation : Obligation
   pub numbered : IsNumbered design number before obligation
-  pub earlier : All (IsPassed design budget) (take before (obligations [] design))
+  pub earlier : All (IsPassed design budget) (take before (asked design))
   pub large : IsTooLarge design obligation
 
 -- The steps spend the budget on the obligation of this number, which fits. Each before it is proved;
@@ -66,5 +67,5 @@ pub record IsSpent (design : FlatDesign) (budget number : ℕ) (steps : List Ste
   pub numbered : IsNumbered design number before obligation
   pub fits : Fits design obligation
   pub spends : IsSpentBy design budget obligation steps
-  pub earlier : All (IsProvedFor design budget) (take before (obligations [] design))
-  pub later : All (IsPassed design budget) (drop number (obligations [] design))
+  pub earlier : All (IsProvedFor design budget) (take before (asked design))
+  pub later : All (IsPassed design budget) (drop number (asked design))

@@ -1,9 +1,10 @@
 -- Private: how the code goes; the meaning stands in `Certified`. What is known while the logs of a
 -- certificate are checked in order.
-use Rattle.std.specs.Prelude.{◌≡◌, ◌<◌, ◌^◌, ℕ, List, [], length, Result, Ok, Err, alloc_error}
+use Rattle.std.specs.Prelude.{◌≡◌, ◌<◌, ◌^◌, ℕ, List, length, Result, Ok, Err, alloc_error}
 use Rattle.std.specs.declared.alloc.AllocError.{AllocError}
 use Rattle.sv_clause.specs.Logs.{Step}
 use Rattle.sv_flat.specs.Design.{FlatDesign}
+use Rattle.sv_obl.specs.Asked.{asked}
 use Rattle.sv_obl.specs.Obligations.{obligations}
 use Rattle.sv_proof.specs.Certificate.{AreLogs, proof_lines, proof_text}
 use Rattle.sv_proof.specs.declared.read.ProofFault.{ProofFault}
@@ -17,7 +18,7 @@ use Rattle.sv_judge.specs.declared.verifying.Flaw.TheVariants.{Fault, TooLarge, 
 -- a certificate holds these logs, one for each obligation, and 64 bits number its lines
 pub record AreMatched (design : FlatDesign) (logs : List (List Step)) : Type 0 where
   pub are_logs : AreLogs logs
-  pub count : length logs ≡ length (obligations [] design)
+  pub count : length logs ≡ length (asked design)
   pub lines : length (proof_lines logs) < 2 ^ 63
 
 -- what ends the check of these logs before the last one; want of memory says nothing

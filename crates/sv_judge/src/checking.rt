@@ -3,6 +3,7 @@ ghost use Rattle.std.specs.Prelude.{◌≡◌, ◌+◌, ◌-◌, ◌^◌, ◌<�
 ghost use Rattle.std.specs.Prelude.{ℕ, All, IsTrue, IsFalse, IfOk, IfErr, OnOk, slice_get};
 ghost use Rattle.sv_clause.specs.Logs.{plain_log};
 ghost use Rattle.sv_flat.specs.Views.{design_of};
+ghost use Rattle.sv_obl.specs.Asked.{asked};
 ghost use Rattle.sv_obl.specs.DesignQueries.{IsQueryOf, IsPlaced};
 ghost use Rattle.sv_obl.specs.Limits.{excess};
 ghost use Rattle.sv_obl.specs.ListParts.{IsAt};
@@ -52,7 +53,7 @@ pub fn check(
     ensures fails { IfOk result (WhereFails (λ failure.
         IsFalsified (design_of design.now) budget failure.number failure.valuation)) }
     ensures query { IfOk result (WhereFails (λ failure.
-        slice_get (obligations [] (design_of design.now)) (failure.number - 1)
+        slice_get (asked (design_of design.now)) (failure.number - 1)
         ≡ Some (obligation_of failure.query))) }
     ensures of_design { IfOk result (WhereFails (λ failure.
         IsQueryOf (design_of design.now) (obligation_of failure.query))) }
@@ -61,10 +62,10 @@ pub fn check(
     ensures unknown { IfOk result (WhereUnknown (λ spent.
         IsSpent (design_of design.now) budget spent.obligation (plain_log spent.log))) }
     ensures large_budget { (most : ℕ) →
-        All (HasAtMost (design_of design.now) most) (obligations [] (design_of design.now)) →
+        All (HasAtMost (design_of design.now) most) (asked (design_of design.now)) →
         3 ^ most ≤ budget → IfOk result IsNotUnknown }
     ensures units { All (HasUnitConflict (design_of design.now))
-        (obligations [] (design_of design.now)) → IfOk result IsNotUnknown }
+        (asked (design_of design.now)) → IfOk result IsNotUnknown }
 {
     match decide_all(alloc, design, budget, keeps) {
         Ok(progress) => Ok(verdict(progress)),
@@ -96,7 +97,7 @@ fn decide_all(alloc: Global, design: &Design, budget: u32, keeps: bool) -> Resul
     requires most { budget ≤ 4000000000 }
     ensures done { IfOk result (HasDone (design_of design.now) budget) }
     ensures all { IfOk result (λ progress.
-        progress.count ≡ length (obligations [] (design_of design.now))) }
+        progress.count ≡ length (asked (design_of design.now))) }
     ensures few { IfOk result (λ progress. progress.count < 2 ^ 32) }
     ensures keeps { IfOk result (λ progress. progress.keeps ≡ keeps) }
     ensures stop { IfErr result (IsStop (design_of design.now) budget) }

@@ -1,9 +1,9 @@
 // Where a budget is never told as spent, as contracts of functions that do nothing.
-ghost use Rattle.std.specs.Prelude.{ℕ, ◌≤◌, ◌^◌, List, [], All};
+ghost use Rattle.std.specs.Prelude.{ℕ, ◌≤◌, ◌^◌, List, All};
 ghost use Rattle.sv_clause.specs.Logs.{Step};
 ghost use Rattle.sv_flat.specs.Design.{FlatDesign};
+ghost use Rattle.sv_obl.specs.Asked.{asked};
 ghost use Rattle.sv_obl.specs.Noninterference.{IsChecked};
-ghost use Rattle.sv_obl.specs.Obligations.{obligations};
 ghost use Rattle.sv_judge.specs.Answers.{HasAtMost, HasUnitConflict};
 ghost use Rattle.sv_judge.specs.Verdicts.{IsSpent};
 
@@ -11,7 +11,7 @@ ghost use Rattle.sv_judge.specs.Verdicts.{IsSpent};
 /// has more than n variables.
 pub fn large_budgets_decide()
     ensures { (design : FlatDesign) (budget number most : ℕ) (steps : List Step) →
-        IsChecked design → All (HasAtMost design most) (obligations [] design) →
+        IsChecked design → All (HasAtMost design most) (asked design) →
         3 ^ most ≤ budget → IsSpent design budget number steps → ⊥ }
 {}
 
@@ -19,6 +19,6 @@ pub fn large_budgets_decide()
 /// encoding.
 pub fn unit_conflicts_decide()
     ensures { (design : FlatDesign) (budget number : ℕ) (steps : List Step) →
-        All (HasUnitConflict design) (obligations [] design) →
+        All (HasUnitConflict design) (asked design) →
         IsSpent design budget number steps → ⊥ }
 {}

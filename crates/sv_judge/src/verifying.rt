@@ -1,6 +1,7 @@
 // What `verify` comes to: the logs of a certificate checked in order.
-ghost use Rattle.std.specs.Prelude.{◌≡◌, ◌+◌, ◌^◌, ◌<◌, [], None, length, IfOk, IfErr, OnOk};
+ghost use Rattle.std.specs.Prelude.{◌≡◌, ◌+◌, ◌^◌, ◌<◌, None, length, IfOk, IfErr, OnOk};
 ghost use Rattle.sv_flat.specs.Views.{design_of};
+ghost use Rattle.sv_obl.specs.Asked.{asked};
 ghost use Rattle.sv_obl.specs.Limits.{excess};
 ghost use Rattle.sv_obl.specs.ListParts.{IsAt};
 ghost use Rattle.sv_obl.specs.Obligations.{obligations};
@@ -57,7 +58,7 @@ pub fn verify(
     bytes: &[u8],
 ) -> Result<Verified, AllocError>
     requires few { excess (design_of design.now) ≡ None }
-    requires count { count ≡ length (obligations [] (design_of design.now)) }
+    requires count { count ≡ length (asked (design_of design.now)) }
     ensures accepted { IfOk result (WhereVerified (λ _.
         IsVerified (design_of design.now) bytes.now)) }
     ensures count { IfOk result (WhereVerified (λ accepted. accepted ≡ count)) }
@@ -88,7 +89,7 @@ fn verify_logs(
     count: u32,
     logs: &[Log],
 ) -> Result<Verified, AllocError>
-    requires count { count ≡ length (obligations [] (design_of design.now)) }
+    requires count { count ≡ length (asked (design_of design.now)) }
     requires logs { AreLogs (plain_logs logs.now) }
     requires lines { length (proof_lines (plain_logs logs.now)) < 2 ^ 63 }
     ensures { IfOk result
@@ -118,7 +119,7 @@ fn flawed(flaw: Flaw) -> Result<Verified, AllocError>
 fn verify_all(alloc: Global, design: &Design, logs: &[Log]) -> Result<(), Flaw>
     requires { AreMatched (design_of design.now) (plain_logs logs.now) }
     ensures shown { OnOk result (EarlierAreShown (design_of design.now)
-        (length (obligations [] (design_of design.now))) (plain_logs logs.now)) }
+        (length (asked (design_of design.now))) (plain_logs logs.now)) }
     ensures flaw { IfErr result (IsFlaw (design_of design.now) (plain_logs logs.now)) }
 {
     let bodies = Bodies::new(alloc, design)?;

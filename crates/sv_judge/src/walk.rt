@@ -1,7 +1,8 @@
 // The obligations of a design, part by part: those of one target after the other, and then those of
 // selectors.
-ghost use Rattle.std.specs.Prelude.{◌≡◌, ◌+◌, ◌<◌, ◌≤◌, [], length, IfOk, OnOk};
+ghost use Rattle.std.specs.Prelude.{◌≡◌, ◌+◌, ◌<◌, ◌≤◌, length, IfOk, OnOk};
 ghost use Rattle.sv_flat.specs.Views.{design_of};
+ghost use Rattle.sv_obl.specs.Asked.{asked};
 ghost use Rattle.sv_obl.specs.ListParts.{IsAt};
 ghost use Rattle.sv_obl.specs.Obligations.{obligations};
 ghost use Rattle.sv_judge.specs.Walking.{AreNext};
@@ -43,8 +44,8 @@ pub fn selector_part(
     ensures next { IfOk result (λ queries.
         AreNext (design_of design.now) listing.now.count queries.items) }
     ensures all { IfOk result (λ queries. listing.now.count + length queries.items
-        ≡ length (obligations [] (design_of design.now))) }
-    ensures few { IfOk result (λ _. length (obligations [] (design_of design.now)) ≤ 65536) }
+        ≡ length (asked (design_of design.now))) }
+    ensures few { IfOk result (λ _. length (asked (design_of design.now)) ≤ 65536) }
 {
     match listing.selector_queries(alloc, design) {
         Ok(queries) => Ok(queries),

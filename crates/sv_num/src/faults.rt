@@ -2,8 +2,10 @@
 ghost use Rattle.std.specs.Prelude.{◌≡◌};
 ghost use Rattle.sv_num.specs.declared.faults.Fault.TheVariants.{OutOfMemory};
 ghost use Rattle.sv_num.specs.Faults.{Refuses};
+ghost use Rattle.sv_num.specs.Rules.{rule_number};
 
 use crate::names::Name;
+use crate::rules::Rule;
 use std::alloc::{AllocError, AllocFailed};
 use thiserror::Error;
 
@@ -34,12 +36,12 @@ pub enum Fault {
 }
 
 impl Fault {
-    /// The fault of a text that breaks the rule with this number, at a place, with names.
-    pub fn broken(number: u16, place: Place, names: Vec<Name>) -> Fault
-        ensures { Refuses result number place names.items }
+    /// The fault of a text that breaks this rule, at a place, with names.
+    pub fn broken(rule: Rule, place: Place, names: Vec<Name>) -> Fault
+        ensures { Refuses result (rule_number rule) place names.items }
     {
         Fault::Rule(Refusal {
-            number,
+            number: rule.number(),
             place,
             names,
         })

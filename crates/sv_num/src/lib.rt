@@ -1,4 +1,4 @@
-//! The base of every layer: places in a text, names, refusals, and values of a length and
+//! The base of every layer: places in a text, names, rules, refusals, and values of a length and
 //! signedness with their operators.
 //!
 //! Takes bytes for names, and a length, a signedness and a number for values. Gives names that own
@@ -9,8 +9,8 @@
 //!
 //! `specs/Vectors.antt` says what values are, `Parts.antt` what their parts and extensions are,
 //! `BinaryValues.antt` and `UnaryValues.antt` what the operators give, over whole numbers,
-//! `OperatorTables.antt` which operators there are, and `Faults.antt` what a refusal says. None is
-//! private.
+//! `OperatorTables.antt` which operators there are, `Rules.antt` which rules and limits, and
+//! `Faults.antt` what a refusal says. None is private.
 #![tactic(auto)]
 
 mod binary;
@@ -20,6 +20,7 @@ mod names;
 mod operator_tables;
 mod operators;
 mod parts;
+mod rules;
 mod unary;
 mod vectors;
 
@@ -29,6 +30,7 @@ pub use names::Name;
 pub use operator_tables::{BINARY, BinRow, UNARY, UnRow, find, find_unary, tables_are_whole};
 pub use operators::{BinOp, OpClass, UnOp, class_of, gives_one_bit, is_division};
 pub use parts::{concat, extend, slice};
+pub use rules::Rule;
 pub use std::alloc::AllocError as OutOfMemory;
 pub use unary::apply_unary;
 pub use vectors::Bits;

@@ -1,4 +1,5 @@
 pub mod Answers
+pub mod Asked
 pub mod BodySlices
 pub mod DesignQueries
 pub mod Driven

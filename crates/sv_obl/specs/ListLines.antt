@@ -4,10 +4,12 @@ use Rattle.std.specs.Prelude.{decimal, Option, Some, None}
 use Rattle.sv_num.specs.declared.faults.Place.{Place}
 use Rattle.sv_flat.specs.Design.{SignalForm, FlatDesign}
 use Rattle.sv_flat.specs.Values.{signal_of}
+use Rattle.sv_obl.specs.Asked.{asked}
 use Rattle.sv_obl.specs.declared.frames.Frame.{Frame}
 use Rattle.sv_obl.specs.declared.frames.Frame.TheVariants.{Now, Next}
 use Rattle.sv_obl.specs.Paths.{StepForm}
 use Rattle.sv_obl.specs.Obligations.{GoalForm, flow, holds, selector, Obligation, obligations}
+use Rattle.sv_texts.specs.Texts.{place_text}
 
 -- each word with a blank before it
 abbrev pub blanked : List (List ℕ) → List ℕ
@@ -15,10 +17,6 @@ blanked words = flat_map (λ word. codes " " ++ word) words
 
 abbrev pub name_of : List SignalForm → ℕ → List ℕ
 name_of signals s = (signal_of signals s).name
-
--- as in 3:19
-abbrev pub place_text : Place → List ℕ
-place_text place = decimal place.line ++ codes ":" ++ decimal place.column
 
 abbrev pub frame_word : Frame → List ℕ
 frame_word Now = codes "now"
@@ -54,4 +52,4 @@ lines_from signals number (o ∷ os) =
 
 -- the obligations of a design, numbered from 1; it declares no facts
 abbrev pub list_text : FlatDesign → List ℕ
-list_text design = lines_from design.signals 1 (obligations [] design)
+list_text design = lines_from design.signals 1 (asked design)

@@ -4,7 +4,8 @@ use Rattle.std.specs.Prelude.{◌≡◌, ℕ, ◌+◌, if◌then◌else◌, List
 use Rattle.sv_flat.specs.Design.{SignalForm}
 use Rattle.sv_obl.specs.declared.list_texts.Lines.{Lines}
 use Rattle.sv_obl.specs.declared.list_lines.Mark.{Mark}
-use Rattle.sv_obl.specs.ListLines.{place_text, lines_from}
+use Rattle.sv_obl.specs.ListLines.{lines_from}
+use Rattle.sv_texts.specs.Texts.{place_text}
 use Rattle.sv_obl.specs.Obligations.{Obligation}
 
 -- a condition as its line shows it

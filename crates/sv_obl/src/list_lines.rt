@@ -4,7 +4,7 @@ ghost use Rattle.std.specs.Prelude.{IfOk, OnOk};
 ghost use Rattle.sv_flat.specs.ByNumber.{signal_forms};
 ghost use Rattle.sv_flat.specs.Views.{design_of};
 ghost use Rattle.sv_obl.specs.DesignQueries.{IsQueryOf, IsPlaced};
-ghost use Rattle.sv_obl.specs.ListLines.{blanked, name_of, place_text, frame_word, step_word};
+ghost use Rattle.sv_obl.specs.ListLines.{blanked, name_of, frame_word, step_word};
 ghost use Rattle.sv_obl.specs.ListLines.{right_word, goal_words, list_line as line_of};
 ghost use Rattle.sv_obl.specs.Obligations.{flow, selector};
 ghost use Rattle.sv_obl.specs.Views.{step_form, goal_form, number_of, obligation_of, IsAmong};
@@ -12,11 +12,11 @@ ghost use Rattle.sv_obl.specs.Written.{mark_word};
 
 use crate::frames::Frame;
 use crate::queries::{Goal, Query, Step};
-use itoa::Buffer;
 use std::alloc::{AllocError, Global};
 use sv_design::Design;
 use sv_flat::{SigId, Signal};
 use sv_num::Place;
+use sv_texts::push_place;
 
 /// A condition as a line shows it: whether it holds, and its place.
 #[derive(Clone, Copy, Debug)]
@@ -186,13 +186,11 @@ fn frame_bytes(frame: Frame) -> &'static [u8]
     }
 }
 
-/// Adds a number in decimal digits.
+/// Adds the number of an obligation.
 pub fn push_number(line: &mut Vec<u8>, number: u32) -> Result<(), AllocError>
     ensures { OnOk result (line.new.items ≡ line.old.items ++ decimal number) }
 {
-    let mut buffer = Buffer::new();
-    line.extend_from_slice(buffer.format(number).as_bytes())?;
-    Ok(())
+    sv_texts::push_number(line, u64::from(number))
 }
 
 // Adds a blank and a word.
@@ -212,15 +210,6 @@ fn push_name(line: &mut Vec<u8>, signals: &[Signal], signal: SigId) -> Result<()
         ++ name_of (signal_forms signals.now) signal.0) }
 {
     push_word(line, signals[signal.0 as usize].name.bytes())
-}
-
-fn push_place(line: &mut Vec<u8>, place: Place) -> Result<(), AllocError>
-    ensures { OnOk result (line.new.items ≡ line.old.items ++ place_text place) }
-{
-    push_number(line, place.line)?;
-    line.push(b':')?;
-    push_number(line, place.column)?;
-    Ok(())
 }
 
 fn push_mark(line: &mut Vec<u8>, mark: Mark) -> Result<(), AllocError>

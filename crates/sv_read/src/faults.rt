@@ -2,6 +2,7 @@
 ghost use Rattle.std.specs.Prelude.{◌≡◌, ◌+◌, ◌-◌, ◌<◌, ◌≤◌, ◌^◌, ℕ, List, [], ◌∷◌, length, take};
 ghost use Rattle.std.specs.Prelude.{drop, IfOk};
 ghost use Rattle.sv_num.specs.Faults.{Refuses};
+ghost use Rattle.sv_num.specs.Rules.{rule_number};
 ghost use Rattle.sv_token.specs.Lexemes.{placed_tokens};
 ghost use Rattle.sv_token.specs.Tokens.{next_place};
 ghost use Rattle.sv_ast.specs.GrammarMeaning.{end_place};
@@ -11,7 +12,7 @@ ghost use Rattle.sv_read.specs.Expectations.{expected_of, failure_of, RefusesAt}
 use crate::forms::word_at;
 use crate::stop::{Breach, Expected};
 use std::alloc::{AllocError, Global};
-use sv_num::{Fault, Name, Place};
+use sv_num::{Fault, Name, Place, Rule};
 use sv_token::{Token, next_place};
 
 // The place behind the last byte.
@@ -31,14 +32,14 @@ fn unsupported(alloc: Global, place: Place, word: &[u8]) -> Result<Fault, AllocE
     ensures { IfOk result (λ fault. Refuses fault 202 place (word.now ∷ [])) }
 {
     let name = Name::new(alloc, word)?;
-    Ok(Fault::broken(202, place, vec![in alloc; name]?))
+    Ok(Fault::broken(Rule::UnsupportedWord, place, vec![in alloc; name]?))
 }
 
 // The fault of a text that breaks the rule at a place, without names.
-fn nameless(alloc: Global, number: u16, place: Place) -> Fault
-    ensures { Refuses result number place [] }
+fn nameless(alloc: Global, rule: Rule, place: Place) -> Fault
+    ensures { Refuses result (rule_number rule) place [] }
 {
-    Fault::broken(number, place, Vec::new(alloc))
+    Fault::broken(rule, place, Vec::new(alloc))
 }
 
 // The fault of a text that no text goes on with at the token, between the others.
@@ -56,7 +57,7 @@ fn stuck_at(
 {
     match word_at(bytes, expected, before, token, after) {
         Some(word) => unsupported(alloc, token.place, word),
-        None => Ok(nameless(alloc, 201, token.place)),
+        None => Ok(nameless(alloc, Rule::Unexpected, token.place)),
     }
 }
 
@@ -75,8 +76,8 @@ fn broken_at(
 {
     match breach {
         Breach::Stuck(expected) => stuck_at(alloc, bytes, expected, before, token, after),
-        Breach::TooDeep => Ok(nameless(alloc, 203, token.place)),
-        Breach::TooLong => Ok(nameless(alloc, 204, token.place)),
+        Breach::TooDeep => Ok(nameless(alloc, Rule::TooDeep, token.place)),
+        Breach::TooLong => Ok(nameless(alloc, Rule::TooLong, token.place)),
     }
 }
 
@@ -99,6 +100,6 @@ pub fn broken(
     let count = tokens.len().saturating_sub(left);
     match &tokens[count..] {
         [token, after @ ..] => broken_at(alloc, bytes, breach, &tokens[..count], *token, after),
-        [] => Ok(nameless(alloc, 201, end_place(bytes))),
+        [] => Ok(nameless(alloc, Rule::Unexpected, end_place(bytes))),
     }
 }

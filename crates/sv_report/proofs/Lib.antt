@@ -1,4 +1,3 @@
-pub mod RuleLaws
 pub mod FrameFacts
 pub mod LabelFacts
 pub mod StayFacts

@@ -1,4 +1,3 @@
-pub mod Rules
 pub mod Text
 pub mod FlowText
 pub mod JsonTexts

@@ -9,7 +9,8 @@ use Rattle.sv_report.specs.declared.styles.Style.TheVariants.{Lines, Json}
 use Rattle.sv_report.specs.FlowText.{IsFlowText}
 use Rattle.sv_report.specs.JsonTexts.{accepted_json, refusal_json, limit_json, unknown_json}
 use Rattle.sv_report.specs.JsonTexts.{IsFlowJson}
-use Rattle.sv_report.specs.Text.{accepted_text, refusal_text, limit_text, unknown_text}
+use Rattle.sv_report.specs.Text.{accepted_text, unknown_text}
+use Rattle.sv_texts.specs.Texts.{refusal_text, limit_text}
 
 -- so many obligations hold
 abbrev pub accepted_in : Style → (count : ℕ) → List ℕ

@@ -16,8 +16,10 @@ use Rattle.sv_report.specs.declared.verdicts.Broken.TheVariants as broken
 use Rattle.sv_report.specs.declared.verdicts.Verdict.{Verdict}
 use Rattle.sv_report.specs.declared.verdicts.Verdict.TheVariants as verdict
 use Rattle.sv_report.specs.FlowText.{AsksFlow, IsFlowText}
-use Rattle.sv_report.specs.Text.{accepted_text, refusal_text, limit_text, fault_text}
-use Rattle.sv_report.specs.Text.{input_text, lengths_text, stimulus_text, unknown_text}
+use Rattle.sv_report.specs.Text.{accepted_text, fault_text}
+use Rattle.sv_texts.specs.Texts.{refusal_text, limit_text}
+use Rattle.sv_report.specs.Text.{input_text, lengths_text, unknown_text}
+use Rattle.sv_texts.specs.Texts.{stimulus_text}
 use Rattle.sv_report.specs.Text.{view_text}
 
 -- the obligation is one of the design's, asks of labels, and fails at the values

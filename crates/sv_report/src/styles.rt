@@ -12,11 +12,12 @@ ghost use Rattle.sv_report.specs.Styles.{IsFlowTextIn};
 use crate::flow_texts::flow_text;
 use crate::json_flows::flow_json;
 use crate::json_texts::{accepted_json, limit_json, refusal_json, unknown_json};
-use crate::texts::{accepted_text, limit_text, refusal_text, unknown_text};
+use crate::texts::{accepted_text, unknown_text};
 use std::alloc::{AllocError, Global};
 use sv_design::Design;
 use sv_num::{Name, Refusal};
 use sv_obl::{Query, Valuation};
+use sv_texts::{limit_text, refusal_text};
 
 /// How a verdict is told.
 #[derive(Clone, Copy, Debug, PartialEq, Eq)]

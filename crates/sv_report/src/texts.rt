@@ -1,15 +1,11 @@
 // The texts that name no values.
-ghost use Rattle.std.specs.Prelude.{◌≡◌, ◌++◌, codes, IfOk, OnOk};
-ghost use Rattle.sv_report.specs.Text.{accepted_text, names_text, refusal_text, limit_text};
-ghost use Rattle.sv_report.specs.Text.{fault_text, unknown_text, source_word, kind_word};
-ghost use Rattle.sv_report.specs.Text.{stimulus_text, input_text, view_text, lengths_text};
+ghost use Rattle.std.specs.Prelude.{◌≡◌, ◌++◌, codes, IfOk};
+ghost use Rattle.sv_report.specs.Text.{accepted_text};
+ghost use Rattle.sv_report.specs.Text.{fault_text, unknown_text};
+ghost use Rattle.sv_report.specs.Text.{input_text, view_text, lengths_text};
 ghost use Rattle.sv_report.specs.Text.{equal_text};
 
-use crate::rules::rule_name;
-use crate::verdicts::StimSource;
 use std::alloc::{AllocError, Global};
-use sv_num::{Name, Place, Refusal};
-use sv_trace::StimKind;
 
 /// That so many obligations hold.
 pub fn accepted_text(alloc: Global, count: u32) -> Result<Vec<u8>, AllocError>
@@ -19,45 +15,6 @@ pub fn accepted_text(alloc: Global, count: u32) -> Result<Vec<u8>, AllocError>
         alloc,
         format!(in alloc; "accepted {count} obligations\n")?.as_bytes(),
     )
-}
-
-// Writes names, each after a blank.
-fn push_names(text: &mut Vec<u8>, names: &[Name]) -> Result<(), AllocError>
-    ensures { OnOk result (text.new.items ≡ text.old.items ++ names_text names.now) }
-{
-    for name in names {
-        text.push(b' ')?;
-        text.extend_from_slice(name.bytes())?;
-    }
-    Ok(())
-}
-
-/// A broken rule, where it is broken, and the names that go with it.
-pub fn refusal_text(alloc: Global, refusal: &Refusal) -> Result<Vec<u8>, AllocError>
-    ensures { IfOk result
-        (λ text. text.items ≡
-        refusal_text refusal.now.number refusal.now.place refusal.now.names.items) }
-{
-    let number = refusal.number;
-    let name = rule_name(number);
-    let Place { line, column } = refusal.place;
-    let before = format!(in alloc; "refused {number} {name} {line}:{column}")?;
-    let mut text = Vec::from_slice(alloc, before.as_bytes())?;
-    push_names(&mut text, &refusal.names)?;
-    text.push(b'\n')?;
-    Ok(text)
-}
-
-/// A limit that is exceeded, and the names that go with it.
-pub fn limit_text(alloc: Global, number: u16, names: &[Name]) -> Result<Vec<u8>, AllocError>
-    ensures { IfOk result (λ text. text.items ≡ limit_text number names.now) }
-{
-    let name = rule_name(number);
-    let before = format!(in alloc; "refused {number} {name}")?;
-    let mut text = Vec::from_slice(alloc, before.as_bytes())?;
-    push_names(&mut text, names)?;
-    text.push(b'\n')?;
-    Ok(text)
 }
 
 /// That the line of this number is the first wrong one of a certificate.
@@ -76,44 +33,6 @@ pub fn unknown_text(alloc: Global, obligation: u32, budget: u32) -> Result<Vec<u
 {
     let before = format!(in alloc; "unknown obligation {obligation} budget {budget}")?;
     let mut text = Vec::from_slice(alloc, before.as_bytes())?;
-    text.push(b'\n')?;
-    Ok(text)
-}
-
-fn source_word(source: StimSource) -> &'static str
-    ensures { result.now ≡ source_word source }
-{
-    match source {
-        StimSource::Input => "input",
-        StimSource::FileA => "A",
-        StimSource::FileB => "B",
-    }
-}
-
-fn kind_word(kind: StimKind) -> &'static str
-    ensures { result.now ≡ kind_word kind }
-{
-    match kind {
-        StimKind::TooLong => "too-long",
-        StimKind::Header => "header",
-        StimKind::Name => "name",
-        StimKind::Value => "value",
-    }
-}
-
-/// That the line of this number is the first wrong one of a stimulus, and what is wrong with it.
-pub fn stimulus_text(
-    alloc: Global,
-    source: StimSource,
-    line: u64,
-    kind: StimKind,
-) -> Result<Vec<u8>, AllocError>
-    ensures { IfOk result (λ text. text.items ≡ stimulus_text source line kind) }
-{
-    let mut text = Vec::from_slice(alloc, b"refused stimulus ")?;
-    text.extend_from_slice(source_word(source).as_bytes())?;
-    text.extend_from_slice(format!(in alloc; " {line} ")?.as_bytes())?;
-    text.extend_from_slice(kind_word(kind).as_bytes())?;
     text.push(b'\n')?;
     Ok(text)
 }

@@ -7,15 +7,13 @@ ghost use Rattle.sv_report.specs.Verdicts.{IsVerdictText};
 
 use crate::flow_texts::flow_text;
 use crate::names::name_at;
-use crate::texts::{
-    accepted_text, fault_text, input_text, lengths_text, limit_text, refusal_text, stimulus_text,
-    unknown_text, view_text,
-};
+use crate::texts::{accepted_text, fault_text, input_text, lengths_text, unknown_text, view_text};
 use crate::verdicts::{Broken, Verdict};
 use std::alloc::{AllocError, Global};
 use sv_design::Design;
 use sv_flat::SigId;
 use sv_obl::{Query, Valuation};
+use sv_texts::{limit_text, refusal_text, stimulus_text};
 
 /// The lines that tell a verdict. With an obligation that fails come its design and itself, and
 /// with a signal its design. It fails where memory runs out.

@@ -2,18 +2,7 @@
 use sv_flat::SigId;
 use sv_num::{Name, Refusal};
 use sv_obl::Valuation;
-use sv_trace::StimKind;
-
-/// Where a stimulus comes from.
-#[derive(Clone, Copy, Debug, PartialEq, Eq)]
-pub enum StimSource {
-    /// The input.
-    Input,
-    /// The first of two files.
-    FileA,
-    /// The second of two files.
-    FileB,
-}
+use sv_texts::{StimKind, StimSource};
 
 /// Why a text, a certificate, a stimulus or a pair of runs is refused.
 #[derive(Debug, Drop)]

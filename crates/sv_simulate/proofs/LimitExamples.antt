@@ -5,10 +5,10 @@ use Rattle.std.specs.Prelude.{replicate}
 use Rattle.std.specs.Fmt.{digits}
 use Rattle.std.proofs.lemmas.Bool.{cond-true, lt-leb, lt-ltb}
 use Rattle.std.proofs.lemmas.List.{length-replicate}
-use Rattle.sv_trace.specs.declared.faults.StimKind.TheVariants.{TooLong, Header, Name, Value}
+use Rattle.sv_texts.specs.declared.stimuli.StimKind.TheVariants.{TooLong, Header, Name, Value}
 use Rattle.sv_trace.specs.Forms.{StimForm}
 use Rattle.sv_trace.specs.Stimulus.{line_fault, read_front, read_whole}
-use Rattle.sv_report.specs.Rules.{rule_names}
+use Rattle.sv_num.specs.Rules.{rules}
 use Rattle.sv_simulate.specs.declared.endings.Ending.TheVariants.{Done, WrongLine, TooLarge}
 use Rattle.sv_simulate.specs.Simulated.{largest_stimulus, is_within, read_of, ending_of, last_line}
 
@@ -47,7 +47,7 @@ large = refl
 
 -- of a stimulus over the limit
 large_line : last_line TooLarge None ≡ codes "refused 704 stimulus-size\n"
-unfolding digits rule_names
+unfolding digits rules
 large_line = refl
 
 -- of each kind of wrong line, also where an order was asked for

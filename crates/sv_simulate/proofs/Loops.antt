@@ -16,7 +16,7 @@ use Rattle.sv_io.specs.Source.{WhateverFollows}
 use Rattle.sv_lattice.specs.declared.points.Point.{Point}
 use Rattle.sv_flat.specs.declared.designs.Flat.{Flat}
 use Rattle.sv_flat.specs.Views.{design_of}
-use Rattle.sv_trace.specs.declared.faults.StimKind.{StimKind}
+use Rattle.sv_texts.specs.declared.stimuli.StimKind.{StimKind}
 use Rattle.sv_trace.specs.declared.faults.StimFault.{StimFault}
 use Rattle.sv_trace.specs.declared.faults.StimFault.TheVariants.{Line, OutOfMemory}
 use Rattle.sv_trace.specs.Forms.{StimForm}

@@ -20,7 +20,7 @@ use Rattle.sv_flat.specs.Values.{signal_width}
 use Rattle.sv_flat.proofs.Forms.{at, declares, sets, named, process}
 use Rattle.sv_flat.proofs.Forms.{over_two_points}
 use Rattle.sv_flat.specs.Given.{given}
-use Rattle.sv_trace.specs.declared.faults.StimKind.TheVariants.{Value}
+use Rattle.sv_texts.specs.declared.stimuli.StimKind.TheVariants.{Value}
 use Rattle.sv_trace.specs.Forms.{name_in}
 use Rattle.sv_trace.specs.Stimulus.{LinesRead}
 use Rattle.sv_simulate.specs.declared.endings.Ending.TheVariants.{Done, WrongLine}

@@ -9,8 +9,8 @@ use Rattle.std.proofs.lemmas.List.{length-map, length-drop}
 use Rattle.std.proofs.lemmas.List.Folds.{length-prefix_len}
 use Rattle.std.proofs.lemmas.List.Splits.{length-slice_split}
 use Rattle.std.proofs.lemmas.List.Sums.{count_by-le-length}
-use Rattle.sv_trace.specs.declared.faults.StimKind.{StimKind}
-use Rattle.sv_trace.specs.declared.faults.StimKind.TheVariants.{Header}
+use Rattle.sv_texts.specs.declared.stimuli.StimKind.{StimKind}
+use Rattle.sv_texts.specs.declared.stimuli.StimKind.TheVariants.{Header}
 use Rattle.sv_trace.specs.Forms.{StimForm}
 use Rattle.sv_trace.specs.Reading.{Said, HaveRead}
 use Rattle.sv_trace.specs.Stimulus.{LinesRead, line_fault, read_next, read_after, parts, lines_if}

@@ -11,8 +11,8 @@ use Rattle.std.proofs.lemmas.Bool.{cases_Bool, cases_lt, ne_eqb, ltb-true}
 use Rattle.std.proofs.lemmas.List.{drop-append-le, take-append-le, map-append}
 use Rattle.std.proofs.lemmas.List.Folds.{prefix_len-append, length-prefix_len}
 use Rattle.std.proofs.lemmas.List.Splits.{slice_split-cons_yes, slice_split-cons_no}
-use Rattle.sv_trace.specs.declared.faults.StimKind.{StimKind}
-use Rattle.sv_trace.specs.declared.faults.StimKind.TheVariants.{TooLong, Header}
+use Rattle.sv_texts.specs.declared.stimuli.StimKind.{StimKind}
+use Rattle.sv_texts.specs.declared.stimuli.StimKind.TheVariants.{TooLong, Header}
 use Rattle.sv_trace.specs.Forms.{StimForm}
 use Rattle.sv_trace.specs.Stimulus.{LinesRead, line_fault, read_next, read_after, parts, lines_if}
 use Rattle.sv_trace.specs.Stimulus.{read_front, read_whole, ended, has_header, is_start}

@@ -7,7 +7,7 @@ use Rattle.std.proofs.lemmas.Bool.{false≢true}
 use Rattle.sv_io.specs.Count.{Rose}
 use Rattle.sv_trace.specs.declared.faults.StimFault.{StimFault}
 use Rattle.sv_trace.specs.declared.faults.StimFault.TheVariants as stim
-use Rattle.sv_trace.specs.declared.faults.StimKind.{StimKind}
+use Rattle.sv_texts.specs.declared.stimuli.StimKind.{StimKind}
 use Rattle.sv_trace.specs.Reading.{Reading, HasRead, HasFed, UnlessFull, answer_of}
 use Rattle.sv_trace.specs.Stimulus.{LinesRead, fault_of, read_front, read_whole}
 use Rattle.sv_simulate.specs.declared.endings.Ending.{Ending}

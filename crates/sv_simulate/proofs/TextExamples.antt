@@ -21,7 +21,7 @@ use Rattle.sv_flat.proofs.Depths.{first_of, second_of}
 use Rattle.sv_flat.proofs.Forms.{at, declares, part, later, named, sequence, process}
 use Rattle.sv_flat.proofs.Forms.{over_two_points}
 use Rattle.sv_trace.specs.Forms.{StimForm, form_of, name_in}
-use Rattle.sv_report.specs.Rules.{rule_names}
+use Rattle.sv_num.specs.Rules.{rules}
 use Rattle.sv_simulate.specs.declared.endings.Ending.TheVariants.{Done, NoLevel}
 use Rattle.sv_simulate.specs.Simulated.{read_of}
 use Rattle.sv_simulate.specs.Simulated.{IsSimulated}
@@ -164,5 +164,5 @@ low_text = (
 -- a level that is no point is refused, whatever the stimulus
 no_level : IsSimulated held (Some (codes "X")) None (codes "zz") NoLevel
     (codes "refused 707 level\n")
-unfolding digits rule_names
+unfolding digits rules
 no_level = (refl, refl)

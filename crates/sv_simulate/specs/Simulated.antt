@@ -14,8 +14,8 @@ use Rattle.sv_flat.specs.SignalLists.{inputs, registers}
 use Rattle.sv_flat.specs.Given.{given}
 use Rattle.sv_trace.specs.Forms.{StimForm, form_of, name_in}
 use Rattle.sv_trace.specs.Stimulus.{LinesRead, read_front, read_whole, start_of, cycles_of}
-use Rattle.sv_report.specs.declared.verdicts.StimSource.TheVariants.{Input}
-use Rattle.sv_report.specs.Text.{limit_text, stimulus_text}
+use Rattle.sv_texts.specs.declared.stimuli.StimSource.TheVariants.{Input}
+use Rattle.sv_texts.specs.Texts.{limit_text, stimulus_text}
 use Rattle.sv_simulate.specs.declared.endings.Ending.{Ending}
 use Rattle.sv_simulate.specs.declared.endings.Ending.TheVariants as ending
 use Rattle.sv_simulate.specs.Traces.{form_in, IsTraceFrom, lines_from}

@@ -4,7 +4,7 @@ ghost use Rattle.sv_simulate.specs.declared.endings.SimFault.TheVariants.{Read, 
 
 use std::alloc::{AllocError, AllocFailed};
 use sv_io::{Failed, PutFault};
-use sv_trace::StimKind;
+use sv_texts::StimKind;
 use thiserror::Error;
 
 /// How a simulation ends.

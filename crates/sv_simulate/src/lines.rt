@@ -8,7 +8,8 @@ ghost use Rattle.sv_simulate.specs.Simulated.{last_line as line_of};
 use crate::endings::{Ending, SimFault};
 use std::alloc::{AllocError, Global};
 use sv_io::{Sink, put_all};
-use sv_report::{StimSource, limit_text, stimulus_text};
+use sv_num::Rule;
+use sv_texts::{StimSource, limit_text, stimulus_text};
 
 // So many bytes of lines wait at most before they are put.
 const MOST_WAITING: usize = 65_536;
@@ -54,8 +55,8 @@ pub fn last_line(alloc: Global, ending: Ending, rounds: Option<u64>) -> Result<V
     match (ending, rounds) {
         (Ending::Done, None) => Ok(Vec::new(alloc)),
         (Ending::Done, Some(rounds)) => rounds_line(alloc, rounds),
-        (Ending::NoLevel, _) => limit_text(alloc, 707, &[]),
-        (Ending::TooLarge, _) => limit_text(alloc, 704, &[]),
+        (Ending::NoLevel, _) => limit_text(alloc, Rule::Level.number(), &[]),
+        (Ending::TooLarge, _) => limit_text(alloc, Rule::StimulusSize.number(), &[]),
         (Ending::WrongLine(line, kind), _) => stimulus_text(alloc, StimSource::Input, line, kind),
     }
 }

@@ -31,7 +31,7 @@ mod simulated;
 mod sizes;
 mod sources;
 
-ghost use Rattle.std.specs.Prelude.{◌≡◌, ℕ, List, [], Option, Some, All};
+ghost use Rattle.std.specs.Prelude.{◌≡◌, ℕ, List, Option, Some, All};
 ghost use Rattle.sv_system.specs.System.{Noninterferent, HasOneTrace};
 ghost use Rattle.sv_lattice.specs.Maps.{MapRows, IsMap};
 ghost use Rattle.sv_lattice.specs.Tables.{IsLatticeTable};
@@ -42,7 +42,7 @@ ghost use Rattle.sv_flat.specs.Admission.{IsAdmitted};
 ghost use Rattle.sv_flat.specs.Design.{FlatDesign};
 ghost use Rattle.sv_walk.specs.Texts.{flat_of};
 ghost use Rattle.sv_flatten.specs.FlattenedTexts.{CanBeFlattened, EachItem, ReleasesNothing};
-ghost use Rattle.sv_obl.specs.Validity.{AllValid};
+ghost use Rattle.sv_obl.specs.Asked.{asked, AskedHold};
 
 pub use falsified::{
     listed_values_falsify_texts_as_their_designs, valuations_falsify_texts_as_their_designs,
@@ -84,7 +84,7 @@ pub fn texts_of_bytes_can_be_flattened()
 pub fn valid_texts_are_noninterferent()
     ensures { (text : TextTree) (asked : Option (List ℕ)) (design : FlatDesign)
         → CanBeFlattened text → flat_of text asked ≡ Some design
-        → IsAdmitted design → AllValid [] design → Noninterferent (text_system text asked) }
+        → IsAdmitted design → AskedHold design → Noninterferent (text_system text asked) }
 {}
 
 /// A text whose flat design is admitted has exactly one trace for each start and each list of
@@ -103,7 +103,7 @@ pub fn valid_bytes_are_noninterferent()
     ensures { (bytes : List ℕ) (text : TextTree) (asked : Option (List ℕ)) (design : FlatDesign)
         → Means bytes text → EachItem ReleasesNothing text
         → flat_of text asked ≡ Some design → IsAdmitted design
-        → AllValid [] design → Noninterferent (text_system text asked) }
+        → AskedHold design → Noninterferent (text_system text asked) }
 {}
 
 /// A text of bytes that releases nothing, and whose flat design is admitted, has exactly one trace

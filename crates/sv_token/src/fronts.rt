@@ -1,11 +1,12 @@
 // What can stand at the front of the bytes that are left.
 ghost use Rattle.std.specs.Prelude.{◌≡◌, IfOk};
 ghost use Rattle.sv_num.specs.Faults.{Refuses};
+ghost use Rattle.sv_num.specs.Rules.{rule_number as number_in};
 ghost use Rattle.sv_token.specs.Views.{form_word, rule_number, rule_names};
 
 use crate::tokens::TokenKind;
 use std::alloc::{AllocError, Global};
-use sv_num::{Fault, Name, Place};
+use sv_num::{Fault, Name, Place, Rule};
 
 /// A form of the standard that is left out.
 #[derive(Clone, Copy, Debug, PartialEq, Eq)]
@@ -66,15 +67,15 @@ pub enum Breach {
 }
 
 impl Breach {
-    // The number of the rule.
-    fn rule(self) -> u16
-        ensures { result ≡ rule_number self }
+    // The rule.
+    fn rule(self) -> Rule
+        ensures { number_in result ≡ rule_number self }
     {
         match self {
-            Breach::BadByte => 101,
-            Breach::BadNumber => 102,
-            Breach::OpenComment => 103,
-            Breach::LeftOut(_) => 104,
+            Breach::BadByte => Rule::BadByte,
+            Breach::BadNumber => Rule::BadNumber,
+            Breach::OpenComment => Rule::OpenComment,
+            Breach::LeftOut(_) => Rule::UnsupportedForm,
         }
     }
 

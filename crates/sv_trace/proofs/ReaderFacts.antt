@@ -13,7 +13,7 @@ use Rattle.sv_flat.specs.Design.{SignalForm, FlatDesign}
 use Rattle.sv_flat.specs.SignalLists.{inputs, registers}
 use Rattle.sv_flat.specs.Values.{signal_width}
 use Rattle.sv_flat.specs.Given.{FitListed}
-use Rattle.sv_trace.specs.declared.faults.StimKind.{StimKind}
+use Rattle.sv_texts.specs.declared.stimuli.StimKind.{StimKind}
 use Rattle.sv_trace.specs.declared.faults.StimFault.{StimFault}
 use Rattle.sv_trace.specs.declared.faults.StimFault.TheVariants.{Line, OutOfMemory}
 use Rattle.sv_trace.specs.declared.forms.Register.{Register}

@@ -1,7 +1,7 @@
 -- What small stimuli say, and what is wrong with others, by computation.
 use Rattle.std.proofs.Common.{◌≡◌, ℕ, List, [], ◌∷◌, Option, Some, None, refl}
 use Rattle.std.specs.Prelude.{codes}
-use Rattle.sv_trace.specs.declared.faults.StimKind.TheVariants.{Header, Name, Value}
+use Rattle.sv_texts.specs.declared.stimuli.StimKind.TheVariants.{Header, Name, Value}
 use Rattle.sv_trace.specs.declared.faults.StimFault.{StimFault}
 use Rattle.sv_trace.specs.declared.faults.StimFault.TheVariants.{Line}
 use Rattle.sv_trace.specs.Forms.{StimForm}

@@ -7,8 +7,8 @@ use Rattle.std.specs.List.{onto_first}
 use Rattle.std.proofs.lemmas.Bool.{lt-ltb, ltb-true, cases_Bool, eqb-true}
 use Rattle.std.proofs.lemmas.List.Elements.{All-head, All-tail, All-cons}
 use Rattle.std.proofs.lemmas.List.Splits.{slice_split-cons_no, slice_split_none}
-use Rattle.sv_trace.specs.declared.faults.StimKind.{StimKind}
-use Rattle.sv_trace.specs.declared.faults.StimKind.TheVariants.{TooLong}
+use Rattle.sv_texts.specs.declared.stimuli.StimKind.{StimKind}
+use Rattle.sv_texts.specs.declared.stimuli.StimKind.TheVariants.{TooLong}
 use Rattle.sv_trace.specs.Forms.{StimForm}
 use Rattle.sv_trace.specs.Reading.{text_of, Lacks}
 use Rattle.sv_trace.specs.Stimulus.{LinesRead, line_fault, read_next, read_after, parts, lines_if}

@@ -7,8 +7,8 @@ use Rattle.std.proofs.lemmas.Bool.{lt-ltb, le-ltb}
 use Rattle.std.proofs.lemmas.List.Concat.{flat_map-append}
 use Rattle.std.proofs.lemmas.List.Elements.{All-head, All-tail, All-cons, All-append}
 use Rattle.std.proofs.lemmas.List.Splits.{slice_split_none}
-use Rattle.sv_trace.specs.declared.faults.StimKind.{StimKind}
-use Rattle.sv_trace.specs.declared.faults.StimKind.TheVariants.{TooLong, Header}
+use Rattle.sv_texts.specs.declared.stimuli.StimKind.{StimKind}
+use Rattle.sv_texts.specs.declared.stimuli.StimKind.TheVariants.{TooLong, Header}
 use Rattle.sv_trace.specs.Forms.{StimForm}
 use Rattle.sv_trace.specs.Reading.{text_of, Lacks, IsCut}
 use Rattle.sv_trace.specs.Stimulus.{LinesRead, line_fault, read_next, read_after, parts, lines_if}

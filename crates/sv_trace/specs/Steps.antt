@@ -5,8 +5,8 @@ use Rattle.std.specs.Prelude.{◌++◌, length, Option, Some, None}
 use Rattle.std.specs.Prelude.{Result, Ok, Err}
 use Rattle.std.specs.List.{slice_split}
 use Rattle.std.specs.Str.Parse.{digits_value}
-use Rattle.sv_trace.specs.declared.faults.StimKind.{StimKind}
-use Rattle.sv_trace.specs.declared.faults.StimKind.TheVariants.{TooLong, Header, Value}
+use Rattle.sv_texts.specs.declared.stimuli.StimKind.{StimKind}
+use Rattle.sv_texts.specs.declared.stimuli.StimKind.TheVariants.{TooLong, Header, Value}
 use Rattle.sv_trace.specs.declared.faults.StimFault.{StimFault}
 use Rattle.sv_trace.specs.declared.faults.StimFault.TheVariants.{Line, OutOfMemory}
 use Rattle.sv_trace.specs.declared.forms.Register.{Register}

@@ -26,8 +26,9 @@ mod state;
 mod stim;
 mod trace;
 
-pub use faults::{StimFault, StimKind};
+pub use faults::StimFault;
 pub use reader::StimReader;
 pub use std::alloc::AllocError as OutOfMemory;
 pub use stim::{Stim, read_stim};
+pub use sv_texts::StimKind;
 pub use trace::trace_line;

@@ -4,11 +4,12 @@ ghost use Rattle.std.specs.Prelude.{OnErr, IfErr, IsTrue, if◌then◌else◌};
 ghost use Rattle.sv_trace.specs.Reading.{said_of, IsSaid, Lacks, KeepsCycles};
 ghost use Rattle.sv_trace.specs.Steps.{IsTooLong, Stands, LineEnded, PieceRead, EndRead};
 
-use crate::faults::{StimFault, StimKind};
+use crate::faults::StimFault;
 use crate::fields::split_first;
 use crate::forms::Form;
 use crate::state::{State, read_line};
 use std::alloc::Global;
+use sv_texts::StimKind;
 
 // The most bytes of a line before its line feed.
 const MAX_LINE: usize = 1_048_576;

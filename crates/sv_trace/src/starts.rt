@@ -7,9 +7,9 @@ ghost use Rattle.sv_trace.specs.Stimulus.{is_blank, is_start, width_at, start_fa
 ghost use Rattle.sv_trace.specs.Stimulus.{place_of as place_in};
 ghost use Rattle.std.specs.Result.{result_err};
 
-use crate::faults::StimKind;
 use crate::fields::{read_value, split_first};
 use crate::forms::Register;
+use sv_texts::StimKind;
 
 /// What follows the word `start` and its blank.
 pub fn start_rest(line: &[u8]) -> Option<&[u8]>

@@ -7,11 +7,12 @@ ghost use Rattle.sv_trace.specs.Steps.{LineRead, IsFaultAt, IsPut, cycle_fault, 
 ghost use Rattle.sv_trace.specs.Stimulus.{words};
 
 use crate::cycles::read_cycle;
-use crate::faults::{StimFault, StimKind};
+use crate::faults::StimFault;
 use crate::forms::Form;
 use crate::starts::{read_start, start_rest};
 use std::alloc::Global;
 use std::collections::VecDeque;
+use sv_texts::StimKind;
 
 /// What the lines so far say: whether the header was there, which registers were started and their
 /// values, the cycles, and the number of the next line.

@@ -1,6 +1,6 @@
 // The lines of a trace.
 ghost use Rattle.std.specs.Prelude.{◌≡◌, ℕ, ◌<◌, ◌++◌, map, flat_map, length, codes};
-ghost use Rattle.std.specs.Prelude.{decimal, IfOk, OnOk};
+ghost use Rattle.std.specs.Prelude.{IfOk, OnOk};
 ghost use Rattle.std.specs.Option.{ForSome};
 ghost use Rattle.sv_system.specs.System.{Environment};
 ghost use Rattle.sv_flat.specs.ByNumber.{by_number as values_by_number, FitSignals};
@@ -11,12 +11,12 @@ ghost use Rattle.sv_flat.specs.Given.{FitListed, given};
 ghost use Rattle.sv_trace.specs.Traces.{hexadecimal, pair_text, shown, text_of_signal};
 ghost use Rattle.sv_trace.specs.Traces.{trace_line as line_of, is_shown as is_shown_in};
 
-use itoa::Buffer;
 use std::alloc::{AllocError, Global};
 use sv_design::Design;
 use sv_flat::SigId;
 use sv_lattice::{Point, label_at};
 use sv_sim::put_listed;
+use sv_texts::push_number;
 
 /// The line of a cycle in the trace: its number, and each signal that is no clock with its value in
 /// hexadecimal; with a level only the signals whose label flows to it in this cycle. The values are
@@ -56,14 +56,6 @@ fn by_number(alloc: Global, design: &Design, values: &[u64]) -> Result<Vec<u64>,
     let mut table = vec![in alloc; 0; signals.len()]?;
     put_listed(values, design.seen(), signals, &mut table);
     Ok(table)
-}
-
-fn push_number(line: &mut Vec<u8>, number: u64) -> Result<(), AllocError>
-    ensures { OnOk result (line.new.items ≡ line.old.items ++ decimal number) }
-{
-    let mut buffer = Buffer::new();
-    line.extend_from_slice(buffer.format(number).as_bytes())?;
-    Ok(())
 }
 
 fn push_shown(

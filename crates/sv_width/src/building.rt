@@ -27,7 +27,7 @@ use crate::measured::{Measured, Own};
 use crate::types::{BitType, common, one_bit, result_type};
 use std::alloc::Global;
 use sv_ast::Expr;
-use sv_num::{BinOp, Bits, Fault, OutOfMemory, Place, UnOp, gives_one_bit, is_division};
+use sv_num::{BinOp, Bits, Fault, OutOfMemory, Place, Rule, UnOp, gives_one_bit, is_division};
 
 /// Where a constant stands inside an expression.
 pub fn inside(setting: Setting) -> Setting
@@ -101,7 +101,7 @@ pub fn part(
 {
     match part_inside(known.width, high, low) {
         Some((high, low)) => Ok(inside_part(known, place, high, low)),
-        None => Err(refusal(alloc, 403, place)),
+        None => Err(refusal(alloc, Rule::BadSelect, place)),
     }
 }
 
@@ -185,7 +185,7 @@ pub fn binary(
         names_signal: left_own.names_signal || right_own.names_signal,
     };
     if is_division(op) && own.names_signal {
-        return Err(refusal(alloc, 406, place));
+        return Err(refusal(alloc, Rule::Division, place));
     }
     Ok(Measured::Binary(
         own,
@@ -244,7 +244,7 @@ pub fn join(
 {
     let width = joined_width(&operands);
     if width > 64 {
-        return Err(refusal(alloc, 402, place));
+        return Err(refusal(alloc, Rule::TooWide, place));
     }
     sized_parts(alloc, parts)?;
     let own = Own {
@@ -282,11 +282,11 @@ pub fn replication(
     let width = joined_width(&operands);
     let times = natural(count).unwrap_or(0);
     if times > u64::from(64 / width) {
-        return Err(refusal(alloc, 402, place));
+        return Err(refusal(alloc, Rule::TooWide, place));
     }
     sized_parts(alloc, parts)?;
     if times == 0 {
-        return Err(refusal(alloc, 408, at));
+        return Err(refusal(alloc, Rule::BadCount, at));
     }
     let own = Own {
         of_type: BitType {
@@ -306,7 +306,7 @@ fn sized_parts(alloc: Global, parts: &[Expr]) -> Result<(), Fault>
         (IsBreach (sized_parts (tree_parts (expression_trees parts.now))).end) }
 {
     match parts.iter().find_map(unsized_place) {
-        Some(place) => Err(refusal(alloc, 407, place)),
+        Some(place) => Err(refusal(alloc, Rule::UnsizedPart, place)),
         None => Ok(()),
     }
 }

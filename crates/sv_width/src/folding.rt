@@ -15,7 +15,7 @@ use crate::measured::Measured;
 use crate::types::{BitType, left_type, right_type};
 use std::alloc::Global;
 use sv_num::{
-    BinOp, Bits, Fault, Place, apply_binary, apply_unary, extend, gives_one_bit, is_division,
+    BinOp, Bits, Fault, Place, Rule, apply_binary, apply_unary, extend, gives_one_bit, is_division,
 };
 
 /// The value at another length: cut, or extended as the type's signedness says.
@@ -125,7 +125,7 @@ fn binary(
     ensures broken { IfErr result (IsBreach (zero_steps op place (value_of right)).end) }
 {
     if is_division(op) && right.value() == 0 {
-        Err(refusal(alloc, 405, place))
+        Err(refusal(alloc, Rule::ZeroDivisor, place))
     } else {
         Ok(applied(op, left, right, types))
     }

@@ -1,5 +1,6 @@
 // What the names of an expression stand for, and where they may stand.
 ghost use Rattle.std.specs.Prelude.{◌≡◌, [], ◌∷◌, None, Some, IfOk, IfErr, IsTrue, Result, Err};
+ghost use Rattle.sv_num.specs.Rules.{rule_number};
 ghost use Rattle.sv_ast.specs.Instances.{is_signal};
 ghost use Rattle.sv_ast.specs.Tree as tree;
 ghost use Rattle.sv_ast.specs.Views.{expression_tree, expression_trees, parts_of};
@@ -20,7 +21,7 @@ use crate::measured::{Measured, value, whole_signal};
 use crate::scope::Scope;
 use std::alloc::Global;
 use sv_ast::Expr;
-use sv_num::{Fault, Name, Place};
+use sv_num::{Fault, Name, Place, Rule};
 
 /// Which names an expression may name.
 #[derive(Clone, Copy, Debug, PartialEq, Eq)]
@@ -34,20 +35,20 @@ pub enum Setting {
 }
 
 /// The refusal by a rule at a place, without names.
-pub fn refusal(alloc: Global, number: u16, place: Place) -> Fault
-    ensures { (end : Result (Unit {0}) Step) → end ≡ Err (step number place []) →
+pub fn refusal(alloc: Global, rule: Rule, place: Place) -> Fault
+    ensures { (end : Result (Unit {0}) Step) → end ≡ Err (step (rule_number rule) place []) →
         IsBreach end result }
 {
-    Fault::broken(number, place, Vec::new(alloc))
+    Fault::broken(rule, place, Vec::new(alloc))
 }
 
 /// The refusal by a rule at a place, with one name.
-pub fn refusal_naming(alloc: Global, number: u16, place: Place, name: &Name) -> Fault
-    ensures { (end : Result (Unit {0}) Step) → end ≡ Err (step number place (name.now ∷ [])) →
+pub fn refusal_naming(alloc: Global, rule: Rule, place: Place, name: &Name) -> Fault
+    ensures { (end : Result (Unit {0}) Step) → end ≡ Err (step (rule_number rule) place (name.now ∷ [])) →
         IsBreach end result }
 {
     match name.alone(alloc) {
-        Ok(names) => Fault::broken(number, place, names),
+        Ok(names) => Fault::broken(rule, place, names),
         Err(error) => Fault::from(error),
     }
 }
@@ -57,7 +58,7 @@ pub fn unknown_name(alloc: Global, name: &Name, place: Place) -> Fault
     ensures { (end : Result (Unit {0}) Step) → end ≡ Err (unknown_name place name.now) →
         IsBreach end result }
 {
-    refusal_naming(alloc, 401, place, name)
+    refusal_naming(alloc, Rule::UnknownName, place, name)
 }
 
 /// A whole name.
@@ -78,7 +79,7 @@ pub fn named(
         Some(Meaning::Param(bits)) => Ok(value(bits)),
         Some(Meaning::Signal(known)) => {
             if is_constant(setting) {
-                Err(refusal(alloc, 404, place))
+                Err(refusal(alloc, Rule::NotConstant, place))
             } else {
                 Ok(whole_signal(known, place))
             }
@@ -103,7 +104,7 @@ fn absent(alloc: Global, name: &Name, place: Place, scope: &Scope, setting: Sett
         end ≡ Err (absent_step (names_in setting scope.now) place name.now) → IsBreach end result }
 {
     if setting == Setting::Declaring && scope.is_announced(name) {
-        refusal(alloc, 404, place)
+        refusal(alloc, Rule::NotConstant, place)
     } else {
         unknown_name(alloc, name, place)
     }
@@ -130,7 +131,7 @@ pub fn selected(
             if setting == Setting::Open {
                 Ok(known)
             } else {
-                Err(refusal(alloc, 404, place))
+                Err(refusal(alloc, Rule::NotConstant, place))
             }
         }
         None => Err(absent(alloc, name, place, scope, setting)),

@@ -20,7 +20,7 @@ use crate::measured::{Measured, value};
 use crate::scope::Scope;
 use std::alloc::Global;
 use sv_ast::Expr;
-use sv_num::{BinOp, Bits, Fault, Name, Place, UnOp};
+use sv_num::{BinOp, Bits, Fault, Name, Place, Rule, UnOp};
 
 /// The expression with each own length and signedness, where it breaks none of these rules; else
 /// its first broken one.
@@ -286,7 +286,7 @@ fn constant_index(alloc: Global, index: &Expr, width: u8, scope: &Scope) -> Resu
     if is_below(bits, width) {
         Ok(operand)
     } else {
-        Err(refusal(alloc, 403, place_of(index)))
+        Err(refusal(alloc, Rule::BadSelect, place_of(index)))
     }
 }
 

@@ -11,7 +11,7 @@ use indexmap::{IndexMap, IndexSet};
 use std::alloc::Global;
 use std::marker::Model;
 use sv_flat::SigId;
-use sv_num::{Bits, Fault, Name, OutOfMemory, Place};
+use sv_num::{Bits, Fault, Name, OutOfMemory, Place, Rule};
 
 /// What the names of one instance stand for, in the order of their declarations, with the names
 /// that are announced: those that later declarations make signals.
@@ -112,7 +112,7 @@ impl Scope {
         ensures unchanged { OnErr result (self.new ≡ self.old) }
     {
         if self.meanings.contains_key(&name) {
-            return Err(Fault::broken(312, place, vec![in self.alloc; name]?));
+            return Err(Fault::broken(Rule::Twice, place, vec![in self.alloc; name]?));
         }
         self.meanings.insert(name, meaning)?;
         Ok(())

@@ -1,6 +1,6 @@
 use Rattle.std.proofs.Common.{◌≡◌, ◌++◌, drop}
-use Rattle.sv_report.specs.Text.{names_text}
-use Rattle.sv_report.proofs.texts.push_names.Given as goal
+use Rattle.sv_texts.specs.Texts.{names_text}
+use Rattle.sv_texts.proofs.refusals.push_names.Given as goal
 
 -- what was written and the text of the names that are left are the whole
 abbrev pub invariant-loop-name : goal.invariant-loop-name

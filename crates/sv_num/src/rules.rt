@@ -1,0 +1,305 @@
+// The rules that a text can break, and the limits that it can exceed.
+ghost use Rattle.std.specs.Prelude.{◌≡◌, find, nat_eq};
+ghost use Rattle.std.specs.Option.{option_copied};
+ghost use Rattle.sv_num.specs.Rules.{rule_number, rule_name, rules};
+
+/// A rule that a text can break (100 to 699), or a limit that it can exceed (from 700), in the
+/// order of their numbers.
+#[derive(Clone, Copy, Debug, PartialEq, Eq)]
+pub enum Rule {
+    /// No token begins with this byte.
+    BadByte,
+    /// A number is no number of its base, or too large.
+    BadNumber,
+    /// A comment has no end.
+    OpenComment,
+    /// A form of the standard's tokens is left out.
+    UnsupportedForm,
+    /// An item, or a form of one, is not built so far.
+    NotBuilt,
+    /// No text of the grammar goes on with this token, or ends here.
+    Unexpected,
+    /// A word or a construct of the standard is left out.
+    UnsupportedWord,
+    /// More than 64 levels are open.
+    TooDeep,
+    /// An expression has more than 1,024 tokens, or a case more than 256 arms.
+    TooLong,
+    /// A lattice has no point, or more than 32.
+    LatticeSize,
+    /// A point is declared twice, or not at all.
+    LatticeName,
+    /// Two points flow to each other.
+    Circle,
+    /// Two points have no least upper point.
+    NoJoin,
+    /// Two points have no greatest lower point.
+    NoMeet,
+    /// A label map is declared twice.
+    MapName,
+    /// A row of a label map is none of its values, has no point, or stands twice.
+    MapRow,
+    /// A label map says nothing of a value.
+    MapHole,
+    /// There is no module to begin with.
+    NoTop,
+    /// There is no module of this name.
+    UnknownModule,
+    /// A name is declared twice.
+    Twice,
+    /// A connection of an instance is not one to a port.
+    Port,
+    /// A module would stand inside itself.
+    Recursive,
+    /// A design has more than 4,096 signals or 1,024 instances.
+    TooMany,
+    /// An override of a parameter is none, or no constant.
+    Parameter,
+    /// A name stands for nothing here.
+    UnknownName,
+    /// An expression or signal is longer than 64 bits.
+    TooWide,
+    /// A bit or part lies outside its signal, or is none of a signal.
+    BadSelect,
+    /// A constant is wanted, and this is none.
+    NotConstant,
+    /// A divisor is 0.
+    ZeroDivisor,
+    /// An operand of `/` or `%` is a signal.
+    Division,
+    /// A number without a size stands directly in braces.
+    UnsizedPart,
+    /// A replication count is not 1 to 64.
+    BadCount,
+    /// A range is not `[m:0]` with m from 0 to 63.
+    BadRange,
+    /// A label is wrong.
+    Label,
+    /// A process assigns what it may not, or as it may not.
+    WrongAssign,
+    /// A clock is read or driven as data.
+    Clock,
+    /// A signal has two drivers.
+    Drivers,
+    /// A signal has no driver.
+    Undriven,
+    /// A block does not assign a signal on every path.
+    Latch,
+    /// A block reads a signal before it has its value.
+    Phase,
+    /// Signals read each other in a circle.
+    Loop,
+    /// A design has more than 1,048,576 bytes.
+    FileSize,
+    /// A target has more than 4,096 paths.
+    Paths,
+    /// A design has more than 65,536 obligations.
+    Obligations,
+    /// A stimulus is too large.
+    StimulusSize,
+    /// A sample has not 1 to 200 lanes.
+    Gen,
+    /// There is no obligation of this number.
+    NoObligation,
+    /// There is no point of this name.
+    Level,
+    /// An encoding has more than 4,194,304 variables.
+    Encoding,
+    /// A certificate has more than 268,435,456 bytes.
+    ProofSize,
+    /// A file of a stimulus is too large.
+    StimulusFile,
+    /// An obligation is too large.
+    ObligationSize,
+}
+
+const RULES: [Rule; 52] = [
+    Rule::BadByte,
+    Rule::BadNumber,
+    Rule::OpenComment,
+    Rule::UnsupportedForm,
+    Rule::NotBuilt,
+    Rule::Unexpected,
+    Rule::UnsupportedWord,
+    Rule::TooDeep,
+    Rule::TooLong,
+    Rule::LatticeSize,
+    Rule::LatticeName,
+    Rule::Circle,
+    Rule::NoJoin,
+    Rule::NoMeet,
+    Rule::MapName,
+    Rule::MapRow,
+    Rule::MapHole,
+    Rule::NoTop,
+    Rule::UnknownModule,
+    Rule::Twice,
+    Rule::Port,
+    Rule::Recursive,
+    Rule::TooMany,
+    Rule::Parameter,
+    Rule::UnknownName,
+    Rule::TooWide,
+    Rule::BadSelect,
+    Rule::NotConstant,
+    Rule::ZeroDivisor,
+    Rule::Division,
+    Rule::UnsizedPart,
+    Rule::BadCount,
+    Rule::BadRange,
+    Rule::Label,
+    Rule::WrongAssign,
+    Rule::Clock,
+    Rule::Drivers,
+    Rule::Undriven,
+    Rule::Latch,
+    Rule::Phase,
+    Rule::Loop,
+    Rule::FileSize,
+    Rule::Paths,
+    Rule::Obligations,
+    Rule::StimulusSize,
+    Rule::Gen,
+    Rule::NoObligation,
+    Rule::Level,
+    Rule::Encoding,
+    Rule::ProofSize,
+    Rule::StimulusFile,
+    Rule::ObligationSize,
+];
+
+// The first of the rules with the number.
+fn rule_among(number: u16, rules: &[Rule]) -> Option<&Rule>
+    ensures { option_copied result ≡ find (λ rule. nat_eq (rule_number rule) number) rules.now }
+{
+    rules.iter().find(|rule| rule.number() == number)
+}
+
+impl Rule {
+    /// The number that a refusal gives.
+    pub fn number(self) -> u16
+        ensures { result ≡ rule_number self }
+    {
+        match self {
+            Rule::BadByte => 101,
+            Rule::BadNumber => 102,
+            Rule::OpenComment => 103,
+            Rule::UnsupportedForm => 104,
+            Rule::NotBuilt => 199,
+            Rule::Unexpected => 201,
+            Rule::UnsupportedWord => 202,
+            Rule::TooDeep => 203,
+            Rule::TooLong => 204,
+            Rule::LatticeSize => 301,
+            Rule::LatticeName => 302,
+            Rule::Circle => 303,
+            Rule::NoJoin => 304,
+            Rule::NoMeet => 305,
+            Rule::MapName => 306,
+            Rule::MapRow => 307,
+            Rule::MapHole => 308,
+            Rule::NoTop => 310,
+            Rule::UnknownModule => 311,
+            Rule::Twice => 312,
+            Rule::Port => 313,
+            Rule::Recursive => 314,
+            Rule::TooMany => 315,
+            Rule::Parameter => 316,
+            Rule::UnknownName => 401,
+            Rule::TooWide => 402,
+            Rule::BadSelect => 403,
+            Rule::NotConstant => 404,
+            Rule::ZeroDivisor => 405,
+            Rule::Division => 406,
+            Rule::UnsizedPart => 407,
+            Rule::BadCount => 408,
+            Rule::BadRange => 409,
+            Rule::Label => 410,
+            Rule::WrongAssign => 601,
+            Rule::Clock => 602,
+            Rule::Drivers => 603,
+            Rule::Undriven => 604,
+            Rule::Latch => 605,
+            Rule::Phase => 606,
+            Rule::Loop => 607,
+            Rule::FileSize => 701,
+            Rule::Paths => 702,
+            Rule::Obligations => 703,
+            Rule::StimulusSize => 704,
+            Rule::Gen => 705,
+            Rule::NoObligation => 706,
+            Rule::Level => 707,
+            Rule::Encoding => 709,
+            Rule::ProofSize => 710,
+            Rule::StimulusFile => 711,
+            Rule::ObligationSize => 712,
+        }
+    }
+
+    /// The name that a refusal gives.
+    pub fn name(self) -> &'static str
+        ensures { result.now ≡ rule_name self }
+    {
+        match self {
+            Rule::BadByte => "bad-byte",
+            Rule::BadNumber => "bad-number",
+            Rule::OpenComment => "open-comment",
+            Rule::UnsupportedForm => "unsupported",
+            Rule::NotBuilt => "not-built",
+            Rule::Unexpected => "unexpected",
+            Rule::UnsupportedWord => "unsupported",
+            Rule::TooDeep => "too-deep",
+            Rule::TooLong => "too-long",
+            Rule::LatticeSize => "lattice-size",
+            Rule::LatticeName => "lattice-name",
+            Rule::Circle => "circle",
+            Rule::NoJoin => "no-join",
+            Rule::NoMeet => "no-meet",
+            Rule::MapName => "map-name",
+            Rule::MapRow => "map-row",
+            Rule::MapHole => "map-hole",
+            Rule::NoTop => "no-top",
+            Rule::UnknownModule => "unknown-module",
+            Rule::Twice => "twice",
+            Rule::Port => "port",
+            Rule::Recursive => "recursive",
+            Rule::TooMany => "too-many",
+            Rule::Parameter => "parameter",
+            Rule::UnknownName => "unknown-name",
+            Rule::TooWide => "too-wide",
+            Rule::BadSelect => "bad-select",
+            Rule::NotConstant => "not-constant",
+            Rule::ZeroDivisor => "zero-divisor",
+            Rule::Division => "division",
+            Rule::UnsizedPart => "unsized-part",
+            Rule::BadCount => "bad-count",
+            Rule::BadRange => "bad-range",
+            Rule::Label => "label",
+            Rule::WrongAssign => "wrong-assign",
+            Rule::Clock => "clock",
+            Rule::Drivers => "drivers",
+            Rule::Undriven => "undriven",
+            Rule::Latch => "latch",
+            Rule::Phase => "phase",
+            Rule::Loop => "loop",
+            Rule::FileSize => "file-size",
+            Rule::Paths => "paths",
+            Rule::Obligations => "obligations",
+            Rule::StimulusSize => "stimulus-size",
+            Rule::Gen => "gen",
+            Rule::NoObligation => "no-obligation",
+            Rule::Level => "level",
+            Rule::Encoding => "encoding",
+            Rule::ProofSize => "proof-size",
+            Rule::StimulusFile => "stimulus-file",
+            Rule::ObligationSize => "obligation-size",
+        }
+    }
+
+    /// The rule or limit with this number.
+    pub fn numbered(number: u16) -> Option<Rule>
+        ensures { result ≡ find (λ rule. nat_eq (rule_number rule) number) rules }
+    {
+        rule_among(number, &RULES).copied()
+    }
+}

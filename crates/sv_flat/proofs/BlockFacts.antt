@@ -1,5 +1,5 @@
--- What the rules of blocks say: every read that serves a target is settled and lies below it, and
--- is assigned before where the block assigns it; at the end every bit is assigned.
+-- What the rules of blocks say: a settled read for what a target follows lies below the target, a
+-- read of what the block assigns is assigned before; at the end every bit is assigned.
 use Rattle.std.proofs.Common.{ℕ, ◌+◌, ◌<◌, ◌≤◌, Bool, not, ◌&&◌, ◌||◌, ◌==◌, nat_le, ltb-true, List}
 use Rattle.std.proofs.Common.{[], ◌∷◌, ◌++◌, length, map, ◌⊎◌, inl, inr, ⊎_elim, refl, sym, ap}
 use Rattle.std.proofs.Common.{subst, ◌∙◌, arith}
@@ -27,7 +27,7 @@ use Rattle.sv_flat.specs.Breaches.{breach}
 use Rattle.sv_flat.specs.Admission.{IsAdmitted}
 use Rattle.sv_flat.proofs.Members.{Contains-left, Contains-right, Contains-either}
 use Rattle.sv_flat.proofs.LeastSets.{either_way, or_cases, range_has, some_from, from_some}
-use Rattle.sv_flat.proofs.LeastSets.{least_set_has}
+use Rattle.sv_flat.proofs.LeastSets.{least_set_has, least_set_closed, least_set_least}
 use Rattle.sv_flat.proofs.Depths.{first_of, second_of, from_all, reads_are_lower}
 use Rattle.sv_flat.proofs.SameRuns.{or_none_left, none_found, all_blocking}
 use Rattle.sv_flat.proofs.ReadSignals.{readings_signals}
@@ -220,62 +220,109 @@ module _ (design : FlatDesign) (is_sound : IsTrue (sound design))
       (filter (is_out_of_phase design.signals q.body) (process_readings design q))) (blocks design)
       (phases design is_sound admitted) p (in_blocks p at block)) r r_at
 
-  -- every read is settled
-  pub is_settled : (p : ProcessForm) → Contains (processes_of design) p → (r : Reading)
-      → Contains (process_readings design p) r
-      → IsFalse (is_earlier design p r)
-  is_settled p at r r_at = none_found (is_earlier design p r) (λ earlier.
-      let block = first_of (is_block p.kind) (is_followed design.signals r) earlier in
-      let follows = second_of (is_block p.kind) (is_followed design.signals r) earlier in
+  -- what a block reads of what it assigns is assigned on every path to the read
+  none_unassigned : (p : ProcessForm) → Contains (processes_of design) p → IsTrue (is_block p.kind)
+      → (r : Reading) → Contains (process_readings design p) r
+      → IsTrue (assigns p.body r.name.signal) → IsFalse (is_unassigned design.signals r)
+  none_unassigned p at block r r_at own = none_found (is_unassigned design.signals r) (λ missing.
       false≢true (sym (in_phase p at block r r_at)
       ∙ and_true (assigns p.body r.name.signal) (is_unassigned design.signals r
-      || is_followed design.signals r)
-      (followed_is_assigned design.signals p.body r r_at follows)
-      (or_right (is_unassigned design.signals r) (is_followed design.signals r) follows)))
+      || is_followed design.signals r) own
+      (or_left (is_unassigned design.signals r) (is_followed design.signals r) missing)))
 
-  -- what is read for a target is read for it in the design
-  pub serves_is_read : (p : ProcessForm) (t : ℕ) → Contains (processes_of design) p
-      → IsTrue (assigns p.body t) → (r : Reading)
-      → Contains (process_readings design p) r → IsTrue (r.serves t)
-      → IsTrue (is_read_for design t r.name.signal)
-  serves_is_read p t at assigned r r_at served =
-      let x = r.name.signal in
-      let inside = assigned_is_signal design.signals p.body
-      (body_is_sound design is_sound admitted p at) t assigned in
-      let targets_of = followed design p t in
-      let among = least_set_has (length design.signals) (wants design p) (t ∷ [])
-      (λ k k_at. ⊎_elim (λ e.
-      subst (λ z. z < length design.signals) e (ltb-true t (length design.signals) inside))
-      (λ l. absurd (Contains-nil k l)) (Contains-cases t [] k k_at))
-      t (Contains-head t []) in
-      let settled = and_true (not (is_earlier design p r) && list_any r.serves targets_of) (x == x)
-      (and_true (not (is_earlier design p r)) (list_any r.serves targets_of)
-      (ap not (is_settled p at r r_at))
-      (some_from r.serves targets_of t among served))
-      (eq-eqb x x refl) in
-      or_right (is_register design t && (t == x))
-      (list_any (λ q. reads_settled design q (followed design q t) x)
-      (drivers (processes_of design) t))
-      (some_from (λ q. reads_settled design q (followed design q t) x)
-      (drivers (processes_of design) t) p
-      (drives design is_sound admitted p t at assigned)
-      (some_from (λ (z : Reading).
-      not (is_earlier design p z) && list_any z.serves targets_of && (z.name.signal == x))
-      (process_readings design p) r r_at settled))
+  -- ---- what is followed
 
-  -- and lies below it
-  pub serves_is_lower : (p : ProcessForm) (t : ℕ) → Contains (processes_of design) p
-      → IsFalse (is_clocked p.kind)
-      → IsTrue (assigns p.body t)
-      → (r : Reading) → Contains (process_readings design p) r → IsTrue (r.serves t)
-      → depth design r.name.signal < depth design t
-  serves_is_lower p t at unclocked assigned r r_at served =
-      reads_are_lower design admitted.ordered t r.name.signal
-      (targets_are_combinational design is_sound admitted p t at unclocked assigned)
-      (ltb-true r.name.signal (length design.signals)
-      (readings_signals design.signals p.body no_bits no_bits
-      (body_is_sound design is_sound admitted p at) r r_at))
-      (serves_is_read p t at assigned r r_at served)
+  -- what an earlier read names is assigned
+  pub earlier_is_assigned : (p : ProcessForm) (r : Reading) → Contains (process_readings design p) r
+      → IsTrue (is_earlier design p r)
+      → IsTrue (assigns p.body r.name.signal)
+  earlier_is_assigned p r r_at earlier =
+      followed_is_assigned design.signals p.body r r_at
+      (second_of (is_block p.kind) (is_followed design.signals r) earlier)
+
+  -- a target that the process assigns, with all that it follows
+  module _ (p : ProcessForm) (at : Contains (processes_of design) p) (t : ℕ)
+      (assigned : IsTrue (assigns p.body t)) where
+    abbrev n : ℕ
+    n = length design.signals
+
+    begins : (k : ℕ) → Contains (t ∷ []) k → k < n
+    begins k k_at = ⊎_elim
+        (λ e. subst (λ z. z < n) e (ltb-true t n
+        (assigned_is_signal design.signals p.body (body_is_sound design is_sound admitted p at) t
+        assigned)))
+        (λ l. absurd (Contains-nil k l)) (Contains-cases t [] k k_at)
+
+    -- the target follows itself
+    pub follows_itself : Contains (followed design p t) t
+    follows_itself = least_set_has n (wants design p) (t ∷ []) begins t (Contains-head t [])
+
+    -- and what an earlier read names for a signal that it follows
+    pub follows_earlier : (w : ℕ) → Contains (followed design p t) w → (r : Reading)
+        → Contains (process_readings design p) r → IsTrue (r.serves w)
+        → IsTrue (is_earlier design p r) → Contains (followed design p t) r.name.signal
+    follows_earlier w w_at r r_at served earlier =
+        let x = r.name.signal in
+        least_set_closed n (wants design p) (t ∷ []) begins w x w_at
+        (some_from (λ (z : Reading). is_earlier design p z && z.serves w && (z.name.signal == x))
+        (process_readings design p) r r_at
+        (and_true (is_earlier design p r && r.serves w) (x == x)
+        (and_true (is_earlier design p r) (r.serves w) earlier served) (eq-eqb x x refl)))
+        (ltb-true x n (readings_signals design.signals p.body no_bits no_bits
+        (body_is_sound design is_sound admitted p at) r r_at))
+
+    -- all that is followed is assigned
+    pub follows_targets : (w : ℕ) → Contains (followed design p t) w → IsTrue (assigns p.body w)
+    follows_targets w w_at =
+        least_set_least n (wants design p) (t ∷ []) begins (λ z. IsTrue (assigns p.body z))
+        (λ k k_at. ⊎_elim (λ e. subst (λ z. IsTrue (assigns p.body z)) e assigned) (λ l.
+        absurd (Contains-nil k l)) (Contains-cases t [] k k_at))
+        (λ m k own wanted below.
+        let found = from_some (λ (z : Reading).
+        is_earlier design p z && z.serves m && (z.name.signal == k)) (process_readings design p)
+        wanted in
+        let r = found.0 in
+        let front = is_earlier design p r && r.serves m in
+        subst (λ z. IsTrue (assigns p.body z))
+        (eqb-true r.name.signal k (second_of front (r.name.signal == k) found.2))
+        (earlier_is_assigned p r found.1 (first_of (is_earlier design p r) (r.serves m)
+        (first_of front (r.name.signal == k) found.2))))
+        w w_at
+
+    -- what a settled read names for a signal that the target follows is read for the target
+    pub settled_is_read : (w : ℕ) → Contains (followed design p t) w → (r : Reading)
+        → Contains (process_readings design p) r → IsTrue (r.serves w)
+        → IsFalse (is_earlier design p r) → IsTrue (is_read_for design t r.name.signal)
+    settled_is_read w w_at r r_at served late =
+        let x = r.name.signal in
+        let targets_of = followed design p t in
+        let settled = and_true (not (is_earlier design p r) && list_any r.serves targets_of)
+        (x == x)
+        (and_true (not (is_earlier design p r)) (list_any r.serves targets_of) (ap not late)
+        (some_from r.serves targets_of w w_at served))
+        (eq-eqb x x refl) in
+        or_right (is_register design t && (t == x))
+        (list_any (λ q. reads_settled design q (followed design q t) x)
+        (drivers (processes_of design) t))
+        (some_from (λ q. reads_settled design q (followed design q t) x)
+        (drivers (processes_of design) t) p
+        (drives design is_sound admitted p t at assigned)
+        (some_from (λ (z : Reading).
+        not (is_earlier design p z) && list_any z.serves targets_of && (z.name.signal == x))
+        (process_readings design p) r r_at settled))
+
+    -- and lies below it
+    pub settled_is_lower : IsFalse (is_clocked p.kind) → (w : ℕ)
+        → Contains (followed design p t) w → (r : Reading)
+        → Contains (process_readings design p) r → IsTrue (r.serves w)
+        → IsFalse (is_earlier design p r) → depth design r.name.signal < depth design t
+    settled_is_lower unclocked w w_at r r_at served late =
+        reads_are_lower design admitted.ordered t r.name.signal
+        (targets_are_combinational design is_sound admitted p t at unclocked assigned)
+        (ltb-true r.name.signal n
+        (readings_signals design.signals p.body no_bits no_bits
+        (body_is_sound design is_sound admitted p at) r r_at))
+        (settled_is_read w w_at r r_at served late)
 
   is_one : (p : ProcessForm) → Contains (processes_of design) p → IsFalse (is_clocked p.kind)
       → IsFalse (is_block p.kind)
@@ -295,21 +342,20 @@ module _ (design : FlatDesign) (is_sound : IsTrue (sound design))
   own_is_assigned p t at unclocked assigned r r_at served own b from to below = ⊎_elim
       (λ block. negated_false (r.assigned r.name.signal b)
       (none_found (not (r.assigned r.name.signal b)) (λ missing.
-      false≢true (sym (in_phase p at block r r_at)
-      ∙ and_true (assigns p.body r.name.signal) (is_unassigned design.signals r
-      || is_followed design.signals r) own
-      (or_left (is_unassigned design.signals r) (is_followed design.signals r)
-      (some_from (λ c. nat_le r.name.low c && nat_le c r.name.high
+      false≢true (sym (none_unassigned p at block r r_at own)
+      ∙ some_from (λ c. nat_le r.name.low c && nat_le c r.name.high
       && not (r.assigned r.name.signal c))
       (range_with_len 0 (signal_width design.signals r.name.signal)) b
       (range_has (signal_width design.signals r.name.signal) b below)
       (and_true (nat_le r.name.low b && nat_le b r.name.high) (not (r.assigned r.name.signal b))
       (and_true (nat_le r.name.low b) (nat_le b r.name.high) (le-leb r.name.low b from)
-      (le-leb b r.name.high to)) missing)))))))
+      (le-leb b r.name.high to)) missing)))))
       (λ no_block.
-      let self = serves_is_lower p r.name.signal at unclocked own r r_at
+      let self = settled_is_lower p at r.name.signal own unclocked r.name.signal
+      (follows_itself p at r.name.signal own) r r_at
       (one_serves design.signals p.body (is_one p at unclocked no_block) r r_at
-      r.name.signal own) in
+      r.name.signal own)
+      (ap (λ z. z && is_followed design.signals r) no_block) in
       absurd (omega arith))
       (either_way (is_block p.kind))
 
@@ -364,3 +410,37 @@ module _ (design : FlatDesign) (is_sound : IsTrue (sound design))
       (or_none_left (is_wrong_sign p.kind t.blocking) _ (or_none_left _ _ right))))
       (λ no_block. one_is_blocking design.signals p.body (is_one p at unclocked no_block))
       (either_way (is_block p.kind))
+
+  -- ---- as long as no block reads what it can assign again
+
+  -- every read is settled
+  pub is_settled : (p : ProcessForm) → Contains (processes_of design) p → (r : Reading)
+      → Contains (process_readings design p) r
+      → IsFalse (is_earlier design p r)
+  is_settled p at r r_at = none_found (is_earlier design p r) (λ earlier.
+      let block = first_of (is_block p.kind) (is_followed design.signals r) earlier in
+      let follows = second_of (is_block p.kind) (is_followed design.signals r) earlier in
+      false≢true (sym (in_phase p at block r r_at)
+      ∙ and_true (assigns p.body r.name.signal) (is_unassigned design.signals r
+      || is_followed design.signals r)
+      (earlier_is_assigned p r r_at earlier)
+      (or_right (is_unassigned design.signals r) (is_followed design.signals r) follows)))
+
+  -- what is read for a target is read for it in the design
+  pub serves_is_read : (p : ProcessForm) (t : ℕ) → Contains (processes_of design) p
+      → IsTrue (assigns p.body t) → (r : Reading)
+      → Contains (process_readings design p) r → IsTrue (r.serves t)
+      → IsTrue (is_read_for design t r.name.signal)
+  serves_is_read p t at assigned r r_at served =
+      settled_is_read p at t assigned t (follows_itself p at t assigned) r r_at served
+      (is_settled p at r r_at)
+
+  -- and lies below it
+  pub serves_is_lower : (p : ProcessForm) (t : ℕ) → Contains (processes_of design) p
+      → IsFalse (is_clocked p.kind)
+      → IsTrue (assigns p.body t)
+      → (r : Reading) → Contains (process_readings design p) r → IsTrue (r.serves t)
+      → depth design r.name.signal < depth design t
+  serves_is_lower p t at unclocked assigned r r_at served =
+      settled_is_lower p at t assigned unclocked t (follows_itself p at t assigned) r r_at served
+      (is_settled p at r r_at)

@@ -5,7 +5,6 @@ use Rattle.std.proofs.Common.{leb-true, ltb-true, lt-ltb, List, [], length, map,
 use Rattle.std.proofs.Common.{refl, sym, ap, subst, arith}
 use Rattle.std.specs.Prelude.{Contains, IsTrue, IsFalse}
 use Rattle.std.proofs.lemmas.Bool.{false≢true, or_left, eq-eqb, le-leb}
-use Rattle.std.proofs.lemmas.Nat.Bits.{same_from_bits_below}
 use Rattle.sv_system.specs.System.{Environment}
 use Rattle.sv_system.specs.Facts.{IsCombinational}
 use Rattle.sv_system.specs.Schedules.{Block, Scheduled}
@@ -14,23 +13,19 @@ use Rattle.sv_flat.specs.Design.{ProcessForm, FlatDesign}
 use Rattle.sv_flat.specs.Values.{signal_width}
 use Rattle.sv_flat.specs.Soundness.{is_signal, sound}
 use Rattle.sv_flat.specs.Assigned.{assigns, always_assigns}
-use Rattle.sv_flat.specs.Readings.{Reading, no_bits}
 use Rattle.sv_flat.specs.Processes.{is_clocked, is_top_input, is_register, signals_that}
 use Rattle.sv_flat.specs.Clocks.{is_clock, processes_of}
-use Rattle.sv_flat.specs.Reads.{is_combinational, depth, process_readings}
+use Rattle.sv_flat.specs.Reads.{is_combinational, is_read_for, depth}
 use Rattle.sv_flat.specs.FlatSystem.{flat_system, combinational_processes, run_of}
 use Rattle.sv_flat.specs.Admission.{IsAdmitted}
 use Rattle.sv_flat.proofs.LeastSets.{either_way, some_from, in_those, those_below, those_pass}
 use Rattle.sv_flat.proofs.LeastSets.{Contains-from_filter}
-use Rattle.sv_flat.proofs.Depths.{first_of, second_of}
-use Rattle.sv_flat.proofs.SameRuns.{or_none_left, or_none_right, none_found, run_leaves, Ready}
-use Rattle.sv_flat.proofs.SameRuns.{runs_agree}
-use Rattle.sv_flat.proofs.ReadSignals.{readings_signals}
+use Rattle.sv_flat.proofs.Depths.{first_of, second_of, reads_are_lower}
+use Rattle.sv_flat.proofs.SameRuns.{or_none_left, or_none_right, none_found, run_leaves}
 use Rattle.sv_flat.proofs.AdmittedFacts.{and_true, none_of_three, negated_true, some_width}
 use Rattle.sv_flat.proofs.AdmittedFacts.{body_is_sound, assigned_is_signal}
 use Rattle.sv_flat.proofs.AdmittedFacts.{targets_are_combinational, combinational_is_driven}
-use Rattle.sv_flat.proofs.ClockFacts.{reads_no_clock}
-use Rattle.sv_flat.proofs.BlockFacts.{serves_is_lower, own_is_assigned, assigns_all, is_blocking}
+use Rattle.sv_flat.proofs.RunReads.{same_values}
 
 no_input_alone : (a b : Bool) → IsFalse b → IsFalse (a && not b) → IsFalse a
 no_input_alone true true h k = absurd (false≢true (sym h))
@@ -115,85 +110,34 @@ module _ (design : FlatDesign) (is_sound : IsTrue (sound design))
     combinational t h =
         targets_are_combinational design is_sound admitted p t process (unclocked p at) h
 
-    -- the targets that lie no higher
-    abbrev wanted : ℕ → Bool
-    wanted t = assigns p.body t && nat_le (depth design t) (depth design s)
+    -- the signals that lie no higher
+    abbrev is_no_higher : ℕ → Bool
+    is_no_higher t = nat_le (depth design t) (depth design s)
 
-    abbrev Given : ℕ → Type 0
-    Given t = e t ≡ f t
-
-    below_target : (r : Reading) → Contains (process_readings design p) r → (t : ℕ)
-        → IsTrue (wanted t) → IsTrue (r.serves t)
-        → depth design r.name.signal < depth design s
-    below_target r r_at t want served =
-        let falls = serves_is_lower design is_sound admitted p t process (unclocked p at)
-        (first_of (assigns p.body t) (nat_le (depth design t) (depth design s)) want) r r_at
-        served in
-        let most = leb-true (depth design t) (depth design s)
-        (second_of (assigns p.body t) (nat_le (depth design t) (depth design s)) want) in
+    -- what is read for a target that lies no higher lies lower
+    below_target : (t r : ℕ) → IsTrue (is_no_higher t) → IsTrue (assigns p.body t)
+        → IsTrue (is_signal design.signals r)
+        → IsTrue (is_read_for design t r) → depth design r < depth design s
+    below_target t r among own inside read =
+        let falls = reads_are_lower design admitted.ordered t r (combinational t own)
+        (ltb-true r (length design.signals) inside) read in
+        let most = leb-true (depth design t) (depth design s) among in
         omega arith
-
-    given : (r : Reading) → Contains (process_readings design p) r
-        → IsFalse (assigns p.body r.name.signal)
-        → depth design r.name.signal < depth design s → Given r.name.signal
-    given r r_at out falls =
-        let x = r.name.signal in
-        let no_clock = reads_no_clock design is_sound admitted p x process
-        (some_from (λ (z : Reading). z.name.signal == x) (process_readings design p) r r_at
-        (eq-eqb x x refl)) in
-        let inside = readings_signals design.signals p.body no_bits no_bits
-        (body_is_sound design is_sound admitted p process) r r_at in
-        ⊎_elim
-        (λ top. inputs x (and_true (is_top_input design x) (not (is_clock design x)) top
-        (ap not no_clock)))
-        (λ no_top. ⊎_elim
-        (λ register. registers x register)
-        (λ no_register. lower x out
-        (and_true (is_signal design.signals x)
-        (not (is_top_input design x || is_register design x || is_clock design x)) inside
-        (none_of_three (is_top_input design x) (is_register design x) (is_clock design x) no_top
-        no_register no_clock))
-        falls)
-        (either_way (is_register design x)))
-        (either_way (is_top_input design x))
-
-    positive : (t : ℕ) → IsTrue (is_signal design.signals t) → 0 < signal_width design.signals t
-    positive t inside = some_width design is_sound admitted t inside
-
-    ready : (r : Reading) → Contains (process_readings design p) r →
-        Ready design.signals positive (assigns p.body) wanted Given r
-    ready r r_at t want served = ⊎_elim
-        (λ own. inr (
-          and_true (assigns p.body r.name.signal)
-              (nat_le (depth design r.name.signal) (depth design s)) own
-              (let falls = below_target r r_at t want served in
-              le-leb (depth design r.name.signal) (depth design s) (omega arith)),
-          own_is_assigned design is_sound admitted p t process (unclocked p at)
-              (first_of (assigns p.body t) (nat_le (depth design t) (depth design s)) want) r r_at
-              served own,
-        ))
-        (λ out. inl (out, given r r_at out (below_target r r_at t want served)))
-        (either_way (assigns p.body r.name.signal))
 
     pub same_target : run_of design p e s ≡ run_of design p f s
     same_target =
-        let inside = assigned_is_signal design.signals p.body
-        (body_is_sound design is_sound admitted p process) s assigned in
-        let w = signal_width design.signals s in
-        let want = and_true (assigns p.body s) (nat_le (depth design s) (depth design s)) assigned
-        (le-leb (depth design s) (depth design s) (omega arith)) in
-        let agrees = runs_agree design.signals positive (assigns p.body) wanted Given p.body no_bits
-        no_bits (e, []) (f, [])
-        (body_is_sound design is_sound admitted p process)
-        (is_blocking design is_sound admitted p process (unclocked p at))
-        (λ t h. h) ready
-        ((λ t out g. g), (λ t b want below h. absurd (false≢true h))) in
-        let bit = λ (b : ℕ) (below : b < w). agrees.1 s b want below
-        (or_left (always_assigns p.body s b) false
-        (assigns_all design is_sound admitted p s b process (unclocked p at) assigned below)) in
-        let lowest = bit 0 (positive s inside) in
-        same_from_bits_below w (run_of design p e s) (run_of design p f s) lowest.0 lowest.1
-        (λ b below. (bit b below).2)
+        same_values design is_sound admitted p process (unclocked p at) is_no_higher e f inputs
+        registers
+        (λ t r among own own_r read.
+        let falls = below_target t r among own
+        (assigned_is_signal design.signals p.body
+        (body_is_sound design is_sound admitted p process) r own_r) read in
+        le-leb (depth design r) (depth design s) (omega arith))
+        (λ t r among own out comb read.
+        lower r out comb (below_target t r among own
+        (first_of (is_signal design.signals r)
+        (not (is_top_input design r || is_register design r || is_clock design r)) comb) read))
+        s assigned (le-leb (depth design s) (depth design s) (omega arith))
 
   -- ---- the law's premises
 

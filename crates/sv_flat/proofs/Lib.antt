@@ -18,6 +18,7 @@ pub mod SameRuns
 pub mod AdmittedFacts
 pub mod ReadSignals
 pub mod ClockFacts
+pub mod RunReads
 pub mod FlatScheduled
 pub mod BlockFacts
 pub mod RunsFit

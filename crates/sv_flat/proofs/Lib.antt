@@ -21,6 +21,7 @@ pub mod ClockFacts
 pub mod RunReads
 pub mod FlatScheduled
 pub mod BlockFacts
+pub mod BranchFacts
 pub mod RunsFit
 pub mod SameUpdates
 pub mod SelectorBounds

@@ -7,6 +7,7 @@ pub mod ByNumber
 pub mod Clocks
 pub mod Design
 pub mod Views
+pub mod Branches
 pub mod Drivers
 pub mod FlatSystem
 pub mod Given

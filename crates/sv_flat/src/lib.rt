@@ -14,7 +14,8 @@
 //! order of `Breaches.antt`; `Assigned.antt`, `Readings.antt`, `Reads.antt`, `Processes.antt` and
 //! `SignalLists.antt` say what a design assigns, reads and lists. `Given.antt` says which values fit
 //! listed signals and what environment they give, and `Selectors.antt` which signals select a label.
-//! `Sets.antt` and `ByNumber.antt` have words for these. None is private.
+//! `Sets.antt` and `ByNumber.antt` have words for these. `Branches.antt` is private: it says how a
+//! copy goes; the meaning stands in `Views.antt`.
 #![tactic(auto)]
 
 mod bits;

@@ -1,5 +1,7 @@
 // Statements over typed expressions.
-ghost use Rattle.std.specs.Prelude.{◌≡◌, IfOk};
+ghost use Rattle.std.specs.Prelude.{◌≡◌, IfOk, IsFalse};
+ghost use Rattle.sv_flat.specs.ByNumber.{is_branch};
+ghost use Rattle.sv_flat.specs.Branches.{branches_around};
 ghost use Rattle.sv_flat.specs.Views.{flat_statement, flat_statements};
 
 use crate::expressions::FExpr;
@@ -43,36 +45,81 @@ pub enum FStmt {
 
 impl FStmt {
     /// A second statement that is equal. It fails where memory runs out.
-    // The calls go as deep as the tree. The `if`s of one `case` are at most 256 deep.
+    // No call goes down a chain of branches: a `case` may have many arms.
     #[cycle(statement_copy)]
     pub fn copy(&self, alloc: Global) -> Result<FStmt, AllocError>
         ensures { IfOk result (λ copy. flat_statement copy ≡ flat_statement self.now) }
     {
-        match self {
-            FStmt::Assign {
-                pieces,
-                place,
-                blocking,
-                value,
-            } => Ok(FStmt::Assign {
-                pieces: pieces.as_slice().to_vec(alloc)?,
+        let mut arms = Vec::new(alloc);
+        let mut rest = self;
+        while let FStmt::If {
+            place,
+            cond,
+            yes,
+            no,
+        } = rest
+        {
+            let cond = cond.copy(alloc)?;
+            let yes = boxed(yes, alloc)?;
+            arms.push(Arm {
                 place: *place,
-                blocking: *blocking,
-                value: value.copy(alloc)?,
-            }),
-            FStmt::Block(stmts) => Ok(FStmt::Block(copies(stmts, alloc)?)),
-            FStmt::If {
-                place,
                 cond,
                 yes,
-                no,
-            } => Ok(FStmt::If {
-                place: *place,
-                cond: cond.copy(alloc)?,
-                yes: boxed(yes, alloc)?,
-                no: boxed(no, alloc)?,
-            }),
+            })?;
+            rest = no;
         }
+        let last = plain_copy(rest, alloc)?;
+        branches(alloc, arms, last)
+    }
+}
+
+// A branch without its second arm.
+#[derive(Drop)]
+struct Arm {
+    place: Place,
+    cond: FExpr,
+    yes: Box<FStmt>,
+}
+
+// The chain of branches with these arms, of which the last statement is the second arm of the last.
+fn branches(alloc: Global, arms: Vec<Arm>, last: FStmt) -> Result<FStmt, AllocError>
+    ensures { IfOk result (λ chain.
+        flat_statement chain ≡ branches_around arms.items (flat_statement last)) }
+{
+    let mut arms = arms;
+    let mut chain = last;
+    while let Some(Arm { place, cond, yes }) = arms.pop() {
+        let no = Box::new(alloc, chain)?;
+        chain = FStmt::If {
+            place,
+            cond,
+            yes,
+            no,
+        };
+    }
+    Ok(chain)
+}
+
+// A copy of a statement that is no branch.
+#[cycle(statement_copy)]
+fn plain_copy(stmt: &FStmt, alloc: Global) -> Result<FStmt, AllocError>
+    requires plain { IsFalse (is_branch (flat_statement stmt.now)) }
+    ensures { IfOk result (λ copy. flat_statement copy ≡ flat_statement stmt.now) }
+{
+    match stmt {
+        FStmt::Assign {
+            pieces,
+            place,
+            blocking,
+            value,
+        } => Ok(FStmt::Assign {
+            pieces: pieces.as_slice().to_vec(alloc)?,
+            place: *place,
+            blocking: *blocking,
+            value: value.copy(alloc)?,
+        }),
+        FStmt::Block(stmts) => Ok(FStmt::Block(copies(stmts, alloc)?)),
+        FStmt::If { .. } => unreachable!(),
     }
 }
 

@@ -12,6 +12,7 @@ pub mod EntryFacts
 pub mod PieceFacts
 pub mod PhaseFacts
 pub mod Passes
+pub mod ArmFacts
 pub mod BlockPasses
 pub mod DriverNumbers
 pub mod MarkFacts

@@ -2,6 +2,7 @@ pub mod Numbers
 pub mod ReadForms
 pub mod Scopes
 pub mod Phases
+pub mod Arms
 pub mod Designs
 pub mod Tables
 pub mod Faults

@@ -1,13 +1,15 @@
 // Rules 605 and 606: an `always @*` keeps nothing from one run to the next.
 ghost use Rattle.std.specs.Prelude.{◌≡◌, ◌≤◌, ◌<◌, ℕ, Bool, true, false, ◌&&◌, ◌||◌, nat_le};
-ghost use Rattle.std.specs.Prelude.{nat_lt, [], ◌∷◌, length, IfOk, IsTrue};
+ghost use Rattle.std.specs.Prelude.{nat_lt, [], ◌∷◌, length, IfOk, IsTrue, IsFalse};
 ghost use Rattle.sv_flat.specs.Assigned.{assigns, always_assigns, can_assign};
 ghost use Rattle.sv_flat.specs.Blocks.{is_latched, latches, phase_faults};
+ghost use Rattle.sv_flat.specs.ByNumber.{is_branch};
 ghost use Rattle.sv_flat.specs.Design.{FlatStatement};
 ghost use Rattle.sv_flat.specs.Readings.{Reading, readings, readings_of};
 ghost use Rattle.sv_flat.specs.Soundness.{sound, statement_sound, well_formed};
 ghost use Rattle.sv_flat.specs.Views.{design_of, typed_tree, process_form, flat_statement};
 ghost use Rattle.sv_flat.specs.Views.{flat_statements, chain_of};
+ghost use Rattle.sv_design.specs.Arms.{both_of, common_bits, IsBackward, AreArms, AreConditions};
 ghost use Rattle.sv_design.specs.BitSets.{is_set, in_bits, has_some};
 ghost use Rattle.sv_design.specs.First.{FindsFirst};
 ghost use Rattle.sv_design.specs.declared.blocks.Asked.TheVariants.{Unassigned, Followed};
@@ -93,8 +95,20 @@ fn wrong_in(
     Ok(found)
 }
 
+// The bits of an arm that all arms before it have too, if there are any.
+fn common_with(alloc: Global, before: Option<Bits>, arm: Bits) -> Result<Bits, AllocError>
+    ensures { IfOk result (λ both.
+        SameBits (in_bits both) (both_of (common_bits before) (in_bits arm))) }
+{
+    match before {
+        Some(before) => before.common(&arm, alloc),
+        None => Ok(arm),
+    }
+}
+
 // The first read of a statement of a bit that is not assigned yet, of a signal with a bit in
-// `assigned`, and the bits that every path through the statement assigns.
+// `assigned`, and the bits that every path through the statement assigns. No call goes down a chain
+// of branches: a `case` may have many arms.
 #[cycle(forward)]
 fn forward(
     alloc: Global,
@@ -113,22 +127,60 @@ fn forward(
         (readings (design_of flat.now).signals (flat_statement stmt.now)) both.0
         × SameBits (in_bits both.1) (always_assigns (flat_statement stmt.now))) }
 {
-    let asked = Asked::Unassigned(assigned);
+    let mut found = None;
+    let mut common = None;
+    let mut rest = stmt;
+    while let FStmt::If { cond, yes, no, .. } = rest {
+        let in_cond = wrong_in(
+            alloc,
+            flat,
+            zeros,
+            Asked::Unassigned(assigned),
+            cond,
+            around,
+        )?;
+        let (in_yes, by_yes) = forward(alloc, flat, zeros, assigned, yes, around)?;
+        let in_arm = first_of(in_cond, in_yes);
+        found = first_of(found, in_arm);
+        let more = common_with(alloc, common, by_yes)?;
+        common = Some(more);
+        rest = no;
+    }
+    let (in_last, by_last) = forward_plain(alloc, flat, zeros, assigned, rest, around)?;
+    let always = common_with(alloc, common, by_last)?;
+    Ok((first_of(found, in_last), always))
+}
+
+// The same of a statement that is no branch.
+#[cycle(forward)]
+fn forward_plain(
+    alloc: Global,
+    flat: &Flat,
+    zeros: &[u64],
+    assigned: &Bits,
+    stmt: &FStmt,
+    around: &Scope,
+) -> Result<(Option<Found>, Bits), AllocError>
+    requires plain { IsFalse (is_branch (flat_statement stmt.now)) }
+    requires sound { IsTrue (sound (design_of flat.now)) }
+    requires zeros { AreZeros (length flat.now.signals.items) zeros.now }
+    requires stmt { IsTrue
+        (statement_sound (design_of flat.now).signals (flat_statement stmt.now)) }
+    ensures { IfOk result (λ both.
+        FindsReads (design_of flat.now).signals (Unassigned assigned.entry) (in_scope around.now)
+        (readings (design_of flat.now).signals (flat_statement stmt.now)) both.0
+        × SameBits (in_bits both.1) (always_assigns (flat_statement stmt.now))) }
+{
     match stmt {
         FStmt::Assign { pieces, value, .. } => {
+            let asked = Asked::Unassigned(assigned);
             let found = wrong_in(alloc, flat, zeros, asked, value, around)?;
             let mut bits = Bits::new(alloc);
             bits.add_pieces(pieces)?;
             Ok((found, bits))
         }
         FStmt::Block(stmts) => forward_all(alloc, flat, zeros, assigned, stmts, around),
-        FStmt::If { cond, yes, no, .. } => {
-            let found = wrong_in(alloc, flat, zeros, asked, cond, around)?;
-            let (in_yes, by_yes) = forward(alloc, flat, zeros, assigned, yes, around)?;
-            let (in_no, by_no) = forward(alloc, flat, zeros, assigned, no, around)?;
-            let both = by_yes.common(&by_no, alloc)?;
-            Ok((first_of(first_of(found, in_yes), in_no), both))
-        }
+        FStmt::If { .. } => unreachable!(),
     }
 }
 
@@ -162,8 +214,47 @@ fn forward_all(
     Ok((found, here))
 }
 
+/// The first arm of a branch, with the first read in it of a bit that can be assigned again, and the
+/// bits that it can assign.
+#[derive(Drop)]
+pub struct Arm<'a> {
+    pub cond: &'a FExpr,
+    pub found: Option<Found>,
+    pub bits: Bits,
+}
+
+// From what is known of the last arm of a chain of branches back: what is known of the whole chain.
+fn backward_arms(
+    alloc: Global,
+    flat: &Flat,
+    zeros: &[u64],
+    arms: Vec<Arm>,
+    last: (Option<Found>, Bits),
+    around: &Scope,
+) -> Result<(Option<Found>, Bits), AllocError>
+    requires sound { IsTrue (sound (design_of flat.now)) }
+    requires zeros { AreZeros (length flat.now.signals.items) zeros.now }
+    requires conds { AreConditions (design_of flat.now).signals arms.items }
+    ensures { (rest whole : FlatStatement)
+        → AreArms (design_of flat.now).signals (in_scope around.now) arms.entry.items rest whole
+        → IsBackward (design_of flat.now).signals (in_scope around.now) rest last.0 last.1
+        → IfOk result (λ both.
+        IsBackward (design_of flat.now).signals (in_scope around.now) whole both.0 both.1) }
+{
+    let mut arms = arms;
+    let (mut found, mut bits) = last;
+    while let Some(arm) = arms.pop() {
+        bits.add_all(&arm.bits)?;
+        let inside = Scope::Inside(&bits, &*around);
+        let in_cond = wrong_in(alloc, flat, zeros, Asked::Followed, arm.cond, &inside)?;
+        let in_arm = first_of(in_cond, arm.found);
+        found = first_of(in_arm, found);
+    }
+    Ok((found, bits))
+}
+
 // The first read of a statement of a bit that can be assigned again, and the bits that the
-// statement can assign.
+// statement can assign. No call goes down a chain of branches: a `case` may have many arms.
 #[cycle(backward)]
 fn backward(
     alloc: Global,
@@ -172,6 +263,36 @@ fn backward(
     stmt: &FStmt,
     around: &Scope,
 ) -> Result<(Option<Found>, Bits), AllocError>
+    requires sound { IsTrue (sound (design_of flat.now)) }
+    requires zeros { AreZeros (length flat.now.signals.items) zeros.now }
+    requires stmt { IsTrue
+        (statement_sound (design_of flat.now).signals (flat_statement stmt.now)) }
+    ensures { IfOk result (λ both.
+        FindsReads (design_of flat.now).signals Followed (in_scope around.now)
+        (readings (design_of flat.now).signals (flat_statement stmt.now)) both.0
+        × SameBits (in_bits both.1) (can_assign (flat_statement stmt.now))) }
+{
+    let mut arms = Vec::new(alloc);
+    let mut rest = stmt;
+    while let FStmt::If { cond, yes, no, .. } = rest {
+        let (found, bits) = backward(alloc, flat, zeros, yes, around)?;
+        arms.push(Arm { cond, found, bits })?;
+        rest = no;
+    }
+    let last = backward_plain(alloc, flat, zeros, rest, around)?;
+    backward_arms(alloc, flat, zeros, arms, last, around)
+}
+
+// The same of a statement that is no branch.
+#[cycle(backward)]
+fn backward_plain(
+    alloc: Global,
+    flat: &Flat,
+    zeros: &[u64],
+    stmt: &FStmt,
+    around: &Scope,
+) -> Result<(Option<Found>, Bits), AllocError>
+    requires plain { IsFalse (is_branch (flat_statement stmt.now)) }
     requires sound { IsTrue (sound (design_of flat.now)) }
     requires zeros { AreZeros (length flat.now.signals.items) zeros.now }
     requires stmt { IsTrue
@@ -190,14 +311,7 @@ fn backward(
             Ok((found, bits))
         }
         FStmt::Block(stmts) => backward_all(alloc, flat, zeros, stmts, around),
-        FStmt::If { cond, yes, no, .. } => {
-            let (in_yes, by_yes) = backward(alloc, flat, zeros, yes, around)?;
-            let (in_no, mut bits) = backward(alloc, flat, zeros, no, around)?;
-            bits.add_all(&by_yes)?;
-            let inside = Scope::Inside(&bits, &*around);
-            let found = wrong_in(alloc, flat, zeros, Asked::Followed, cond, &inside)?;
-            Ok((first_of(first_of(found, in_yes), in_no), bits))
-        }
+        FStmt::If { .. } => unreachable!(),
     }
 }
 

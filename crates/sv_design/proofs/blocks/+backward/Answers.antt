@@ -1,51 +1,82 @@
-use Rattle.std.proofs.Common.{◌≡◌, ◌+◌, ◌-◌, ◌<◌, ◌||◌, length, get_or, drop, refl, sym, ap, ap₂}
-use Rattle.std.proofs.Common.{subst, ◌∙◌, arith, rules, Option}
+use Rattle.std.proofs.Common.{◌≡◌, ◌+◌, ◌-◌, ◌<◌, length, get_or, drop, refl, sym, ap}
+use Rattle.std.proofs.Common.{subst, arith, rules, Option}
 use Rattle.std.proofs.lemmas.Bool.{and_parts}
 use Rattle.std.specs.Prelude.{IsTrue, IfOk}
 use Rattle.sv_flat.specs.Assigned.{assigns, can_assign}
-use Rattle.sv_flat.specs.Design.{assign, branch}
-use Rattle.sv_flat.specs.Readings.{readings, readings_of, either}
+use Rattle.sv_flat.specs.Design.{assign}
+use Rattle.sv_flat.specs.Readings.{readings, readings_of}
 use Rattle.sv_flat.specs.Soundness.{statement_sound}
 use Rattle.sv_flat.specs.Views.{design_of, typed_tree, flat_statement, flat_statements, chain_of}
 use Rattle.sv_flat.specs.declared.statements.FStmt.{the_lemmas}
+use Rattle.sv_flat.proofs.NumberedRuns.{no_branch}
 use Rattle.sv_design.specs.declared.bits.Bits.{Bits}
 use Rattle.sv_design.specs.declared.blocks.Asked.TheVariants.{Followed}
 use Rattle.sv_design.specs.declared.found.Found.{Found}
 use Rattle.sv_design.specs.BitSets.{in_bits, piece_forms}
 use Rattle.sv_design.specs.Phases.{SameBits, FindsReads}
 use Rattle.sv_design.specs.Scopes.{in_scope}
-use Rattle.sv_design.proofs.Passes.{sound_at, or_turned, only_pieces, reads_inside, three_reads}
-use Rattle.sv_design.proofs.Passes.{backward_more}
+use Rattle.sv_design.proofs.ArmFacts.{open_begin, open_more}
+use Rattle.sv_design.proofs.Passes.{sound_at, only_pieces, reads_inside, backward_more}
 use Rattle.sv_design.proofs.Sound.{branch_is, sound_as, block_is, next_statement}
 use Rattle.sv_design.proofs.blocks.+backward.Goals as goal
 
-pub backward-wrong_in-requires-clause-formed : goal.backward-wrong_in-requires-clause-formed
-backward-wrong_in-requires-clause-formed t c =
-    (and_parts _ _
-    (sound_as (design_of c.args.flat.now).signals c.in-Assign.is c.requires.stmt)).0
-
-pub backward-backward-requires-in-If : goal.backward-backward-requires-in-If
-backward-backward-requires-in-If t c =
+pub backward-backward-requires : goal.backward-backward-requires
+backward-backward-requires t c =
     let signals = (design_of c.args.flat.now).signals in (
       search (rules, the_lemmas),
       (
         c.requires.sound,
         (
           c.requires.zeros,
-          sound_as signals (sym c.deref-in-If-2.ensures)
-              (and_parts _ _ (sound_as signals c.in-If.is c.requires.stmt)).1,
+          sound_as signals (sym c.deref.ensures)
+              (and_parts _ _ (and_parts _ _
+              (sound_as signals c.in-If.is c.loop-rest.invariant.0.is_sound)).0).1,
         ),
       ),
     )
 
-pub backward-wrong_in-requires-in-If-clause-formed :
-    goal.backward-wrong_in-requires-in-If-clause-formed
-backward-wrong_in-requires-in-If-clause-formed t c =
-    (and_parts _ _ (and_parts _ _
-    (sound_as (design_of c.args.flat.now).signals c.in-If.is c.requires.stmt)).0).0
+pub backward-loop-rest-init : goal.backward-loop-rest-init
+backward-loop-rest-init t c = (
+  open_begin (design_of c.args.flat.now).signals (in_scope c.args.around.now) _
+      (flat_statement c.args.stmt.now) c.new-arms.ensures.items c.requires.stmt,
+  search (rules, the_lemmas),
+)
 
-pub backward-backward_all-requires : goal.backward-backward_all-requires
-backward-backward_all-requires t c =
+pub backward-loop-rest-preserved : goal.backward-loop-rest-preserved
+backward-loop-rest-preserved t c =
+    let signals = (design_of c.args.flat.now).signals in
+    let first = c.deref.result.now in
+    let second = c.deref-rest.result.now in
+    let is = branch_is c.loop-rest.rest.now first second (ap flat_statement c.in-If.is)
+    c.deref.ensures c.deref-rest.ensures in (
+      open_more signals (in_scope c.args.around.now) c.loop-rest.arms.items c.push.new.self.items _
+          (flat_statement c.args.stmt.now) (flat_statement c.loop-rest.rest.now)
+          (flat_statement first) (flat_statement second) c.in-If.place c.in_ok-push.ensures.items is
+          c.in_ok-found.ensures c.loop-rest.invariant.0,
+      search (rules, the_lemmas),
+    )
+
+pub backward-backward_plain-requires : goal.backward-backward_plain-requires
+backward-backward_plain-requires t c = (
+  search (rules, the_lemmas),
+  (
+    no_branch c.loop-rest.rest.now c.in_default.not-If,
+    (c.requires.sound, (c.requires.zeros, c.loop-rest.invariant.0.is_sound)),
+  ),
+)
+
+pub backward-returns : goal.backward-returns
+backward-returns t c =
+    c.backward_arms.ensures (flat_statement c.loop-rest.rest.now) (flat_statement c.args.stmt.now)
+    c.loop-rest.invariant.0.are c.in_ok-last.ensures
+
+pub backward_plain-wrong_in-requires-clause-formed : goal.backward_plain-wrong_in-requires-clause-formed
+backward_plain-wrong_in-requires-clause-formed t c =
+    (and_parts _ _
+    (sound_as (design_of c.args.flat.now).signals c.in-Assign.is c.requires.stmt)).0
+
+pub backward_plain-backward_all-requires : goal.backward_plain-backward_all-requires
+backward_plain-backward_all-requires t c =
     let signals = (design_of c.args.flat.now).signals in (
       search (rules, the_lemmas),
       (
@@ -59,8 +90,8 @@ backward-backward_all-requires t c =
       ),
     )
 
-pub backward-returns-in-Block : goal.backward-returns-in-Block
-backward-returns-in-Block t c =
+pub backward_plain-returns-in-Block : goal.backward_plain-returns-in-Block
+backward_plain-returns-in-Block t c =
     let signals = (design_of c.args.flat.now).signals in
     subst (λ b. IfOk c.backward_all.result (λ (both : Option Found × Bits).
     FindsReads signals Followed (in_scope c.args.around.now) (readings signals b) both.0
@@ -68,8 +99,8 @@ backward-returns-in-Block t c =
     (sym (block_is _ c.in-Block.stmts _ c.in-Block.is c.deref-in-Block.ensures.value))
     c.backward_all.ensures
 
-pub backward-returns-in_ok-found-in-Assign : goal.backward-returns-in_ok-found-in-Assign
-backward-returns-in_ok-found-in-Assign t c =
+pub backward_plain-returns-in_ok-found-in-Assign : goal.backward_plain-returns-in_ok-found-in-Assign
+backward_plain-returns-in_ok-found-in-Assign t c =
     let signals = (design_of c.args.flat.now).signals in
     let around = in_scope c.args.around.now in
     let pieces = piece_forms c.in-Assign.pieces.items in
@@ -85,35 +116,6 @@ backward-returns-in_ok-found-in-Assign t c =
           (readings_of signals (typed_tree c.in-Assign.value) (assigns whole))
           c.in_ok-found-in-Assign.found
           bits (λ s b. refl) (c.in_ok-found-in-Assign.ensures (assigns whole)),
-      bits,
-    )
-
-pub backward-returns-in_ok-found-in-If : goal.backward-returns-in_ok-found-in-If
-backward-returns-in_ok-found-in-If t c =
-    let signals = (design_of c.args.flat.now).signals in
-    let around = in_scope c.args.around.now in
-    let cond = typed_tree c.in-If.cond in
-    let first = flat_statement c.deref-in-If.result.now in
-    let second = flat_statement c.deref-in-If-2.result.now in
-    let whole = branch c.in-If.place cond first second in
-    let is : flat_statement c.args.stmt.now ≡ whole = branch_is c.args.stmt.now _ _
-    (ap flat_statement c.in-If.is) c.deref-in-If.ensures c.deref-in-If-2.ensures in
-    let bits : SameBits (in_bits c.add_all.new.self) (can_assign whole) = λ s b.
-    c.in_ok-add_all-in-If.ensures s b
-    ∙ ap₂ ◌||◌ (c.in_ok-in_no-in-If.ensures.1 s b) (c.in_ok-in_yes-in-If.ensures.1 s b)
-    ∙ or_turned (can_assign second s b) (can_assign first s b) in
-    subst (λ b. FindsReads signals Followed around (readings signals b) c.first_of-in-If.result
-    × SameBits (in_bits c.add_all.new.self) (can_assign b)) (sym is) (
-      three_reads signals Followed around
-          (λ a f. readings_of signals cond (assigns whole) a (either (can_assign whole) f))
-          (readings signals first) (readings signals second)
-          c.in_ok-found-in-If.found c.in_ok-in_yes-in-If.in_yes c.in_ok-in_no-in-If.in_no
-          c.first_of.result c.first_of-in-If.result
-          (reads_inside signals _ _ around (can_assign whole)
-          (readings_of signals cond (assigns whole)) c.in_ok-found-in-If.found
-          bits (λ s b. refl) (c.in_ok-found-in-If.ensures (assigns whole)))
-          c.in_ok-in_yes-in-If.ensures.0 c.in_ok-in_no-in-If.ensures.0 c.first_of.ensures
-          c.first_of-in-If.ensures,
       bits,
     )
 

@@ -1,52 +1,96 @@
-use Rattle.std.proofs.Common.{◌≡◌, ◌+◌, ◌&&◌, drop, refl, sym, ap, ap₂, subst, ◌∙◌, rules}
+use Rattle.std.proofs.Common.{◌≡◌, ◌+◌, drop, refl, sym, ap, subst, rules}
 use Rattle.std.proofs.Common.{Option}
 use Rattle.std.proofs.lemmas.Bool.{and_parts}
 use Rattle.std.specs.Prelude.{IsTrue, IfOk}
 use Rattle.std.proofs.lemmas.List.{at_drop_all}
 use Rattle.sv_flat.specs.Assigned.{assigns, can_assign, always_assigns}
-use Rattle.sv_flat.specs.Design.{assign, branch}
-use Rattle.sv_flat.specs.Readings.{readings, readings_of, either}
+use Rattle.sv_flat.specs.Design.{assign}
+use Rattle.sv_flat.specs.Readings.{readings, either}
 use Rattle.sv_flat.specs.Soundness.{statement_sound}
 use Rattle.sv_flat.specs.Views.{design_of, typed_tree, flat_statement, flat_statements, chain_of}
 use Rattle.sv_flat.specs.declared.statements.FStmt.{the_lemmas}
+use Rattle.sv_flat.proofs.NumberedRuns.{no_branch}
 use Rattle.sv_design.specs.declared.bits.Bits.{Bits}
 use Rattle.sv_design.specs.declared.blocks.Asked.TheVariants.{Unassigned}
 use Rattle.sv_design.specs.declared.found.Found.{Found}
 use Rattle.sv_design.specs.BitSets.{in_bits, piece_forms}
 use Rattle.sv_design.specs.Phases.{SameBits, FindsReads}
 use Rattle.sv_design.specs.Scopes.{in_scope}
-use Rattle.sv_design.proofs.Passes.{sound_at, only_pieces, three_reads, forward_begin, forward_more}
+use Rattle.sv_design.proofs.ArmFacts.{arms_begin, arms_more, arms_end}
+use Rattle.sv_design.proofs.Passes.{sound_at, only_pieces, forward_begin, forward_more}
 use Rattle.sv_design.proofs.Passes.{forward_end}
 use Rattle.sv_design.proofs.Sound.{branch_is, sound_as, block_is, next_statement}
 use Rattle.sv_design.proofs.blocks.+forward.Goals as goal
 
 pub forward-wrong_in-requires-clause-formed : goal.forward-wrong_in-requires-clause-formed
 forward-wrong_in-requires-clause-formed t c =
-    (and_parts _ _
-    (sound_as (design_of c.args.flat.now).signals c.in-Assign.is c.requires.stmt)).0
+    (and_parts _ _ (and_parts _ _
+    (sound_as (design_of c.args.flat.now).signals c.in-If.is c.loop-rest.invariant.0.is_sound)).0).0
 
-pub forward-forward-requires-in-If : goal.forward-forward-requires-in-If
-forward-forward-requires-in-If t c =
+pub forward-forward-requires : goal.forward-forward-requires
+forward-forward-requires t c =
     let signals = (design_of c.args.flat.now).signals in (
       search (rules, the_lemmas),
       (
         c.requires.sound,
         (
           c.requires.zeros,
-          sound_as signals (sym c.deref-in-If-2.ensures)
-              (and_parts _ _ (sound_as signals c.in-If.is c.requires.stmt)).1,
+          sound_as signals (sym c.deref.ensures)
+              (and_parts _ _ (and_parts _ _
+              (sound_as signals c.in-If.is c.loop-rest.invariant.0.is_sound)).0).1,
         ),
       ),
     )
 
-pub forward-wrong_in-requires-in-If-clause-formed :
-    goal.forward-wrong_in-requires-in-If-clause-formed
-forward-wrong_in-requires-in-If-clause-formed t c =
-    (and_parts _ _ (and_parts _ _
-    (sound_as (design_of c.args.flat.now).signals c.in-If.is c.requires.stmt)).0).0
+pub forward-loop-rest-init : goal.forward-loop-rest-init
+forward-loop-rest-init t c = (
+  arms_begin (design_of c.args.flat.now).signals c.args.assigned (in_scope c.args.around.now)
+      (flat_statement c.args.stmt.now) c.requires.stmt,
+  search (rules, the_lemmas),
+)
 
-pub forward-forward_all-requires : goal.forward-forward_all-requires
-forward-forward_all-requires t c =
+pub forward-loop-rest-preserved : goal.forward-loop-rest-preserved
+forward-loop-rest-preserved t c =
+    let signals = (design_of c.args.flat.now).signals in
+    let first = c.deref.result.now in
+    let second = c.deref-rest.result.now in
+    let is = branch_is c.loop-rest.rest.now first second (ap flat_statement c.in-If.is)
+    c.deref.ensures c.deref-rest.ensures in (
+      arms_more signals c.args.assigned (in_scope c.args.around.now)
+          (flat_statement c.args.stmt.now) (flat_statement c.loop-rest.rest.now)
+          (flat_statement first) (flat_statement second) c.in-If.place (typed_tree c.in-If.cond)
+          c.loop-rest.common c.in_ok-in_yes.by_yes c.in_ok-more.more c.loop-rest.found
+          c.in_ok-in_cond.in_cond c.in_ok-in_yes.in_yes c.first_of-in_arm.result
+          c.first_of-found.result is c.in_ok-in_cond.ensures c.in_ok-in_yes.ensures.0
+          c.in_ok-in_yes.ensures.1 c.in_ok-more.ensures c.first_of-in_arm.ensures
+          c.first_of-found.ensures c.loop-rest.invariant.0,
+      search (rules, the_lemmas),
+    )
+
+pub forward-forward_plain-requires : goal.forward-forward_plain-requires
+forward-forward_plain-requires t c = (
+  search (rules, the_lemmas),
+  (
+    no_branch c.loop-rest.rest.now c.in_default.not-If,
+    (c.requires.sound, (c.requires.zeros, c.loop-rest.invariant.0.is_sound)),
+  ),
+)
+
+pub forward-returns : goal.forward-returns
+forward-returns t c =
+    arms_end (design_of c.args.flat.now).signals c.args.assigned (in_scope c.args.around.now)
+    (flat_statement c.args.stmt.now) (flat_statement c.loop-rest.rest.now) c.loop-rest.common
+    c.in_ok-in_last.by_last c.in_ok-always.always c.loop-rest.found c.in_ok-in_last.in_last
+    c.first_of.result c.in_ok-in_last.ensures.0 c.in_ok-in_last.ensures.1 c.in_ok-always.ensures
+    c.first_of.ensures c.loop-rest.invariant.0
+
+pub forward_plain-wrong_in-requires-clause-formed : goal.forward_plain-wrong_in-requires-clause-formed
+forward_plain-wrong_in-requires-clause-formed t c =
+    (and_parts _ _
+    (sound_as (design_of c.args.flat.now).signals c.in-Assign.is c.requires.stmt)).0
+
+pub forward_plain-forward_all-requires : goal.forward_plain-forward_all-requires
+forward_plain-forward_all-requires t c =
     let signals = (design_of c.args.flat.now).signals in (
       search (rules, the_lemmas),
       (
@@ -60,8 +104,8 @@ forward-forward_all-requires t c =
       ),
     )
 
-pub forward-returns-in-Block : goal.forward-returns-in-Block
-forward-returns-in-Block t c =
+pub forward_plain-returns-in-Block : goal.forward_plain-returns-in-Block
+forward_plain-returns-in-Block t c =
     let signals = (design_of c.args.flat.now).signals in
     subst (λ b. IfOk c.forward_all.result (λ (both : Option Found × Bits).
     FindsReads signals (Unassigned c.args.assigned) (in_scope c.args.around.now)
@@ -112,8 +156,8 @@ forward_all-returns t c =
     (at_drop_all (λ ss. chain_of (flat_statements ss)) stmts i c.loop-stmt-test.false)
     c.loop-stmt.invariant
 
-pub forward-returns-in_ok-add_pieces-in-Assign : goal.forward-returns-in_ok-add_pieces-in-Assign
-forward-returns-in_ok-add_pieces-in-Assign t c =
+pub forward_plain-returns-in_ok-add_pieces-in-Assign : goal.forward_plain-returns-in_ok-add_pieces-in-Assign
+forward_plain-returns-in_ok-add_pieces-in-Assign t c =
     let signals = (design_of c.args.flat.now).signals in
     let pieces = piece_forms c.in-Assign.pieces.items in
     let whole = assign pieces c.in-Assign.place c.in-Assign.blocking
@@ -127,30 +171,4 @@ forward-returns-in_ok-add_pieces-in-Assign t c =
           asks same,
       only_pieces c.new-bits.result c.add_pieces.new.self _ _ c.deref.ensures.value
           c.new-bits.ensures c.in_ok-add_pieces-in-Assign.ensures,
-    )
-
-pub forward-returns-in_ok-both-in-If : goal.forward-returns-in_ok-both-in-If
-forward-returns-in_ok-both-in-If t c =
-    let signals = (design_of c.args.flat.now).signals in
-    let cond = typed_tree c.in-If.cond in
-    let first = flat_statement c.deref-in-If.result.now in
-    let second = flat_statement c.deref-in-If-2.result.now in
-    let whole = branch c.in-If.place cond first second in
-    let is : flat_statement c.args.stmt.now ≡ whole = branch_is c.args.stmt.now _ _
-    (ap flat_statement c.in-If.is) c.deref-in-If.ensures c.deref-in-If-2.ensures in
-    subst (λ b. FindsReads signals (Unassigned c.args.assigned) (in_scope c.args.around.now)
-    (readings signals b) c.first_of-in-If.result
-    × SameBits (in_bits c.in_ok-both-in-If.both) (always_assigns b)) (sym is) (
-      three_reads signals (Unassigned c.args.assigned) (in_scope c.args.around.now)
-          (λ a f. readings_of signals cond (assigns whole) a (either (can_assign whole) f))
-          (readings signals first) (readings signals second)
-          c.in_ok-found-in-If.found c.in_ok-in_yes-in-If.in_yes c.in_ok-in_no-in-If.in_no
-          c.first_of.result c.first_of-in-If.result
-          (λ body a f asks same.
-          c.in_ok-found-in-If.ensures (assigns whole) body a (either (can_assign whole) f)
-          asks same)
-          c.in_ok-in_yes-in-If.ensures.0 c.in_ok-in_no-in-If.ensures.0 c.first_of.ensures
-          c.first_of-in-If.ensures,
-      λ s b. c.in_ok-both-in-If.ensures s b
-          ∙ ap₂ ◌&&◌ (c.in_ok-in_yes-in-If.ensures.1 s b) (c.in_ok-in_no-in-If.ensures.1 s b),
     )

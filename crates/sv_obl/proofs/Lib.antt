@@ -26,6 +26,7 @@ pub mod RouteNames
 pub mod RouteObligations
 pub mod RoutePaths
 pub mod IndexedFacts
+pub mod IndexedArmFacts
 pub mod SliceFacts
 pub mod StatementFacts
 pub mod TakenPaths

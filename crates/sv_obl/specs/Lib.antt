@@ -4,6 +4,7 @@ pub mod BodySlices
 pub mod DesignQueries
 pub mod Driven
 pub mod Exchange
+pub mod IndexedArms
 pub mod IndexedBodies
 pub mod IndexedStatements
 pub mod Limits

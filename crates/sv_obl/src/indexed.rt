@@ -2,14 +2,16 @@
 // slice a target is looked up once in each block and branch that assigns it, and then only in the
 // parts that assign it, so all slices together cost the assignments times their nesting.
 ghost use Rattle.std.specs.Prelude.{◌≡◌, ℕ, [], ◌∷◌, ◌++◌, map, fold, None, IfOk, OnOk};
-ghost use Rattle.std.specs.Prelude.{All};
+ghost use Rattle.std.specs.Prelude.{All, IsFalse};
 ghost use Rattle.std.specs.BTreeSet.{insert_key};
 ghost use Rattle.std.specs.BTreeMap.{keys, Updates};
 ghost use Rattle.std.specs.Ordering.{nat_cmp};
+ghost use Rattle.sv_flat.specs.ByNumber.{is_branch};
 ghost use Rattle.sv_flat.specs.Design.{PieceForm, FlatStatement, nothing, assign, branch};
 ghost use Rattle.sv_flat.specs.Views.{typed_tree, flat_statement, flat_statements, chain_of};
 ghost use Rattle.sv_flat.specs.Views.{process_form};
 ghost use Rattle.sv_obl.specs.IndexedBodies.{numbers_at, AreIndexed};
+ghost use Rattle.sv_obl.specs.IndexedArms.{AreArms};
 ghost use Rattle.sv_obl.specs.IndexedStatements.{statement_of, targets_in, IsMarked, IsMadeOf};
 ghost use Rattle.sv_obl.specs.IndexedStatements.{SoFar, ends_in, with_number, numbered, Tells};
 ghost use Rattle.sv_obl.specs.RouteViews.{piece_forms};
@@ -219,9 +221,60 @@ fn assigned<'a>(pieces: &'a [Piece], place: Place, blocking: bool, value: &'a FE
     }
 }
 
+/// A branch but for its second arm.
+#[derive(Drop)]
+pub struct FirstArm<'a> {
+    pub place: Place,
+    pub cond: &'a FExpr,
+    pub yes: Indexed<'a>,
+}
+
+// The chain of the branches with these first arms, where the last second arm is the one given.
+fn with_arms<'a>(
+    alloc: Global,
+    arms: Vec<FirstArm<'a>>,
+    last: Indexed<'a>,
+) -> Result<Indexed<'a>, AllocError>
+    ensures { (rest whole : FlatStatement) → AreArms arms.entry.items rest whole
+        → IsMadeOf rest last.entry → IfOk result (IsMadeOf whole) }
+{
+    let mut arms = arms;
+    let mut rest = last;
+    while let Some(arm) = arms.pop() {
+        let FirstArm { place, cond, yes } = arm;
+        rest = branched(alloc, place, cond, yes, rest)?;
+    }
+    Ok(rest)
+}
+
 /// The indexed statement; an error where memory runs out.
+// No call goes down a chain of branches: a `case` may have many arms.
 #[cycle(indexed)]
 pub fn indexed_of<'a>(stmt: &'a FStmt, alloc: Global) -> Result<Indexed<'a>, AllocError>
+    ensures { IfOk result (IsMadeOf (flat_statement stmt.now)) }
+{
+    let mut arms = Vec::new(alloc);
+    let mut rest = stmt;
+    while let FStmt::If {
+        place,
+        cond,
+        yes,
+        no,
+    } = rest
+    {
+        let place = *place;
+        let yes = indexed_of(yes, alloc)?;
+        arms.push(FirstArm { place, cond, yes })?;
+        rest = no;
+    }
+    let last = indexed_plain(rest, alloc)?;
+    with_arms(alloc, arms, last)
+}
+
+// The indexed statement of one that is no branch.
+#[cycle(indexed)]
+fn indexed_plain<'a>(stmt: &'a FStmt, alloc: Global) -> Result<Indexed<'a>, AllocError>
+    requires plain { IsFalse (is_branch (flat_statement stmt.now)) }
     ensures { IfOk result (IsMadeOf (flat_statement stmt.now)) }
 {
     match stmt {
@@ -236,16 +289,7 @@ pub fn indexed_of<'a>(stmt: &'a FStmt, alloc: Global) -> Result<Indexed<'a>, All
             let numbers = numbers_of(alloc, &parts)?;
             Ok(Indexed::Block { parts, numbers })
         }
-        FStmt::If {
-            place,
-            cond,
-            yes,
-            no,
-        } => {
-            let first = indexed_of(yes, alloc)?;
-            let second = indexed_of(no, alloc)?;
-            branched(alloc, *place, cond, first, second)
-        }
+        FStmt::If { .. } => unreachable!(),
     }
 }
 

@@ -21,10 +21,10 @@
 //! holds the bodies indexed, as `Listing` does (`IndexedBodies.antt`).
 //!
 //! Inside, `Routes.antt` tells paths as they are where no read is an earlier one,
-//! `IndexedStatements.antt` how a body is indexed, `SliceRoutes.antt` the routes through a slice,
-//! `RouteViews.antt` ties routes to what is walked, `Driven.antt` paths to the target whose they
-//! are, and `Written.antt` lines to what is written; those six are private: they say how the code
-//! goes; the meaning stands in the files before.
+//! `IndexedStatements.antt` how a body is indexed, `IndexedArms.antt` how a chain of branches is,
+//! `SliceRoutes.antt` the routes through a slice, `RouteViews.antt` ties routes to what is walked,
+//! `Driven.antt` paths to the target whose they are, and `Written.antt` lines to what is written;
+//! those seven are private: they say how the code goes; the meaning stands in the files before.
 #![tactic(auto)]
 
 mod body_slices;

@@ -560,23 +560,27 @@ no_next_slice s parts ns i k cs inside is out are =
     (nothing_last before))) s) are)
 
 -- the slice of a block
-pub block_slice : (s : ℕ) (parts : Vec Indexed) (numbers : BTreeMap ℕ (Vec ℕ)) (those : List ℕ)
+pub block_slice : (s : ℕ) (parts : List Indexed) (numbers : BTreeMap ℕ (Vec ℕ)) (those : List ℕ)
     (cs : List BodySlice) (whole : BodySlice) → numbers_at numbers s ≡ those
-    → AreSlicesOf s (chosen (map (looked_up s) parts.items) those) cs → EndsIn cs [] whole
-    → IsSliceOf s (looked_up s (indexed.Block parts numbers)) whole
+    → AreSlicesOf s (chosen (map (looked_up s) parts) those) cs → EndsIn cs [] whole
+    → IsSliceOf s (chosen (map (looked_up s) parts) (numbers_at numbers s)) whole
 block_slice s parts numbers those cs whole found are ends =
-    let all = map (looked_up s) parts.items in
-    subst (λ (xs : List FlatStatement). IsSliceOf s (chosen xs (numbers_at numbers s)) whole)
-    (sym (block_parts s parts))
-    (subst (λ (ns : List ℕ). IsSliceOf s (chosen all ns) whole) (sym found)
-    (taken_as_one s (chosen all those) cs whole are ends))
+    let all = map (looked_up s) parts in
+    subst (λ (ns : List ℕ). IsSliceOf s (chosen all ns) whole) (sym found)
+    (taken_as_one s (chosen all those) cs whole are ends)
 
-pub block_passed : (s : ℕ) (parts : Vec Indexed) (numbers : BTreeMap ℕ (Vec ℕ))
+pub block_passed : (s : ℕ) (parts : List Indexed) (numbers : BTreeMap ℕ (Vec ℕ))
     → get nat_cmp numbers s ≡ None
-    → IsSliceOf s (looked_up s (indexed.Block parts numbers)) slice.Nothing
+    → IsSliceOf s (chosen (map (looked_up s) parts) (numbers_at numbers s)) slice.Nothing
 block_passed s parts numbers none =
     block_slice s parts numbers [] [] slice.Nothing (ap numbers_found none) (no_slices s)
     (none_ends [])
+
+pub block_looked_up : (s : ℕ) (parts : Vec Indexed) (numbers : BTreeMap ℕ (Vec ℕ))
+    → looked_up s (indexed.Block parts numbers)
+    ≡ chosen (map (looked_up s) parts.items) (numbers_at numbers s)
+block_looked_up s parts numbers =
+    ap (λ (xs : List FlatStatement). chosen xs (numbers_at numbers s)) (block_parts s parts)
 
 -- ---- the numbers of parts
 

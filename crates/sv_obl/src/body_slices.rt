@@ -5,12 +5,13 @@ ghost use Rattle.sv_flat.specs.Clocks.{processes_of};
 ghost use Rattle.sv_flat.specs.Views.{typed_tree, design_of};
 ghost use Rattle.sv_obl.specs.BodySlices.{sliced, SameParts, slice_statement, driven_body};
 ghost use Rattle.sv_obl.specs.SliceRoutes.{is_nothing, IsSliceOf, IsChain, AreSlicesOf, EndsIn};
-ghost use Rattle.sv_obl.specs.IndexedBodies.{AreIndexed, looked_up, chosen};
+ghost use Rattle.sv_obl.specs.IndexedBodies.{AreIndexed, looked_up, chosen, numbers_at};
 ghost use Rattle.sv_obl.specs.RouteViews.{piece_forms};
 
 use crate::indexed::{Indexed, indexed_bodies};
 use crate::pieces::is_some_of;
 use std::alloc::{AllocError, Global};
+use std::collections::BTreeMap;
 use sv_design::Design;
 use sv_flat::{FExpr, Piece, SigId};
 use sv_num::Place;
@@ -175,13 +176,7 @@ pub fn slice_for<'a>(
             blocking,
             value,
         } => Ok(assign_slice(*pieces, *place, *blocking, *value, target)),
-        Indexed::Block { parts, numbers } => match numbers.get(&target.0) {
-            Some(those) => {
-                let slices = part_slices(parts, alloc, target, those)?;
-                together(alloc, slices)
-            }
-            None => Ok(BodySlice::Nothing),
-        },
+        Indexed::Block { parts, numbers } => block_slice(parts, numbers, alloc, target),
         Indexed::Branch {
             targets,
             place,
@@ -196,6 +191,28 @@ pub fn slice_for<'a>(
             let second = slice_for(no, alloc, target)?;
             branch_slice(alloc, *place, *cond, first, second)
         }
+    }
+}
+
+// The slice of a block. What it needs stands in its own frame, since `slice_for` calls itself for
+// each arm of a `case`.
+#[cycle(slice)]
+#[inline(never)]
+fn block_slice<'a>(
+    parts: &[Indexed<'a>],
+    numbers: &BTreeMap<u32, Vec<usize>>,
+    alloc: Global,
+    target: SigId,
+) -> Result<BodySlice<'a>, AllocError>
+    ensures { IfOk result (IsSliceOf target.0
+        (chosen (map (looked_up target.0) parts.now) (numbers_at numbers.now target.0))) }
+{
+    match numbers.get(&target.0) {
+        Some(those) => {
+            let slices = part_slices(parts, alloc, target, those)?;
+            together(alloc, slices)
+        }
+        None => Ok(BodySlice::Nothing),
     }
 }
 

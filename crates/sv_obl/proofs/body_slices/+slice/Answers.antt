@@ -1,9 +1,10 @@
-use Rattle.std.proofs.Common.{◌+◌, [], get_or, map, take, refl, sym, ap, subst}
-use Rattle.sv_obl.specs.declared.body_slices.BodySlice as slice
+use Rattle.std.proofs.Common.{◌+◌, [], get_or, map, take, refl, sym, ap, subst, ◌∙◌}
+use Rattle.std.specs.Prelude.{IfOk}
 use Rattle.sv_obl.specs.SliceRoutes.{IsSliceOf, AreSlicesOf, EndsIn}
-use Rattle.sv_obl.specs.IndexedBodies.{looked_up, numbers_found, chosen}
+use Rattle.sv_obl.specs.IndexedBodies.{looked_up, numbers_at, numbers_found, chosen}
 use Rattle.sv_obl.proofs.SliceChains.{on_ok}
-use Rattle.sv_obl.proofs.IndexedFacts.{block_passed, block_slice, next_slice, no_next_slice}
+use Rattle.sv_obl.proofs.IndexedFacts.{block_passed, block_slice, block_looked_up, next_slice}
+use Rattle.sv_obl.proofs.IndexedFacts.{no_next_slice}
 use Rattle.sv_obl.proofs.body_slices.+slice.Goals as goal
 use Rattle.sv_obl.proofs.body_slices.+slice.Goals.{part_slices-then-number-parts+in_ok-slice+in_ok-push}
 use Rattle.sv_obl.proofs.body_slices.+slice.Goals.{part_slices-else-number-parts}
@@ -14,30 +15,33 @@ slice_for-returns-in-Assign t c =
     subst (λ x. IsSliceOf s (looked_up s x) c.assign_slice.result) (sym c.in-Assign.is)
     c.assign_slice.ensures
 
-pub slice_for-returns-in_ok-slices-in-Some : goal.slice_for-returns-in_ok-slices-in-Some
-slice_for-returns-in_ok-slices-in-Some t c =
+pub slice_for-returns-in-Block : goal.slice_for-returns-in-Block
+slice_for-returns-in-Block t c =
     let s = c.args.target.0 in
-    let parts = c.in-Block.parts in
     let numbers = c.in-Block.numbers in
+    subst (λ x. IfOk c.block_slice.result (IsSliceOf s x))
+    (ap (λ xs. chosen (map (looked_up s) xs) (numbers_at numbers s)) c.deref.ensures.value
+    ∙ sym (block_looked_up s c.in-Block.parts numbers) ∙ sym (ap (looked_up s) c.in-Block.is))
+    c.block_slice.ensures
+
+pub block_slice-returns-in_ok-slices-in-Some : goal.block_slice-returns-in_ok-slices-in-Some
+block_slice-returns-in_ok-slices-in-Some t c =
+    let s = c.args.target.0 in
+    let parts = c.args.parts.now in
+    let numbers = c.args.numbers.now in
     let those = c.in-Some.those.now.items in
     let slices = c.in_ok-slices-in-Some.slices.items in
-    let are = c.in_ok-slices-in-Some.ensures in
     on_ok c.together.result (EndsIn slices [])
-    (λ whole. IsSliceOf s (looked_up s c.args.indexed.now) whole)
-    (λ whole ends. subst (λ x. IsSliceOf s (looked_up s x) whole) (sym c.in-Block.is)
-    (block_slice s parts numbers those slices whole
+    (λ whole. IsSliceOf s (chosen (map (looked_up s) parts) (numbers_at numbers s)) whole)
+    (λ whole ends. block_slice s parts numbers those slices whole
     (ap numbers_found (sym c.in-Some.ensures.value))
-    (subst (λ ns. AreSlicesOf s (chosen (map (looked_up s) parts.items) ns) slices)
-    c.deref-in-Some.ensures.value
-    (subst (λ xs. AreSlicesOf s (chosen (map (looked_up s) xs) c.deref-in-Some.result.now) slices)
-    c.deref.ensures.value are)) ends))
+    (subst (λ ns. AreSlicesOf s (chosen (map (looked_up s) parts) ns) slices)
+    c.deref.ensures.value c.in_ok-slices-in-Some.ensures) ends)
     c.together.ensures
 
-pub slice_for-returns-in-None : goal.slice_for-returns-in-None
-slice_for-returns-in-None t c =
-    let s = c.args.target.0 in
-    subst (λ x. IsSliceOf s (looked_up s x) slice.Nothing) (sym c.in-Block.is)
-    (block_passed s c.in-Block.parts c.in-Block.numbers (sym c.in-None.ensures.value))
+pub block_slice-returns-in-None : goal.block_slice-returns-in-None
+block_slice-returns-in-None t c =
+    block_passed c.args.target.0 c.args.parts.now c.args.numbers.now (sym c.in-None.ensures.value)
 
 pub part_slices-loop-number-preserved : goal.part_slices-loop-number-preserved
 part_slices-loop-number-preserved t c =

@@ -462,7 +462,7 @@ def simulations():
     with open(os.path.join(TOP, "docs", "formats.md"), encoding="utf-8") as file:
         text = file.read().partition("\n# Stimulus and trace\n")[2].partition("\n# ")[0]
     shown = re.findall(r"^```(?:verilog)?\n(.*?)^```$", text, re.M | re.S)
-    design, stimulus, trace, public, nested, started, counted, refused, inverters, turned, ordered = shown
+    design, stimulus, trace, public, refused, inverters, turned, ordered = shown
     wrong = stimulus.replace("0 F", "0 10")
     with tempfile.TemporaryDirectory() as folder:
         path = os.path.join(folder, "text.v")
@@ -483,10 +483,6 @@ def simulations():
             answer = run(["sim", back, "--order", number], given=b"inputs a\n0\n")
             compare(f"order {number}", (answer.stdout.decode(), answer.returncode), (f"0 a=0 y=0 q=1\nrounds {rounds}\n", 0))
         other = os.path.join(folder, "other.v")
-        with open(other, "w", encoding="ascii") as file:
-            file.write(nested)
-        answer = run(["sim", other], given=started.encode())
-        compare("sim of two instances", (answer.stdout, answer.stderr, answer.returncode), (counted.encode(), b"", 0))
         with open(other, "w", encoding="ascii") as file:
             file.write(inverters)
         answer = run(["sim", other, "--order", "3"], given=turned.encode())

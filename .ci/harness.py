@@ -45,10 +45,10 @@ def run(folder, words, stdout=subprocess.PIPE, stdin=subprocess.DEVNULL):
     return (answer.stdout or b"").decode(), answer.returncode
 
 
-def documented(section):
-    """What stands in a section of docs/formats.md."""
-    with open(os.path.join(TOP, "docs", "formats.md"), encoding="utf-8") as file:
-        text = file.read()
+def documented(section, page="formats.md"):
+    """What stands in a section of a page of docs/."""
+    with open(os.path.join(TOP, "docs", page), encoding="utf-8") as file:
+        text = "\n" + file.read()
     return text.partition(f"\n# {section}\n")[2].partition("\n# ")[0]
 
 

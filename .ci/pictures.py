@@ -469,11 +469,11 @@ def no_flows(folder):
 
 
 def documented_ones(folder):
-    """The pictures that docs/formats.md shows."""
-    shown = {kind: text for kind, text in re.findall(r"^```(\w+)\n(.*?)^```$", documented("Pictures"), re.M | re.S)}
+    """The pictures that docs/pictures.md shows."""
+    shown = {kind: text for kind, text in re.findall(r"^```(\w+)\n(.*?)^```$", documented("Pictures", "pictures.md"), re.M | re.S)}
     trace = simulated(folder, example("owner.v"), example("owner.stim"), "--level L")
-    compare("docs/formats.md shows a wave", tool(folder, [WAVE, "f"], trace), (shown.get("vcd"), "", 0))
-    compare("docs/formats.md shows a graph", tool(folder, [FLOWS, "f"])[::2], (shown.get("dot"), 0))
+    compare("docs/pictures.md shows a wave", tool(folder, [WAVE, "f"], trace), (shown.get("vcd"), "", 0))
+    compare("docs/pictures.md shows a graph", tool(folder, [FLOWS, "f"])[::2], (shown.get("dot"), 0))
 
 
 if __name__ == "__main__":

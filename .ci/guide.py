@@ -1,8 +1,8 @@
 #!/usr/bin/env python3
 """Does what docs/guide.md says, in its order and in one folder, and compares whole outputs, standard error among them: each console block is run, each
 diff is made in the design of the five steps, each text marked `before` is refused as its last line says, and `list` takes every other one. The numbers of
-its table stand in the definitions, its rules have the names that the program gives them, and what it gives to editors matches real messages. The last line
-is 'N passed, M failed'.
+its table stand in the definitions, its rules have the names that the program gives them, and what it gives to editors matches real messages. Then it looks
+at all pages: that none is long, that lines of prose end at 120 columns, and that the files that they name are there. The last line is 'N passed, M failed'.
 """
 import json
 import os
@@ -14,6 +14,7 @@ from harness import MOST_SECONDS, TOP, compare, finish, put, run
 
 DESIGN = "dma.v"  # that of the five steps
 MOST_BYTES, MOST_COLUMNS = 20000, 120
+LONG_PAGES = {"docs/semantics.md": 30000}
 UNSOLVED = "no solver: minisat is not installed\n"
 
 
@@ -185,16 +186,23 @@ def editors(folder):
 
 
 def form(_):
-    compare("the guide is short", len(GUIDE.encode()) < MOST_BYTES, True)
-    prose = re.sub(r"^```.*?^```$", "", GUIDE, flags=re.M | re.S).splitlines()
-    compare("its lines are short", [line for line in prose if len(line) > MOST_COLUMNS and not line.startswith("|")], [])
-    for name in set(re.findall(r"`((?:docs|examples|\.ci)/[\w./]+)`", GUIDE)):
-        compare(f"{name} is there", os.path.exists(os.path.join(TOP, name)), True)
     files = os.listdir(os.path.join(TOP, "examples"))
     rows = re.search(r"\| Pairs of [^\n]*\n[^\n]*\n((?:\|[^\n]*\n)+)", GUIDE).group(1).splitlines()
     for name in [name for row in rows for name in re.findall(r"`(\w+)`", row.split("|")[3])]:
         compare(f"a pair of {name}", f"{name}_mended.v" in files and (f"{name}_leak.v" in files or f"{name}.v" in files), True)
 
 
+def pages(_):
+    """No page is long, its lines of prose are short, and the files that it names are there."""
+    names = [f"docs/{name}" for name in sorted(os.listdir(os.path.join(TOP, "docs"))) if name.endswith(".md")]
+    for page in ["README.md", "examples/README.md", *names]:
+        text = stored(page)
+        compare(f"{page} is short", len(text.encode()) <= LONG_PAGES.get(page, MOST_BYTES), True)
+        prose = re.sub(r"^```.*?^```$", "", text, flags=re.M | re.S).splitlines()
+        compare(f"its lines are short: {page}", [line for line in prose if len(line) > MOST_COLUMNS and not line.startswith("|")], [])
+        for name in sorted(set(re.findall(r"`((?:docs|examples|bench|tools|crates|sv_\w+|\.ci)/[\w./-]+\.[a-z0-9]+)`", text))):
+            compare(f"{page}: {name} is there", any(os.path.exists(os.path.join(TOP, folder, name)) for folder in (".", "crates")), True)
+
+
 if __name__ == "__main__":
-    finish([in_order, without_labels, two_events, solvers, limits, editors, form])
+    finish([in_order, without_labels, two_events, solvers, limits, editors, form, pages])

@@ -1,7 +1,7 @@
 #!/usr/bin/env python3
 """Compares whole outputs and statuses of `./secv check` and `./secv verify`: designs that are accepted, that leak, or that spend a budget; certificates
 made by hand, damaged ones, and those that `check --proof` stores; and files that cannot be read or stored. Each row was worked by hand from
-docs/formats.md and docs/language.md, or by a second reading of these that shares nothing with the program. Where more than one list of values
+docs/formats.md, docs/encoding.md and docs/language.md, or by a second reading of these that shares nothing with the program. Where more than one list of values
 falsifies an obligation, the values that are printed are tried here. The last line is 'N passed, M failed'.
 """
 import hashlib

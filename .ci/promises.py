@@ -392,7 +392,7 @@ def page(title, crates, wrong, met):
     return "\n".join(lines).rstrip("\n") + "\n", count
 
 
-HEAD = """Made from the contracts by `.ci/promises.py --write`; [promises.md](../promises.md#each-call) says how to read it."""
+HEAD = """Made from the contracts by `.ci/promises.py --write`; [README.md](README.md) says how to read it."""
 
 
 def written(path):

@@ -13,6 +13,8 @@ TOP = os.path.dirname(os.path.dirname(os.path.abspath(__file__)))
 SECV = os.path.join(TOP, "secv")
 MOST_SECONDS = 10
 MOST_MEGABYTES = 256
+# What most systems give a program.
+STACK_MEGABYTES = 8
 passed = failed = 0
 
 
@@ -32,7 +34,7 @@ def check(what, text, wanted, folder, words=()):
     path = os.path.join(folder, "text.v")
     with open(path, "w", encoding="ascii") as file:
         file.write(text)
-    limit = f"ulimit -v {MOST_MEGABYTES * 1024}; exec \"$@\""
+    limit = f"ulimit -S -s {STACK_MEGABYTES * 1024}; ulimit -v {MOST_MEGABYTES * 1024}; exec \"$@\""
     before = processor_seconds()
     try:
         answer = subprocess.run(["sh", "-c", limit, "sh", SECV, "check", path, *words], stdin=subprocess.DEVNULL, stdout=subprocess.PIPE,

@@ -23,7 +23,7 @@ GROUPS = {
     "obligations": ("Obligations, their clauses and proofs",
                     ["sv_obl", "sv_clause", "sv_gates", "sv_circuits", "sv_encoding", "sv_encoding_laws", "sv_blast", "sv_proof", "sv_solve", "sv_decide",
                      "sv_accept", "sv_judge"]),
-    "program": ("Verdicts, words, samples and the top call", ["sv_report", "sv_words", "sv_gen", "sv_cli"]),
+    "program": ("Verdicts, words, samples and the top call", ["sv_texts", "sv_report", "sv_words", "sv_gen", "sv_cli"]),
 }
 # Types whose variants are the ways in which a call can end.
 ANSWERS = {"Outcome", "Checked", "Verified", "Decided", "Solved", "Compared", "Ending"}
@@ -34,6 +34,7 @@ OPEN = {
     **{("sv_io", title, "what it leaves in buf"): UNREAD
        for title in ("Source::take", "<MemSource as Source>::take", "<SureSource as Source>::take", "<StdSource as Source>::take")},
     **{("sv_obl", f"Listing::{name}", "what it leaves in self"): LEFT for name in ("pass_target", "target_queries", "target_lines")},
+    **{("sv_texts", name, "what it leaves in text"): LEFT for name in ("push_number", "push_place")},
     ("sv_clause", "resolve_into", "what it leaves in out"): "every caller clears it, or drops it, before it is read",
     ("sv_words", "help_text", "what it gives"): "the text is that of `clap`, and is only tested",
 }

@@ -3,7 +3,7 @@
 use std::alloc::Global;
 use std::io::{self, Stderr};
 use sv_cli::{Broken, Outcome, UsageKind};
-use sv_num::{Place, Refusal};
+use sv_num::{Place, Refusal, Rule};
 use sv_words::{Command, read_words};
 
 const UNBUILT: &str =
@@ -49,98 +49,72 @@ pub fn explain_memory(person: Person) {
     let _ = person.stderr.eprintln(MEMORY);
 }
 
-// What is said of each rule.
-const FAULTS: [(u16, &str); 40] = [
-    (101, "no token begins with this byte"),
-    (102, "this is no number, or too large a one"),
-    (103, "this comment has no end"),
-    (104, "this form of Verilog is left out"),
-    (
-        201,
-        "no text goes on with this token, or the text ends too early",
-    ),
-    (202, "this form of Verilog is left out"),
-    (203, "this opens a level too many: at most 64 may be open"),
-    (
-        204,
-        "this is too long: an expression has at most 1,024 tokens, a case 256 arms",
-    ),
-    (301, "a lattice has 1 to 32 points"),
-    (302, "this point is declared twice, or not at all"),
-    (303, "the two points named flow to each other"),
-    (304, "the two points named have no least upper point"),
-    (305, "the two points named have no greatest lower point"),
-    (306, "this label map is declared twice"),
-    (
-        307,
-        "this label map has a wrong range, key or point, or a key twice",
-    ),
-    (
-        308,
-        "this label map gives some key no point, and has no default",
-    ),
-    (
-        310,
-        "there is no top: it is the module that --top names, or else the only one in no other",
-    ),
-    (311, "there is no module of this name"),
-    (312, "this name is declared twice"),
-    (
-        313,
-        "this links no port, one twice or one too many, or an output to no whole signal",
-    ),
-    (314, "this module would stand inside itself"),
-    (
-        315,
-        "this is one too many: a design has at most 4,096 signals and 1,024 instances",
-    ),
-    (
-        316,
-        "this sets no parameter that may be set, one twice or one too many",
-    ),
-    (
-        401,
-        "no signal or parameter of this name is in reach, or a parameter stands for a signal",
-    ),
-    (402, "this is longer than 64 bits"),
-    (
-        403,
-        "this index or part lies outside of its signal, or its high bound is below its low one",
-    ),
-    (404, "a constant is wanted here, and this is a signal"),
-    (405, "this divisor is 0"),
-    (406, "both operands of `/` and `%` are constants"),
-    (407, "a number directly in braces needs a size, as 4'd3 has"),
-    (408, "a replication count is 1 to 64"),
-    (409, "a range is [m:0] with m from 0 to 63"),
-    (
-        410,
-        "this label has an unknown point, map or selector, or its selectors do not fit the map",
-    ),
-    (
-        601,
-        "this signal may not be assigned here, or not by this sign, or a bit of it twice",
-    ),
-    (
-        602,
-        "a clock is a 1-bit input, comes from the one clock of the top, and is nothing else",
-    ),
-    (
-        603,
-        "this signal has a driver already, or is an input of the top",
-    ),
-    (604, "nothing drives this signal"),
-    (605, "this block does not assign the signal on every path"),
-    (
-        606,
-        "this signal is read before its block has assigned it for good",
-    ),
-    (607, "the signals named read each other in a circle"),
-];
-
 // What is said of a rule; nothing of one that is told of no place.
-fn fault_of(number: u16) -> Option<&'static str> {
-    FAULTS.iter().find(|row| row.0 == number).map(|row| row.1)
+fn fault_of(rule: Rule) -> Option<&'static str> {
+    let fault = match rule {
+        Rule::BadByte => "no token begins with this byte",
+        Rule::BadNumber => "this is no number, or too large a one",
+        Rule::OpenComment => "this comment has no end",
+        Rule::UnsupportedForm => "this form of Verilog is left out",
+        Rule::Unexpected => "no text goes on with this token, or the text ends too early",
+        Rule::UnsupportedWord => "this form of Verilog is left out",
+        Rule::TooDeep => "this opens a level too many: at most 64 may be open",
+        Rule::TooLong =>
+            "this is too long: an expression has at most 1,024 tokens, a case 256 arms",
+        Rule::LatticeSize => "a lattice has 1 to 32 points",
+        Rule::LatticeName => "this point is declared twice, or not at all",
+        Rule::Circle => "the two points named flow to each other",
+        Rule::NoJoin => "the two points named have no least upper point",
+        Rule::NoMeet => "the two points named have no greatest lower point",
+        Rule::MapName => "this label map is declared twice",
+        Rule::MapRow => "this label map has a wrong range, key or point, or a key twice",
+        Rule::MapHole => "this label map gives some key no point, and has no default",
+        Rule::NoTop =>
+            "there is no top: it is the module that --top names, or else the only one in no other",
+        Rule::UnknownModule => "there is no module of this name",
+        Rule::Twice => "this name is declared twice",
+        Rule::Port =>
+            "this links no port, one twice or one too many, or an output to no whole signal",
+        Rule::Recursive => "this module would stand inside itself",
+        Rule::TooMany =>
+            "this is one too many: a design has at most 4,096 signals and 1,024 instances",
+        Rule::Parameter => "this sets no parameter that may be set, one twice or one too many",
+        Rule::UnknownName =>
+            "no signal or parameter of this name is in reach, or a parameter stands for a signal",
+        Rule::TooWide => "this is longer than 64 bits",
+        Rule::BadSelect =>
+            "this index or part lies outside of its signal, or its high bound is below its low one",
+        Rule::NotConstant => "a constant is wanted here, and this is a signal",
+        Rule::ZeroDivisor => "this divisor is 0",
+        Rule::Division => "both operands of `/` and `%` are constants",
+        Rule::UnsizedPart => "a number directly in braces needs a size, as 4'd3 has",
+        Rule::BadCount => "a replication count is 1 to 64",
+        Rule::BadRange => "a range is [m:0] with m from 0 to 63",
+        Rule::Label =>
+            "this label has an unknown point, map or selector, or its selectors do not fit the map",
+        Rule::WrongAssign =>
+            "this signal may not be assigned here, or not by this sign, or a bit of it twice",
+        Rule::Clock =>
+            "a clock is a 1-bit input, comes from the one clock of the top, and is nothing else",
+        Rule::Drivers => "this signal has a driver already, or is an input of the top",
+        Rule::Undriven => "nothing drives this signal",
+        Rule::Latch => "this block does not assign the signal on every path",
+        Rule::Phase => "this signal is read before its block has assigned it for good",
+        Rule::Loop => "the signals named read each other in a circle",
+        Rule::NotBuilt
+        | Rule::FileSize
+        | Rule::Paths
+        | Rule::Obligations
+        | Rule::StimulusSize
+        | Rule::Gen
+        | Rule::NoObligation
+        | Rule::Level
+        | Rule::Encoding
+        | Rule::ProofSize
+        | Rule::StimulusFile
+        | Rule::ObligationSize => return None,
+    };
+    Some(fault)
 }
 
 // What the words ask for; None where memory runs out, or they ask for nothing.
@@ -187,7 +161,7 @@ fn explain_rule(person: Person, words: &[String], refusal: &Refusal) {
     let Some(command) = command_of(person, words) else {
         return explain_memory(person);
     };
-    let Some(fault) = fault_of(refusal.number) else {
+    let Some(fault) = Rule::numbered(refusal.number).and_then(fault_of) else {
         // not used: where this cannot be written, the status tells of the rule
         let _ = person.stderr.eprintln(UNBUILT);
         return;

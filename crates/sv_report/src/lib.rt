@@ -25,10 +25,12 @@ mod verdict_texts;
 mod verdicts;
 
 pub use flow_texts::flow_text;
+pub use frames::{Frames, frames_of};
 pub use json_flows::flow_json;
 pub use json_texts::{accepted_json, limit_json, refusal_json, unknown_json};
 pub use json_verdicts::verdict_json;
 pub use laws::{ascii_names_are_told_unchanged, each_failure_has_one_text};
+pub use reads::label_in;
 pub use std::alloc::AllocError as OutOfMemory;
 pub use styles::{Style, accepted_in, flow_text_in, limit_in, refusal_in, unknown_in};
 pub use sv_texts::{StimSource, limit_text, refusal_text, stimulus_text};

@@ -67,8 +67,8 @@ pub fn first_to_stay(
     Ok(first_staying(design, &query.reads, &frames.here, point).unwrap())
 }
 
-// The label of a signal where all have these values.
-fn label_in(design: &Design, s: SigId, values: &[u64]) -> Point
+/// The label of a signal where all have these values.
+pub fn label_in(design: &Design, s: SigId, values: &[u64]) -> Point
     requires known { s.0 < length design.now.signals.items }
     requires fit { FitSignals (design_of design.now).signals values.now }
     ensures label { result ≡

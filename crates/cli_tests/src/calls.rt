@@ -63,3 +63,28 @@ pub fn answered(
     let outcome = run(alloc, &list, cabinet, &mut input, &mut out);
     Ok((outcome, Vec::from_slice(alloc, out.bytes())?))
 }
+
+/// What the input gives, a byte a take, and the numbers, from 1, of the take and of the put that
+/// fail; at 0 none does.
+#[derive(Clone, Copy)]
+pub struct Outside<'a> {
+    pub stimulus: &'a str,
+    pub take: u32,
+    pub put: u32,
+}
+
+/// The status of these words over these files, and all that was written, where the output moves a
+/// byte a put.
+pub fn run_over(
+    alloc: Global,
+    words: &str,
+    cabinet: &mut MemCabinet,
+    outside: Outside<'_>,
+) -> Result<(u8, Vec<u8>), AllocError> {
+    let list = list_of(alloc, words)?;
+    let bytes = Vec::from_slice(alloc, outside.stimulus.as_bytes())?;
+    let mut input = MemSource::new(bytes, vec![in alloc; outside.take]?, 1);
+    let mut out = MemSink::new(alloc, vec![in alloc; outside.put]?, 1);
+    let outcome = run(alloc, &list, cabinet, &mut input, &mut out);
+    Ok((outcome.status(), Vec::from_slice(alloc, out.bytes())?))
+}

@@ -10,6 +10,8 @@ mod cycles;
 #[cfg(test)]
 mod failures;
 #[cfg(test)]
+mod outside;
+#[cfg(test)]
 mod texts;
 #[cfg(test)]
 mod verdicts;

@@ -1,0 +1,169 @@
+// Each call of the outside fails in turn, of each command over its worked rows.
+use crate::calls::{Outside, run_over};
+use crate::texts::{COUNTER, GATE, INVERTERS, SUMS, TURN};
+use std::alloc::{AllocError, Global};
+use std::process::Abort;
+use std::test::Fail;
+use sv_io::MemCabinet;
+
+const CERTIFICATE: &str = "secv-proof 1\nobligations 2\no 1 1\n0 3 5 6 0\no 2 1\n0 1 3 0\nend\n";
+
+const FIRST: &str = "inputs turn a b\n0 1 0\n1 1 1\n";
+
+const SECOND: &str = "inputs turn a b\n0 1 1\n1 1 0\n";
+
+const STIMULUS: &str = "start q 9\ninputs en d\n1 3\n0 F\n1 0\n";
+
+const TRACE: &str = "0 en=1 d=3 q=9 s=0 n=a\n1 en=0 d=f q=a s=3 n=b\n2 en=1 d=0 q=a s=c n=b\n";
+
+const TURN_LIST: &str = "1 y now +3:19 =3:10 reads turn b\n2 y now -3:19 =3:10 reads turn a\n";
+
+const CLAUSES: &str = "p cnf 3 6\n1 0\n1 -3 0\n-2 -3 0\n-1 2 3 0\n2 0\n3 0\n";
+
+const TWO: &str = "accepted 2 obligations\n";
+
+const AS_JSON: &str = "{\"obligations\":2,\"verdict\":\"accepted\"}\n";
+
+const SPENT: &str = "unknown obligation 2 budget 1\n";
+
+const ROUNDS: &str = "0 a=0 y=1 p=1 q=0\n1 a=1 y=0 p=0 q=1\nrounds 4\n";
+
+// Words over a design, beside which stand a certificate and two stimuli, and an input; how many
+// calls of the files there are, and what is written.
+type Row = (&'static str, &'static str, &'static str, u32, &'static str);
+
+const ROWS: [Row; 15] = [
+    ("check f", GATE, "", 1, "accepted 1 obligations\n"),
+    ("check f --json", TURN, "", 1, AS_JSON),
+    ("check f --budget 1", SUMS, "", 1, SPENT),
+    ("check f --proof q", TURN, "", 2, TWO),
+    ("check f --proof p", TURN, "", 2, TWO),
+    ("verify f p", TURN, "", 2, TWO),
+    ("verify f A", TURN, "", 2, "refused proof 1\n"),
+    ("list f", TURN, "", 1, TURN_LIST),
+    ("cnf f 1", TURN, "", 1, CLAUSES),
+    ("sim f", COUNTER, STIMULUS, 1, TRACE),
+    ("sim f --order 1", INVERTERS, "inputs a\n0\n1\n", 1, ROUNDS),
+    ("compare f A B --level L", TURN, "", 3, "equal 2 cycles\n"),
+    ("compare f A B --level H", TURN, "", 3, "differ input 0 b\n"),
+    ("gen 1 --check", TURN, "", 0, "accepted 14 obligations\n"),
+    ("chekc f", TURN, "", 0, "usage unknown-command\n"),
+];
+
+const READ_FAULT: u8 = 4;
+
+const WRITE_FAULT: u8 = 5;
+
+// The files of a row, of which the call with the number fails; none does at 0.
+fn files_of(alloc: Global, text: &str, call: u32) -> Result<MemCabinet, AllocError> {
+    let mut files = MemCabinet::new(alloc, vec![in alloc; call]?);
+    for (name, bytes) in [("f", text), ("p", CERTIFICATE), ("A", FIRST), ("B", SECOND)] {
+        files.hold(name, bytes.as_bytes())?;
+    }
+    Ok(files)
+}
+
+// Whether the bytes under the name are those of before, or a front of a certificate of the design.
+fn is_kept(files: &MemCabinet, name: &str, before: &[u8], certificate: &[u8]) -> bool {
+    match files.bytes(name) {
+        Some(bytes) => bytes == before || certificate.starts_with(bytes),
+        None => before.is_empty(),
+    }
+}
+
+// Each call of the files fails once, and then nothing is written; a call more is not made.
+fn fails_at_each_file(rt: &impl Abort, alloc: Global, row: Row) -> Result<(), Fail> {
+    let (words, text, stimulus, calls, whole) = row;
+    let mut sure = files_of(alloc, text, 0)?;
+    let outside = Outside {
+        stimulus,
+        take: 0,
+        put: 0,
+    };
+    let _ = run_over(alloc, "check f --proof stored", &mut sure, outside)?;
+    let certificate = sure.bytes("stored").unwrap_or(b"");
+    for call in 1..=calls {
+        let mut files = files_of(alloc, text, call)?;
+        let (status, bytes) = run_over(alloc, words, &mut files, outside)?;
+        let wanted = if call == 2 && words.starts_with("check") {
+            WRITE_FAULT
+        } else {
+            READ_FAULT
+        };
+        assert_eq!(rt; (status, bytes.is_empty()), (wanted, true));
+        assert!(rt; is_kept(&files, "q", b"", certificate));
+        assert!(rt; is_kept(&files, "p", CERTIFICATE.as_bytes(), certificate));
+        assert!(rt; is_kept(&files, "f", text.as_bytes(), text.as_bytes()));
+    }
+    let mut files = files_of(alloc, text, calls.saturating_add(1))?;
+    let (_, bytes) = run_over(alloc, words, &mut files, outside)?;
+    assert_eq!(rt; bytes.as_slice(), whole.as_bytes());
+    Ok(())
+}
+
+#[test]
+fn a_file_that_fails_is_silent(rt: HostRuntime) -> Result<(), Fail> {
+    for row in ROWS {
+        fails_at_each_file(&rt, rt.alloc(), row)?;
+    }
+    Ok(())
+}
+
+// Each put fails once, and has what stands before it written.
+fn fails_at_each_put(rt: &impl Abort, alloc: Global, row: Row) -> Result<(), Fail> {
+    let (words, text, stimulus, _, whole) = row;
+    let mut put = 0_u32;
+    for before in 0..whole.len() {
+        put = put.saturating_add(1);
+        let mut files = files_of(alloc, text, 0)?;
+        let outside = Outside {
+            stimulus,
+            take: 0,
+            put,
+        };
+        let (status, bytes) = run_over(alloc, words, &mut files, outside)?;
+        assert_eq!(rt; status, WRITE_FAULT);
+        assert_eq!(rt; bytes.as_slice(), &whole.as_bytes()[..before]);
+    }
+    Ok(())
+}
+
+#[test]
+fn an_output_that_fails_has_the_front(rt: HostRuntime) -> Result<(), Fail> {
+    for row in ROWS {
+        fails_at_each_put(&rt, rt.alloc(), row)?;
+    }
+    Ok(())
+}
+
+// Each take fails once, up to the one that shows the end, and has a front of the trace written.
+fn fails_at_each_take(rt: &impl Abort, alloc: Global, row: Row) -> Result<(), Fail> {
+    let (words, text, stimulus, _, whole) = row;
+    let mut take = 0_u32;
+    for _ in 0..=stimulus.len() {
+        take = take.saturating_add(1);
+        let mut files = files_of(alloc, text, 0)?;
+        let outside = Outside {
+            stimulus,
+            take,
+            put: 0,
+        };
+        let (status, bytes) = run_over(alloc, words, &mut files, outside)?;
+        let wanted = if words.starts_with("sim") {
+            READ_FAULT
+        } else {
+            status
+        };
+        assert_eq!(rt; status, wanted);
+        assert!(rt; whole.as_bytes().starts_with(bytes.as_slice()));
+    }
+    Ok(())
+}
+
+#[test]
+fn an_input_that_fails_has_a_front(rt: HostRuntime) -> Result<(), Fail> {
+    for row in ROWS {
+        fails_at_each_take(&rt, rt.alloc(), row)?;
+    }
+    Ok(())
+}

@@ -4,12 +4,14 @@ use Rattle.std.proofs.Common.{cond, not, ◌&&◌, ◌||◌, Option, Some, None,
 use Rattle.std.proofs.Common.{[], ◌∷◌, ◌++◌, length, map, get_or, set, refl, sym, ap, subst, ◌∙◌}
 use Rattle.std.proofs.Common.{arith, get_or-set_same, get_or-set_other}
 use Rattle.std.specs.Prelude.{IsTrue, IsFalse, Contains, slice_get, option_map, filter}
-use Rattle.std.specs.List.{AllByRecursion, range_with_len}
+use Rattle.std.specs.List.{AllByRecursion, list_any, range_with_len}
 use Rattle.std.proofs.lemmas.Bool.{false≢true, eqb-true, eq-eqb, or_left}
 use Rattle.std.proofs.lemmas.List.{length_push}
 use Rattle.std.proofs.lemmas.List.{append-nil, map-set, get_or-map, length-map}
 use Rattle.sv_flat.proofs.LeastSets.{either_way, holds-from_Contains, Contains-from_holds}
 use Rattle.sv_flat.proofs.LeastSets.{in_those, those_below, those_pass}
+use Rattle.sv_flat.proofs.AdmittedFacts.{negated_false}
+use Rattle.sv_flat.proofs.SameRuns.{or_none_left, or_none_right}
 use Rattle.sv_system.proofs.Lists.{Contains-head, Contains-later}
 use Rattle.sv_flat.specs.Sets.{holds}
 use Rattle.sv_flat.specs.declared.signals.SigId.{SigId}
@@ -77,6 +79,25 @@ no_edges graph none a b = ap (λ r. holds r b) (none a)
 
 pub empty_is_whole : (graph : Graph) → ((a : ℕ) → row graph a ≡ []) → IsWhole graph
 empty_is_whole graph none a b h = absurd (false≢true (sym (no_edges graph none a b) ∙ h))
+
+-- ---- rows without edges
+
+abbrev pub some_edge : Vec SigId Global → Bool
+some_edge v = not (length v.items == 0)
+
+none_there : (xs : List SigId) → IsFalse (not (length xs == 0)) → numbers xs ≡ []
+none_there [] h = refl
+none_there (x ∷ xs) h =
+    let is : suc (length xs) ≡ 0 = eqb-true (length (x ∷ xs)) 0
+    (negated_false (length (x ∷ xs) == 0) h) in absurd (omega arith)
+
+pub no_row_has : (rows : List (Vec SigId Global)) → IsFalse (list_any some_edge rows) → (a b : ℕ) →
+    IsFalse (holds (get_or (map (λ (v : Vec SigId Global). numbers v.items) rows) a []) b)
+no_row_has [] h a b = refl
+no_row_has (v ∷ rows) h zero b =
+    ap (λ r. holds r b) (none_there v.items (or_none_left (some_edge v) (list_any some_edge rows) h))
+no_row_has (v ∷ rows) h (suc a) b =
+    no_row_has rows (or_none_right (some_edge v) (list_any some_edge rows) h) a b
 
 -- ---- edges once
 

@@ -22,6 +22,7 @@ pub mod LinkFacts
 pub mod TableFacts
 pub mod ReadFacts
 pub mod FeedFacts
+pub mod FollowFacts
 pub mod UseFacts
 pub mod Differing
 pub mod ReadOrders

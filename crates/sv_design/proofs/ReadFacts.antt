@@ -1,22 +1,32 @@
 -- What is read for what.
+use mathlib.Core.Path.{fun_ext}
 use Rattle.std.proofs.Common.{◌≡◌, ℕ, ◌<◌, Bool, true, false, not, ◌&&◌, ◌||◌, ◌==◌, List, length}
-use Rattle.std.proofs.Common.{ltb-true, refl, sym, ap, ap₂, subst, ◌∙◌, ⊎_elim}
+use Rattle.std.proofs.Common.{ltb-true, refl, sym, ap, ap₂, subst, ◌∙◌, ⊎_elim, Bor}
 use Rattle.std.specs.Prelude.{IsTrue, Contains}
 use Rattle.std.proofs.lemmas.Bool.{eqb-true}
 use Rattle.sv_flat.proofs.LeastSets.{either_way, Contains-from_filter}
 use Rattle.sv_design.specs.declared.bits.Bits.{Bits}
-use Rattle.sv_flat.specs.Assigned.{can_assign}
-use Rattle.sv_flat.specs.Design.{SignalForm, FlatStatement, after, ProcessForm, FlatDesign}
+use Rattle.sv_flat.specs.Assigned.{assigns, can_assign}
+use Rattle.sv_flat.specs.Design.{SignalForm, TypedTree, FlatStatement, nothing, after, ProcessForm}
+use Rattle.sv_flat.specs.Design.{FlatDesign}
+use Rattle.sv_flat.specs.Readings.{BitSet, either}
 use Rattle.sv_flat.specs.Soundness.{sound, kind_sound, statement_sound}
 use Rattle.sv_flat.specs.Clocks.{is_clock_link, processes_of}
 use Rattle.sv_flat.proofs.Depths.{second_of}
 use Rattle.sv_flat.proofs.AdmittedFacts.{assigned_is_signal}
 use Rattle.sv_design.specs.declared.graphs.Graph.{Graph}
-use Rattle.sv_design.specs.BitSets.{has_some, in_bits, HasTargetsBelow}
+use Rattle.sv_design.specs.BitSets.{mask_in, has_some, in_bits, HasTargetsBelow}
+use Rattle.sv_design.specs.Feeds.{names_sought, feeds}
 use Rattle.sv_design.specs.Graphs.{has_edge, GainsEdges}
 use Rattle.sv_design.specs.Phases.{SameBits}
 use Rattle.sv_design.proofs.BlockPasses.{targets_are}
-use Rattle.sv_design.proofs.MarkFacts.{or_three}
+use Rattle.sv_design.specs.Scopes.{in_scope}
+use Rattle.sv_design.specs.declared.reads.Sought.{Sought}
+use Rattle.sv_design.specs.declared.scopes.Scope.{Scope, Inside}
+use Rattle.sv_design.proofs.EntryFacts.{nothing_in}
+use Rattle.sv_design.proofs.MarkFacts.{or_no, or_three}
+use Rattle.sv_design.proofs.Passes.{or_turned}
+use Rattle.sv_design.proofs.PieceFacts.{in_scope-inside}
 use Rattle.sv_design.proofs.Sound.{process_is_sound}
 
 -- ---- the signals of a set
@@ -90,21 +100,6 @@ targets_below signals body set n size sound same s h =
     (assigned_is_signal signals body sound s
     (sym (targets_are signals body set sound same s) ∙ h)))
 
--- the bits so far, and those of the statements that are left
-abbrev pub BitsSoFar : Bits → (all left : FlatStatement) → Type 0
-BitsSoFar set all left = (s b : ℕ) → (in_bits set s b || can_assign left s b) ≡ can_assign all s b
-
-pub bits_more : (old new bits : Bits) (all left first rest : FlatStatement)
-    → left ≡ after first rest
-    → SameBits (in_bits bits) (can_assign first)
-    → ((s b : ℕ) → in_bits new s b ≡ (in_bits old s b || in_bits bits s b))
-    → BitsSoFar old all left → BitsSoFar new all rest
-bits_more old new bits all left first rest splits same gains so_far s b =
-    ap (λ t. t || can_assign rest s b) (gains s b ∙ ap (λ t. in_bits old s b || t) (same s b))
-    ∙ or_three (in_bits old s b) (can_assign first s b) (can_assign rest s b)
-    ∙ ap (λ z. in_bits old s b || can_assign z s b) (sym splits)
-    ∙ so_far s b
-
 -- the body of a process is sound
 pub body_of_process : (design : FlatDesign) → IsTrue (sound design) → (p : ProcessForm)
     → Contains (processes_of design) p
@@ -114,3 +109,71 @@ body_of_process design is_sound p at =
     not (is_clock_link design q)) design.processes p at).1 in
     second_of (kind_sound design p.kind p.body) (statement_sound design.signals p.body)
     (process_is_sound design is_sound p inside)
+
+-- ---- bits around a statement
+
+-- the names that are sought in what has its own bits around it
+pub gains_inside : (signals : List SignalForm) (sought : Sought) (e : TypedTree)
+    (whole : FlatStatement) (set : Bits) (old new : Graph) (h : Bor Bits) (r : Bor Scope)
+    → SameBits (in_bits h.now) (can_assign whole)
+    → ((b : ℕ) → has_some set b ≡ assigns whole b)
+    → GainsEdges old new (λ a b.
+    names_sought signals sought (in_scope (Inside h r)) e a && has_some set b)
+    → GainsEdges old new (λ a b.
+    names_sought signals sought (either (can_assign whole) (in_scope r.now)) e a
+    && assigns whole b)
+gains_inside signals sought e whole set old new h r bits targets gains =
+    let around : in_scope (Inside h r) ≡ either (can_assign whole) (in_scope r.now) =
+    in_scope-inside h r
+    ∙ ap (λ (z : BitSet). either z (in_scope r.now)) (fun_ext (λ s. fun_ext (λ b. bits s b))) in
+    same_edges old new
+    (λ a b. names_sought signals sought (in_scope (Inside h r)) e a && has_some set b)
+    (λ a b. names_sought signals sought (either (can_assign whole) (in_scope r.now)) e a
+    && assigns whole b)
+    (λ a b. ap₂ (λ z t. names_sought signals sought z e a && t) around (targets b))
+    gains
+
+-- no statement is left behind
+pub bits_begin : (none : Bits) (last : FlatStatement) → last ≡ nothing
+    → ((s : ℕ) → mask_in none s ≡ 0) → SameBits (in_bits none) (can_assign last)
+bits_begin none last is empty s b =
+    nothing_in (mask_in none s) b (empty s) ∙ ap (λ z. can_assign z s b) (sym is)
+
+pub feeds_begin : (signals : List SignalForm) (sought : Sought) (graph : Graph)
+    (last : FlatStatement) (later : BitSet) → last ≡ nothing
+    → GainsEdges graph graph (feeds signals sought last later)
+feeds_begin signals sought graph last later is a b =
+    sym (or_no (has_edge graph a b) (feeds signals sought last later a b)
+    (ap (λ z. feeds signals sought z later a b) is))
+
+-- a statement more, before the others
+pub bits_before : (left first rest : FlatStatement) → left ≡ after first rest
+    → (here bits more : Bits) → SameBits (in_bits here) (can_assign rest)
+    → SameBits (in_bits bits) (can_assign first)
+    → ((s b : ℕ) → in_bits more s b ≡ (in_bits here s b || in_bits bits s b))
+    → SameBits (in_bits more) (can_assign left)
+bits_before left first rest splits here bits more same can gains s b =
+    gains s b ∙ ap₂ ◌||◌ (same s b) (can s b)
+    ∙ or_turned (can_assign rest s b) (can_assign first s b)
+    ∙ ap (λ z. can_assign z s b) (sym splits)
+
+pub feeds_before : (signals : List SignalForm) (sought : Sought) (left first rest : FlatStatement)
+    → left ≡ after first rest → (h : Bor Bits) (r : Bor Scope) (old now next : Graph)
+    → SameBits (in_bits h.now) (can_assign rest)
+    → GainsEdges old now (feeds signals sought rest (in_scope r.now))
+    → GainsEdges now next (feeds signals sought first (in_scope (Inside h r)))
+    → GainsEdges old next (feeds signals sought left (in_scope r.now))
+feeds_before signals sought left first rest splits h r old now next same so_far gains =
+    let around : in_scope (Inside h r) ≡ either (can_assign rest) (in_scope r.now) =
+    in_scope-inside h r
+    ∙ ap (λ (z : BitSet). either z (in_scope r.now)) (fun_ext (λ s. fun_ext (λ b. same s b))) in
+    subst (λ z. GainsEdges old next (feeds signals sought z (in_scope r.now))) (sym splits)
+    (same_edges old next
+    (λ a b. feeds signals sought rest (in_scope r.now) a b
+    || feeds signals sought first (either (can_assign rest) (in_scope r.now)) a b)
+    (feeds signals sought (after first rest) (in_scope r.now))
+    (λ a b. or_turned (feeds signals sought rest (in_scope r.now) a b)
+    (feeds signals sought first (either (can_assign rest) (in_scope r.now)) a b))
+    (both_edges old now next (feeds signals sought rest (in_scope r.now))
+    (feeds signals sought first (either (can_assign rest) (in_scope r.now))) so_far
+    (subst (λ z. GainsEdges now next (feeds signals sought first z)) around gains)))

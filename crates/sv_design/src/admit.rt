@@ -2,8 +2,8 @@
 ghost use Rattle.std.specs.Prelude.{◌≡◌, Bool, [], length, map, count_by, IsTrue, IfOk, OnOk};
 ghost use Rattle.std.specs.Prelude.{IfErr};
 ghost use Rattle.sv_flat.specs.Admission.{breaches, IsAdmitted};
-ghost use Rattle.sv_flat.specs.Blocks.{phase_faults};
 ghost use Rattle.sv_flat.specs.Clocks.{processes_of};
+ghost use Rattle.sv_flat.specs.Drivers.{driver_faults};
 ghost use Rattle.sv_flat.specs.Processes.{is_register};
 ghost use Rattle.sv_flat.specs.Reads.{order as order_of};
 ghost use Rattle.sv_flat.specs.Soundness.{sound};
@@ -79,7 +79,7 @@ fn check_blocks(alloc: Global, flat: &Flat) -> Result<(), Fault>
     Ok(())
 }
 
-// What is read for each signal of a design whose blocks are in phase.
+// What is read for each signal of a design whose signals have one driver each.
 fn read_tables(
     alloc: Global,
     flat: &Flat,
@@ -94,7 +94,7 @@ fn read_tables(
     requires processes { map process_form processes.now ≡ processes_of (design_of flat.now) }
     requires registers { IsTable (length flat.now.signals.items) registers.now
         (is_register (design_of flat.now)) }
-    requires phases { phase_faults (design_of flat.now) ≡ [] }
+    requires drivers { driver_faults (design_of flat.now) ≡ [] }
     ensures { IfOk result (AreReads (design_of flat.now)) }
 {
     let combs = comb_table(alloc, flat, clocks, registers)?;

@@ -36,8 +36,8 @@ pub enum Asked<'a> {
     Followed,
 }
 
-// The bits of a signal of some width that are read, as a number.
-fn bits_read(width: u8, read: &Read) -> u64
+/// The bits of a signal of some width that are read, as a number.
+pub fn bits_read(width: u8, read: &Read) -> u64
     requires { width ≤ 64 }
     ensures { (b : ℕ) → is_set result b ≡
         (nat_le read.now.low b && nat_le b read.now.high && nat_lt b width) }

@@ -1,6 +1,6 @@
 // Graphs over signals.
 ghost use Rattle.std.specs.Prelude.{◌≡◌, ◌<◌, ◌≤◌, ◌^◌, ◌∷◌, ◌++◌, [], ◌==◌, ℕ, List, Bool, length};
-ghost use Rattle.std.specs.Prelude.{Contains, OnOk, IfOk, if◌then◌else◌};
+ghost use Rattle.std.specs.Prelude.{Contains, IsFalse, OnOk, IfOk, if◌then◌else◌};
 ghost use Rattle.sv_design.specs.Graphs.{size, row, has_edge, AddsEdge, AddsOnce, AddsSources};
 ghost use Rattle.sv_design.specs.Graphs.{IsWhole, IsTurned, ends_in};
 ghost use Rattle.sv_design.specs.Numbers.{numbers};
@@ -22,6 +22,13 @@ impl Graph {
     {
         let rows = vec![in alloc; Vec::new(alloc); count]?;
         Ok(Graph { rows })
+    }
+
+    /// Whether it has an edge.
+    pub fn has_edges(&self) -> bool
+        ensures { IsFalse result → (a b : ℕ) → IsFalse (has_edge self.now a b) }
+    {
+        self.rows.iter().any(|row| !row.is_empty())
     }
 
     /// Adds an edge. It fails where memory runs out.

@@ -1,27 +1,35 @@
 // The signals read for each signal.
 ghost use Rattle.std.specs.Prelude.{◌≡◌, ◌<◌, ◌≤◌, ◌^◌, ◌==◌, ◌&&◌, nat_lt, ℕ, [], length, map};
-ghost use Rattle.std.specs.Prelude.{IsTrue, OnOk, IfOk};
+ghost use Rattle.std.specs.Prelude.{Contains, IsTrue, OnOk, IfOk};
 ghost use Rattle.sv_flat.specs.Assigned.{can_assign};
-ghost use Rattle.sv_flat.specs.Blocks.{phase_faults};
-ghost use Rattle.sv_flat.specs.Processes.{is_register, signal_numbers};
-ghost use Rattle.sv_flat.specs.Reads.{reads_for};
-ghost use Rattle.sv_design.specs.Marks.{is_marked, IsTable};
-ghost use Rattle.sv_flat.specs.Readings.{names_signal};
-ghost use Rattle.sv_flat.specs.Soundness.{sound, statement_sound, well_formed};
-ghost use Rattle.sv_flat.specs.Views.{design_of, typed_tree, process_form, flat_statement};
-ghost use Rattle.sv_flat.specs.Views.{flat_statements, chain_of};
 ghost use Rattle.sv_flat.specs.Clocks.{processes_of};
+ghost use Rattle.sv_flat.specs.Drivers.{driver_faults};
+ghost use Rattle.sv_flat.specs.Processes.{is_block, is_register, signal_numbers};
+ghost use Rattle.sv_flat.specs.Readings.{no_bits};
+ghost use Rattle.sv_flat.specs.Reads.{reads_for};
+ghost use Rattle.sv_flat.specs.Sets.{holds, those, least_set};
+ghost use Rattle.sv_flat.specs.Soundness.{sound, statement_sound, well_formed};
+ghost use Rattle.sv_flat.specs.Views.{design_of, typed_tree, process_kind, process_form};
+ghost use Rattle.sv_flat.specs.Views.{flat_statement, flat_statements, chain_of};
 ghost use Rattle.sv_design.specs.BitSets.{in_bits, has_some, HasTargetsBelow};
-ghost use Rattle.sv_design.specs.Feeds.{feeds, feeds_in};
+ghost use Rattle.sv_design.specs.Feeds.{is_sought, names_sought, feeds, sought_in, feeds_in};
+ghost use Rattle.sv_design.specs.Feeds.{feeds_through};
 ghost use Rattle.sv_design.specs.Graphs.{size, rows_of, has_edge, GainsEdges, IsWhole};
+ghost use Rattle.sv_design.specs.Marks.{is_marked, IsTable};
+ghost use Rattle.sv_design.specs.Numbers.{numbers};
 ghost use Rattle.sv_design.specs.Phases.{SameBits};
-ghost use Rattle.sv_design.specs.ReadForms.{AreZeros};
+ghost use Rattle.sv_design.specs.ReadForms.{read_form, AreZeros};
+ghost use Rattle.sv_design.specs.Scopes.{in_scope};
 
-use crate::bits::Bits;
+use crate::bits::{Bits, share};
+use crate::blocks::bits_read;
 use crate::graphs::Graph;
-use crate::names::names_in;
+use crate::lists::listed;
+use crate::names::{Read, names_in};
+use crate::scopes::Scope;
+use crate::tops::reached;
 use std::alloc::{AllocError, Global};
-use sv_flat::{FExpr, FStmt, Flat, Process, SigId};
+use sv_flat::{FExpr, FStmt, Flat, ProcKind, Process, SigId};
 
 // Adds an edge from a signal to another, where that one is in a set.
 fn add_read(graph: &mut Graph, read: SigId, target: SigId, targets: &Bits) -> Result<(), AllocError>
@@ -53,41 +61,95 @@ fn add_reads_of(graph: &mut Graph, read: SigId, targets: &Bits) -> Result<(), Al
     Ok(())
 }
 
-// Adds edges from the names in an expression to each signal of a set.
+/// Which reads of a process are sought: the earlier ones of an `always @*`, where an assignment to a
+/// bit that is read can follow the read, or all others.
+#[derive(Clone, Copy)]
+pub struct Sought {
+    pub in_block: bool,
+    pub earlier: bool,
+}
+
+// Whether a read is sought, where some bits can be assigned after it.
+fn is_sought(flat: &Flat, sought: Sought, read: &Read, later: &Scope) -> bool
+    requires sound { IsTrue (sound (design_of flat.now)) }
+    requires known { read.now.signal.0 < length flat.now.signals.items }
+    ensures { result ≡ is_sought (design_of flat.now).signals sought (in_scope later.now)
+        (read_form read.now) }
+{
+    let bits = bits_read(flat.signals[read.signal.0 as usize].width, read);
+    let is_earlier = sought.in_block & share(bits, later.of(read.signal));
+    if sought.earlier {
+        is_earlier
+    } else {
+        !is_earlier
+    }
+}
+
+// Adds edges from a name to each signal of a set, where the name is sought.
+fn add_name(
+    flat: &Flat,
+    graph: &mut Graph,
+    sought: Sought,
+    name: &Read,
+    later: &Scope,
+    targets: &Bits,
+) -> Result<(), AllocError>
+    requires sound { IsTrue (sound (design_of flat.now)) }
+    requires size { size graph.old ≡ length flat.now.signals.items }
+    requires known { name.now.signal.0 < length flat.now.signals.items }
+    requires targets { HasTargetsBelow (size graph.old) targets.now }
+    ensures size { size graph.new ≡ size graph.old }
+    ensures gains { OnOk result (GainsEdges graph.old graph.new (λ a b.
+        ((name.now.signal.0 == a) && is_sought (design_of flat.now).signals sought
+        (in_scope later.now) (read_form name.now)) && has_some targets.now b)) }
+    ensures whole { OnOk result (IsWhole graph.old → IsWhole graph.new) }
+{
+    if is_sought(flat, sought, name, later) {
+        add_reads_of(graph, name.signal, targets)?;
+    }
+    Ok(())
+}
+
+// Adds edges from the names in an expression that are sought to each signal of a set.
 fn add_reads(
     alloc: Global,
     flat: &Flat,
     zeros: &[u64],
     graph: &mut Graph,
+    sought: Sought,
     expr: &FExpr,
+    later: &Scope,
     targets: &Bits,
 ) -> Result<(), AllocError>
+    requires sound { IsTrue (sound (design_of flat.now)) }
     requires zeros { AreZeros (length flat.now.signals.items) zeros.now }
     requires formed { IsTrue (well_formed (design_of flat.now).signals (typed_tree expr.now)) }
     requires size { size graph.old ≡ length flat.now.signals.items }
     requires targets { HasTargetsBelow (size graph.old) targets.now }
     ensures size { size graph.new ≡ size graph.old }
     ensures gains { OnOk result (GainsEdges graph.old graph.new (λ a b.
-        names_signal (design_of flat.now).signals (typed_tree expr.now) a
-        && has_some targets.now b)) }
+        names_sought (design_of flat.now).signals sought (in_scope later.now)
+        (typed_tree expr.now) a && has_some targets.now b)) }
     ensures whole { OnOk result (IsWhole graph.old → IsWhole graph.new) }
 {
     let names = names_in(alloc, flat.signals.as_slice(), zeros, expr)?;
     for name in &names {
-        add_reads_of(graph, name.signal, targets)?;
+        add_name(flat, graph, sought, name, later, targets)?;
     }
     Ok(())
 }
 
-// Adds an edge from each signal that a statement reads to each that it is read for there, and gives
-// the bits that the statement can assign.
+// Adds an edge from each signal that a statement reads, as it is sought, to each that it is read for
+// there, and gives the bits that the statement can assign. Some bits can be assigned after it.
 #[cycle(follow)]
 fn follow(
     alloc: Global,
     flat: &Flat,
     zeros: &[u64],
     graph: &mut Graph,
+    sought: Sought,
     stmt: &FStmt,
+    later: &Scope,
 ) -> Result<Bits, AllocError>
     requires sound { IsTrue (sound (design_of flat.now)) }
     requires zeros { AreZeros (length flat.now.signals.items) zeros.now }
@@ -99,35 +161,40 @@ fn follow(
         SameBits (in_bits bits) (can_assign (flat_statement stmt.now))) }
     ensures gains { OnOk result
         (GainsEdges graph.old graph.new
-        (feeds (design_of flat.now).signals (flat_statement stmt.now))) }
+        (feeds (design_of flat.now).signals sought (flat_statement stmt.now)
+        (in_scope later.now))) }
     ensures whole { OnOk result (IsWhole graph.old → IsWhole graph.new) }
 {
     match stmt {
         FStmt::Assign { pieces, value, .. } => {
             let mut bits = Bits::new(alloc);
             bits.add_pieces(pieces)?;
-            add_reads(alloc, flat, zeros, graph, value, &bits)?;
+            let inside = Scope::Inside(&bits, &*later);
+            add_reads(alloc, flat, zeros, graph, sought, value, &inside, &bits)?;
             Ok(bits)
         }
-        FStmt::Block(stmts) => follow_all(alloc, flat, zeros, graph, stmts),
+        FStmt::Block(stmts) => follow_all(alloc, flat, zeros, graph, sought, stmts, later),
         FStmt::If { cond, yes, no, .. } => {
-            let by_yes = follow(alloc, flat, zeros, graph, yes)?;
-            let mut bits = follow(alloc, flat, zeros, graph, no)?;
+            let by_yes = follow(alloc, flat, zeros, graph, sought, yes, later)?;
+            let mut bits = follow(alloc, flat, zeros, graph, sought, no, later)?;
             bits.add_all(&by_yes)?;
-            add_reads(alloc, flat, zeros, graph, cond, &bits)?;
+            let inside = Scope::Inside(&bits, &*later);
+            add_reads(alloc, flat, zeros, graph, sought, cond, &inside, &bits)?;
             Ok(bits)
         }
     }
 }
 
-// The same of some statements.
+// The same of some statements, one after the other.
 #[cycle(follow)]
 fn follow_all(
     alloc: Global,
     flat: &Flat,
     zeros: &[u64],
     graph: &mut Graph,
+    sought: Sought,
     stmts: &[FStmt],
+    later: &Scope,
 ) -> Result<Bits, AllocError>
     requires sound { IsTrue (sound (design_of flat.now)) }
     requires zeros { AreZeros (length flat.now.signals.items) zeros.now }
@@ -139,15 +206,18 @@ fn follow_all(
         SameBits (in_bits bits) (can_assign (chain_of (flat_statements stmts.now)))) }
     ensures gains { OnOk result
         (GainsEdges graph.old graph.new
-        (feeds (design_of flat.now).signals (chain_of (flat_statements stmts.now)))) }
+        (feeds (design_of flat.now).signals sought (chain_of (flat_statements stmts.now))
+        (in_scope later.now))) }
     ensures whole { OnOk result (IsWhole graph.old → IsWhole graph.new) }
 {
-    let mut all = Bits::new(alloc);
-    for stmt in stmts {
-        let bits = follow(alloc, flat, zeros, graph, stmt)?;
-        all.add_all(&bits)?;
+    let mut here = Bits::new(alloc);
+    for i in 0..stmts.len() {
+        let stmt = &stmts[stmts.len() - 1 - i];
+        let inside = Scope::Inside(&here, &*later);
+        let bits = follow(alloc, flat, zeros, graph, sought, stmt, &inside)?;
+        here.add_all(&bits)?;
     }
-    Ok(all)
+    Ok(here)
 }
 
 // Adds an edge from a register to itself.
@@ -164,14 +234,55 @@ fn add_register(graph: &mut Graph, signal: SigId, is_register: bool) -> Result<(
     Ok(())
 }
 
-/// The graph that leads from each signal to those that it is read for in the processes: those that
-/// are assigned by its name, or in an arm of a condition with its name. It fails where memory runs
-/// out.
-pub fn readers_of(
+// Whether a process is an `always @*`.
+fn is_block(kind: ProcKind) -> bool
+    ensures { result ≡ is_block (process_kind kind) }
+{
+    matches!(kind, ProcKind::Comb)
+}
+
+// Adds an edge from each signal that a process reads, by an earlier read or by any other, to each
+// that it is read for there.
+fn follow_process(
+    alloc: Global,
+    flat: &Flat,
+    zeros: &[u64],
+    graph: &mut Graph,
+    process: &Process,
+    earlier: bool,
+) -> Result<(), AllocError>
+    requires sound { IsTrue (sound (design_of flat.now)) }
+    requires zeros { AreZeros (length flat.now.signals.items) zeros.now }
+    requires body { IsTrue
+        (statement_sound (design_of flat.now).signals (flat_statement process.now.body)) }
+    requires size { size graph.old ≡ length flat.now.signals.items }
+    ensures size { size graph.new ≡ size graph.old }
+    ensures gains { OnOk result
+        (GainsEdges graph.old graph.new
+        (feeds (design_of flat.now).signals (sought_in earlier (process_form process.now))
+        (flat_statement process.now.body) no_bits)) }
+    ensures whole { OnOk result (IsWhole graph.old → IsWhole graph.new) }
+{
+    let in_block = is_block(process.kind);
+    let has_none = earlier & !in_block;
+    if has_none {
+        return Ok(());
+    }
+    let nothing = Scope::Nothing;
+    let sought = Sought { in_block, earlier };
+    follow(alloc, flat, zeros, graph, sought, &process.body, &nothing)?;
+    Ok(())
+}
+
+// The graph that leads from each signal to those that it is read for in the processes by an earlier
+// read, or by any other: those that are assigned by its name, or in an arm of a condition with its
+// name.
+fn readers_of(
     alloc: Global,
     flat: &Flat,
     zeros: &[u64],
     processes: &[Process],
+    earlier: bool,
 ) -> Result<Graph, AllocError>
     requires sound { IsTrue (sound (design_of flat.now)) }
     requires zeros { AreZeros (length flat.now.signals.items) zeros.now }
@@ -179,12 +290,12 @@ pub fn readers_of(
     ensures size { IfOk result (λ graph. size graph ≡ length flat.now.signals.items) }
     ensures edges { IfOk result (λ graph.
         (a b : ℕ) → has_edge graph a b ≡
-        feeds_in (design_of flat.now).signals (processes_of (design_of flat.now)) a b) }
+        feeds_in (design_of flat.now).signals earlier (processes_of (design_of flat.now)) a b) }
     ensures whole { IfOk result IsWhole }
 {
     let mut graph = Graph::new(alloc, flat.signals.len())?;
     for process in processes {
-        follow(alloc, flat, zeros, &mut graph, &process.body)?;
+        follow_process(alloc, flat, zeros, &mut graph, process, earlier)?;
     }
     Ok(graph)
 }
@@ -204,9 +315,52 @@ fn add_registers(graph: &mut Graph, registers: &[bool]) -> Result<(), AllocError
     Ok(())
 }
 
-/// For each signal the signals read for it, in signal order, of a design whose blocks are in phase:
-/// those that it is assigned by, those in a condition with an arm that assigns it, and a register
-/// itself. It fails where memory runs out.
+// The signals that edges lead to from some signals on, in signal order.
+fn followers(
+    alloc: Global,
+    earlier: &Graph,
+    signals: &[SigId],
+) -> Result<Vec<SigId>, AllocError>
+    requires whole { IsWhole earlier.now }
+    requires few { size earlier.now < 2 ^ 32 }
+    requires signals { (k : ℕ) → Contains (numbers signals.now) k → k < size earlier.now }
+    ensures { IfOk result (λ list. let n = size earlier.now in
+        numbers list.items ≡ those n (holds (least_set n (has_edge earlier.now)
+        (numbers signals.now)))) }
+{
+    let table = reached(alloc, earlier, signals)?;
+    let list = listed(alloc, &table)?;
+    Ok(list)
+}
+
+// From the graph of settled reads that of all reads: a signal is read for what it is read for by a
+// settled read, and for what that is read for by an earlier one, to the end.
+fn with_followers(alloc: Global, settled: Graph, earlier: &Graph) -> Result<Graph, AllocError>
+    requires whole_settled { IsWhole settled }
+    requires whole { IsWhole earlier.now }
+    requires size { size earlier.now ≡ size settled }
+    requires few { size settled < 2 ^ 32 }
+    ensures size { IfOk result (λ graph. size graph ≡ size settled) }
+    ensures edges { IfOk result (λ graph. (a b : ℕ) → b < size settled →
+        has_edge graph a b ≡
+        feeds_through (size settled) (has_edge settled) (has_edge earlier.now) a b) }
+    ensures whole { IfOk result IsWhole }
+{
+    if !earlier.has_edges() {
+        return Ok(settled);
+    }
+    let mut rows = Vec::new(alloc);
+    for signals in &settled.rows {
+        let list = followers(alloc, earlier, signals)?;
+        rows.push(list)?;
+    }
+    Ok(Graph { rows })
+}
+
+/// For each signal the signals read for it, in signal order, of a design whose signals have one
+/// driver each: those that it is assigned by, those in a condition with an arm that assigns it, for
+/// an earlier read what is read for its signal, and a register itself. It fails where memory runs
+/// out.
 pub fn reads_of(
     alloc: Global,
     flat: &Flat,
@@ -219,12 +373,14 @@ pub fn reads_of(
     requires processes { map process_form processes.now ≡ processes_of (design_of flat.now) }
     requires registers { IsTable (length flat.now.signals.items) registers.now
         (is_register (design_of flat.now)) }
-    requires phases { phase_faults (design_of flat.now) ≡ [] }
+    requires drivers { driver_faults (design_of flat.now) ≡ [] }
     ensures { IfOk result (λ reads.
         rows_of reads ≡ map (reads_for (design_of flat.now))
         (signal_numbers (design_of flat.now))) }
 {
-    let mut readers = readers_of(alloc, flat, zeros, processes)?;
+    let settled = readers_of(alloc, flat, zeros, processes, false)?;
+    let earlier = readers_of(alloc, flat, zeros, processes, true)?;
+    let mut readers = with_followers(alloc, settled, &earlier)?;
     add_registers(&mut readers, registers)?;
     let reads = readers.turned(alloc)?;
     Ok(reads)

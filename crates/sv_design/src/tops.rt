@@ -35,8 +35,8 @@ fn top_table(alloc: Global, flat: &Flat) -> Result<Vec<bool>, AllocError>
     Ok(tops)
 }
 
-// For each signal, whether edges lead to it from some signals on.
-fn reached(alloc: Global, graph: &Graph, starts: &[SigId]) -> Result<Vec<bool>, AllocError>
+/// For each signal, whether edges lead to it from some signals on. It fails where memory runs out.
+pub fn reached(alloc: Global, graph: &Graph, starts: &[SigId]) -> Result<Vec<bool>, AllocError>
     requires whole { IsWhole graph.now }
     requires starts { (k : ℕ) → Contains (numbers starts.now) k → k < size graph.now }
     ensures { IfOk result (λ table. (brings : ℕ → ℕ → Bool) → Brings graph.now 0 brings

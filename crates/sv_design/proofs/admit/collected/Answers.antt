@@ -1,29 +1,19 @@
-use Rattle.std.proofs.Common.{◌≡◌, ◌≤◌, ◌-◌, ℕ, List, [], ◌∷◌, ◌++◌, length, map, sym, ap, subst}
-use Rattle.std.proofs.Common.{◌∙◌}
+use Rattle.std.proofs.Common.{◌≡◌, ◌≤◌, ◌-◌, ℕ, List, length, map, sym, ap, subst, ◌∙◌}
 use Rattle.std.specs.Prelude.{filter}
-use Rattle.sv_flat.specs.Assignments.{wrong_assigns}
-use Rattle.sv_flat.specs.Blocks.{latches, phase_faults}
-use Rattle.sv_flat.specs.Breaches.{Breach}
 use Rattle.sv_flat.specs.Design.{ProcessForm}
-use Rattle.sv_flat.specs.Drivers.{clock_faults, driver_faults, undriven}
 use Rattle.sv_flat.specs.Processes.{is_clocked}
 use Rattle.sv_flat.specs.Views.{design_of, process_form}
 use Rattle.sv_flat.specs.declared.designs.Process.{Process}
+use Rattle.sv_design.proofs.FeedFacts.{drivers_unbroken}
 use Rattle.sv_design.proofs.ProcessCounts.{clocked_are, clocked_fit, others_are}
 use Rattle.sv_design.proofs.admit.collected.Goals as goal
-
-empty_behind : (xs ys : List Breach) → xs ++ ys ≡ [] → ys ≡ []
-empty_behind [] ys h = h
-empty_behind (x ∷ xs) ys h = absurd (cc h)
 
 abbrev count_of : List Process → ℕ
 count_of ps = length (filter (λ (p : ProcessForm). is_clocked p.kind) (map process_form ps))
 
-pub read_tables-requires-clause-phases : goal.read_tables-requires-clause-phases
-read_tables-requires-clause-phases c =
-    let design = design_of c.args.flat.now in
-    empty_behind (wrong_assigns design ++ clock_faults design ++ driver_faults design
-    ++ undriven design ++ latches design) (phase_faults design) c.requires.unbroken
+pub read_tables-requires-clause-drivers : goal.read_tables-requires-clause-drivers
+read_tables-requires-clause-drivers c =
+    drivers_unbroken (design_of c.args.flat.now) c.requires.unbroken
 
 pub overflow_sub-combs : goal.overflow_sub-combs
 overflow_sub-combs c =

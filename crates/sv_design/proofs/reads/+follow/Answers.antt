@@ -1,25 +1,27 @@
-use Rattle.std.proofs.Common.{◌≡◌, ◌+◌, ◌||◌, ◌&&◌, drop, sym, ap, ap₂, subst, ◌∙◌, rules}
+use Rattle.std.proofs.Common.{◌≡◌, ◌+◌, ◌-◌, ◌<◌, ◌||◌, ◌&&◌, length, get_or, drop, refl, sym, ap}
+use Rattle.std.proofs.Common.{ap₂, subst, ◌∙◌, arith, rules}
 use Rattle.std.proofs.lemmas.Bool.{and_parts}
+use Rattle.std.proofs.lemmas.List.{drop_all}
 use Rattle.std.specs.Prelude.{IsTrue, IfOk, OnOk}
 use Rattle.std.proofs.Math.ListN.{length-map}
 use Rattle.sv_flat.specs.Assigned.{assigns, can_assign}
-use Rattle.sv_flat.specs.Design.{assign, branch}
-use Rattle.sv_flat.specs.Readings.{names_signal}
+use Rattle.sv_flat.specs.Design.{nothing, assign, branch}
+use Rattle.sv_flat.specs.Readings.{either}
 use Rattle.sv_flat.specs.Soundness.{statement_sound}
 use Rattle.sv_flat.specs.Views.{design_of, signal_form, typed_tree, flat_statement, flat_statements}
 use Rattle.sv_flat.specs.Views.{chain_of}
 use Rattle.sv_flat.specs.declared.statements.FStmt.{the_lemmas}
 use Rattle.sv_design.specs.declared.bits.Bits.{Bits}
-use Rattle.sv_design.specs.BitSets.{in_bits, has_some, piece_forms}
-use Rattle.sv_design.specs.Feeds.{feeds}
+use Rattle.sv_design.specs.BitSets.{in_bits, piece_forms}
+use Rattle.sv_design.specs.Feeds.{names_sought, feeds}
 use Rattle.sv_design.specs.Graphs.{GainsEdges}
 use Rattle.sv_design.specs.Phases.{SameBits}
+use Rattle.sv_design.specs.Scopes.{in_scope}
 use Rattle.sv_design.proofs.BlockPasses.{targets_are}
-use Rattle.sv_design.proofs.GraphFacts.{edges_more}
-use Rattle.sv_design.proofs.Passes.{or_turned, only_pieces}
-use Rattle.sv_design.proofs.ReadFacts.{same_edges, both_edges, targets_below, bits_more}
-use Rattle.sv_design.proofs.Sound.{branch_is, sound_as}
-use Rattle.sv_design.proofs.Sound.{block_is, next_statement, sound_first, sound_rest}
+use Rattle.sv_design.proofs.Passes.{sound_at, or_turned, only_pieces}
+use Rattle.sv_design.proofs.ReadFacts.{both_edges, targets_below, gains_inside, bits_begin}
+use Rattle.sv_design.proofs.ReadFacts.{feeds_begin, bits_before, feeds_before}
+use Rattle.sv_design.proofs.Sound.{branch_is, sound_as, block_is, next_statement}
 use Rattle.sv_design.proofs.reads.+follow.Goals as goal
 
 pub follow-add_reads-requires-clause-targets : goal.follow-add_reads-requires-clause-targets
@@ -72,13 +74,12 @@ follow-returns-in_ok-add_reads-in-Assign-clause-gains t c =
     let is : flat_statement c.args.stmt.now ≡ whole = ap flat_statement c.in-Assign.is in
     let bits = only_pieces c.new-bits.result c.add_pieces.new.self _ _ c.deref.ensures.value
     c.new-bits.ensures c.in_ok-add_pieces-in-Assign.ensures in
-    subst (λ b. GainsEdges c.args.graph.now c.add_reads.new.graph (feeds signals b)) (sym is)
-    (same_edges c.args.graph.now c.add_reads.new.graph (λ a b.
-    names_signal signals (typed_tree c.in-Assign.value) a && has_some c.add_pieces.new.self b)
-    (feeds signals whole)
-    (λ a b. ap (λ t. names_signal signals (typed_tree c.in-Assign.value) a && t)
+    subst (λ b. GainsEdges c.args.graph.now c.add_reads.new.graph
+    (feeds signals c.args.sought b (in_scope c.args.later.now))) (sym is)
+    (gains_inside signals c.args.sought (typed_tree c.in-Assign.value) whole c.add_pieces.new.self
+    c.args.graph.now c.add_reads.new.graph _ _ bits
     (targets_are signals whole c.add_pieces.new.self
-    (sound_as signals c.in-Assign.is c.requires.body) bits b))
+    (sound_as signals c.in-Assign.is c.requires.body) bits)
     c.in_ok-add_reads-in-Assign.ensures.gains)
 
 pub follow-follow_all-requires : goal.follow-follow_all-requires
@@ -109,7 +110,7 @@ pub follow-returns-in-Block-clause-gains : goal.follow-returns-in-Block-clause-g
 follow-returns-in-Block-clause-gains t c =
     subst (λ b. OnOk c.follow_all.result
     (GainsEdges c.args.graph.now c.follow_all.new.graph
-    (feeds (design_of c.args.flat.now).signals b)))
+    (feeds (design_of c.args.flat.now).signals c.args.sought b (in_scope c.args.later.now))))
     (sym (block_is _ c.in-Block.stmts _ c.in-Block.is c.deref-in-Block.ensures.value))
     c.follow_all.ensures.gains
 
@@ -148,20 +149,19 @@ follow-returns-in_ok-add_reads-in-If-clause-gains t c =
     ∙ ap₂ ◌||◌ (c.in_ok-bits-in-If.ensures.bits s b) (c.in_ok-by_yes-in-If.ensures.bits s b)
     ∙ or_turned (can_assign second s b) (can_assign first s b) in
     let sound = subst (λ b. IsTrue (statement_sound signals b)) is c.requires.body in
+    let sought = c.args.sought in
+    let later = in_scope c.args.later.now in
     let old = c.args.graph.now in
     let new = c.add_reads-in-If.new.graph in
-    subst (λ b. GainsEdges old new (feeds signals b)) (sym is)
+    subst (λ b. GainsEdges old new (feeds signals sought b later)) (sym is)
     (both_edges old c.follow-in-If.new.graph new (λ a b.
-    feeds signals first a b || feeds signals second a b)
-    (λ a b. names_signal signals cond a && assigns whole b)
-    (both_edges old c.follow.new.graph c.follow-in-If.new.graph (feeds signals first)
-    (feeds signals second)
+    feeds signals sought first later a b || feeds signals sought second later a b)
+    (λ a b. names_sought signals sought (either (can_assign whole) later) cond a && assigns whole b)
+    (both_edges old c.follow.new.graph c.follow-in-If.new.graph (feeds signals sought first later)
+    (feeds signals sought second later)
     c.in_ok-by_yes-in-If.ensures.gains c.in_ok-bits-in-If.ensures.gains)
-    (same_edges c.follow-in-If.new.graph new (λ a b.
-    names_signal signals cond a && has_some c.add_all.new.self b)
-    (λ a b. names_signal signals cond a && assigns whole b)
-    (λ a b. ap (λ t. names_signal signals cond a && t)
-    (targets_are signals whole c.add_all.new.self sound bits b))
+    (gains_inside signals sought cond whole c.add_all.new.self c.follow-in-If.new.graph new _ _ bits
+    (targets_are signals whole c.add_all.new.self sound bits)
     c.in_ok-add_reads-in-If.ensures.gains))
 
 pub follow-returns-in_ok-add_reads-in-If-clause-whole :
@@ -170,47 +170,80 @@ follow-returns-in_ok-add_reads-in-If-clause-whole t c = λ whole.
     c.in_ok-add_reads-in-If.ensures.whole
     (c.in_ok-bits-in-If.ensures.whole (c.in_ok-by_yes-in-If.ensures.whole whole))
 
-pub follow_all-follow-requires : goal.follow_all-follow-requires
-follow_all-follow-requires t c =
+pub follow_all-loop-i-init : goal.follow_all-loop-i-init
+follow_all-loop-i-init t c =
     let signals = (design_of c.args.flat.now).signals in
     let stmts = c.args.stmts.now in
-    let i = c.loop-stmt.stmt-index in
-    let this = flat_statement c.stmt-item.result in
-    let rest = chain_of (flat_statements (drop (i + 1) stmts)) in
-    let next = next_statement stmts i c.stmt-item.result c.loop-stmt-test.true c.stmt-item.is in (
+    let last = chain_of (flat_statements (drop (length stmts - 0) stmts)) in
+    let none : last ≡ nothing = ap (λ ss. chain_of (flat_statements ss))
+    (drop_all (length stmts - 0) stmts (omega arith)) in (
+      refl,
+      bits_begin c.new-here.result last none c.new-here.ensures,
+      feeds_begin signals c.args.sought c.args.graph.now last (in_scope c.args.later.now) none,
+      λ whole. whole,
+    )
+
+pub follow_all-follow-requires : goal.follow_all-follow-requires
+follow_all-follow-requires t c =
+    let stmts = c.args.stmts.now in
+    let j = length stmts - 1 - c.loop-i.i in
+    let inside : j < length stmts = omega (arith, c.loop-i-test.true) in (
       search (rules, the_lemmas),
       (
         c.requires.sound,
         (
           c.requires.zeros,
           (
-            sound_first signals this rest
-                (subst (λ b. IsTrue (statement_sound signals b)) next c.loop-stmt.invariant.1),
-            c.loop-stmt.invariant.0 ∙ c.requires.size,
+            sound_at (design_of c.args.flat.now).signals stmts j c.index-stmts-stmts.result inside
+                c.index-stmts-stmts.is c.requires.body,
+            c.loop-i.invariant.0 ∙ c.requires.size,
           ),
         ),
       ),
     )
 
-pub follow_all-loop-stmt-preserved : goal.follow_all-loop-stmt-preserved
-follow_all-loop-stmt-preserved t c =
-    let signals = (design_of c.args.flat.now).signals in
+pub follow_all-loop-i-preserved : goal.follow_all-loop-i-preserved
+follow_all-loop-i-preserved t c =
     let stmts = c.args.stmts.now in
-    let i = c.loop-stmt.stmt-index in
-    let whole = chain_of (flat_statements stmts) in
-    let left = chain_of (flat_statements (drop i stmts)) in
-    let this = flat_statement c.stmt-item.result in
-    let rest = chain_of (flat_statements (drop (i + 1) stmts)) in
-    let next = next_statement stmts i c.stmt-item.result c.loop-stmt-test.true c.stmt-item.is in (
-      c.in_ok-bits.ensures.size ∙ c.loop-stmt.invariant.0,
-      sound_rest signals this rest
-          (subst (λ b. IsTrue (statement_sound signals b)) next c.loop-stmt.invariant.1),
-      bits_more c.loop-stmt.all c.add_all.new.self c.in_ok-bits.bits whole left this rest next
-          c.in_ok-bits.ensures.bits c.in_ok-add_all.ensures
-          c.loop-stmt.invariant.2,
-      edges_more c.args.graph.now c.loop-stmt.graph c.follow.new.graph (feeds signals whole)
-          (feeds signals left) (feeds signals this) (feeds signals rest)
-          (λ a b. ap (λ z. feeds signals z a b) next) c.in_ok-bits.ensures.gains
-          c.loop-stmt.invariant.3,
-      λ w. c.in_ok-bits.ensures.whole (c.loop-stmt.invariant.4 w),
+    let signals = (design_of c.args.flat.now).signals in
+    let sought = c.args.sought in
+    let later = in_scope c.args.later.now in
+    let i = c.loop-i.i in
+    let j = length stmts - (i + 1) in
+    let stmt = c.index-stmts-stmts.result in
+    let inside : j < length stmts = omega (arith, c.loop-i-test.true) in
+    let same : length stmts - 1 - i ≡ j = omega (arith, c.loop-i-test.true) in
+    let next : length stmts - i ≡ j + 1 = omega (arith, c.loop-i-test.true) in
+    let left = chain_of (flat_statements (drop j stmts)) in
+    let this = flat_statement stmt in
+    let rest = chain_of (flat_statements (drop (j + 1) stmts)) in
+    let splits = next_statement stmts j stmt inside
+    (subst (λ k. stmt ≡ get_or stmts k stmt) same c.index-stmts-stmts.is) in
+    let before = subst (λ k. SameBits (in_bits c.loop-i.here)
+    (can_assign (chain_of (flat_statements (drop k stmts))))) next c.loop-i.invariant.1 in
+    let gained = subst (λ k. GainsEdges c.args.graph.now c.loop-i.graph
+    (feeds signals sought (chain_of (flat_statements (drop k stmts))) later)) next
+    c.loop-i.invariant.2 in (
+      c.in_ok-bits.ensures.size ∙ c.loop-i.invariant.0,
+      bits_before left this rest splits c.loop-i.here c.in_ok-bits.bits c.add_all.new.self before
+          c.in_ok-bits.ensures.bits c.in_ok-add_all.ensures,
+      feeds_before signals sought left this rest splits _ _ c.args.graph.now c.loop-i.graph
+          c.follow.new.graph before gained c.in_ok-bits.ensures.gains,
+      λ w. c.in_ok-bits.ensures.whole (c.loop-i.invariant.3 w),
     )
+
+pub follow_all-returns-clause-bits : goal.follow_all-returns-clause-bits
+follow_all-returns-clause-bits t c =
+    let stmts = c.args.stmts.now in
+    let none : length stmts - c.loop-i.i ≡ 0 = omega (arith, c.loop-i-test.false) in
+    subst (λ k. SameBits (in_bits c.loop-i.here)
+    (can_assign (chain_of (flat_statements (drop k stmts))))) none c.loop-i.invariant.1
+
+pub follow_all-returns-clause-gains : goal.follow_all-returns-clause-gains
+follow_all-returns-clause-gains t c =
+    let stmts = c.args.stmts.now in
+    let none : length stmts - c.loop-i.i ≡ 0 = omega (arith, c.loop-i-test.false) in
+    subst (λ k. GainsEdges c.args.graph.now c.loop-i.graph
+    (feeds (design_of c.args.flat.now).signals c.args.sought
+    (chain_of (flat_statements (drop k stmts))) (in_scope c.args.later.now))) none
+    c.loop-i.invariant.2

@@ -1,21 +1,19 @@
-use Rattle.std.proofs.Common.{◌≡◌, drop}
-use Rattle.std.specs.Prelude.{IsTrue}
-use Rattle.sv_flat.specs.Soundness.{statement_sound}
+use Rattle.std.proofs.Common.{◌≡◌, ◌-◌, length, drop}
+use Rattle.sv_flat.specs.Assigned.{can_assign}
 use Rattle.sv_flat.specs.Views.{design_of, flat_statements, chain_of}
+use Rattle.sv_design.specs.BitSets.{in_bits}
 use Rattle.sv_design.specs.Feeds.{feeds}
-use Rattle.sv_design.specs.Graphs.{size, IsWhole}
-use Rattle.sv_design.proofs.GraphFacts.{EdgesSoFar}
-use Rattle.sv_design.proofs.ReadFacts.{BitsSoFar}
+use Rattle.sv_design.specs.Graphs.{size, GainsEdges, IsWhole}
+use Rattle.sv_design.specs.Phases.{SameBits}
+use Rattle.sv_design.specs.Scopes.{in_scope}
 use Rattle.sv_design.proofs.reads.+follow.Given as goal
 
--- the statements so far, and those that are left
-abbrev pub invariant-follow_all-loop-stmt : goal.invariant-follow_all-loop-stmt
-invariant-follow_all-loop-stmt l =
+-- the last statements, with the bits that they can assign
+abbrev pub invariant-follow_all-loop-i : goal.invariant-follow_all-loop-i
+invariant-follow_all-loop-i l =
     let signals = (design_of l.flat).signals in
-    let whole = chain_of (flat_statements l.stmts) in
-    let left = chain_of (flat_statements (drop l.stmt-index l.stmts)) in
+    let last = chain_of (flat_statements (drop (length l.stmts - l.i) l.stmts)) in
     (size l.graph ≡ size l.initial.graph)
-    × IsTrue (statement_sound signals left)
-    × BitsSoFar l.all whole left
-    × EdgesSoFar l.initial.graph l.graph (feeds signals whole) (feeds signals left)
+    × SameBits (in_bits l.here) (can_assign last)
+    × GainsEdges l.initial.graph l.graph (feeds signals l.sought last (in_scope l.later))
     × (IsWhole l.initial.graph → IsWhole l.graph)

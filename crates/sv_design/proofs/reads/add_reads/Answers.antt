@@ -1,15 +1,17 @@
-use Rattle.std.proofs.Common.{◌≡◌, ◌<◌, ◌+◌, ◌&&◌, ◌||◌, ◌==◌, length, map, get_or, drop, refl, sym}
-use Rattle.std.proofs.Common.{ap, subst, ◌∙◌}
+use Rattle.std.proofs.Common.{◌≡◌, ◌<◌, ◌+◌, ◌&&◌, ◌||◌, ◌==◌, ℕ, length, map, get_or, drop, refl}
+use Rattle.std.proofs.Common.{sym, ap, subst, ◌∙◌}
 use Rattle.std.specs.List.{list_any}
 use Rattle.std.proofs.Math.ListN.{length-map}
 use Rattle.std.proofs.lemmas.List.{at_drop_all, at_drop_more}
 use Rattle.sv_flat.specs.ByNumber.{signal_forms}
-use Rattle.sv_flat.specs.Readings.{reads, ReadForm, names_signal}
+use Rattle.sv_flat.specs.Readings.{reads, ReadForm}
 use Rattle.sv_flat.specs.Views.{design_of, signal_form, typed_tree}
 use Rattle.sv_design.specs.declared.names.Read.{Read}
 use Rattle.sv_design.specs.BitSets.{has_some, HasTargetsBelow}
+use Rattle.sv_design.specs.Feeds.{is_sought, names_sought}
 use Rattle.sv_design.specs.Graphs.{size, has_edge}
 use Rattle.sv_design.specs.ReadForms.{read_form, read_forms}
+use Rattle.sv_design.specs.Scopes.{in_scope}
 use Rattle.sv_design.proofs.GraphFacts.{edges_more, edges_end}
 use Rattle.sv_design.proofs.MarkFacts.{any_map}
 use Rattle.sv_design.proofs.PhaseFacts.{no_read, name_is_signal}
@@ -19,34 +21,38 @@ use Rattle.sv_design.proofs.reads.add_reads.Goals as goal
 pub loop-name-init : goal.loop-name-init
 loop-name-init c =
     let tree = typed_tree c.args.expr.now in
-    let same : read_forms c.deref-name-items.result.now ≡
-    reads (design_of c.args.flat.now).signals tree =
+    let signals = (design_of c.args.flat.now).signals in
+    let later = in_scope c.args.later.now in
+    let test = λ (a : ℕ) (r : ReadForm). (r.signal == a) && is_sought signals c.args.sought later r in
+    let same : read_forms c.deref-name-items.result.now ≡ reads signals tree =
     ap read_forms c.deref-name-items.ensures.value ∙ c.in_ok-names.ensures
     ∙ ap (λ ss. reads (signal_forms ss) tree) c.as_slice.ensures.value in (
       refl,
       λ a b. ap (λ t. has_edge c.args.graph.now a b || t && has_some c.args.targets.now b)
-          (sym (any_map (λ (r : ReadForm). r.signal == a) read_form c.deref-name-items.result.now)
-          ∙ ap (list_any (λ (r : ReadForm). r.signal == a)) same),
+          (sym (any_map (test a) read_form c.deref-name-items.result.now)
+          ∙ ap (list_any (test a)) same),
       λ whole. whole,
     )
 
-pub add_reads_of-requires-clause-read : goal.add_reads_of-requires-clause-read
-add_reads_of-requires-clause-read c =
+pub add_name-requires-clause-size : goal.add_name-requires-clause-size
+add_name-requires-clause-size c = c.loop-name.invariant.0 ∙ c.requires.size
+
+pub add_name-requires-clause-known : goal.add_name-requires-clause-known
+add_name-requires-clause-known c =
     let items = c.args.flat.now.signals.items in
     let tree = typed_tree c.args.expr.now in
     let same : read_forms c.deref-name-items.result.now ≡
     reads (design_of c.args.flat.now).signals tree =
     ap read_forms c.deref-name-items.ensures.value ∙ c.in_ok-names.ensures
     ∙ ap (λ ss. reads (signal_forms ss) tree) c.as_slice.ensures.value in
-    let size_is : length (map signal_form items) ≡ size c.loop-name.graph =
-    length-map items signal_form ∙ sym c.requires.size ∙ sym c.loop-name.invariant.0 in
+    let size_is : length (map signal_form items) ≡ length items = rw length-map refl in
     subst (λ n. (get_or c.deref-name-items.result.now c.loop-name.name-index no_read).signal.0
     < n) size_is
     (name_is_signal (design_of c.args.flat.now).signals tree c.deref-name-items.result.now
     c.loop-name.name-index no_read c.requires.formed same c.loop-name-test.true)
 
-pub add_reads_of-requires-clause-targets : goal.add_reads_of-requires-clause-targets
-add_reads_of-requires-clause-targets c =
+pub add_name-requires-clause-targets : goal.add_name-requires-clause-targets
+add_name-requires-clause-targets c =
     subst (λ n. HasTargetsBelow n c.args.targets.now) (sym c.loop-name.invariant.0)
     c.requires.targets
 
@@ -54,33 +60,38 @@ pub loop-name-preserved : goal.loop-name-preserved
 loop-name-preserved c =
     let items = c.deref-name-items.result.now in
     let i = c.loop-name.name-index in
-    let set = c.args.targets.now in (
-      c.in_ok-add_reads_of.ensures.size ∙ c.loop-name.invariant.0,
-      edges_more c.args.graph.now c.loop-name.graph c.add_reads_of.new.graph
-          (λ a b. names_signal (design_of c.args.flat.now).signals (typed_tree c.args.expr.now) a
+    let set = c.args.targets.now in
+    let signals = (design_of c.args.flat.now).signals in
+    let later = in_scope c.args.later.now in
+    let test = λ (a : ℕ) (r : Read).
+    (r.signal.0 == a) && is_sought signals c.args.sought later (read_form r) in (
+      c.in_ok-add_name.ensures.size ∙ c.loop-name.invariant.0,
+      edges_more c.args.graph.now c.loop-name.graph c.add_name.new.graph
+          (λ a b. names_sought signals c.args.sought later (typed_tree c.args.expr.now) a
           && has_some set b)
-          (λ a b. list_any (λ (r : Read). r.signal.0 == a) (drop i items) && has_some set b)
-          (λ a b. ((get_or items i no_read).signal.0 == a) && has_some set b)
-          (λ a b. list_any (λ (r : Read). r.signal.0 == a) (drop (i + 1) items) && has_some set b)
+          (λ a b. list_any (test a) (drop i items) && has_some set b)
+          (λ a b. test a (get_or items i no_read) && has_some set b)
+          (λ a b. list_any (test a) (drop (i + 1) items) && has_some set b)
           (λ a b. ap (λ t. t && has_some set b)
-          (at_drop_more (list_any (λ (r : Read). r.signal.0 == a)) items i no_read
-          c.loop-name-test.true)
-          ∙ names_more ((get_or items i no_read).signal.0 == a)
-          (list_any (λ (r : Read). r.signal.0 == a) (drop (i + 1) items)) (has_some set b))
-          c.in_ok-add_reads_of.ensures.gains c.loop-name.invariant.1,
-      λ whole. c.in_ok-add_reads_of.ensures.whole (c.loop-name.invariant.2 whole),
+          (at_drop_more (list_any (test a)) items i no_read c.loop-name-test.true)
+          ∙ names_more (test a (get_or items i no_read)) (list_any (test a) (drop (i + 1) items))
+          (has_some set b))
+          c.in_ok-add_name.ensures.gains c.loop-name.invariant.1,
+      λ whole. c.in_ok-add_name.ensures.whole (c.loop-name.invariant.2 whole),
     )
 
 pub returns-clause-gains : goal.returns-clause-gains
 returns-clause-gains c =
     let items = c.deref-name-items.result.now in
     let set = c.args.targets.now in
+    let signals = (design_of c.args.flat.now).signals in
+    let later = in_scope c.args.later.now in
+    let test = λ (a : ℕ) (r : Read).
+    (r.signal.0 == a) && is_sought signals c.args.sought later (read_form r) in
     edges_end c.args.graph.now c.loop-name.graph
-    (λ a b. names_signal (design_of c.args.flat.now).signals (typed_tree c.args.expr.now) a
+    (λ a b. names_sought signals c.args.sought later (typed_tree c.args.expr.now) a
     && has_some set b)
-    (λ a b. list_any (λ (r : Read). r.signal.0 == a) (drop c.loop-name.name-index items)
-    && has_some set b)
+    (λ a b. list_any (test a) (drop c.loop-name.name-index items) && has_some set b)
     (λ a b. ap (λ t. t && has_some set b)
-    (at_drop_all (list_any (λ (r : Read). r.signal.0 == a)) items c.loop-name.name-index
-    c.loop-name-test.false))
+    (at_drop_all (list_any (test a)) items c.loop-name.name-index c.loop-name-test.false))
     c.loop-name.invariant.1

@@ -1,4 +1,4 @@
-use Rattle.std.proofs.Common.{◌≡◌, ◌+◌, ◌||◌, length, map, get_or, drop, refl, sym, ap, subst, ◌∙◌}
+use Rattle.std.proofs.Common.{◌≡◌, ℕ, ◌+◌, ◌||◌, length, map, get_or, drop, refl, sym, ap, subst, ◌∙◌}
 use Rattle.std.proofs.Common.{arith}
 use Rattle.std.specs.Prelude.{Contains}
 use Rattle.std.proofs.lemmas.List.{at_drop_all}
@@ -6,7 +6,8 @@ use Rattle.std.proofs.lemmas.List.Elements.{Contains-get_or}
 use Rattle.sv_system.proofs.Lists.{Contains-map}
 use Rattle.sv_flat.specs.Design.{ProcessForm}
 use Rattle.sv_flat.specs.Views.{design_of, process_form}
-use Rattle.sv_design.specs.Feeds.{feeds, feeds_in}
+use Rattle.sv_flat.specs.Readings.{no_bits}
+use Rattle.sv_design.specs.Feeds.{feeds, sought_in, feeds_in}
 use Rattle.sv_design.proofs.GraphFacts.{edges_more, edges_end, no_edges, empty_is_whole}
 use Rattle.sv_design.proofs.ReadFacts.{body_of_process}
 use Rattle.sv_design.proofs.TableFacts.{any_more}
@@ -21,8 +22,8 @@ loop-process-init c = (
   empty_is_whole c.in_ok-graph.graph c.in_ok-graph.ensures.edges,
 )
 
-pub follow-requires-clause-body : goal.follow-requires-clause-body
-follow-requires-clause-body c =
+pub follow_process-requires-clause-body : goal.follow_process-requires-clause-body
+follow_process-requires-clause-body c =
     let design = design_of c.args.flat.now in
     let processes = c.args.processes.now in
     let p = c.process-item.result in
@@ -37,30 +38,34 @@ pub loop-process-preserved : goal.loop-process-preserved
 loop-process-preserved c =
     let signals = (design_of c.args.flat.now).signals in
     let processes = c.args.processes.now in
+    let earlier = c.args.earlier in
     let i = c.loop-process.process-index in
-    let p = process_form c.process-item.result in (
-      c.in_ok-follow.ensures.size ∙ c.loop-process.invariant.0,
-      edges_more c.in_ok-graph.graph c.loop-process.graph c.follow.new.graph
-          (feeds_in signals (map process_form processes))
-          (feeds_in signals (map process_form (drop i processes))) (feeds signals p.body)
-          (feeds_in signals (map process_form (drop (i + 1) processes)))
-          (λ a b. any_more process_form (λ (q : ProcessForm).
-          feeds signals q.body a b) processes i c.process-item.result c.loop-process-test.true
-          c.process-item.is)
-          c.in_ok-follow.ensures.gains c.loop-process.invariant.1,
-      c.in_ok-follow.ensures.whole c.loop-process.invariant.2,
+    let p = process_form c.process-item.result in
+    let test = λ (a b : ℕ) (q : ProcessForm).
+    feeds signals (sought_in earlier q) q.body no_bits a b in (
+      c.in_ok-follow_process.ensures.size ∙ c.loop-process.invariant.0,
+      edges_more c.in_ok-graph.graph c.loop-process.graph c.follow_process.new.graph
+          (feeds_in signals earlier (map process_form processes))
+          (feeds_in signals earlier (map process_form (drop i processes)))
+          (feeds signals (sought_in earlier p) p.body no_bits)
+          (feeds_in signals earlier (map process_form (drop (i + 1) processes)))
+          (λ a b. any_more process_form (test a b) processes i c.process-item.result
+          c.loop-process-test.true c.process-item.is)
+          c.in_ok-follow_process.ensures.gains c.loop-process.invariant.1,
+      c.in_ok-follow_process.ensures.whole c.loop-process.invariant.2,
     )
 
 pub returns-clause-edges : goal.returns-clause-edges
 returns-clause-edges c = λ a b.
     let signals = (design_of c.args.flat.now).signals in
     let processes = c.args.processes.now in
+    let earlier = c.args.earlier in
     edges_end c.in_ok-graph.graph c.loop-process.graph
-    (feeds_in signals (map process_form processes))
-    (feeds_in signals (map process_form (drop c.loop-process.process-index processes)))
-    (λ x y. at_drop_all (λ ps. feeds_in signals (map process_form ps) x y) processes
+    (feeds_in signals earlier (map process_form processes))
+    (feeds_in signals earlier (map process_form (drop c.loop-process.process-index processes)))
+    (λ x y. at_drop_all (λ ps. feeds_in signals earlier (map process_form ps) x y) processes
     c.loop-process.process-index c.loop-process-test.false)
     c.loop-process.invariant.1 a b
-    ∙ ap (λ t. t || feeds_in signals (map process_form processes) a b)
+    ∙ ap (λ t. t || feeds_in signals earlier (map process_form processes) a b)
     (no_edges c.in_ok-graph.graph c.in_ok-graph.ensures.edges a b)
-    ∙ ap (λ ps. feeds_in signals ps a b) c.requires.processes
+    ∙ ap (λ ps. feeds_in signals earlier ps a b) c.requires.processes

@@ -9,6 +9,7 @@ abbrev pub invariant-loop-process : goal.invariant-loop-process
 invariant-loop-process l =
     let signals = (design_of l.flat).signals in
     (size l.graph ≡ length l.flat.signals.items)
-    × EdgesSoFar l.initial.graph l.graph (feeds_in signals (map process_form l.processes))
-    (feeds_in signals (map process_form (drop l.process-index l.processes)))
+    × EdgesSoFar l.initial.graph l.graph
+    (feeds_in signals l.earlier (map process_form l.processes))
+    (feeds_in signals l.earlier (map process_form (drop l.process-index l.processes)))
     × IsWhole l.graph

@@ -1,6 +1,8 @@
-use Rattle.std.proofs.Common.{length, sym, ◌∙◌}
+use Rattle.std.proofs.Common.{◌≡◌, ◌<◌, ℕ, length, sym, subst, ◌∙◌}
 use Rattle.std.proofs.Math.ListN.{length-map}
 use Rattle.sv_flat.specs.Views.{design_of, signal_form}
+use Rattle.sv_design.specs.Feeds.{feeds_through}
+use Rattle.sv_design.specs.Graphs.{has_edge}
 use Rattle.sv_design.proofs.FeedFacts.{rows_are, edge_is}
 use Rattle.sv_design.proofs.reads.reads_of.Goals as goal
 
@@ -10,8 +12,15 @@ returns c =
     let count = length-map c.args.flat.now.signals.items signal_form in
     let graph = c.add_registers.new.graph in
     rows_are design graph c.in_ok-reads.reads
-    (c.in_ok-add_registers.ensures.size ∙ c.in_ok-readers.ensures.size ∙ sym count)
+    (c.in_ok-add_registers.ensures.size ∙ c.in_ok-readers.ensures.size
+    ∙ c.in_ok-settled.ensures.size ∙ sym count)
     c.in_ok-reads.ensures.size c.in_ok-reads.ensures.turned
-    (edge_is design c.requires.phases c.in_ok-readers.readers graph c.args.registers.now
+    (edge_is design c.requires.drivers c.in_ok-settled.settled c.in_ok-earlier.earlier
+    c.in_ok-readers.readers graph c.args.registers.now
     (length c.args.flat.now.signals.items) (sym count)
-    c.requires.registers c.in_ok-readers.ensures.edges c.in_ok-add_registers.ensures.gains)
+    c.requires.registers c.in_ok-settled.ensures.edges c.in_ok-earlier.ensures.edges
+    (subst (λ m. (a b : ℕ) → b < m
+    → has_edge c.in_ok-readers.readers a b ≡
+    feeds_through m (has_edge c.in_ok-settled.settled) (has_edge c.in_ok-earlier.earlier) a b)
+    c.in_ok-settled.ensures.size c.in_ok-readers.ensures.edges)
+    c.in_ok-add_registers.ensures.gains)

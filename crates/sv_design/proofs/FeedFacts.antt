@@ -4,7 +4,7 @@ use Rattle.std.proofs.Common.{◌≡◌, ◌≢◌, ℕ, ◌+◌, ◌<◌, ◌�
 use Rattle.std.proofs.Common.{true, false, cond, not, ◌&&◌, ◌||◌, ◌==◌, List, [], ◌∷◌, ◌++◌}
 use Rattle.std.proofs.Common.{length, map, Vec, Global, ◌⊎◌, inl, inr, ⊎_elim, refl, sym, ap, ap₂}
 use Rattle.std.proofs.Common.{subst, ◌∙◌, Option, None, Some}
-use Rattle.std.specs.Prelude.{IsTrue, IsFalse, Contains, filter, slice_get, option_map}
+use Rattle.std.specs.Prelude.{IsTrue, Contains, filter, slice_get, option_map}
 use Rattle.std.specs.List.{list_any, range_with_len}
 use Rattle.std.proofs.lemmas.Bool.{false≢true, or_left, or_right, eqb-true, eq-eqb}
 use Rattle.std.proofs.Math.ListN.{length-map}

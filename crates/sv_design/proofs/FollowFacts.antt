@@ -1,6 +1,6 @@
 -- Searches from what is read to what it is read for.
-use Rattle.std.proofs.Common.{◌≡◌, ℕ, ◌+◌, ◌<◌, ◌≤◌, Bool, false, ◌==◌, nat_lt, ltb-true}
-use Rattle.std.proofs.Common.{ltb-false, List, [], ◌∷◌, ◌++◌, length, map, get_or, Vec, Global}
+use Rattle.std.proofs.Common.{◌≡◌, ℕ, ◌+◌, ◌<◌, ◌≤◌, Bool, false, nat_lt, ltb-true}
+use Rattle.std.proofs.Common.{ltb-false, List, [], ◌∷◌, ◌++◌, length, get_or, Vec, Global}
 use Rattle.std.proofs.Common.{◌⊎◌, inl, inr, ⊎_elim, refl, sym, ap, subst, ◌∙◌, arith}
 use Rattle.std.specs.Prelude.{IsTrue, IsFalse, Contains}
 use Rattle.std.specs.List.{list_any}
@@ -142,61 +142,61 @@ module _ (settled earlier graph : Graph) (whole : IsWhole settled)
     (same : size earlier ≡ size settled)
     (rows : RowsSoFar (rows_of graph) (size settled) (λ k.
     those (size earlier) (holds (least_set (size earlier) (has_edge earlier) (row settled k)))))
-    where
-  abbrev n : ℕ
-  n = size settled
+  where
+    abbrev n : ℕ
+    n = size settled
 
-  rows_size : (any : Graph) → length (rows_of any) ≡ size any
-  rows_size any = length-map any.rows.items row_numbers
+    rows_size : (any : Graph) → length (rows_of any) ≡ size any
+    rows_size any = length-map any.rows.items row_numbers
 
-  pub size_through : size graph ≡ n
-  size_through = sym (rows_size graph) ∙ rows.size_is
+    pub size_through : size graph ≡ n
+    size_through = sym (rows_size graph) ∙ rows.size_is
 
-  abbrev led : ℕ → List ℕ
-  led a = least_set (size earlier) (has_edge earlier) (row settled a)
+    abbrev led : ℕ → List ℕ
+    led a = least_set (size earlier) (has_edge earlier) (row settled a)
 
-  within : (a k : ℕ) → Contains (row settled a) k → k < size earlier
-  within a k at = subst (λ m. k < m) (sym same) (whole a k (holds-from_Contains (row settled a) k at))
+    within : (a k : ℕ) → Contains (row settled a) k → k < size earlier
+    within a k at = subst (λ m. k < m) (sym same) (whole a k (holds-from_Contains (row settled a) k at))
 
-  listed_is : (a b : ℕ) → b < size earlier →
-      holds (those (size earlier) (holds (led a))) b ≡ holds (led a) b
-  listed_is a b below =
-      let list = those (size earlier) (holds (led a)) in
-      same_answer (holds list b) (holds (led a) b)
-      (λ h. those_pass (size earlier) (holds (led a)) b (Contains-from_holds list b h))
-      (λ h. holds-from_Contains list b (in_those (size earlier) (holds (led a)) b below h))
+    listed_is : (a b : ℕ) → b < size earlier →
+        holds (those (size earlier) (holds (led a))) b ≡ holds (led a) b
+    listed_is a b below =
+        let list = those (size earlier) (holds (led a)) in
+        same_answer (holds list b) (holds (led a) b)
+        (λ h. those_pass (size earlier) (holds (led a)) b (Contains-from_holds list b h))
+        (λ h. holds-from_Contains list b (in_those (size earlier) (holds (led a)) b below h))
 
-  none_any : (xs : List ℕ) → list_any (λ k. false) xs ≡ false
-  none_any [] = refl
-  none_any (x ∷ xs) = none_any xs
+    none_any : (xs : List ℕ) → list_any (λ k. false) xs ≡ false
+    none_any [] = refl
+    none_any (x ∷ xs) = none_any xs
 
-  inside_or_past : (a : ℕ) → (a < n) ⊎ (n ≤ a)
-  inside_or_past a = ⊎_elim (λ h. inl (ltb-true a n h)) (λ h. inr (ltb-false a n h))
-      (either_way (nat_lt a n))
+    inside_or_past : (a : ℕ) → (a < n) ⊎ (n ≤ a)
+    inside_or_past a = ⊎_elim (λ h. inl (ltb-true a n h)) (λ h. inr (ltb-false a n h))
+        (either_way (nat_lt a n))
 
-  pub edges_through : (a b : ℕ) → b < n
-      → has_edge graph a b ≡ feeds_through n (has_edge settled) (has_edge earlier) a b
-  edges_through a b below =
-      let in_earlier : b < size earlier = subst (λ m. b < m) (sym same) below in
-      let back : ℕ → ℕ → Bool = λ m k. has_edge earlier k m in
-      ⊎_elim
-      (λ inside. ap (λ r. holds r b) (rows.are a inside)
-      ∙ listed_is a b in_earlier
-      ∙ reached_is (size earlier) (has_edge earlier) (row settled a) (within a) b in_earlier
-      ∙ ap (λ m. list_any (holds (row settled a)) (least_set m back (b ∷ []))) same)
-      (λ past. ap (λ r. holds r b) (get_or_past (rows_of graph) a []
-      (subst (λ m. m ≤ a) (sym rows.size_is) past))
-      ∙ sym (ap (λ r. list_any (holds r) (least_set n back (b ∷ [])))
-      (get_or_past (rows_of settled) a [] (subst (λ m. m ≤ a) (sym (rows_size settled)) past))
-      ∙ none_any (least_set n back (b ∷ []))))
-      (inside_or_past a)
+    pub edges_through : (a b : ℕ) → b < n
+        → has_edge graph a b ≡ feeds_through n (has_edge settled) (has_edge earlier) a b
+    edges_through a b below =
+        let in_earlier : b < size earlier = subst (λ m. b < m) (sym same) below in
+        let back : ℕ → ℕ → Bool = λ m k. has_edge earlier k m in
+        ⊎_elim
+        (λ inside. ap (λ r. holds r b) (rows.are a inside)
+        ∙ listed_is a b in_earlier
+        ∙ reached_is (size earlier) (has_edge earlier) (row settled a) (within a) b in_earlier
+        ∙ ap (λ m. list_any (holds (row settled a)) (least_set m back (b ∷ []))) same)
+        (λ past. ap (λ r. holds r b) (get_or_past (rows_of graph) a []
+        (subst (λ m. m ≤ a) (sym rows.size_is) past))
+        ∙ sym (ap (λ r. list_any (holds r) (least_set n back (b ∷ [])))
+        (get_or_past (rows_of settled) a [] (subst (λ m. m ≤ a) (sym (rows_size settled)) past))
+        ∙ none_any (least_set n back (b ∷ []))))
+        (inside_or_past a)
 
-  pub whole_through : IsWhole graph
-  whole_through a b h = ⊎_elim
-      (λ inside. subst (λ m. b < m) (same ∙ sym size_through)
-      (those_below (size earlier) (holds (led a)) b
-      (Contains-from_holds (those (size earlier) (holds (led a))) b
-      (sym (ap (λ r. holds r b) (rows.are a inside)) ∙ h))))
-      (λ past. absurd (false≢true (sym (ap (λ r. holds r b) (get_or_past (rows_of graph) a []
-      (subst (λ m. m ≤ a) (sym rows.size_is) past))) ∙ h)))
-      (inside_or_past a)
+    pub whole_through : IsWhole graph
+    whole_through a b h = ⊎_elim
+        (λ inside. subst (λ m. b < m) (same ∙ sym size_through)
+        (those_below (size earlier) (holds (led a)) b
+        (Contains-from_holds (those (size earlier) (holds (led a))) b
+        (sym (ap (λ r. holds r b) (rows.are a inside)) ∙ h))))
+        (λ past. absurd (false≢true (sym (ap (λ r. holds r b) (get_or_past (rows_of graph) a []
+        (subst (λ m. m ≤ a) (sym rows.size_is) past))) ∙ h)))
+        (inside_or_past a)

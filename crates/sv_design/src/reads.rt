@@ -61,8 +61,8 @@ fn add_reads_of(graph: &mut Graph, read: SigId, targets: &Bits) -> Result<(), Al
     Ok(())
 }
 
-/// Which reads of a process are sought: the earlier ones of an `always @*`, where an assignment to a
-/// bit that is read can follow the read, or all others.
+/// Which reads of a process are sought: the earlier ones of an `always @*`, where an assignment to
+/// a bit that is read can follow the read, or all others.
 #[derive(Clone, Copy)]
 pub struct Sought {
     pub in_block: bool,
@@ -139,8 +139,8 @@ fn add_reads(
     Ok(())
 }
 
-// Adds an edge from each signal that a statement reads, as it is sought, to each that it is read for
-// there, and gives the bits that the statement can assign. Some bits can be assigned after it.
+// Adds an edge from each signal that a statement reads, as it is sought, to each that it is read
+// for there, and gives the bits that the statement can assign. Some bits can be assigned after it.
 #[cycle(follow)]
 fn follow(
     alloc: Global,
@@ -316,11 +316,7 @@ fn add_registers(graph: &mut Graph, registers: &[bool]) -> Result<(), AllocError
 }
 
 // The signals that edges lead to from some signals on, in signal order.
-fn followers(
-    alloc: Global,
-    earlier: &Graph,
-    signals: &[SigId],
-) -> Result<Vec<SigId>, AllocError>
+fn followers(alloc: Global, earlier: &Graph, signals: &[SigId]) -> Result<Vec<SigId>, AllocError>
     requires whole { IsWhole earlier.now }
     requires few { size earlier.now < 2 ^ 32 }
     requires signals { (k : ℕ) → Contains (numbers signals.now) k → k < size earlier.now }

@@ -1,8 +1,8 @@
-use Rattle.std.proofs.Common.{◌≡◌, Bool, not, ◌&&◌, sym, subst, ◌∙◌}
+use Rattle.std.proofs.Common.{not, ◌&&◌, sym, subst}
 use Rattle.std.specs.Prelude.{IsTrue}
 use Rattle.sv_flat.specs.Processes.{is_block}
 use Rattle.sv_flat.specs.Readings.{BitSet, no_bits}
-use Rattle.sv_flat.specs.Views.{design_of, process_kind, process_form, flat_statement}
+use Rattle.sv_flat.specs.Views.{design_of, process_form, flat_statement}
 use Rattle.sv_design.specs.Feeds.{feeds, sought_in}
 use Rattle.sv_design.specs.Graphs.{has_edge, GainsEdges}
 use Rattle.sv_design.specs.Scopes.{in_scope}

@@ -1,4 +1,4 @@
-use Rattle.std.proofs.Common.{ℕ, List, map, Vec, Global}
+use Rattle.std.proofs.Common.{map, Vec, Global}
 use Rattle.sv_flat.specs.Sets.{holds, those, least_set}
 use Rattle.sv_flat.specs.declared.signals.SigId.{SigId}
 use Rattle.sv_design.specs.Graphs.{size, row, has_edge}

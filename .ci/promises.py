@@ -35,7 +35,6 @@ OPEN = {
        for title in ("Source::take", "<MemSource as Source>::take", "<SureSource as Source>::take", "<StdSource as Source>::take")},
     **{("sv_obl", f"Listing::{name}", "what it leaves in self"): LEFT for name in ("pass_target", "target_queries", "target_lines")},
     **{("sv_texts", name, "what it leaves in text"): LEFT for name in ("push_number", "push_place")},
-    ("sv_clause", "resolve_into", "what it leaves in out"): "every caller clears it, or drops it, before it is read",
     ("sv_words", "help_text", "what it gives"): "the text is that of `clap`, and is only tested",
 }
 HANDLES = re.compile(r"\b(Abort|Wait|Threads|Net|Processes)\b")

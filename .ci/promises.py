@@ -28,11 +28,8 @@ GROUPS = {
 # Types whose variants are the ways in which a call can end.
 ANSWERS = {"Outcome", "Checked", "Verified", "Decided", "Solved", "Compared", "Ending"}
 # What no clause says, and why that stands.
-UNREAD = "what a take that fails leaves in the buffer is read by no caller"
 LEFT = "after an error it is dropped by every caller"
 OPEN = {
-    **{("sv_io", title, "what it leaves in buf"): UNREAD
-       for title in ("Source::take", "<MemSource as Source>::take", "<SureSource as Source>::take", "<StdSource as Source>::take")},
     **{("sv_obl", f"Listing::{name}", "what it leaves in self"): LEFT for name in ("pass_target", "target_queries", "target_lines")},
     **{("sv_texts", name, "what it leaves in text"): LEFT for name in ("push_number", "push_place")},
     ("sv_words", "help_text", "what it gives"): "the text is that of `clap`, and is only tested",

@@ -131,6 +131,7 @@ impl Source for RepeatSource {
     ghost faults = { λ _. 0 };
 
     fn take(&mut self, buf: &mut [u8]) -> Result<usize, Failed>
+        ensures room { length buf.new ≡ length buf.old }
         ensures moved { result ≡
             Ok (min (repeat_most self.old) (min (length (repeat_left self.old)) (length buf.old))) }
         ensures within { IfOk result (λ count. count ≤ length buf.new) }

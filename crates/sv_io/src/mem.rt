@@ -1,7 +1,8 @@
 // A cabinet, a source and a sink in memory of which chosen calls fail.
 ghost use Rattle.std.specs.Prelude.{◌≡◌, ◌≢◌, ℕ, ◌+◌, ◌<◌, ◌≤◌, ◌↔◌, ◌⊎◌, Bool, true, false, []};
-ghost use Rattle.std.specs.Prelude.{IsTrue, List, ◌∷◌, ◌++◌, take, length, min, Option, None, Some};
-ghost use Rattle.std.specs.Prelude.{Ok, Err, IfOk, OnOk, OnErr, IsOk, IsErr, IsErrOf, vec_len};
+ghost use Rattle.std.specs.Prelude.{IsTrue, List, ◌∷◌, ◌++◌, take, drop, length, min, Option, None};
+ghost use Rattle.std.specs.Prelude.{Some, Ok, Err, IfOk, OnOk, OnErr, IsOk, IsErr, IsErrOf};
+ghost use Rattle.std.specs.Prelude.{vec_len};
 ghost use Rattle.std.specs.Option.{option_copied};
 ghost use Rattle.sv_io.specs.Cabinet.{bytes_under, IfLong, KeepsOrBegins};
 ghost use Rattle.sv_io.specs.Count.{Rose, one_more, is_failing};
@@ -323,6 +324,9 @@ impl Source for MemSource {
     ghost faults = { source_faults };
 
     fn take(&mut self, buf: &mut [u8]) -> Result<usize, Failed>
+        ensures room { length buf.new ≡ length buf.old }
+        ensures untouched { OnErr result (buf.new ≡ buf.old) }
+        ensures behind { IfOk result (λ count. drop count buf.new ≡ drop count buf.old) }
         ensures moved { IfOk result (λ count. count ≡
             min (source_most self.old) (min (length (mem_left self.old)) (length buf.old))) }
         ensures within { IfOk result (λ count. count ≤ length buf.new) }

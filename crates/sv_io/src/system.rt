@@ -267,6 +267,7 @@ impl<R: Read> Source for StdSource<R> {
     ghost faults = { source_faults };
 
     fn take(&mut self, buf: &mut [u8]) -> Result<usize, Failed>
+        ensures room { length buf.new ≡ length buf.old }
         ensures within { IfOk result (λ count. count ≤ length buf.new) }
         ensures given { IfOk result
             (λ count. source_given self.new ≡ source_given self.old ++ take count buf.new) }

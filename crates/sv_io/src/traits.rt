@@ -97,8 +97,10 @@ pub trait Source {
     ghost faults: { Self → ℕ };
 
     /// Puts the next bytes at the front of `buf`, and says how many. For a `buf` that is not empty,
-    /// 0 is the end of the input. A take that fails takes nothing.
+    /// 0 is the end of the input. A take that fails takes nothing, and `buf`
+    /// may hold any bytes then.
     fn take(&mut self, buf: &mut [u8]) -> Result<usize, Failed>
+        ensures room { length buf.new ≡ length buf.old }
         ensures within { IfOk result (λ count. count ≤ length buf.new) }
         ensures given { IfOk result
             (λ count. given self.new ≡ given self.old ++ take count buf.new) }

@@ -3,7 +3,7 @@
 ghost use Rattle.std.specs.Prelude.{◌≡◌, ◌≢◌, ◌∷◌, ℕ, List, Option, []};
 ghost use Rattle.sv_flat.specs.Design.{FlatDesign};
 ghost use Rattle.sv_io.specs.Exchange.{Exchange};
-ghost use Rattle.sv_obl.specs.Asked.{asked, AskedHold};
+ghost use Rattle.sv_obl.specs.Asked.{AskedHold};
 ghost use Rattle.sv_obl.specs.declared.valuations.Valuation.{Valuation as Listed};
 ghost use Rattle.sv_judge.specs.Verdicts.{IsAccepted, IsFalsified};
 ghost use Rattle.sv_text_laws.specs.FalsifiedTexts.{ListsFalsifyText};

@@ -42,7 +42,7 @@ ghost use Rattle.sv_flat.specs.Admission.{IsAdmitted};
 ghost use Rattle.sv_flat.specs.Design.{FlatDesign};
 ghost use Rattle.sv_walk.specs.Texts.{flat_of};
 ghost use Rattle.sv_flatten.specs.FlattenedTexts.{CanBeFlattened, EachItem, ReleasesNothing};
-ghost use Rattle.sv_obl.specs.Asked.{asked, AskedHold};
+ghost use Rattle.sv_obl.specs.Asked.{AskedHold};
 
 pub use falsified::{
     listed_values_falsify_texts_as_their_designs, valuations_falsify_texts_as_their_designs,

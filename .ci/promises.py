@@ -30,7 +30,6 @@ ANSWERS = {"Outcome", "Checked", "Verified", "Decided", "Solved", "Compared", "E
 # What no clause says, and why that stands.
 LEFT = "after an error it is dropped by every caller"
 OPEN = {
-    **{("sv_obl", f"Listing::{name}", "what it leaves in self"): LEFT for name in ("pass_target", "target_queries", "target_lines")},
     **{("sv_texts", name, "what it leaves in text"): LEFT for name in ("push_number", "push_place")},
     ("sv_words", "help_text", "what it gives"): "the text is that of `clap`, and is only tested",
 }

@@ -1,6 +1,6 @@
 // The obligations of a design, part by part.
 ghost use Rattle.std.specs.Prelude.{◌≡◌, [], ◌+◌, ◌<◌, ◌≤◌, ◌++◌, length, map, flat_map, All};
-ghost use Rattle.std.specs.Prelude.{IfOk, IfErr, OnOk};
+ghost use Rattle.std.specs.Prelude.{IfOk, IfErr, OnOk, OnErr};
 ghost use Rattle.sv_flat.specs.Processes.{signal_numbers};
 ghost use Rattle.sv_flat.specs.Views.{design_of};
 ghost use Rattle.sv_design.specs.Designs.{IsDesign};
@@ -9,7 +9,7 @@ ghost use Rattle.sv_obl.specs.DesignQueries.{IsQueryOf, IsPlaced};
 ghost use Rattle.sv_obl.specs.Driven.{IsDriven};
 ghost use Rattle.sv_obl.specs.Limits.{excess};
 ghost use Rattle.sv_obl.specs.ListLines.{list_text};
-ghost use Rattle.sv_obl.specs.ListParts.{IsAt, lines_left};
+ghost use Rattle.sv_obl.specs.ListParts.{IsAt, AreCounted, lines_left};
 ghost use Rattle.sv_obl.specs.Obligations.{target_obligations, selector_obligations};
 ghost use Rattle.sv_obl.specs.Views.{obligation_of};
 
@@ -33,6 +33,14 @@ pub struct Listing<'a> {
     pub count: u32,
 }
 
+// The paths of the target that comes next, if a process drives it, and how many obligations there
+// are with those of this target.
+#[derive(Drop)]
+struct Next<'d, 'a> {
+    paths: Option<Driven<'d, 'a>>,
+    count: u32,
+}
+
 impl<'a> Listing<'a> {
     /// The listing of a design before its first target; an error where memory runs out.
     pub fn new(alloc: Global, design: &'a Design) -> Result<Listing<'a>, AllocError>
@@ -45,31 +53,39 @@ impl<'a> Listing<'a> {
         })
     }
 
-    // The paths of the target that comes next, if a process drives it.
+    // What comes next. The listing stays where it is.
     fn next_paths<'d>(
-        &mut self,
+        &self,
         alloc: Global,
         design: &'d Design,
         target: SigId,
-    ) -> Result<Option<Driven<'d, 'a>>, OblFault>
+    ) -> Result<Next<'d, 'a>, OblFault>
         requires known { target.0 < length design.now.signals.items }
-        requires at { IsAt (design_of design.now) target.0 self.old }
-        ensures driven { IfOk result (IsDriven (design_of design.now) target.0 self.old.count) }
+        requires at { IsAt (design_of design.now) target.0 self.now }
+        ensures driven { IfOk result
+            (λ next. IsDriven (design_of design.now) target.0 self.now.count next.paths) }
+        ensures counted { IfOk result
+            (λ next. AreCounted (design_of design.now) (target.0 + 1) next.count) }
         ensures design { IsDesign (design_of design.now) }
-        ensures next { OnOk result (IsAt (design_of design.now) (target.0 + 1) self.new) }
         ensures told { IfErr result (Told (excess (design_of design.now))) }
     {
         match driven_routes(alloc, design, &self.bodies, target, self.count as usize)? {
             Some(driven) => {
-                self.count += driven.routes.len() as u32;
-                Ok(Some(driven))
+                let count = self.count + driven.routes.len() as u32;
+                Ok(Next {
+                    paths: Some(driven),
+                    count,
+                })
             }
-            None => Ok(None),
+            None => Ok(Next {
+                paths: None,
+                count: self.count,
+            }),
         }
     }
 
     /// Passes over the target that comes next: its obligations are counted, and none is made. An
-    /// error where it exceeds a limit, or where memory runs out.
+    /// error where it exceeds a limit, or where memory runs out; the listing stays before it then.
     pub fn pass_target(
         &mut self,
         alloc: Global,
@@ -79,14 +95,15 @@ impl<'a> Listing<'a> {
         requires known { target.0 < length design.now.signals.items }
         requires at { IsAt (design_of design.now) target.0 self.old }
         ensures next { OnOk result (IsAt (design_of design.now) (target.0 + 1) self.new) }
+        ensures stays { OnErr result (self.new ≡ self.old) }
         ensures told { IfErr result (Told (excess (design_of design.now))) }
     {
-        self.next_paths(alloc, design, target)?;
+        self.count = self.next_paths(alloc, design, target)?.count;
         Ok(())
     }
 
     /// The obligations of the target that comes next, each one of the design's; an error where it
-    /// exceeds a limit, or where memory runs out.
+    /// exceeds a limit, or where memory runs out, and then the listing stays before it.
     pub fn target_queries(
         &mut self,
         alloc: Global,
@@ -101,14 +118,17 @@ impl<'a> Listing<'a> {
             All (IsQueryOf (design_of design.now)) (map obligation_of queries.items)) }
         ensures placed { IfOk result (λ queries. All IsPlaced (map obligation_of queries.items)) }
         ensures next { OnOk result (IsAt (design_of design.now) (target.0 + 1) self.new) }
+        ensures stays { OnErr result (self.new ≡ self.old) }
         ensures told { IfErr result (Told (excess (design_of design.now))) }
     {
-        let found = self.next_paths(alloc, design, target)?;
-        Ok(queries_of(alloc, target, &found)?)
+        let next = self.next_paths(alloc, design, target)?;
+        let queries = queries_of(alloc, target, &next.paths)?;
+        self.count = next.count;
+        Ok(queries)
     }
 
     /// The lines of the target that comes next; an error where it exceeds a limit, or where memory
-    /// runs out.
+    /// runs out, and then the listing stays before it.
     pub fn target_lines(
         &mut self,
         alloc: Global,
@@ -120,11 +140,13 @@ impl<'a> Listing<'a> {
         ensures part { IfOk result (λ part. lines_left (design_of design.now) target.0
             ≡ part.items ++ lines_left (design_of design.now) (target.0 + 1)) }
         ensures next { OnOk result (IsAt (design_of design.now) (target.0 + 1) self.new) }
+        ensures stays { OnErr result (self.new ≡ self.old) }
         ensures told { IfErr result (Told (excess (design_of design.now))) }
     {
         let mut lines = Lines::after(alloc, self.count);
-        let found = self.next_paths(alloc, design, target)?;
-        push_paths(alloc, &mut lines, design, target, &found)?;
+        let next = self.next_paths(alloc, design, target)?;
+        push_paths(alloc, &mut lines, design, target, &next.paths)?;
+        self.count = next.count;
         Ok(lines.text)
     }
 

@@ -16,37 +16,29 @@ returns-in_err-driven-clause-told c =
     (told_counted design c.args.target.0 c.args.self.now.count inside c.requires.at.counted
     c.in_err-driven.field-0.0 c.in_err-driven.ensures.excess)
 
-pub returns-in-Some-clause-next : goal.returns-in-Some-clause-next
-returns-in-Some-clause-next c =
+pub returns-in-Some-clause-counted : goal.returns-in-Some-clause-counted
+returns-in-Some-clause-counted c =
     let design = design_of c.args.design.now in
     let total = c.args.self.now.count in
     let inside : c.args.target.0 < length design.signals =
     subst (λ n. c.args.target.0 < n)
     (sym (length_mapped signal_form c.args.design.now.signals.items)) c.requires.known in
-    record {
-      bodies = c.requires.at.bodies;
-      counted =
-          more_counted design c.args.target.0 total _ inside c.requires.at.counted
-          c.in_ok-driven.ensures.excess
-          (ap (λ n. total + n) (c.len.ensures ∙ c.in-Some.driven.routes.ok.0)
-          ∙ paths_many design c.args.target.0 total c.in-Some.driven
-          (subst (IsDriven design c.args.target.0 total) c.in-Some.is
-          c.in_ok-driven.ensures.driven));
-    }
+    more_counted design c.args.target.0 total _ inside c.requires.at.counted
+    c.in_ok-driven.ensures.excess
+    (ap (λ n. total + n) (c.len.ensures ∙ c.in-Some.driven.routes.ok.0)
+    ∙ paths_many design c.args.target.0 total c.in-Some.driven
+    (subst (IsDriven design c.args.target.0 total) c.in-Some.is
+    c.in_ok-driven.ensures.driven))
 
-pub returns-in-None-clause-next : goal.returns-in-None-clause-next
-returns-in-None-clause-next c =
+pub returns-in-None-clause-counted : goal.returns-in-None-clause-counted
+returns-in-None-clause-counted c =
     let design = design_of c.args.design.now in
     let total = c.args.self.now.count in
     let inside : c.args.target.0 < length design.signals =
     subst (λ n. c.args.target.0 < n)
     (sym (length_mapped signal_form c.args.design.now.signals.items)) c.requires.known in
-    record {
-      bodies = c.requires.at.bodies;
-      counted =
-          more_counted design c.args.target.0 total total inside c.requires.at.counted
-          c.in_ok-driven.ensures.excess
-          (no_paths design c.args.target.0 total
-          (subst (IsDriven design c.args.target.0 total) c.in-None.is
-          c.in_ok-driven.ensures.driven));
-    }
+    more_counted design c.args.target.0 total total inside c.requires.at.counted
+    c.in_ok-driven.ensures.excess
+    (no_paths design c.args.target.0 total
+    (subst (IsDriven design c.args.target.0 total) c.in-None.is
+    c.in_ok-driven.ensures.driven))

@@ -28,9 +28,7 @@ GROUPS = {
 # Types whose variants are the ways in which a call can end.
 ANSWERS = {"Outcome", "Checked", "Verified", "Decided", "Solved", "Compared", "Ending"}
 # What no clause says, and why that stands.
-LEFT = "after an error it is dropped by every caller"
 OPEN = {
-    **{("sv_texts", name, "what it leaves in text"): LEFT for name in ("push_number", "push_place")},
     ("sv_words", "help_text", "what it gives"): "the text is that of `clap`, and is only tested",
 }
 HANDLES = re.compile(r"\b(Abort|Wait|Threads|Net|Processes)\b")

@@ -1,5 +1,5 @@
 -- The texts that several layers write (this project's profile). Each line ends with a line feed.
-use Rattle.std.specs.Prelude.{ℕ, nat_eq, List, [], ◌∷◌, ◌++◌, codes, decimal, find}
+use Rattle.std.specs.Prelude.{◌≡◌, ℕ, nat_eq, List, [], ◌∷◌, ◌++◌, codes, decimal, find}
 use Rattle.std.specs.Option.{option_map_or}
 use Rattle.sv_num.specs.declared.faults.Place.{Place}
 use Rattle.sv_num.specs.Rules.{rule_number, rule_name as name_of, rules}
@@ -7,6 +7,13 @@ use Rattle.sv_texts.specs.declared.stimuli.StimKind.{StimKind}
 use Rattle.sv_texts.specs.declared.stimuli.StimKind.TheVariants as kind
 use Rattle.sv_texts.specs.declared.stimuli.StimSource.{StimSource}
 use Rattle.sv_texts.specs.declared.stimuli.StimSource.TheVariants as source
+
+-- a text grew by the front of a piece
+pub record GrowsByFront (old piece new : List ℕ) : Type 0 where
+  pub front : List ℕ
+  pub rest : List ℕ
+  pub whole : piece ≡ front ++ rest
+  pub grown : new ≡ old ++ front
 
 -- a place: its line and its column
 abbrev pub place_text : Place → List ℕ

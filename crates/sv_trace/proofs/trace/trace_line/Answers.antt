@@ -16,7 +16,7 @@ returns c =
     ∙ ap (λ line. line ++ 10 ∷ [])
     (c.in_ok-push_shown.ensures
     ∙ ap (λ line. line ++ text)
-    (c.in_ok-push_number.ensures ∙ ap (λ line. line ++ decimal c.args.cycle)
+    (c.in_ok-push_number.ensures.pushed ∙ ap (λ line. line ++ decimal c.args.cycle)
     c.new-line.ensures.items)
     ∙ ap (λ t. decimal c.args.cycle ++ t)
     (line_agrees design c.in_ok-table.ensures.design.is_sound

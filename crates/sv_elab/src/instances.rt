@@ -57,7 +57,9 @@ impl Interior<'_> {
 }
 
 // The module of an instance. Rule 311 refuses an unknown one, 312 a name that is taken, 314 a
-// module inside itself, and 315 the instance above the limit.
+// module inside itself, and 315 the instance above the limit. What it needs stands in its own
+// frame, since the walk calls itself for each instance in another.
+#[inline(never)]
 fn master_of<'a>(
     alloc: Global,
     shared: &Shared<'a>,
@@ -174,7 +176,9 @@ fn opened(
 }
 
 // An instance up to its items: adds the processes of its links and its signals with their labels,
-// and answers what its names stand for. The nest is that inside it.
+// and answers what its names stand for. The nest is that inside it. What it needs stands in its own
+// frame, as that of `master_of`.
+#[inline(never)]
 fn set_up(
     alloc: Global,
     shared: &Shared,

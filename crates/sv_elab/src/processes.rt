@@ -1,4 +1,5 @@
-// The processes of one instance.
+// The processes of one instance. What each call here needs stands in its own frame, since the walk
+// of instances calls itself for each instance in another.
 ghost use Rattle.std.specs.Prelude.{◌≡◌, ◌≤◌, Ok, Some, map, option_map, OnOk, IfOk, IfErr, IsTrue};
 ghost use Rattle.sv_ast.specs.Shape.{is_shaped_declaration, is_shaped_expression};
 ghost use Rattle.sv_ast.specs.Shape.{is_shaped_statement, are_whole_targets};
@@ -52,6 +53,7 @@ pub fn whole_assignment(
 }
 
 /// Adds the value of a `wire` as an assignment to it, if it has one.
+#[inline(never)]
 pub fn add_value(alloc: Global, decl: &Decl, scope: &Scope, built: &mut Built) -> Result<(), Fault>
     requires shaped { IsTrue (is_shaped_declaration (declaration_tree decl.now)) }
     ensures found { OnOk result ((value_walk (names_of scope.now) (built_form built.old)
@@ -74,6 +76,7 @@ pub fn add_value(alloc: Global, decl: &Decl, scope: &Scope, built: &mut Built) -
 }
 
 /// Adds an `assign`, with the place of its first target.
+#[inline(never)]
 pub fn add_assign(
     alloc: Global,
     targets: &[Target],
@@ -121,6 +124,7 @@ fn always_kind(
 }
 
 /// Adds an `always` with the place of the word. Rule 401 refuses a clock that is no signal.
+#[inline(never)]
 pub fn add_always(
     alloc: Global,
     place: Place,

@@ -1,14 +1,14 @@
--- The word that a process gives a signal spells what its body makes of the signal (IEEE 1364-2005,
--- clauses 6 and 9).
+-- The word that a process gives a signal spells what its body makes of the signal, by what it makes
+-- on its way of all that the signal follows (IEEE 1364-2005, clauses 6 and 9).
 use Rattle.std.proofs.Common.{◌≡◌, ℕ, zero, suc, ◌+◌, ◌*◌, ◌<◌, ◌≤◌, Bool, true, false, ◌||◌, ◌&&◌, ◌==◌}
-use Rattle.std.proofs.Common.{not, ◌-◌, nat_lt, nat_le, cond, List, [], ◌∷◌, ◌++◌, length, refl, sym, ap, ap₂}
+use Rattle.std.proofs.Common.{not, ◌-◌, nat_lt, nat_le, cond, List, ◌++◌, length, refl, sym, ap, ap₂}
 use Rattle.std.proofs.Common.{subst, ◌∙◌, ◌⊎◌, inl, inr, ⊎_elim, arith, ltb-true, replicate}
 use Rattle.std.specs.Prelude.{Contains, IsTrue, IsFalse}
 use Rattle.std.specs.List.{list_any, list_all}
 use Rattle.std.proofs.lemmas.Bool.{false≢true, leb-true, leb-false, lt-ltb, eq-eqb}
 use Rattle.std.proofs.Common.{length-append}
 use Rattle.sv_num.specs.Vectors.{truth}
-use Rattle.sv_system.proofs.Lists.{Contains-map, Contains-cases, Contains-nil}
+use Rattle.sv_system.proofs.Lists.{Contains-map}
 use Rattle.sv_flat.specs.Design.{SignalForm, TypedTree, PieceForm, FlatStatement, nothing, after}
 use Rattle.sv_flat.specs.Design.{assign, branch, ProcessForm, FlatDesign}
 use Rattle.sv_flat.specs.Values.{signal_width, expression_width}
@@ -19,25 +19,24 @@ use Rattle.sv_flat.specs.Readings.{ReadForm, reads, BitSet, either, no_bits, Rea
 use Rattle.sv_flat.specs.Readings.{readings, is_followed}
 use Rattle.sv_flat.specs.Processes.{is_clocked, is_block, is_register, drivers}
 use Rattle.sv_flat.specs.Clocks.{processes_of, is_clock_link}
-use Rattle.sv_flat.specs.Reads.{wants, is_earlier, followed, is_read_for, process_readings}
-use Rattle.sv_flat.specs.Reads.{reads_settled}
+use Rattle.sv_flat.specs.Reads.{followed, is_read_for, process_readings, reads_settled}
 use Rattle.sv_flat.specs.Sets.{holds}
 use Rattle.sv_flat.specs.Admission.{IsAdmitted}
 use Rattle.sv_flat.proofs.Members.{Contains-left, Contains-right}
-use Rattle.sv_flat.proofs.LeastSets.{some_from, from_some, least_set_least, Contains-from_holds}
+use Rattle.sv_flat.proofs.LeastSets.{some_from, from_some, Contains-from_holds}
 use Rattle.sv_flat.proofs.LeastSets.{Contains-from_filter, either_way, holds-from_Contains}
 use Rattle.std.proofs.lemmas.Bool.{or_left}
 use Rattle.sv_flat.proofs.Depths.{first_of, second_of, from_all}
 use Rattle.sv_flat.proofs.ReadSignals.{reads_signals}
 use Rattle.sv_flat.proofs.AdmittedFacts.{and_true, body_is_sound, assigned_is_signal, some_width}
-use Rattle.sv_flat.proofs.BlockFacts.{is_settled, serves_is_read}
 use Rattle.sv_obl.specs.Exchange.{name}
-use Rattle.sv_obl.specs.MadeValues.{made, starting_values}
+use Rattle.sv_obl.specs.MadeValues.{starting_values}
 use Rattle.sv_obl.specs.Wanted.{with_copies, copy_of, is_copy, original, mark, marked_tree, marked}
-use Rattle.sv_obl.proofs.MadeFacts.{follows_itself, starts_and_makes}
+use Rattle.sv_obl.proofs.MadeFacts.{follows_itself, made_by}
 use Rattle.sv_obl.proofs.PathLists.{cond_true, cond_false}
 use Rattle.sv_obl.proofs.PutFacts.{width_settled, width_copy, width_original, copy_is_copy}
 use Rattle.sv_obl.proofs.PutFacts.{original_of_copy, signal_is_settled}
+use Rattle.sv_obl.proofs.TargetReads.{clocked_alone, serves_target}
 use Rattle.sv_gates.specs.Formulas.{Formula}
 use Rattle.sv_gates.specs.Gates.{false_literal}
 use Rattle.sv_gates.proofs.GateLaws.{literal_more}
@@ -45,7 +44,7 @@ use Rattle.sv_circuits.specs.Words.{word_value}
 use Rattle.sv_circuits.specs.Circuits.{IsBase}
 use Rattle.sv_circuits.proofs.BitPieces.{false_is, false_known}
 use Rattle.sv_encoding.specs.Expressions.{Words}
-use Rattle.sv_encoding.specs.Bodies.{assigns_some, words_after, starting_words, driven_word}
+use Rattle.sv_encoding.specs.Bodies.{words_after, starting_words, driven_word}
 use Rattle.sv_encoding.specs.Valuations.{spelled_environment}
 use Rattle.sv_encoding.specs.BothWays.{HaveBits}
 use Rattle.sv_encoding_laws.proofs.BodyWords.{Stand, ExpressionFits, PiecesFit, BodyFits}
@@ -90,25 +89,6 @@ module _ (design : FlatDesign) (is_sound : IsTrue (sound design)) (admitted : Is
   s_below = ltb-true s (length signals)
       (assigned_is_signal signals p.body (body_is_sound design is_sound admitted p at) s own)
 
-  -- no value is an earlier one, so the signal alone is followed
-  only_itself : (u : ℕ) → IsTrue (holds targets u) → u ≡ s
-  only_itself u held =
-      least_set_least (length signals) (wants design p) (s ∷ [])
-      (λ k k_at. ⊎_elim (λ same. subst (λ z. z < length signals) same s_below)
-      (λ later. absurd (Contains-nil k later)) (Contains-cases s [] k k_at))
-      (λ k. k ≡ s)
-      (λ k k_at. ⊎_elim (λ same. sym same) (λ later. absurd (Contains-nil k later))
-      (Contains-cases s [] k k_at))
-      (λ m k is brings low.
-      let found = from_some (λ (r : Reading).
-      is_earlier design p r && r.serves m && (r.name.signal == k))
-      (process_readings design p) brings in
-      let r = found.0 in
-      absurd (false≢true (sym (is_settled design is_sound admitted p at r found.1)
-      ∙ first_of (is_earlier design p r) (r.serves m)
-      (first_of (is_earlier design p r && r.serves m) (r.name.signal == k) found.2))))
-      u (Contains-from_holds targets u held)
-
   -- what is read for the signal, and copies of what is followed
   abbrev Counts : ℕ → Type 0
   Counts t =
@@ -146,36 +126,32 @@ module _ (design : FlatDesign) (is_sound : IsTrue (sound design)) (admitted : Is
   in_both : (t : ℕ) → t < length signals → IsTrue (is_signal both t)
   in_both t low = lt-ltb t (length both) (omega (arith, low, long))
 
+  copy_in_both : (t : ℕ) → t < length signals → IsTrue (is_signal both (copy_of signals t))
+  copy_in_both t low = lt-ltb (copy_of signals t) (length both) (omega (arith, low, long))
+
   -- ---- the marked body
 
-  -- what is read for a target is settled, and counts
+  -- what is read for a target is settled and read for the signal, or is an earlier value of another
+  -- target
   abbrev ReadsCount : List Reading → Type 0
   ReadsCount rs =
-      (r : Reading) → Contains rs r →
-      IsFalse (is_block p.kind && is_followed signals r)
-      × (IsTrue (r.serves s) → IsTrue (is_read_for design s r.name.signal))
+      (r : Reading) → Contains rs r → (u : ℕ) → Contains targets u → IsTrue (r.serves u) →
+      (IsFalse (is_block p.kind && is_followed signals r)
+      × IsTrue (is_read_for design s r.name.signal))
+      ⊎ (IsTrue (is_block p.kind && is_followed signals r) × Contains targets r.name.signal)
 
   body_counts : ReadsCount (process_readings design p)
-  body_counts r r_at = (
-    is_settled design is_sound admitted p at r r_at,
-    serves_is_read design is_sound admitted p s at own r r_at,
-  )
-
-  some_is_itself : (whole : FlatStatement) → IsTrue (assigns_some targets whole) →
-      IsTrue (assigns whole s)
-  some_is_itself whole some =
-      let found = from_some (assigns whole) targets some in
-      subst (λ u. IsTrue (assigns whole u)) (only_itself found.0 (holds_of found.0 found.1)) found.2
-    where
-      holds_of : (u : ℕ) → Contains targets u → IsTrue (holds targets u)
-      holds_of u u_at = holds-from_Contains targets u u_at
+  body_counts r r_at u u_at served = ⊎_elim
+      (λ late. inl (late.0, subst (λ t. IsTrue (is_read_for design s t)) late.1.3 late.1.2))
+      (λ earlier. inr earlier)
+      (serves_target design is_sound admitted p s at own r r_at u u_at served)
 
   tree_fits : (e : TypedTree) (serves : ℕ → Bool) (early follows : BitSet) →
-      IsTrue (well_formed signals e) → IsTrue (serves s) →
+      IsTrue (well_formed signals e) → (u : ℕ) → Contains targets u → IsTrue (serves u) →
       ReadsCount (readings_of signals e serves early follows) →
       ExpressionFits signals have_bits targets Counts copies
       (marked_tree signals (is_block p.kind) follows e)
-  tree_fits e serves early follows formed served count = record {
+  tree_fits e serves early follows formed u u_at served count = record {
     formed = formed_instead signals both (mark signals (is_block p.kind) follows) Counts same e
         formed all;
     named = named_instead signals both (mark signals (is_block p.kind) follows) Counts same e all;
@@ -196,25 +172,28 @@ module _ (design : FlatDesign) (is_sound : IsTrue (sound design)) (admitted : Is
             assigned = early;
             follows = follows;
           } in
-          let known = count reading (Contains-map (λ (x : ReadForm).
-          record { name = x; serves = serves; assigned = early; follows = follows })
-          (reads signals e) r r_at) in
           let low = ltb-true r.signal (length signals) (reads_signals signals e formed r r_at) in
-          by (is_block p.kind && is_followed signals reading) known.0 (
-            in_both r.signal low,
-            (
-              width_settled signals r.signal low,
-              inl (known.1 served, low),
-            ),
-          )
+          by (is_block p.kind && is_followed signals reading) low
+          (count reading (Contains-map (λ (x : ReadForm).
+          record { name = x; serves = serves; assigned = early; follows = follows })
+          (reads signals e) r r_at) u u_at served)
         where
-          by : (c : Bool) → IsFalse c →
-              IsTrue (is_signal both r.signal)
-              × ((signal_width both r.signal ≡ signal_width signals r.signal) × Counts r.signal) →
+          by : (c : Bool) → r.signal < length signals →
+              (IsFalse c × IsTrue (is_read_for design s r.signal))
+              ⊎ (IsTrue c × Contains targets r.signal) →
               IsFit signals both (mark signals (is_block p.kind) follows) Counts same r.signal
               (name (cond c (copy_of signals r.signal) r.signal))
-          by true none fit = absurd (false≢true (sym none))
-          by false none fit = fit
+          by true low (inl late) = absurd (false≢true (sym late.0))
+          by true low (inr earlier) = (
+            copy_in_both r.signal low,
+            (
+              width_copy signals r.signal,
+              copies r.signal (holds-from_Contains targets r.signal earlier.1),
+            ),
+          )
+          by false low (inl late) =
+              (in_both r.signal low, (width_settled signals r.signal low, inl (late.1, low)))
+          by false low (inr earlier) = absurd (false≢true earlier.0)
 
   pieces_fit : (e : TypedTree) (pieces : List PieceForm) →
       IsTrue (list_all (piece_fits signals e) pieces) →
@@ -261,10 +240,10 @@ module _ (design : FlatDesign) (is_sound : IsTrue (sound design)) (admitted : Is
       )
   marked_fits (assign pieces place blocking e) early later right count =
       let whole = assign pieces place blocking e in
-      (λ some. (
+      (λ some. let by = from_some (assigns whole) targets some in (
         tree_fits e (assigns whole) early (either (can_assign whole) later)
             (first_of (well_formed signals e) (list_all (piece_fits signals e) pieces) right)
-            (some_is_itself whole some) count,
+            by.0 by.1 by.2 count,
         pieces_fit e pieces
             (second_of (well_formed signals e) (list_all (piece_fits signals e) pieces) right),
       ))
@@ -277,10 +256,11 @@ module _ (design : FlatDesign) (is_sound : IsTrue (sound design)) (admitted : Is
       let front = first_of (well_formed signals condition && statement_sound signals first)
       (statement_sound signals second) right in (
         (λ some.
+            let by = from_some (assigns (marked signals (is_block p.kind) whole later)) targets
+            some in
             tree_fits condition (assigns whole) early follows
             (first_of (well_formed signals condition) (statement_sound signals first) front)
-            (sym (marked_targets whole later s)
-            ∙ some_is_itself (marked signals (is_block p.kind) whole later) some)
+            by.0 by.1 (sym (marked_targets whole later by.0) ∙ by.2)
             (λ r r_at. count r (Contains-left (here ++ in_first) in_second r
             (Contains-left here in_first r r_at)))),
         (
@@ -344,7 +324,9 @@ module _ (design : FlatDesign) (is_sound : IsTrue (sound design)) (admitted : Is
             HasWidth (signal_width signals u) n
             (cond c (words u) (replicate (signal_width signals u) false_literal))
         by true is_clock =
-            has u (subst (λ k. IsTrue (is_read_for design s k)) (sym (only_itself u held))
+            has u (subst (λ k. IsTrue (is_read_for design s k))
+            (clocked_alone design is_sound admitted p s at own u
+            (Contains-from_holds targets u held) is_clock)
             (clocked_is_read true is_clock refl))
         by false none = false_word n (signal_width signals u) some
 
@@ -373,8 +355,7 @@ module _ (design : FlatDesign) (is_sound : IsTrue (sound design)) (admitted : Is
       ((t : ℕ) → IsTrue (is_read_for design s t) →
       HasWidth (signal_width signals t) old.variables (words t)) →
       MakesWord old (driven_word design s p words old) (signal_width signals s)
-      (λ values. made signals (spelled_environment values words) s p.body
-      (cond (is_clocked p.kind) (spelled_environment values words s) 0))
+      (λ values. made_by design is_sound admitted p s at own (spelled_environment values words))
   driven_makes words old base has =
       let n = old.variables in
       let body = marked signals (is_block p.kind) p.body no_bits in
@@ -393,9 +374,7 @@ module _ (design : FlatDesign) (is_sound : IsTrue (sound design)) (admitted : Is
         within = subst (λ k. HasWidth k (made.0).variables (made.1 (copy_of signals s)))
             (width_copy signals s) there;
         says = λ values met.
-            q.says values met (copy_of signals s) (copies s held)
-            ∙ starts_and_makes design is_sound admitted p s at own
-            (spelled_environment values words);
+            q.says values met (copy_of signals s) (copies s held);
       }
 
   -- how many variables it takes

@@ -4,18 +4,17 @@ use Rattle.std.proofs.Common.{◌≡◌, ℕ, zero, suc, ◌+◌, ◌<◌, ◌�
 use Rattle.std.proofs.Common.{List, [], ◌∷◌, ◌++◌, filter, length, refl, sym, ap, subst, ◌∙◌, ◌⊎◌}
 use Rattle.std.proofs.Common.{inl, inr, ⊎_elim, arith, eq-or-lt_of_le}
 use Rattle.std.specs.Prelude.{IsFalse, Contains, IsTrue, flat_map}
-use Rattle.std.specs.List.{range_with_len, list_any}
-use Rattle.std.proofs.lemmas.Bool.{false≢true, eqb-true, eq-eqb, or_left}
+use Rattle.std.specs.List.{range_with_len}
+use Rattle.std.proofs.lemmas.Bool.{false≢true, eqb-true, eq-eqb}
 use Rattle.sv_system.specs.System.{Environment, Fits, IsStill}
 use Rattle.sv_system.proofs.Lists.{Contains-head, Contains-later, Contains-cases, Contains-nil}
 use Rattle.sv_system.proofs.Lists.{Contains-filter}
 use Rattle.sv_flat.specs.Design.{ProcessForm, FlatDesign}
 use Rattle.sv_flat.specs.Values.{signal_width}
 use Rattle.sv_flat.specs.Soundness.{sound}
-use Rattle.sv_flat.specs.Processes.{is_clocked, is_top_input, is_register, drivers, signals_that}
+use Rattle.sv_flat.specs.Processes.{is_top_input, is_register, drivers, signals_that}
 use Rattle.sv_flat.specs.Clocks.{processes_of}
-use Rattle.sv_flat.specs.Reads.{is_combinational, is_read_for, depth, order, followed}
-use Rattle.sv_flat.specs.Reads.{reads_settled}
+use Rattle.sv_flat.specs.Reads.{is_combinational, is_read_for, depth, order}
 use Rattle.sv_flat.specs.FlatSystem.{flat_system}
 use Rattle.sv_flat.specs.Sets.{holds}
 use Rattle.sv_flat.specs.Admission.{IsAdmitted}
@@ -24,10 +23,9 @@ use Rattle.sv_flat.proofs.LeastSets.{Contains-from_filter, those_pass, in_those}
 use Rattle.sv_flat.proofs.Depths.{first_of, second_of, is_below, reads_are_lower, depth_above_reads}
 use Rattle.sv_flat.proofs.Orders.{order_has}
 use Rattle.sv_flat.proofs.AdmittedFacts.{and_true}
-use Rattle.sv_obl.specs.MadeValues.{made}
-use Rattle.sv_obl.proofs.MadeFacts.{makes_settled, makes_next, makes_from_reads}
+use Rattle.sv_obl.proofs.MadeFacts.{way_makes_settled, way_makes_next, way_makes_from_reads}
 use Rattle.sv_obl.proofs.MadeFacts.{combinational_driver, register_driver}
-use Rattle.sv_obl.proofs.PathLists.{cond_true, cond_false}
+use Rattle.sv_obl.proofs.PathLists.{cond_false}
 use Rattle.sv_gates.specs.Formulas.{Formula}
 use Rattle.sv_gates.specs.Extending.{Makes}
 use Rattle.sv_gates.proofs.ExtendingLaws.{makes_at_once, meets-begins, extends_trans}
@@ -155,10 +153,8 @@ module _ (design : FlatDesign) (is_sound : IsTrue (sound design)) (admitted : Is
         says = λ values met e fits still reads.
             let spelled = spelled_environment values words in
             q.says values met
-            ∙ ap (made design.signals spelled s p.body)
-            (cond_false (is_clocked p.kind) (spelled s) 0 unclocked)
-            ∙ makes_from_reads design is_sound admitted p s at own spelled e reads 0
-            ∙ makes_settled design is_sound admitted p s at own unclocked e fits still;
+            ∙ way_makes_from_reads design is_sound admitted p s at own spelled e reads
+            ∙ way_makes_settled design is_sound admitted p s at own unclocked e fits still;
       })
 
   one_count : (s : ℕ) → IsTrue (is_combinational design s) → (words : Words) (old : Formula) →
@@ -368,11 +364,6 @@ module _ (design : FlatDesign) (is_sound : IsTrue (sound design)) (admitted : Is
       let clock = driver.2 in
       let own = driver.3 in
       let q = driven_makes design is_sound admitted p s at own now old base has in
-      let itself : IsTrue (is_read_for design s s) =
-      or_left (is_register design s && (s == s))
-      (list_any (λ r. reads_settled design r (followed design r s) s)
-      (drivers (processes_of design) s))
-      (and_true (is_register design s) (s == s) register (eq-eqb s s refl)) in
       subst (λ made. Makes old made (HasWidth (signal_width design.signals s))
       (λ values word. (e : Environment ℕ) → ((t : ℕ) → IsTrue (is_read_for design s t) →
       word_value values (now t) ≡ e t) → word_value values word ≡ (flat_system design).next e s))
@@ -383,10 +374,8 @@ module _ (design : FlatDesign) (is_sound : IsTrue (sound design)) (admitted : Is
         says = λ values met e reads.
             let spelled = spelled_environment values now in
             q.says values met
-            ∙ ap (made design.signals spelled s p.body)
-            (cond_true (is_clocked p.kind) (spelled s) 0 clock ∙ reads s itself)
-            ∙ makes_from_reads design is_sound admitted p s at own spelled e reads (e s)
-            ∙ makes_next design is_sound admitted p s at own clock e;
+            ∙ way_makes_from_reads design is_sound admitted p s at own spelled e reads
+            ∙ way_makes_next design is_sound admitted p s at own clock e;
       })
 
   module _ (now : Words) where

@@ -22,29 +22,32 @@ use Rattle.sv_obl.proofs.TreeFacts.{Below, Good, exchanged_held, exchanged_value
 use Rattle.sv_obl.proofs.TreeFacts.{Comes}
 
 module _ (signals : List SignalForm) (in_block is_register : Bool) (s : ℕ)
-    (inside : s < length signals) (Served : ℕ → Type 0) where
+    (Served Member : ℕ → Type 0) (inside : (u : ℕ) → Member u → u < length signals)
+    (alone : (u : ℕ) → Member u → IsTrue is_register → s ≡ u) where
   abbrev both : List SignalForm
   both = with_copies signals
 
   abbrev FineTree : TypedTree → Type 0
-  FineTree t = Fine signals in_block s Served t
+  FineTree t = Fine signals in_block s Served Member t
 
   abbrev zero_of : ℕ → TypedTree
   zero_of t = typed (signal_width signals t) (signal_of signals t).signed (constant 0)
 
-  -- a wanted name is the target's
-  copy_is_target : (r : ReadForm) → NameFine signals in_block s Served r.signal
+  -- a wanted name is a member's
+  copy_is_member : (r : ReadForm) → NameFine signals in_block s Served Member r.signal
       → IsTrue (is_copy signals r.signal)
-      → original signals r.signal ≡ s
-  copy_is_target r fine copy = ⊎_elim
+      → Member (original signals r.signal)
+  copy_is_member r fine copy = ⊎_elim
       (λ settled. absurd (false≢true (sym settled.0 ∙ copy)))
-      (λ is. ap (original signals) is ∙ original_of_copy signals s)
+      (λ wanted. subst Member
+      (sym (ap (original signals) wanted.2 ∙ original_of_copy signals wanted.0)) wanted.1)
       fine
 
   -- ---- values
 
-  module _ (e r0 : Environment ℕ) (start : r0 s ≡ cond is_register (e s) 0) where
-    closed_good : (r : ReadForm) → NameFine signals in_block s Served r.signal
+  module _ (e r0 : Environment ℕ)
+      (start : (u : ℕ) → Member u → r0 u ≡ cond is_register (e u) 0) where
+    closed_good : (r : ReadForm) → NameFine signals in_block s Served Member r.signal
         → Good both signals (close signals is_register) e (beside signals e r0) (length signals)
         (λ t low. sym (width_settled signals t low)) r (close signals is_register r)
     closed_good r fine = by_test (is_copy signals r.signal) is_register refl refl
@@ -61,19 +64,19 @@ module _ (signals : List SignalForm) (in_block is_register : Bool) (s : ℕ)
               settled),
         )
         by_test true true copy reg =
-            let is = copy_is_target r fine copy in (
+            let u = original signals r.signal in (
               sym (width_original signals r.signal copy),
-              ap e is ∙ sym (cond_true is_register (e s) 0 reg) ∙ sym start ∙ ap r0 (sym is)
-                  ∙ sym (cond_true (is_copy signals r.signal) (r0 (original signals r.signal))
-                  (e r.signal) copy),
+              sym (cond_true is_register (e u) 0 reg)
+                  ∙ sym (start u (copy_is_member r fine copy))
+                  ∙ sym (cond_true (is_copy signals r.signal) (r0 u) (e r.signal) copy),
             )
         by_test true false copy reg =
-            let is = copy_is_target r fine copy in (
+            let u = original signals r.signal in (
               sym (width_original signals r.signal copy),
-              mod-eq_of_lt (pow_pos (signal_width signals (original signals r.signal)))
-                  ∙ sym (cond_false is_register (e s) 0 reg) ∙ sym start ∙ ap r0 (sym is)
-                  ∙ sym (cond_true (is_copy signals r.signal) (r0 (original signals r.signal))
-                  (e r.signal) copy),
+              mod-eq_of_lt (pow_pos (signal_width signals u))
+                  ∙ sym (cond_false is_register (e u) 0 reg)
+                  ∙ sym (start u (copy_is_member r fine copy))
+                  ∙ sym (cond_true (is_copy signals r.signal) (r0 u) (e r.signal) copy),
             )
 
     -- closed, an expression has the value that it has where the process begins
@@ -84,7 +87,7 @@ module _ (signals : List SignalForm) (in_block is_register : Bool) (s : ℕ)
         (length signals)
         (λ x low. sym (width_settled signals x low)) t held (λ r at. closed_good r (fine r at))
 
-    pub closed_steps : (p : Path) → Tidy signals p → PathFine signals in_block s Served p
+    pub closed_steps : (p : Path) → Tidy signals p → PathFine signals in_block s Served Member p
         → steps_hold signals e (closed signals is_register p).steps ≡
         steps_hold both (beside signals e r0) p.steps
     closed_steps p tidy fine =
@@ -99,7 +102,7 @@ module _ (signals : List SignalForm) (in_block is_register : Bool) (s : ℕ)
       exchanged_held both (close signals is_register) (length signals) t held (λ r at.
       by_test r (fine r at) (is_copy signals r.signal) is_register refl)
     where
-      by_test : (r : ReadForm) → NameFine signals in_block s Served r.signal → (c d : Bool)
+      by_test : (r : ReadForm) → NameFine signals in_block s Served Member r.signal → (c d : Bool)
           → is_copy signals r.signal ≡ c
           → Below both (close signals is_register) (length signals)
           (cond (not c) (name r.signal)
@@ -109,11 +112,11 @@ module _ (signals : List SignalForm) (in_block is_register : Bool) (s : ℕ)
       by_test r named true true copy = tt
       by_test r named true false copy = (
         lt-ltb (original signals r.signal) (length signals)
-            (subst (λ k. k < length signals) (sym (copy_is_target r named copy)) inside),
+            (inside (original signals r.signal) (copy_is_member r named copy)),
         refl,
       )
 
-  -- the names in a closed expression serve the target, or are that of the register that is kept
+  -- the names in a closed expression are served, or that of the register that is kept
   pub closed_names : (t : TypedTree) → FineTree t → (r : ReadForm)
       → Contains (reads signals (closed_tree signals is_register t)) r
       → Served r.signal ⊎ (IsTrue is_register × (s ≡ r.signal))
@@ -123,7 +126,7 @@ module _ (signals : List SignalForm) (in_block is_register : Bool) (s : ℕ)
       by_test from.0 (fine from.0 from.1) (is_copy signals (from.0).signal) is_register refl
       refl from.2
     where
-      by_test : (q : ReadForm) → NameFine signals in_block s Served q.signal → (c d : Bool)
+      by_test : (q : ReadForm) → NameFine signals in_block s Served Member q.signal → (c d : Bool)
           → is_copy signals q.signal ≡ c → is_register ≡ d
           → Comes both signals (close signals is_register) r.signal
           (cond (not c) (name q.signal)
@@ -132,9 +135,9 @@ module _ (signals : List SignalForm) (in_block is_register : Bool) (s : ℕ)
           → Served r.signal ⊎ (IsTrue is_register × (s ≡ r.signal))
       by_test q named false d settled reg comes = ⊎_elim
           (λ served. inl (subst Served comes served.1))
-          (λ is.
-          absurd (false≢true (sym settled ∙ ap (is_copy signals) is ∙ copy_is_copy signals s)))
+          (λ wanted. absurd (false≢true (sym settled ∙ ap (is_copy signals) wanted.2
+          ∙ copy_is_copy signals wanted.0)))
           named
       by_test q named true true copy reg comes =
-          inr (reg, sym (copy_is_target q named copy) ∙ comes)
+          inr (reg, alone (original signals q.signal) (copy_is_member q named copy) reg ∙ comes)
       by_test q named true false copy reg comes = absurd (Contains-nil comes.0 comes.1)

@@ -26,7 +26,6 @@ use Rattle.sv_flat.proofs.SameRuns.{none_found}
 use Rattle.sv_flat.proofs.AdmittedFacts.{and_true, some_is_some, is_process, body_is_sound}
 use Rattle.sv_flat.proofs.AdmittedFacts.{assigned_is_signal, drives, extra_at}
 use Rattle.sv_flat.proofs.AdmittedFacts.{targets_are_combinational, combinational_is_driven}
-use Rattle.sv_flat.proofs.BlockFacts.{serves_is_lower}
 use Rattle.sv_flat.proofs.FlatScheduled.{parts_of, of_system}
 use Rattle.sv_obl.specs.declared.frames.Frame.{Frame}
 use Rattle.sv_obl.specs.declared.frames.Frame.TheVariants.{Now, Next}
@@ -42,7 +41,7 @@ use Rattle.sv_flat.proofs.Members.{all_contained, contained_all}
 use Rattle.sv_obl.proofs.PathLists.{same_truth, cond_true, cond_false}
 use Rattle.sv_obl.proofs.PathLists.{in_flat_map, from_flat_map}
 use Rattle.sv_obl.proofs.PathRuns.{step_holds, steps_hold}
-use Rattle.sv_obl.proofs.TargetReads.{reads_of, Origin, origin, read_cases, read_is_seen}
+use Rattle.sv_obl.proofs.TargetReads.{reads_of, Origin, origin, read_is_lower, read_is_seen}
 use Rattle.sv_obl.proofs.TargetReads.{steps_same, result_same}
 use Rattle.sv_obl.proofs.TargetValues.{path_gives_value, some_value_path, path_gives_next}
 use Rattle.sv_obl.proofs.TargetValues.{some_next_path}
@@ -303,13 +302,8 @@ module _ (facts : List TypedTree) (design : FlatDesign) (checked : IsChecked des
       let found = use_cases e s t at in
       let k = found.0 in
       let unclocked = comb_unclocked k.process s comb k.is_process k.assigned in
-      ⊎_elim
-      (λ served. subst (λ z. depth design z < depth design s) served.3
-      (serves_is_lower design is_sound admitted k.process s k.is_process unclocked k.assigned
-      served.0 served.1 served.2))
-      (λ held. absurd (false≢true (sym unclocked ∙ held.0)))
-      (read_cases design is_sound admitted k.process s k.is_process k.assigned k.path
-      (origin_of e s k) t found.1)
+      read_is_lower design is_sound admitted k.process s k.is_process k.assigned unclocked k.path
+      (origin_of e s k) t found.1
 
   -- ---- labels
 

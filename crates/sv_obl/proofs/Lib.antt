@@ -1,4 +1,4 @@
-pub mod BlockSettles
+pub mod BlockFollows
 pub mod Closing
 pub mod SliceChains
 pub mod DesignQueryFacts
@@ -11,8 +11,10 @@ pub mod ListLineFacts
 pub mod ListExamples
 pub mod MadeFacts
 pub mod MadeSlices
+pub mod MarkedValues
 pub mod NumberSets
 pub mod OneDriver
+pub mod OnTheWay
 pub mod PathLists
 pub mod PathNames
 pub mod PathRuns

@@ -2,18 +2,18 @@
 -- from.
 use Rattle.std.proofs.Common.{◌≡◌, ℕ, ◌<◌, Bool, true, false, cond, ◌&&◌, ◌==◌, not, List}
 use Rattle.std.proofs.Common.{[], ◌∷◌, ◌++◌, fold, length, ⊎_elim, refl, sym, ap, ap₂, subst}
-use Rattle.std.proofs.Common.{◌∙◌, ltb-true, slice_get, None, is_none, arith}
+use Rattle.std.proofs.Common.{◌∙◌, ltb-true, slice_get, None, is_none}
 use Rattle.std.specs.Prelude.{Contains, IsTrue, IsFalse}
-use Rattle.std.specs.List.{list_all}
-use Rattle.std.proofs.lemmas.Bool.{false≢true, eqb-true, eq-eqb}
+use Rattle.std.specs.List.{list_all, list_any}
+use Rattle.std.proofs.lemmas.Bool.{false≢true, or_left, eq-eqb}
 use Rattle.sv_num.specs.Vectors.{is_true}
-use Rattle.sv_system.specs.System.{Environment, Fits, IsStill, put, last_update}
-use Rattle.sv_system.proofs.Lists.{Contains-nil, Contains-map, Contains-filter, Contains-head}
+use Rattle.sv_system.specs.System.{Environment, Fits, IsStill, last_update}
+use Rattle.sv_system.proofs.Lists.{Contains-nil, Contains-map, Contains-filter}
 use Rattle.sv_system.proofs.Lists.{Contains-cases}
 use Rattle.sv_flat.specs.Design.{SignalForm, TypedTree, PieceForm, FlatStatement, nothing, after}
 use Rattle.sv_flat.specs.Design.{assign, branch, ProcessForm, FlatDesign}
 use Rattle.sv_flat.specs.Values.{signal_width, value}
-use Rattle.sv_flat.specs.Runs.{with_piece, run, updates_of}
+use Rattle.sv_flat.specs.Runs.{updates_of}
 use Rattle.sv_flat.specs.Sets.{holds}
 use Rattle.sv_flat.specs.Soundness.{piece_fits, well_formed, statement_sound, sound}
 use Rattle.sv_flat.specs.Assigned.{assigns, always_assigns, can_assign}
@@ -21,28 +21,31 @@ use Rattle.sv_flat.specs.Readings.{ReadForm, reads, BitSet, either, no_bits, Rea
 use Rattle.sv_flat.specs.Readings.{readings, some_bit_read, is_followed}
 use Rattle.sv_flat.specs.Processes.{is_clocked, is_block, is_top_input, is_register, drivers}
 use Rattle.sv_flat.specs.Clocks.{processes_of}
-use Rattle.sv_flat.specs.Reads.{is_combinational, wants, followed, is_read_for}
+use Rattle.sv_flat.specs.Reads.{is_combinational, is_earlier, followed, reads_settled}
+use Rattle.sv_flat.specs.Reads.{is_read_for, process_readings}
 use Rattle.sv_flat.specs.FlatSystem.{flat_system}
 use Rattle.sv_flat.specs.Admission.{IsAdmitted}
 use Rattle.sv_flat.proofs.Members.{Contains-left, Contains-right}
-use Rattle.sv_flat.proofs.LeastSets.{either_way, least_set_has, some_from, from_some}
+use Rattle.sv_flat.proofs.LeastSets.{either_way, some_from, from_some, holds-from_Contains}
 use Rattle.sv_flat.proofs.Depths.{first_of, second_of}
 use Rattle.sv_flat.proofs.ReadSignals.{reads_signals}
-use Rattle.sv_flat.proofs.SameRuns.{or_none_left, or_none_right, none_found, put_other, put_there}
-use Rattle.sv_flat.proofs.AdmittedFacts.{body_is_sound, assigned_is_signal, drives, extra_at}
-use Rattle.sv_flat.proofs.AdmittedFacts.{combinational_is_driven, clocked_is_process}
+use Rattle.sv_flat.proofs.SameRuns.{or_none_left, or_none_right, none_found}
+use Rattle.sv_flat.proofs.AdmittedFacts.{and_true, is_process, body_is_sound, assigned_is_signal}
+use Rattle.sv_flat.proofs.AdmittedFacts.{drives, extra_at, combinational_is_driven}
+use Rattle.sv_flat.proofs.AdmittedFacts.{clocked_is_process}
 use Rattle.sv_flat.proofs.BlockFacts.{is_settled, serves_is_read}
-use Rattle.sv_obl.specs.MadeValues.{after_piece, made, put_followed, made_on_the_way}
-use Rattle.sv_obl.specs.MadeValues.{starting_values}
-use Rattle.sv_obl.specs.Paths.{pieces_of}
+use Rattle.sv_obl.specs.MadeValues.{after_piece, made, made_on_the_way, starting_values}
 use Rattle.sv_obl.specs.Wanted.{with_copies, copy_of, is_copy, original, mark, marked_tree, marked}
-use Rattle.sv_obl.proofs.BlockSettles.{Settles}
+use Rattle.sv_obl.proofs.BlockFollows.{keeps_now}
 use Rattle.sv_obl.proofs.OneDriver.{no_second}
+use Rattle.sv_obl.proofs.OnTheWay.{pieces_make, stays_settled, pieces_here, way_runs, way_alike}
 use Rattle.sv_obl.proofs.PathLists.{cond_true, cond_false, none_kept}
-use Rattle.sv_obl.proofs.PutFacts.{State, all_are, running, made_with, assign_runs, width_settled}
-use Rattle.sv_obl.proofs.PutFacts.{signal_is_settled, copy_is_copy, original_of_copy}
-use Rattle.sv_obl.proofs.TargetValues.{keeps_now, waiting_settles, one_gives, comes_to_rest}
-use Rattle.sv_obl.proofs.TargetValues.{settles, blocking, clocked_waits}
+use Rattle.sv_obl.proofs.PutFacts.{made_with, width_settled, signal_is_settled, copy_is_copy}
+use Rattle.sv_obl.proofs.PutFacts.{original_of_copy}
+use Rattle.sv_obl.proofs.TargetReads.{clocked_is_no_block, Served, clocked_alone, serves_target}
+use Rattle.sv_obl.proofs.TargetReads.{itself}
+use Rattle.sv_obl.proofs.TargetValues.{one_gives, comes_to_rest, follows, start_is, blocking}
+use Rattle.sv_obl.proofs.TargetValues.{clocked_waits, waits_follow, begins}
 use Rattle.sv_obl.proofs.TreeFacts.{well_held, exchanged_value, same_names}
 
 none_is_first : (ps : List ProcessForm) (p : ProcessForm) → Contains ps p →
@@ -51,55 +54,6 @@ none_is_first [] p at e = Contains-nil p at
 none_is_first (q ∷ ps) p at e = false≢true (ap is_none e)
 
 module _ (signals : List SignalForm) (s : ℕ) where
-  -- ---- one assignment
-
-  one_more : (c : Bool) (v : ℕ) (p : PieceForm) (pieces : List PieceForm) (old : ℕ)
-      → made_with signals v pieces (cond c (with_piece signals p v old) old) ≡
-      made_with signals v (cond c (p ∷ pieces) pieces) old
-  one_more true v p pieces old = refl
-  one_more false v p pieces old = refl
-
-  pieces_make : (v : ℕ) (pieces : List PieceForm) (old : ℕ)
-      → fold (after_piece signals s v) old pieces ≡ made_with signals v (pieces_of s pieces) old
-  pieces_make v [] old = refl
-  pieces_make v (p ∷ pieces) old =
-      pieces_make v pieces (after_piece signals s v old p)
-      ∙ one_more (p.signal == s) v p (pieces_of s pieces) old
-
-  -- ---- runs
-
-  module _ (b : Bool) (z : Environment ℕ) where
-    by_arm : (c : Bool) (x y : ℕ) (first second : State) → (IsTrue c → x ≡ running b first s)
-        → (IsFalse c → y ≡ running b second s)
-        → cond c x y ≡ running b (cond c first second) s
-    by_arm true x y first second one other = one refl
-    by_arm false x y first second one other = other refl
-
-    -- what a run leaves in a signal, where all that it reads on its way is settled
-    pub run_makes : (body : FlatStatement) (now : State) → IsTrue (all_are b body)
-        → Settles signals z body now
-        → made signals z s body (running b now s) ≡ running b (run signals body now) s
-    run_makes nothing now kind same = refl
-    run_makes (after first second) now kind same =
-        ap (made signals z s second)
-        (run_makes first now (first_of (all_are b first) (all_are b second) kind) same.0)
-        ∙ run_makes second (run signals first now)
-        (second_of (all_are b first) (all_are b second) kind) same.1
-    run_makes (assign pieces place blocked right) now kind same =
-        pieces_make (value signals z right) pieces (running b now s)
-        ∙ ap (λ v. made_with signals v (pieces_of s pieces) (running b now s)) (sym same)
-        ∙ sym (assign_runs signals b pieces place blocked right now s kind)
-    run_makes (branch place condition first second) now kind same =
-        ap (λ v. cond (is_true v) (made signals z s first (running b now s))
-        (made signals z s second (running b now s))) (sym same.0)
-        ∙ by_arm (is_true (value signals now.0 condition))
-        (made signals z s first (running b now s)) (made signals z s second (running b now s))
-        (run signals first now) (run signals second now)
-        (λ holds. run_makes first now (first_of (all_are b first) (all_are b second) kind)
-        (same.1 holds))
-        (λ fails. run_makes second now (second_of (all_are b first) (all_are b second) kind)
-        (same.2 fails))
-
   -- ---- what it is made from
 
   either_leaves : (c : Bool) (x y old : ℕ) → x ≡ old → y ≡ old → cond c x y ≡ old
@@ -115,7 +69,7 @@ module _ (signals : List SignalForm) (s : ℕ) where
       (or_none_right (assigns first s) (assigns second s) none)
       ∙ made_leaves z first old (or_none_left (assigns first s) (assigns second s) none)
   made_leaves z (assign pieces place blocked right) old none =
-      pieces_make (value signals z right) pieces old
+      pieces_make signals s (value signals z right) pieces old
       ∙ ap (λ ps. made_with signals (value signals z right) ps old)
       (none_kept (λ (p : PieceForm). p.signal == s) pieces none)
   made_leaves z (branch place condition first second) old none =
@@ -227,87 +181,16 @@ module _ (signals : List SignalForm) (in_block : Bool) (followed : List ℕ) (z 
       (copy_of signals r.signal) r.signal none))
       (width_settled signals r.signal low, same r.signal low))
 
-  at_arm : (c : Bool) (first second : Environment ℕ) (s n : ℕ) → first s ≡ n → second s ≡ n
-      → cond c first second s ≡ n
-  at_arm true first second s n one other = one
-  at_arm false first second s n one other = other
-
   at_arms : (c : Bool) (first second : Environment ℕ) (s x y : ℕ) → first s ≡ x → second s ≡ y
       → cond c first second s ≡ cond c x y
   at_arms true first second s x y one other = one
   at_arms false first second s x y one other = other
-
-  -- ---- what stays
-
-  apart : (t u : ℕ) → (t ≡ u → ⊥) → IsFalse (t == u)
-  apart t u differ = none_found (t == u) (λ same. differ (eqb-true t u same))
-
-  -- a piece changes one copy
-  put_elsewhere : (v t : ℕ) (now : Environment ℕ) (piece : PieceForm)
-      → (copy_of signals piece.signal ≡ t → ⊥) → put_followed signals followed v now piece t ≡ now t
-  put_elsewhere v t now piece differ =
-      let copy = copy_of signals piece.signal in
-      at_arm (holds followed piece.signal)
-      (put ◌==◌ copy (with_piece signals piece v (now copy)) now) now t (now t)
-      (put_other copy t (with_piece signals piece v (now copy)) now (apart copy t differ)) refl
-
-  pieces_settled : (v t : ℕ) (pieces : List PieceForm) (now : Environment ℕ) → t < length signals
-      → fold (put_followed signals followed v) now pieces t ≡ now t
-  pieces_settled v t [] now low = refl
-  pieces_settled v t (p ∷ pieces) now low =
-      pieces_settled v t pieces (put_followed signals followed v now p) low
-      ∙ put_elsewhere v t now p (λ same. omega (arith, same))
-
-  -- settled names keep their values
-  pub stays_settled : (body : FlatStatement) (now : Environment ℕ) (t : ℕ) → t < length signals
-      → made_on_the_way signals followed body now t ≡ now t
-  stays_settled nothing now t low = refl
-  stays_settled (after first second) now t low =
-      stays_settled second (made_on_the_way signals followed first now) t low
-      ∙ stays_settled first now t low
-  stays_settled (assign pieces place blocked right) now t low =
-      pieces_settled (value (with_copies signals) now right) t pieces now low
-  stays_settled (branch place condition first second) now t low =
-      at_arm (is_true (value (with_copies signals) now condition))
-      (made_on_the_way signals followed first now) (made_on_the_way signals followed second now) t
-      (now t) (stays_settled first now t low) (stays_settled second now t low)
 
   -- ---- one followed signal
 
   module _ (s : ℕ) (is_member : IsTrue (holds followed s)) where
     abbrev copy : ℕ
     copy = copy_of signals s
-
-    put_here : (v : ℕ) (now : Environment ℕ) (piece : PieceForm)
-        → put_followed signals followed v now piece copy
-        ≡ after_piece signals s v (now copy) piece
-    put_here v now piece = ⊎_elim
-        (λ same.
-        let there = λ (x : ℕ). copy_of signals x in
-        let is = eqb-true piece.signal s same in
-        let held = subst (λ x. IsTrue (holds followed x)) (sym is) is_member in
-        let new = with_piece signals piece v (now (there piece.signal)) in
-        ap (λ (e : Environment ℕ). e copy) (cond_true (holds followed piece.signal)
-        (put ◌==◌ (there piece.signal) new now) now held)
-        ∙ subst (λ x. put ◌==◌ (there piece.signal) new now (there x) ≡ new) is
-        (put_there (there piece.signal) new now)
-        ∙ ap (λ x. with_piece signals piece v (now (there x))) is
-        ∙ sym (cond_true (piece.signal == s) (with_piece signals piece v (now copy)) (now copy)
-        same))
-        (λ other.
-        put_elsewhere v copy now piece (λ same. false≢true (sym other
-        ∙ eq-eqb piece.signal s (omega (arith, same))))
-        ∙ sym (cond_false (piece.signal == s) (with_piece signals piece v (now copy)) (now copy)
-        other))
-        (either_way (piece.signal == s))
-
-    pieces_here : (v : ℕ) (pieces : List PieceForm) (now : Environment ℕ)
-        → fold (put_followed signals followed v) now pieces copy
-        ≡ fold (after_piece signals s v) (now copy) pieces
-    pieces_here v [] now = refl
-    pieces_here v (p ∷ pieces) now =
-        pieces_here v pieces (put_followed signals followed v now p)
-        ∙ ap (λ old. fold (after_piece signals s v) old pieces) (put_here v now p)
 
     -- where no read is an earlier one, it is made by itself
     pub alone_on_the_way : (body : FlatStatement) (early later : BitSet) (now : Environment ℕ)
@@ -324,7 +207,7 @@ module _ (signals : List SignalForm) (in_block : Bool) (followed : List ℕ) (z 
         (second_of (statement_sound signals first) (statement_sound signals second) sound)
         (λ r at. quiet r (Contains-right (readings signals first early late)
         (readings signals second mid later) r at))
-        (λ t low. stays_settled half now t low ∙ same t low)
+        (λ t low. stays_settled signals followed half now t low ∙ same t low)
         ∙ ap (made signals z s second) (alone_on_the_way first early late now
         (first_of (statement_sound signals first) (statement_sound signals second) sound)
         (λ r at. quiet r (Contains-left (readings signals first early late)
@@ -332,7 +215,7 @@ module _ (signals : List SignalForm) (in_block : Bool) (followed : List ℕ) (z 
     alone_on_the_way (assign pieces place blocked right) early later now sound quiet same =
         let whole = assign pieces place blocked right in
         let follows = either (can_assign whole) later in
-        pieces_here
+        pieces_here signals followed s is_member
         (value (with_copies signals) now (marked_tree signals in_block follows right)) pieces now
         ∙ ap (λ v. fold (after_piece signals s v) (now copy) pieces)
         (marked_value right (assigns whole) early follows now
@@ -382,32 +265,156 @@ module _ (design : FlatDesign) (is_sound : IsTrue (sound design)) (admitted : Is
       (drives design is_sound admitted p s at own)
       (extra_at design is_sound admitted true s top inside))) inside
 
-  -- ---- the laws
+  inside : s < length design.signals
+  inside = ltb-true s (length design.signals)
+      (assigned_is_signal design.signals p.body sound_body s own)
+
+  member : Contains (followed design p s) s
+  member = itself design is_sound admitted p s at own
+
+  -- the signal is one of those followed for it
+  pub follows_itself : IsTrue (holds (followed design p s) s)
+  follows_itself = holds-from_Contains (followed design p s) s member
+
+  -- ---- where the process begins
+
+  starts_settled : (e : Environment ℕ) (t : ℕ) → t < length design.signals
+      → starting_values design.signals (is_clocked p.kind) e t ≡ e t
+  starts_settled e t low =
+      cond_true (not (is_copy design.signals t)) (e t)
+      (cond (is_clocked p.kind) (e (original design.signals t)) 0)
+      (ap not (signal_is_settled design.signals t low))
+
+  starts_at_copy : (e : Environment ℕ) (u : ℕ)
+      → starting_values design.signals (is_clocked p.kind) e (copy_of design.signals u)
+      ≡ cond (is_clocked p.kind) (e u) 0
+  starts_at_copy e u =
+      cond_false (not (is_copy design.signals (copy_of design.signals u)))
+      (e (copy_of design.signals u))
+      (cond (is_clocked p.kind) (e (original design.signals (copy_of design.signals u))) 0)
+      (ap not (copy_is_copy design.signals u))
+      ∙ ap (λ t. cond (is_clocked p.kind) (e t) 0) (original_of_copy design.signals u)
+
+  -- ---- what the process makes on its way
+
+  -- from where it begins, of the copy of the signal
+  abbrev pub made_by : Environment ℕ → ℕ
+  made_by e =
+      made_on_the_way design.signals (followed design p s)
+      (marked design.signals (is_block p.kind) p.body no_bits)
+      (starting_values design.signals (is_clocked p.kind) e) (copy_of design.signals s)
+
+  -- the settled value of a signal
+  pub way_makes_settled : IsFalse (is_clocked p.kind) → (e : Environment ℕ)
+      → Fits (flat_system design) e → IsStill (flat_system design) e → made_by e ≡ e s
+  way_makes_settled unclocked e fits still =
+      let among = Contains-filter (λ (q : ProcessForm). not (is_clocked q.kind))
+      (processes_of design) p at (ap not unclocked) in
+      let emptied = λ (t : ℕ). cond (assigns p.body t) 0 (e t) in
+      way_runs design.signals (is_block p.kind) s
+      (Served design is_sound admitted p s at own) (followed design p s) true e p.body no_bits
+      no_bits (starting_values design.signals (is_clocked p.kind) e) (emptied, [])
+      (blocking design is_sound admitted p among e fits still) sound_body
+      (follows design is_sound admitted p among e fits still s)
+      (serves_target design is_sound admitted p s at own) (
+        starts_settled e,
+        (λ u u_at. starts_at_copy e u
+            ∙ sym (start_is design is_sound admitted p among e fits still s own u u_at)),
+      )
+      s member
+      ∙ comes_to_rest design is_sound admitted p among e fits still s own
+
+  -- and of a register the next value
+  pub way_makes_next : IsTrue (is_clocked p.kind) → (e : Environment ℕ)
+      → made_by e ≡ (flat_system design).next e s
+  way_makes_next clock e =
+      let waits = clocked_waits design is_sound admitted p at clock in
+      way_runs design.signals (is_block p.kind) s
+      (Served design is_sound admitted p s at own) (followed design p s) false e p.body no_bits
+      no_bits (starting_values design.signals (is_clocked p.kind) e) (e, []) waits sound_body
+      (waits_follow design is_sound admitted p s at clock own e)
+      (serves_target design is_sound admitted p s at own) (
+        starts_settled e,
+        (λ u u_at. starts_at_copy e u
+            ∙ sym (begins design is_sound admitted p s at clock own e u u_at)),
+      )
+      s member
+      ∙ ap (λ (f : Environment ℕ). last_update ◌==◌ s (f s) (updates_of design.signals p.body e))
+      (keeps_now design.signals p.body (e, []) waits)
+      ∙ sym (one_gives design.signals e s (e s) p (processes_of design) one at own clock)
+
+  -- a register is read for itself
+  register_is_read : IsTrue (is_clocked p.kind) → IsTrue (is_read_for design s s)
+  register_is_read clock =
+      or_left (is_register design s && (s == s))
+      (list_any (λ q. reads_settled design q (followed design q s) s)
+      (drivers (processes_of design) s))
+      (and_true (is_register design s) (s == s)
+      (some_from (λ (q : ProcessForm). is_clocked q.kind && assigns q.body s) design.processes p
+      (is_process design is_sound admitted p at)
+      (and_true (is_clocked p.kind) (assigns p.body s) clock own))
+      (eq-eqb s s refl))
+
+  -- from what is read for the signal alone
+  pub way_makes_from_reads : (e f : Environment ℕ)
+      → ((t : ℕ) → IsTrue (is_read_for design s t) → e t ≡ f t) → made_by e ≡ made_by f
+  way_makes_from_reads e f same =
+      way_alike design.signals (is_block p.kind) s (Served design is_sound admitted p s at own)
+      (followed design p s) p.body no_bits no_bits
+      (starting_values design.signals (is_clocked p.kind) e)
+      (starting_values design.signals (is_clocked p.kind) f) sound_body
+      (serves_target design is_sound admitted p s at own) (
+        (λ t low served. starts_settled e t low
+            ∙ same t (subst (λ z. IsTrue (is_read_for design s z)) served.3 served.2)
+            ∙ sym (starts_settled f t low)),
+        (λ u u_at. starts_at_copy e u ∙ copies_same (is_clocked p.kind) refl u u_at
+            ∙ sym (starts_at_copy f u)),
+      )
+      s member
+    where
+      copies_same : (c : Bool) → is_clocked p.kind ≡ c → (u : ℕ) → Contains (followed design p s) u
+          → cond c (e u) 0 ≡ cond c (f u) 0
+      copies_same true clock u u_at =
+          subst (λ z. e z ≡ f z) (clocked_alone design is_sound admitted p s at own u u_at clock)
+          (same s (register_is_read clock))
+      copies_same false none u u_at = refl
+
+  -- ---- where no read is an earlier one
+
+  module _ (quiet : (r : Reading) → Contains (process_readings design p) r
+      → IsFalse (is_earlier design p r)) where
+    -- the process makes the same as where every name is settled
+    pub way_is_made : (e : Environment ℕ)
+        → made_by e ≡ made design.signals e s p.body (cond (is_clocked p.kind) (e s) 0)
+    way_is_made e =
+        alone_on_the_way design.signals (is_block p.kind) (followed design p s) e s follows_itself
+        p.body no_bits no_bits (starting_values design.signals (is_clocked p.kind) e) sound_body
+        quiet (starts_settled e)
+        ∙ ap (made design.signals e s p.body) (starts_at_copy e s)
+
+  -- so a clocked block makes of a register, from its own value, the next
+  pub makes_next : IsTrue (is_clocked p.kind) → (e : Environment ℕ)
+      → made design.signals e s p.body (e s) ≡ (flat_system design).next e s
+  makes_next clock e =
+      ap (made design.signals e s p.body) (sym (cond_true (is_clocked p.kind) (e s) 0 clock))
+      ∙ sym (way_is_made (λ r r_at. ap (λ c. c && is_followed design.signals r)
+      (clocked_is_no_block p.kind clock)) e)
+      ∙ way_makes_next clock e
+
+  -- ---- as long as no block reads what it can assign again
+
+  pub starts_and_makes : (e : Environment ℕ)
+      → made_by e ≡ made design.signals e s p.body (cond (is_clocked p.kind) (e s) 0)
+  starts_and_makes e = way_is_made (λ r r_at. is_settled design is_sound admitted p at r r_at) e
 
   -- a body makes from 0 the settled value of a signal
   pub makes_settled : IsFalse (is_clocked p.kind) → (e : Environment ℕ)
       → Fits (flat_system design) e → IsStill (flat_system design) e
       → made design.signals e s p.body 0 ≡ e s
   makes_settled unclocked e fits still =
-      let among = Contains-filter (λ (q : ProcessForm). not (is_clocked q.kind))
-      (processes_of design) p at (ap not unclocked) in
-      let emptied = λ (t : ℕ). cond (assigns p.body t) 0 (e t) in
-      ap (made design.signals e s p.body) (sym (cond_true (assigns p.body s) 0 (e s) own))
-      ∙ run_makes design.signals s true e p.body (emptied, [])
-      (blocking design is_sound admitted p among e fits still)
-      (settles design is_sound admitted p among e fits still)
-      ∙ comes_to_rest design is_sound admitted p among e fits still s own
-
-  -- and of a register, from its own value, the next
-  pub makes_next : IsTrue (is_clocked p.kind) → (e : Environment ℕ)
-      → made design.signals e s p.body (e s) ≡ (flat_system design).next e s
-  makes_next clock e =
-      let waits = clocked_waits design is_sound admitted p at clock in
-      run_makes design.signals s false e p.body (e, []) waits
-      (waiting_settles design.signals p.body e (e, []) waits refl)
-      ∙ ap (λ (f : Environment ℕ). last_update ◌==◌ s (f s) (updates_of design.signals p.body e))
-      (keeps_now design.signals p.body (e, []) waits)
-      ∙ sym (one_gives design.signals e s (e s) p (processes_of design) one at own clock)
+      ap (made design.signals e s p.body) (sym (cond_false (is_clocked p.kind) (e s) 0 unclocked))
+      ∙ sym (starts_and_makes e)
+      ∙ way_makes_settled unclocked e fits still
 
   -- from what is read for the signal alone
   pub makes_from_reads : (e f : Environment ℕ)
@@ -417,58 +424,6 @@ module _ (design : FlatDesign) (is_sound : IsTrue (sound design)) (admitted : Is
       made_alike design.signals s e f p.body no_bits no_bits old sound_body
       (λ r r_at served. same r.name.signal
       (serves_is_read design is_sound admitted p s at own r r_at served))
-
-  inside : s < length design.signals
-  inside = ltb-true s (length design.signals)
-      (assigned_is_signal design.signals p.body sound_body s own)
-
-  -- the signal is one of those followed for it
-  pub follows_itself : IsTrue (holds (followed design p s) s)
-  follows_itself = some_from (λ m. m == s) (followed design p s) s
-      (least_set_has (length design.signals) (wants design p) (s ∷ [])
-      (λ k k_at. ⊎_elim (λ same. subst (λ z. z < length design.signals) same inside)
-      (λ later. absurd (Contains-nil k later)) (Contains-cases s [] k k_at))
-      s (Contains-head s []))
-      (eq-eqb s s refl)
-
-  -- and the marked body makes the same of its copy
-  pub makes_on_the_way : (e now : Environment ℕ)
-      → ((t : ℕ) → t < length design.signals → now t ≡ e t)
-      → made_on_the_way design.signals (followed design p s)
-      (marked design.signals (is_block p.kind) p.body no_bits) now (copy_of design.signals s)
-      ≡ made design.signals e s p.body (now (copy_of design.signals s))
-  makes_on_the_way e now same =
-      alone_on_the_way design.signals (is_block p.kind) (followed design p s) e s follows_itself
-      p.body no_bits no_bits now sound_body
-      (λ r r_at. is_settled design is_sound admitted p at r r_at) same
-
-  -- so from where it begins it makes of each copy what the body makes of the signal
-  starts_settled : (is_register : Bool) (e : Environment ℕ) (t : ℕ) → t < length design.signals
-      → starting_values design.signals is_register e t ≡ e t
-  starts_settled is_register e t low =
-      cond_true (not (is_copy design.signals t)) (e t)
-      (cond is_register (e (original design.signals t)) 0)
-      (ap not (signal_is_settled design.signals t low))
-
-  starts_at_copy : (is_register : Bool) (e : Environment ℕ)
-      → starting_values design.signals is_register e (copy_of design.signals s)
-      ≡ cond is_register (e s) 0
-  starts_at_copy is_register e =
-      cond_false (not (is_copy design.signals (copy_of design.signals s)))
-      (e (copy_of design.signals s))
-      (cond is_register (e (original design.signals (copy_of design.signals s))) 0)
-      (ap not (copy_is_copy design.signals s))
-      ∙ ap (λ t. cond is_register (e t) 0) (original_of_copy design.signals s)
-
-  pub starts_and_makes : (e : Environment ℕ)
-      → made_on_the_way design.signals (followed design p s)
-      (marked design.signals (is_block p.kind) p.body no_bits)
-      (starting_values design.signals (is_clocked p.kind) e) (copy_of design.signals s)
-      ≡ made design.signals e s p.body (cond (is_clocked p.kind) (e s) 0)
-  starts_and_makes e =
-      makes_on_the_way e (starting_values design.signals (is_clocked p.kind) e)
-      (starts_settled (is_clocked p.kind) e)
-      ∙ ap (made design.signals e s p.body) (starts_at_copy (is_clocked p.kind) e)
 
 -- ---- drivers
 

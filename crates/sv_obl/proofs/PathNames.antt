@@ -1,4 +1,5 @@
--- What a path names: settled names that serve its target, and the target's wanted name.
+-- What a path names: settled names that are read for its target, and the wanted names of the signals
+-- that the target follows.
 use Rattle.std.proofs.Common.{◌≡◌, ℕ, ◌+◌, ◌-◌, Bool, true, false, cond, ◌&&◌, ◌==◌, not, ltb-true}
 use Rattle.std.proofs.Common.{List, [], ◌∷◌, ◌++◌, length, map, fold, ◌⊎◌, inl, inr, ⊎_elim, refl}
 use Rattle.std.proofs.Common.{sym, ap, subst, ◌∙◌, arith}
@@ -27,19 +28,21 @@ use Rattle.sv_obl.specs.Paths.{StepForm, Path, under, step_with, Way, way_under,
 use Rattle.sv_obl.specs.Paths.{name_itself, ways_taken, with_way, path_names, is_taken, open_path}
 use Rattle.sv_obl.specs.Paths.{before}
 use Rattle.sv_flat.proofs.Members.{only}
-use Rattle.sv_obl.proofs.PathLists.{cond_false, from_cond, from_flat_map}
+use Rattle.sv_obl.proofs.PathLists.{cond_true, cond_false, from_cond, from_flat_map}
 use Rattle.sv_obl.proofs.PutFacts.{copy_is, copy_is_copy, signal_is_settled}
 use Rattle.sv_obl.proofs.PathTells.{marked_assigns}
 use Rattle.sv_obl.proofs.PathRuns.{step_of, whole_way}
 use Rattle.sv_obl.proofs.TreeFacts.{Comes, exchanged_names}
 
-module _ (signals : List SignalForm) (in_block : Bool) (s : ℕ) (Served : ℕ → Type 0) where
+module _ (signals : List SignalForm) (in_block : Bool) (s : ℕ) (Served Member : ℕ → Type 0) where
   abbrev both : List SignalForm
   both = with_copies signals
 
-  -- a settled name that serves the target, or the target's wanted name
+  -- a settled name that is served, or the wanted name of a member
   abbrev pub NameFine : ℕ → Type 0
-  NameFine x = (IsFalse (is_copy signals x) × Served x) ⊎ (x ≡ copy_of signals s)
+  NameFine x =
+      (IsFalse (is_copy signals x) × Served x)
+      ⊎ ((u : ℕ) × Member u × (x ≡ copy_of signals u))
 
   abbrev pub Fine : TypedTree → Type 0
   Fine t = (r : ReadForm) → Contains (reads both t) r → NameFine r.signal
@@ -50,11 +53,12 @@ module _ (signals : List SignalForm) (in_block : Bool) (s : ℕ) (Served : ℕ �
   abbrev pub PathFine : Path → Type 0
   PathFine p = StepsFine p.steps × Fine p.result
 
-  -- what serves the target is served, and is no earlier read
+  -- what serves a member is settled and served, or an earlier read of a member
   abbrev pub AllServe : List Reading → Type 0
   AllServe rs =
-      (r : Reading) → Contains rs r → IsTrue (r.serves s) →
-      Served r.name.signal × IsFalse (in_block && is_followed signals r)
+      (r : Reading) → Contains rs r → (u : ℕ) → Member u → IsTrue (r.serves u) →
+      (IsFalse (in_block && is_followed signals r) × Served r.name.signal)
+      ⊎ (IsTrue (in_block && is_followed signals r) × Member r.name.signal)
 
   no_steps : StepsFine []
   no_steps step at = absurd (Contains-nil step at)
@@ -186,15 +190,29 @@ module _ (signals : List SignalForm) (in_block : Bool) (s : ℕ) (Served : ℕ �
 
   -- ---- statements
 
-  marked_fine : (whole : FlatStatement) (t : TypedTree) (early later : BitSet)
-      → IsTrue (well_formed signals t) → IsTrue (assigns whole s)
+  pub marked_fine : (whole : FlatStatement) (t : TypedTree) (early later : BitSet)
+      → IsTrue (well_formed signals t) → (u : ℕ) → Member u → IsTrue (assigns whole u)
       → AllServe (readings_of signals t (assigns whole) early later)
       → Fine (marked_tree signals in_block later t)
-  marked_fine whole t early later well assigned serve r at =
+  marked_fine whole t early later well u member assigned serve r at =
       let from = exchanged_names signals both (mark signals in_block later) t r.signal
       (r, at, refl) in
       let q = from.0 in
-      let served = serve (record {
+      let is_marked = in_block && some_bit_read signals q (later q.signal) in
+      ⊎_elim
+      (λ settled.
+      let is : q.signal ≡ r.signal =
+      sym (cond_false is_marked (copy_of signals q.signal) q.signal settled.0) ∙ from.2 in
+      subst NameFine is (inl (
+        signal_is_settled signals q.signal
+            (ltb-true q.signal (length signals) (reads_signals signals t well q from.1)),
+        settled.1,
+      )))
+      (λ earlier.
+      let is : copy_of signals q.signal ≡ r.signal =
+      sym (cond_true is_marked (copy_of signals q.signal) q.signal earlier.0) ∙ from.2 in
+      subst NameFine is (inr (q.signal, earlier.1, refl)))
+      (serve (record {
         name = q;
         serves = assigns whole;
         assigned = early;
@@ -202,17 +220,9 @@ module _ (signals : List SignalForm) (in_block : Bool) (s : ℕ) (Served : ℕ �
       })
       (Contains-map (λ (x : ReadForm).
       record { name = x; serves = assigns whole; assigned = early; follows = later })
-      (reads signals t) q from.1) assigned in
-      let is : q.signal ≡ r.signal =
-      sym (cond_false (in_block && some_bit_read signals q (later q.signal))
-      (copy_of signals q.signal) q.signal served.1) ∙ from.2 in
-      subst NameFine is (inl (
-        signal_is_settled signals q.signal
-            (ltb-true q.signal (length signals) (reads_signals signals t well q from.1)),
-        served.0,
-      ))
+      (reads signals t) q from.1) u member assigned)
 
-  -- what a path wants is its target, so a statement that is taken assigns it
+  -- a path wants members, so a statement that is taken assigns one
   named_fine : (p : Path) → PathFine p → (x : ℕ) → IsTrue (path_names both p x) → NameFine x
   named_fine p fine x named =
       let in_steps = list_any (λ (step : StepForm). names_signal both step.condition x) p.steps in
@@ -228,7 +238,8 @@ module _ (signals : List SignalForm) (in_block : Bool) (s : ℕ) (Served : ℕ �
       (or_cases in_steps (names_signal both p.result x) named)
 
   taken_assigns : (body : FlatStatement) (later : BitSet) (p : Path) → PathFine p
-      → IsTrue (is_taken signals (marked signals in_block body later) p) → IsTrue (assigns body s)
+      → IsTrue (is_taken signals (marked signals in_block body later) p)
+      → (u : ℕ) × Member u × IsTrue (assigns body u)
   taken_assigns body later p fine taken =
       let found = from_some (λ k.
       assigns (marked signals in_block body later) k && path_names both p (copy_of signals k))
@@ -239,12 +250,17 @@ module _ (signals : List SignalForm) (in_block : Bool) (s : ℕ) (Served : ℕ �
       let named = named_fine p fine (copy_of signals k)
       (second_of (assigns (marked signals in_block body later) k)
       (path_names both p (copy_of signals k)) found.2) in
-      let is : k ≡ s = ⊎_elim
+      ⊎_elim
       (λ settled. absurd (false≢true (sym settled.0 ∙ copy_is_copy signals k)))
-      (λ same. omega arith)
-      named in
-      subst (λ x. IsTrue (assigns body x)) is (sym (marked_assigns signals in_block body later k)
-      ∙ assigned)
+      (λ wanted.
+      let same = wanted.2 in
+      let is : k ≡ wanted.0 = omega (arith, same) in (
+        wanted.0,
+        wanted.1,
+        subst (λ x. IsTrue (assigns body x)) is
+            (sym (marked_assigns signals in_block body later k) ∙ assigned),
+      ))
+      named
 
   pub paths_fine : (body : FlatStatement) (early later : BitSet) (p q : Path)
       → IsTrue (statement_sound signals body)
@@ -277,9 +293,10 @@ module _ (signals : List SignalForm) (in_block : Bool) (s : ℕ) (Served : ℕ �
       let from = Contains-from_map (with_way signals s pieces tree p)
       (ways_taken signals pieces tree p) q taken.1 in
       let way = from.0 in
+      let by = taken_assigns whole later p fine taken.0 in
       let fine_tree = marked_fine whole right early follows
       (first_of (well_formed signals right) (list_all (piece_fits signals right) pieces) sound)
-      (taken_assigns whole later p fine taken.0) serve in
+      by.0 by.1 by.2 serve in
       let inner = taken_fine pieces tree p fine_tree way from.1 in
       subst PathFine from.2 (
         both_steps way.steps (map (step_with (put_in signals pieces tree)) p.steps) inner.0
@@ -304,9 +321,10 @@ module _ (signals : List SignalForm) (in_block : Bool) (s : ℕ) (Served : ℕ �
       (before signals s (marked signals in_block second later) p) in
       ⊎_elim
       (λ taken.
+      let by = taken_assigns whole later p fine taken.0 in
       let fine_condition = marked_fine whole condition early follows
       (first_of (well_formed signals condition) (statement_sound signals first) front)
-      (taken_assigns whole later p fine taken.0)
+      by.0 by.1 by.2
       (λ r r_at.
       serve r (Contains-left (read_here ++ in_first) in_second r
       (Contains-left read_here in_first r r_at))) in
@@ -335,5 +353,6 @@ module _ (signals : List SignalForm) (in_block : Bool) (s : ℕ) (Served : ℕ �
       (from_cond (is_taken signals (marked signals in_block whole later) p) (in_yes ++ in_no)
       (p ∷ []) q at)
 
-  pub open_fine : PathFine (open_path signals s)
-  open_fine = (no_steps, wanted_fine s (signal_of signals s).place (inr refl))
+  pub open_fine : Member s → PathFine (open_path signals s)
+  open_fine member =
+      (no_steps, wanted_fine s (signal_of signals s).place (inr (s, member, refl)))

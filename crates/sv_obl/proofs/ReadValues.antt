@@ -12,7 +12,6 @@ use Rattle.sv_flat.specs.Processes.{is_clocked}
 use Rattle.sv_flat.specs.Reads.{is_combinational, is_read_for}
 use Rattle.sv_flat.specs.Soundness.{sound}
 use Rattle.sv_flat.proofs.AdmittedFacts.{combinational_is_driven}
-use Rattle.sv_flat.proofs.BlockFacts.{serves_is_read}
 use Rattle.sv_obl.proofs.TargetReads.{reads_of, origin, read_cases, steps_same, result_same}
 use Rattle.sv_obl.proofs.TargetValues.{path_gives_value, some_value_path}
 
@@ -33,8 +32,7 @@ module _ (design : FlatDesign) (is_sound : IsTrue (sound design))
       let q = found.0 in
       let o = origin design is_sound admitted p s at own q found.1 in
       let agree = λ (t : ℕ) (t_at : Contains (reads_of design q) t). ⊎_elim
-      (λ served. same t (subst (λ z. IsTrue (is_read_for design s z)) served.3
-      (serves_is_read design is_sound admitted p s at own served.0 served.1 served.2)))
+      (λ served. same t (subst (λ z. IsTrue (is_read_for design s z)) served.3 served.2))
       (λ kept. absurd (false≢true (sym driver.2 ∙ kept.0)))
       (read_cases design is_sound admitted p s at own q o t t_at) in
       path_gives_value design is_sound admitted p among e e_fits e_still s own q found.1 found.2

@@ -3,7 +3,6 @@
 use Rattle.std.proofs.Common.{◌≡◌, ℕ, ◌<◌, ◌≤◌, ◌^◌, Bool, true, false, cond, not, ◌&&◌, ◌==◌}
 use Rattle.std.proofs.Common.{nat_le, is_none, List, [], ◌∷◌, ◌++◌, fold, map, ◌⊎◌, inl, inr}
 use Rattle.std.proofs.Common.{⊎_elim, refl, sym, ap, subst, ◌∙◌, arith, Some, None, ◌/◌, ◌%◌}
-use Rattle.std.proofs.Common.{length, ltb-true}
 use Rattle.std.specs.Prelude.{Contains, IsTrue, IsFalse, filter, flat_map, slice_get}
 use Rattle.std.specs.Int.{bit_at}
 use Rattle.std.specs.Bool.{beq}
@@ -15,26 +14,24 @@ use Rattle.sv_num.specs.Parts.{extended}
 use Rattle.sv_num.specs.Vectors.{is_true}
 use Rattle.sv_system.specs.System.{Environment, Fits, IsStill, last_update}
 use Rattle.sv_system.proofs.Lists.{Contains-head, Contains-nil, Contains-cases, Contains-filter}
-use Rattle.sv_system.proofs.Lists.{Contains-map, Contains-from_map}
+use Rattle.sv_system.proofs.Lists.{Contains-map}
 use Rattle.sv_flat.specs.Design.{SignalForm, TypedTree, PieceForm, FlatStatement, nothing, after}
 use Rattle.sv_flat.specs.Design.{assign, branch, ProcessKind, continuous, port_in, port_out}
 use Rattle.sv_flat.specs.Design.{combinational, clocked, release, ProcessForm, FlatDesign}
 use Rattle.sv_flat.specs.Values.{signal_of, signal_width, value}
 use Rattle.sv_flat.specs.Runs.{Updates, with_piece, put_piece, run, updates_of}
-use Rattle.sv_flat.specs.Soundness.{is_signal, is_point, is_one_assignment, kind_sound, piece_fits}
+use Rattle.sv_flat.specs.Soundness.{is_signal, kind_sound, piece_fits}
 use Rattle.sv_flat.specs.Soundness.{well_formed, statement_sound, sound}
-use Rattle.sv_flat.specs.Assigned.{assigns, always_assigns, can_assign}
+use Rattle.sv_flat.specs.Assigned.{assigns}
 use Rattle.sv_flat.specs.Assignments.{TargetForm, targets, targets_after, is_wrong_sign}
 use Rattle.sv_flat.specs.Assignments.{is_wrong_target, target_breach}
-use Rattle.sv_flat.specs.Readings.{ReadForm, reads, BitSet, Reading, readings, readings_of, no_bits}
-use Rattle.sv_flat.specs.Readings.{either, some_bit_read, is_followed}
+use Rattle.sv_flat.specs.Readings.{Reading, no_bits, is_followed}
 use Rattle.sv_flat.specs.Processes.{is_clocked, is_block, is_top_input, is_register, drivers}
 use Rattle.sv_flat.specs.Clocks.{is_clock, processes_of}
-use Rattle.sv_flat.specs.Reads.{process_readings}
+use Rattle.sv_flat.specs.Reads.{is_earlier, followed, process_readings}
 use Rattle.sv_flat.specs.FlatSystem.{flat_system, combinational_processes, run_of}
 use Rattle.sv_flat.specs.Admission.{IsAdmitted}
 use Rattle.sv_flat.proofs.Members.{Contains-left, Contains-right, Contains-either}
-use Rattle.sv_flat.proofs.ReadSignals.{reads_signals}
 use Rattle.sv_flat.proofs.ReplacedBits.{replaced_below}
 use Rattle.sv_flat.proofs.RunsFit.{UpdatesFit, last_update_fits}
 use Rattle.sv_flat.proofs.LeastSets.{either_way, range_has, some_from, from_some}
@@ -44,22 +41,23 @@ use Rattle.sv_flat.proofs.SameRuns.{piece_lies_inside}
 use Rattle.sv_flat.proofs.AdmittedFacts.{and_true, none_pass, empty_part, is_process}
 use Rattle.sv_flat.proofs.AdmittedFacts.{process_is_sound, some_width, body_is_sound}
 use Rattle.sv_flat.proofs.AdmittedFacts.{targets_are_combinational, no_wrong_assigns}
-use Rattle.sv_flat.proofs.BlockFacts.{is_blocking, is_settled, serves_is_lower}
+use Rattle.sv_flat.proofs.BlockFacts.{one_kind, one_serves, follows_itself, follows_targets}
+use Rattle.sv_flat.proofs.BlockFacts.{settled_is_lower, is_blocking}
 use Rattle.sv_flat.proofs.FlatScheduled.{in_processes, unclocked, to_system, parts_of, same_target}
-use Rattle.sv_obl.specs.Wanted.{with_copies, copy_of, is_copy, original, mark, marked_tree, marked}
+use Rattle.sv_obl.specs.Wanted.{with_copies, copy_of, is_copy, original, marked}
 use Rattle.sv_obl.specs.Wanted.{wanted_name}
 use Rattle.sv_obl.specs.Paths.{Path, open_path, before, closed, paths}
-use Rattle.sv_obl.proofs.BlockSettles.{Settles, block_settles}
+use Rattle.sv_obl.proofs.BlockFollows.{keeps_now, waiting_follows, block_follows}
 use Rattle.sv_obl.proofs.Closing.{closed_value, closed_steps}
 use Rattle.sv_flat.proofs.Members.{all_contained, only}
 use Rattle.sv_obl.proofs.PathLists.{both_true, cond_true, cond_false}
-use Rattle.sv_obl.proofs.PathNames.{PathFine, paths_fine, open_fine}
+use Rattle.sv_obl.proofs.PathNames.{PathFine}
 use Rattle.sv_obl.proofs.PathRuns.{steps_hold, Tidy}
 use Rattle.sv_obl.proofs.PathTells.{here, Follows, path_tells, some_path, one_path, stays_tidy}
-use Rattle.sv_obl.proofs.PutFacts.{State, all_are, running, width_settled, width_copy}
-use Rattle.sv_obl.proofs.PutFacts.{signal_is_settled, copy_is_copy, original_of_copy, extended_same}
-use Rattle.sv_obl.proofs.TargetReads.{Served, inside, Origin, origin, open_tidy}
-use Rattle.sv_obl.proofs.TreeFacts.{well_held, exchanged_value}
+use Rattle.sv_obl.proofs.PutFacts.{State, all_are, running, width_copy, copy_is_copy}
+use Rattle.sv_obl.proofs.PutFacts.{original_of_copy, extended_same}
+use Rattle.sv_obl.proofs.TargetReads.{clocked_is_no_block, Served, Member, member_inside}
+use Rattle.sv_obl.proofs.TargetReads.{clocked_alone, target_fine, Origin, origin, open_tidy}
 
 -- ---- kinds of assignments
 
@@ -112,87 +110,7 @@ clocked_sign port_out b h fine = absurd (false≢true h)
 clocked_sign combinational b h fine = absurd (false≢true h)
 clocked_sign (release point) b h fine = absurd (false≢true h)
 
--- what is neither a block nor clocked is one assignment
-one_kind : (design : FlatDesign) (k : ProcessKind) (body : FlatStatement) → IsFalse (is_block k)
-    → IsFalse (is_clocked k)
-    → IsTrue (kind_sound design k body) → IsTrue (is_one_assignment design.signals body)
-one_kind design continuous body h k is = is
-one_kind design port_in body h k is = is
-one_kind design port_out body h k is = is
-one_kind design combinational body h k is = absurd (false≢true (sym h))
-one_kind design (clocked clock) body h k is = absurd (false≢true (sym k))
-one_kind design (release point) body h k is =
-    second_of (is_point design point) (is_one_assignment design.signals body) is
-
--- its right side serves all that it assigns
-one_serves : (signals : List SignalForm) (body : FlatStatement)
-    → IsTrue (is_one_assignment signals body) → (r : Reading)
-    → Contains (readings signals body no_bits no_bits) r → (t : ℕ) → IsTrue (assigns body t)
-    → IsTrue (r.serves t)
-one_serves signals (assign pieces place blocking right) h r at t assigned =
-    let whole = assign pieces place blocking right in
-    let from = Contains-from_map
-    (λ (z : ReadForm). record {
-      name = z;
-      serves = assigns whole;
-      assigned = no_bits;
-      follows = either (can_assign whole) no_bits;
-    })
-    (reads signals right) r at in
-    subst (λ (y : Reading). IsTrue (y.serves t)) from.2 assigned
-one_serves signals _ h r at t assigned = absurd (false≢true h)
-
 module _ (signals : List SignalForm) where
-  -- ---- nonblocking runs
-
-  either_now : (c : Bool) (x y : State) (n : Environment ℕ) → x.0 ≡ n → y.0 ≡ n → (cond c x y).0 ≡ n
-  either_now true x y n first second = first
-  either_now false x y n first second = second
-
-  pieces_keep_now : (v : ℕ) (pieces : List PieceForm) (now : State) →
-      (fold (put_piece signals false v) now pieces).0 ≡ now.0
-  pieces_keep_now v [] now = refl
-  pieces_keep_now v (p ∷ pieces) now = pieces_keep_now v pieces (put_piece signals false v now p)
-
-  -- nonblocking assignments leave the environment
-  pub keeps_now : (body : FlatStatement) (now : State) → IsTrue (all_are false body) →
-      (run signals body now).0 ≡ now.0
-  keeps_now nothing now kind = refl
-  keeps_now (after first second) now kind =
-      keeps_now second (run signals first now)
-      (second_of (all_are false first) (all_are false second) kind)
-      ∙ keeps_now first now (first_of (all_are false first) (all_are false second) kind)
-  keeps_now (assign [] place blocking right) now kind = refl
-  keeps_now (assign (p ∷ pieces) place true right) now kind = absurd (false≢true kind)
-  keeps_now (assign (p ∷ pieces) place false right) now kind =
-      pieces_keep_now (value signals now.0 right) (p ∷ pieces) now
-  keeps_now (branch place condition first second) now kind =
-      either_now (is_true (value signals now.0 condition)) (run signals first now)
-      (run signals second now) now.0
-      (keeps_now first now (first_of (all_are false first) (all_are false second) kind))
-      (keeps_now second now (second_of (all_are false first) (all_are false second) kind))
-
-  -- so they read the settled environment on their way
-  pub waiting_settles : (body : FlatStatement) (e : Environment ℕ) (now : State)
-      → IsTrue (all_are false body) → now.0 ≡ e
-      → Settles signals e body now
-  waiting_settles nothing e now kind same = tt
-  waiting_settles (after first second) e now kind same = (
-    waiting_settles first e now (first_of (all_are false first) (all_are false second) kind) same,
-    waiting_settles second e (run signals first now)
-        (second_of (all_are false first) (all_are false second) kind)
-        (keeps_now first now (first_of (all_are false first) (all_are false second) kind) ∙ same),
-  )
-  waiting_settles (assign pieces place blocking right) e now kind same =
-      ap (λ f. value signals f right) same
-  waiting_settles (branch place condition first second) e now kind same = (
-    ap (λ f. value signals f condition) same,
-    (λ holds. waiting_settles first e now
-        (first_of (all_are false first) (all_are false second) kind) same),
-    (λ fails. waiting_settles second e now
-        (second_of (all_are false first) (all_are false second) kind) same),
-  )
-
   -- ---- updates
 
   last_of_both : (s old : ℕ) (us vs : Updates) →
@@ -390,8 +308,9 @@ module _ (design : FlatDesign) (is_sound : IsTrue (sound design))
   module _ (p : ProcessForm) (s : ℕ) (at : Contains (processes_of design) p)
       (assigned : IsTrue (assigns p.body s)) (b : Bool)
       (e : Environment ℕ) (now : State) (kind : IsTrue (all_are b p.body))
-      (settles : Settles design.signals e p.body now)
-      (start : running b now s ≡ cond (is_clocked p.kind) (e s) 0) where
+      (follows : Follows design.signals (is_block p.kind) b s e p.body no_bits now)
+      (start : (u : ℕ) → Contains (followed design p s) u
+      → running b now u ≡ cond (is_clocked p.kind) (e u) 0) where
     abbrev body : FlatStatement
     body = p.body
 
@@ -404,114 +323,22 @@ module _ (design : FlatDesign) (is_sound : IsTrue (sound design))
     sound_body : IsTrue (statement_sound design.signals body)
     sound_body = body_is_sound design is_sound admitted p at
 
-    -- an expression whose reads are settled has its settled value
-    marked_value : (t : TypedTree) (whole : FlatStatement) (early follows : BitSet) (x : State)
-        → IsTrue (well_formed design.signals t)
-        → ((r : Reading) → Contains (readings_of design.signals t (assigns whole) early follows) r
-        → IsFalse (is_block p.kind && is_followed design.signals r))
-        → value both (here design.signals (is_block p.kind) b s e x)
-        (marked_tree design.signals (is_block p.kind) follows t)
-        ≡ value design.signals e t
-    marked_value t whole early follows x well quiet =
-        exchanged_value design.signals both (mark design.signals (is_block p.kind) follows)
-        (here design.signals (is_block p.kind) b s e x) e
-        (length design.signals) (λ k low.
-        width_settled design.signals k low) t (well_held design.signals t well) (λ r r_at.
-        let none = quiet (record {
-          name = r;
-          serves = assigns whole;
-          assigned = early;
-          follows = follows;
-        })
-        (Contains-map (λ (z : ReadForm).
-        record { name = z; serves = assigns whole; assigned = early; follows = follows })
-        (reads design.signals t) r r_at) in
-        let low = ltb-true r.signal (length design.signals)
-        (reads_signals design.signals t well r r_at) in
-        subst (λ k. (signal_width both k ≡ signal_width design.signals r.signal)
-        × (here design.signals (is_block p.kind) b s e x k ≡ e r.signal))
-        (sym (cond_false (is_block p.kind && some_bit_read design.signals r (follows r.signal))
-        (copy_of design.signals r.signal) r.signal none)) (
-          width_settled design.signals r.signal low,
-          cond_false (is_copy design.signals r.signal)
-              (running b x (original design.signals r.signal)) (e r.signal)
-              (signal_is_settled design.signals r.signal low),
-        ))
-
-    follows_from : (part : FlatStatement) (early later : BitSet) (x : State)
-        → IsTrue (statement_sound design.signals part)
-        → ((r : Reading) → Contains (readings design.signals part early later) r
-        → IsFalse (is_block p.kind && is_followed design.signals r))
-        → Settles design.signals e part x
-        → Follows design.signals (is_block p.kind) b s e part later x
-    follows_from nothing early later x sound quiet same = tt
-    follows_from (after first second) early later x sound quiet same =
-        let late = either (can_assign second) later in
-        let mid = either (always_assigns first) early in (
-          follows_from first early late x
-              (first_of (statement_sound design.signals first)
-              (statement_sound design.signals second) sound)
-              (λ r r_at.
-              quiet r (Contains-left (readings design.signals first early late)
-              (readings design.signals second mid later) r r_at)) same.0,
-          follows_from second mid later (run design.signals first x)
-              (second_of (statement_sound design.signals first)
-              (statement_sound design.signals second) sound)
-              (λ r r_at.
-              quiet r (Contains-right (readings design.signals first early late)
-              (readings design.signals second mid later) r r_at)) same.1,
-        )
-    follows_from (assign pieces place blocking right) early later x sound quiet same =
-        let whole = assign pieces place blocking right in
-        same ∙ sym (marked_value right whole early (either (can_assign whole) later) x
-        (first_of (well_formed design.signals right)
-        (list_all (piece_fits design.signals right) pieces) sound) quiet)
-    follows_from (branch place condition first second) early later x sound quiet same =
-        let whole = branch place condition first second in
-        let read_here = readings_of design.signals condition (assigns whole) early
-        (either (can_assign whole) later) in
-        let in_first = readings design.signals first early later in
-        let in_second = readings design.signals second early later in
-        let front = first_of (well_formed design.signals condition
-        && statement_sound design.signals first) (statement_sound design.signals second)
-        sound in (
-          same.0 ∙ sym (marked_value condition whole early (either (can_assign whole) later) x
-              (first_of (well_formed design.signals condition)
-              (statement_sound design.signals first) front)
-              (λ r r_at.
-              quiet r (Contains-left (read_here ++ in_first) in_second r
-              (Contains-left read_here in_first r r_at)))),
-          (λ holds. follows_from first early later x
-              (second_of (well_formed design.signals condition)
-              (statement_sound design.signals first) front)
-              (λ r r_at.
-              quiet r (Contains-left (read_here ++ in_first) in_second r
-              (Contains-right read_here in_first r r_at))) (same.1 holds)),
-          (λ fails. follows_from second early later x
-              (second_of (well_formed design.signals condition
-              && statement_sound design.signals first)
-              (statement_sound design.signals second) sound)
-              (λ r r_at. quiet r (Contains-right (read_here ++ in_first) in_second r r_at))
-              (same.2 fails)),
-        )
-
-    follows : Follows design.signals (is_block p.kind) b s e body no_bits now
-    follows =
-        follows_from body no_bits no_bits now sound_body (λ r r_at.
-        is_settled design is_sound admitted p at r r_at) settles
-
     abbrev ServedHere : ℕ → Type 0
     ServedHere t = Served design is_sound admitted p s at assigned t
+
+    abbrev MemberHere : ℕ → Type 0
+    MemberHere u = Member design is_sound admitted p s at assigned u
 
     abbrev OriginHere : Path → Type 0
     OriginHere q = Origin design is_sound admitted p s at assigned q
 
-    open_steps : (m : Path) → PathFine design.signals (is_block p.kind) s ServedHere m
+    open_steps : (m : Path) → PathFine design.signals (is_block p.kind) s ServedHere MemberHere m
         → Tidy design.signals m
         → steps_hold design.signals e (closed design.signals (is_clocked p.kind) m).steps
         ≡ steps_hold both (here design.signals (is_block p.kind) b s e now) m.steps
     open_steps m fine tidy = closed_steps design.signals (is_block p.kind) (is_clocked p.kind) s
-        (inside design is_sound admitted p s at assigned) ServedHere e (running b now) start m
+        ServedHere MemberHere (member_inside design is_sound admitted p s at assigned)
+        (clocked_alone design is_sound admitted p s at assigned) e (running b now) start m
         tidy fine
 
     open_holds : (q : Path) (o : OriginHere q) → IsTrue (steps_hold design.signals e q.steps)
@@ -549,7 +376,8 @@ module _ (design : FlatDesign) (is_sound : IsTrue (sound design))
         (open_holds q o holds) in
         ap (λ (x : Path). value design.signals e x.result) (sym o.is)
         ∙ closed_value design.signals (is_block p.kind) (is_clocked p.kind) s
-        (inside design is_sound admitted p s at assigned) ServedHere e
+        ServedHere MemberHere (member_inside design is_sound admitted p s at assigned)
+        (clocked_alone design is_sound admitted p s at assigned) e
         (running b now) start o.unclosed.result o.tidy.1 o.fine.1
         ∙ told.1
         ∙ target_after
@@ -566,11 +394,7 @@ module _ (design : FlatDesign) (is_sound : IsTrue (sound design))
         let q_at = Contains-map (closed design.signals (is_clocked p.kind))
         (before design.signals s (marked design.signals (is_block p.kind) body no_bits)
         (open_path design.signals s)) m found.1 in
-        let fine = paths_fine design.signals (is_block p.kind) s ServedHere body no_bits no_bits
-        (open_path design.signals s) m sound_body
-        (λ r r_at served.
-        ((r, r_at, served, refl), is_settled design is_sound admitted p at r r_at))
-        (open_fine design.signals (is_block p.kind) s ServedHere) found.1 in
+        let fine = target_fine design is_sound admitted p s at assigned m found.1 in
         let tidy = stays_tidy design.signals (is_block p.kind) b s e body no_bits
         (open_path design.signals s) m sound_body
         (open_tidy design is_sound admitted p s at assigned) found.1 in
@@ -663,39 +487,46 @@ module _ (design : FlatDesign) (is_sound : IsTrue (sound design))
         (and_true (nat_le r.name.low b) (nat_le b r.name.high) (le-leb r.name.low b from)
         (le-leb b r.name.high to)) follows)))
 
-    -- what is read is foreign, or nothing follows that assigns it
+    -- a settled read is of a foreign signal, or nothing follows that assigns a bit of it
     all_quiet : (r : Reading) → Contains (process_readings design p) r
+        → IsFalse (is_earlier design p r)
         → IsFalse (assigns p.body r.name.signal)
         ⊎ ((b : ℕ) → r.name.low ≤ b → b ≤ r.name.high →
         b < signal_width design.signals r.name.signal → IsFalse (r.follows r.name.signal b))
-    all_quiet r r_at = ⊎_elim
+    all_quiet r r_at late = ⊎_elim
         (λ block. inr (quiet_bits r (none_found (is_followed design.signals r) (λ follows.
-        false≢true (sym (is_settled design is_sound admitted p process r r_at)
+        false≢true (sym late
         ∙ and_true (is_block p.kind) (is_followed design.signals r) block follows)))))
         (λ no_block. inl (none_found (assigns p.body r.name.signal) (λ own.
-        let self = serves_is_lower design is_sound admitted p r.name.signal process is_unclocked
-        own r r_at
-        (one_serves design.signals p.body (one_kind design p.kind p.body no_block is_unclocked
+        let self = settled_is_lower design is_sound admitted p process r.name.signal own
+        is_unclocked r.name.signal
+        (follows_itself design is_sound admitted p process r.name.signal own) r r_at
+        (one_serves design.signals p.body
+        (one_kind design is_sound admitted p.kind p.body no_block is_unclocked
         (first_of (kind_sound design p.kind p.body) (statement_sound design.signals p.body)
         (process_is_sound design is_sound admitted p
-        (is_process design is_sound admitted p process)))) r r_at r.name.signal own) in
+        (is_process design is_sound admitted p process)))) r r_at r.name.signal own) late in
         omega arith)))
         (either_way (is_block p.kind))
 
-    pub settles : Settles design.signals e p.body (emptied, [])
-    settles =
-        block_settles design.signals (some_width design is_sound admitted) (assigns p.body) e
-        own_fits p.body no_bits no_bits
+    pub follows : (s : ℕ) →
+        Follows design.signals (is_block p.kind) true s e p.body no_bits (emptied, [])
+    follows s =
+        block_follows design.signals (some_width design is_sound admitted) (is_block p.kind) s e
+        (assigns p.body) own_fits p.body no_bits no_bits
         (emptied, []) (body_is_sound design is_sound admitted p process)
         (is_blocking design is_sound admitted p process is_unclocked)
         (λ t h. h) all_quiet emptied_fits outside (λ t b own below free.
         ap (λ n. bit_at n b) (comes_to_rest t own))
 
-    start_is : (s : ℕ) → IsTrue (assigns p.body s) →
-        running true (emptied, []) s ≡ cond (is_clocked p.kind) (e s) 0
-    start_is s own =
-        cond_true (assigns p.body s) 0 (e s) own
-        ∙ sym (cond_false (is_clocked p.kind) (e s) 0 is_unclocked)
+    -- what a target follows is 0 there
+    pub start_is : (s : ℕ) → IsTrue (assigns p.body s) → (u : ℕ)
+        → Contains (followed design p s) u
+        → running true (emptied, []) u ≡ cond (is_clocked p.kind) (e u) 0
+    start_is s own u u_at =
+        cond_true (assigns p.body u) 0 (e u)
+        (follows_targets design is_sound admitted p process s own u u_at)
+        ∙ sym (cond_false (is_clocked p.kind) (e u) 0 is_unclocked)
 
     pub blocking : IsTrue (all_are true p.body)
     blocking = blocking_are p.body (is_blocking design is_sound admitted p process is_unclocked)
@@ -707,14 +538,14 @@ module _ (design : FlatDesign) (is_sound : IsTrue (sound design))
     path_gives_value s own q q_at holds =
         sym (mod-eq_of_lt (own_fits s own))
         ∙ ap (λ k. k % 2 ^ signal_width design.signals s) (sym (comes_to_rest s own))
-        ∙ sym (path_gives p s process own true e (emptied, []) blocking settles (start_is s own) q
+        ∙ sym (path_gives p s process own true e (emptied, []) blocking (follows s) (start_is s own) q
         q_at holds)
 
     pub some_value_path : (s : ℕ) → IsTrue (assigns p.body s)
         → (q : Path) × Contains (paths design.signals s p.kind p.body) q
         × IsTrue (steps_hold design.signals e q.steps)
     some_value_path s own =
-        some_holds p s process own true e (emptied, []) blocking settles (start_is s own)
+        some_holds p s process own true e (emptied, []) blocking (follows s) (start_is s own)
 
     pub one_value_path : (s : ℕ) → IsTrue (assigns p.body s) → (q r : Path)
         → Contains (paths design.signals s p.kind p.body) q
@@ -722,7 +553,7 @@ module _ (design : FlatDesign) (is_sound : IsTrue (sound design))
         → Contains (paths design.signals s p.kind p.body) r
         → IsTrue (steps_hold design.signals e r.steps) → q ≡ r
     one_value_path s own q r =
-        one_holds p s process own true e (emptied, []) blocking settles (start_is s own) q r
+        one_holds p s process own true e (emptied, []) blocking (follows s) (start_is s own) q r
 
   -- ---- registers
 
@@ -744,11 +575,15 @@ module _ (design : FlatDesign) (is_sound : IsTrue (sound design))
     waits : IsTrue (all_are false p.body)
     waits = clocked_waits p at clock
 
-    waits_settle : Settles design.signals e p.body (e, [])
-    waits_settle = waiting_settles design.signals p.body e (e, []) waits refl
+    pub waits_follow : Follows design.signals (is_block p.kind) false s e p.body no_bits (e, [])
+    waits_follow =
+        waiting_follows design.signals (some_width design is_sound admitted) (is_block p.kind) s e
+        (clocked_is_no_block p.kind clock) p.body no_bits (e, [])
+        (body_is_sound design is_sound admitted p at) waits refl
 
-    begins : running false (e, []) s ≡ cond (is_clocked p.kind) (e s) 0
-    begins = sym (cond_true (is_clocked p.kind) (e s) 0 clock)
+    pub begins : (u : ℕ) → Contains (followed design p s) u
+        → running false (e, []) u ≡ cond (is_clocked p.kind) (e u) 0
+    begins u u_at = sym (cond_true (is_clocked p.kind) (e u) 0 clock)
 
     -- the path that holds gives the register's next value
     pub path_gives_next : slice_get (drivers (processes_of design) s) 1 ≡ None
@@ -766,14 +601,14 @@ module _ (design : FlatDesign) (is_sound : IsTrue (sound design))
         last_update ◌==◌ s (f s) (updates_of design.signals p.body e) % 2 ^ signal_width
         design.signals s)
         (sym (keeps_now design.signals p.body (e, []) waits))
-        ∙ sym (path_gives p s at assigned false e (e, []) waits waits_settle begins q q_at holds)
+        ∙ sym (path_gives p s at assigned false e (e, []) waits waits_follow begins q q_at holds)
 
     pub some_next_path : (q : Path) × Contains (paths design.signals s p.kind p.body) q
         × IsTrue (steps_hold design.signals e q.steps)
-    some_next_path = some_holds p s at assigned false e (e, []) waits waits_settle begins
+    some_next_path = some_holds p s at assigned false e (e, []) waits waits_follow begins
 
     pub one_next_path : (q r : Path) → Contains (paths design.signals s p.kind p.body) q
         → IsTrue (steps_hold design.signals e q.steps)
         → Contains (paths design.signals s p.kind p.body) r
         → IsTrue (steps_hold design.signals e r.steps) → q ≡ r
-    one_next_path q r = one_holds p s at assigned false e (e, []) waits waits_settle begins q r
+    one_next_path q r = one_holds p s at assigned false e (e, []) waits waits_follow begins q r

@@ -265,10 +265,6 @@ module _ (design : FlatDesign) (is_sound : IsTrue (sound design)) (admitted : Is
       (drives design is_sound admitted p s at own)
       (extra_at design is_sound admitted true s top inside))) inside
 
-  inside : s < length design.signals
-  inside = ltb-true s (length design.signals)
-      (assigned_is_signal design.signals p.body sound_body s own)
-
   member : Contains (followed design p s) s
   member = itself design is_sound admitted p s at own
 

@@ -37,35 +37,37 @@ pub enum Rule {
     NoMeet,
     /// A label map is declared twice.
     MapName,
-    /// A row of a label map is none of its values, has no point, or stands twice.
+    /// A label map's range is not `[m:0]` with m from 0 to 7, or a row is of no value in it, of one
+    /// twice, or gives no point.
     MapRow,
     /// A label map says nothing of a value.
     MapHole,
-    /// There is no module to begin with.
+    /// There is no module to begin with, or, where none is asked for, more than one.
     NoTop,
     /// There is no module of this name.
     UnknownModule,
     /// A name is declared twice.
     Twice,
-    /// A connection of an instance is not one to a port.
+    /// An instance has too many links, one to no port or two to one, or links an output to something
+    /// other than a whole signal.
     Port,
     /// A module would stand inside itself.
     Recursive,
     /// A design has more than 4,096 signals or 1,024 instances.
     TooMany,
-    /// An override of a parameter is none, or no constant.
+    /// An instance has too many overrides, one of no parameter or of a local one, or two of one.
     Parameter,
-    /// A name stands for nothing here.
+    /// A name stands for nothing here, or for a parameter where only a signal may stand.
     UnknownName,
     /// An expression or signal is longer than 64 bits.
     TooWide,
-    /// A bit or part lies outside its signal, or is none of a signal.
+    /// A constant bit or a part lies outside its signal, or a part's high end is below its low end.
     BadSelect,
     /// A constant is wanted, and this is none.
     NotConstant,
-    /// A divisor is 0.
+    /// A constant divisor is 0.
     ZeroDivisor,
-    /// An operand of `/` or `%` is a signal.
+    /// An operand of `/` or `%` is not constant.
     Division,
     /// A number without a size stands directly in braces.
     UnsizedPart,
@@ -73,15 +75,16 @@ pub enum Rule {
     BadCount,
     /// A range is not `[m:0]` with m from 0 to 63.
     BadRange,
-    /// A label is wrong.
+    /// A label has no such point, map or selector, or the selector is not as wide as the map.
     Label,
     /// A process assigns what it may not, or as it may not.
     WrongAssign,
-    /// A clock is read or driven as data.
+    /// A clock is not a 1-bit input, is linked by no whole name, leads up to another top input than
+    /// a clock before, is read, driven or selected by, or has a label that is not the least point.
     Clock,
-    /// A signal has two drivers.
+    /// A second process drives a signal, or any process a top input.
     Drivers,
-    /// A signal has no driver.
+    /// A signal that is neither a top input nor a clock has no driver.
     Undriven,
     /// A block does not assign a signal on every path.
     Latch,
@@ -95,7 +98,7 @@ pub enum Rule {
     Paths,
     /// A design has more than 65,536 obligations.
     Obligations,
-    /// A stimulus is too large.
+    /// A stimulus has more than 1,073,741,824 bytes.
     StimulusSize,
     /// A sample has not 1 to 200 lanes.
     Gen,
@@ -107,9 +110,9 @@ pub enum Rule {
     Encoding,
     /// A certificate has more than 268,435,456 bytes.
     ProofSize,
-    /// A file of a stimulus is too large.
+    /// A file that `compare` reads has more than 67,108,864 bytes.
     StimulusFile,
-    /// An obligation is too large.
+    /// More than 65,536 nodes are put into a path.
     ObligationSize,
 }
 

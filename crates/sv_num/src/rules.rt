@@ -1,5 +1,5 @@
 // The rules that a text can break, and the limits that it can exceed.
-ghost use Rattle.std.specs.Prelude.{◌≡◌, find, nat_eq};
+ghost use Rattle.std.specs.Prelude.{◌≡◌, find, nat_eq, Some};
 ghost use Rattle.std.specs.Option.{option_copied};
 ghost use Rattle.sv_num.specs.Rules.{rule_number, rule_name, rules};
 
@@ -299,9 +299,10 @@ impl Rule {
         }
     }
 
-    /// The rule or limit with this number.
+    /// The rule or limit with this number. No two have one number.
     pub fn numbered(number: u16) -> Option<Rule>
-        ensures { result ≡ find (λ rule. nat_eq (rule_number rule) number) rules }
+        ensures found { result ≡ find (λ rule. nat_eq (rule_number rule) number) rules }
+        ensures own { (rule : Rule) → rule_number rule ≡ number → result ≡ Some rule }
     {
         rule_among(number, &RULES).copied()
     }

@@ -3,8 +3,8 @@
 -- is 0. There a wanted name has the value so far, and of a settled one each bit that is read has
 -- its value of the end.
 use Rattle.std.proofs.Common.{◌≡◌, ℕ, ◌/◌, ◌^◌, ◌<◌, ◌≤◌, Bool, true, false, cond, ◌&&◌, ◌==◌}
-use Rattle.std.proofs.Common.{nat_le, leb-false, ltb-true, length, List, [], ◌∷◌, ◌++◌, fold, ◌⊎◌, inl, inr, ⊎_elim}
-use Rattle.std.proofs.Common.{refl, sym, ap, subst, ◌∙◌}
+use Rattle.std.proofs.Common.{nat_le, leb-false, ltb-true, length, List, [], ◌∷◌, ◌++◌, fold, ◌⊎◌}
+use Rattle.std.proofs.Common.{inl, inr, ⊎_elim, refl, sym, ap, subst, ◌∙◌}
 use Rattle.std.specs.Prelude.{Contains, IsTrue, IsFalse}
 use Rattle.std.specs.Int.{bit_at}
 use Rattle.std.specs.List.{list_any, list_all}
@@ -435,7 +435,8 @@ module _ (signals : List SignalForm) where
           → IsTrue (statement_sound signals body)
           → IsTrue (all_blocking body) → Owned body → AllQuiet (readings signals body before later)
           → OwnFit now.0
-          → Outside now.0 → Ends later (run signals body now).0 → Follows signals in_block true target e body later now
+          → Outside now.0 → Ends later (run signals body now).0
+          → Follows signals in_block true target e body later now
       block_follows nothing before later now sound blocking owned quiet fits outside ends = tt
       block_follows (after first second) before later now sound blocking owned quiet fits
           outside ends =
@@ -471,8 +472,8 @@ module _ (signals : List SignalForm) where
           read_follows (assign pieces place blocked right) right before later now
           (first_of (well_formed signals right) (list_all (piece_fits signals right) pieces) sound)
           sound blocking quiet fits outside ends
-      block_follows (branch place condition first second) before later now sound blocking owned quiet
-          fits outside ends =
+      block_follows (branch place condition first second) before later now sound blocking owned
+          quiet fits outside ends =
           let whole = branch place condition first second in
           let here = readings_of signals condition (assigns whole) before
           (either (can_assign whole) later) in
@@ -482,8 +483,8 @@ module _ (signals : List SignalForm) where
           (statement_sound signals second) sound in
           let c = is_true (value signals now.0 condition) in (
             read_follows whole condition before later now
-                (first_of (well_formed signals condition) (statement_sound signals first) front) sound
-                blocking
+                (first_of (well_formed signals condition) (statement_sound signals first) front)
+                sound blocking
                 (λ r at.
                 quiet r (Contains-left (here ++ in_first) in_second r
                 (Contains-left here in_first r at))) fits outside ends,

@@ -1,5 +1,5 @@
--- What the statement in which earlier reads are wanted makes of the copies of what is followed: what
--- a run leaves in their signals; and that it makes it from what is read for them alone.
+-- What the statement in which earlier reads are wanted makes of the copies of what is followed:
+-- what a run leaves in their signals; and that it makes it from what is read for them alone.
 use Rattle.std.proofs.Common.{◌≡◌, ℕ, ◌<◌, Bool, true, false, cond, ◌&&◌, ◌==◌, List, [], ◌∷◌, ◌++◌}
 use Rattle.std.proofs.Common.{fold, length, ⊎_elim, refl, sym, ap, ap₂, subst, ◌∙◌, arith}
 use Rattle.std.specs.Prelude.{Contains, IsTrue, IsFalse}

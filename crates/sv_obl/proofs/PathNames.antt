@@ -1,5 +1,5 @@
--- What a path names: settled names that are read for its target, and the wanted names of the signals
--- that the target follows.
+-- What a path names: settled names that are read for its target, and the wanted names of the
+-- signals that the target follows.
 use Rattle.std.proofs.Common.{◌≡◌, ℕ, ◌+◌, ◌-◌, Bool, true, false, cond, ◌&&◌, ◌==◌, not, ltb-true}
 use Rattle.std.proofs.Common.{List, [], ◌∷◌, ◌++◌, length, map, fold, ◌⊎◌, inl, inr, ⊎_elim, refl}
 use Rattle.std.proofs.Common.{sym, ap, subst, ◌∙◌, arith}

@@ -97,8 +97,8 @@ module _ (design : FlatDesign) (is_sound : IsTrue (sound design)) (admitted : Is
   pub clocked_alone : (u : ℕ) → Member u → IsTrue (is_clocked p.kind) → s ≡ u
   clocked_alone u u_at clock = only_itself (clocked_is_no_block p.kind clock) u u_at
 
-  -- a read for what the target follows is settled and read for the target, or an earlier one of what
-  -- the target follows
+  -- a read for what the target follows is settled and read for the target, or an earlier one of
+  -- what the target follows
   pub serves_target : (r : Reading) → Contains (process_readings design p) r → (u : ℕ) → Member u
       → IsTrue (r.serves u)
       → (IsFalse (is_earlier design p r) × Served r.name.signal)

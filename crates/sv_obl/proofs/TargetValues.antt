@@ -538,8 +538,8 @@ module _ (design : FlatDesign) (is_sound : IsTrue (sound design))
     path_gives_value s own q q_at holds =
         sym (mod-eq_of_lt (own_fits s own))
         ∙ ap (λ k. k % 2 ^ signal_width design.signals s) (sym (comes_to_rest s own))
-        ∙ sym (path_gives p s process own true e (emptied, []) blocking (follows s) (start_is s own) q
-        q_at holds)
+        ∙ sym (path_gives p s process own true e (emptied, []) blocking (follows s)
+        (start_is s own) q q_at holds)
 
     pub some_value_path : (s : ℕ) → IsTrue (assigns p.body s)
         → (q : Path) × Contains (paths design.signals s p.kind p.body) q

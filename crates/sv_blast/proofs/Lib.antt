@@ -12,6 +12,7 @@ pub mod FlowSteps
 pub mod FrameSteps
 pub mod FramedSteps
 pub mod Growing
+pub mod KeptTruths
 pub mod KnownSignals
 pub mod LiteralFacts
 pub mod LiteralSteps
@@ -25,6 +26,7 @@ pub mod PointSums
 pub mod QuerySignals
 pub mod ReadyWords
 pub mod RenamedSizes
+pub mod RestSteps
 pub mod Rows
 pub mod Searched
 pub mod SettledWords

@@ -22,7 +22,7 @@ use Rattle.sv_encoding_laws.proofs.Chain.{s2, s5, s6, s7, s8, s9, s10, p6, p7, p
 use Rattle.sv_encoding_laws.proofs.Chain.{InLater, conditions, named_inside, now_word, next_word}
 use Rattle.sv_encoding_laws.proofs.Chain.{asked_inside, labels_inside, grows5, grows7, grows9}
 use Rattle.sv_encoding_laws.proofs.ConeFacts.{seen_below}
-use Rattle.sv_encoding_laws.proofs.QueryCones.{in_flat_map, next_starts}
+use Rattle.sv_encoding_laws.proofs.QueryCones.{in_flat_map, next_starts, condition_is}
 use Rattle.sv_blast.specs.Goals.{IsTargetReady, IsHeldReady}
 use Rattle.sv_blast.specs.WordTables.{StandsOf, StandFor}
 
@@ -54,33 +54,15 @@ module _ (flat : Flat) (checked : IsChecked (design_of flat)) (o : Obligation)
       now_word design checked o query n h s
       (named_inside design checked o query s (listed (conditions_of o) e at is s named))
 
-  pub facts_formed : All (λ e. IsTrue (well_formed design.signals e)) o.facts
-  facts_formed k d inside = (query.facts k d inside).formed
+  pub asked_formed : (e : TypedTree) → Contains (conditions_of o) e →
+      IsTrue (well_formed design.signals e)
+  asked_formed e at = (condition_is design checked.is_sound checked.admitted o query e at).formed
 
-  pub facts_stand : All (StandFor design.signals (s5 design checked o query).0.variables now_words)
-      o.facts
-  facts_stand k d inside =
-      named_stands (s5 design checked o query).0.variables (grows5 design checked o query)
-      (get_or o.facts k d)
-      (Contains-left o.facts (map (λ (step : StepForm). step.condition) o.path) (get_or o.facts k d)
-      (Contains-get_or o.facts k d inside))
-      (query.facts k d inside)
-
-  pub path_formed : All (λ (step : StepForm). IsTrue (well_formed design.signals step.condition))
-      o.path
-  path_formed k d inside = (query.path k d inside).formed
-
-  pub path_stands : All (λ (step : StepForm).
-      StandFor design.signals (s6 design checked o query).0.variables now_words step.condition) o.path
-  path_stands k d inside =
-      let step = get_or o.path k d in
-      let more = (p6 design checked o query).extends.begins.grows in
-      named_stands (s6 design checked o query).0.variables
-      (omega (arith, grows5 design checked o query, more)) step.condition
-      (Contains-right o.facts (map (λ (step : StepForm). step.condition) o.path) step.condition
-      (Contains-map (λ (step : StepForm). step.condition) o.path step
-      (Contains-get_or o.path k d inside)))
-      (query.path k d inside)
+  pub asked_stands : (n : ℕ) → (s5 design checked o query).0.variables ≤ n → (e : TypedTree) →
+      Contains (conditions_of o) e → StandFor design.signals n now_words e
+  asked_stands n h e at =
+      named_stands n (omega (arith, grows5 design checked o query, h)) e at
+      (condition_is design checked.is_sound checked.admitted o query e at)
 
   -- ---- labels
 

@@ -24,22 +24,6 @@ all_up m n literals h is k d inside =
 
 module _ (design : FlatDesign) (o : Obligation) (now next : Words)
     (is_now : now ≡ (after_settled design o).1) (is_next : next ≡ (after_next design o).1) where
-  pub facts_path : (facts : List TypedTree) (gates : Formula) → facts ≡ o.facts →
-      gates ≡ (after_next design o).0 →
-      truth_literals design now facts gates ≡ after_facts design o
-  facts_path facts gates e g =
-      ap (λ z. truth_literals design now z gates) e
-      ∙ ap (λ (w : Words). truth_literals design w o.facts gates) is_now
-      ∙ ap (truth_literals design (after_settled design o).1 o.facts) g
-
-  pub conditions_path : (path : List StepForm) (gates : Formula) → path ≡ o.path →
-      gates ≡ (after_facts design o).0 →
-      condition_literals design now path gates ≡ after_conditions design o
-  conditions_path path gates e g =
-      ap (λ z. condition_literals design now z gates) e
-      ∙ ap (λ (w : Words). condition_literals design w o.path gates) is_now
-      ∙ ap (condition_literals design (after_settled design o).1 o.path) g
-
   pub target_path : (gates : Formula) → gates ≡ (after_conditions design o).0 →
       target_label design now next o.goal gates ≡ after_target design o
   target_path gates g =

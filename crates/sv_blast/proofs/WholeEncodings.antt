@@ -14,9 +14,9 @@ use Rattle.sv_gates.proofs.ExtendingLaws.{begins_trans}
 use Rattle.sv_encoding.specs.Cones.{now_cone, next_cone}
 use Rattle.sv_encoding.specs.Encoding.{BitPlace, given_in, inputs_in, bit_places}
 use Rattle.sv_encoding.specs.Encoding.{path_units, with_units, encoding}
-use Rattle.sv_encoding_laws.proofs.Chain.{free3, p6, after_six}
+use Rattle.sv_encoding_laws.proofs.Chain.{free3, p8, p9, p10}
 use Rattle.sv_blast.specs.Steps.{after_given, after_settled, after_inputs, after_next, after_facts}
-use Rattle.sv_blast.specs.Steps.{after_conditions, after_violation}
+use Rattle.sv_blast.specs.Steps.{after_conditions, after_target, after_reads, after_violation}
 use Rattle.sv_blast.proofs.LiteralFacts.{facts_more, conditions_more, target_more, reads_more}
 use Rattle.sv_blast.proofs.LiteralFacts.{violation_more}
 use Rattle.sv_blast.proofs.StepFacts.{registers_more, next_more}
@@ -82,17 +82,29 @@ module _ (flat : Flat) (checked : IsChecked (design_of flat)) (o : Obligation)
       let g = next_within in
       omega (arith, a, b, d, g)
 
-  -- all that comes behind the frames is added to their formula
-  pub next_begins : Begins (after_next design o).0 (last_formula design o)
-  next_begins =
-      let facts = (p6 design checked o query).extends.begins in
-      let others = (after_six design checked o query).begins in
+  -- what the conditions take is no more than what all takes
+  pub conditions_within : (after_conditions design o).0.variables ≤ (after_violation design o).0.variables
+  conditions_within =
+      let d = target_more flat checked o query in
+      let g = reads_more flat checked o query in
+      let h = violation_more flat checked o query in
+      omega (arith, d, g, h)
+
+  -- all that comes behind the conditions is added to their formula
+  pub conditions_begin : Begins (after_conditions design o).0 (last_formula design o)
+  conditions_begin =
+      let target = (p8 design checked o query).extends.begins in
+      let reads = (p9 design checked o query).extends.begins in
+      let fails = (p10 design checked o query).extends.begins in
       let units = units_begin ((after_facts design o).1
       ++ path_units o.path (after_conditions design o).1 ++ (after_violation design o).1 ∷ [])
       (after_violation design o).0 in
-      begins_trans (after_next design o).0 (after_violation design o).0 (last_formula design o)
-      (begins_trans (after_next design o).0 (after_facts design o).0 (after_violation design o).0
-      facts others)
+      begins_trans (after_conditions design o).0 (after_violation design o).0 (last_formula design o)
+      (begins_trans (after_conditions design o).0 (after_reads design o).0
+      (after_violation design o).0
+      (begins_trans (after_conditions design o).0 (after_target design o).0 (after_reads design o).0
+      target reads)
+      fails)
       units
 
 -- a size that is told as more than the most is more

@@ -22,7 +22,8 @@ use sv_obl::{Bodies, Query};
 
 /// Encodes obligations of a design one after the other, over its bodies, and keeps the last
 /// encoding. Where the next obligation hangs on the same signals in both cycles, only what comes
-/// behind their words is made anew.
+/// behind their words is made anew, and of that only what comes behind equal first facts and
+/// conditions.
 #[derive(Drop)]
 pub struct Coder<'a, 'b> {
     alloc: Global,

@@ -1,6 +1,7 @@
 // The encoding of an obligation, step by step.
-ghost use Rattle.std.specs.Prelude.{◌≡◌, ◌<◌, ◌≤◌, ◌++◌, true, false, All, IfOk, OnOk};
-ghost use Rattle.std.specs.Prelude.{IfSome, IsTrue, IsErrOf, map, min};
+ghost use Rattle.std.specs.Prelude.{◌≡◌, suc, ◌<◌, ◌≤◌, ◌∷◌, ◌++◌, true, false, IfOk, OnOk};
+ghost use Rattle.std.specs.Prelude.{IfSome, IsTrue, IsErrOf, length, map, drop, min};
+ghost use Rattle.sv_flat.specs.Views.{typed_tree};
 ghost use Rattle.sv_flat.specs.Views.{design_of};
 ghost use Rattle.sv_gates.specs.Formulas.{IsLiteral, most_variables};
 ghost use Rattle.sv_gates.specs.Gates.{start};
@@ -9,40 +10,33 @@ ghost use Rattle.sv_obl.specs.DesignQueries.{IsQueryOf};
 ghost use Rattle.sv_obl.specs.IndexedBodies.{AreIndexed};
 ghost use Rattle.sv_obl.specs.Views.{obligation_of};
 ghost use Rattle.sv_encoding.specs.BothWays.{IsWhole};
-ghost use Rattle.sv_encoding.specs.Cones.{now_cone, next_cone};
+ghost use Rattle.sv_encoding.specs.Cones.{now_cone, next_cone, conditions_of};
 ghost use Rattle.sv_encoding.specs.Encoding.{given_in, inputs_in, bit_places, encoding};
 ghost use Rattle.sv_blast.specs.Coded.{place_form, encoding_of};
 ghost use Rattle.sv_blast.specs.Encoders.{design_in, obligation_in, IsEncoder};
 ghost use Rattle.sv_blast.specs.Framed.{encoding_made, frames_size, IsFramed, HasFramesOf};
-ghost use Rattle.sv_blast.specs.Framed.{IsBegun};
+ghost use Rattle.sv_blast.specs.Framed.{IsBegun, trees_of};
 ghost use Rattle.sv_blast.specs.Steps.{after_given, after_settled, after_inputs, after_next};
-ghost use Rattle.sv_blast.specs.Steps.{after_facts, after_conditions, after_violation};
+ghost use Rattle.sv_blast.specs.Steps.{after_conditions, after_violation};
 ghost use Rattle.sv_blast.specs.WordTables.{words_of};
 
 use crate::coded::{BitPlace, BlastFault, Coded};
 use crate::cones::{given_in, inputs_in, next_cone, now_cone, registers_in, settled_in};
-use crate::framed::Framed;
+use crate::expressions::is_true;
+use crate::framed::{Framed, Truth, last_mark};
 use crate::frames::{make_fresh, make_next, make_settled};
 use crate::goals::{target_label, violation};
 use crate::labels::signal_labels;
 use crate::places::add_places;
 use crate::sizes::{frames_size, size_with};
 use crate::tables::WordTable;
-use crate::truths::{conditions, truths};
+use crate::truths::{add, asked, literals, same_truths};
 use crate::units::add_units;
 use std::alloc::{AllocError, Global};
 use sv_design::Design;
-use sv_flat::SigId;
+use sv_flat::{FExpr, SigId};
 use sv_gates::{GateFault, Gates, Literal, MOST_VARIABLES};
 use sv_obl::{Bodies, Query, know_design};
-
-// The literals of facts, of conditions, and of the goal's failing.
-#[derive(Drop)]
-struct Literals {
-    facts: Vec<Literal>,
-    conditions: Vec<Literal>,
-    fails: Literal,
-}
 
 // What makes the encoding of an obligation of a design: the design's bodies, and the signals on
 // whose values in this cycle and in the next one the obligation hangs.
@@ -162,36 +156,71 @@ impl<'a, 'b, 'c, 'd> Encoder<'a, 'b, 'c, 'd> {
         Ok(words)
     }
 
-    // Steps 6 to 10: the facts, the conditions, the labels and the violation.
-    fn literals(
+    // Behind the facts and conditions that are there, the next one.
+    fn add_truth(&self, made: &mut Framed, expr: &FExpr) -> Result<(), GateFault>
+        requires encoder { IsEncoder self.now }
+        requires begun { IsBegun self.now made.old }
+        requires next { drop (length made.old.truths.items) (conditions_of (obligation_in self.now))
+            ≡ typed_tree expr.now ∷ drop (suc (length made.old.truths.items))
+            (conditions_of (obligation_in self.now)) }
+        ensures begun { OnOk result (IsBegun self.now made.new) }
+        ensures more { OnOk result
+            (length made.new.truths.items ≡ suc (length made.old.truths.items)) }
+        ensures full { IsErrOf result GateFault.Full → most_variables
+            < ((after_conditions (design_in self.now) (obligation_in self.now)).0).variables }
+    {
+        know_design(self.design);
+        let signals = self.design.signals();
+        let words = &made.now_words;
+        let literal = is_true(self.alloc, &mut made.gates, signals, words, expr)?;
+        let mark = made.gates.mark();
+        let expr = expr.copy(self.alloc)?;
+        let truth = Truth {
+            expr,
+            literal,
+            mark,
+        };
+        add(&mut made.truths, truth)?;
+        Ok(())
+    }
+
+    // Steps 6 and 7: the literals of the facts and conditions that are not there yet.
+    fn make_truths(&self, made: &mut Framed) -> Result<(), GateFault>
+        requires encoder { IsEncoder self.now }
+        requires begun { IsBegun self.now made.old }
+        ensures begun { OnOk result (IsBegun self.now made.new) }
+        ensures all { OnOk result
+            (trees_of made.new.truths.items ≡ conditions_of (obligation_in self.now)) }
+        ensures full { IsErrOf result GateFault.Full → most_variables
+            < ((after_conditions (design_in self.now) (obligation_in self.now)).0).variables }
+    {
+        'truths: while let Some(expr) = asked(self.query, made.truths.len()) {
+            self.add_truth(made, expr)?;
+        }
+        Ok(())
+    }
+
+    // Steps 8 to 10: the labels and the violation.
+    fn failing(
         &self,
         gates: &mut Gates,
         now: &WordTable,
         next: &WordTable,
-    ) -> Result<Literals, GateFault>
+    ) -> Result<Literal, GateFault>
         requires encoder { IsEncoder self.now }
         requires now { words_of now.now
             ≡ (after_settled (design_in self.now) (obligation_in self.now)).1 }
-        requires next { after_next (design_in self.now) (obligation_in self.now)
-            ≡ (gates.old, words_of next.now) }
-        ensures facts { IfOk result (λ made. made.facts.items
-            ≡ (after_facts (design_in self.now) (obligation_in self.now)).1) }
-        ensures conditions { IfOk result (λ made. made.conditions.items
-            ≡ (after_conditions (design_in self.now) (obligation_in self.now)).1) }
-        ensures facts_within { IfOk result (λ made.
-            All (IsLiteral gates.new.variables) made.facts.items) }
-        ensures conditions_within { IfOk result (λ made.
-            All (IsLiteral gates.new.variables) made.conditions.items) }
-        ensures fails_within { IfOk result (λ made. IsLiteral gates.new.variables made.fails) }
-        ensures made { IfOk result (λ made.
-            after_violation (design_in self.now) (obligation_in self.now)
-            ≡ (gates.new, made.fails)) }
+        requires next { words_of next.now
+            ≡ (after_next (design_in self.now) (obligation_in self.now)).1 }
+        requires gates { gates.old
+            ≡ (after_conditions (design_in self.now) (obligation_in self.now)).0 }
+        ensures within { IfOk result (IsLiteral gates.new.variables) }
+        ensures made { IfOk result (λ fails.
+            after_violation (design_in self.now) (obligation_in self.now) ≡ (gates.new, fails)) }
         ensures full { IsErrOf result GateFault.Full → most_variables
             < ((after_violation (design_in self.now) (obligation_in self.now)).0).variables }
     {
         know_design(self.design);
-        let facts = truths(self.alloc, gates, self.design, now, &self.query.facts)?;
-        let conditions = conditions(self.alloc, gates, self.design, now, &self.query.path)?;
         let goal = &self.query.goal;
         let target = target_label(self.alloc, gates, self.design, now, next, goal)?;
         let reads = signal_labels(self.alloc, gates, self.design, now, &self.query.reads)?;
@@ -205,11 +234,7 @@ impl<'a, 'b, 'c, 'd> Encoder<'a, 'b, 'c, 'd> {
             &reads,
             goal,
         )?;
-        Ok(Literals {
-            facts,
-            conditions,
-            fails,
-        })
+        Ok(fails)
     }
 
     // Whether what was made before begins with the frames of this obligation's cones.
@@ -223,7 +248,7 @@ impl<'a, 'b, 'c, 'd> Encoder<'a, 'b, 'c, 'd> {
     }
 
     // What was made before, where it begins with this obligation's frames, without what came behind
-    // them.
+    // them and the facts and conditions with which this obligation begins too.
     fn kept(&self, before: Option<Framed>) -> Option<Framed>
         requires encoder { IsEncoder self.now }
         requires framed { IfSome before (IsFramed (design_in self.now)) }
@@ -233,7 +258,10 @@ impl<'a, 'b, 'c, 'd> Encoder<'a, 'b, 'c, 'd> {
         if !self.has_frames(&made) {
             return None;
         }
-        made.gates.back_to(&made.mark);
+        let same = same_truths(self.query, &made.truths);
+        made.truths.truncate(same);
+        let mark = last_mark(&made);
+        made.gates.back_to(&mark);
         Some(made)
     }
 
@@ -276,6 +304,7 @@ impl<'a, 'b, 'c, 'd> Encoder<'a, 'b, 'c, 'd> {
         let now = self.words_now(&mut gates, &mut bits)?;
         let next = self.words_next(&mut gates, &now, &mut bits)?;
         let mark = gates.mark();
+        let truths = Vec::new(self.alloc);
         Ok(Framed {
             now_cone,
             next_cone,
@@ -284,11 +313,12 @@ impl<'a, 'b, 'c, 'd> Encoder<'a, 'b, 'c, 'd> {
             bits,
             size,
             mark,
+            truths,
             gates,
         })
     }
 
-    // Steps 6 to 11, behind the frames: the unit clauses last.
+    // Steps 6 to 11, behind what is there of the facts and conditions: the unit clauses last.
     fn rest(&self, made: &mut Framed) -> Result<(), GateFault>
         requires encoder { IsEncoder self.now }
         requires begun { IsBegun self.now made.old }
@@ -299,14 +329,17 @@ impl<'a, 'b, 'c, 'd> Encoder<'a, 'b, 'c, 'd> {
             < (encoding (design_in self.now) (obligation_in self.now)).variables }
     {
         know_design(self.design);
-        let found = self.literals(&mut made.gates, &made.now_words, &made.next_words)?;
-        let path = &self.query.path;
+        self.make_truths(made)?;
+        let fails = self.failing(&mut made.gates, &made.now_words, &made.next_words)?;
+        let (facts, conditions) = made.truths.split_at(self.query.facts.len());
+        let facts = literals(self.alloc, facts)?;
+        let conditions = literals(self.alloc, conditions)?;
         add_units(
             &mut made.gates,
-            &found.facts,
-            path,
-            &found.conditions,
-            found.fails,
+            &facts,
+            &self.query.path,
+            &conditions,
+            fails,
         )?;
         Ok(())
     }
@@ -333,8 +366,8 @@ impl<'a, 'b, 'c, 'd> Encoder<'a, 'b, 'c, 'd> {
     }
 }
 
-/// The encoding of an obligation of a design, over its bodies: from the frames on of what was made
-/// before, where they are the same. `TooLarge` says that it has more than 4,194,304 variables,
+/// The encoding of an obligation of a design, over its bodies: from the frames and the first facts
+/// and conditions on of what was made before, where they are the same. `TooLarge` says that it has more than 4,194,304 variables,
 /// which is found before any of it is made; `OutOfMemory` that memory ran out.
 pub fn encoded(
     alloc: Global,

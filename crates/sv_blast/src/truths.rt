@@ -1,79 +1,75 @@
-// Whether expressions are not 0, one after the other.
-ghost use Rattle.std.specs.Prelude.{◌≡◌, ◌<◌, IsTrue, IfOk, IsErrOf, All, map};
-ghost use Rattle.sv_flat.specs.Soundness.{well_formed};
-ghost use Rattle.sv_flat.specs.Views.{design_of, typed_tree, typed_trees};
-ghost use Rattle.sv_gates.specs.Extending.{Begins};
-ghost use Rattle.sv_gates.specs.Formulas.{IsLiteral, most_variables};
-ghost use Rattle.sv_obl.specs.Paths.{StepForm};
-ghost use Rattle.sv_obl.specs.Views.{step_form};
-ghost use Rattle.sv_encoding.specs.Encoding.{truth_literals, condition_literals};
-ghost use Rattle.sv_blast.specs.WordTables.{words_of, StandFor};
+// The facts and conditions of an obligation, and the literals that say whether they are not 0.
+ghost use Rattle.std.specs.Prelude.{◌≡◌, suc, [], ◌∷◌, ◌++◌, IfOk, OnOk, IsTrue};
+ghost use Rattle.std.specs.Prelude.{take, drop, slice_get, option_map};
+ghost use Rattle.sv_flat.specs.Views.{typed_tree};
+ghost use Rattle.sv_obl.specs.Views.{obligation_of};
+ghost use Rattle.sv_encoding.specs.Cones.{conditions_of};
+ghost use Rattle.sv_blast.specs.Framed.{AreFirst, literals_of};
 
-use crate::expressions::is_true;
+use crate::framed::Truth;
 use crate::operators::append;
-use crate::tables::WordTable;
-use std::alloc::Global;
-use sv_design::Design;
+use crate::sameness::is_same;
+use std::alloc::{AllocError, Global};
 use sv_flat::FExpr;
-use sv_gates::{GateFault, Gates, Literal};
-use sv_obl::Step;
+use sv_gates::Literal;
+use sv_obl::Query;
 
-/// The literals that say of each expression in turn whether it is not 0.
-/// `Full` says that variables ran out, `OutOfMemory` that memory did; then some gates may stay.
-pub fn truths(
-    alloc: Global,
-    gates: &mut Gates,
-    design: &Design,
-    words: &WordTable,
-    exprs: &[FExpr],
-) -> Result<Vec<Literal>, GateFault>
-    requires formed { All (λ e. IsTrue (well_formed (design_of design.now).signals e))
-        (typed_trees exprs.now) }
-    requires words { All (StandFor (design_of design.now).signals gates.old.variables
-        (words_of words.now)) (typed_trees exprs.now) }
-    ensures made { IfOk result (λ literals. truth_literals (design_of design.now)
-        (words_of words.now) (typed_trees exprs.now) gates.old ≡ (gates.new, literals.items)) }
-    ensures within { IfOk result (λ literals. All (IsLiteral gates.new.variables) literals.items) }
-    ensures begins { Begins gates.old gates.new }
-    ensures full { IsErrOf result GateFault.Full → most_variables
-        < ((truth_literals (design_of design.now) (words_of words.now) (typed_trees exprs.now)
-        gates.old).0).variables }
+/// The fact or condition at a place: the facts come first.
+pub fn asked(query: &Query, place: usize) -> Option<&FExpr>
+    ensures { option_map (λ e. typed_tree e.now) result
+        ≡ slice_get (conditions_of (obligation_of query.now)) place }
 {
-    let signals = design.signals();
-    let mut literals = Vec::with_capacity(alloc, exprs.len())?;
-    'exprs: for expr in exprs {
-        let literal = is_true(alloc, gates, signals, words, expr)?;
-        append(&mut literals, literal)?;
+    let facts = query.facts.as_slice();
+    if place < facts.len() {
+        return Some(&facts[place]);
     }
-    Ok(literals)
+    let path = query.path.as_slice();
+    let behind = place - facts.len();
+    if behind < path.len() {
+        Some(&path[behind].cond)
+    } else {
+        None
+    }
 }
 
-/// The literals that say of the condition of each step in turn whether it is not 0.
-/// `Full` says that variables ran out, `OutOfMemory` that memory did; then some gates may stay.
-pub fn conditions(
-    alloc: Global,
-    gates: &mut Gates,
-    design: &Design,
-    words: &WordTable,
-    path: &[Step],
-) -> Result<Vec<Literal>, GateFault>
-    requires formed { All (λ (step : StepForm). IsTrue (well_formed (design_of design.now).signals
-        step.condition)) (map step_form path.now) }
-    requires words { All (λ (step : StepForm). StandFor (design_of design.now).signals
-        gates.old.variables (words_of words.now) step.condition) (map step_form path.now) }
-    ensures made { IfOk result (λ literals. condition_literals (design_of design.now)
-        (words_of words.now) (map step_form path.now) gates.old ≡ (gates.new, literals.items)) }
-    ensures within { IfOk result (λ literals. All (IsLiteral gates.new.variables) literals.items) }
-    ensures begins { Begins gates.old gates.new }
-    ensures full { IsErrOf result GateFault.Full → most_variables
-        < ((condition_literals (design_of design.now) (words_of words.now) (map step_form path.now)
-        gates.old).0).variables }
+// Whether the fact or condition at a place is this expression.
+fn asks(query: &Query, place: usize, expr: &FExpr) -> bool
+    ensures { IsTrue result → drop place (conditions_of (obligation_of query.now))
+        ≡ typed_tree expr.now ∷ drop (suc place) (conditions_of (obligation_of query.now)) }
 {
-    let signals = design.signals();
-    let mut literals = Vec::with_capacity(alloc, path.len())?;
-    'steps: for step in path {
-        let literal = is_true(alloc, gates, signals, words, &step.cond)?;
-        append(&mut literals, literal)?;
+    match asked(query, place) {
+        Some(its) => is_same(its, expr),
+        None => false,
+    }
+}
+
+/// With how many of these an obligation's facts and conditions begin.
+pub fn same_truths(query: &Query, truths: &[Truth]) -> usize
+    ensures { AreFirst (take result truths.now) (conditions_of (obligation_of query.now)) }
+{
+    'truths: for place in 0..truths.len() {
+        if !asks(query, place, &truths[place].expr) {
+            return place;
+        }
+    }
+    truths.len()
+}
+
+/// Puts one more at the end. An error says that memory ran out.
+pub fn add(truths: &mut Vec<Truth>, truth: Truth) -> Result<(), AllocError>
+    ensures { OnOk result (truths.new.items ≡ truths.old.items ++ truth ∷ []) }
+{
+    truths.push(truth)?;
+    Ok(())
+}
+
+/// The literals. An error says that memory ran out.
+pub fn literals(alloc: Global, truths: &[Truth]) -> Result<Vec<Literal>, AllocError>
+    ensures { IfOk result (λ literals. literals.items ≡ literals_of truths.now) }
+{
+    let mut literals = Vec::with_capacity(alloc, truths.len())?;
+    for truth in truths {
+        append(&mut literals, truth.literal)?;
     }
     Ok(literals)
 }

@@ -30,7 +30,7 @@ returns-clause-begun c =
     ∙ c.as_slice-2.ensures.value) ∙ c.requires.encoder.next)
     (sym (ap (λ (z : Formula × Words). z.1) c.in_ok-now.ensures.made))
     c.in_ok-next.ensures.made bits c.requires.size c.mark-mark.ensures.variables
-    c.mark-mark.ensures.clauses c.mark-mark.ensures.proper
+    c.mark-mark.ensures.clauses c.mark-mark.ensures.proper c.new-truths.ensures.items
 
 pub returns-in_err-now-clause-full : goal.returns-in_err-now-clause-full
 returns-in_err-now-clause-full c =

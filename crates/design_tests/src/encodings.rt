@@ -138,6 +138,7 @@ fn met_where_falsified(rt: HostRuntime) -> Result<(), Fail> {
 // the first, and the third with all three of the second. The last is that of p where it is held.
 const NESTED: &str = "module m(input clk, input a, input b, output reg p, output reg q);\n  \
     always @(posedge clk) begin\n    \
+    q <= a ^ b;\n    \
     if (a | p) if (b & q) p <= b; else if (a ^ b ^ q) p <= q; else p <= a;\n  \
     end\nendmodule\n";
 

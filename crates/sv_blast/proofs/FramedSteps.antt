@@ -245,7 +245,7 @@ module _ (encoder : Encoder) (made : Framed) (is : IsBegun encoder made) where
       IsBegun encoder (record made { truths = truths; gates = later })
   add_one signals words e later l truth truths s w m t literal inside begins v c proper items next =
       let path : is_true_bit its_design.signals its_words (typed_tree truth.expr) made.gates
-          ≡ (later, l) =
+      ≡ (later, l) =
       ap (λ z. is_true_bit its_design.signals its_words z made.gates) t
       ∙ ap (λ (z : Words). is_true_bit its_design.signals z e made.gates) (sym w)
       ∙ ap (λ z. is_true_bit z words e made.gates) (sym s) ∙ m in

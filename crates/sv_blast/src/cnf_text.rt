@@ -1,5 +1,5 @@
 // What `secv cnf` prints of an encoding.
-ghost use Rattle.std.specs.Prelude.{◌≡◌, ◌++◌, IfOk, OnOk, codes, decimal, flat_map};
+ghost use Rattle.std.specs.Prelude.{◌≡◌, ◌++◌, IfOk, OnOk, codes, flat_map};
 ghost use Rattle.std.specs.Fmt.{signed_decimal};
 ghost use Rattle.sv_encoding.specs.CnfText.{clause_line, problem_line};
 ghost use Rattle.sv_blast.specs.Coded.{encoding_of};
@@ -8,6 +8,7 @@ use crate::coded::Coded;
 use itoa::Buffer;
 use std::alloc::{AllocError, Global};
 use sv_clause::Clause;
+use sv_texts::push_number;
 
 /// The first line of an encoding as DIMACS: how many variables and clauses there are. An error says
 /// that memory ran out.
@@ -52,13 +53,5 @@ fn push_literal(text: &mut Vec<u8>, literal: i32) -> Result<(), AllocError>
     let mut buffer = Buffer::new();
     text.extend_from_slice(buffer.format(literal).as_bytes())?;
     text.push(b' ')?;
-    Ok(())
-}
-
-fn push_number(text: &mut Vec<u8>, number: u64) -> Result<(), AllocError>
-    ensures { OnOk result (text.new.items ≡ text.old.items ++ decimal number) }
-{
-    let mut buffer = Buffer::new();
-    text.extend_from_slice(buffer.format(number).as_bytes())?;
     Ok(())
 }

@@ -366,9 +366,10 @@ impl<'a, 'b, 'c, 'd> Encoder<'a, 'b, 'c, 'd> {
     }
 }
 
-/// The encoding of an obligation of a design, over its bodies: from the frames and the first facts
-/// and conditions on of what was made before, where they are the same. `TooLarge` says that it has more than 4,194,304 variables,
-/// which is found before any of it is made; `OutOfMemory` that memory ran out.
+/// The encoding of an obligation of a design, over its bodies. Of what was made before, the frames
+/// are kept where they are the same, and the first facts and conditions as far as they are.
+/// `TooLarge` says that it has more than 4,194,304 variables, which is found before any of it is
+/// made; `OutOfMemory` that memory ran out.
 pub fn encoded(
     alloc: Global,
     design: &Design,

@@ -11,9 +11,7 @@ use sv_flat::{FExpr, FNode};
 pub fn is_same(one: &FExpr, other: &FExpr) -> bool
     ensures { IsTrue result → typed_tree one.now ≡ typed_tree other.now }
 {
-    one.width == other.width
-        && one.signed == other.signed
-        && is_same_node(&one.node, &other.node)
+    one.width == other.width && one.signed == other.signed && is_same_node(&one.node, &other.node)
 }
 
 // The same of two nodes.
@@ -48,15 +46,9 @@ fn is_same_node(one: &FNode, other: &FNode) -> bool
         (
             FNode::HeldPart(signal, place, value, high, low),
             FNode::HeldPart(its, at, of, upper, lower),
-        ) => {
-            signal == its && place == at && is_same(value, of) && high == upper && low == lower
-        }
+        ) => { signal == its && place == at && is_same(value, of) && high == upper && low == lower }
         (FNode::Mend(signal, old, high, low, piece), FNode::Mend(its, of, upper, lower, by)) => {
-            signal == its
-                && is_same(old, of)
-                && high == upper
-                && low == lower
-                && is_same(piece, by)
+            signal == its && is_same(old, of) && high == upper && low == lower && is_same(piece, by)
         }
         (FNode::Slice(value, high, low), FNode::Slice(its, upper, lower)) => {
             is_same(value, its) && high == upper && low == lower

@@ -1,28 +1,19 @@
-use Rattle.std.proofs.Common.{rules, ◌≡◌, ◌∙◌, ◌<◌, ◌≤◌, length, map, ap, sym, subst, arith, ℤ, List}
-use Rattle.std.specs.Prelude.{All, IsTrue, Contains}
+use Rattle.std.proofs.Common.{rules, ◌∙◌, ◌<◌, ℤ, List, length, map, sym, ap, subst, arith}
+use Rattle.std.specs.Prelude.{All, Contains}
 use Rattle.std.specs.Result.{IsErrOf}
-use Rattle.sv_flat.specs.Design.{TypedTree}
-use Rattle.sv_flat.specs.Soundness.{well_formed}
-use Rattle.sv_flat.specs.Views.{typed_trees}
 use Rattle.sv_design.specs.Numbers.{numbers}
-use Rattle.sv_gates.specs.Formulas.{Formula, most_variables, IsLiteral}
-use Rattle.sv_blast.proofs.LiteralSteps.{all_up}
+use Rattle.sv_gates.specs.Formulas.{Formula, most_variables}
 use Rattle.sv_gates.specs.declared.gates.GateFault.TheVariants.{Full}
-use Rattle.sv_obl.specs.Paths.{StepForm}
-use Rattle.sv_obl.specs.Views.{step_form}
-use Rattle.sv_encoding.specs.Cones.{label_selectors}
 use Rattle.sv_encoding.specs.Expressions.{Words}
 use Rattle.sv_encoding.specs.Labels.{LabelForm}
 use Rattle.sv_blast.specs.Encoders.{design_in, obligation_in}
 use Rattle.sv_blast.specs.Goals.{IsTargetReady, IsHeldReady}
 use Rattle.sv_blast.specs.LabelViews.{label_form, AreWithin}
 use Rattle.sv_blast.specs.Steps.{after_settled, after_next}
-use Rattle.sv_blast.specs.WordTables.{words_of, StandFor, StandsOf}
-use Rattle.sv_blast.proofs.LiteralFacts.{facts_formed, facts_stand, path_formed, path_stands}
-use Rattle.sv_blast.proofs.LiteralFacts.{target_ready, reads_stand, held_ready, facts_more}
-use Rattle.sv_blast.proofs.LiteralFacts.{conditions_more, target_more, reads_more, violation_more}
-use Rattle.sv_blast.proofs.LiteralSteps.{within_up, facts_path, conditions_path, target_path}
-use Rattle.sv_blast.proofs.LiteralSteps.{reads_path, violation_path}
+use Rattle.sv_blast.specs.WordTables.{words_of, StandsOf}
+use Rattle.sv_blast.proofs.LiteralFacts.{target_ready, reads_stand, held_ready, reads_more}
+use Rattle.sv_blast.proofs.LiteralFacts.{violation_more}
+use Rattle.sv_blast.proofs.LiteralSteps.{within_up, target_path, reads_path, violation_path}
 use Rattle.sv_blast.proofs.QuerySignals.{reads_known}
 use Rattle.sv_blast.proofs.encoding.Encoder.failing.Goals as goal
 

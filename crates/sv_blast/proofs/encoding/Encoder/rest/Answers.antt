@@ -1,13 +1,11 @@
-use Rattle.std.proofs.Common.{rules, ◌≡◌, ◌∙◌, ◌<◌, length, map, take, drop, List, ℤ, ap, sym, subst, arith}
+use Rattle.std.proofs.Common.{rules, ◌≡◌, ◌∙◌, ◌≤◌, List, length, map, take, drop, sym, ap, arith}
 use Rattle.std.specs.Result.{IsErrOf}
-use Rattle.sv_gates.specs.Formulas.{Formula, most_variables}
+use Rattle.sv_gates.specs.Formulas.{Formula}
 use Rattle.sv_gates.specs.declared.gates.GateFault.TheVariants.{Full}
 use Rattle.sv_obl.specs.Views.{step_form}
 use Rattle.sv_blast.specs.Coded.{place_form}
 use Rattle.sv_blast.specs.Encoders.{design_in, obligation_in}
-use Rattle.sv_blast.specs.Framed.{literals_of, IsBegun}
-use Rattle.sv_blast.specs.Steps.{after_violation}
-use Rattle.sv_blast.specs.declared.framed.Truth.{Truth}
+use Rattle.sv_blast.specs.Framed.{literals_of}
 use Rattle.sv_blast.proofs.FramedSteps.{now_path, next_path, places_path}
 use Rattle.sv_blast.proofs.RestSteps.{gates_made, framed_last, facts_there, conditions_there}
 use Rattle.sv_blast.proofs.RestSteps.{facts_inside, conditions_inside}
@@ -26,3 +24,91 @@ pub failing-requires-clause-gates : goal.failing-requires-clause-gates
 failing-requires-clause-gates c =
     gates_made c.args.self.now c.make_truths.new.made c.in_ok-make_truths.ensures.begun
     c.know_design.ensures.checked c.requires.encoder.query c.in_ok-make_truths.ensures.all
+
+pub add_units-requires-clause-facts : goal.add_units-requires-clause-facts
+add_units-requires-clause-facts c =
+    facts_inside c.args.self.now c.make_truths.new.made c.in_ok-make_truths.ensures.begun
+    c.know_design.ensures.checked c.requires.encoder.query c.in_ok-make_truths.ensures.all
+    c.len.result c.failing.new.gates c.in_ok-fails.fails c.in_ok-fails.ensures.made
+    c.deref-2.result.now
+    (c.deref-2.ensures.value ∙ c.in_ok-facts.ensures
+    ∙ ap literals_of (c.split_at.ensures.front ∙ ap (take c.len.result) c.deref.ensures.value))
+
+pub add_units-requires-clause-conditions : goal.add_units-requires-clause-conditions
+add_units-requires-clause-conditions c =
+    conditions_inside c.args.self.now c.make_truths.new.made c.in_ok-make_truths.ensures.begun
+    c.know_design.ensures.checked c.requires.encoder.query c.in_ok-make_truths.ensures.all
+    c.len.result c.failing.new.gates c.in_ok-fails.fails c.in_ok-fails.ensures.made
+    c.deref-4.result.now
+    (c.deref-4.ensures.value ∙ c.in_ok-conditions.ensures
+    ∙ ap literals_of (c.split_at.ensures.back ∙ ap (drop c.len.result) c.deref.ensures.value))
+
+pub returns-clause-framed : goal.returns-clause-framed
+returns-clause-framed c =
+    let design = design_in c.args.self.now in
+    let o = obligation_in c.args.self.now in
+    let made = c.make_truths.new.made in
+    let begun = c.in_ok-make_truths.ensures.begun in
+    let checked = c.know_design.ensures.checked in
+    let query = c.requires.encoder.query in
+    let all = c.in_ok-make_truths.ensures.all in
+    let count : c.len.result ≡ length c.args.self.now.query.now.facts.items = omega arith in
+    let facts = c.deref-2.ensures.value ∙ c.in_ok-facts.ensures
+    ∙ ap literals_of (c.split_at.ensures.front ∙ ap (take c.len.result) c.deref.ensures.value)
+    ∙ facts_there c.args.self.now made begun checked query all c.len.result count in
+    let conditions = c.deref-4.ensures.value ∙ c.in_ok-conditions.ensures
+    ∙ ap literals_of (c.split_at.ensures.back ∙ ap (drop c.len.result) c.deref.ensures.value)
+    ∙ conditions_there c.args.self.now made begun checked query all c.len.result count in
+    let path = units_path design o c.deref-2.result.now c.deref-4.result.now
+    (map step_form c.deref-3.result.now) (c.failing.new.gates, c.in_ok-fails.fails) facts
+    (ap (map step_form) c.deref-3.ensures.value) conditions (sym c.in_ok-fails.ensures.made) in
+    framed_last c.args.self.now made begun checked query all c.add_units.new.gates
+    (c.in_ok-add_units.ensures.made ∙ path)
+
+pub returns-clause-coded : goal.returns-clause-coded
+returns-clause-coded c =
+    let design = design_in c.args.self.now in
+    let o = obligation_in c.args.self.now in
+    let made = c.make_truths.new.made in
+    let begun = c.in_ok-make_truths.ensures.begun in
+    let checked = c.know_design.ensures.checked in
+    let query = c.requires.encoder.query in
+    let all = c.in_ok-make_truths.ensures.all in
+    let count : c.len.result ≡ length c.args.self.now.query.now.facts.items = omega arith in
+    let facts = c.deref-2.ensures.value ∙ c.in_ok-facts.ensures
+    ∙ ap literals_of (c.split_at.ensures.front ∙ ap (take c.len.result) c.deref.ensures.value)
+    ∙ facts_there c.args.self.now made begun checked query all c.len.result count in
+    let conditions = c.deref-4.ensures.value ∙ c.in_ok-conditions.ensures
+    ∙ ap literals_of (c.split_at.ensures.back ∙ ap (drop c.len.result) c.deref.ensures.value)
+    ∙ conditions_there c.args.self.now made begun checked query all c.len.result count in
+    let path = units_path design o c.deref-2.result.now c.deref-4.result.now
+    (map step_form c.deref-3.result.now) (c.failing.new.gates, c.in_ok-fails.fails) facts
+    (ap (map step_form) c.deref-3.ensures.value) conditions (sym c.in_ok-fails.ensures.made) in
+    let last = c.in_ok-add_units.ensures.made ∙ path in
+    encoding_path design o c.add_units.new.gates.variables (map place_form made.bits.items)
+    c.add_units.new.gates.clauses (ap (λ (z : Formula). z.variables) last)
+    (places_path c.args.self.now made begun.frames) (ap (λ (z : Formula). z.clauses) last)
+
+pub returns-in_err-make_truths-clause-full : goal.returns-in_err-make_truths-clause-full
+returns-in_err-make_truths-clause-full c =
+    let same : IsErrOf c.from_residual.result Full → IsErrOf c.make_truths.result Full =
+    search rules in
+    let flat = c.args.self.now.design.now in
+    let o = obligation_in c.args.self.now in
+    let checked = c.know_design.ensures.checked in
+    let query = c.requires.encoder.query in
+    let equal = last_same flat checked o query in
+    let more = conditions_within flat checked o query in
+    λ e.
+    let most = c.make_truths.ensures.full (same e) in
+    omega (arith, most, equal, more)
+
+pub returns-in_err-fails-clause-full : goal.returns-in_err-fails-clause-full
+returns-in_err-fails-clause-full c =
+    let same : IsErrOf c.from_residual-in_err-fails.result Full → IsErrOf c.failing.result Full =
+    search rules in
+    let equal = last_same c.args.self.now.design.now c.know_design.ensures.checked
+    (obligation_in c.args.self.now) c.requires.encoder.query in
+    λ e.
+    let most = c.failing.ensures.full (same e) in
+    omega (arith, most, equal)

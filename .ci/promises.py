@@ -23,13 +23,14 @@ GROUPS = {
     "obligations": ("Obligations, their clauses and proofs",
                     ["sv_obl", "sv_clause", "sv_gates", "sv_circuits", "sv_encoding", "sv_encoding_laws", "sv_blast", "sv_proof", "sv_solve", "sv_decide",
                      "sv_accept", "sv_judge"]),
-    "program": ("Verdicts, words, samples and the top call", ["sv_texts", "sv_report", "sv_words", "sv_gen", "sv_cli"]),
+    "program": ("Verdicts, words, samples and the top call", ["sv_texts", "sv_report", "sv_words", "sv_gen", "sv_cli", "sv_messages"]),
 }
 # Types whose variants are the ways in which a call can end.
 ANSWERS = {"Outcome", "Checked", "Verified", "Decided", "Solved", "Compared", "Ending"}
 # What no clause says, and why that stands.
 OPEN = {
     ("sv_words", "help_text", "what it gives"): "the text is that of `clap`, and is only tested",
+    **{("sv_messages", name, "what it gives"): "what a person is told is only tested" for name in ("message", "spent_message")},
 }
 HANDLES = re.compile(r"\b(Abort|Wait|Threads|Net|Processes)\b")
 MEMORY = {"OutOfMemory", "AllocError", "AllocFailed"}

@@ -1,0 +1,88 @@
+// The line of a text at a place, and a caret below it.
+use std::alloc::{AllocError, Global};
+use sv_num::Place;
+
+// How much of a long line is shown, and how much of that stands before the place.
+const MOST: usize = 160;
+
+const BEFORE: usize = 100;
+
+// Where a line ends that begins here.
+fn line_end(rest: &[u8]) -> usize {
+    match rest.iter().position(|byte| *byte == b'\n') {
+        Some(end) => end,
+        None => rest.len(),
+    }
+}
+
+// What stands behind a line that begins here.
+fn behind_line(rest: &[u8]) -> &[u8] {
+    let end = line_end(rest);
+    match rest.get(end..) {
+        Some([_, behind @ ..]) => behind,
+        _ => b"",
+    }
+}
+
+/// A line of a text, by its number from 1, without its end. It is empty where there is none.
+pub fn line_of(text: &[u8], line: u32) -> &[u8] {
+    let mut rest = text;
+    for _ in 1..line {
+        rest = behind_line(rest);
+    }
+    rest.get(..line_end(rest)).unwrap_or(b"")
+}
+
+// A character that may be shown: tabs stay, and other control characters do not.
+fn shown(c: char) -> char {
+    if c == '\t' || !c.is_control() {
+        c
+    } else {
+        '\u{fffd}'
+    }
+}
+
+// What stands above or below a character, so that the columns agree.
+fn blank(c: char) -> char {
+    if c == '\t' { '\t' } else { ' ' }
+}
+
+fn push_shown(lines: &mut String, text: &str) -> Result<(), AllocError> {
+    for c in text.chars() {
+        lines.push(shown(c))?;
+    }
+    Ok(())
+}
+
+fn push_blanks(lines: &mut String, text: &str) -> Result<(), AllocError> {
+    for c in text.chars() {
+        lines.push(blank(c))?;
+    }
+    Ok(())
+}
+
+/// Adds the line of a text at a place and a line with a caret below that place, each behind two
+/// blanks; nothing where the line is empty. Of a long line the part around the place is shown.
+pub fn push_excerpt(
+    alloc: Global,
+    lines: &mut String,
+    text: &[u8],
+    place: Place,
+) -> Result<(), AllocError> {
+    let line = line_of(text, place.line);
+    if line.is_empty() {
+        return Ok(());
+    }
+    let at = (place.column as usize).saturating_sub(1).min(line.len());
+    let from = at.saturating_sub(BEFORE);
+    let to = from.saturating_add(MOST).min(line.len());
+    let from = if line.len() <= MOST { 0 } else { from };
+    let front = String::from_utf8_lossy(alloc, line.get(from..at).unwrap_or(b""))?;
+    let rest = String::from_utf8_lossy(alloc, line.get(at..to).unwrap_or(b""))?;
+    lines.push_str("  ")?;
+    push_shown(lines, front.as_str())?;
+    push_shown(lines, rest.as_str().trim_end())?;
+    lines.push_str("\n  ")?;
+    push_blanks(lines, front.as_str())?;
+    lines.push_str("^\n")
+}

@@ -1,0 +1,287 @@
+// What is said of obligations that fail or stay open.
+ghost use Rattle.std.specs.Prelude.{◌≡◌, ◌<◌, length, IfOk, IsTrue};
+ghost use Rattle.sv_flat.specs.ByNumber.{FitSignals};
+ghost use Rattle.sv_flat.specs.Views.{design_of};
+ghost use Rattle.sv_obl.specs.ListParts.{IsAt};
+ghost use Rattle.sv_obl.specs.Valuations.{FitsDesign};
+
+use crate::origins::Origin;
+use crate::rows::shown;
+use crate::said::{Case, Said};
+use std::alloc::{AllocError, Global};
+use sv_design::Design;
+use sv_flat::SigId;
+use sv_lattice::Point;
+use sv_num::Place;
+use sv_obl::{Frame, Goal, Listing, Query, Valuation};
+use sv_report::{frames_of, label_in};
+use sv_sim::Sim;
+
+// The obligation of a number, where there is one.
+fn query_of(alloc: Global, design: &Design, number: u32) -> Option<Query> {
+    let before = number.checked_sub(1)?;
+    match Listing::new(alloc, design) {
+        Ok(mut listing) => listed_query(alloc, design, &mut listing, before),
+        Err(_) => None,
+    }
+}
+
+// The obligation behind so many, of a target or else of a selector.
+fn listed_query(alloc: Global, design: &Design, listing: &mut Listing, before: u32) -> Option<Query>
+    requires at { IsAt (design_of design.now) 0 listing.old }
+{
+    for s in 0..count_of(design) {
+        let first = listing.count;
+        let Ok(queries) = listing.target_queries(alloc, design, SigId(s)) else {
+            return None;
+        };
+        if let Some(query) = taken(queries, before, first) {
+            return Some(query);
+        }
+    }
+    let first = listing.count;
+    match listing.selector_queries(alloc, design) {
+        Ok(queries) => taken(queries, before, first),
+        Err(_) => None,
+    }
+}
+
+// How many signals there are.
+fn count_of(design: &Design) -> u32
+    ensures { result ≡ length design.now.signals.items }
+{
+    design.signals().len() as u32
+}
+
+// The obligation behind so many, of a list behind the first ones.
+fn taken(mut queries: Vec<Query>, before: u32, first: u32) -> Option<Query> {
+    let at = before.checked_sub(first)? as usize;
+    if at < queries.len() {
+        Some(queries.swap_remove(at))
+    } else {
+        None
+    }
+}
+
+// The signal of whose label an obligation asks.
+fn asked_of(query: &Query) -> Option<SigId> {
+    match &query.goal {
+        Goal::Flow { target, .. } => Some(*target),
+        Goal::Selector { signal } => Some(*signal),
+        Goal::Holds { .. } => None,
+    }
+}
+
+// Where an obligation stands: at its last assignment, or else at the last condition on its path, or
+// else where its signal is declared.
+fn place_of(design: &Design, query: &Query) -> Option<Place> {
+    if query.right.is_some() {
+        return query.right;
+    }
+    if let Some(step) = query.path.last() {
+        return Some(step.place);
+    }
+    let signal = design.signals().get(asked_of(query)?.0 as usize)?;
+    Some(signal.place)
+}
+
+/// Where the obligation of a number in decimal stands.
+pub fn place_of_number(alloc: Global, case: &Case, digits: &[u8]) -> Option<Place> {
+    let mut number = 0u32;
+    for digit in digits {
+        let digit = digit.checked_sub(b'0')?;
+        number = number.checked_mul(10)?.checked_add(digit as u32)?;
+    }
+    place_of_obligation(alloc, &case.origin, number)
+}
+
+fn place_of_obligation(alloc: Global, origin: &Origin, number: u32) -> Option<Place> {
+    let design = origin.design(alloc)?;
+    let query = query_of(alloc, &design, number)?;
+    place_of(&design, &query)
+}
+
+/// Of an obligation on which the budget was spent.
+pub fn spent(alloc: Global, origin: &Origin, number: u32) -> Result<Said, AllocError> {
+    let words = format!(in alloc;
+        "the budget does not suffice for obligation {number}; `--budget \
+        NUMBER` gives more"
+    )?;
+    Ok(Said {
+        place: place_of_obligation(alloc, origin, number),
+        words,
+    })
+}
+
+// The first read whose label does not flow, its label, and that of the target.
+#[derive(Clone, Copy)]
+struct Leak {
+    read: SigId,
+    from: Point,
+    to: Point,
+}
+
+// Whether the values of a valuation are those of a design's registers and inputs.
+fn fits(alloc: Global, design: &Design, v: &Valuation) -> Result<bool, AllocError>
+    ensures { IfOk result (λ fits. IsTrue fits → FitsDesign (design_of design.now) v.now) }
+{
+    let sim = Sim::new(alloc, design)?;
+    if !sim.fits(&v.regs, &v.inputs) {
+        return Ok(false);
+    }
+    Ok(sim.fits(&v.regs, &v.next_inputs))
+}
+
+fn frame_of(query: &Query) -> Frame {
+    match &query.goal {
+        Goal::Flow { frame, .. } => *frame,
+        _ => Frame::Now,
+    }
+}
+
+// How an obligation fails at the values.
+fn leak_of(
+    alloc: Global,
+    design: &Design,
+    query: &Query,
+    v: &Valuation,
+) -> Result<Option<Leak>, AllocError> {
+    let Some(target) = asked_of(query) else {
+        return Ok(None);
+    };
+    if target.0 as usize >= design.signals().len() {
+        return Ok(None);
+    }
+    let is_fitting = fits(alloc, design, v)?;
+    if !is_fitting {
+        return Ok(None);
+    }
+    let frames = frames_of(alloc, design, frame_of(query), v)?;
+    let to = label_in(design, target, &frames.there);
+    Ok(first_leak(design, &query.reads, &frames.here, to))
+}
+
+// The first read whose label does not flow to the point.
+fn first_leak(design: &Design, reads: &[SigId], values: &[u64], to: Point) -> Option<Leak>
+    requires fit { FitSignals (design_of design.now).signals values.now }
+    requires point { to.0 < length design.now.lattice }
+{
+    for read in reads {
+        if let Some(from) = label_above(design, *read, values, to) {
+            return Some(Leak {
+                read: *read,
+                from,
+                to,
+            });
+        }
+    }
+    None
+}
+
+// The label of a read, where it does not flow to the point.
+fn label_above(design: &Design, read: SigId, values: &[u64], to: Point) -> Option<Point>
+    requires fit { FitSignals (design_of design.now).signals values.now }
+    requires point { to.0 < length design.now.lattice }
+{
+    if read.0 as usize >= design.signals().len() {
+        return None;
+    }
+    let from = label_in(design, read, values);
+    if design.lattice().flows(from, to) {
+        None
+    } else {
+        Some(from)
+    }
+}
+
+fn signal_name(alloc: Global, design: &Design, signal: SigId) -> Result<String, AllocError> {
+    match design.signals().get(signal.0 as usize) {
+        Some(signal) => shown(alloc, signal.name.bytes()),
+        None => Ok(String::new(alloc)),
+    }
+}
+
+fn point_name(alloc: Global, design: &Design, point: Point) -> Result<String, AllocError> {
+    match design.points().get(point.0 as usize) {
+        Some(name) => shown(alloc, name.bytes()),
+        None => Ok(String::new(alloc)),
+    }
+}
+
+/// Of an obligation that fails at values, by its number.
+pub fn flow(
+    alloc: Global,
+    origin: &Origin,
+    number: u32,
+    v: &Valuation,
+) -> Result<Said, AllocError> {
+    if let Some(design) = origin.design(alloc) {
+        if let Some(query) = query_of(alloc, &design, number) {
+            return flow_of(alloc, &design, number, &query, v);
+        }
+    }
+    let words = format!(in alloc; "obligation {number} fails at the printed values")?;
+    Ok(Said::nowhere(words))
+}
+
+// Of this obligation of a design.
+fn flow_of(
+    alloc: Global,
+    design: &Design,
+    number: u32,
+    query: &Query,
+    v: &Valuation,
+) -> Result<Said, AllocError> {
+    let words = match (asked_of(query), leak_of(alloc, design, query, v)?) {
+        (Some(target), Some(leak)) => leak_words(alloc, design, number, query, target, leak)?,
+        _ => format!(in alloc; "obligation {number} fails at the printed values")?,
+    };
+    Ok(Said {
+        place: place_of(design, query),
+        words,
+    })
+}
+
+// How a target learns from a read.
+fn leak_words(
+    alloc: Global,
+    design: &Design,
+    number: u32,
+    query: &Query,
+    target: SigId,
+    leak: Leak,
+) -> Result<String, AllocError> {
+    let name = signal_name(alloc, design, target)?;
+    let read = signal_name(alloc, design, leak.read)?;
+    let from = point_name(alloc, design, leak.from)?;
+    let to = point_name(alloc, design, leak.to)?;
+    let at = "at the printed values";
+    match &query.goal {
+        Goal::Selector { .. } => format!(in alloc;
+            "obligation {number}: the label of `{name}` tells \
+            `{read}`, which picks it: {at} `{read}` is at `{from}`, and `{name}` at `{to}`; pick a \
+            label by a signal that all may see who see `{name}`"
+        ),
+        Goal::Flow {
+            frame: Frame::Next,
+            ..
+        } if query.right.is_none() && leak.read.0 == target.0 => {
+            format!(in alloc;
+                "obligation {number}: the register `{name}` keeps its value on this \
+                path, and its label falls: {at} it is at `{from}`, and at `{to}` in the next \
+                cycle; clear it where its label falls"
+            )
+        }
+        Goal::Flow {
+            frame: Frame::Next,
+            ..
+        } => format!(in alloc;
+            "obligation {number}: `{name}` learns from `{read}`: {at} `{read}` is \
+            at `{from}`, and `{name}` at `{to}`: the label of a register is that of the next cycle"
+        ),
+        _ => format!(in alloc;
+            "obligation {number}: `{name}` learns from `{read}`: {at} `{read}` is \
+            at `{from}`, and `{name}` at `{to}`"
+        ),
+    }
+}

@@ -1,0 +1,119 @@
+// Forms of Verilog that are left out, by the words that refusals tell: what is said of each.
+
+/// What is said of a lexical form.
+pub fn lexical_form(word: &[u8]) -> &'static str {
+    match word {
+        b"directive" => {
+            "this directive is left out: take macros and includes away by a preprocessor, as \
+             `iverilog -E` is"
+        }
+        b"escaped-name" => "names with `\\` are left out: a name is letters, digits, `_` and `$`",
+        b"string" => "strings are left out: take away what only a simulation prints",
+        b"system-name" => {
+            "system tasks and functions are left out: take the call away; for `$signed` declare a \
+             `signed` wire"
+        }
+        b"case-equality" => {
+            "`===` and `!==` are left out, since no signal is x or z: write `==` or `!=`"
+        }
+        b"power" => "`**` is left out: write the value, or shift a 1",
+        b"indexed-part" => {
+            "`+:` and `-:` are left out: shift the signal into a wire, and take the lowest part of \
+             that"
+        }
+        b"event" => "named events are left out: one clock edge drives all registers",
+        b"real" => "numbers with a point are left out: a signal holds whole numbers",
+        b"four-state" => {
+            "`x`, `z` and `?` are left out, since every bit is 0 or 1: write a value, and ask the \
+             bits by `if` in place of `casez`"
+        }
+        _ => "this form of Verilog is left out",
+    }
+}
+
+/// What is said of a form of the grammar.
+pub fn grammar_form(word: &[u8]) -> &'static str {
+    match word {
+        b"header-names" => {
+            "names alone in a header are left out: declare each port there, as in `input [7:0] a`"
+        }
+        b"attribute" => "attributes are left out: take `(* .. *)` away",
+        b"delay" => "delays are left out: take `#` and the number away",
+        b"reg-init" => "a start value of a `reg` is left out: set it by a reset at the clock",
+        b"memory" => {
+            "a range behind this name is left out: only a `reg` declared alone can be a memory, \
+             and those are not built yet; name the registers, and pick one by `case`"
+        }
+        b"target-select" => {
+            "an `assign` sets whole signals: join the bits on its right side, or assign the part \
+             in an `always`"
+        }
+        b"event-control" => "`@` inside a block is left out: only an `always` waits for an edge",
+        b"sensitivity-list" => "sensitivity lists are left out: write `always @*`",
+        b"several-events" => {
+            "a block waits for one edge: write `always @(posedge clk)`, and ask the reset inside"
+        }
+        b"hierarchical-name" => {
+            "a name into an instance is left out: link the signal to an output of the module"
+        }
+        _ => word_form(word),
+    }
+}
+
+// What is said of a reserved word.
+fn word_form(word: &[u8]) -> &'static str {
+    match word {
+        b"initial" => {
+            "`initial` is left out: reset the register at the clock; for `sim` a line `start` of \
+             the stimulus sets it"
+        }
+        b"for" | b"while" | b"repeat" | b"forever" | b"generate" | b"genvar" => {
+            "loops are left out: write the copies out, or print them by a script"
+        }
+        b"function" | b"endfunction" | b"task" | b"endtask" => {
+            "functions and tasks are left out: make each a module, and each call an instance"
+        }
+        b"casex" | b"casez" => {
+            "`casez` and `casex` are left out: ask the bits by `if`, the first arm first"
+        }
+        b"inout" => {
+            "`inout` is left out: give the pad an input, an output and an enable, and keep it \
+             outside"
+        }
+        b"integer" | b"real" | b"realtime" | b"time" => {
+            "this type is left out: declare a `reg` of so many bits"
+        }
+        b"or" => {
+            "a block waits for one edge: write `always @(posedge clk)`, and ask the reset inside"
+        }
+        b"negedge" => "the falling edge is left out: registers take their values at `posedge`",
+        b"defparam" => "`defparam` is left out: set parameters at the instance, as `#(.W(8))`",
+        b"specify" | b"specparam" => "timing is left out: take the `specify` block away",
+        b"force" | b"release" | b"deassign" | b"disable" | b"wait" | b"fork" | b"join" => {
+            "this statement is left out: it only serves a simulation"
+        }
+        _ => part_form(word),
+    }
+}
+
+// What is said of the word of a gate, a primitive or a kind of net.
+fn part_form(word: &[u8]) -> &'static str {
+    match word {
+        b"and" | b"nand" | b"nor" | b"not" | b"xor" | b"xnor" | b"buf" => {
+            "gates are left out: write an `assign`, as `assign y = a & b;`"
+        }
+        b"tri"
+        | b"tri0"
+        | b"tri1"
+        | b"triand"
+        | b"trior"
+        | b"trireg"
+        | b"wand"
+        | b"wor"
+        | b"supply0"
+        | b"supply1"
+        | b"uwire" => "this kind of net is left out: declare a `wire`",
+        b"primitive" | b"table" => "user primitives are left out: write a module",
+        _ => "this form of Verilog is left out",
+    }
+}

@@ -1,0 +1,32 @@
+//! What a person is told of a refusal, in the words of a hardware designer.
+//!
+//! Takes what a command was asked, the text that it read, and why the answer was no (`Broken` of
+//! `sv_report`). [`message`] gives a line that says what is wrong and, where there is a usual one,
+//! the mend; where the refusal has a place the line begins with it, and below stand the line of the
+//! text and a caret.
+//!
+//! A message is nothing proved: a cause is found anew in the text, by the calls of the layers
+//! below, and where it is not found the message says less. Promised is that a message ends safely
+//! whatever text, command and refusal are given, and that it fails only where memory runs out. Its
+//! caller shows none then, and changes nothing else.
+#![tactic(auto)]
+
+mod drivers;
+mod excerpts;
+mod flows;
+mod forms;
+mod limits;
+mod links;
+mod maps;
+mod messages;
+mod modules;
+mod names;
+mod origins;
+mod rows;
+mod said;
+mod stimuli;
+mod syntax;
+
+pub use messages::{message, spent_message};
+pub use origins::Origin;
+pub use std::alloc::AllocError as OutOfMemory;

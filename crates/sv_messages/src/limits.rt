@@ -1,0 +1,200 @@
+// What is said of limits.
+use crate::origins::{first_unbuilt, place_of};
+use crate::rows::{Row, shown};
+use crate::said::{Case, Said, owned};
+use std::alloc::{AllocError, Global};
+use sv_ast::Item;
+use sv_design::Design;
+use sv_num::Place;
+use sv_obl::check_limits;
+use sv_words::Command;
+
+/// Of an item that is not built.
+pub fn unbuilt(alloc: Global, case: &Case) -> Result<Said, AllocError> {
+    let text = case.origin.tree(alloc);
+    let item = match &text {
+        Some(text) => first_unbuilt(text),
+        None => None,
+    };
+    let words = match item {
+        Some(Item::Memory(_)) => {
+            "memories are not built yet: name the registers, and pick one by `case`"
+        }
+        Some(Item::Release { .. }) => "`$release` is not built yet",
+        Some(Item::Invariant(_, _)) => {
+            "`invariant` is not built yet: add its condition to the path that needs it"
+        }
+        _ => "memories, invariants and released values are not built yet",
+    };
+    Ok(Said {
+        place: item.map(place_of),
+        words: owned(alloc, words)?,
+    })
+}
+
+/// Of a file that is too large.
+pub fn file_size(alloc: Global, case: &Case) -> Result<Said, AllocError> {
+    let file = case.origin.file.escape_debug();
+    let words = format!(in alloc;
+        "{file}: the file has over 1,048,576 bytes, which is the most: leave \
+        out modules that the top has no instance of"
+    )?;
+    Ok(Said::nowhere(words))
+}
+
+// The place where the signal of the first name is declared.
+fn declared_at(design: &Design, name: &[u8]) -> Option<Place> {
+    let signal = design
+        .signals()
+        .iter()
+        .find(|signal| signal.name.bytes() == name)?;
+    Some(signal.place)
+}
+
+// Of the signal that is named.
+fn of_signal(alloc: Global, case: &Case, words: String) -> Said {
+    let place = match case.origin.design(alloc) {
+        Some(design) => declared_at(&design, case.name()),
+        None => None,
+    };
+    Said { place, words }
+}
+
+/// Of a signal with too many paths.
+pub fn paths(alloc: Global, case: &Case) -> Result<Said, AllocError> {
+    let name = shown(alloc, case.name())?;
+    let words = format!(in alloc;
+        "over 4,096 paths lead through the statements to `{name}`, which is \
+        the most: split its block, or name a value between by a `wire`"
+    )?;
+    Ok(of_signal(alloc, case, words))
+}
+
+/// Of a path into which too much is put.
+pub fn nodes(alloc: Global, case: &Case) -> Result<Said, AllocError> {
+    let name = shown(alloc, case.name())?;
+    let words = format!(in alloc;
+        "over 65,536 nodes of earlier values are put into one path of \
+        `{name}`, which is the most: name a value between by a `wire`"
+    )?;
+    Ok(of_signal(alloc, case, words))
+}
+
+/// Of too many obligations.
+pub fn obligations(alloc: Global, case: &Case) -> Result<Said, AllocError> {
+    let file = case.origin.file.escape_debug();
+    let words = format!(in alloc;
+        "{file}: the design has over 65,536 obligations, which are the most: \
+        check its modules one by one, by `--top MODULE`"
+    )?;
+    Ok(Said::nowhere(words))
+}
+
+/// Of a stimulus that is too large.
+pub fn stimulus_size(alloc: Global) -> Result<Said, AllocError> {
+    let words =
+        "the input has over 1,073,741,824 bytes, which are the most of a stimulus: run it in \
+                 parts, each with `start` lines";
+    Ok(Said::nowhere(owned(alloc, words)?))
+}
+
+/// Of a number of lanes that is not taken.
+pub fn lanes(alloc: Global, case: &Case) -> Result<Said, AllocError> {
+    let words = match case.command {
+        Command::Gen { lanes, .. } => {
+            format!(in alloc; "a sample has 1 to 200 lanes, and not {lanes}")?
+        }
+        _ => owned(alloc, "a sample has 1 to 200 lanes")?,
+    };
+    Ok(Said::nowhere(words))
+}
+
+/// Of a number that no obligation has.
+pub fn no_obligation(alloc: Global, case: &Case) -> Result<Said, AllocError> {
+    let file = case.origin.file.escape_debug();
+    let number = match case.command {
+        Command::Cnf { number, .. } => *number,
+        _ => 0,
+    };
+    let count = match case.origin.design(alloc) {
+        Some(design) => check_limits(alloc, &design).ok(),
+        None => None,
+    };
+    let words = match count {
+        Some(0) => format!(in alloc; "{file}: the design has no obligation")?,
+        Some(count) => format!(in alloc;
+            "{file}: the design has the obligations 1 to {count}, and \
+            none has the number {number}"
+        )?,
+        None => format!(in alloc; "{file}: no obligation has the number {number}")?,
+    };
+    Ok(Said::nowhere(words))
+}
+
+/// Of a level that is no point.
+pub fn level(alloc: Global, case: &Case) -> Result<Said, AllocError> {
+    let file = case.origin.file.escape_debug();
+    let asked = match case.command {
+        Command::Sim {
+            level: Some(level),
+            ..
+        } => level.as_str(),
+        Command::Compare { level, .. } => level.as_str(),
+        _ => "",
+    };
+    let asked = asked.escape_debug();
+    let mut row = Row::new(alloc);
+    if let Some(design) = case.origin.design(alloc) {
+        for point in design.points() {
+            row.add(point.bytes(), "")?;
+        }
+    }
+    let points = row.finish()?;
+    let words = format!(in alloc;
+        "{file}: there is no point `{asked}`, which `--level` names; the \
+        points are {points}"
+    )?;
+    Ok(Said::nowhere(words))
+}
+
+/// Of an obligation whose clauses have too many variables.
+pub fn encoding(alloc: Global, case: &Case) -> Result<Said, AllocError> {
+    let number = shown(alloc, case.name())?;
+    let words = format!(in alloc;
+        "the clauses of this obligation, {number}, have over 4,194,304 \
+        variables, which are the most: name wide products and shifts on its path by registers"
+    )?;
+    Ok(Said {
+        place: crate::flows::place_of_number(alloc, case, case.name()),
+        words,
+    })
+}
+
+/// Of a certificate that is too large.
+pub fn proof_size(alloc: Global, case: &Case) -> Result<Said, AllocError> {
+    let name = match case.command {
+        Command::Verify { proof, .. } => proof.as_str(),
+        _ => case.origin.file,
+    };
+    let name = name.escape_debug();
+    let words = format!(in alloc;
+        "{name}: the certificate has over 268,435,456 bytes, which are the \
+        most"
+    )?;
+    Ok(Said::nowhere(words))
+}
+
+/// Of a stimulus file that is too large.
+pub fn stimulus_file(alloc: Global, case: &Case) -> Result<Said, AllocError> {
+    let name = match case.command {
+        Command::Compare { a, .. } if case.name() == b"A".as_slice() => a.as_str(),
+        Command::Compare { b, .. } => b.as_str(),
+        _ => case.origin.file,
+    };
+    let name = name.escape_debug();
+    let words = format!(in alloc;
+        "{name}: the stimulus has over 67,108,864 bytes, which are the most \
+        of a comparison: compare fewer cycles"
+    )?;
+    Ok(Said::nowhere(words))
+}

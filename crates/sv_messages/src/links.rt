@@ -1,0 +1,163 @@
+// What is said of links and overrides of an instance.
+use crate::names::{Declared, first_declaration};
+use crate::origins::{is_up_to, item_at, module_at};
+use crate::rows::{Row, shown};
+use crate::said::Case;
+use std::alloc::{AllocError, Global};
+use sv_ast::{DeclKind, Instance, Item, Links, Module, Overrides, Text};
+use sv_num::Place;
+
+// The module of an instance.
+fn master_of<'t>(text: &'t Text, instance: &Instance) -> Option<&'t Module> {
+    let name = instance.module.bytes();
+    text.modules
+        .iter()
+        .find(|module| module.name.bytes() == name)
+}
+
+// The instance whose links are around a place: the last whose name stands before it.
+fn linked_at(text: &Text, place: Place) -> Option<&Instance> {
+    let mut found = None;
+    for item in &module_at(text, place)?.items {
+        if let Item::Instance(instance) = item {
+            if is_up_to(instance.name_place, place) {
+                found = Some(instance);
+            }
+        }
+    }
+    found
+}
+
+// An instance whose overrides are around a place: they are those of each in its item.
+fn overridden_at(text: &Text, place: Place) -> Option<&Instance> {
+    match item_at(module_at(text, place)?, place) {
+        Some(Item::Instance(instance)) => Some(instance),
+        _ => None,
+    }
+}
+
+/// Of a wrong link.
+pub fn link(alloc: Global, case: &Case) -> Result<String, AllocError> {
+    if let Some(text) = case.origin.tree(alloc) {
+        if let Some(instance) = linked_at(&text, case.place) {
+            if let Some(master) = master_of(&text, instance) {
+                return link_of(alloc, case, instance, master);
+            }
+        }
+    }
+    let name = shown(alloc, case.name())?;
+    format!(in alloc;
+        "the link of `{name}` is to no port, or a second one, or a part of a signal is \
+        linked to an output"
+    )
+}
+
+// Of a wrong link of an instance of a module.
+fn link_of(
+    alloc: Global,
+    case: &Case,
+    instance: &Instance,
+    master: &Module,
+) -> Result<String, AllocError> {
+    let module = shown(alloc, master.name.bytes())?;
+    if case.names.is_empty() {
+        let count = master.ports.len();
+        return format!(in alloc;
+            "this is a link too many: the module `{module}` has {count} ports"
+        );
+    }
+    let name = shown(alloc, case.name())?;
+    let Some(port) = master
+        .ports
+        .iter()
+        .find(|port| port.name.bytes() == case.name())
+    else {
+        let mut row = Row::new(alloc);
+        for port in &master.ports {
+            row.add(port.name.bytes(), "")?;
+        }
+        let ports = row.finish()?;
+        return format!(in alloc;
+            "the module `{module}` has no port `{name}`; its ports are {ports}"
+        );
+    };
+    if let Some(Place { line, column }) = earlier_link(&instance.links, case) {
+        return format!(in alloc; "the port `{name}` is linked twice, first at {line}:{column}");
+    }
+    if port.kind == DeclKind::Input {
+        return format!(in alloc; "the port `{name}` cannot be linked so");
+    }
+    format!(in alloc;
+        "the output `{name}` is linked to what is no whole signal: link a `wire`, and \
+        take its bits from that"
+    )
+}
+
+// The place of an earlier link of the port that is linked by name at the case's place.
+fn earlier_link(links: &Links, case: &Case) -> Option<Place> {
+    let Links::Named(links) = links else {
+        return None;
+    };
+    let first = links.iter().find(|link| link.0.bytes() == case.name())?;
+    let is_linked = links.iter().any(|link| link.1 == case.place);
+    if is_linked && first.1 != case.place {
+        Some(first.1)
+    } else {
+        None
+    }
+}
+
+/// Of a wrong override.
+pub fn parameter(alloc: Global, case: &Case) -> Result<String, AllocError> {
+    if let Some(text) = case.origin.tree(alloc) {
+        if let Some(instance) = overridden_at(&text, case.place) {
+            if let Some(master) = master_of(&text, instance) {
+                return parameter_of(alloc, case, instance, master);
+            }
+        }
+    }
+    let name = shown(alloc, case.name())?;
+    format!(in alloc; "`{name}` is no parameter that may be set, or is set twice")
+}
+
+// Of a wrong override of an instance of a module.
+fn parameter_of(
+    alloc: Global,
+    case: &Case,
+    instance: &Instance,
+    master: &Module,
+) -> Result<String, AllocError> {
+    let module = shown(alloc, master.name.bytes())?;
+    if case.names.is_empty() {
+        return format!(in alloc;
+            "this is a value too many: more are given than the module `{module}` \
+            has parameters that may be set"
+        );
+    }
+    let name = shown(alloc, case.name())?;
+    if let Some(Place { line, column }) = earlier_value(&instance.overrides, case) {
+        return format!(in alloc; "the parameter `{name}` is set twice, first at {line}:{column}");
+    }
+    match first_declaration(master, case.name()) {
+        Some(Declared::Parameter(Place { line, column })) => {
+            format!(in alloc;
+                "the parameter `{name}` is local, at {line}:{column}, so no instance \
+                sets it: declare it in the header, `module {module} #(parameter {name} = ..)`"
+            )
+        }
+        _ => format!(in alloc; "the module `{module}` has no parameter `{name}`"),
+    }
+}
+
+// The place of an earlier value of the parameter that is set by name at the case's place.
+fn earlier_value(overrides: &Overrides, case: &Case) -> Option<Place> {
+    let Overrides::Named(values) = overrides else {
+        return None;
+    };
+    let first = values.iter().find(|value| value.0.bytes() == case.name())?;
+    if first.1 != case.place {
+        Some(first.1)
+    } else {
+        None
+    }
+}

@@ -1,0 +1,201 @@
+// The lines of a message.
+use crate::drivers::{circle as signal_circle, clock, drivers, wrong_assign};
+use crate::excerpts::push_excerpt;
+use crate::flows::{flow, spent};
+use crate::forms::{grammar_form, lexical_form};
+use crate::links::{link, parameter};
+use crate::modules::{no_top, recursive, too_many, unknown_module};
+use crate::names::{label, twice, unknown_name};
+use crate::origins::Origin;
+use crate::rows::shown;
+use crate::said::{Case, Said, owned};
+use crate::stimuli::{proof, stimulus};
+use crate::syntax::{bad_byte, too_long, unexpected};
+use crate::{limits, maps};
+use std::alloc::{AllocError, Global};
+use sv_num::{Name, Place, Rule};
+use sv_report::Broken;
+use sv_words::Command;
+
+// Where a limit stands that has no place.
+const NOWHERE: Place = Place { line: 1, column: 1 };
+
+/// The lines that tell a person why a text, a certificate or a stimulus is refused: one that says
+/// what is wrong, and where there is a place the line of the text and a caret. Nothing is said of
+/// two runs that differ. It fails where memory runs out.
+pub fn message(
+    alloc: Global,
+    origin: &Origin,
+    command: &Command,
+    broken: &Broken,
+) -> Result<String, AllocError> {
+    match broken {
+        Broken::Rule(refusal) => {
+            ruled(
+                alloc,
+                origin,
+                command,
+                refusal.number,
+                refusal.place,
+                &refusal.names,
+            )
+        }
+        Broken::Limit(number, names) => ruled(alloc, origin, command, *number, NOWHERE, names),
+        Broken::Fails(number, v) => lines(alloc, origin, flow(alloc, origin, *number, v)?),
+        Broken::Proof(line) => proof(alloc, command, *line),
+        Broken::Stimulus(source, line, kind) => {
+            stimulus(alloc, origin, command, *source, *line, *kind)
+        }
+        Broken::Input(..) | Broken::View(..) | Broken::Lengths(_) => Ok(String::new(alloc)),
+    }
+}
+
+/// The lines that tell a person that the budget was spent on the obligation of a number.
+pub fn spent_message(
+    alloc: Global,
+    origin: &Origin,
+    obligation: u32,
+) -> Result<String, AllocError> {
+    lines(alloc, origin, spent(alloc, origin, obligation)?)
+}
+
+// Of a rule or limit by its number.
+fn ruled(
+    alloc: Global,
+    origin: &Origin,
+    command: &Command,
+    number: u16,
+    place: Place,
+    names: &[Name],
+) -> Result<String, AllocError> {
+    let case = Case {
+        origin: *origin,
+        command,
+        place,
+        names,
+    };
+    match Rule::numbered(number) {
+        Some(rule) => lines(alloc, origin, message_of(alloc, rule, &case)?),
+        None => Ok(String::new(alloc)),
+    }
+}
+
+// What is said, as lines.
+fn lines(alloc: Global, origin: &Origin, said: Said) -> Result<String, AllocError> {
+    let Said { place, words } = said;
+    match place {
+        Some(place) => {
+            let file = origin.file.escape_debug();
+            let Place { line, column } = place;
+            let mut lines = format!(in alloc; "{file}:{line}:{column}: {words}\n")?;
+            push_excerpt(alloc, &mut lines, origin.text, place)?;
+            Ok(lines)
+        }
+        None => format!(in alloc; "secv: {words}\n"),
+    }
+}
+
+// What is said of a rule or limit.
+fn message_of(alloc: Global, rule: Rule, case: &Case) -> Result<Said, AllocError> {
+    let words = match rule {
+        Rule::BadByte => bad_byte(alloc, case)?,
+        Rule::BadNumber => owned(alloc, BAD_NUMBER)?,
+        Rule::OpenComment => owned(alloc, "this comment has no end: `*/` is missing")?,
+        Rule::UnsupportedForm => owned(alloc, lexical_form(case.name()))?,
+        Rule::NotBuilt => return limits::unbuilt(alloc, case),
+        Rule::Unexpected => unexpected(alloc, case)?,
+        Rule::UnsupportedWord => owned(alloc, grammar_form(case.name()))?,
+        Rule::TooDeep => owned(alloc, TOO_DEEP)?,
+        Rule::TooLong => too_long(alloc, case)?,
+        Rule::LatticeSize => maps::lattice_size(alloc, case)?,
+        Rule::LatticeName => maps::lattice_name(alloc, case)?,
+        Rule::Circle => maps::circle(alloc, case)?,
+        Rule::NoJoin => maps::no_join(alloc, case)?,
+        Rule::NoMeet => maps::no_meet(alloc, case)?,
+        Rule::MapName => maps::map_name(alloc, case)?,
+        Rule::MapRow => maps::map_row(alloc, case)?,
+        Rule::MapHole => maps::map_hole(alloc, case)?,
+        Rule::NoTop => no_top(alloc, case)?,
+        Rule::UnknownModule => unknown_module(alloc, case)?,
+        Rule::Twice => twice(alloc, case)?,
+        Rule::Port => link(alloc, case)?,
+        Rule::Recursive => recursive(alloc, case)?,
+        Rule::TooMany => too_many(alloc, case)?,
+        Rule::Parameter => parameter(alloc, case)?,
+        Rule::UnknownName => unknown_name(alloc, case)?,
+        Rule::TooWide => owned(
+            alloc,
+            "this has over 64 bits, which are the most: split it in two",
+        )?,
+        Rule::BadSelect => owned(alloc, BAD_SELECT)?,
+        Rule::NotConstant => owned(
+            alloc,
+            "a constant is wanted here, and this is a signal: use a parameter",
+        )?,
+        Rule::ZeroDivisor => owned(alloc, "this divisor is 0")?,
+        Rule::Division => owned(alloc, DIVISION)?,
+        Rule::UnsizedPart => owned(
+            alloc,
+            "a number directly in braces needs a size, as 4'd3 has",
+        )?,
+        Rule::BadCount => owned(alloc, "a replication is written 1 to 64 times")?,
+        Rule::BadRange => owned(alloc, "a range is `[m:0]` with m from 0 to 63")?,
+        Rule::Label => label(alloc, case)?,
+        Rule::WrongAssign => wrong_assign(alloc, case)?,
+        Rule::Clock => clock(alloc, case)?,
+        Rule::Drivers => drivers(alloc, case)?,
+        Rule::Undriven => undriven(alloc, case)?,
+        Rule::Latch => latch(alloc, case)?,
+        Rule::Phase => phase(alloc, case)?,
+        Rule::Loop => signal_circle(alloc, case)?,
+        Rule::FileSize => return limits::file_size(alloc, case),
+        Rule::Paths => return limits::paths(alloc, case),
+        Rule::Obligations => return limits::obligations(alloc, case),
+        Rule::StimulusSize => return limits::stimulus_size(alloc),
+        Rule::Gen => return limits::lanes(alloc, case),
+        Rule::NoObligation => return limits::no_obligation(alloc, case),
+        Rule::Level => return limits::level(alloc, case),
+        Rule::Encoding => return limits::encoding(alloc, case),
+        Rule::ProofSize => return limits::proof_size(alloc, case),
+        Rule::StimulusFile => return limits::stimulus_file(alloc, case),
+        Rule::ObligationSize => return limits::nodes(alloc, case),
+    };
+    Ok(Said::here(case, words))
+}
+
+const BAD_NUMBER: &str =
+    "this is no number that can be: without a size it is below 2^32; with one, \
+     as in 8'hff, it has 1 to 64 bits and digits of its base; and no letter follows it";
+
+const TOO_DEEP: &str = "this opens a level too many: at most 64 brackets, operators and statements \
+     may be open at once; name a part by a `wire`";
+
+const BAD_SELECT: &str =
+    "this bit or part lies outside of its signal, or its high bound is below its low one";
+
+const DIVISION: &str = "`/` and `%` are for constants alone: divide by a power of 2 by a shift, or \
+     build a divider";
+
+// Of a signal without a driver.
+fn undriven(alloc: Global, case: &Case) -> Result<String, AllocError> {
+    let name = shown(alloc, case.name())?;
+    format!(in alloc; "nothing drives `{name}`: assign it, or link it to an output")
+}
+
+// Of a signal that a block does not assign on every path.
+fn latch(alloc: Global, case: &Case) -> Result<String, AllocError> {
+    let name = shown(alloc, case.name())?;
+    format!(in alloc;
+        "this block does not assign all bits of `{name}` on every path, so it would be \
+        a latch: give it a value at the block's begin, or in each `else` and `default`"
+    )
+}
+
+// Of a read in the middle of a block.
+fn phase(alloc: Global, case: &Case) -> Result<String, AllocError> {
+    let name = shown(alloc, case.name())?;
+    format!(in alloc;
+        "`{name}` is read here before its block has assigned it for good: name the \
+        earlier value by a `wire` of its own"
+    )
+}

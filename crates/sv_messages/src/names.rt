@@ -1,0 +1,222 @@
+// What is said of names: unknown ones, those declared twice, and labels.
+use crate::maps::points_of;
+use crate::origins::{is_up_to, module_at};
+use crate::rows::{Row, shown};
+use crate::said::{Case, owned};
+use std::alloc::{AllocError, Global};
+use sv_ast::{Decl, Item, LabelText, Module, Text};
+use sv_num::Place;
+
+/// What a name in a module was declared as, first.
+#[derive(Clone, Copy)]
+pub enum Declared<'a> {
+    Parameter(Place),
+    Signal(&'a Decl),
+    Other(Place),
+}
+
+impl<'a> Declared<'a> {
+    /// Where.
+    pub fn place(&self) -> Place {
+        match self {
+            Declared::Parameter(place) => *place,
+            Declared::Signal(decl) => decl.place,
+            Declared::Other(place) => *place,
+        }
+    }
+}
+
+/// What a name in a module is declared as first.
+pub fn first_declaration<'a>(module: &'a Module, name: &[u8]) -> Option<Declared<'a>> {
+    if let Some(param) = module
+        .params
+        .iter()
+        .find(|param| param.name.bytes() == name)
+    {
+        return Some(Declared::Parameter(param.place));
+    }
+    if let Some(port) = module.ports.iter().find(|port| port.name.bytes() == name) {
+        return Some(Declared::Signal(port));
+    }
+    for item in &module.items {
+        if let Some(found) = declared_by(item, name) {
+            return Some(found);
+        }
+    }
+    None
+}
+
+// What an item declares the name as.
+fn declared_by<'a>(item: &'a Item, name: &[u8]) -> Option<Declared<'a>> {
+    match item {
+        Item::Param(param) if param.name.bytes() == name => Some(Declared::Parameter(param.place)),
+        Item::Decl(decl) if decl.name.bytes() == name => Some(Declared::Signal(decl)),
+        Item::Memory(memory) if memory.name.bytes() == name => Some(Declared::Other(memory.place)),
+        Item::Instance(instance) if instance.name.bytes() == name => {
+            Some(Declared::Other(instance.name_place))
+        }
+        _ => None,
+    }
+}
+
+/// Of a name that is declared twice.
+pub fn twice(alloc: Global, case: &Case) -> Result<String, AllocError> {
+    let name = shown(alloc, case.name())?;
+    let Some(text) = case.origin.tree(alloc) else {
+        return format!(in alloc; "`{name}` is declared twice");
+    };
+    if text.modules.iter().any(|module| module.place == case.place) {
+        return twice_a_module(alloc, &text, case);
+    }
+    match module_at(&text, case.place).and_then(|module| first_declaration(module, case.name())) {
+        Some(first) => {
+            let Place { line, column } = first.place();
+            format!(in alloc; "`{name}` is declared twice in one module, first at {line}:{column}")
+        }
+        None => format!(in alloc; "`{name}` is declared twice"),
+    }
+}
+
+// Of two modules of one name.
+fn twice_a_module(alloc: Global, text: &Text, case: &Case) -> Result<String, AllocError> {
+    let name = shown(alloc, case.name())?;
+    match text
+        .modules
+        .iter()
+        .find(|module| module.name.bytes() == case.name())
+    {
+        Some(first) => {
+            let Place { line, column } = first.place;
+            format!(in alloc; "there are two modules `{name}`, the first at {line}:{column}")
+        }
+        None => format!(in alloc; "there are two modules `{name}`"),
+    }
+}
+
+/// Of a name that stands for nothing here.
+pub fn unknown_name(alloc: Global, case: &Case) -> Result<String, AllocError> {
+    let name = shown(alloc, case.name())?;
+    let Some(text) = case.origin.tree(alloc) else {
+        return format!(in alloc; "no signal or parameter `{name}` is in reach here");
+    };
+    let Some(module) = module_at(&text, case.place) else {
+        return format!(in alloc; "no signal or parameter `{name}` is in reach here");
+    };
+    match first_declaration(module, case.name()) {
+        Some(Declared::Parameter(place)) if is_up_to(place, case.place) => {
+            format!(in alloc; "`{name}` is a parameter, and a signal is wanted here")
+        }
+        Some(Declared::Parameter(Place { line, column })) => {
+            format!(in alloc;
+                "the parameter `{name}` is declared later, at {line}:{column}: declare \
+                it before it is used"
+            )
+        }
+        Some(Declared::Other(_)) => {
+            format!(in alloc; "`{name}` is an instance, and a signal is wanted here")
+        }
+        _ => {
+            let around = shown(alloc, module.name.bytes())?;
+            format!(in alloc;
+                "there is no signal or parameter `{name}` in module `{around}`: declare \
+                it, as in `wire {name};`"
+            )
+        }
+    }
+}
+
+// The label at a place of a module.
+fn label_at(module: &Module, place: Place) -> Option<&LabelText> {
+    for port in &module.ports {
+        if let Some(label) = label_of(port, place) {
+            return Some(label);
+        }
+    }
+    for item in &module.items {
+        if let Item::Decl(decl) = item {
+            if let Some(label) = label_of(decl, place) {
+                return Some(label);
+            }
+        }
+    }
+    None
+}
+
+// The label of a declaration, where it stands at the place.
+fn label_of(decl: &Decl, place: Place) -> Option<&LabelText> {
+    match &decl.label {
+        Some(LabelText::Point(_, at)) if *at == place => decl.label.as_ref(),
+        Some(LabelText::Table(_, _, _, at)) if *at == place => decl.label.as_ref(),
+        _ => None,
+    }
+}
+
+/// Of a label with an unknown name, or of selectors that do not fit.
+pub fn label(alloc: Global, case: &Case) -> Result<String, AllocError> {
+    let name = shown(alloc, case.name())?;
+    let Some(text) = case.origin.tree(alloc) else {
+        return format!(in alloc; "`{name}` does not fit in this label");
+    };
+    let Some(module) = module_at(&text, case.place) else {
+        return format!(in alloc; "`{name}` does not fit in this label");
+    };
+    match label_at(module, case.place) {
+        Some(LabelText::Point(_, _)) => {
+            let points = points_of(alloc, &text)?;
+            format!(in alloc; "there is no point `{name}`; the points are {points}")
+        }
+        Some(LabelText::Table(map, _, second, _)) => {
+            if map.bytes() == case.name() {
+                map_in_label(alloc, &text, case, second.is_some())
+            } else {
+                selector(alloc, module, case, map.bytes())
+            }
+        }
+        None => format!(in alloc; "`{name}` does not fit in this label"),
+    }
+}
+
+// Of the map of a label.
+fn map_in_label(
+    alloc: Global,
+    text: &Text,
+    case: &Case,
+    has_second: bool,
+) -> Result<String, AllocError> {
+    let name = shown(alloc, case.name())?;
+    if text.maps.iter().any(|map| map.name.bytes() == case.name()) {
+        let wanted = if has_second {
+            "one signal"
+        } else {
+            "two signals"
+        };
+        return format!(in alloc; "the label map `{name}` picks its row by {wanted}");
+    }
+    let mut row = Row::new(alloc);
+    for map in &text.maps {
+        row.add(map.name.bytes(), "")?;
+    }
+    let maps = row.finish()?;
+    format!(in alloc; "there is no label map `{name}`; the label maps are: {maps}")
+}
+
+// Of a selector of a label.
+fn selector(alloc: Global, module: &Module, case: &Case, map: &[u8]) -> Result<String, AllocError> {
+    let name = shown(alloc, case.name())?;
+    let map = shown(alloc, map)?;
+    let around = shown(alloc, module.name.bytes())?;
+    match first_declaration(module, case.name()) {
+        Some(Declared::Signal(_)) => format!(in alloc;
+            "`{name}` has not as many bits as the range of \
+            the label map `{map}`, whose row it picks"
+        ),
+        Some(_) => format!(in alloc;
+            "a signal picks the row of the label map `{map}`, and `{name}` \
+            is none"
+        ),
+        None => format!(in alloc;
+            "there is no signal `{name}` in module `{around}`, to pick the row \
+            of the label map `{map}`"
+        ),
+    }
+}

@@ -13,8 +13,10 @@ ghost use Rattle.sv_words.specs.Words.{words_of};
 ghost use Rattle.secv.specs.Ends.{IsHelp, IsShown, Prints, Ends, traffic};
 ghost use Rattle.secv.specs.Shown.{help_text, version_text};
 
+mod kept;
 mod messages;
 
+use kept::KeptFiles;
 use messages::{Causes, Person, explain, explain_memory, explain_output, explain_words};
 use std::io::{self, ErrorKind, Stdin, Stdout};
 use std::process::ExitCode;
@@ -65,7 +67,7 @@ fn main(rt: HostRuntime) -> ExitCode {
         alloc: rt.alloc(),
         stderr: rt.stderr(),
     };
-    let mut cabinet = FileCabinet::new(&rt);
+    let mut cabinet = KeptFiles::new(FileCabinet::new(&rt));
     let mut input = StdSource::new(rt.stdin());
     let mut out = StdSink::new(rt.stdout());
     let status = match words_of(&rt) {
@@ -89,7 +91,7 @@ fn words_of(rt: &HostRuntime) -> io::Result<Vec<String>> {
 fn answer(
     person: Person,
     words: &[String],
-    cabinet: &mut FileCabinet<&HostRuntime>,
+    cabinet: &mut KeptFiles<&HostRuntime>,
     input: &mut StdSource<Stdin>,
     out: &mut StdSink<Stdout>,
 ) -> u8
@@ -101,8 +103,8 @@ fn answer(
     ensures alone { IsShown (words_of words.now) →
         (cabinet.new ≡ cabinet.old) × (input.new ≡ input.old) }
     ensures ends { (IsShown (words_of words.now) → ⊥) →
-        Ends (words_of words.now) (traffic cabinet.old input.old out.old)
-        (traffic cabinet.new input.new out.new) result }
+        Ends (words_of words.now) (traffic cabinet.old.files input.old out.old)
+        (traffic cabinet.new.files input.new out.new) result }
 {
     match words {
         [word] if word.as_str() == "--help" => print(person, out, HELP, DONE),
@@ -151,20 +153,20 @@ fn end_without_memory(person: Person) -> u8
 fn command(
     person: Person,
     words: &[String],
-    cabinet: &mut FileCabinet<&HostRuntime>,
+    cabinet: &mut KeptFiles<&HostRuntime>,
     input: &mut StdSource<Stdin>,
     out: &mut StdSink<Stdout>,
 ) -> u8
-    ensures { Ends (words_of words.now) (traffic cabinet.old input.old out.old)
-        (traffic cabinet.new input.new out.new) result }
+    ensures { Ends (words_of words.now) (traffic cabinet.old.files input.old out.old)
+        (traffic cabinet.new.files input.new out.new) result }
 {
     let outcome = run(person.alloc, words, cabinet, input, out);
     let causes = Causes {
-        file: cabinet.last_error(),
-        files_read: cabinet.files_read(),
+        file: cabinet.files.last_error(),
+        files_read: cabinet.files.files_read(),
         input: input.last_error(),
         output: out.last_error(),
     };
-    explain(person, words, &outcome, &causes);
+    explain(person, words, &outcome, cabinet.text(), &causes);
     outcome.status()
 }

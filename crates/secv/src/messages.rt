@@ -1,13 +1,9 @@
-// What is said to a person on standard error, one line each. Where it cannot be said nothing else
-// changes.
+// What is said to a person on standard error. Where it cannot be said nothing else changes.
 use std::alloc::Global;
 use std::io::{self, Stderr};
 use sv_cli::{Broken, Outcome, UsageKind};
-use sv_num::{Place, Refusal, Rule};
+use sv_messages::{Origin, OutOfMemory, message, spent_message};
 use sv_words::{Command, read_words};
-
-const UNBUILT: &str =
-    "secv: memories, invariants and released values are not built; docs/language.md says more";
 
 const MEMORY: &str = "secv: memory ran out";
 
@@ -29,14 +25,13 @@ pub struct Causes<'a> {
 }
 
 /// What stood in the way of a verdict, or what else than the printed answer a person may want to
-/// know.
-pub fn explain(person: Person, words: &[String], outcome: &Outcome, causes: &Causes) {
+/// know. `text` is the first file that was read, empty where it was not read whole.
+pub fn explain(person: Person, words: &[String], outcome: &Outcome, text: &[u8], causes: &Causes) {
     match outcome {
         Outcome::Done => {}
-        Outcome::Refused(Broken::Rule(refusal)) => explain_rule(person, words, refusal),
-        Outcome::Refused(_) => {}
+        Outcome::Refused(broken) => explain_refusal(person, words, broken, text),
         Outcome::Usage(kind) => explain_usage(person, words, *kind),
-        Outcome::Unknown(spent) => explain_spent(person, spent.obligation),
+        Outcome::Unknown(spent) => explain_spent(person, words, spent.obligation, text),
         Outcome::ReadFault => explain_read(person, words, causes),
         Outcome::WriteFault => explain_write(person, words, causes),
         Outcome::OutOfMemory => explain_memory(person),
@@ -47,74 +42,6 @@ pub fn explain(person: Person, words: &[String], outcome: &Outcome, causes: &Cau
 pub fn explain_memory(person: Person) {
     // not used: where this cannot be written, the status tells of it
     let _ = person.stderr.eprintln(MEMORY);
-}
-
-// What is said of a rule; nothing of one that is told of no place.
-fn fault_of(rule: Rule) -> Option<&'static str> {
-    let fault = match rule {
-        Rule::BadByte => "no token begins with this byte",
-        Rule::BadNumber => "this is no number, or too large a one",
-        Rule::OpenComment => "this comment has no end",
-        Rule::UnsupportedForm => "this form of Verilog is left out",
-        Rule::Unexpected => "no text goes on with this token, or the text ends too early",
-        Rule::UnsupportedWord => "this form of Verilog is left out",
-        Rule::TooDeep => "this opens a level too many: at most 64 may be open",
-        Rule::TooLong =>
-            "this is too long: an expression has at most 1,024 tokens, a case 256 arms",
-        Rule::LatticeSize => "a lattice has 1 to 32 points",
-        Rule::LatticeName => "this point is declared twice, or not at all",
-        Rule::Circle => "the two points named flow to each other",
-        Rule::NoJoin => "the two points named have no least upper point",
-        Rule::NoMeet => "the two points named have no greatest lower point",
-        Rule::MapName => "this label map is declared twice",
-        Rule::MapRow => "this label map has a wrong range, key or point, or a key twice",
-        Rule::MapHole => "this label map gives some key no point, and has no default",
-        Rule::NoTop =>
-            "there is no top: it is the module that --top names, or else the only one in no other",
-        Rule::UnknownModule => "there is no module of this name",
-        Rule::Twice => "this name is declared twice",
-        Rule::Port =>
-            "this links no port, one twice or one too many, or an output to no whole signal",
-        Rule::Recursive => "this module would stand inside itself",
-        Rule::TooMany =>
-            "this is one too many: a design has at most 4,096 signals and 1,024 instances",
-        Rule::Parameter => "this sets no parameter that may be set, one twice or one too many",
-        Rule::UnknownName =>
-            "no signal or parameter of this name is in reach, or a parameter stands for a signal",
-        Rule::TooWide => "this is longer than 64 bits",
-        Rule::BadSelect =>
-            "this index or part lies outside of its signal, or its high bound is below its low one",
-        Rule::NotConstant => "a constant is wanted here, and this is a signal",
-        Rule::ZeroDivisor => "this divisor is 0",
-        Rule::Division => "both operands of `/` and `%` are constants",
-        Rule::UnsizedPart => "a number directly in braces needs a size, as 4'd3 has",
-        Rule::BadCount => "a replication count is 1 to 64",
-        Rule::BadRange => "a range is [m:0] with m from 0 to 63",
-        Rule::Label =>
-            "this label has an unknown point, map or selector, or its selectors do not fit the map",
-        Rule::WrongAssign =>
-            "this signal may not be assigned here, or not by this sign, or a bit of it twice",
-        Rule::Clock =>
-            "a clock is a 1-bit input, comes from the one clock of the top, and is nothing else",
-        Rule::Drivers => "this signal has a driver already, or is an input of the top",
-        Rule::Undriven => "nothing drives this signal",
-        Rule::Latch => "this block does not assign the signal on every path",
-        Rule::Phase => "this signal is read before its block has assigned it for good",
-        Rule::Loop => "the signals named read each other in a circle",
-        Rule::NotBuilt
-        | Rule::FileSize
-        | Rule::Paths
-        | Rule::Obligations
-        | Rule::StimulusSize
-        | Rule::Gen
-        | Rule::NoObligation
-        | Rule::Level
-        | Rule::Encoding
-        | Rule::ProofSize
-        | Rule::StimulusFile
-        | Rule::ObligationSize => return None,
-    };
-    Some(fault)
 }
 
 // What the words ask for; None where memory runs out, or they ask for nothing.
@@ -132,6 +59,19 @@ fn file_in(command: &Command) -> &str {
         Command::Sim { file, .. } => file.as_str(),
         Command::Compare { file, .. } => file.as_str(),
         Command::Gen { .. } => "sample",
+    }
+}
+
+// The module that is asked for as the top.
+fn top_in(command: &Command) -> Option<&str> {
+    match command {
+        Command::Check { top, .. } => top.as_deref(),
+        Command::Verify { top, .. } => top.as_deref(),
+        Command::List { top, .. } => top.as_deref(),
+        Command::Cnf { top, .. } => top.as_deref(),
+        Command::Sim { top, .. } => top.as_deref(),
+        Command::Compare { top, .. } => top.as_deref(),
+        Command::Gen { .. } => None,
     }
 }
 
@@ -156,30 +96,39 @@ fn stored_file(command: &Command) -> &str {
     }
 }
 
-// What is wrong at the place of a broken rule.
-fn explain_rule(person: Person, words: &[String], refusal: &Refusal) {
+// The text that the words ask about.
+fn origin_of<'a>(command: &'a Command, text: &'a [u8]) -> Origin<'a> {
+    Origin {
+        file: file_in(command),
+        top: top_in(command),
+        text,
+    }
+}
+
+// Why a text, a certificate or a stimulus is refused.
+fn explain_refusal(person: Person, words: &[String], broken: &Broken, text: &[u8]) {
     let Some(command) = command_of(person, words) else {
         return explain_memory(person);
     };
-    let Some(fault) = Rule::numbered(refusal.number).and_then(fault_of) else {
-        // not used: where this cannot be written, the status tells of the rule
-        let _ = person.stderr.eprintln(UNBUILT);
-        return;
-    };
-    let name = file_in(&command).escape_debug();
-    let Place { line, column } = refusal.place;
-    // not used: where this cannot be written, the status tells of the rule
-    let _ = eprintln!(person.stderr;
-        "secv: {name}:{line}:{column}: {fault}; docs/language.md says more"
-    );
+    let origin = origin_of(&command, text);
+    say(person, message(person.alloc, &origin, &command, broken))
 }
 
 // That the budget did not suffice for an obligation.
-fn explain_spent(person: Person, obligation: u32) {
-    // not used: where this cannot be written, the status tells of it
-    let _ = eprintln!(person.stderr;
-        "secv: the budget does not suffice for obligation {obligation}; --budget NUMBER allows more"
-    );
+fn explain_spent(person: Person, words: &[String], obligation: u32, text: &[u8]) {
+    let Some(command) = command_of(person, words) else {
+        return explain_memory(person);
+    };
+    let origin = origin_of(&command, text);
+    say(person, spent_message(person.alloc, &origin, obligation))
+}
+
+// Writes the lines of a message; none where memory ran out.
+fn say(person: Person, lines: Result<String, OutOfMemory>) {
+    if let Ok(lines) = lines {
+        // not used: where this cannot be written, the status tells of the refusal
+        let _ = person.stderr.eprint(lines.as_str());
+    }
 }
 
 // The words that a command takes behind its name.

@@ -55,13 +55,17 @@ LIMITS = [
     ("sv_gen", "Sample", "(lanes ≤ @)"),
 ]
 
+# What is said of `initial`.
+INITIAL = "`initial` is left out: reset the register at the clock; for `sim` a line `start` of the stimulus sets it"
+
 
 def typed(folder, command):
-    """What a terminal shows of a command."""
+    """What a terminal shows of a command; behind a pipe what is said to a person comes last here."""
     taken = {name: value for name, value in os.environ.items() if name not in ("SECV", "SOLVER", "SLOTS")}
-    answer = subprocess.run(["sh", "-c", command], cwd=folder, env=taken, stdin=subprocess.DEVNULL, stdout=subprocess.PIPE, stderr=subprocess.STDOUT,
+    said = subprocess.PIPE if "|" in command else subprocess.STDOUT
+    answer = subprocess.run(["sh", "-c", command], cwd=folder, env=taken, stdin=subprocess.DEVNULL, stdout=subprocess.PIPE, stderr=said,
                             timeout=MOST_SECONDS, check=False)
-    return answer.stdout.decode()
+    return (answer.stdout + (answer.stderr or b"")).decode()
 
 
 def console(folder, block):
@@ -172,7 +176,8 @@ def limits(_):
 def editors(folder):
     """What the guide gives to vim and to VS Code finds the file, the place and the message in lines of standard error."""
     blocks = dict(BLOCKS)
-    vim = re.search(r"^set errorformat=(.*)$", blocks["vim"], re.M).group(1).replace("\\ ", " ")
+    vim, _, rest = re.search(r"^set errorformat=(.*)$", blocks["vim"], re.M).group(1).replace("\\ ", " ").partition(",")
+    compare("vim passes over all other lines", rest, "%-G%.%#")
     for item, form in (("%f", "(.+?)"), ("%l", r"(\d+)"), ("%c", r"(\d+)"), ("%m", "(.+)")):
         vim = vim.replace(item, form)
     pattern = json.loads(blocks["json"])["pattern"]
@@ -181,8 +186,8 @@ def editors(folder):
         put(folder, name, "module m;\n  initial ;\nendmodule\n")
         line = subprocess.run([os.path.join(TOP, "secv"), "check", name], cwd=folder, stdout=subprocess.DEVNULL, stderr=subprocess.PIPE, check=False).stderr
         for form in (vim, pattern["regexp"]):
-            found = re.fullmatch(form, line.decode().removesuffix("\n"))
-            compare(f"{form} in {line}", found and found.groups(), (name, "2", "3", "this form of Verilog is left out; docs/language.md says more"))
+            found = [re.fullmatch(form, shown) for shown in line.decode().splitlines()]
+            compare(f"{form} in {line}", [match and match.groups() for match in found], [(name, "2", "3", INITIAL), None, None])
 
 
 def form(_):

@@ -19,6 +19,24 @@ def compare(what, got, wanted):
     print(f"{what}\n  wanted {wanted!r}"[:600] + f"\n  got    {got!r}"[:600])
 
 
+def excerpt(text, place):
+    """The line of a text at a place `LINE:COLUMN` and a caret below it, as they are shown to a person; nothing where the line is empty."""
+    number, column = (int(part) for part in place.split(":"))
+    line = ((text if isinstance(text, bytes) else text.encode()).split(b"\n") + [b""] * number)[number - 1]
+    at = min(column - 1, len(line))
+    # of a long line 160 bytes, 100 of them at most before the place
+    front = line[max(at - 100, 0) if len(line) > 160 else 0:at].decode(errors="replace")
+    rest = line[at:max(at - 100, 0) + 160].decode(errors="replace").rstrip()
+    shown = "".join(char if char == "\t" or char.isprintable() or ord(char) >= 160 else "\ufffd" for char in front + rest)
+    return f"  {shown}\n  {''.join(char if char == chr(9) else ' ' for char in front)}^\n" if line else ""
+
+
+def explained(path, place, text, said):
+    """What is to be said of a refusal with a place. The words behind that are taken from what was said: `.ci/messages.py` has them."""
+    words = said.partition("\n")[0].removeprefix(f"{path}:{place}: ")
+    return f"{path}:{place}: {words}\n{excerpt(text, place)}"
+
+
 def status_of(text):
     """The status that goes with a verdict."""
     return STATUS[text.split()[0]]

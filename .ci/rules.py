@@ -1,12 +1,14 @@
 #!/usr/bin/env python3
 """Checks each rule of elaboration and of admission through ./secv by other texts than those of docs/language.md, those of admission at
-bits, parts, joins and instances, and the line for a person with each. In a text `@@` marks the place that is told; what has no such mark is
+bits, parts, joins and instances, and where the lines for a person point to (`.ci/messages.py` has their words). In a text `@@` marks the place that is told; what has no such mark is
 told at 1:1. Texts that break none of them nearly do, and are accepted. The last line is 'N passed, M failed'.
 """
 import os
 import subprocess
 import sys
 import tempfile
+
+from harness import explained
 
 TOP = os.path.dirname(os.path.dirname(os.path.abspath(__file__)))
 SECV = os.path.join(TOP, "secv")
@@ -15,30 +17,6 @@ NAMES = {199: "not-built", 301: "lattice-size", 302: "lattice-name", 303: "circl
          401: "unknown-name", 402: "too-wide", 403: "bad-select", 404: "not-constant", 405: "zero-divisor", 406: "division",
          407: "unsized-part", 408: "bad-count", 409: "bad-range", 410: "label", 601: "wrong-assign", 602: "clock", 603: "drivers",
          604: "undriven", 605: "latch", 606: "phase", 607: "loop"}
-# What is said of a broken rule to a person, by its number.
-SAID = {101: "no token begins with this byte", 102: "this is no number, or too large a one", 103: "this comment has no end",
-        104: "this form of Verilog is left out", 201: "no text goes on with this token, or the text ends too early", 202: "this form of Verilog is left out",
-        203: "this opens a level too many: at most 64 may be open", 204: "this is too long: an expression has at most 1,024 tokens, a case 256 arms",
-        301: "a lattice has 1 to 32 points", 302: "this point is declared twice, or not at all", 303: "the two points named flow to each other",
-        304: "the two points named have no least upper point", 305: "the two points named have no greatest lower point",
-        306: "this label map is declared twice", 307: "this label map has a wrong range, key or point, or a key twice",
-        308: "this label map gives some key no point, and has no default",
-        310: "there is no top: it is the module that --top names, or else the only one in no other", 311: "there is no module of this name",
-        312: "this name is declared twice", 313: "this links no port, one twice or one too many, or an output to no whole signal",
-        314: "this module would stand inside itself", 315: "this is one too many: a design has at most 4,096 signals and 1,024 instances",
-        316: "this sets no parameter that may be set, one twice or one too many",
-        401: "no signal or parameter of this name is in reach, or a parameter stands for a signal", 402: "this is longer than 64 bits",
-        403: "this index or part lies outside of its signal, or its high bound is below its low one", 404: "a constant is wanted here, and this is a signal",
-        405: "this divisor is 0", 406: "both operands of `/` and `%` are constants", 407: "a number directly in braces needs a size, as 4'd3 has",
-        408: "a replication count is 1 to 64", 409: "a range is [m:0] with m from 0 to 63",
-        410: "this label has an unknown point, map or selector, or its selectors do not fit the map",
-        601: "this signal may not be assigned here, or not by this sign, or a bit of it twice",
-        602: "a clock is a 1-bit input, comes from the one clock of the top, and is nothing else",
-        603: "this signal has a driver already, or is an input of the top", 604: "nothing drives this signal",
-        605: "this block does not assign the signal on every path", 606: "this signal is read before its block has assigned it for good",
-        607: "the signals named read each other in a circle"}
-# What is said of an item that is not built.
-UNBUILT = "secv: memories, invariants and released values are not built; docs/language.md says more\n"
 SUM = "module s #(parameter P = 1, Q = 2) (input [3:0] i, output [3:0] o);\n  localparam R = 3;\n  assign o = i + P + Q + R;\nendmodule\n"
 USE = "module t(input [3:0] a, output [3:0] y);\n"
 V = "module m(input a, input [3:0] v, output [7:0] y);\n  "
@@ -144,12 +122,6 @@ WHOLE = [
 passed = failed = 0
 
 
-def explained(path, printed):
-    """The line for a person with what is printed of a broken rule."""
-    number, _, place = printed.split()[1:4]
-    return f"secv: {path}:{place}: {SAID[int(number)]}; docs/language.md says more\n"
-
-
 def check(number, marked, words, names, folder):
     """The program's line for the text and that for a person, and whether they are the wanted ones."""
     before, mark, behind = marked.partition("@@")
@@ -161,7 +133,10 @@ def check(number, marked, words, names, folder):
         file.write(text)
     answer = subprocess.run([SECV, "check", path, *words.split()], stdin=subprocess.DEVNULL, stdout=subprocess.PIPE,
                             stderr=subprocess.PIPE, timeout=10, check=False)
-    compare(f"{text!r} {words}", answer, wanted, UNBUILT if number == 199 else explained(path, wanted), 1)
+    # what is not built is printed at 1:1, and shown to a person where it stands
+    shown = text.replace("invariant ", "@" * 10, 1).rfind("@") + 2 if number == 199 else 0
+    said = answer.stderr.decode()
+    compare(f"{text!r} {words}", answer, wanted, explained(path, f"1:{shown}" if shown else place, text, said), 1)
 
 
 def compare(what, answer, wanted, said, status):

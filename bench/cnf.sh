@@ -1,9 +1,10 @@
 #!/bin/sh
 # Times `secv cnf` on obligations of 1/8, 1/4, 1/2 and the whole of a size, in three shapes: 128 multiplications and shifts of 64 bits one
 # after the other, a cone of 4,088 signals of 64 bits, and 64 targets of one `case` of 256 arms. Prints a table of variables, clauses,
-# bytes printed, times, clauses a second and greatest memory, with the ratio of each time to the one before (asked: at most 2.2); then the
-# greatest ratio of the last two times, the least number of clauses a second at the whole size (asked: above 3 million), and the most bytes
-# of memory for a clause (asked: at most 64).
+# bytes printed, times, variables and clauses a second and greatest memory, with the ratio of each time to the one before (asked: at most 2.2);
+# then the greatest ratio of the last two times, the least number of clauses a second at the whole size (asked: above 3 million), and the most
+# bytes of memory for a clause (asked: at most 64). cnf.md has figures that were read. Where yosys is installed, a line each tells how many clauses
+# it makes of the same condition at 1/8 of the size, without labels, and in what time, of which it spends at most a second on meeting them.
 # Memory is the greatest resident size that GNU time tells (`/usr/bin/time`), less that of the smallest design. The variable SECV may name
 # another program to measure.
 set -eu
@@ -16,7 +17,7 @@ work=$(mktemp -d)
 trap 'rm -rf "$work"' EXIT
 program=${SECV:-$("$top/secv" --path)}
 python3 - "$program" "$work" <<'PY'
-import os, re, subprocess, sys, time
+import os, re, shutil, subprocess, sys, time
 
 secv, work = sys.argv[1], sys.argv[2]
 HEAD = "module m(output reg y, input [63:0] a, input [63:0] b, input {H} h);\n"
@@ -80,8 +81,20 @@ def write(name, text):
     return file
 
 
+def beside_yosys(name, text):
+    """What yosys makes of a design's condition, in a line."""
+    write("plain.v", text.replace(" {H}", ""))
+    steps = "read_verilog plain.v; proc; sat -set y 1 -set h 1 -timeout 1 -dump_cnf plain.cnf"
+    start = time.perf_counter()
+    subprocess.run(["yosys", "-q", "-p", steps], cwd=work, stdout=subprocess.DEVNULL, stderr=subprocess.DEVNULL)
+    took = time.perf_counter() - start
+    with open(os.path.join(work, "plain.cnf")) as file:
+        head = next(line.split() for line in file if line.startswith("p cnf"))
+    print(f"yosys, {name} 1/8: {head[2]} variables, {head[3]} clauses, {took:.2f} s")
+
+
 _, base = run(write("base.v", HEAD + TAIL % "a"))
-print(f"{'shape':10} {'part':>4} {'variables':>10} {'clauses':>10} {'MB':>7} {'seconds':>8} {'clauses/s':>11} {'memory MB':>10} {'ratio':>6}")
+print(f"{'shape':10} {'part':>4} {'variables':>10} {'clauses':>10} {'MB':>7} {'seconds':>8} {'variables/s':>11} {'clauses/s':>11} {'memory MB':>10} {'ratio':>6}")
 ratio, speed, held = 0.0, None, 0.0
 for name, make in (("products", products), ("signals", signals), ("case", arms)):
     before = None
@@ -96,9 +109,12 @@ for name, make in (("products", products), ("signals", signals), ("case", arms))
             speed = clauses / took if speed is None else min(speed, clauses / took)
             held = max(held, (memory - base) / clauses)
         shown = f"{grew:6.2f}" if before else "     -"
-        print(f"{name:10} {'1/' + str(part):>4} {variables:10} {clauses:10} {count / 1e6:7.1f} {took:8.3f} {clauses / took:11.0f} {memory / 1e6:10.1f} {shown}", flush=True)
+        print(f"{name:10} {'1/' + str(part):>4} {variables:10} {clauses:10} {count / 1e6:7.1f} {took:8.3f} {variables / took:11.0f} {clauses / took:11.0f} {memory / 1e6:10.1f} {shown}", flush=True)
         before = took
 print(f"greatest ratio of the last two times: {ratio:.2f}")
 print(f"least clauses a second at the whole size: {speed:.0f}")
 print(f"most bytes of memory for a clause: {held:.1f}")
+if shutil.which("yosys"):
+    for name, make in (("products", products), ("signals", signals), ("case", arms)):
+        beside_yosys(name, make(8))
 PY

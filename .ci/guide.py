@@ -120,21 +120,20 @@ def in_order(folder):
         elif language == "verilog":
             taken(folder, block)
         else:
-            compare(f"a block of a kind that is tried: {kind}", kind in ("sh ci.sh", "sed plain.sed", "vim", "json"), True)
+            compare(f"a block of a kind that is tried: {kind}", kind in ("vim", "json"), True)
         if mark.endswith((".v", ".sh", ".sed")):
             put(folder, mark, block)
     compare("the last steps lead to the pair of examples/", steps[-2:], [obligations(folder, f"examples/dma_{word}.v") for word in ("leak", "mended")])
     marks = [kind for kind, _ in BLOCKS if kind in ("verilog before", "verilog after")]
-    compare("behind each text stands what it is rewritten as", marks, ["verilog before", "verilog after"] * 11)
+    compare("behind each text stands what it is rewritten as", marks, ["verilog before", "verilog after"] * 10)
 
 
 def without_labels(folder):
     """The guide's script takes all labels away, and nothing else: what is left of a design of examples/ is accepted, and of the DMA engine it is dma_plain.v."""
-    put(folder, "plain.sed", dict(BLOCKS)["sed plain.sed"])
     os.symlink(os.path.join(TOP, "examples"), os.path.join(folder, "examples"))
     for name in sorted(os.listdir(os.path.join(TOP, "examples"))):
         if name.endswith(".v") and name != "unknown_value.v":
-            put(folder, name, typed(folder, f"sed -E -f plain.sed examples/{name}"))
+            put(folder, name, typed(folder, f"sed -E -f examples/plain.sed examples/{name}"))
             compare(f"{name} without labels", run(folder, f"check {name}")[0].split()[0], "accepted")
     lines = [[line.replace("dma_leak", "dma_plain") for line in text.splitlines() if line and not line.startswith("//")]
              for text in (typed(folder, "cat dma_leak.v"), stored("examples", "dma_plain.v"))]

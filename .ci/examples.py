@@ -20,6 +20,7 @@ PAIRS = [
     Pair("aes_logic", "one", "other", "8 shown from s0", 110, "2 shown", 9),
     Pair("processor", "short", "long", "66 stall from e_y", 88, "7 stall", 20),
     Pair("dma", "one", "other", "13 word0 from word0", 48, "7 data", 14),
+    Pair("multiplier", "short", "long", "3 busy from left", 26, "5 busy", 13),
     Pair("counter", "slow", "fast", "2 locked from full", 18, "8 locked", 16),
 ]
 

@@ -53,7 +53,7 @@ PARAMETER_WIDTHS = {
     **{f"w.{name}": width for name, width in {**PART, "q": 4, "p": 4, "s": 4}.items()},
     **{f"{name}.{inner}": width for name, w in (("g", 5), ("h", 5), ("i", 2), ("j", 8)) for inner, width in (("a", 1), ("z", 1), ("w", w))},
 }
-MULTIPLIER = {"go": 1, "x": 8, "z": 8, "busy": 1, "product": 16, "left": 8, "shifted": 16}
+MULTIPLIER = {"rst": 1, "request": 1, "take": 1, "x": 8, "z": 8, "ready": 1, "busy": 1, "done": 1, "product": 16, "left": 8, "shifted": 16}
 LANE = {"turn": 1, "req": 1, "bin": 1, "d": 8, "g": 1, "lo": 8, "hi": 8, "bout": 1}
 LANE_WIDTHS = {"turn": 1, **{f"{name}{i}": width for i in range(12) for name, width in (("r", 1), ("d", 8), ("g", 1), ("l", 8), ("h", 8))},
                **{f"b{i}": 1 for i in range(12)}, **{f"u{i}.{name}": width for i in range(12) for name, width in LANE.items()}}
@@ -215,7 +215,7 @@ WAVES = [
     (example("owner.v"), "m", example("owner.stim"), "", {"nxt": 1, "k": 8, "owner": 1, "r": 8}, "owner r"),
     (example("owner.v"), "m", example("owner.stim"), "--level L", {"nxt": 1, "owner": 1, "r": 8}, "owner r"),
     (example("owner.v"), "m", example("owner.stim"), "--order 7", {"nxt": 1, "k": 8, "owner": 1, "r": 8}, "owner r"),
-    (example("multiplier_leak.v"), "multiplier_leak", example("multiplier_long.stim"), "", MULTIPLIER, "busy product left shifted"),
+    (example("multiplier_leak.v"), "multiplier_leak", example("multiplier_long.stim"), "", MULTIPLIER, "busy done product left shifted"),
     (example("tags.v"), "tags", "inputs rst dom req fill addr probe\n1 0 0 0 0 0\n0 0 1 1 5a 0\n0 0 1 0 5a 1\n0 1 1 1 ff 2\n0 1 1 0 ff 3\n", "",
      {"rst": 1, "dom": 1, "req": 1, "fill": 1, "addr": 8, "probe": 2, "hit": 1, "way": 2, "shown": 8, **{f"t{i}": 8 for i in range(4)},
       **dict.fromkeys(["v0", "v1", "n", "v2", "v3", "k"], 1)}, "hit way shown t0 t1 t2 t3 v0 v1 n v2 v3 k"),
@@ -256,12 +256,12 @@ def waves(folder):
 def pairs(folder):
     """Two runs in one, and the cycles in which they differ."""
     short, long = example("multiplier_short.stim"), example("multiplier_long.stim")
-    # a product with 1 is done in cycle 3, and one with 80 in cycle 10; the secret operand itself differs in cycle 0
+    # a product with 5 is done in cycle 5, and one with b5 in cycle 10; the secret operand itself differs in cycle 1
     for design, words, stimuli, wanted in (
-            (example("multiplier_leak.v"), "--level L", (short, long), "000111111100"),
-            (example("multiplier_leak.v"), "", (short, long), "111111111111"),
-            (example("multiplier_mended.v"), "--level L", (short, long), "000000000000"),
-            (example("multiplier_leak.v"), "", (short, short), "000000000000"),
+            (example("multiplier_leak.v"), "--level L", (short, long), "0000011111000"),
+            (example("multiplier_leak.v"), "", (short, long), "0111111111111"),
+            (example("multiplier_mended.v"), "--level L", (short, long), "0000000000000"),
+            (example("multiplier_leak.v"), "", (short, short), "0000000000000"),
             (example("owner.v"), "--level L", ("inputs nxt k\n1 5a\n1 3c\n0 ff\n0 0\n", "inputs nxt k\n1 5a\n1 3d\n0 ff\n0 0\n"), "0001"),
             # hidden in one run alone, whatever its value is
             (HIDING_OUTPUT, "--level L", ("inputs s\n0\n1\n0\n1\n", "inputs s\n0\n0\n1\n1\n"), "0110"),

@@ -32,9 +32,9 @@ def turn(draw):
 
 
 def multiplier(draw):
-    """Both operands are secret, and every twelfth cycle or so starts a product."""
-    go = int(draw.randrange(12) == 0)
-    return (go, draw.getrandbits(8), draw.getrandbits(8)), (go, draw.getrandbits(8), draw.getrandbits(8))
+    """Both operands are secret; a product is asked for and taken at random."""
+    public = int(draw.randrange(100) == 0), draw.getrandbits(1), draw.getrandbits(1)
+    return (*public, draw.getrandbits(8), draw.getrandbits(8)), (*public, draw.getrandbits(8), draw.getrandbits(8))
 
 
 def tags(draw):
@@ -44,7 +44,7 @@ def tags(draw):
     return (clear, domain, *asked[0], probe), (clear, domain, *asked[domain], probe)
 
 
-EXAMPLES = [Example("turn", "turn a b", turn), Example("multiplier_mended", "go x z", multiplier), Example("tags", "rst dom req fill addr probe", tags)]
+EXAMPLES = [Example("turn", "turn a b", turn), Example("multiplier_mended", "rst request take x z", multiplier), Example("tags", "rst dom req fill addr probe", tags)]
 
 
 def write_stimuli(example, first, second):

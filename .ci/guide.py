@@ -148,12 +148,21 @@ def two_events(folder):
 
 
 def solvers(folder):
-    """What solve_all.sh says where a solver is missing or has no answer."""
+    """What solve_all.sh says where a solver is missing, has no answer, or answers as a stand-in does; it asks by GNU parallel where that is installed."""
     os.symlink(os.path.join(TOP, "examples"), os.path.join(folder, "examples"))
+    os.mkdir(os.path.join(folder, "a place"))
+    put(folder, "nothing.v", "module m; endmodule\n")
+    for name, status in (("holds", 20), ("fails", 10)):
+        put(folder, name, f"#!/bin/sh\n[ -s \"$1\" ] && exit {status}\n")
+        os.chmod(os.path.join(folder, name), 0o755)
     script, design = os.path.join("examples", "solve_all.sh"), os.path.join("examples", "turn.v")
     for words, wanted in ((f"SOLVER=no-solver sh {script} {design}", "no solver: no-solver is not installed\nstatus 2\n"),
                           (f"SOLVER=false sh {script} {design} | tail -n 1", "0 of 2 obligations hold\nstatus 0\n"),
                           (f"SOLVER=false sh {script} {design} >none", "status 3\n"),
+                          (f"SOLVER=./holds TMPDIR='a place' sh {script} {design}", "2 of 2 obligations hold\nstatus 0\n"),
+                          (f"SOLVER=./fails SLOTS=1 sh {script} {design}",
+                           "obligation 1 fails\nobligation 2 fails\n0 of 2 obligations hold\nstatus 1\n"),
+                          (f"SOLVER=./holds sh {script} nothing.v", "0 of 0 obligations hold\nstatus 0\n"),
                           (f"sh {script} examples/unknown_value.v 2>none", "refused 104 unsupported 3:34 four-state\nstatus 1\n")):
         if shutil.which("minisat") is None and "SOLVER" not in words:
             wanted = f"{UNSOLVED}status 2\n"

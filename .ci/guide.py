@@ -52,6 +52,7 @@ LIMITS = [
     ("sv_simulate", "Simulated", "largest_stimulus = @"),
     ("sv_cli", "Compares", "largest_compared = @"),
     ("sv_words", "Lines", "greatest = @"),
+    ("sv_words", "Lines", "greatest_small = @"),
     ("sv_gen", "Sample", "(lanes ≤ @)"),
 ]
 

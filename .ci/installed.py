@@ -1,6 +1,6 @@
 #!/usr/bin/env python3
-"""Tries tools/install, holds the page and the completions of share/ to the program's own help, and looks that the launcher prints the program's texts
-where no program stands. The last line is 'N passed, M failed'.
+"""Tries tools/install, holds the page and the completions of share/ to the program's own help and to what tools/completions writes, and looks that the
+launcher prints the program's texts where no program stands. The last line is 'N passed, M failed'.
 """
 import os
 import re
@@ -75,6 +75,19 @@ def installs():
         compare("it runs by itself", run(os.path.join(place, "bin", "secv"), "--version", cwd=folder, env={}), run(SECV, "--version"))
         answer = subprocess.run([os.path.join(TOP, "tools", "install")], stderr=subprocess.PIPE, text=True, check=False)
         compare("no PREFIX", (answer.stderr, answer.returncode), ("usage: tools/install PREFIX\n", 2))
+
+
+def written():
+    """What stands in share/ is what tools/completions writes."""
+    with tempfile.TemporaryDirectory() as folder:
+        run(os.path.join(TOP, "tools", "completions"), folder)
+        names = sorted(os.listdir(folder))
+        compare("the files of share/", sorted(os.listdir(os.path.join(TOP, "share"))), names)
+        for name in names:
+            with open(os.path.join(folder, name), encoding="utf-8") as file:
+                compare(f"share/{name} is what tools/completions writes", file.read() == read("share", name), True)
+    answer = subprocess.run([os.path.join(TOP, "tools", "completions"), "a", "b"], stderr=subprocess.PIPE, text=True, check=False)
+    compare("two folders", (answer.stderr, answer.returncode), ("usage: tools/completions [FOLDER]\n", 2))
 
 
 def page(told):
@@ -161,6 +174,7 @@ def texts_of_source():
 def main():
     run(SECV, "--path")
     installs()
+    written()
     told = Help()
     page(told)
     bash(told)

@@ -1,4 +1,4 @@
-# Completions of secv for bash.
+# Completions of secv for bash, which tools/completions writes.
 _secv() {
   local word=${COMP_WORDS[COMP_CWORD]} before=${COMP_WORDS[COMP_CWORD - 1]} options
   COMPREPLY=()
@@ -14,7 +14,7 @@ _secv() {
     gen) options='--check' ;;
     *) return ;;
   esac
-  case $before in --top | --level | --order | --budget) return ;; esac
+  case $before in --budget | --top | --level | --order) return ;; esac
   if [ "$COMP_CWORD" -eq 2 ]; then options+=' --help'; fi
   local files=design
   case ${COMP_WORDS[1]} in
@@ -22,7 +22,7 @@ _secv() {
     verify | compare) if [ "$COMP_CWORD" -gt 2 ]; then files=any; fi ;;
     gen) files=none ;;
   esac
-  if [ "$before" = --proof ]; then files=any; fi
+  case $before in --proof) files=any ;; esac
   case $files,$word in
     *,-*) mapfile -t COMPREPLY < <(compgen -W "$options" -- "$word") ;;
     any,*) mapfile -t COMPREPLY < <(compgen -f -- "$word") ;;

@@ -1,4 +1,4 @@
-# Completions of secv for fish.
+# Completions of secv for fish, which tools/completions writes.
 complete -c secv -n __fish_use_subcommand -f -a check -d 'say whether the labels of a design keep every secret'
 complete -c secv -n __fish_use_subcommand -f -a verify -d 'say whether a certificate proves a design to keep every secret'
 complete -c secv -n __fish_use_subcommand -f -a list -d 'list the obligations of a design, a line each'
@@ -13,8 +13,8 @@ complete -c secv -n '__fish_seen_subcommand_from check' -l budget -x -d 'Learn a
 complete -c secv -n '__fish_seen_subcommand_from check' -l json -d 'Print the verdict as JSON, on one line'
 complete -c secv -n '__fish_seen_subcommand_from check verify list cnf sim compare' -l top -x -d 'The module to take as the top'
 complete -c secv -n '__fish_seen_subcommand_from sim' -l level -x -d 'Show only the signals whose labels flow to this point'
-complete -c secv -n '__fish_seen_subcommand_from compare' -l level -x -d 'Compare only the signals whose labels flow to this point'
 complete -c secv -n '__fish_seen_subcommand_from sim' -l order -x -d 'Run the processes in the order of this number'
+complete -c secv -n '__fish_seen_subcommand_from compare' -l level -x -d 'Compare only the signals whose labels flow to this point'
 complete -c secv -n '__fish_seen_subcommand_from gen' -l check -d 'Print the verdict on the design, and not the design'
 complete -c secv -n '__fish_seen_subcommand_from check verify list cnf sim compare gen' -l help -d 'Say more of this command'
 complete -c secv -n '__fish_seen_subcommand_from gen' -f

@@ -1,10 +1,8 @@
 #compdef secv
-# Completions of secv for zsh.
+# Completions of secv for zsh, which tools/completions writes.
 
 _secv() {
-  local top='--top=[The module to take as the top]:module: '
   local help='(-)--help[Say more of this command]'
-  local file='*:file:_files -g "*.v"'
   if (( CURRENT == 2 )); then
     local -a commands
     commands=(
@@ -26,24 +24,50 @@ _secv() {
   (( CURRENT-- ))
   case $command in
     check)
-      _arguments $top $help $file \
+      _arguments $help \
+        '1:file:_files -g "*.v"' \
         '--proof=[Store the certificate of an accepted design in this file]:name:_files' \
         '--budget=[Learn at most this many clauses for each obligation, 20000 unless given]:number: ' \
-        '--json[Print the verdict as JSON, on one line]'
+        '--json[Print the verdict as JSON, on one line]' \
+        '--top=[The module to take as the top]:module: '
       ;;
-    verify) _arguments $top $help '1:file:_files -g "*.v"' '2:proof:_files' ;;
-    list) _arguments $top $help $file ;;
-    cnf) _arguments $top $help '1:file:_files -g "*.v"' '2:number: ' ;;
+    verify)
+      _arguments $help \
+        '1:file:_files -g "*.v"' \
+        '2:proof:_files' \
+        '--top=[The module to take as the top]:module: '
+      ;;
+    list)
+      _arguments $help \
+        '1:file:_files -g "*.v"' \
+        '--top=[The module to take as the top]:module: '
+      ;;
+    cnf)
+      _arguments $help \
+        '1:file:_files -g "*.v"' \
+        '2:number: ' \
+        '--top=[The module to take as the top]:module: '
+      ;;
     sim)
-      _arguments $top $help $file \
+      _arguments $help \
+        '1:file:_files -g "*.v"' \
         '--level=[Show only the signals whose labels flow to this point]:point: ' \
-        '--order=[Run the processes in the order of this number]:number: '
+        '--order=[Run the processes in the order of this number]:number: ' \
+        '--top=[The module to take as the top]:module: '
       ;;
     compare)
-      _arguments $top $help '1:file:_files -g "*.v"' '2:a stimulus:_files' '3:another stimulus:_files' \
-        '--level=[Compare only the signals whose labels flow to this point]:point: '
+      _arguments $help \
+        '1:file:_files -g "*.v"' \
+        '2:a stimulus:_files' \
+        '3:another stimulus:_files' \
+        '--level=[Compare only the signals whose labels flow to this point]:point: ' \
+        '--top=[The module to take as the top]:module: '
       ;;
-    gen) _arguments $help '1:lanes: ' '--check[Print the verdict on the design, and not the design]' ;;
+    gen)
+      _arguments $help \
+        '1:lanes: ' \
+        '--check[Print the verdict on the design, and not the design]'
+      ;;
   esac
 }
 

@@ -150,6 +150,11 @@ WRONG = [["check"], ["check", "--f"], ["check", "f", "g"], ["check", "f", "--top
          ["compare", "f", "g", "h", "--level"], ["compare", "f", "g", "h", "--level", "L", "--order", "1"], ["compare", "f", "g", "h", "--level", "L", "--check"],
          ["compare", "-h"], ["gen"], ["gen", "x"], ["gen", "1", "2"], ["gen", "-1"], ["gen", "4294967296"], ["gen", "1", "--check", "--check"], ["gen", "1", "--check=1"],
          ["gen", "1", "--json"], ["gen", "1", "--top", "top"], ["gen", "-h"]]
+# What README says is not built: a memory, an invariant, a released value, and an earlier read in a block.
+NOT_BUILT = [("module m(input clk, input d); reg s [1:0]; always @(posedge clk) s[0] <= d; endmodule", "199 not-built"),
+             ("module m(input a, output y); invariant a; assign y = a; endmodule", "199 not-built"),
+             ("module m(input {H} a, output y); assign y = $release(a, L); endmodule", "199 not-built"),
+             ("module m(input a, output reg y); always @* begin y = a; y = ~y; end endmodule", "606 phase")]
 # A comparison one of whose files is `?`.
 DESIGN, STIMULUS = "examples/multiplier_leak.v", "examples/multiplier_short.stim"
 COMPARED = [["compare", "?", STIMULUS, STIMULUS, "--level", "L"], ["compare", DESIGN, "?", STIMULUS, "--level", "L"], ["compare", DESIGN, STIMULUS, "?", "--level", "L"],
@@ -230,7 +235,8 @@ def examples():
 
 
 def shown_in_readme():
-    """The commands of README's console blocks: a line '$ ./secv WORDS', with '< FILE' behind it or not, and the lines up to the next one or the block's end."""
+    """The commands of README's console blocks: a line '$ ./secv WORDS', with '< FILE' behind it or not, and the lines up to the next one or the block's end,
+    which stand on standard output and then on standard error."""
     with open(os.path.join(TOP, "README.md"), encoding="utf-8") as file:
         text = file.read()
     shown = 0
@@ -246,8 +252,13 @@ def shown_in_readme():
                         given = file.read()
                     compare(f"README shows {path}", f"```\n{given.decode()}```\n" in text, True)
                 answer = run(command.split(), given=given, folder=here)
-                compare(f"README: secv {words}", (answer.stdout, answer.returncode), (wanted.encode(), status_of(wanted.encode())))
+                compare(f"README: secv {words}", (answer.stdout + answer.stderr, answer.returncode), (wanted.encode(), status_of(wanted.encode())))
                 shown += 1
+        path = os.path.join(here, "text.v")
+        for design, rule in NOT_BUILT:
+            with open(path, "w", encoding="ascii") as file:
+                file.write(design)
+            compare(f"README tells of {design}", (run(["check", path]).stdout.startswith(f"refused {rule} ".encode()), f"`{rule}`" in text), (True, True))
     compare("README shows commands", shown > 0, True)
     folder = os.path.join(TOP, "examples")
     designs = set()

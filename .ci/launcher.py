@@ -234,6 +234,7 @@ def stopped(at):
         build.send_signal(number)
         compare(f"{number.name} while it builds", ended(build), ("", BUILDING + STOPPED, 70))
         compare(f"{number.name} ends the build", goes(child), True)
+        compare(f"{number.name} leaves no crate", os.path.exists(out_of(at, "below")), False)
     at.then("")
     compare("it builds then", at.run(), ("made of one: \n", BUILDING, 3))
 
@@ -246,6 +247,7 @@ def fails(at):
         log = os.path.join(at.top, "crates", "secv", "out", at.logs()[-1])
         goal = "".join(OPEN.splitlines(True)[1:3])
         compare("a failed proof", (out, said, status), ("", f"{BUILDING}{goal}secv: the build failed; all of it is in {log}\n", 70))
+        compare("a failed proof leaves no crate", os.path.exists(out_of(at, "below")), False)
     at.then("")
     compare("it builds then", at.run(), ("made of one: \n", BUILDING, 3))
 
@@ -443,7 +445,7 @@ def makes_release(at):
     refuses("other bytes", "crates/secv/out/secv is not what the gate built: run .ci/run again")
     gate(at)
     commit = git(at, "rev-parse", "HEAD")
-    compare("made", at.run(tool="tools/release"), (f"release/ is of commit {commit}; commit it, and run .ci/run again, which takes what it has kept\n", "", 0))
+    compare("made", at.run(tool="tools/release"), (f"release/ is of commit {commit}; commit it, and run .ci/run again\n", "", 0))
     compare("two files", sorted(os.listdir(os.path.join(at.top, "release"))), ["ABOUT", "secv.gz"])
     git(at, "add", ".")
     git(at, "commit", "-m", "release")

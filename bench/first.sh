@@ -23,10 +23,10 @@ for folder in $(echo "$PATH" | tr ':' ' '); do
     done
 done
 began=$(date +%s.%N)
-PATH=$work/tools ./secv check examples/handshake_leak.v >"$work/answer" || [ $? = 1 ]
+PATH=$work/tools ./secv check examples/multiplier_leak.v >"$work/answer" || [ $? = 1 ]
 echo "first answer: $(seconds "$began") s"
 began=$(date +%s.%N)
-./secv check examples/handshake_leak.v >"$work/answer" || [ $? = 1 ]
+./secv check examples/multiplier_leak.v >"$work/answer" || [ $? = 1 ]
 echo "second answer: $(seconds "$began") s"
 [ "${1:-}" = --build ] || exit 0
 

@@ -179,7 +179,11 @@ def beside():
 
 def gate():
     log = tempfile.TemporaryFile("w+", encoding="utf-8", errors="replace")
-    child = subprocess.Popen(["rt", "ci", *names, "--anew"], stdout=log, stderr=subprocess.STDOUT, stdin=subprocess.DEVNULL)
+    # (the kits whose `rt ci` takes no words prove everything from nothing each time)
+    takes = "--anew" in subprocess.run(["rt", "help"], stdout=subprocess.PIPE, stderr=subprocess.STDOUT, text=True).stdout
+    if names and not takes:
+        sys.exit("gate.sh: `rt ci` of this kit takes no names of crates")
+    child = subprocess.Popen(["rt", "ci", *[*names, "--anew"] * takes], stdout=log, stderr=subprocess.STDOUT, stdin=subprocess.DEVNULL)
     start, seconds, knows = time.time(), {}, {}
     while child.poll() is None:
         note(processes(), [child.pid], seconds, knows)

@@ -302,4 +302,6 @@ def signals(folder):
 
 
 if __name__ == "__main__":
+    # (where it was begun in the background INT is ignored, and so it would be by all that it starts)
+    signal.signal(signal.SIGINT, signal.default_int_handler)
     finish((cut, damages, fronts, streams, files, denied, pipes, signals))

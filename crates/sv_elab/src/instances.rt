@@ -214,6 +214,33 @@ fn set_up(
     opened(alloc, tables, &site, declared, built)
 }
 
+// The same in a box, so that the walk, which calls itself in this instance, holds little of it.
+#[inline(never)]
+fn set_up_in_box(
+    alloc: Global,
+    shared: &Shared,
+    outer: &Scope,
+    nest: &Nest,
+    master: &Module,
+    instance: &Instance,
+    built: &mut Built,
+) -> Result<Box<Scope>, Fault>
+    requires ready { IsReady shared.now }
+    requires master { IsTrue (is_shaped_module (module_tree master.now)) }
+    requires shaped { IsTrue (is_shaped_instance (instance_tree instance.now)) }
+    requires few { built.old.instances < 1024 }
+    ensures found { IfOk result (λ scope. (set_up_walk (tables_of shared.now.tables)
+        (names_of outer.now) nest.now.path (module_tree master.now) (built_form built.old)
+        (instance_tree instance.now)).end ≡ Ok (opened scope.value (built_form built.new))) }
+    ensures instances { OnOk result (built.new.instances ≡ built.old.instances + 1) }
+    ensures broken { IfErr result (IsBreach (set_up_walk (tables_of shared.now.tables)
+        (names_of outer.now) nest.now.path (module_tree master.now) (built_form built.old)
+        (instance_tree instance.now)).end) }
+{
+    let scope = set_up(alloc, shared, outer, nest, master, instance, built)?;
+    Ok(Box::new(alloc, scope)?)
+}
+
 // Walks the items of an instance in textual order, with at most so many levels of instances in it.
 #[cycle(instances)]
 fn add_items(
@@ -320,7 +347,7 @@ fn add_instance(
     let master = master_of(alloc, shared, nest, inside, built, instance)?;
     add_name(alloc, &mut inside.instances, &instance.name)?;
     nest.enter(alloc, &instance.name, &instance.module)?;
-    let scope = set_up(alloc, shared, inside.scope, nest, master, instance, built)?;
+    let scope = set_up_in_box(alloc, shared, inside.scope, nest, master, instance, built)?;
     add_items(
         alloc,
         shared,

@@ -1,5 +1,6 @@
 use Rattle.std.proofs.Common.{◌≡◌, ℕ, suc, ◌+◌, ◌-◌, List, ◌++◌, map}
 use Rattle.std.proofs.Common.{drop, refl, sym, ap, ◌∙◌, arith}
+use Rattle.std.specs.Prelude.{Ok}
 use Rattle.std.specs.List.{list_all}
 use Rattle.std.proofs.lemmas.Bool.{and_parts}
 use Rattle.std.proofs.lemmas.List.{append-nil}
@@ -58,7 +59,7 @@ add_instance-add_items-requires t c = (
   (
     c.requires.ready,
     (
-      ap (λ xs. list_all is_shaped_item (map item_tree xs)) c.deref.ensures.value
+      ap (λ xs. list_all is_shaped_item (map item_tree xs)) c.deref-2.ensures.value
           ∙ items_shaped (module_tree c.in_ok-master.master.now) c.in_ok-master.ensures.shaped,
       omega (arith, c.requires.room, c.in_ok-master.ensures.few, c.in_ok-scope.ensures.instances),
     ),
@@ -79,14 +80,15 @@ add_instance-returns-in_err-add_items-clause-broken t c =
     let master = c.in_ok-master.ensures.found in
     let fewer : n ≡ suc (n - 1) = omega (arith, c.requires.room, c.in_ok-master.ensures.few) in
     let there = sym (ap (λ (k : Nesting). k.path) c.in_ok-enter.ensures) in
-    let o : Opened = opened c.in_ok-scope.scope (built_form c.set_up.new.built) in
+    let o : Opened = opened c.deref.result.now (built_form c.set_up_in_box.new.built) in
     let to_items = instance_ends tables names taken built i nest n m master (n - 1) fewer _ there o
-    c.in_ok-scope.ensures.found
+    (c.in_ok-scope.ensures.found
+    ∙ ap (λ scope. Ok (opened scope (built_form c.set_up_in_box.new.built))) (sym c.deref.ensures))
     ∙ ap (λ (k : Nesting).
     (items_from (site_walk (n - 1) tables) tables (site_at k) o.names o.taken o.built
     m.items).end) (sym c.in_ok-enter.ensures)
     ∙ ap (λ xs. (items_from (site_walk (n - 1) tables) tables (site_at c.enter.new.self) o.names
-    o.taken o.built (map item_tree xs)).end) (sym c.deref.ensures.value) in
+    o.taken o.built (map item_tree xs)).end) (sym c.deref-2.ensures.value) in
     let p = err_from_is_err_and c.from_residual-in_err-add_items.result
     c.from_residual-in_err-add_items.ensures.1 in
     rw (p.1, p.2) (breach_on c.in_err-add_items.field-0.0 _ _ (λ s h.
@@ -105,14 +107,15 @@ add_instance-returns-clause-found t c =
     let master = c.in_ok-master.ensures.found in
     let fewer : n ≡ suc (n - 1) = omega (arith, c.requires.room, c.in_ok-master.ensures.few) in
     let there = sym (ap (λ (k : Nesting). k.path) c.in_ok-enter.ensures) in
-    let o : Opened = opened c.in_ok-scope.scope (built_form c.set_up.new.built) in
+    let o : Opened = opened c.deref.result.now (built_form c.set_up_in_box.new.built) in
     let to_items = instance_ends tables names taken built i nest n m master (n - 1) fewer _ there o
-    c.in_ok-scope.ensures.found
+    (c.in_ok-scope.ensures.found
+    ∙ ap (λ scope. Ok (opened scope (built_form c.set_up_in_box.new.built))) (sym c.deref.ensures))
     ∙ ap (λ (k : Nesting).
     (items_from (site_walk (n - 1) tables) tables (site_at k) o.names o.taken o.built
     m.items).end) (sym c.in_ok-enter.ensures)
     ∙ ap (λ xs. (items_from (site_walk (n - 1) tables) tables (site_at c.enter.new.self) o.names
-    o.taken o.built (map item_tree xs)).end) (sym c.deref.ensures.value) in
+    o.taken o.built (map item_tree xs)).end) (sym c.deref-2.ensures.value) in
     to_items ∙ c.in_ok-add_items.ensures.found
 
 pub add_instance-returns-clause-nest : goal.add_instance-returns-clause-nest

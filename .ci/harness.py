@@ -3,6 +3,7 @@ import os
 import subprocess
 import sys
 import tempfile
+import unicodedata
 
 TOP = os.path.dirname(os.path.dirname(os.path.abspath(__file__)))
 SECV = os.path.join(TOP, "secv")
@@ -27,7 +28,7 @@ def excerpt(text, place):
     # of a long line 160 bytes, 100 of them at most before the place
     front = line[max(at - 100, 0) if len(line) > 160 else 0:at].decode(errors="replace")
     rest = line[at:max(at - 100, 0) + 160].decode(errors="replace").rstrip()
-    shown = "".join(char if char == "\t" or char.isprintable() or ord(char) >= 160 else "\ufffd" for char in front + rest)
+    shown = "".join(char if char == "\t" or unicodedata.category(char) not in ("Cc", "Cf", "Zl", "Zp") else "\ufffd" for char in front + rest)
     return f"  {shown}\n  {''.join(char if char == chr(9) else ' ' for char in front)}^\n" if line else ""
 
 

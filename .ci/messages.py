@@ -16,16 +16,23 @@ module m(input clk, input nxt, input [7:0] {H} k, output reg owner, output reg [
   end
 endmodule
 """
+POINTS = "lattice point " + ", ".join(f"P{i}" for i in range(32)) + "; " + " ".join(f"P{i} <= P{i + 1};" for i in range(31)) + " endlattice\n"
 SUM = "module s #(parameter P = 1, Q = 2) (input [3:0] i, output [3:0] o);\n  localparam R = 3;\n  assign o = i;\nendmodule\n"
 USE = SUM + "module t(input [3:0] a, output [3:0] y);\n  "
 CLOCKED = "module m(input clk, input d, output reg q, output w);\n  "
 END = "\nendmodule\n"
 FORM = "this form of Verilog is left out"
+GATES = "gates are left out: write an `assign`, as `assign y = a & b;`"
+ALONE = "a clock stands behind `posedge` and in links alone; let an enable decide in the block"
 LOOPS = "loops are left out: write the copies out, or print them by a script"
 GIVEN = "module m(input a, b, input [7:0] v, output y);\n  "
 # A text, the words behind FILE, and what is said of the place.
 TEXTS = [
     (GIVEN + "assign y = a @@\x01;" + END, "", "the byte 0x01 stands in no Verilog text but in comments"),
+    (GIVEN + "assign y = 4@@'s5;" + END, "", "behind `'` the base of a number is missing: one of b, o, d and h, with no blank before it, as in 8'hff"),
+    (GIVEN + "assign y = a @@$ b;" + END, "", "`$` alone is no token: it stands inside a name, as in `a$b`"),
+    (GIVEN + "assign y = a @@` b;" + END, "", "no token begins with ``` here"),
+    ("@@\ufeffmodule m;" + END, "", "the file begins with a byte order mark: store it as ASCII or UTF-8 without one"),
     ("module m(input @@é);" + END, "", "letters beyond ASCII stand in comments alone: write the name with letters a to z"),
     (GIVEN + "assign y = @@4'b12;" + END, "", "this is no number that can be: without a size it is below 2^32; with one, as in 8'hff, it has 1 to "
      "64 bits and digits of its base; and no letter follows it"),
@@ -38,13 +45,49 @@ TEXTS = [
     ("@@wire a;\n", "", "a text does not begin with `wire`: it begins with `module`, or with `lattice` or `labelmap`"),
     (GIVEN + "assign y = a\n  @@assign y = b;" + END, "", "`assign` cannot stand behind `a` of 2:14: is a `;` missing there?"),
     (GIVEN + "always @* begin end\n  @@1;" + END, "", "`1` cannot stand behind `end`"),
-    (GIVEN + "assign y = (a@@;" + END, "", "`;` cannot stand behind `a`"),
+    (GIVEN + "assign y = (a@@;" + END, "", "`;` cannot stand behind `a`: the `(` of 2:14 is open"),
+    (GIVEN + "wire c = v[1@@;" + END, "", "`;` cannot stand behind `1`: the `[` of 2:13 is open"),
+    ("module m(input a\n  @@output y);" + END, "", "`output` cannot stand behind `a` of 1:16: is a `,` or `)` missing there?"),
+    ("module m(input a @@output y);" + END, "", "`output` cannot stand behind `a` of 1:16: is a `,` or `)` missing there?"),
+    (USE + "s u(.i(a)\n    @@.o(y));" + END, "", "`.` cannot stand behind `)` of 6:11: is a `,` or `)` missing there?"),
+    (GIVEN + "assign y = {a\n  @@b};" + END, "", "`b` cannot stand behind `a` of 2:15: is a `,` or `}` missing there?"),
+    ("module m(input a, b, output reg y);\n  always @* if (a\n  @@y = b;" + END, "", "`y` cannot stand behind `a` of 2:17: is a `)` missing there?"),
+    ("module m(input [7\n  @@0] a);" + END, "", "`0` cannot stand behind `7` of 1:17: is a `]` missing there?"),
+    ("module m(input {H\n  @@a);" + END, "", "`a` cannot stand behind `H` of 1:17: is a `}` missing there?"),
+    ("module m(input a, output reg y);\n  always @* begin\n    y = a\n    @@y = 1; end" + END, "", "`y` cannot stand behind `a` of 3:9: is a `;` missing there?"),
+    ("module m(input a, output reg y);\n  always @* begin\n    y = a;\n@@endmodule\n", "", "`endmodule` cannot stand behind `;`: the `begin` of 2:13 is open"),
+    ("module m(input a, output reg y);\n  always @* case (a)\n    0: y = a;\n  @@always @* y = 1;" + END, "", "`always` cannot stand behind `;`: the `case` of "
+     "2:13 is open"),
+    ("module m(input a, output reg y);\n  always @* begin y = a;@@", "", "the text ends too early, behind `;`: the `begin` of 2:13 is open"),
+    ("module m(input {H} @@[7:0] a);" + END, "", "`[` cannot stand behind `}`: a label stands behind the range, right before the name"),
+    ("module m(input a @@{H});" + END, "", "`{` cannot stand behind `a`: a label stands behind the range, right before the name"),
+    ("module m(input a, @@{H} b);" + END, "", "`{` cannot stand behind `,`: a further name has the label of the one before; declare it on its own"),
+    ("module m(@@{H} input a);" + END, "", "`{` cannot stand behind `(`: a label stands behind the range, right before the name"),
+    (GIVEN + "wire c @@{H};" + END, "", "`{` cannot stand behind `c`: a label stands behind the range, right before the name"),
+    (GIVEN + "assign y = {a} @@[0];" + END, "", "`[` cannot stand behind `}`"),
+    (GIVEN + "assign y = a @@{b};" + END, "", "`{` cannot stand behind `a`"),
+    (LANES + "module m(input {Dom(@@1)} z);" + END, "", "`1` cannot stand behind `(`: a signal picks the row of a label map; for a constant write the point"),
+    ("module m; endmodule\n@@labelmap D [0:0] default: L; endlabelmap\n", "", "`labelmap` cannot stand behind `endmodule`: a label map stands before all "
+     "modules"),
+    ("labelmap D [0:0] default: L; endlabelmap\n@@lattice point A; endlattice\nmodule m;" + END, "", "`lattice` cannot stand behind `endlabelmap`: a text has "
+     "one lattice, before its label maps and modules"),
     (GIVEN + "assign y = a;@@", "", "the text ends too early, behind `;`: is an `end`, `endcase` or `endmodule` missing?"),
     (GIVEN + "@@initial y = 1;" + END, "", "`initial` is left out: reset the register at the clock; for `sim` a line `start` of the stimulus sets it"),
     (GIVEN + "@@generate endgenerate" + END, "", LOOPS),
     (GIVEN + "always @* @@casez (a) 1: y = 1; endcase" + END, "", "`casez` and `casex` are left out: ask the bits by `if`, the first arm first"),
     (GIVEN + "always @(posedge a@@, posedge b) y = a;" + END, "", "a block waits for one edge: write `always @(posedge clk)`, and ask the reset inside"),
     (GIVEN + "always @(@@a or b) y = a;" + END, "", "sensitivity lists are left out: write `always @*`"),
+    (GIVEN + "@@or g(y, a, b);" + END, "", GATES),
+    (GIVEN + "always @(posedge a @@or posedge b) y = a;" + END, "", "a block waits for one edge: write `always @(posedge clk)`, and ask the reset inside"),
+    ("module m(input [3:0] @@table);" + END, "", "`table` is a reserved word of Verilog: take another name"),
+    (GIVEN + "wire @@wait;" + END, "", "`wait` is a reserved word of Verilog: take another name"),
+    (GIVEN + "reg @@time;" + END, "", "`time` is a reserved word of Verilog: take another name"),
+    (GIVEN + "assign y = a & @@large;" + END, "", "`large` is a reserved word of Verilog: take another name"),
+    (GIVEN + "@@time t;" + END, "", "this type is left out: declare a `reg` of so many bits"),
+    ("module m(input @@integer n);" + END, "", "this type is left out: declare a `reg` of so many bits"),
+    (GIVEN + "always @* begin : b\n  @@integer i; end" + END, "", "this type is left out: declare a `reg` of so many bits"),
+    ("module m(input a, @@inout b);" + END, "", "`inout` is left out: give the pad an input, an output and an enable, and keep it outside"),
+    (GIVEN + "always @(@@negedge a) y = a;" + END, "", "the falling edge is left out: registers take their values at `posedge`"),
     (GIVEN + "@@specify endspecify" + END, "", "timing is left out: take the `specify` block away"),
     ("module m(@@a, b);" + END, "", "names alone in a header are left out: declare each port there, as in `input [7:0] a`"),
     ("module m(input a, output y); assign y = " + "-" * 64 + "@@-a; endmodule\n", "", "this opens a level too many: at most 64 brackets, operators and "
@@ -63,8 +106,12 @@ TEXTS = [
     ("@@lattice point T, U, V; U <= T; V <= T; endlattice\nmodule m;" + END, "", "`U` and `V` have no greatest point below both: declare one, with a pair "
      "from it to each"),
     (LANES + "labelmap @@Dom [1:0] default: L; endlabelmap\nmodule m;" + END, "", "the label map `Dom` is declared twice, first at 1:10"),
-    ("labelmap @@D [8:0] 0: L; default: H; endlabelmap\nmodule m;" + END, "", "label map `D`: its range is to be `[m:0]` with m from 0 to 7, and two ranges "
-     "have at most 8 bits together"),
+    ("labelmap @@D [8:0] 0: L; default: H; endlabelmap\nmodule m;" + END, "", "label map `D`: its range is to be `[m:0]` with m from 0 to 7"),
+    ("labelmap @@D [1'sb1:0] default: H; endlabelmap\nmodule m;" + END, "", "label map `D`: its range is to be `[m:0]` with m from 0 to 7"),
+    ("labelmap @@D [4:0] [0:4] default: H; endlabelmap\nmodule m;" + END, "", "label map `D`: each of its ranges is to be `[m:0]` with m from 0 to 7"),
+    ("labelmap @@D [4:0] [3:0] default: H; endlabelmap\nmodule m;" + END, "", "label map `D`: its two ranges have over 8 bits together, which are the most"),
+    ("labelmap @@D [0:0] 1'sb1: L; default: H; endlabelmap\nmodule m;" + END, "", "label map `D`: the key at 1:18 is below 0, since its `s` makes it signed: "
+     "take the `s` away"),
     ("labelmap @@D [1:0] 0: L; 0: H; default: H; endlabelmap\nmodule m;" + END, "", "label map `D`: the key at 1:24 has a row already, at 1:18"),
     ("labelmap @@D [1:0] 4: L; default: H; endlabelmap\nmodule m;" + END, "", "label map `D`: the key at 1:18 is outside of the range"),
     ("labelmap @@D [1:0] [0:0] 0: L; default: H; endlabelmap\nmodule m;" + END, "", "label map `D`: the key at 1:24 is to have a number for each range"),
@@ -83,6 +130,9 @@ TEXTS = [
     (USE + "s u(.i(a), .@@i(a)), v(a, y);" + END, "", "the port `i` is linked twice, first at 6:8"),
     (USE + "s u(a, y, @@a);" + END, "", "this is a link too many: the module `s` has 2 ports"),
     (USE + "s u(.i(a), .o(@@{y}));" + END, "", "the output `o` is linked to what is no whole signal: link a `wire`, and take its bits from that"),
+    (USE + "s u(.i(a), .o(@@zz));" + END, "", "there is no signal `zz` in module `t`, to link the output `o` to: declare it, as in `wire zz;`"),
+    (USE + "localparam Z = 1; s u(a, @@Z);" + END, "", "the output `o` is linked to the parameter `Z`: link a `wire`"),
+    (USE + "s u(a, @@u);" + END, "", "the output `o` is linked to `u`, which is no signal: link a `wire`"),
     ("module a; b u(); endmodule\nmodule b; @@a v(); endmodule\n", "--top a", "with this instance the module `a` would stand inside itself, without end"),
     ("module m; wire " + ", ".join(f"a{i}" for i in range(4096)) + ", @@b;" + END, "", "this is the 4,097th signal of the whole design, its instances "
      "included, and 4,096 there may be"),
@@ -94,6 +144,20 @@ TEXTS = [
     (GIVEN + "assign y = @@c;" + END, "", "there is no signal or parameter `c` in module `m`: declare it, as in `wire c;`"),
     (GIVEN + "parameter P = 1;\n  assign @@P = a;" + END, "", "`P` is a parameter, and a signal is wanted here"),
     (GIVEN + "wire [@@P:0] c; parameter P = 1;" + END, "", "the parameter `P` is declared later, at 2:27: declare it before it is used"),
+    (GIVEN + "assign y = @@" + "c" * 200 + ";" + END, "", f"there is no signal or parameter `{'c' * 50}...{'c' * 27}` in module `m`: declare it, as in `wire "
+     f"{'c' * 50}...{'c' * 27};`"),
+    (GIVEN + "parameter P = @@P;" + END, "", "the parameter `P` is used in its own value: write a number there, or a parameter that is declared before"),
+    (GIVEN + "localparam A = 2 * (1 + @@A), B = 2;" + END, "", "the parameter `A` is used in its own value: write a number there, or a parameter that is declared "
+     "before"),
+    ("module m #(parameter P = @@P) (input a);" + END, "", "the parameter `P` is used in its own value: write a number there, or a parameter that is declared "
+     "before"),
+    (GIVEN + "localparam A = 1, B = @@A[0];" + END, "", "`A` is a parameter, and a signal is wanted here"),
+    (POINTS + "module m(input {@@Q} z);" + END, "", "there is no point `Q`; the points are " + ", ".join(f"`P{i}`" for i in range(32))),
+    (LANES + "module m(input {@@Dom} z);" + END, "", "`Dom` is a label map: write `Dom(SIGNAL)`"),
+    ("labelmap T [0:0] [0:0] default: L; endlabelmap\nmodule m(input {@@T} z);" + END, "", "`T` is a label map: write `T(SIGNAL, SIGNAL)`"),
+    (LANES + "module m(input Dom, input {@@Dom(Dom)} z);" + END, "", "`Dom` has not as many bits as the range of the label map `Dom`, whose row it picks"),
+    (LANES + "module m #(parameter dom = 1) (input {@@Dom(dom)} z);" + END, "", "a signal picks the row of the label map `Dom`, and `dom` is a parameter: make "
+     "it an input, linked to a constant"),
     ("module m(input a, input {@@Q} z);" + END, "", "there is no point `Q`; the points are `L`, `H`"),
     (LANES + "module m(input [1:0] a, input {@@Lane(a)} z);" + END, "", "there is no label map `Lane`; the label maps are: `Dom`"),
     (LANES + "module m(input [1:0] a, input {@@Dom(b)} z);" + END, "", "there is no signal `b` in module `m`, to pick the row of the label map `Dom`"),
@@ -106,6 +170,10 @@ TEXTS = [
     (CLOCKED + "assign w = d;\n  assign @@q = d;" + END, "", "`q` is a `reg`, which an `always` alone assigns: take the word away at 1:41, or assign it in an "
      "`always`"),
     (CLOCKED + "assign w = d;\n  assign @@d = w;" + END, "", "`d` is an input of the top, declared at 1:27, and is driven from outside"),
+    (CLOCKED + "assign w = d; always @(posedge clk) @@d <= w;" + END, "", "`d` is an input, declared at 1:27, and is driven from outside: where the module is to "
+     "drive it, declare it an `output reg`"),
+    ("module s(input i, output o);\n  assign o = i;\n  always @* @@i = 1;\nendmodule\nmodule m(input a, output y);\n  s u(a, y);" + END, "", "`u.i` is an "
+     "input, declared at 1:16, and is driven from outside: where the module is to drive it, declare it an `output reg`"),
     (CLOCKED + "assign w = d;\n  reg [3:0] r; always @* begin q = 0; {r[2:0], @@r[3:2]} = d; end" + END, "", "one assignment assigns a bit of `r` twice"),
     ("module m(input {H} @@clk, input d, output reg q);\n  always @(posedge clk) q <= d;" + END, "", "the clock `clk` has a label: everybody sees the time, "
      "so a clock is public; take its label away"),
@@ -114,10 +182,26 @@ TEXTS = [
      "no logic makes one; let an enable decide in the block"),
     ("module m(input c, @@d, output reg q, r);\n  always @(posedge c) q <= 0;\n  always @(posedge d) r <= 0;" + END, "", "`d` is a second clock: a design has "
      "one, and `c` of 1:16 is a clock, too; let an enable decide in the block"),
-    ("module m(input @@c, input [1:0] d, output reg q);\n  always @(posedge c) q <= d[c];" + END, "", "the clock `c` is read, driven or selects a label, as other "
-     "signals do: a clock stands behind `posedge` and in links alone; let an enable decide in the block"),
+    ("module m(input @@c, input [1:0] d, output reg q);\n  always @(posedge c) q <= d[c];" + END, "", "the clock `c` is read at 2:30: " + ALONE),
+    ("module m(input @@clk, output reg q);\n  always @(posedge clk) q <= clk;" + END, "", "the clock `clk` is read at 2:30: " + ALONE),
+    ("module m(input @@clk, en, output o, output reg q);\n  assign o = clk & en;\n  always @(posedge clk) q <= en;" + END, "", "the clock `clk` is read at 2:14: "
+     + ALONE),
+    ("labelmap D [0:0] 0: L; default: H; endlabelmap\nmodule m(input @@c, input {D(c)} d, output reg {H} q);\n  always @(posedge c) q <= d;" + END, "", "the clock "
+     "`c` picks the label of `d` of 2:32: " + ALONE),
+    ("module s(input @@c, d, output reg q);\n  assign c = d;\n  always @(posedge c) q <= d;\nendmodule\nmodule m(input clk, d, output q);\n  s u(clk, d, q);"
+     + END, "", "the clock `u.c` is driven at 2:10: " + ALONE),
+    ("module s(input @@c, d, output reg q);\n  always @(posedge c) q <= d;\nendmodule\nmodule m(input a, b, d, output x, y);\n  s u(a, d, x), v(b, d, y);" + END,
+     "", "the clock `u.c` is `a` of 4:16, and `b` of 4:19 is a clock, too: a design has one; let an enable decide in the block"),
+    ("module m(input {H} @@c, input d, output reg q, r);\n  always @(posedge c) q <= 0;\n  always @(posedge d) r <= 0;" + END, "", "the clock `c` has a label: "
+     "everybody sees the time, so a clock is public; take its label away"),
     ("module m(input a, output y);\n  assign y = a;\n  assign @@y = ~a;" + END, "", "`y` has a driver already, at 2:10: assign all its bits in one `always` or "
      "`assign`"),
+    ("module s(input i, output o);\n  assign o = i;\n  assign @@i = 1;\nendmodule\nmodule m(input a, output y);\n  s u(.i(a), .o(y));" + END, "", "`u.i` is an "
+     "input of the instance at 6:5, and what is linked to it at 6:10 drives it: take this assignment away"),
+    ("module s(input i, output o);\n  assign i = 0, o = i;\n  assign @@i = 1;\nendmodule\nmodule m(output y);\n  s u(.i(), .o(y));" + END, "", "`u.i` is an input "
+     "of the instance at 6:5, which links nothing to it: link it there, and assign it nowhere"),
+    ("module s(input @@i, output o);\n  assign o = i;\nendmodule\nmodule t(output o);\n  s v(.i(), .o(o));\nendmodule\nmodule m(output y);\n  t u(y);" + END, "",
+     "nothing drives `u.v.i`, an input of the instance at 5:5, which links nothing to it: link it there"),
     ("module m(output @@y);" + END, "", "nothing drives `y`: assign it, or link it to an output"),
     ("module m(input a, output reg y);\n  @@always @* if (a) y = 1;" + END, "", "this block does not assign all bits of `y` on every path, so it would be a latch: "
      "give it a value at the block's begin, or in each `else` and `default`"),
@@ -134,6 +218,8 @@ TEXTS = [
      "is at `H`, and at `L` in the next cycle; clear it where its label falls"),
     (OWNER.replace("if (nxt) r", "@@r"), "", "obligation 2: `r` learns from `k`: at the printed values `k` is at `H`, and `r` at `L`: the label of a register is "
      "that of the next cycle"),
+    ("module m(input clk, input {H} s, input t, output reg q);\n  always @(posedge clk)\n    @@if (s)\n      if (t) ;\n      else q <= 1;" + END, "", "obligation "
+     "1: `q` learns from `s`: at the printed values `s` is at `H`, and `q` at `L`: the label of a register is that of the next cycle"),
     ("labelmap D [0:0] 0: L; default: H; endlabelmap\nmodule m(input {H} q, input {D(q)} @@d, output {H} y);\n  assign y = d;" + END, "", "obligation 2: the label "
      "of `d` tells `q`, which picks it: at the printed values `q` is at `H`, and `d` at `L`; pick a label by a signal that all may see who see `d`"),
 ]
@@ -145,6 +231,7 @@ RUNS = [
     ("sim f", "start q 1\n", "secv: line 1 of the input: `start` names no register, or one that is set already; the registers are `owner` (1 bit), `r` (8 bits)\n"),
     ("sim f", "inputs nxt k\n" + "0" * 1048577, "secv: line 2 of the input: the line has over 1,048,576 bytes, which are the most\n"),
     ("sim f --level Q", "", "secv: f: there is no point `Q`, which `--level` names; the points are `L`, `H`\n"),
+    ("sim points --level Q", "", "secv: points: there is no point `Q`, which `--level` names; the points are " + ", ".join(f"`P{i}`" for i in range(32)) + "\n"),
     ("compare f a f --level L", "", "f:1:1: here is to stand the line `inputs nxt k`, or before it a line `start REGISTER VALUE`\n"),
     ("compare f a a --level Q", "", "secv: f: there is no point `Q`, which `--level` names; the points are `L`, `H`\n"),
     ("cnf f 99", "", "secv: f: the design has the obligations 1 to 3, and none has the number 99\n"),
@@ -181,14 +268,16 @@ def runs(folder):
     put(folder, "b", "secv-proof 1\nobligations 1\no 1 0\nend\n")
     put(folder, "c", "inputs nxt k\n0 0\n")
     put(folder, "large", " " * 1048577)
+    put(folder, "points", POINTS + "module m; endmodule\n")
     for words, given, said in RUNS:
         compare(f"{words} {given[:60]!r}", said_of(folder, words.split(), given.encode()), said)
 
 
 def lines(folder):
-    """A caret stands below its place: behind tabs, in a long line, at the end of a text; what would move a terminal's cursor is not shown."""
+    """A caret stands below its place: behind tabs, in a long line, at the end of a text; what moves a terminal's cursor or turns its line is not shown."""
     for text, shown in (("module m;\n\twire\t\t1;\nendmodule\n", "text.v:2:8: `1` cannot stand behind `wire`\n  \twire\t\t1;\n  \t    \t\t^\n"),
                         ("module m; /* \x1b[2J\x07 */ 1;", "text.v:1:23: `1` cannot stand behind `;`\n  module m; /* \ufffd[2J\ufffd */ 1;\n" + " " * 24 + "^\n"),
+                        ("module m; /* \u202e\u2028 */ 1;", "text.v:1:24: `1` cannot stand behind `;`\n  module m; /* \ufffd\ufffd */ 1;\n" + " " * 21 + "^\n"),
                         ("module m;\r\n  1;\r\nendmodule\r\n", "text.v:2:3: `1` cannot stand behind `;`\n    1;\n    ^\n"),
                         ("module m;\n", "text.v:2:1: the text ends too early, behind `;`: is an `end`, `endcase` or `endmodule` missing?\n"),
                         (" " * 300 + "1" + " x" * 300, "text.v:1:301: a text does not begin with `1`: it begins with `module`, or with `lattice` or `labelmap`\n  "
@@ -198,5 +287,17 @@ def lines(folder):
         compare(repr(text[:300]), said_of(folder, ["check", "text.v"]), shown)
 
 
+def names(folder):
+    """The name of a file is shown as it is, but what cannot be seen in it is escaped; a word of a command that is too long is cut."""
+    for name, shown in (("it's \"a\\b\".v", "it's \"a\\b\".v"), ("a\nb\u202e.v", "a\\nb\\u{202e}.v")):
+        put(folder, name, "1")
+        compare(repr(name), said_of(folder, ["check", name]), f"{shown}:1:1: a text does not begin with `1`: it begins with `module`, or with `lattice` or "
+                "`labelmap`\n  1\n  ^\n")
+        os.remove(os.path.join(folder, name))
+        compare(f"none: {name!r}", said_of(folder, ["check", name]).partition(": No")[0], f"secv: {shown}")
+    put(folder, "f", OWNER)
+    compare("a long word", said_of(folder, ["check", "f", "--top", "c" * 1000]).partition(",")[0], f"f:1:1: there is no module `{'c' * 50}...{'c' * 27}`")
+
+
 if __name__ == "__main__":
-    finish([texts, runs, lines])
+    finish([texts, runs, lines, names])

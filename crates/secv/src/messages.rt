@@ -2,7 +2,7 @@
 use std::alloc::Global;
 use std::io::{self, Stderr};
 use sv_cli::{Broken, Outcome, UsageKind};
-use sv_messages::{Origin, OutOfMemory, message, spent_message};
+use sv_messages::{Origin, OutOfMemory, file_name, message, spent_message};
 use sv_words::{Command, read_words};
 
 const MEMORY: &str = "secv: memory ran out";
@@ -200,9 +200,11 @@ fn explain_write(person: Person, words: &[String], causes: &Causes) {
     }
 }
 
-// A file, and why the system did not read or store it. Control characters of the name are escaped.
+// A file, and why the system did not read or store it. What cannot be seen in the name is escaped.
 fn explain_file(person: Person, file: &str, error: &io::Error) {
-    let name = file.escape_debug();
+    let Ok(name) = file_name(person.alloc, file) else {
+        return explain_memory(person);
+    };
     // not used: where this cannot be written, the status tells of it
     let _ = eprintln!(person.stderr; "secv: {name}: {error}");
 }

@@ -33,9 +33,38 @@ pub fn line_of(text: &[u8], line: u32) -> &[u8] {
     rest.get(..line_end(rest)).unwrap_or(b"")
 }
 
+// Whether a character is seen by nobody and moves what stands beside it: a mark of a format, or the
+// end of a line or paragraph (Unicode 15, categories Cf, Zl and Zp).
+fn is_format(c: char) -> bool {
+    matches!(
+        c as u32,
+        0xad
+            | 0x600..=0x605
+            | 0x61c
+            | 0x6dd
+            | 0x70f
+            | 0x890..=0x891
+            | 0x8e2
+            | 0x180e
+            | 0x200b..=0x200f
+            | 0x2028..=0x202e
+            | 0x2060..=0x2064
+            | 0x2066..=0x206f
+            | 0xfeff
+            | 0xfff9..=0xfffb
+            | 0x110bd
+            | 0x110cd
+            | 0x13430..=0x1343f
+            | 0x1bca0..=0x1bca3
+            | 0x1d173..=0x1d17a
+            | 0xe0001
+            | 0xe0020..=0xe007f
+    )
+}
+
 // A character that may be shown: tabs stay, and other control characters do not.
 fn shown(c: char) -> char {
-    if c == '\t' || !c.is_control() {
+    if c == '\t' || !c.is_control() && !is_format(c) {
         c
     } else {
         '\u{fffd}'

@@ -8,6 +8,7 @@ ghost use Rattle.sv_obl.specs.Valuations.{FitsDesign};
 use crate::origins::Origin;
 use crate::rows::shown;
 use crate::said::{Case, Said};
+use crate::uses::named_at;
 use std::alloc::{AllocError, Global};
 use sv_design::Design;
 use sv_flat::SigId;
@@ -232,14 +233,38 @@ fn flow_of(
     query: &Query,
     v: &Valuation,
 ) -> Result<Said, AllocError> {
-    let words = match (asked_of(query), leak_of(alloc, design, query, v)?) {
-        (Some(target), Some(leak)) => leak_words(alloc, design, number, query, target, leak)?,
-        _ => format!(in alloc; "obligation {number} fails at the printed values")?,
-    };
-    Ok(Said {
-        place: place_of(design, query),
-        words,
-    })
+    match (asked_of(query), leak_of(alloc, design, query, v)?) {
+        (Some(target), Some(leak)) => Ok(Said {
+            place: place_of_leak(design, query, target, leak.read),
+            words: leak_words(alloc, design, number, query, target, leak)?,
+        }),
+        _ => Ok(Said {
+            place: place_of(design, query),
+            words: format!(in alloc; "obligation {number} fails at the printed values")?,
+        }),
+    }
+}
+
+// Where a target learns from a read: where it is held and learns from another signal, at the last
+// condition that reads that.
+fn place_of_leak(design: &Design, query: &Query, target: SigId, read: SigId) -> Option<Place> {
+    if query.right.is_none() && read.0 != target.0 {
+        if let Some(place) = condition_on(query, read) {
+            return Some(place);
+        }
+    }
+    place_of(design, query)
+}
+
+// Where the last condition on a path stands that reads the signal.
+fn condition_on(query: &Query, read: SigId) -> Option<Place> {
+    let mut found = None;
+    for step in &query.path {
+        if named_at(&step.cond, read.0 as usize).is_some() {
+            found = Some(step.place);
+        }
+    }
+    found
 }
 
 // How a target learns from a read.

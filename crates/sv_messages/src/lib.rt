@@ -11,10 +11,13 @@
 //! caller shows none then, and changes nothing else.
 #![tactic(auto)]
 
+mod clocks;
+mod contexts;
 mod drivers;
 mod excerpts;
 mod flows;
 mod forms;
+mod instances;
 mod limits;
 mod links;
 mod maps;
@@ -26,7 +29,9 @@ mod rows;
 mod said;
 mod stimuli;
 mod syntax;
+mod uses;
 
 pub use messages::{message, spent_message};
 pub use origins::Origin;
+pub use rows::file_name;
 pub use std::alloc::AllocError as OutOfMemory;

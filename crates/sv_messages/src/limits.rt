@@ -1,6 +1,6 @@
 // What is said of limits.
 use crate::origins::{first_unbuilt, place_of};
-use crate::rows::{Row, shown};
+use crate::rows::{Row, file_name, shown, shown_word};
 use crate::said::{Case, Said, owned};
 use std::alloc::{AllocError, Global};
 use sv_ast::Item;
@@ -34,7 +34,7 @@ pub fn unbuilt(alloc: Global, case: &Case) -> Result<Said, AllocError> {
 
 /// Of a file that is too large.
 pub fn file_size(alloc: Global, case: &Case) -> Result<Said, AllocError> {
-    let file = case.origin.file.escape_debug();
+    let file = file_name(alloc, case.origin.file)?;
     let words = format!(in alloc;
         "{file}: the file has over 1,048,576 bytes, which is the most: leave \
         out modules that the top has no instance of"
@@ -82,7 +82,7 @@ pub fn nodes(alloc: Global, case: &Case) -> Result<Said, AllocError> {
 
 /// Of too many obligations.
 pub fn obligations(alloc: Global, case: &Case) -> Result<Said, AllocError> {
-    let file = case.origin.file.escape_debug();
+    let file = file_name(alloc, case.origin.file)?;
     let words = format!(in alloc;
         "{file}: the design has over 65,536 obligations, which are the most: \
         check its modules one by one, by `--top MODULE`"
@@ -111,7 +111,7 @@ pub fn lanes(alloc: Global, case: &Case) -> Result<Said, AllocError> {
 
 /// Of a number that no obligation has.
 pub fn no_obligation(alloc: Global, case: &Case) -> Result<Said, AllocError> {
-    let file = case.origin.file.escape_debug();
+    let file = file_name(alloc, case.origin.file)?;
     let number = match case.command {
         Command::Cnf { number, .. } => *number,
         _ => 0,
@@ -133,7 +133,7 @@ pub fn no_obligation(alloc: Global, case: &Case) -> Result<Said, AllocError> {
 
 /// Of a level that is no point.
 pub fn level(alloc: Global, case: &Case) -> Result<Said, AllocError> {
-    let file = case.origin.file.escape_debug();
+    let file = file_name(alloc, case.origin.file)?;
     let asked = match case.command {
         Command::Sim {
             level: Some(level),
@@ -142,8 +142,8 @@ pub fn level(alloc: Global, case: &Case) -> Result<Said, AllocError> {
         Command::Compare { level, .. } => level.as_str(),
         _ => "",
     };
-    let asked = asked.escape_debug();
-    let mut row = Row::new(alloc);
+    let asked = shown_word(alloc, asked)?;
+    let mut row = Row::of_points(alloc);
     if let Some(design) = case.origin.design(alloc) {
         for point in design.points() {
             row.add(point.bytes(), "")?;
@@ -176,7 +176,7 @@ pub fn proof_size(alloc: Global, case: &Case) -> Result<Said, AllocError> {
         Command::Verify { proof, .. } => proof.as_str(),
         _ => case.origin.file,
     };
-    let name = name.escape_debug();
+    let name = file_name(alloc, name)?;
     let words = format!(in alloc;
         "{name}: the certificate has over 268,435,456 bytes, which are the \
         most"
@@ -191,7 +191,7 @@ pub fn stimulus_file(alloc: Global, case: &Case) -> Result<Said, AllocError> {
         Command::Compare { b, .. } => b.as_str(),
         _ => case.origin.file,
     };
-    let name = name.escape_debug();
+    let name = file_name(alloc, name)?;
     let words = format!(in alloc;
         "{name}: the stimulus has over 67,108,864 bytes, which are the most \
         of a comparison: compare fewer cycles"

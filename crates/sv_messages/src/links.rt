@@ -1,19 +1,12 @@
 // What is said of links and overrides of an instance.
+use crate::instances::master_of;
 use crate::names::{Declared, first_declaration};
 use crate::origins::{is_up_to, item_at, module_at};
 use crate::rows::{Row, shown};
 use crate::said::Case;
 use std::alloc::{AllocError, Global};
-use sv_ast::{DeclKind, Instance, Item, Links, Module, Overrides, Text};
+use sv_ast::{DeclKind, Expr, Instance, Item, Links, Module, Overrides, Text};
 use sv_num::Place;
-
-// The module of an instance.
-fn master_of<'t>(text: &'t Text, instance: &Instance) -> Option<&'t Module> {
-    let name = instance.module.bytes();
-    text.modules
-        .iter()
-        .find(|module| module.name.bytes() == name)
-}
 
 // The instance whose links are around a place: the last whose name stands before it.
 fn linked_at(text: &Text, place: Place) -> Option<&Instance> {
@@ -41,7 +34,7 @@ pub fn link(alloc: Global, case: &Case) -> Result<String, AllocError> {
     if let Some(text) = case.origin.tree(alloc) {
         if let Some(instance) = linked_at(&text, case.place) {
             if let Some(master) = master_of(&text, instance) {
-                return link_of(alloc, case, instance, master);
+                return link_of(alloc, case, &text, instance, master);
             }
         }
     }
@@ -56,6 +49,7 @@ pub fn link(alloc: Global, case: &Case) -> Result<String, AllocError> {
 fn link_of(
     alloc: Global,
     case: &Case,
+    text: &Text,
     instance: &Instance,
     master: &Module,
 ) -> Result<String, AllocError> {
@@ -87,10 +81,72 @@ fn link_of(
     if port.kind == DeclKind::Input {
         return format!(in alloc; "the port `{name}` cannot be linked so");
     }
+    if let Some(linked) = linked_name(&instance.links, case.place) {
+        if let Some(around) = module_at(text, case.place) {
+            return no_signal(alloc, around, name.as_str(), linked);
+        }
+    }
     format!(in alloc;
         "the output `{name}` is linked to what is no whole signal: link a `wire`, and \
         take its bits from that"
     )
+}
+
+// The name at a place that is linked whole.
+fn linked_name(links: &Links, place: Place) -> Option<&[u8]> {
+    match links {
+        Links::Named(links) => {
+            for link in links {
+                if let Some(expr) = &link.2 {
+                    if let Some(name) = name_at(expr, place) {
+                        return Some(name);
+                    }
+                }
+            }
+        }
+        Links::Ordered(links) => {
+            for expr in links {
+                if let Some(name) = name_at(expr, place) {
+                    return Some(name);
+                }
+            }
+        }
+    }
+    None
+}
+
+// The name that an expression at a place is.
+fn name_at(expr: &Expr, place: Place) -> Option<&[u8]> {
+    match expr {
+        Expr::Name(name, at) if *at == place => Some(name.bytes()),
+        _ => None,
+    }
+}
+
+// Of an output that is linked to a name of no signal.
+fn no_signal(
+    alloc: Global,
+    around: &Module,
+    port: &str,
+    linked: &[u8],
+) -> Result<String, AllocError> {
+    let declared = first_declaration(around, linked);
+    let linked = shown(alloc, linked)?;
+    match declared {
+        None => {
+            let around = shown(alloc, around.name.bytes())?;
+            format!(in alloc;
+                "there is no signal `{linked}` in module `{around}`, to link the output `{port}` \
+                to: declare it, as in `wire {linked};`"
+            )
+        }
+        Some(Declared::Parameter(_)) => format!(in alloc;
+            "the output `{port}` is linked to the parameter `{linked}`: link a `wire`"
+        ),
+        Some(_) => format!(in alloc;
+            "the output `{port}` is linked to `{linked}`, which is no signal: link a `wire`"
+        ),
+    }
 }
 
 // The place of an earlier link of the port that is linked by name at the case's place.

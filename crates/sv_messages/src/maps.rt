@@ -20,7 +20,7 @@ pub fn points_of(alloc: Global, text: &Text) -> Result<String, AllocError> {
     let Some(lattice) = &text.lattice else {
         return owned(alloc, "`L`, `H`");
     };
-    let mut row = Row::new(alloc);
+    let mut row = Row::of_points(alloc);
     for point in &lattice.points {
         row.add(point.0.bytes(), "")?;
     }
@@ -133,10 +133,17 @@ pub fn map_row(alloc: Global, case: &Case) -> Result<String, AllocError> {
     format!(in alloc; "the label map `{name}` has a wrong range, key or point, or a key twice")
 }
 
-// The number of a literal.
+// Whether a literal is a number below 0: a signed one whose highest bit is 1.
+fn is_negative(number: &Lit) -> bool {
+    let bits = number.bits;
+    let below = (bits.width() as u32).saturating_sub(1);
+    bits.signed() && matches!(bits.value().checked_shr(below), Some(1))
+}
+
+// The number of a literal that is not below 0.
 fn number_in(expr: &Expr) -> Option<u64> {
     match expr {
-        Expr::Number(number, _) => Some(number.bits.value()),
+        Expr::Number(number, _) if !is_negative(number) => Some(number.bits.value()),
         _ => None,
     }
 }
@@ -152,23 +159,34 @@ fn count_of(span: &Span) -> Option<u64> {
 // How many numbers the ranges of a map have, 1 for a second one that there is not; None where they
 // are wrong.
 fn counts_of(map: &MapText) -> Option<(u64, u64)> {
-    let first = count_of(&map.span)?;
-    let second = match &map.second {
-        Some(span) => count_of(span)?,
-        None => 1,
-    };
-    if first.saturating_mul(second) <= LARGEST_MAP {
-        Some((first, second))
+    let counts = each_count(map)?;
+    if counts.0.saturating_mul(counts.1) <= LARGEST_MAP {
+        Some(counts)
     } else {
         None
     }
 }
 
+// The same, however many they have together.
+fn each_count(map: &MapText) -> Option<(u64, u64)> {
+    let first = count_of(&map.span)?;
+    let second = match &map.second {
+        Some(span) => count_of(span)?,
+        None => 1,
+    };
+    Some((first, second))
+}
+
 // What is wrong with a map.
 fn map_fault(alloc: Global, text: &Text, map: &MapText) -> Result<Option<String>, AllocError> {
     let Some(counts) = counts_of(map) else {
-        let words = "its range is to be `[m:0]` with m from 0 to 7, and two ranges have at most 8 \
-                     bits together";
+        let words = if each_count(map).is_some() {
+            "its two ranges have over 8 bits together, which are the most"
+        } else if map.second.is_some() {
+            "each of its ranges is to be `[m:0]` with m from 0 to 7"
+        } else {
+            "its range is to be `[m:0]` with m from 0 to 7"
+        };
         return Ok(Some(owned(alloc, words)?));
     };
     for (number, row) in map.rows.iter().enumerate() {
@@ -200,6 +218,12 @@ fn row_fault(
             range"
         )?));
     }
+    if is_negative(key) || is_second_negative(other) {
+        return Ok(Some(format!(in alloc;
+            "the key at {line}:{column} is below 0, since its `s` makes it signed: take the `s` \
+            away"
+        )?));
+    }
     if key.bits.value() >= counts.0 || second_value(other) >= counts.1 {
         return Ok(Some(format!(in alloc; "the key at {line}:{column} is outside of the range")?));
     }
@@ -214,6 +238,14 @@ fn row_fault(
         )?));
     }
     point_fault(alloc, text, point)
+}
+
+// Whether a second part of a key is below 0.
+fn is_second_negative(other: &Option<(Lit, Place)>) -> bool {
+    match other {
+        Some((key, _)) => is_negative(key),
+        None => false,
+    }
 }
 
 // The value of a second part of a key.

@@ -1,16 +1,17 @@
 // The lines of a message.
-use crate::drivers::{circle as signal_circle, clock, drivers, wrong_assign};
+use crate::clocks::clock;
+use crate::drivers::{circle as signal_circle, drivers, undriven, wrong_assign};
 use crate::excerpts::push_excerpt;
 use crate::flows::{flow, spent};
-use crate::forms::{grammar_form, lexical_form};
+use crate::forms::lexical_form;
 use crate::links::{link, parameter};
 use crate::modules::{no_top, recursive, too_many, unknown_module};
 use crate::names::{label, twice, unknown_name};
 use crate::origins::Origin;
-use crate::rows::shown;
+use crate::rows::{file_name, shown};
 use crate::said::{Case, Said, owned};
 use crate::stimuli::{proof, stimulus};
-use crate::syntax::{bad_byte, too_long, unexpected};
+use crate::syntax::{bad_byte, left_out, too_long, unexpected};
 use crate::{limits, maps};
 use std::alloc::{AllocError, Global};
 use sv_num::{Name, Place, Rule};
@@ -85,7 +86,7 @@ fn lines(alloc: Global, origin: &Origin, said: Said) -> Result<String, AllocErro
     let Said { place, words } = said;
     match place {
         Some(place) => {
-            let file = origin.file.escape_debug();
+            let file = file_name(alloc, origin.file)?;
             let Place { line, column } = place;
             let mut lines = format!(in alloc; "{file}:{line}:{column}: {words}\n")?;
             push_excerpt(alloc, &mut lines, origin.text, place)?;
@@ -104,7 +105,7 @@ fn message_of(alloc: Global, rule: Rule, case: &Case) -> Result<Said, AllocError
         Rule::UnsupportedForm => owned(alloc, lexical_form(case.name()))?,
         Rule::NotBuilt => return limits::unbuilt(alloc, case),
         Rule::Unexpected => unexpected(alloc, case)?,
-        Rule::UnsupportedWord => owned(alloc, grammar_form(case.name()))?,
+        Rule::UnsupportedWord => left_out(alloc, case)?,
         Rule::TooDeep => owned(alloc, TOO_DEEP)?,
         Rule::TooLong => too_long(alloc, case)?,
         Rule::LatticeSize => maps::lattice_size(alloc, case)?,
@@ -175,12 +176,6 @@ const BAD_SELECT: &str =
 
 const DIVISION: &str = "`/` and `%` are for constants alone: divide by a power of 2 by a shift, or \
      build a divider";
-
-// Of a signal without a driver.
-fn undriven(alloc: Global, case: &Case) -> Result<String, AllocError> {
-    let name = shown(alloc, case.name())?;
-    format!(in alloc; "nothing drives `{name}`: assign it, or link it to an output")
-}
 
 // Of a signal that a block does not assign on every path.
 fn latch(alloc: Global, case: &Case) -> Result<String, AllocError> {

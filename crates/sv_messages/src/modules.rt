@@ -1,6 +1,6 @@
 // What is said of modules and instances.
 use crate::origins::{item_at, module_at};
-use crate::rows::{Row, shown};
+use crate::rows::{Row, shown, shown_word};
 use crate::said::{Case, owned};
 use std::alloc::{AllocError, Global};
 use sv_ast::{Item, Module, Text};
@@ -16,7 +16,7 @@ pub fn no_top(alloc: Global, case: &Case) -> Result<String, AllocError> {
             row.add(module.name.bytes(), "")?;
         }
         let modules = row.finish()?;
-        let top = top.escape_debug();
+        let top = shown_word(alloc, top)?;
         return format!(in alloc;
             "there is no module `{top}`, which `--top` names; the modules are \
             {modules}"
@@ -42,8 +42,8 @@ pub fn no_top(alloc: Global, case: &Case) -> Result<String, AllocError> {
     )
 }
 
-// Whether some module has an instance of this one.
-fn is_instanced(text: &Text, name: &[u8]) -> bool {
+/// Whether some module has an instance of this one.
+pub fn is_instanced(text: &Text, name: &[u8]) -> bool {
     text.modules
         .iter()
         .any(|module| holds_instance(module, name))

@@ -1,10 +1,11 @@
 // What is said of names: unknown ones, those declared twice, and labels.
+use crate::contexts::is_in_value;
 use crate::maps::points_of;
 use crate::origins::{is_up_to, module_at};
 use crate::rows::{Row, shown};
 use crate::said::{Case, owned};
 use std::alloc::{AllocError, Global};
-use sv_ast::{Decl, Item, LabelText, Module, Text};
+use sv_ast::{Decl, Item, LabelText, MapText, Module, Text};
 use sv_num::Place;
 
 /// What a name in a module was declared as, first.
@@ -104,6 +105,17 @@ pub fn unknown_name(alloc: Global, case: &Case) -> Result<String, AllocError> {
     };
     match first_declaration(module, case.name()) {
         Some(Declared::Parameter(place)) if is_up_to(place, case.place) => {
+            if is_in_value(
+                case.origin.text,
+                &case.origin.tokens(alloc),
+                place,
+                case.place,
+            ) {
+                return format!(in alloc;
+                    "the parameter `{name}` is used in its own value: write a number there, or \
+                    a parameter that is declared before"
+                );
+            }
             format!(in alloc; "`{name}` is a parameter, and a signal is wanted here")
         }
         Some(Declared::Parameter(Place { line, column })) => {
@@ -161,37 +173,79 @@ pub fn label(alloc: Global, case: &Case) -> Result<String, AllocError> {
         return format!(in alloc; "`{name}` does not fit in this label");
     };
     match label_at(module, case.place) {
-        Some(LabelText::Point(_, _)) => {
-            let points = points_of(alloc, &text)?;
-            format!(in alloc; "there is no point `{name}`; the points are {points}")
-        }
-        Some(LabelText::Table(map, _, second, _)) => {
-            if map.bytes() == case.name() {
-                map_in_label(alloc, &text, case, second.is_some())
-            } else {
-                selector(alloc, module, case, map.bytes())
-            }
+        Some(LabelText::Point(_, _)) => unknown_point(alloc, &text, case),
+        Some(LabelText::Table(map, first, second, _)) => {
+            let second = second.as_ref().map(|second| second.bytes());
+            table_label(
+                alloc,
+                &text,
+                module,
+                case,
+                (map.bytes(), first.bytes(), second),
+            )
         }
         None => format!(in alloc; "`{name}` does not fit in this label"),
     }
 }
 
-// Of the map of a label.
-fn map_in_label(
+// The label map of a name.
+fn map_named<'t>(text: &'t Text, name: &[u8]) -> Option<&'t MapText> {
+    text.maps.iter().find(|map| map.name.bytes() == name)
+}
+
+// Of a label by a name that is no point.
+fn unknown_point(alloc: Global, text: &Text, case: &Case) -> Result<String, AllocError> {
+    let name = shown(alloc, case.name())?;
+    if let Some(map) = map_named(text, case.name()) {
+        let selectors = if map.second.is_some() {
+            "SIGNAL, SIGNAL"
+        } else {
+            "SIGNAL"
+        };
+        return format!(in alloc; "`{name}` is a label map: write `{name}({selectors})`");
+    }
+    let points = points_of(alloc, text)?;
+    format!(in alloc; "there is no point `{name}`; the points are {points}")
+}
+
+// Of a label by a map, of which the name, the selector and a second one are given.
+fn table_label(
     alloc: Global,
     text: &Text,
+    module: &Module,
     case: &Case,
-    has_second: bool,
+    label: (&[u8], &[u8], Option<&[u8]>),
 ) -> Result<String, AllocError> {
-    let name = shown(alloc, case.name())?;
-    if text.maps.iter().any(|map| map.name.bytes() == case.name()) {
-        let wanted = if has_second {
-            "one signal"
-        } else {
-            "two signals"
-        };
-        return format!(in alloc; "the label map `{name}` picks its row by {wanted}");
+    let (map, first, second) = label;
+    let Some(found) = map_named(text, map) else {
+        return unknown_map(alloc, text, map);
+    };
+    if !is_signal(module, first) {
+        return no_selector(alloc, module, first, map);
     }
+    if let Some(second) = second {
+        if !is_signal(module, second) {
+            return no_selector(alloc, module, second, map);
+        }
+    }
+    if found.second.is_some() != second.is_some() {
+        return wrong_count(alloc, map, found.second.is_some());
+    }
+    let name = shown(alloc, case.name())?;
+    let map = shown(alloc, map)?;
+    format!(in alloc;
+        "`{name}` has not as many bits as the range of the label map `{map}`, whose row it picks"
+    )
+}
+
+// Whether a name in a module is a signal's.
+fn is_signal(module: &Module, name: &[u8]) -> bool {
+    matches!(first_declaration(module, name), Some(Declared::Signal(_)))
+}
+
+// Of a map that there is not.
+fn unknown_map(alloc: Global, text: &Text, map: &[u8]) -> Result<String, AllocError> {
+    let name = shown(alloc, map)?;
     let mut row = Row::new(alloc);
     for map in &text.maps {
         row.add(map.name.bytes(), "")?;
@@ -200,23 +254,41 @@ fn map_in_label(
     format!(in alloc; "there is no label map `{name}`; the label maps are: {maps}")
 }
 
-// Of a selector of a label.
-fn selector(alloc: Global, module: &Module, case: &Case, map: &[u8]) -> Result<String, AllocError> {
-    let name = shown(alloc, case.name())?;
+// Of a selector too many or too few.
+fn wrong_count(alloc: Global, map: &[u8], is_double: bool) -> Result<String, AllocError> {
+    let name = shown(alloc, map)?;
+    let wanted = if is_double {
+        "two signals"
+    } else {
+        "one signal"
+    };
+    format!(in alloc; "the label map `{name}` picks its row by {wanted}")
+}
+
+// Of a selector that is no signal.
+fn no_selector(
+    alloc: Global,
+    module: &Module,
+    name: &[u8],
+    map: &[u8],
+) -> Result<String, AllocError> {
+    let declared = first_declaration(module, name);
+    let name = shown(alloc, name)?;
     let map = shown(alloc, map)?;
-    let around = shown(alloc, module.name.bytes())?;
-    match first_declaration(module, case.name()) {
-        Some(Declared::Signal(_)) => format!(in alloc;
-            "`{name}` has not as many bits as the range of \
-            the label map `{map}`, whose row it picks"
+    match declared {
+        Some(Declared::Parameter(_)) => format!(in alloc;
+            "a signal picks the row of the label map `{map}`, and `{name}` is a parameter: make \
+            it an input, linked to a constant"
         ),
         Some(_) => format!(in alloc;
-            "a signal picks the row of the label map `{map}`, and `{name}` \
-            is none"
+            "a signal picks the row of the label map `{map}`, and `{name}` is none"
         ),
-        None => format!(in alloc;
-            "there is no signal `{name}` in module `{around}`, to pick the row \
-            of the label map `{map}`"
-        ),
+        None => {
+            let around = shown(alloc, module.name.bytes())?;
+            format!(in alloc;
+                "there is no signal `{name}` in module `{around}`, to pick the row of the label \
+                map `{map}`"
+            )
+        }
     }
 }

@@ -1,6 +1,6 @@
 // What is said of wrong lines of stimuli and certificates.
 use crate::origins::Origin;
-use crate::rows::Row;
+use crate::rows::{Row, file_name, shown};
 use crate::said::owned;
 use std::alloc::{AllocError, Global};
 use sv_design::Design;
@@ -21,7 +21,7 @@ fn line_words(
         (StimSource::FileB, Command::Compare { b, .. }) => b.as_str(),
         _ => return format!(in alloc; "line {line} of the input"),
     };
-    let name = name.escape_debug();
+    let name = file_name(alloc, name)?;
     format!(in alloc; "{name}:{line}:1")
 }
 
@@ -81,7 +81,7 @@ fn header_of(alloc: Global, design: &Design) -> Result<String, AllocError> {
     for input in design.inputs() {
         if let Some(signal) = signal_of(design, *input) {
             header.push(' ')?;
-            let name = String::from_utf8_lossy(alloc, signal.name.bytes())?;
+            let name = shown(alloc, signal.name.bytes())?;
             header.push_str(name.as_str())?;
         }
     }
@@ -112,7 +112,7 @@ pub fn proof(alloc: Global, command: &Command, line: u64) -> Result<String, Allo
         Command::Verify { proof, .. } => proof.as_str(),
         _ => "certificate",
     };
-    let name = name.escape_debug();
+    let name = file_name(alloc, name)?;
     let words = match line {
         1 => "a certificate begins with the line `secv-proof 1`",
         2 => {

@@ -1,0 +1,240 @@
+// Where a token stands: what is before it, and what is open there.
+use sv_num::Place;
+use sv_token::{Token, TokenKind, WordKind};
+
+/// A token of a text by its place, with those before it and those behind it; the end of the text
+/// where no token has the place.
+#[derive(Clone, Copy)]
+pub struct Spot<'a> {
+    pub text: &'a [u8],
+    pub here: Option<&'a Token>,
+    pub front: &'a [Token],
+    pub behind: &'a [Token],
+}
+
+/// The bytes of a token.
+pub fn bytes_of<'a>(text: &'a [u8], token: &Token) -> &'a [u8] {
+    text.get(token.start..token.end).unwrap_or(b"")
+}
+
+/// The token at a place.
+pub fn spot_at<'a>(text: &'a [u8], tokens: &'a [Token], place: Place) -> Spot<'a> {
+    for (number, token) in tokens.iter().enumerate() {
+        if token.place == place {
+            return Spot {
+                text,
+                here: Some(token),
+                front: tokens.get(..number).unwrap_or(&[]),
+                behind: behind(tokens.get(number..).unwrap_or(&[])),
+            };
+        }
+    }
+    Spot {
+        text,
+        here: None,
+        front: tokens,
+        behind: &[],
+    }
+}
+
+// What stands behind the first.
+fn behind(tokens: &[Token]) -> &[Token] {
+    match tokens {
+        [_, behind @ ..] => behind,
+        [] => &[],
+    }
+}
+
+// What a token does to the forms that are open.
+#[derive(Clone, Copy)]
+enum Nesting {
+    Opens,
+    Shuts,
+    Neither,
+}
+
+fn nesting_of(bytes: &[u8]) -> Nesting {
+    match bytes {
+        b"(" | b"[" | b"{" | b"begin" | b"case" => Nesting::Opens,
+        b")" | b"]" | b"}" | b"end" | b"endcase" => Nesting::Shuts,
+        _ => Nesting::Neither,
+    }
+}
+
+/// The number of the last token among these that opens what none of them shuts: a bracket, a
+/// `begin` or a `case`.
+pub fn last_open(text: &[u8], tokens: &[Token]) -> Option<usize> {
+    let mut shut = 0usize;
+    for number in (0..tokens.len()).rev() {
+        match nesting_of(bytes_at(text, tokens, Some(number))) {
+            Nesting::Opens => match shut.checked_sub(1) {
+                Some(less) => shut = less,
+                None => return Some(number),
+            },
+            Nesting::Shuts => shut = shut.saturating_add(1),
+            Nesting::Neither => {}
+        }
+    }
+    None
+}
+
+/// The bytes of the token of a number; none where there is no such token.
+pub fn bytes_at<'a>(text: &'a [u8], tokens: &[Token], number: Option<usize>) -> &'a [u8] {
+    match number {
+        Some(number) => match tokens.get(number) {
+            Some(token) => bytes_of(text, token),
+            None => b"",
+        },
+        None => b"",
+    }
+}
+
+// The token so many before the one of a number.
+fn kind_before(tokens: &[Token], number: usize, count: usize) -> Option<TokenKind> {
+    let token = tokens.get(number.checked_sub(count)?)?;
+    Some(token.kind)
+}
+
+/// Whether the word begins a declaration of signals, or stands in one before their names.
+pub fn is_type_word(kind: TokenKind) -> bool {
+    matches!(
+        kind,
+        TokenKind::Word(
+            WordKind::Input | WordKind::Output | WordKind::Wire | WordKind::Reg | WordKind::Signed
+        )
+    )
+}
+
+/// Whether the bracket of a number opens a label: a brace behind a word of a declaration, or behind
+/// its range.
+pub fn opens_label(text: &[u8], tokens: &[Token], number: usize) -> bool {
+    if bytes_at(text, tokens, Some(number)) != b"{".as_slice() {
+        return false;
+    }
+    match kind_before(tokens, number, 1) {
+        Some(kind) if is_type_word(kind) => true,
+        _ => bytes_at(text, tokens, number.checked_sub(1)) == b"]".as_slice(),
+    }
+}
+
+/// Whether the parenthesis of a number opens the selectors of a label: it stands behind a brace and
+/// a name.
+pub fn opens_selectors(text: &[u8], tokens: &[Token], number: usize) -> bool {
+    bytes_at(text, tokens, Some(number)) == b"(".as_slice()
+        && matches!(kind_before(tokens, number, 1), Some(TokenKind::Name))
+        && bytes_at(text, tokens, number.checked_sub(2)) == b"{".as_slice()
+}
+
+/// Whether the parenthesis of a number opens a list, of ports, parameters, links or selectors, and
+/// no single expression.
+pub fn opens_list(text: &[u8], tokens: &[Token], number: usize) -> bool {
+    match bytes_at(text, tokens, number.checked_sub(1)) {
+        b"#" | b")" => true,
+        _ => {
+            matches!(kind_before(tokens, number, 1), Some(TokenKind::Name))
+                && bytes_at(text, tokens, number.checked_sub(2)) != b".".as_slice()
+        }
+    }
+}
+
+/// Whether a declaration of signals goes on behind these tokens: a port's, a `wire`'s or a `reg`'s,
+/// up to its value.
+pub fn are_declaring(text: &[u8], tokens: &[Token]) -> bool {
+    let mut is_header = false;
+    let mut declares = false;
+    for token in tokens {
+        match token.kind {
+            TokenKind::Word(WordKind::Module) => {
+                is_header = true;
+                declares = false;
+            }
+            TokenKind::Word(_) => declares = declares_behind(declares, token.kind),
+            _ => match bytes_of(text, token) {
+                b";" => {
+                    is_header = false;
+                    declares = false;
+                }
+                b"=" => declares = false,
+                b"(" => declares = declares || is_header,
+                _ => {}
+            },
+        }
+    }
+    declares
+}
+
+// Whether a declaration goes on behind a word.
+fn declares_behind(before: bool, kind: TokenKind) -> bool {
+    match kind {
+        TokenKind::Word(WordKind::Signed) => before,
+        _ => is_type_word(kind),
+    }
+}
+
+/// Whether a module begins among these tokens.
+pub fn hold_module(tokens: &[Token]) -> bool {
+    tokens.iter().any(|token| matches!(token.kind, TokenKind::Word(WordKind::Module)))
+}
+
+/// Whether the tokens are before an item or a statement, where a form may begin.
+pub fn are_before_form(text: &[u8], tokens: &[Token]) -> bool {
+    let Some(last) = tokens.last() else {
+        return true;
+    };
+    match bytes_of(text, last) {
+        b";"
+        | b")"
+        | b":"
+        | b"*"
+        | b"begin"
+        | b"end"
+        | b"endcase"
+        | b"else"
+        | b"endmodule"
+        | b"endlattice"
+        | b"endlabelmap" => true,
+        _ => are_before_block(text, tokens),
+    }
+}
+
+// Whether the last of them is the name of a block.
+fn are_before_block(text: &[u8], tokens: &[Token]) -> bool {
+    let count = tokens.len();
+    bytes_at(text, tokens, count.checked_sub(2)) == b":".as_slice()
+        && bytes_at(text, tokens, count.checked_sub(3)) == b"begin".as_slice()
+}
+
+/// Whether the tokens are before an event: in the parentheses behind an `@`.
+pub fn are_before_event(text: &[u8], tokens: &[Token]) -> bool {
+    match last_open(text, tokens) {
+        Some(number) => bytes_at(text, tokens, number.checked_sub(1)) == b"@".as_slice(),
+        None => false,
+    }
+}
+
+/// Whether the name at a place stands in the value of the parameter whose name is at another one.
+pub fn is_in_value(text: &[u8], tokens: &[Token], parameter: Place, place: Place) -> bool {
+    let mut depth = 0i64;
+    let mut inside = false;
+    for token in tokens {
+        if token.place == place {
+            return inside;
+        }
+        if token.place == parameter {
+            inside = true;
+        } else if inside {
+            match nesting_of(bytes_of(text, token)) {
+                Nesting::Opens => depth = depth.saturating_add(1),
+                Nesting::Shuts => depth = depth.saturating_sub(1),
+                Nesting::Neither => {}
+            }
+            inside = depth >= 0 && !(depth == 0 && ends_value(bytes_of(text, token)));
+        }
+    }
+    false
+}
+
+// Whether a token ends the value of a parameter.
+fn ends_value(bytes: &[u8]) -> bool {
+    matches!(bytes, b"," | b";")
+}

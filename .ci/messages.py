@@ -64,6 +64,14 @@ TEXTS = [
     ("module m(input a, @@{H} b);" + END, "", "`{` cannot stand behind `,`: a further name has the label of the one before; declare it on its own"),
     ("module m(@@{H} input a);" + END, "", "`{` cannot stand behind `(`: a label stands behind the range, right before the name"),
     (GIVEN + "wire c @@{H};" + END, "", "`{` cannot stand behind `c`: a label stands behind the range, right before the name"),
+    (CLOCKED + "q @@<= d;" + END, "", "`<=` cannot stand behind `q`: an assignment stands in an `always`, or behind `assign`"),
+    (CLOCKED + "assign w = d;\n  q @@= d;" + END, "", "`=` cannot stand behind `q`: an assignment stands in an `always`, or behind `assign`"),
+    ("module m(input a @@= 1);" + END, "", "`=` cannot stand behind `a`"),
+    (GIVEN + "logic c@@;" + END, "", "`;` cannot stand behind `c`: `logic` is left out: declare a `wire` or a `reg`"),
+    (GIVEN + "logic @@[3:0] c;" + END, "", "`[` cannot stand behind `logic`: `logic` is left out: declare a `wire` or a `reg`"),
+    ("module m(input logic @@a);" + END, "", "`a` cannot stand behind `logic`: `logic` is left out: declare a `wire` or a `reg`"),
+    (CLOCKED + "always_ff @@@(posedge clk) q <= d;" + END, "", "`@` cannot stand behind `always_ff`: write `always @(posedge clk)`"),
+    (CLOCKED + "always_comb @@begin q = d; end" + END, "", "`begin` cannot stand behind `always_comb`: write `always @*`"),
     (GIVEN + "assign y = {a} @@[0];" + END, "", "`[` cannot stand behind `}`"),
     (GIVEN + "assign y = a @@{b};" + END, "", "`{` cannot stand behind `a`"),
     (LANES + "module m(input {Dom(@@1)} z);" + END, "", "`1` cannot stand behind `(`: a signal picks the row of a label map; for a constant write the point"),
@@ -136,12 +144,18 @@ TEXTS = [
     ("module a; b u(); endmodule\nmodule b; @@a v(); endmodule\n", "--top a", "with this instance the module `a` would stand inside itself, without end"),
     ("module m; wire " + ", ".join(f"a{i}" for i in range(4096)) + ", @@b;" + END, "", "this is the 4,097th signal of the whole design, its instances "
      "included, and 4,096 there may be"),
-    (USE + "s #(.@@Z(1)) u(a, y);" + END, "", "the module `s` has no parameter `Z`"),
+    (USE + "s #(.@@Z(1)) u(a, y);" + END, "", "the module `s` has no parameter `Z`; those that may be set are `P`, `Q`"),
+    ("module s(input i); parameter P = 1; localparam R = 2; endmodule\nmodule t(input a);\n  s #(1, @@2) u(a);" + END, "", "this is a value too many: the "
+     "parameters of the module `s` that may be set are `P`"),
     (USE + "s #(.P(1), .@@P(2)) u(a, y);" + END, "", "the parameter `P` is set twice, first at 6:8"),
     (USE + "s #(.@@R(1)) u(a, y);" + END, "", "the parameter `R` is local, at 2:14, so no instance sets it: declare it in the header, `module s "
      "#(parameter R = ..)`"),
-    (USE + "s #(1, 2, @@3) u(a, y);" + END, "", "this is a value too many: more are given than the module `s` has parameters that may be set"),
+    (USE + "s #(1, 2, @@3) u(a, y);" + END, "", "this is a value too many: the parameters of the module `s` that may be set are `P`, `Q`"),
     (GIVEN + "assign y = @@c;" + END, "", "there is no signal or parameter `c` in module `m`: declare it, as in `wire c;`"),
+    (GIVEN + "wire [@@V-1:0] c;" + END, "", "there is no signal or parameter `V` in module `m`: declare it, as in `parameter V = 8;`"),
+    (GIVEN + "always @* @@r = a;" + END, "", "there is no signal or parameter `r` in module `m`: declare it, as in `reg r;`"),
+    ("module m(input a, output reg y);\n  always @(posedge @@c) y <= a;" + END, "", "there is no signal or parameter `c` in module `m`: declare it, as in "
+     "`input c`"),
     (GIVEN + "parameter P = 1;\n  assign @@P = a;" + END, "", "`P` is a parameter, and a signal is wanted here"),
     (GIVEN + "wire [@@P:0] c; parameter P = 1;" + END, "", "the parameter `P` is declared later, at 2:27: declare it before it is used"),
     (GIVEN + "assign y = @@" + "c" * 200 + ";" + END, "", f"there is no signal or parameter `{'c' * 50}...{'c' * 27}` in module `m`: declare it, as in `wire "
@@ -192,6 +206,8 @@ TEXTS = [
      + END, "", "the clock `u.c` is driven at 2:10: " + ALONE),
     ("module s(input @@c, d, output reg q);\n  always @(posedge c) q <= d;\nendmodule\nmodule m(input a, b, d, output x, y);\n  s u(a, d, x), v(b, d, y);" + END,
      "", "the clock `u.c` is `a` of 4:16, and `b` of 4:19 is a clock, too: a design has one; let an enable decide in the block"),
+    ("module s(input @@c, d, output reg q);\n  always @(posedge c) q <= d;\nendmodule\nmodule m(input a, d, output x);\n  s u(~a, d, x);" + END, "", "the clock "
+     "`u.c` of the instance at 5:5 is linked to no whole signal: link it to the clock around it"),
     ("module m(input {H} @@c, input d, output reg q, r);\n  always @(posedge c) q <= 0;\n  always @(posedge d) r <= 0;" + END, "", "the clock `c` has a label: "
      "everybody sees the time, so a clock is public; take its label away"),
     ("module m(input a, output y);\n  assign y = a;\n  assign @@y = ~a;" + END, "", "`y` has a driver already, at 2:10: assign all its bits in one `always` or "
@@ -236,7 +252,8 @@ RUNS = [
     ("compare f a a --level Q", "", "secv: f: there is no point `Q`, which `--level` names; the points are `L`, `H`\n"),
     ("cnf f 99", "", "secv: f: the design has the obligations 1 to 3, and none has the number 99\n"),
     ("verify f a", "", "a:1:1: a certificate begins with the line `secv-proof 1`\n"),
-    ("verify f b", "", "b:2:1: the line `obligations N` is to name as many as the design has: make the certificate anew, by `secv check FILE --proof NAME`\n"),
+    ("verify f b", "", "b:2:1: the line `obligations N` is to name as many as the design has: if `check` accepts the design, make the "
+     "certificate anew, by `secv check FILE --proof NAME`\n"),
     ("gen 201", "", "secv: a sample has 1 to 200 lanes, and not 201\n"),
     ("check large", "", "secv: large: the file has over 1,048,576 bytes, which is the most: leave out modules that the top has no instance of\n"),
     ("list f", "", ""),

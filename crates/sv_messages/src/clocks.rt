@@ -1,4 +1,5 @@
 // What is said of clocks that are not as a clock is to be.
+use crate::drivers::instance_words;
 use crate::rows::shown;
 use crate::said::Case;
 use crate::uses::{driven_at, link_in, read_at, signal_named};
@@ -13,7 +14,7 @@ pub fn clock(alloc: Global, case: &Case) -> Result<String, AllocError> {
     if let Some(flat) = case.origin.flat(alloc) {
         if let Some(number) = signal_named(&flat, case.name()) {
             if let Some(signal) = flat.signals.get(number) {
-                return clock_fault(alloc, &flat, number, signal, name.as_str());
+                return clock_fault(alloc, case, &flat, number, signal, name.as_str());
             }
         }
     }
@@ -64,6 +65,7 @@ fn other_clock(flat: &Flat, top: usize, number: usize) -> Option<usize> {
 // What is wrong with a clock.
 fn clock_fault(
     alloc: Global,
+    case: &Case,
     flat: &Flat,
     number: usize,
     signal: &Signal,
@@ -80,9 +82,9 @@ fn clock_fault(
         return format!(in alloc; "the clock `{name}` has {width} bits, and a clock has 1");
     }
     if signal.kind == SigKind::Input && linked_to(flat, number).is_none() {
+        let at = instance_words(alloc, case)?;
         return format!(in alloc;
-            "the clock `{name}` of this instance is linked to no whole signal: \
-            link it to the clock around it"
+            "the clock `{name}`{at} is linked to no whole signal: link it to the clock around it"
         );
     }
     if let Some(top) = top_of(flat, number) {

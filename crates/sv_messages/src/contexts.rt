@@ -238,3 +238,42 @@ pub fn is_in_value(text: &[u8], tokens: &[Token], parameter: Place, place: Place
 fn ends_value(bytes: &[u8]) -> bool {
     matches!(bytes, b"," | b";")
 }
+
+/// How a name at a spot is used: as a clock, as a bound of a range in a declaration, as what a
+/// statement assigns, or as a value.
+#[derive(Clone, Copy)]
+pub enum Use {
+    Clock,
+    Bound,
+    Register,
+    Value,
+}
+
+/// How the name at a spot is used.
+pub fn use_at(spot: Spot) -> Use {
+    let count = spot.front.len();
+    if bytes_at(spot.text, spot.front, count.checked_sub(1)) == b"posedge".as_slice() {
+        return Use::Clock;
+    }
+    if is_bound(spot) {
+        return Use::Bound;
+    }
+    match bytes_at(spot.text, spot.behind, Some(0)) {
+        b"=" | b"<=" if are_before_form(spot.text, spot.front) => Use::Register,
+        _ => Use::Value,
+    }
+}
+
+// Whether a spot is in the range of a declaration.
+fn is_bound(spot: Spot) -> bool {
+    let Some(number) = last_open(spot.text, spot.front) else {
+        return false;
+    };
+    if bytes_at(spot.text, spot.front, Some(number)) != b"[".as_slice() {
+        return false;
+    }
+    match kind_before(spot.front, number, 1) {
+        Some(kind) => is_type_word(kind),
+        None => false,
+    }
+}

@@ -165,8 +165,8 @@ fn input_fault(
     }
 }
 
-// The words that tell the instance in which the signal of a case stands.
-fn instance_words(alloc: Global, case: &Case) -> Result<String, AllocError> {
+/// The words that tell the instance in which the signal of a case stands.
+pub fn instance_words(alloc: Global, case: &Case) -> Result<String, AllocError> {
     let text = case.origin.tree(alloc);
     let place = match &text {
         Some(text) => match instance_of(text, case.origin.top, case.name()) {

@@ -85,7 +85,8 @@ pub fn obligations(alloc: Global, case: &Case) -> Result<Said, AllocError> {
     let file = file_name(alloc, case.origin.file)?;
     let words = format!(in alloc;
         "{file}: the design has over 65,536 obligations, which are the most: \
-        check its modules one by one, by `--top MODULE`"
+        split blocks that have many paths; a module that `--top MODULE` checks alone tells nothing \
+        of the whole"
     )?;
     Ok(Said::nowhere(words))
 }

@@ -184,10 +184,11 @@ fn parameter_of(
     master: &Module,
 ) -> Result<String, AllocError> {
     let module = shown(alloc, master.name.bytes())?;
+    let settable = settable_of(alloc, master)?;
     if case.names.is_empty() {
         return format!(in alloc;
-            "this is a value too many: more are given than the module `{module}` \
-            has parameters that may be set"
+            "this is a value too many: the parameters of the module `{module}` that may be set \
+            are {settable}"
         );
     }
     let name = shown(alloc, case.name())?;
@@ -201,8 +202,30 @@ fn parameter_of(
                 sets it: declare it in the header, `module {module} #(parameter {name} = ..)`"
             )
         }
-        _ => format!(in alloc; "the module `{module}` has no parameter `{name}`"),
+        _ => format!(in alloc;
+            "the module `{module}` has no parameter `{name}`; those that may be set are {settable}"
+        ),
     }
+}
+
+// The parameters of a module that an instance may set, in a row: those of the header or, where it
+// has none, those of the body.
+fn settable_of(alloc: Global, master: &Module) -> Result<String, AllocError> {
+    let mut row = Row::new(alloc);
+    for param in &master.params {
+        if !param.local {
+            row.add(param.name.bytes(), "")?;
+        }
+    }
+    if master.params.is_empty() {
+        for item in &master.items {
+            match item {
+                Item::Param(param) if !param.local => row.add(param.name.bytes(), "")?,
+                _ => {}
+            }
+        }
+    }
+    row.finish()
 }
 
 // The place of an earlier value of the parameter that is set by name at the case's place.

@@ -1,7 +1,7 @@
 // What is said of names: unknown ones, those declared twice, and labels.
-use crate::contexts::is_in_value;
+use crate::contexts::{Use, is_in_value, spot_at, use_at};
 use crate::maps::points_of;
-use crate::origins::{is_up_to, module_at};
+use crate::origins::{Origin, is_up_to, module_at};
 use crate::rows::{Row, shown};
 use crate::said::{Case, owned};
 use std::alloc::{AllocError, Global};
@@ -129,11 +129,23 @@ pub fn unknown_name(alloc: Global, case: &Case) -> Result<String, AllocError> {
         }
         _ => {
             let around = shown(alloc, module.name.bytes())?;
+            let (before, behind) = declaration_at(&case.origin, alloc, case.place);
             format!(in alloc;
                 "there is no signal or parameter `{name}` in module `{around}`: declare \
-                it, as in `wire {name};`"
+                it, as in `{before} {name}{behind}`"
             )
         }
+    }
+}
+
+// What stands before and behind a name in a declaration that makes it fit where it is used.
+fn declaration_at(origin: &Origin, alloc: Global, place: Place) -> (&'static str, &'static str) {
+    let tokens = origin.tokens(alloc);
+    match use_at(spot_at(origin.text, &tokens, place)) {
+        Use::Clock => ("input", ""),
+        Use::Bound => ("parameter", " = 8;"),
+        Use::Register => ("reg", ";"),
+        Use::Value => ("wire", ";"),
     }
 }
 

@@ -116,12 +116,12 @@ pub fn proof(alloc: Global, command: &Command, line: u64) -> Result<String, Allo
     let words = match line {
         1 => "a certificate begins with the line `secv-proof 1`",
         2 => {
-            "the line `obligations N` is to name as many as the design has: make the certificate \
-             anew, by `secv check FILE --proof NAME`"
+            "the line `obligations N` is to name as many as the design has: if `check` accepts the \
+             design, make the certificate anew, by `secv check FILE --proof NAME`"
         }
         _ => {
             "this line has not the form of a certificate, or does not follow from the lines \
-             before: make the certificate anew from this design"
+             before: if `check` accepts the design, make the certificate anew"
         }
     };
     format!(in alloc; "{name}:{line}:1: {words}\n")

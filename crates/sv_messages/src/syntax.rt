@@ -159,6 +159,9 @@ fn misplaced(spot: Spot, here: &Token, before: &Token) -> Option<&'static str> {
         }
         _ => {}
     }
+    if let Some(hint) = foreign(spot, here) {
+        return Some(hint);
+    }
     if is_label_late(spot, here) && bytes_of(spot.text, before) == b",".as_slice() {
         return Some(": a further name has the label of the one before; declare it on its own");
     }
@@ -166,6 +169,46 @@ fn misplaced(spot: Spot, here: &Token, before: &Token) -> Option<&'static str> {
         Some(": a label stands behind the range, right before the name")
     } else {
         None
+    }
+}
+
+// Of words of SystemVerilog, which are read as names where an item or a declaration begins, and of
+// an assignment outside a block.
+fn foreign(spot: Spot, here: &Token) -> Option<&'static str> {
+    let (name, front) = spot.front.split_last()?;
+    if matches!(name.kind, TokenKind::Name) && begins_item(spot, front) {
+        match bytes_of(spot.text, name) {
+            b"logic" => return Some(LOGIC),
+            b"always_comb" => return Some(": write `always @*`"),
+            b"always_ff" => return Some(": write `always @(posedge clk)`"),
+            _ if is_assignment(spot, here, front) => {
+                return Some(": an assignment stands in an `always`, or behind `assign`");
+            }
+            _ => {}
+        }
+    }
+    let (word, front) = front.split_last()?;
+    if bytes_of(spot.text, word) == b"logic".as_slice() && begins_item(spot, front) {
+        Some(LOGIC)
+    } else {
+        None
+    }
+}
+
+// Whether a token is the sign of an assignment in a module whose target begins behind these tokens.
+fn is_assignment(spot: Spot, here: &Token, front: &[Token]) -> bool {
+    matches!(bytes_of(spot.text, here), b"=" | b"<=")
+        && hold_module(front)
+        && are_before_form(spot.text, front)
+}
+
+const LOGIC: &str = ": `logic` is left out: declare a `wire` or a `reg`";
+
+// Whether an item or a declaration begins, or its type goes on, behind these tokens.
+fn begins_item(spot: Spot, front: &[Token]) -> bool {
+    match front.last() {
+        Some(last) if is_type_word(last.kind) => true,
+        _ => are_before_form(spot.text, front),
     }
 }
 

@@ -169,13 +169,19 @@ TEXTS = [
     (POINTS + "module m(input {@@Q} z);" + END, "", "there is no point `Q`; the points are " + ", ".join(f"`P{i}`" for i in range(32))),
     (LANES + "module m(input {@@Dom} z);" + END, "", "`Dom` is a label map: write `Dom(SIGNAL)`"),
     ("labelmap T [0:0] [0:0] default: L; endlabelmap\nmodule m(input {@@T} z);" + END, "", "`T` is a label map: write `T(SIGNAL, SIGNAL)`"),
-    (LANES + "module m(input Dom, input {@@Dom(Dom)} z);" + END, "", "`Dom` has not as many bits as the range of the label map `Dom`, whose row it picks"),
+    (LANES + "module m(input Dom, input {@@Dom(Dom)} z);" + END, "", "the range of the label map `Dom` has 2 bits, and `Dom`, which picks its row, has not"),
     (LANES + "module m #(parameter dom = 1) (input {@@Dom(dom)} z);" + END, "", "a signal picks the row of the label map `Dom`, and `dom` is a parameter: make "
      "it an input, linked to a constant"),
     ("module m(input a, input {@@Q} z);" + END, "", "there is no point `Q`; the points are `L`, `H`"),
     (LANES + "module m(input [1:0] a, input {@@Lane(a)} z);" + END, "", "there is no label map `Lane`; the label maps are: `Dom`"),
     (LANES + "module m(input [1:0] a, input {@@Dom(b)} z);" + END, "", "there is no signal `b` in module `m`, to pick the row of the label map `Dom`"),
-    (LANES + "module m(input a, input {@@Dom(a)} z);" + END, "", "`a` has not as many bits as the range of the label map `Dom`, whose row it picks"),
+    (LANES + "module m(input a, input {@@Dom(a)} z);" + END, "", "the range of the label map `Dom` has 2 bits, and `a`, which picks its row, has not"),
+    ("labelmap T [0:0] [1:0] default: L; endlabelmap\nmodule m(input a, b, input {@@T(a, b)} z);" + END, "", "the range of the label map `T` has 2 bits, and `b`, "
+     "which picks its row, has not"),
+    ("labelmap T [0:0] [1:0] default: L; endlabelmap\nmodule m(input [1:0] a, b, input {@@T(a, b)} z);" + END, "", "the range of the label map `T` has 1 bit, and "
+     "`a`, which picks its row, has more"),
+    ("labelmap T [0:0] [1:0] default: L; endlabelmap\nmodule m(input [1:0] a, input {@@T(a, a)} z);" + END, "", "`a` has not as many bits as the range of the "
+     "label map `T`, whose row it picks"),
     (LANES + "module m(input [1:0] a, input {@@Dom(a, a)} z);" + END, "", "the label map `Dom` picks its row by one signal"),
     (CLOCKED + "assign w = d; always @(posedge clk) @@q = d;" + END, "", "`q` is assigned by `=` at a clock edge: write `<=`, by which all registers take "
      "their values together"),

@@ -156,9 +156,9 @@ fn count_of(span: &Span) -> Option<u64> {
     }
 }
 
-// How many numbers the ranges of a map have, 1 for a second one that there is not; None where they
-// are wrong.
-fn counts_of(map: &MapText) -> Option<(u64, u64)> {
+/// How many numbers the ranges of a map have, 1 for a second one that there is not; None where they
+/// are wrong.
+pub fn counts_of(map: &MapText) -> Option<(u64, u64)> {
     let counts = each_count(map)?;
     if counts.0.saturating_mul(counts.1) <= LARGEST_MAP {
         Some(counts)

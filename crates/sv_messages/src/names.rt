@@ -1,6 +1,6 @@
 // What is said of names: unknown ones, those declared twice, and labels.
 use crate::contexts::{Use, is_in_value, spot_at, use_at};
-use crate::maps::points_of;
+use crate::maps::{counts_of, points_of};
 use crate::origins::{Origin, is_up_to, module_at};
 use crate::rows::{Row, shown};
 use crate::said::{Case, owned};
@@ -245,9 +245,39 @@ fn table_label(
     }
     let name = shown(alloc, case.name())?;
     let map = shown(alloc, map)?;
-    format!(in alloc;
-        "`{name}` has not as many bits as the range of the label map `{map}`, whose row it picks"
-    )
+    match count_at(found, case.name(), first, second) {
+        Some(2) => format!(in alloc;
+            "the range of the label map `{map}` has 1 bit, and `{name}`, which picks its row, has \
+            more"
+        ),
+        Some(count) => {
+            let bits = count.trailing_zeros();
+            format!(in alloc;
+                "the range of the label map `{map}` has {bits} bits, and `{name}`, which picks its \
+                row, has not"
+            )
+        }
+        None => format!(in alloc;
+            "`{name}` has not as many bits as the range of the label map `{map}`, whose row it \
+            picks"
+        ),
+    }
+}
+
+// How many numbers the range of a map has of which a selector picks one; None where it stands for
+// two of different ranges.
+fn count_at(map: &MapText, name: &[u8], first: &[u8], second: Option<&[u8]>) -> Option<u64> {
+    let counts = counts_of(map)?;
+    let is_second = match second {
+        Some(second) => second == name,
+        None => false,
+    };
+    match (first == name, is_second) {
+        (true, true) if counts.0 != counts.1 => None,
+        (true, _) => Some(counts.0),
+        (false, true) => Some(counts.1),
+        (false, false) => None,
+    }
 }
 
 // Whether a name in a module is a signal's.

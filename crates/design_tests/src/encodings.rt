@@ -1,20 +1,22 @@
 // The encoding of an obligation with facts, whose goal is that an expression holds: it can be met
-// at the values alone that falsify the obligation. And what a coder makes of obligations that begin
-// with equal conditions: the encoding of each alone.
-ghost use Rattle.std.specs.Prelude.{All, IfOk, IsTrue};
+// at the values alone that falsify the obligation, and what meets it there is decoded to them. And
+// what a coder makes of obligations that begin with equal conditions: the encoding of each alone.
+ghost use Rattle.std.specs.Prelude.{◌≡◌, All, IfOk, IsTrue, length};
 ghost use Rattle.sv_flat.specs.Views.{design_of};
 ghost use Rattle.sv_obl.specs.DesignQueries.{IsQueryOf};
 ghost use Rattle.sv_obl.specs.Views.{obligation_of};
+ghost use Rattle.sv_blast.specs.Coded.{encoding_of};
 ghost use Rattle.sv_blast.specs.Coders.{IsCoder};
+ghost use Rattle.sv_blast.specs.Decoded.{IsDecodable};
 ghost use Rattle.sv_solve.specs.Answers.{IsWithin};
 
 use crate::texts::design;
 use std::alloc::Global;
 use std::test::Fail;
-use sv_blast::{BitPlace, Coder, clause_lines, encode};
+use sv_blast::{BitPlace, Coded, Coder, clause_lines, decode, encode};
 use sv_clause::Clause;
 use sv_design::Design;
-use sv_obl::{Bodies, Frame, Goal, Query, obligations};
+use sv_obl::{Bodies, Frame, Goal, Query, Valuation, obligations};
 use sv_solve::{Solved, is_within, solve};
 
 // The first obligation has three conditions: of these the facts and the goal are made.
@@ -89,20 +91,70 @@ fn are_within(variables: u32, clauses: &[Clause]) -> bool
     clauses.iter().all(|clause| is_within(variables, clause))
 }
 
-// Whether the clauses of an obligation can be met at values.
-fn met(alloc: Global, design: &Design, query: &Query, values: u64) -> Result<bool, Fail>
-    requires { IsQueryOf (design_of design.now) (obligation_of query.now) }
-{
-    let coded = encode(alloc, design, query)?;
-    let mut clauses = coded.clauses;
+// The clauses of an encoding, and behind them those that give the bits their values.
+fn with_values(alloc: Global, coded: &Coded, values: u64) -> Result<Vec<Clause>, Fail> {
+    let mut clauses = Vec::new(alloc);
+    'clauses: for clause in &coded.clauses {
+        clauses.push(Clause::new(alloc, clause.literals())?.ok_or("no clause")?)?;
+    }
     'bits: for place in &coded.bits {
         clauses.push(unit(alloc, place, values)?)?;
     }
+    Ok(clauses)
+}
+
+// The values that are decoded.
+fn spelled(alloc: Global, design: &Design, coded: &Coded, found: &[bool]) -> Result<u64, Fail>
+    requires values { length found.now ≡ coded.now.variables }
+    requires bits { IsDecodable (design_of design.now) coded.now.variables
+        (encoding_of coded.now).bits }
+{
+    let registers = design.registers().len();
+    let inputs = design.inputs().len();
+    let mut into = Valuation {
+        regs: vec![in alloc; u64::MAX; registers]?,
+        inputs: vec![in alloc; u64::MAX; inputs]?,
+        next_inputs: vec![in alloc; u64::MAX; inputs]?,
+    };
+    decode(coded, design, found, &mut into);
+    let ([p, q], [a, b], [later_a, later_b]) = (
+        into.regs.as_slice(),
+        into.inputs.as_slice(),
+        into.next_inputs.as_slice(),
+    ) else {
+        return Err(Fail::from("there are two registers and two inputs"));
+    };
+    Ok(*a | *b << 1 | *p << 2 | *q << 3 | *later_a << 4 | *later_b << 5)
+}
+
+// The values of the bits that have a place: none is in the next cycle where the obligation is about
+// this one, and else that of a alone.
+fn placed(values: u64, frame: Frame) -> u64 {
+    match frame {
+        Frame::Now => values & 0b00_1111,
+        Frame::Next => values & 0b01_1111,
+    }
+}
+
+// Whether the clauses of an obligation can be met at values, and what meets them spells these.
+fn met(
+    alloc: Global,
+    design: &Design,
+    query: &Query,
+    values: u64,
+    frame: Frame,
+) -> Result<bool, Fail>
+    requires { IsQueryOf (design_of design.now) (obligation_of query.now) }
+{
+    let coded = encode(alloc, design, query)?;
+    let clauses = with_values(alloc, &coded, values)?;
     if !are_within(coded.variables, &clauses) {
         return Err(Fail::from("a literal is out of range"));
     }
     match solve(alloc, coded.variables, &clauses, 1000)? {
-        Solved::Found(_) => Ok(true),
+        Solved::Found(found) => {
+            Ok(spelled(alloc, design, &coded, &found)? == placed(values, frame))
+        }
         Solved::Refuted(_) => Ok(false),
         Solved::Spent(_) => Err(Fail::from("undecided")),
     }
@@ -116,7 +168,7 @@ fn agrees(alloc: Global, design: &Design, frame: Frame) -> Result<bool, Fail> {
     };
     let query = holds(alloc, design, first, frame)?;
     'values: for values in 0..64 {
-        if met(alloc, design, &query, values)? != falsified(values, frame) {
+        if met(alloc, design, &query, values, frame)? != falsified(values, frame) {
             return Ok(false);
         }
     }

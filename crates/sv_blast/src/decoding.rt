@@ -8,10 +8,10 @@ ghost use Rattle.sv_gates.specs.Formulas.{value_of};
 ghost use Rattle.sv_obl.specs.Valuations.{FitsDesign};
 ghost use Rattle.sv_encoding.specs.BothWays.{AreOfOneBit};
 ghost use Rattle.sv_encoding.specs.Valuations.{decoded, placed_value};
-ghost use Rattle.sv_blast.specs.Coded.{place_form};
+ghost use Rattle.sv_blast.specs.Coded.{place_form, encoding_of};
 ghost use Rattle.sv_blast.specs.Decoded.{IsDecodable, HasSizes, ListsValues};
 
-use crate::coded::BitPlace;
+use crate::coded::{BitPlace, Coded};
 use sv_design::Design;
 use sv_flat::SigId;
 use sv_obl::Valuation;
@@ -61,8 +61,9 @@ fn decode_listed(bits: &[BitPlace], next: bool, listed: &[SigId], values: &[bool
 }
 
 /// Gives a valuation the values that values of an encoding's variables spell, the first for
-/// variable 1: each bit by its place, and 0 where it has none. Takes no memory.
-pub fn decode(bits: &[BitPlace], design: &Design, values: &[bool], into: &mut Valuation)
+/// variable 1, by the places of its bits: each bit by its place, and 0 where it has none. Takes no
+/// memory. Who has the whole encoding calls `decode`.
+pub fn decode_places(bits: &[BitPlace], design: &Design, values: &[bool], into: &mut Valuation)
     requires bits { IsDecodable (design_of design.now) (length values.now)
         (map place_form bits.now) }
     requires sizes { HasSizes (design_of design.now) into.old }
@@ -75,4 +76,18 @@ pub fn decode(bits: &[BitPlace], design: &Design, values: &[bool], into: &mut Va
     decode_listed(bits, false, registers, values, into.regs.as_mut_slice());
     decode_listed(bits, false, inputs, values, into.inputs.as_mut_slice());
     decode_listed(bits, true, inputs, values, into.next_inputs.as_mut_slice());
+}
+
+/// Gives a valuation the values that values of an encoding's variables spell, one for each, the
+/// first for variable 1: each bit by its place, and 0 where it has none. Takes no memory.
+pub fn decode(coded: &Coded, design: &Design, values: &[bool], into: &mut Valuation)
+    requires values { length values.now ≡ coded.now.variables }
+    requires bits { IsDecodable (design_of design.now) coded.now.variables
+        (encoding_of coded.now).bits }
+    requires sizes { HasSizes (design_of design.now) into.old }
+    ensures decoded { ListsValues (design_of design.now) (decoded (design_of design.now)
+        (encoding_of coded.now).bits (value_of values.now)) into.new }
+    ensures fits { FitsDesign (design_of design.now) into.new }
+{
+    decode_places(&coded.bits, design, values, into);
 }

@@ -38,6 +38,9 @@ use sv_flat::{FExpr, SigId};
 use sv_gates::{GateFault, Gates, Literal, MOST_VARIABLES};
 use sv_obl::{Bodies, Query, know_design};
 
+// The most clauses of a gate.
+const CLAUSES_OF_GATE: usize = 4;
+
 // What makes the encoding of an obligation of a design: the design's bodies, and the signals on
 // whose values in this cycle and in the next one the obligation hangs.
 #[derive(Drop)]
@@ -286,8 +289,25 @@ impl<'a, 'b, 'c, 'd> Encoder<'a, 'b, 'c, 'd> {
         }
     }
 
-    // Steps 1 to 5: the frames alone, which have so many variables.
-    fn frames(&self, size: u32) -> Result<Framed, GateFault>
+    // Makes room at once for all clauses that come, up to an encoding of so many variables: those
+    // of each gate, and a unit for each fact, each condition and the violation. Where less comes
+    // than is there, as behind long frames that are kept, the list doubles if it has to grow: room
+    // that is exact for each obligation could move what is kept each time.
+    fn make_room(&self, gates: &mut Gates, variables: u32) -> Result<(), AllocError>
+        ensures { gates.new ≡ gates.old }
+    {
+        let to_come = variables.saturating_sub(gates.variables()) as usize;
+        let units = self.query.facts.len() + self.query.path.len() + 1;
+        let clauses = CLAUSES_OF_GATE * to_come + units;
+        if clauses < gates.clauses().len() {
+            return Ok(());
+        }
+        gates.reserve(clauses)
+    }
+
+    // Steps 1 to 5: the frames alone, which have so many variables, with room for the clauses of an
+    // encoding of `variables`.
+    fn frames(&self, size: u32, variables: u32) -> Result<Framed, GateFault>
         requires encoder { IsEncoder self.now }
         requires size { size ≡ min (frames_size (design_in self.now)
             (now_cone (design_in self.now) (obligation_in self.now))
@@ -300,6 +320,7 @@ impl<'a, 'b, 'c, 'd> Encoder<'a, 'b, 'c, 'd> {
         let now_cone = self.now_cone.as_slice().to_vec(self.alloc)?;
         let next_cone = self.next_cone.as_slice().to_vec(self.alloc)?;
         let mut gates = Gates::new(self.alloc)?;
+        self.make_room(&mut gates, variables)?;
         let mut bits = Vec::new(self.alloc);
         let now = self.words_now(&mut gates, &mut bits)?;
         let next = self.words_next(&mut gates, &now, &mut bits)?;
@@ -344,8 +365,17 @@ impl<'a, 'b, 'c, 'd> Encoder<'a, 'b, 'c, 'd> {
         Ok(())
     }
 
-    // All steps, from the frames on that were kept, where some were.
-    fn whole(&self, kept: Option<Framed>, size: u32) -> Result<Framed, GateFault>
+    // What was kept, with room for the clauses that come behind it.
+    fn with_room(&self, mut kept: Framed, variables: u32) -> Result<Framed, AllocError>
+        requires { IsBegun self.now kept }
+        ensures { IfOk result (IsBegun self.now) }
+    {
+        self.make_room(&mut kept.gates, variables)?;
+        Ok(kept)
+    }
+
+    // All steps, from the frames on that were kept, where some were, up to so many variables.
+    fn whole(&self, kept: Option<Framed>, size: u32, variables: u32) -> Result<Framed, GateFault>
         requires encoder { IsEncoder self.now }
         requires kept { IfSome kept (IsBegun self.now) }
         requires size { size ≡ min (frames_size (design_in self.now)
@@ -358,8 +388,8 @@ impl<'a, 'b, 'c, 'd> Encoder<'a, 'b, 'c, 'd> {
             < (encoding (design_in self.now) (obligation_in self.now)).variables }
     {
         let mut made = match kept {
-            Some(made) => made,
-            None => self.frames(size)?,
+            Some(made) => self.with_room(made, variables)?,
+            None => self.frames(size, variables)?,
         };
         self.rest(&mut made)?;
         Ok(made)
@@ -393,10 +423,11 @@ pub fn encoded(
     let encoder = Encoder::new(alloc, design, bodies, query)?;
     let kept = encoder.kept(before);
     let size = encoder.frames_size(&kept)?;
-    if size_with(design, query, size) > MOST_VARIABLES {
+    let variables = size_with(design, query, size);
+    if variables > MOST_VARIABLES {
         return Err(BlastFault::TooLarge);
     }
-    match encoder.whole(kept, size) {
+    match encoder.whole(kept, size, variables) {
         Ok(made) => Ok(made),
         Err(GateFault::Full) => Err(BlastFault::TooLarge),
         Err(GateFault::OutOfMemory) => Err(BlastFault::OutOfMemory),

@@ -7,8 +7,9 @@
 //! obligation after the other, and keeps what two of them begin with: the frames of equal cones,
 //! and behind them equal first facts and conditions. `labels_decide` tells by the labels whether
 //! the first clause and the last one would refute each other. `decode` gives the registers and
-//! inputs that values of the variables spell, and 0 where a bit has no place. `problem_line` and
-//! `clause_lines` give the text of clauses, some at a time.
+//! inputs that values of the variables spell, and 0 where a bit has no place; `decode_places` does
+//! so by the places alone, as a coder has them. `problem_line` and `clause_lines` give the text of
+//! clauses, some at a time.
 //!
 //! `specs/Coded.antt` is the plain form of an encoding, `Coders.antt` says which one a coder holds,
 //! `Decoded.antt` what `decode` asks for and gives. All other files there are private: they say how
@@ -46,6 +47,6 @@ mod without_clauses;
 pub use cnf_text::{clause_lines, problem_line};
 pub use coded::{BitPlace, BlastFault, Coded};
 pub use coder::Coder;
-pub use decoding::decode;
+pub use decoding::{decode, decode_places};
 pub use encoding::encode;
 pub use without_clauses::{check_size, labels_decide};

@@ -8,7 +8,7 @@ ghost use Rattle.sv_blast.specs.Coded.{place_form};
 ghost use Rattle.sv_blast.specs.Decoded.{IsDecodable, HasSizes, ListsValues};
 
 use std::alloc::{AllocError, Global};
-use sv_blast::{BitPlace, decode};
+use sv_blast::{BitPlace, decode_places};
 use sv_design::Design;
 use sv_obl::Valuation;
 
@@ -40,6 +40,6 @@ pub fn spelled(
     ensures fits { IfOk result (FitsDesign (design_of design.now)) }
 {
     let mut valuation = zeros(alloc, design)?;
-    decode(bits, design, values, &mut valuation);
+    decode_places(bits, design, values, &mut valuation);
     Ok(valuation)
 }

@@ -10,7 +10,7 @@ use Rattle.sv_gates.specs.Formulas.{value_of}
 use Rattle.sv_blast.specs.Coded.{place_form}
 use Rattle.sv_blast.proofs.DecodedLists.{those_rise, bits_small, variables_there}
 use Rattle.sv_blast.proofs.DecodedLists.{listed_values, lists_values, lists_fit}
-use Rattle.sv_blast.proofs.decoding.decode.Goals as goal
+use Rattle.sv_blast.proofs.decoding.decode_places.Goals as goal
 
 pub decode_listed-requires-clause-ascending : goal.decode_listed-requires-clause-ascending
 decode_listed-requires-clause-ascending c =

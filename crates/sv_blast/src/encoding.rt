@@ -298,7 +298,7 @@ impl<'a, 'b, 'c, 'd> Encoder<'a, 'b, 'c, 'd> {
     {
         let to_come = variables.saturating_sub(gates.variables()) as usize;
         let units = self.query.facts.len() + self.query.path.len() + 1;
-        let clauses = CLAUSES_OF_GATE * to_come + units;
+        let clauses = units.saturating_add(CLAUSES_OF_GATE * to_come);
         if clauses < gates.clauses().len() {
             return Ok(());
         }

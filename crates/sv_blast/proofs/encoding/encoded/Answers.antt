@@ -21,19 +21,20 @@ kept-kept-requires-clause-framed c =
     subst (λ (d : FlatDesign). IfSome c.args.before (IsFramed d))
     (sym c.in_ok-encoder.ensures.design) c.requires.before
 
-pub size_with-requires-clause-frames : goal.size_with-requires-clause-frames
-size_with-requires-clause-frames c =
+pub size_with-variables-requires-clause-frames : goal.size_with-variables-requires-clause-frames
+size_with-variables-requires-clause-frames c =
     c.in_ok-size.ensures
     ∙ ap₂ (λ (d : FlatDesign) (o : Obligation).
     min (frames_size d (now_cone d o) (next_cone d o)) 4194305)
     c.in_ok-encoder.ensures.design c.in_ok-encoder.ensures.query
 
-pub returns-then-size_with-gt-MOST_VARIABLES-clause-large : goal.returns-then-size_with-gt-MOST_VARIABLES-clause-large
-returns-then-size_with-gt-MOST_VARIABLES-clause-large c =
+pub returns-then-variables-gt-MOST_VARIABLES-clause-large : goal.returns-then-variables-gt-MOST_VARIABLES-clause-large
+returns-then-variables-gt-MOST_VARIABLES-clause-large c =
     let exact = size_is_exact (design_of c.args.design.now) (obligation_of c.args.query.now)
     c.know_design.ensures.checked c.requires.query in
     λ e. subst (λ z. most_variables < z) (sym exact)
-    (passes c.size_with.result _ c.size_with.ensures c.if-size_with-gt-MOST_VARIABLES.true)
+    (passes c.size_with-variables.result _ c.size_with-variables.ensures
+    c.if-variables-gt-MOST_VARIABLES.true)
 
 pub returns-in-Ok-clause-framed : goal.returns-in-Ok-clause-framed
 returns-in-Ok-clause-framed c =

@@ -1,5 +1,5 @@
 #!/usr/bin/env python3
-"""Does what docs/guide.md says, in its order and in one folder, and compares whole outputs, standard error among them: each console block is run, each
+"""Does what the pages of docs/guide/ say, in the order of docs/guide.md and in one folder, and compares whole outputs, standard error among them: each console block is run, each
 diff is made in the design of the five steps, each text marked `before` is refused as its last line says, and `list` takes every other one. The numbers of
 its table stand in the definitions, its rules have the names that the program gives them, and what it gives to editors matches real messages. Then it looks
 at all pages: that none is long, that lines of prose end at 120 columns, and that the files that they name are there. The last line is 'N passed, M failed'.
@@ -23,7 +23,8 @@ def stored(*parts):
         return file.read()
 
 
-GUIDE = stored("docs", "guide.md")
+GUIDE_PAGES = re.findall(r"^\d\. \[\w+\]\((guide/\w+\.md)\)", stored("docs", "guide.md"), re.M)
+GUIDE = "\n".join(stored("docs", page) for page in GUIDE_PAGES)
 BLOCKS = re.findall(r"^```([^\n]+)\n(.*?)^```$", GUIDE, re.M | re.S)
 # How a definition has each number of the table, which stands for @, in the table's order.
 LIMITS = [
@@ -207,15 +208,21 @@ def form(_):
 
 
 def pages(_):
-    """No page is long, its lines of prose are short, and the files that it names are there."""
-    names = [f"docs/{name}" for name in sorted(os.listdir(os.path.join(TOP, "docs"))) if name.endswith(".md")]
-    for page in ["README.md", "examples/README.md", *names]:
+    """No page is long, its lines of prose are short, and the files that it names or links to are there."""
+    names = ["README.md", "examples/README.md"]
+    for folder in ("docs", "docs/guide", "docs/promises", "bench"):
+        names += [f"{folder}/{name}" for name in sorted(os.listdir(os.path.join(TOP, folder))) if name.endswith(".md")]
+    compare("docs/guide.md lists its pages", sorted(GUIDE_PAGES), [name.removeprefix("docs/") for name in names if name.startswith("docs/guide/")])
+    for page in names:
         text = stored(page)
         compare(f"{page} is short", len(text.encode()) <= LONG_PAGES.get(page, MOST_BYTES), True)
-        prose = re.sub(r"^```.*?^```$", "", text, flags=re.M | re.S).splitlines()
-        compare(f"its lines are short: {page}", [line for line in prose if len(line) > MOST_COLUMNS and not line.startswith("|")], [])
+        prose = re.sub(r"^```.*?^```$", "", text, flags=re.M | re.S)
+        lines = [line for line in prose.splitlines() if len(line) > MOST_COLUMNS and not line.startswith("|")]
+        compare(f"its lines are short: {page}", lines, [])
         for name in sorted(set(re.findall(r"`((?:docs|examples|bench|tools|crates|sv_\w+|\.ci)/[\w./-]+\.[a-z0-9]+)`", text))):
             compare(f"{page}: {name} is there", any(os.path.exists(os.path.join(TOP, folder, name)) for folder in (".", "crates")), True)
+        for name in sorted(set(re.findall(r"\]\(([^()#:]+)\)", prose))):
+            compare(f"{page}: {name} is there", os.path.exists(os.path.join(TOP, os.path.dirname(page), name)), True)
 
 
 if __name__ == "__main__":

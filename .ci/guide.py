@@ -1,8 +1,9 @@
 #!/usr/bin/env python3
-"""Does what the pages of docs/guide/ say, in the order of docs/guide.md and in one folder, and compares whole outputs, standard error among them: each console block is run, each
-diff is made in the design of the five steps, each text marked `before` is refused as its last line says, and `list` takes every other one. The numbers of
-its table stand in the definitions, its rules have the names that the program gives them, and what it gives to editors matches real messages. Then it looks
-at all pages: that none is long, that lines of prose end at 120 columns, and that the files that they name are there. The last line is 'N passed, M failed'.
+"""Does what the pages of docs/guide/ say, in the order of docs/guide.md and in one folder, and compares whole outputs, standard error among them: each
+console block is run, each diff is made in the design of the five steps, each text marked `before` is refused as its last line says, and `list` takes every
+other one. The numbers of its table stand in the definitions, its rules have the names that the program gives them, and what it gives to editors matches real
+messages. Then it looks at all pages: that none is long, that lines of prose end at 120 columns, and that the files that they name are there. What needs
+minisat or GNU parallel is told as not run where that is not installed. The last line is 'N passed, M failed'.
 """
 import json
 import os
@@ -10,12 +11,11 @@ import re
 import shutil
 import subprocess
 
-from harness import MOST_SECONDS, TOP, compare, finish, put, run
+from harness import MOST_SECONDS, TOP, compare, finish, leave_out, put, run
 
 DESIGN = "dma.v"  # that of the five steps
 MOST_BYTES, MOST_COLUMNS = 20000, 120
 LONG_PAGES = {"docs/semantics.md": 30000}
-UNSOLVED = "no solver: minisat is not installed\n"
 
 
 def stored(*parts):
@@ -73,8 +73,9 @@ def typed(folder, command):
 def console(folder, block):
     for command, wanted in re.findall(r"^\$ ([^\n]*)\n((?:(?!\$ )[^\n]*\n)*)", block, re.M):
         if "solve_all.sh" in command and shutil.which("minisat") is None:
-            wanted = UNSOLVED
-        compare(command, typed(folder, command), wanted)
+            leave_out(command, "minisat is not installed")
+        else:
+            compare(command, typed(folder, command), wanted)
 
 
 def changed(text, block):
@@ -105,7 +106,7 @@ def taken(folder, block):
 
 
 def in_order(folder):
-    for name in ("secv", "examples"):
+    for name in ("secv", "examples", "tools"):
         os.symlink(os.path.join(TOP, name), os.path.join(folder, name))
     steps = []
     for kind, block in BLOCKS:
@@ -150,25 +151,31 @@ def two_events(folder):
 
 
 def solvers(folder):
-    """What solve_all.sh says where a solver is missing, has no answer, or answers as a stand-in does; it asks by GNU parallel where that is installed."""
+    """What solve_all.sh says where a solver is missing, has no answer, or answers as a stand-in does, with the jobs handed out in either way: by xargs, since
+    `parallel` is another program of that name, and by GNU parallel."""
     os.symlink(os.path.join(TOP, "examples"), os.path.join(folder, "examples"))
-    os.mkdir(os.path.join(folder, "a place"))
+    for name in ("a place", "without"):
+        os.mkdir(os.path.join(folder, name))
     put(folder, "nothing.v", "module m; endmodule\n")
-    for name, status in (("holds", 20), ("fails", 10)):
-        put(folder, name, f"#!/bin/sh\n[ -s \"$1\" ] && exit {status}\n")
+    for name, script in (("holds", "[ -s \"$1\" ] && exit 20"), ("fails", "[ -s \"$1\" ] && exit 10"), ("without/parallel", "echo another parallel; exit 1")):
+        put(folder, name, f"#!/bin/sh\n{script}\n")
         os.chmod(os.path.join(folder, name), 0o755)
+    ways = ["PATH=$PWD/without:$PATH "]
+    if typed(folder, "parallel --version 2>none").startswith("GNU parallel"):
+        ways.append("")
+    else:
+        leave_out("solve_all.sh by GNU parallel", "GNU parallel is not installed")
     script, design = os.path.join("examples", "solve_all.sh"), os.path.join("examples", "turn.v")
-    for words, wanted in ((f"SOLVER=no-solver sh {script} {design}", "no solver: no-solver is not installed\nstatus 2\n"),
-                          (f"SOLVER=false sh {script} {design} | tail -n 1", "0 of 2 obligations hold\nstatus 0\n"),
-                          (f"SOLVER=false sh {script} {design} >none", "status 3\n"),
-                          (f"SOLVER=./holds TMPDIR='a place' sh {script} {design}", "2 of 2 obligations hold\nstatus 0\n"),
-                          (f"SOLVER=./fails SLOTS=1 sh {script} {design}",
-                           "obligation 1 fails\nobligation 2 fails\n0 of 2 obligations hold\nstatus 1\n"),
-                          (f"SOLVER=./holds sh {script} nothing.v", "0 of 0 obligations hold\nstatus 0\n"),
-                          (f"sh {script} examples/unknown_value.v 2>none", "refused 104 unsupported 3:34 four-state\nstatus 1\n")):
-        if shutil.which("minisat") is None and "SOLVER" not in words:
-            wanted = f"{UNSOLVED}status 2\n"
-        compare(words, typed(folder, f"{words}; echo status $?"), wanted)
+    for way in ways:
+        for words, wanted in ((f"SOLVER=no-solver sh {script} {design}", "no solver: no-solver is not installed\nstatus 2\n"),
+                              (f"SOLVER=false sh {script} {design} | tail -n 1", "0 of 2 obligations hold\nstatus 0\n"),
+                              (f"SOLVER=false sh {script} {design} >none", "status 3\n"),
+                              (f"SOLVER=./holds TMPDIR='a place' sh {script} {design}", "2 of 2 obligations hold\nstatus 0\n"),
+                              (f"SOLVER=./fails SLOTS=1 sh {script} {design}",
+                               "obligation 1 fails\nobligation 2 fails\n0 of 2 obligations hold\nstatus 1\n"),
+                              (f"SOLVER=./holds sh {script} nothing.v", "0 of 0 obligations hold\nstatus 0\n"),
+                              (f"SOLVER=./holds sh {script} examples/unknown_value.v 2>none", "refused 104 unsupported 3:34 four-state\nstatus 1\n")):
+            compare(f"{way}{words}", typed(folder, f"{way}{words}; echo status $?"), wanted)
 
 
 def limits(_):

@@ -9,7 +9,7 @@ TOP = os.path.dirname(os.path.dirname(os.path.abspath(__file__)))
 SECV = os.path.join(TOP, "secv")
 MOST_SECONDS = 60
 STATUS = {"accepted": 0, "equal": 0, "refused": 1, "differ": 1, "usage": 2, "unknown": 3}
-COUNTS = {"passed": 0, "failed": 0}
+COUNTS = {"passed": 0, "failed": 0, "not run": 0}
 
 
 def compare(what, got, wanted):
@@ -18,6 +18,12 @@ def compare(what, got, wanted):
         return
     COUNTS["failed"] += 1
     print(f"{what}\n  wanted {wanted!r}"[:600] + f"\n  got    {got!r}"[:600])
+
+
+def leave_out(what, why):
+    """Tells of what cannot be run on this machine, which has neither passed nor failed."""
+    COUNTS["not run"] += 1
+    print(f"not run: {what}: {why}")
 
 
 def excerpt(text, place):
@@ -72,11 +78,13 @@ def documented(section, page="formats.md"):
 
 
 def finish(groups):
-    """Runs each group in a folder of its own, and ends with how many comparisons passed and failed."""
+    """Runs each group in a folder of its own, and ends with how many comparisons passed and failed; before that, where something was not run, how much."""
     # the first run builds the program, which takes more than a run may
     subprocess.run([SECV, "--path"], stdout=subprocess.DEVNULL, check=True)
     for group in groups:
         with tempfile.TemporaryDirectory() as folder:
             group(folder)
+    if COUNTS["not run"]:
+        print(f"{COUNTS['not run']} not run")
     print(f"{COUNTS['passed']} passed, {COUNTS['failed']} failed")
     sys.exit(1 if COUNTS["failed"] else 0)

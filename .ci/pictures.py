@@ -1,14 +1,18 @@
 #!/usr/bin/env python3
 """Tries tools/wave and tools/flows. A VCD that is made of a run is read back by a reader of its own, written from IEEE 1364-2005, clause 18, and gives the
 trace again, with hierarchy and widths; so do two runs in one, with their marker. Traces that are wrong are refused, at their lines. A graph has the edges that
-`./secv list` tells, and labels, shapes and colours that were worked by hand. The last line is 'N passed, M failed'.
+`./secv list` tells, and labels, shapes and colours that were worked by hand. The picture of docs/guide/ has the nodes and edges of its graph; where Graphviz is
+installed, it is drawn anew, else that is told as not run. The last line is 'N passed, M failed'.
 """
+import colorsys
 import os
 import re
+import shutil
 import subprocess
 import sys
+import xml.etree.ElementTree as ElementTree
 
-from harness import MOST_SECONDS, SECV, TOP, compare, documented, finish, put, run
+from harness import MOST_SECONDS, SECV, TOP, compare, documented, finish, leave_out, put, run
 from comparisons import FOUR, HIDING_OUTPUT
 from outputs import COUNTERS, GATE, LISTS, TURN
 from verdicts import lanes
@@ -476,5 +480,49 @@ def documented_ones(folder):
     compare("docs/pictures.md shows a graph", tool(folder, [FLOWS, "f"])[::2], (shown.get("dot"), 0))
 
 
+def drawn_in(svg):
+    """The name, the nodes and the edges that a picture of a graph has: of a node its words, whether it is a box, and its colour; of an edge whether it is
+    dashed, whether its head is empty, and its tooltip."""
+    space = {"s": "http://www.w3.org/2000/svg"}
+    graph, nodes, edges = ElementTree.fromstring(svg).find("s:g", space), {}, []
+    for part in graph.findall("s:g", space):
+        name = part.find("s:title", space).text
+        if part.get("class") == "node":
+            shape = part.find("s:polygon", space)
+            words = "\\n".join(word.text for word in part.findall("s:text", space))
+            nodes[name] = (words, shape is not None, (part.find("s:ellipse", space) if shape is None else shape).get("fill"))
+        elif part.get("class") == "edge":
+            line, head = (part.find(f".//s:{kind}", space) for kind in ("path", "polygon"))
+            edges.append((name, line.get("stroke-dasharray") is not None, head.get("fill") == "none",
+                          part.find(".//s:a", space).get("{http://www.w3.org/1999/xlink}title")))
+    return graph.find("s:title", space).text, nodes, sorted(edges)
+
+
+def to_be_drawn(dot):
+    """What a picture has to have of a graph in DOT."""
+    nodes, edges, _ = graph_of(dot)
+    colours = {name: "#" + "".join(f"{int(255 * part):02x}" for part in colorsys.hsv_to_rgb(*map(float, its["fillcolor"].split()))) for name, its in nodes.items()}
+    return (re.match('digraph "([^"]+)"', dot)[1], {name: (its["label"], its["shape"] == "box", colours[name]) for name, its in nodes.items()},
+            sorted((f"{read}->{target}", its.get("style") == "dashed", its.get("arrowhead") == "odiamond", its["tooltip"])
+                   for (read, target), those in edges.items() for its in those))
+
+
+def drawn_one(folder):
+    """The picture that the guide shows is that of the command beside it."""
+    with open(os.path.join(TOP, "docs", "guide", "refusals.md"), encoding="utf-8") as file:
+        text = file.read()
+    design, picture = re.search(r"`tools/flows (\S+) \| dot -Tsvg >(\S+)`", text).groups()
+    compare("the guide shows it", f"](../{os.path.relpath(picture, 'docs')})" in text, True)
+    dot, _, status = tool(folder, [FLOWS, os.path.join(TOP, design)])
+    compare(f"{design}: drawn", status, 0)
+    with open(os.path.join(TOP, picture), encoding="utf-8") as file:
+        compare(f"{picture} is that of {design}", drawn_in(file.read()), to_be_drawn(dot))
+    if shutil.which("dot"):
+        svg = subprocess.run(["dot", "-Tsvg"], input=dot.encode(), stdout=subprocess.PIPE, timeout=MOST_SECONDS, check=False).stdout.decode()
+        compare(f"{design}: drawn anew", drawn_in(svg), to_be_drawn(dot))
+    else:
+        leave_out(f"{design} is drawn anew", "Graphviz is not installed")
+
+
 if __name__ == "__main__":
-    finish([waves, pairs, untold, wrong, flows, no_flows, documented_ones])
+    finish([waves, pairs, untold, wrong, flows, no_flows, documented_ones, drawn_one])

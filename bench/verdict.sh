@@ -1,11 +1,12 @@
 #!/bin/sh
-# Times `secv check`, `secv check --proof` and `secv verify` on designs that are accepted: the store of tags and the multiplier of examples/, caches of
-# 2, 4, 8 and 16 ways for each of two domains, a cache of 64 lines (`cache.py`), a pipeline of eight stages (`pipeline.py`), and conditions that always hold,
-# of sums of 4 and 6 bits and of products of 3 and 4 bits. Prints a table of obligations, times, greatest memory and bytes of the certificate, for caches of
-# ways with the ratio of the time of `check` to that of half the ways; where a solver is installed (minisat, cadical), also its time on the clauses of all
-# obligations of each design that has at most 100, as `secv cnf` prints them. Then come the largest ratio of the time of `verify` to that of `check`, and of
-# `check --proof` to that of `check`. Memory is the greatest resident size that GNU time tells (`/usr/bin/time`). The variable SECV may name another program
-# to measure. verdict.md has figures that were read.
+# Times `secv check`, `secv check --proof` and `secv verify`: on the pairs of examples/, of each design that leaks and of its mend; on designs that are
+# accepted, as the store of tags of examples/, caches of 2, 4, 8 and 16 ways for each of two domains, a cache of 64 lines (`cache.py`) and a pipeline of eight
+# stages (`pipeline.py`); on conditions that always hold, of sums of 4 and 6 bits and of products of 3 and 4 bits; and on the longest chain of `else`.
+# Prints a row of a table for each, with its obligations, its answer, times, greatest memory, the bytes of its certificate and, where minisat is installed,
+# its time on the clauses of all obligations of a design that has at most 100, as `secv cnf` prints them. At the end it writes the rows into verdict.md, with
+# the load of the machine, with how much longer `check` takes of caches of twice as many ways, and with how many times the time of `check` that of `verify`
+# and that of `check --proof` are at most. Times are those of the processor. Memory is the greatest resident size that GNU time tells (`/usr/bin/time`).
+# The variable SECV may name another program to measure, of which nothing is written into verdict.md.
 set -eu
 if ! [ -x /usr/bin/time ]; then
     echo "verdict.sh: GNU time is missing; on Debian and Ubuntu it is the package 'time'" >&2
@@ -15,17 +16,29 @@ top=$(CDPATH='' cd -- "$(dirname -- "$0")/.." && pwd -P)
 work=$(mktemp -d)
 trap 'rm -rf "$work"' EXIT
 program=${SECV:-$("$top/secv" --path)}
-python3 - "$program" "$top" "$work" <<'PY'
-import os, re, shutil, subprocess, sys, time
+python3 - "$program" "$top" "$work" "${SECV+other}" <<'PY'
+import collections, datetime, os, re, shutil, subprocess, sys, textwrap
 
-secv, top, work = sys.argv[1:4]
-MOST_SOLVED = 100
-SOLVERS = [("minisat", ["minisat", "-verb=0"]), ("cadical", ["cadical", "-q"])]
+secv, top, work, other = sys.argv[1:5]
+MOST_SOLVED, LONG, COLUMNS = 100, 5, 120
+CHAIN = "4,096 paths of one signal"
+MINISAT = ["minisat", "-verb=0"]
+has_minisat = shutil.which("minisat") is not None
+# What was measured of a design; of one that is refused there are no certificate and no times with one.
+Row = collections.namedtuple("Row", "design text obligations answer check stored verify memory size solved")
 
 
 def example(name):
     with open(os.path.join(top, "examples", name), encoding="utf-8") as file:
         return file.read()
+
+
+def pairs():
+    """Each mended design of examples/ behind the one that leaks."""
+    names = sorted(os.listdir(os.path.join(top, "examples")))
+    for name in [name.removesuffix("_mended.v") for name in names if name.endswith("_mended.v")]:
+        yield f"{name}_leak.v" if f"{name}_leak.v" in names else f"{name}.v"
+        yield f"{name}_mended.v"
 
 
 def generated(script):
@@ -65,61 +78,122 @@ def always(bits, condition):
     return f"module m(input [{bits - 1}:0] a, b, c, input {{H}} h, output y);\n  assign y = {condition} ? 0 : h;\nendmodule\n"
 
 
-def measured(words, input_file=None, statuses=(0,)):
-    """The least time of three runs, or of one that takes over 5 seconds, the greatest resident memory in MB, and what the last one wrote."""
-    best, most, told = None, 0, os.path.join(work, "told")
+def chain():
+    """Cases in the last arms of one another, a chain of `else` that has 4,096 paths, the most of a signal."""
+    sizes = [65] * 63 + [64]
+    lines = []
+    for depth, arms in enumerate(sizes):
+        lines += [f"case (s{depth})", *(f"{key}: y = {key % 2};" for key in range(arms - 1)), "default:"]
+    selectors = ", ".join(f"s{depth}" for depth in range(len(sizes)))
+    return f"module m(input [7:0] {selectors}, input a, output reg y);\n  always @*\n" + "\n".join([*lines, "y = a;", *["endcase"] * len(sizes)]) + "\nendmodule\n"
+
+
+def timed(words, statuses):
+    """The least processor time of three runs, or of one that takes long, and what was written."""
+    best, written = None, os.path.join(work, "written")
     for _ in range(3):
-        if best is not None and best > 5:
+        if best is not None and best > LONG:
             break
-        with open(input_file or os.devnull, "rb") as given:
-            start = time.perf_counter()
-            child = subprocess.run(["/usr/bin/time", "-v", "-o", told, *words], stdin=given, stdout=subprocess.PIPE, stderr=subprocess.DEVNULL)
-            took = time.perf_counter() - start
+        with open(written, "wb") as out:
+            child = subprocess.Popen(words, stdin=subprocess.DEVNULL, stdout=out, stderr=subprocess.DEVNULL)
+            _, status, used = os.wait4(child.pid, 0)
+        child.returncode = os.waitstatus_to_exitcode(status)
         if child.returncode not in statuses:
             sys.exit(f"{words} ended with {child.returncode}")
-        with open(told) as text:
-            memory = int(re.search(r"Maximum resident set size \(kbytes\): (\d+)", text.read()).group(1)) / 1024
-        best, most = took if best is None else min(best, took), max(most, memory)
-    return best, most, child.stdout.decode()
+        took = used.ru_utime + used.ru_stime
+        best = took if best is None else min(best, took)
+    with open(written, encoding="ascii") as file:
+        return best, file.read()
 
 
-def solved(solver, file, count):
-    """The time of a solver on the clauses of all obligations, of which none can be met."""
+def memory_of(words):
+    """The greatest resident memory, in MB."""
+    told = os.path.join(work, "told")
+    subprocess.run(["/usr/bin/time", "-f", "%M", "-o", told, *words], stdin=subprocess.DEVNULL, stdout=subprocess.DEVNULL, stderr=subprocess.DEVNULL, check=False)
+    with open(told, encoding="ascii") as file:
+        return int(file.read().split()[-1]) / 1024
+
+
+def solved(file, count):
+    """The time of minisat on the clauses of all obligations, started once for each."""
     clauses, sum_of_times = os.path.join(work, "clauses"), 0.0
     for number in range(1, count + 1):
         with open(clauses, "wb") as out:
             subprocess.run([secv, "cnf", file, str(number)], stdout=out, check=True)
-        sum_of_times += measured([*solver, clauses], None, (20,))[0]
+        sum_of_times += timed([*MINISAT, clauses], (10, 20))[0]
     return sum_of_times
 
 
-designs = [("tags", example("tags.v")), ("multiplier", example("multiplier_mended.v"))]
-designs += [(f"cache {ways}", cache(ways)) for ways in (2, 4, 8, 16)]
-designs += [(name, generated(script)) for name, script in (("64 lines", "cache.py"), ("8 stages", "pipeline.py"))]
-designs += [(f"sums {bits}", always(bits, "(a + b) + c == a + (b + c)")) for bits in (4, 6)]
-designs += [(f"products {bits}", always(bits, "a * b == b * a")) for bits in (3, 4)]
-there = [(name, words) for name, words in SOLVERS if shutil.which(name)]
-print(f"{'design':12} {'obligations':>11} {'check':>8} {'MB':>7} {'--proof':>8} {'MB':>7} {'verify':>8} {'MB':>7} {'bytes':>10} {'ratio':>6}"
-      + "".join(f" {name:>9}" for name, _ in there))
-worst_verify = worst_proof = 0.0
-before = None
-for name, text in designs:
-    file, proof = os.path.join(work, name.replace(" ", "") + ".v"), os.path.join(work, "proof")
-    with open(file, "w") as out:
+def measured(design, text, is_certified):
+    """The row of a design. No certificate is made of one on which that takes a great while."""
+    file, proof = os.path.join(work, "design.v"), os.path.join(work, "proof")
+    with open(file, "w", encoding="ascii") as out:
         out.write(text)
-    check, check_memory, said = measured([secv, "check", file])
-    stored, stored_memory, _ = measured([secv, "check", file, "--proof", proof])
-    verify, verify_memory, again = measured([secv, "verify", file, proof])
-    if again != said:
-        sys.exit(f"{name}: check says {said!r}, verify {again!r}")
-    count = int(said.split()[1])
-    worst_verify, worst_proof = max(worst_verify, verify / check), max(worst_proof, stored / check)
-    is_cache = name.startswith("cache")
-    ratio = f"{check / before:6.2f}" if is_cache and before else "     -"
-    before = check if is_cache else None
-    print(f"{name:12} {count:11} {check:8.4f} {check_memory:7.1f} {stored:8.4f} {stored_memory:7.1f} {verify:8.4f} {verify_memory:7.1f} "
-          f"{os.path.getsize(proof):10} {ratio}"
-          + "".join(f" {solved(words, file, count):9.4f}" if count <= MOST_SOLVED else f" {'-':>9}" for _, words in there), flush=True)
-print(f"most times the time of check that verify takes: {worst_verify:.2f}")
-print(f"most times the time of check that check --proof takes: {worst_proof:.2f}")
+    runs = [[secv, "check", file], [secv, "check", file, "--proof", proof], [secv, "verify", file, proof]]
+    check, said = timed(runs[0], (0, 1))
+    answer, stored, verify, size = said.splitlines()[0], None, None, None
+    count = timed([secv, "list", file], (0,))[1].count("\n")
+    if answer == f"accepted {count} obligations":
+        answer = "accepted"
+    elif not answer.startswith("refused flow "):
+        sys.exit(f"{design}: check says {said!r}, and list tells {count} obligations")
+    if answer == "accepted" and is_certified:
+        stored, verify = (timed(words, (0,)) for words in runs[1:])
+        if [stored[1], verify[1]] != [said, said]:
+            sys.exit(f"{design}: check says {said!r}, with --proof {stored[1]!r}, and verify {verify[1]!r}")
+        stored, verify, size = stored[0], verify[0], os.path.getsize(proof)
+    memory = max(memory_of(words) for words in (runs if size else runs[:1]))
+    return Row(design, text, count, answer, check, stored, verify, memory, size, solved(file, count) if has_minisat and count <= MOST_SOLVED else None)
+
+
+def line_of(row):
+    cells = [row.design, f"{row.obligations:,}", row.answer, *("-" if time is None else f"{time:.4f}" for time in (row.check, row.stored, row.verify)),
+             f"{row.memory:,.1f}", "-" if row.size is None else f"{row.size:,}", *["-" if row.solved is None else f"{row.solved:.3f}"] * has_minisat]
+    return f"| {' | '.join(cells)} |"
+
+
+def load():
+    return f"{os.getloadavg()[0]:.1f}"
+
+
+def largest(rows, times):
+    """The most that a ratio comes to, and of which design."""
+    most = max((row for row in rows if row.size), key=times)
+    return f"{times(most):.1f} ({most.design})"
+
+
+def page(rows, loads):
+    ways = {row.design: row.check for row in rows if row.design.startswith("a cache of 2 x ")}
+    steps = [f"{after / before:.2f}" for before, after in zip(list(ways.values()), list(ways.values())[1:])]
+    solver = " minisat was started once for each obligation, of designs that have at most 100 of them." * has_minisat
+    said = [f"Written by `bench/verdict.sh`, none of it by hand, on {datetime.date.today()}: processor time in seconds, the least of three runs, or of one that "
+            f"takes over {LONG}, and the greatest resident memory in MB.{solver} The machine has {os.cpu_count()} processors; its load was {loads[0]} when this "
+            f"began and {loads[1]} when it ended, of which this itself is 1: other work beside it makes times longer.",
+            f"Of caches of twice as many ways `check` takes {', '.join(steps)} times as long. The time of `verify` is at most "
+            f"{largest(rows, lambda row: row.verify / row.check)} times that of `check`, and that of `check --proof` at most "
+            f"{largest(rows, lambda row: row.stored / row.check)} times; without `--proof` an obligation that labels alone decide makes no clause.",
+            "The last row is the longest chain of `else`, of which `check` holds all paths with their conditions at once. Its certificate would take the "
+            "clauses of all 4,096 obligations, and is not made."]
+    first, second, last = (textwrap.fill(text, COLUMNS, break_long_words=False, break_on_hyphens=False) for text in said)
+    return "\n".join(["# What a verdict costs", "", first, "", *HEAD, *map(line_of, rows), "", second, "", last, ""])
+
+
+HEAD = ["| Design | Obligations | Answer | `check` | `check --proof` | `verify` | MB | Certificate, bytes |" + " minisat |" * has_minisat,
+        "|---|--:|---|--:|--:|--:|--:|--:|" + "--:|" * has_minisat]
+designs = [(f"`examples/{name}`", example(name)) for name in [*pairs(), "tags.v"]]
+designs += [(f"a cache of 2 x {ways} ways", cache(ways)) for ways in (2, 4, 8, 16)]
+designs += [(f"{name} (`{script}`)", generated(script)) for name, script in (("a cache of 64 lines", "cache.py"), ("a pipeline of eight stages", "pipeline.py"))]
+designs += [(f"sums of {bits} bits", always(bits, "(a + b) + c == a + (b + c)")) for bits in (4, 6)]
+designs += [(f"products of {bits} bits", always(bits, "a * b == b * a")) for bits in (3, 4)]
+designs.append((CHAIN, chain()))
+began, rows = load(), []
+print("\n".join(HEAD), flush=True)
+for design, text in designs:
+    rows.append(measured(design, text, design != CHAIN))
+    print(line_of(rows[-1]), flush=True)
+text = page(rows, (began, load()))
+print(text[text.index("|\n\n") + 2:], end="")
+if not other:
+    with open(os.path.join(top, "bench", "verdict.md"), "w", encoding="ascii") as file:
+        file.write(text)
 PY

@@ -235,8 +235,8 @@ def examples():
 
 
 def shown_in_readme():
-    """The commands of README's console blocks: a line '$ ./secv WORDS', with '< FILE' behind it or not, and the lines up to the next one or the block's end,
-    which stand on standard output and then on standard error."""
+    """The commands of README's console blocks: a line '$ ./secv WORDS', and the lines up to the next one or the block's end, which stand on standard output
+    and then on standard error. No other line begins with '$ ', and the table has the words of every command."""
     with open(os.path.join(TOP, "README.md"), encoding="utf-8") as file:
         text = file.read()
     shown = 0
@@ -245,13 +245,7 @@ def shown_in_readme():
         os.symlink(os.path.join(TOP, "examples"), os.path.join(here, "examples"))
         for block in re.findall(r"^```console\n(.*?)^```$", text, re.M | re.S):
             for words, wanted in re.findall(r"^\$ \./secv ([^\n]*)\n((?:[^$\n][^\n]*\n)*)", block, re.M):
-                command, _, path = words.partition(" < ")
-                given = b""
-                if path:
-                    with open(os.path.join(TOP, path), "rb") as file:
-                        given = file.read()
-                    compare(f"README shows {path}", f"```\n{given.decode()}```\n" in text, True)
-                answer = run(command.split(), given=given, folder=here)
+                answer = run(words.split(), folder=here)
                 compare(f"README: secv {words}", (answer.stdout + answer.stderr, answer.returncode), (wanted.encode(), status_of(wanted.encode())))
                 shown += 1
         path = os.path.join(here, "text.v")
@@ -259,7 +253,9 @@ def shown_in_readme():
             with open(path, "w", encoding="ascii") as file:
                 file.write(design)
             compare(f"README tells of {design}", (run(["check", path]).stdout.startswith(f"refused {rule} ".encode()), f"`{rule}`" in text), (True, True))
-    compare("README shows commands", shown > 0, True)
+    compare("README shows commands, and all were run", (shown > 0, len(re.findall(r"^\$ ", text, re.M))), (True, shown))
+    table = set(re.findall(r"^\| `secv ([a-z]+) ([^`]*)` \|", text, re.M))
+    compare("README has the words of each command", table, {(word, words.removesuffix(" [--top MODULE]")) for word, words in WORDS.items()})
     folder = os.path.join(TOP, "examples")
     designs = set()
     for name in os.listdir(folder):

@@ -21,7 +21,7 @@
 set -eu
 top=$(CDPATH='' cd -- "$(dirname -- "$0")/.." && pwd -P)
 exec python3 - "$top" "$@" <<'PY'
-import collections, os, re, resource, signal, subprocess, sys, tempfile, time
+import collections, os, re, resource, signal, subprocess, sys, tempfile, textwrap, time
 
 top, names = sys.argv[1], sys.argv[2:]
 TICK = os.sysconf("SC_CLK_TCK")
@@ -274,13 +274,14 @@ def cost_text(after, minutes, three):
     days = sorted({day for _, day in after.values()})
     unread = [it for it in crates() if it not in after]
     untried = [it for it in minutes if edits_of(it) and not (minutes[it]["again"] or minutes[it]["edits"])]
-    lines = ["# What the gate costs", "", "Written by `bench/gate.sh`, none of it by hand: processor minutes of the gate from nothing, each as it was last read, on the day in its row;"]
-    lines += ["'times' is all of the row over the proofs of " + ", ".join(f"`{it}`" for it in MEASURE) + " as they stand here. `docs/CONTRIBUTING.md` has the budget.", ""]
+    lines = ["# What the gate costs", "", "Written by `bench/gate.sh`, none of it by hand: processor minutes of the gate from nothing, each as it was last read, on the day in its row; "
+             "'times' is all of the row over the proofs of " + ", ".join(f"`{it}`" for it in MEASURE) + " as they stand here. `docs/CONTRIBUTING.md` has the budget.", ""]
     lines.append(f"- The whole: {whole:.1f}, which is {times(whole, three)} times those three proofs ({cell(three or 0)}); it is to be at most {NOW} times now, and {BUDGET} with all that is to come.")
     lines.append(f"- Second proofs and wrong bodies: {bodies:.1f}, which is {100 * bodies / whole if whole else 0:.0f} parts in 100; they are to be at most 15.")
     lines.append(f"- Read on {' to '.join(dict.fromkeys((days[0], days[-1]))) if days else 'no day'}; {chain_of(minutes)}.")
     lines += [f"- Not read yet: {', '.join(f'`{it}`' for it in unread)}."] * bool(unread)
     lines += [f"- Second proof and wrong bodies not read yet: {', '.join(f'`{it}`' for it in untried)}."] * bool(untried)
+    lines = [textwrap.fill(line, 120, subsequent_indent="  " * line.startswith("- "), break_long_words=False, break_on_hyphens=False) for line in lines]
     lines += ["", "| Crate | Proof | Tests | Second proof | Wrong bodies | Programs | All | Times | Read |", "|---|" + "--:|" * (len(PARTS) + 2) + "---|"]
     for name, (spent, day) in after.items():
         cells = [*(cell(spent[part]) for part in PARTS), cell(sum(spent.values())), times(sum(spent.values()), three)]

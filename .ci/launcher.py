@@ -420,7 +420,7 @@ def not_released(at):
 
 
 def makes_release(at):
-    """tools/release takes only what a gate passed, of these sources, this kit and this commit, and leaves what is the same."""
+    """tools/release takes only what was built, or a gate passed, of these sources, this kit and this commit, and leaves what is the same."""
     def refuses(what, why):
         out, said, status = at.run(tool="tools/release")
         compare(what, (out, said, status, os.path.exists(os.path.join(at.top, "release"))), ("", f"tools/release: {why}\n", 1, False))
@@ -428,24 +428,30 @@ def makes_release(at):
     at.write(".gitignore", "out/\n")
     for words in (["init"], ["add", "."], ["commit", "-m", "one"]):
         git(at, *words)
-    refuses("no gate", "no gate has passed here: run .ci/run first")
-    at.run()
-    refuses("a build and no gate", "no gate has passed here: run .ci/run first")
-    gate(at)
-    at.of_kit("another-kit")
-    refuses("another kit", "the gate that passed here was of another kit: run .ci/run again")
-    at.of_kit("rattle-kit")
-    at.write("crates/low/src/lib.rt", "two")
-    refuses("other sources", "the gate that passed here was of other sources: run .ci/run again")
-    gate(at)
-    refuses("sources of no commit", "the sources are not those of the last commit: commit them first")
-    git(at, "commit", "-am", "two")
-    with open(out_of(at, "secv"), "a", encoding="ascii") as file:
-        file.write("# of other bytes\n")
-    refuses("other bytes", "crates/secv/out/secv is not what the gate built: run .ci/run again")
-    gate(at)
-    commit = git(at, "rev-parse", "HEAD")
-    compare("made", at.run(tool="tools/release"), (f"release/ is of commit {commit}; commit it, and run .ci/run again\n", "", 0))
+    refuses("nothing built", "no program was built here: run ./secv --build first")
+    for build in (lambda: at.run("--build"), lambda: gate(at)):
+        at.write("crates/low/src/lib.rt", "one")
+        build()
+        at.of_kit("another-kit")
+        refuses("another kit", "the program here was built by another kit: run ./secv --build again")
+        at.of_kit("rattle-kit")
+        at.write("crates/low/src/lib.rt", "two")
+        refuses("other sources", "the program here was built of other sources: run ./secv --build again")
+        build()
+        refuses("sources of no commit", "the sources are not those of the last commit: commit them first")
+        git(at, "commit", "-am", "two")
+        with open(out_of(at, "secv"), "a", encoding="ascii") as file:
+            file.write("# of other bytes\n")
+        refuses("other bytes", "crates/secv/out/secv is not what was built: run ./secv --build again")
+        build()
+        commit = git(at, "rev-parse", "HEAD")
+        compare("made", at.run(tool="tools/release"), (f"release/ is of commit {commit}; commit it, and run .ci/run\n", "", 0))
+        shutil.rmtree(os.path.join(at.top, "release"))
+        at.write("crates/low/src/lib.rt", "one")
+        git(at, "commit", "-am", "one")
+        shutil.rmtree(out_of(at))
+    build()
+    compare("made of the sources before", at.run(tool="tools/release")[2], 0)
     compare("two files", sorted(os.listdir(os.path.join(at.top, "release"))), ["ABOUT", "secv.gz"])
     git(at, "add", ".")
     git(at, "commit", "-m", "release")

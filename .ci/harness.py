@@ -35,7 +35,16 @@ def excerpt(text, place):
     front = line[max(at - 100, 0) if len(line) > 160 else 0:at].decode(errors="replace")
     rest = line[at:max(at - 100, 0) + 160].decode(errors="replace").rstrip()
     shown = "".join(char if char == "\t" or unicodedata.category(char) not in ("Cc", "Cf", "Zl", "Zp") else "\ufffd" for char in front + rest)
-    return f"  {shown}\n  {''.join(char if char == chr(9) else ' ' for char in front)}^\n" if line else ""
+    return f"  {shown}\n  {''.join(room(char) for char in front)}^\n" if line else ""
+
+
+def room(char):
+    """Blanks as wide as a character."""
+    if char == "\t":
+        return char
+    if unicodedata.combining(char):
+        return ""
+    return "  " if unicodedata.east_asian_width(char) in "WF" else " "
 
 
 def explained(path, place, text, said):

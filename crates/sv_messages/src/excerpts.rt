@@ -71,9 +71,28 @@ fn shown(c: char) -> char {
     }
 }
 
-// What stands above or below a character, so that the columns agree.
-fn blank(c: char) -> char {
-    if c == '\t' { '\t' } else { ' ' }
+// Blanks that take as much room as a character: none for a mark on the letter before, and two for a
+// wide letter (Unicode 15, East Asian Width W and F, by whole blocks).
+fn blanks(c: char) -> &'static str {
+    match c as u32 {
+        0x9 => "\t",
+        0x300..=0x36f => "",
+        0x1100..=0x115f
+        | 0x2e80..=0x303e
+        | 0x3041..=0x4dbf
+        | 0x4e00..=0xa4cf
+        | 0xa960..=0xa97c
+        | 0xac00..=0xd7a3
+        | 0xf900..=0xfaff
+        | 0xfe30..=0xfe6b
+        | 0xff01..=0xff60
+        | 0xffe0..=0xffe6
+        | 0x1f300..=0x1f64f
+        | 0x1f680..=0x1f6ff
+        | 0x1f900..=0x1f9ff
+        | 0x20000..=0x3fffd => "  ",
+        _ => " ",
+    }
 }
 
 fn push_shown(lines: &mut String, text: &str) -> Result<(), AllocError> {
@@ -85,7 +104,7 @@ fn push_shown(lines: &mut String, text: &str) -> Result<(), AllocError> {
 
 fn push_blanks(lines: &mut String, text: &str) -> Result<(), AllocError> {
     for c in text.chars() {
-        lines.push(blank(c))?;
+        lines.push_str(blanks(c))?;
     }
     Ok(())
 }

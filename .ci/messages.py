@@ -21,7 +21,19 @@ SUM = "module s #(parameter P = 1, Q = 2) (input [3:0] i, output [3:0] o);\n  lo
 USE = SUM + "module t(input [3:0] a, output [3:0] y);\n  "
 CLOCKED = "module m(input clk, input d, output reg q, output w);\n  "
 END = "\nendmodule\n"
+# A block, its register, and some of its bits that are set or kept, each by itself.
+HOLDS = "module m(input clk, input [{0}:0] a, output reg [{0}:0] {1});\n  always @(posedge clk) begin\n    "
+
+
+def HELD(bits, name="q"):
+    return "".join(f"if (a[{bit}]) {name}[{bit}] <= 0;\n    " for bit in range(bits)) + "end"
+
+
+MANY = "labelmap D [0:0] 0: L; default: H; endlabelmap\nmodule m(input clk, input {H} s, input {D(s)} d, input [11:0] a);\n" + "".join(
+    f"  reg [11:0] q{number};\n  always @(posedge clk) begin\n    " + HELD(12, f"q{number}") + "\n" for number in range(17)) + "endmodule\n"
 FORM = "this form of Verilog is left out"
+TICKED = "module s(input d, c, output reg q);\n  always @(posedge c) q <= d;\nendmodule\nmodule m(input d, a, output x);\n  "
+EXPRESSED = "the clock `u.c` is linked to an expression here: link it to the clock itself, and let an enable decide in the block"
 GATES = "gates are left out: write an `assign`, as `assign y = a & b;`"
 ALONE = "a clock stands behind `posedge` and in links alone; let an enable decide in the block"
 LOOPS = "loops are left out: write the copies out, or print them by a script"
@@ -33,9 +45,20 @@ TEXTS = [
     (GIVEN + "assign y = a @@$ b;" + END, "", "`$` alone is no token: it stands inside a name, as in `a$b`"),
     (GIVEN + "assign y = a @@` b;" + END, "", "no token begins with ``` here"),
     ("@@\ufeffmodule m;" + END, "", "the file begins with a byte order mark: store it as ASCII or UTF-8 without one"),
+    ("module m; /* 中文, ｆｕ, 한 🔒 e\u0301 */ @@1;" + END, "", "`1` cannot stand behind `;`"),
     ("module m(input @@é);" + END, "", "letters beyond ASCII stand in comments alone: write the name with letters a to z"),
-    (GIVEN + "assign y = @@4'b12;" + END, "", "this is no number that can be: without a size it is below 2^32; with one, as in 8'hff, it has 1 to "
-     "64 bits and digits of its base; and no letter follows it"),
+    (GIVEN + "assign y = @@4'b12;" + END, "", "`2` is no binary digit"),
+    (GIVEN + "assign y = @@70'h1;" + END, "", "this number has a size of 70 bits, and 1 to 64 there may be"),
+    (GIVEN + "assign y = @@0'h1;" + END, "", "this number has a size of 0 bits, and 1 to 64 there may be"),
+    (GIVEN + "assign y = @@8'h;" + END, "", "this number has no hexadecimal digit behind its base"),
+    (GIVEN + "assign y = @@8'so_7;" + END, "", "a digit stands right behind a base, and `_` only later"),
+    (GIVEN + "assign y = @@4_294_967_296;" + END, "", "4_294_967_296 has no size, so it has to be below 2^32: write its size before it, as in "
+     "40'd4_294_967_296"),
+    (GIVEN + "assign y = @@'h1_0000_0000;" + END, "", "the hexadecimal number 1_0000_0000 has no size, so it has to be below 2^32: write its size before the `'`, "
+     "as in 64'hff"),
+    (GIVEN + f"assign y = @@64'h1{'0' * 32};" + END, "", f"the hexadecimal number 1{'0' * 32} is 2^128 or more, and 64 bits there may be"),
+    (GIVEN + "assign y = @@8ab;" + END, "", "`ab` stands right behind the number 8: a name begins with no digit, and a number has a base, as in 8'hff, or is "
+     "decimal"),
     (GIVEN + "assign y = a; @@/* never closed" + END, "", "this comment has no end: `*/` is missing"),
     ("@@`define W 8\nmodule m;" + END, "", "this directive is left out: take macros and includes away by a preprocessor, as `iverilog -E` is"),
     (GIVEN + "assign y = a @@=== b;" + END, "", "`===` and `!==` are left out, since no signal is x or z: write `==` or `!=`"),
@@ -154,6 +177,12 @@ TEXTS = [
     (GIVEN + "assign y = @@c;" + END, "", "there is no signal or parameter `c` in module `m`: declare it, as in `wire c;`"),
     (GIVEN + "wire [@@V-1:0] c;" + END, "", "there is no signal or parameter `V` in module `m`: declare it, as in `parameter V = 8;`"),
     (GIVEN + "always @* @@r = a;" + END, "", "there is no signal or parameter `r` in module `m`: declare it, as in `reg r;`"),
+    (GIVEN + "always @* begin @@r[v[1]] = a; end" + END, "", "there is no signal or parameter `r` in module `m`: declare it, as in `reg [7:0] r;`"),
+    ("module m(input a, output reg y);\n  always @(posedge a) if (y) {y, @@r} <= 2;" + END, "", "there is no signal or parameter `r` in module `m`: declare it, as in "
+     "`reg r;`"),
+    (GIVEN + "always @* {@@r[3:0], y} = v;" + END, "", "there is no signal or parameter `r` in module `m`: declare it, as in `reg [7:0] r;`"),
+    (GIVEN + "always @* case (a) @@r[0]: y = v; endcase" + END, "", "there is no signal or parameter `r` in module `m`: declare it, as in `wire r;`"),
+    (GIVEN + "assign @@r = a;" + END, "", "there is no signal or parameter `r` in module `m`: declare it, as in `wire r;`"),
     ("module m(input a, output reg y);\n  always @(posedge @@c) y <= a;" + END, "", "there is no signal or parameter `c` in module `m`: declare it, as in "
      "`input c`"),
     (GIVEN + "parameter P = 1;\n  assign @@P = a;" + END, "", "`P` is a parameter, and a signal is wanted here"),
@@ -166,22 +195,47 @@ TEXTS = [
     ("module m #(parameter P = @@P) (input a);" + END, "", "the parameter `P` is used in its own value: write a number there, or a parameter that is declared "
      "before"),
     (GIVEN + "localparam A = 1, B = @@A[0];" + END, "", "`A` is a parameter, and a signal is wanted here"),
+    (GIVEN + "assign y = @@{v, {60{a}}};" + END, "", "this has 68 bits, and 64 there may be: split it in two"),
+    (GIVEN + "localparam N = 3 * (1 + 2);\n  assign y = a & @@{N{~v}};" + END, "", "this has 72 bits, and 64 there may be: split it in two"),
+    (GIVEN + "reg [63:0] p; reg q; always @* if (a) ; else {@@p, q} = v;" + END, "", "this has 65 bits, and 64 there may be: split it in two"),
+    (GIVEN + "assign y = @@{v, v[3:1], a[0], v << 1, a == b, a ? v : b, {5{v}}};" + END, "", "this has 69 bits, and 64 there may be: split it in two"),
+    (GIVEN + "parameter [7:0] N = 60; assign y = @@{v, {N{a}}};" + END, "", "this has over 64 bits, which are the most: split it in two"),
+    (GIVEN + "assign y = v[@@8];" + END, "", "there is no bit 8: `v` has 8 bits, whose numbers are 0 to 7"),
+    (GIVEN + "assign y = a[@@1];" + END, "", "there is no bit 1: `a` has 1 bit, whose number is 0"),
+    (GIVEN + "assign y = @@v[0:3];" + END, "", "the high bound of the part `[0:3]` is below its low one: write `[3:0]`"),
+    (GIVEN + "assign y = @@v[9:2];" + END, "", "there is no part `[9:2]`: `v` has 8 bits, whose numbers are 0 to 7"),
+    (GIVEN + "parameter W = 4; reg [W-1:0] r;\n  always @* begin r = v; case (a) 0: if (b) r[@@W] = 1; endcase end" + END, "", "there is no bit 4: `r` has 4 bits, whose "
+     "numbers are 0 to 3"),
+    (GIVEN + "reg [3:0] r;\n  always @* begin r = v; @@r[4:3] = 1; end" + END, "", "there is no part `[4:3]`: `r` has 4 bits, whose numbers are 0 to 3"),
+    ("module s #(parameter W = 4) (input [W-1:0] i, output o);\n  assign o = i[@@3];\nendmodule\nmodule m(input [1:0] a, output y);\n  s #(2) u(a, y);" + END, "",
+     "there is no bit 3: `i` has fewer bits"),
+    (USE + "s u(a[@@4], y);" + END, "", "there is no bit 4: `a` has 4 bits, whose numbers are 0 to 3"),
+    (GIVEN + "assign y = {@@0{a}};" + END, "", "this replication is written 0 times, and 1 to 64 times it may be"),
+    (GIVEN + "parameter [1:0] N = 0; assign y = {@@N{a}};" + END, "", "a replication is written 1 to 64 times"),
+    (GIVEN + "wire [@@64:0] c;" + END, "", "the range `[64:0]` has 65 bits, and 64 there may be: split the signal in two"),
+    (GIVEN + "wire [@@0:7] c;" + END, "", "the range `[0:7]` has its low bound first: write `[7:0]`, with the highest bit first"),
+    (GIVEN + "wire [@@7:4] c;" + END, "", "the range `[7:4]` is to end at 0: `[m:0]`, with m from 0 to 63"),
+    ("module m #(parameter W = 128) (input [W@@-1:0] a);" + END, "", "the range `[127:0]` has 128 bits, and 64 there may be: split the signal in two"),
     (POINTS + "module m(input {@@Q} z);" + END, "", "there is no point `Q`; the points are " + ", ".join(f"`P{i}`" for i in range(32))),
     (LANES + "module m(input {@@Dom} z);" + END, "", "`Dom` is a label map: write `Dom(SIGNAL)`"),
     ("labelmap T [0:0] [0:0] default: L; endlabelmap\nmodule m(input {@@T} z);" + END, "", "`T` is a label map: write `T(SIGNAL, SIGNAL)`"),
-    (LANES + "module m(input Dom, input {@@Dom(Dom)} z);" + END, "", "the range of the label map `Dom` has 2 bits, and `Dom`, which picks its row, has not"),
+    (LANES + "module m(input Dom, input {@@Dom(Dom)} z);" + END, "", "the range of the label map `Dom` has 2 bits, and `Dom`, which picks its row, has 1"),
     (LANES + "module m #(parameter dom = 1) (input {@@Dom(dom)} z);" + END, "", "a signal picks the row of the label map `Dom`, and `dom` is a parameter: make "
      "it an input, linked to a constant"),
     ("module m(input a, input {@@Q} z);" + END, "", "there is no point `Q`; the points are `L`, `H`"),
     (LANES + "module m(input [1:0] a, input {@@Lane(a)} z);" + END, "", "there is no label map `Lane`; the label maps are: `Dom`"),
     (LANES + "module m(input [1:0] a, input {@@Dom(b)} z);" + END, "", "there is no signal `b` in module `m`, to pick the row of the label map `Dom`"),
-    (LANES + "module m(input a, input {@@Dom(a)} z);" + END, "", "the range of the label map `Dom` has 2 bits, and `a`, which picks its row, has not"),
+    (LANES + "module m(input a, input {@@Dom(a)} z);" + END, "", "the range of the label map `Dom` has 2 bits, and `a`, which picks its row, has 1"),
+    (LANES + "module m #(parameter W = 3) (input [W:0] a, input {@@Dom(a)} z);" + END, "", "the range of the label map `Dom` has 2 bits, and `a`, which picks its "
+     "row, has 4"),
+    (LANES + "module m #(parameter [7:0] W = 3) (input [W:0] a, input {@@Dom(a)} z);" + END, "", "the range of the label map `Dom` has 2 bits, and `a`, which picks "
+     "its row, has another number"),
     ("labelmap T [0:0] [1:0] default: L; endlabelmap\nmodule m(input a, b, input {@@T(a, b)} z);" + END, "", "the range of the label map `T` has 2 bits, and `b`, "
-     "which picks its row, has not"),
+     "which picks its row, has 1"),
     ("labelmap T [0:0] [1:0] default: L; endlabelmap\nmodule m(input [1:0] a, b, input {@@T(a, b)} z);" + END, "", "the range of the label map `T` has 1 bit, and "
-     "`a`, which picks its row, has more"),
-    ("labelmap T [0:0] [1:0] default: L; endlabelmap\nmodule m(input [1:0] a, input {@@T(a, a)} z);" + END, "", "`a` has not as many bits as the range of the "
-     "label map `T`, whose row it picks"),
+     "`a`, which picks its row, has 2"),
+    ("labelmap T [0:0] [1:0] default: L; endlabelmap\nmodule m(input [1:0] a, input {@@T(a, a)} z);" + END, "", "the ranges of the label map `T` have 1 and 2 "
+     "bits, and `a`, which picks its row by both, has 2"),
     (LANES + "module m(input [1:0] a, input {@@Dom(a, a)} z);" + END, "", "the label map `Dom` picks its row by one signal"),
     (CLOCKED + "assign w = d; always @(posedge clk) @@q = d;" + END, "", "`q` is assigned by `=` at a clock edge: write `<=`, by which all registers take "
      "their values together"),
@@ -212,8 +266,10 @@ TEXTS = [
      + END, "", "the clock `u.c` is driven at 2:10: " + ALONE),
     ("module s(input @@c, d, output reg q);\n  always @(posedge c) q <= d;\nendmodule\nmodule m(input a, b, d, output x, y);\n  s u(a, d, x), v(b, d, y);" + END,
      "", "the clock `u.c` is `a` of 4:16, and `b` of 4:19 is a clock, too: a design has one; let an enable decide in the block"),
-    ("module s(input @@c, d, output reg q);\n  always @(posedge c) q <= d;\nendmodule\nmodule m(input a, d, output x);\n  s u(~a, d, x);" + END, "", "the clock "
-     "`u.c` of the instance at 5:5 is linked to no whole signal: link it to the clock around it"),
+    (TICKED + "s u(d, @@~a, x);" + END, "", EXPRESSED),
+    (TICKED + "s u(.q(x), .c(@@1'b0), .d(d));" + END, "", EXPRESSED),
+    (TICKED + "s u(.q(x), .@@c(), .d(d));" + END, "", "the clock `u.c` is linked to nothing here: link it to the clock around it"),
+    (TICKED + "s @@u(.q(x), .d(d));" + END, "", "this instance links nothing to its clock `u.c`: link it to the clock around it"),
     ("module m(input {H} @@c, input d, output reg q, r);\n  always @(posedge c) q <= 0;\n  always @(posedge d) r <= 0;" + END, "", "the clock `c` has a label: "
      "everybody sees the time, so a clock is public; take its label away"),
     ("module m(input a, output y);\n  assign y = a;\n  assign @@y = ~a;" + END, "", "`y` has a driver already, at 2:10: assign all its bits in one `always` or "
@@ -242,15 +298,42 @@ TEXTS = [
      "that of the next cycle"),
     ("module m(input clk, input {H} s, input t, output reg q);\n  always @(posedge clk)\n    @@if (s)\n      if (t) ;\n      else q <= 1;" + END, "", "obligation "
      "1: `q` learns from `s`: at the printed values `s` is at `H`, and `q` at `L`: the label of a register is that of the next cycle"),
+    (HOLDS.format(12, "@@q") + HELD(13) + END, "", "8,192 paths lead through the statements to `q`, and 4,096 there may be: split its block, or name a value "
+     "between by a `wire`"),
+    (HOLDS.format(63, "@@q") + HELD(64) + END, "", "over 10^19 paths lead through the statements to `q`, and 4,096 there may be: split its block, or name a value "
+     "between by a `wire`"),
+    (HOLDS.format(12, "@@q") + "if (a[0]) q <= a[1] ? a : 0; else begin " + HELD(13) + " end" + END, "", "8,194 paths lead through the statements to `q`, and 4,096 there may "
+     "be: split its block, or name a value between by a `wire`"),
+    (HOLDS.format(63, "@@q") + "{" + ", ".join(f"q[{bit}]" for bit in range(64)) + "} <= a" + " + a" * 511 + ";\nq[0] <= a" + " + a" * 32 + "; end" + END, "",
+     "65,537 nodes of earlier values are put into one path of `q`, and 65,536 there may be: name a value between by a `wire`"),
     ("labelmap D [0:0] 0: L; default: H; endlabelmap\nmodule m(input {H} q, input {D(q)} @@d, output {H} y);\n  assign y = d;" + END, "", "obligation 2: the label "
      "of `d` tells `q`, which picks it: at the printed values `q` is at `H`, and `d` at `L`; pick a label by a signal that all may see who see `d`"),
 ]
+RETURN = "the line ends with CR and LF: let each line end with LF alone, as `tr -d '\\r'` makes it"
 # Words and a stimulus for the design OWNER in the file `f`, and what is said.
 RUNS = [
     ("sim f", "", "secv: line 1 of the input: here is to stand the line `inputs nxt k`, or before it a line `start REGISTER VALUE`\n"),
-    ("sim f", "inputs nxt k\n0 0\n0 100\n", "secv: line 3 of the input: behind the header each line has a hexadecimal value for each input, with one blank "
-     "between: `nxt` (1 bit), `k` (8 bits); and a line `start REGISTER VALUE` one that fits\n"),
-    ("sim f", "start q 1\n", "secv: line 1 of the input: `start` names no register, or one that is set already; the registers are `owner` (1 bit), `r` (8 bits)\n"),
+    ("sim f", "inputs nxt k\n0 0\n0 100\n", "secv: line 3 of the input: `100` is no value of the input `k`: a hexadecimal one of 8 bits is wanted\n"),
+    ("sim f", "inputs nxt k\n2 0\n", "secv: line 2 of the input: `2` is no value of the input `nxt`: a hexadecimal one of 1 bit is wanted\n"),
+    ("sim f", "inputs nxt k\n" + "0 0\n" * 20000 + "0 x\n0 0\n", "secv: line 20002 of the input: `x` is no value of the input `k`: a hexadecimal one of 8 bits is "
+     "wanted\n"),
+    ("sim f", "inputs nxt k\n0 0\n0", "secv: line 3 of the input: a value of the input `k`, of 8 bits, is missing: each line has a value for each name of "
+     "`inputs nxt k`\n"),
+    ("sim f", "inputs nxt k\n\n0 0\n", "secv: line 2 of the input: a value of the input `nxt`, of 1 bit, is missing: each line has a value for each name of "
+     "`inputs nxt k`\n"),
+    ("sim f", "inputs nxt k\n0  0\n", "secv: line 2 of the input: a blank too many stands where a value of the input `k`, of 8 bits, is wanted\n"),
+    ("sim f", "inputs nxt k\n0 0 \n", "secv: line 2 of the input: a blank too many stands at the end of this line\n"),
+    ("sim f", "inputs nxt k\n0 0 0\n", "secv: line 2 of the input: this line has more values than there are inputs: each has a value for each name of "
+     "`inputs nxt k`\n"),
+    ("sim f", "inputs nxt k\nstart r 1\n", "secv: line 2 of the input: a line `start REGISTER VALUE` stands before the line `inputs nxt k`: behind it there are "
+     "values of inputs alone\n"),
+    ("sim f", "start q 1\n", "secv: line 1 of the input: there is no register `q`; the registers are `owner` (1 bit), `r` (8 bits)\n"),
+    ("sim f", "start r 5\nstart r 6\n", "secv: line 2 of the input: the register `r` is started by an earlier line already: take one of the two away\n"),
+    ("sim f", "start r 100\n", "secv: line 1 of the input: `100` is no value of the register `r`: a hexadecimal one of 8 bits is wanted\n"),
+    ("sim f", "inputs nxt k\r\n0 0\r\n", f"secv: line 1 of the input: {RETURN}\n"),
+    ("compare f j c --level L", "", f"j:1:1: {RETURN}\n"),
+    ("compare f c k --level L", "", "k:3:1: `100` is no value of the input `k`: a hexadecimal one of 8 bits is wanted\n"),
+    ("verify f l", "", f"l:1:1: {RETURN}\n"),
     ("sim f", "inputs nxt k\n" + "0" * 1048577, "secv: line 2 of the input: the line has over 1,048,576 bytes, which are the most\n"),
     ("sim f --level Q", "", "secv: f: there is no point `Q`, which `--level` names; the points are `L`, `H`\n"),
     ("sim points --level Q", "", "secv: points: there is no point `Q`, which `--level` names; the points are " + ", ".join(f"`P{i}`" for i in range(32)) + "\n"),
@@ -263,7 +346,18 @@ RUNS = [
     ("gen 201", "", "secv: a sample has 1 to 200 lanes, and not 201\n"),
     ("check large", "", "secv: large: the file has over 1,048,576 bytes, which is the most: leave out modules that the top has no instance of\n"),
     ("list f", "", ""),
-    ("compare f a c --level L", "", ""),
+    ("check many", "", "secv: many: the design has 69,633 obligations, and 65,536 there may be: split blocks that have many paths; a module that `--top MODULE` "
+     "checks alone tells nothing of the whole\n"),
+    ("compare f c c --level L", "", ""),
+    ("compare f a c --level L", "", "secv: `L` sees no difference in the 0 cycles that a and c both have, and one of them has more: give both as many\n"),
+    ("compare f c d --level L", "", "secv: `L` sees the register `owner` start differently in c and d, which tells nothing of the design: a register starts at 0 or "
+     "by a line `start owner VALUE`; give it the same value in both\n"),
+    ("compare f c e --level L", "", "secv: `L` sees the register `r` start differently in c and e, which tells nothing of the design: a register starts at 0 or by a "
+     "line `start r VALUE`; give it the same value in both, and what picks its label\n"),
+    ("compare f c g --level L", "", "secv: in cycle 0 `L` sees the input `nxt` differently in c and g, which tells nothing of the design: give it the same value in "
+     "both\n"),
+    ("compare f h i --level L", "", "secv: in cycle 1 `L` sees `r` differently in the two runs, though all that it was given looks alike up to there: the design "
+     "leaks\n"),
 ]
 
 
@@ -290,6 +384,15 @@ def runs(folder):
     put(folder, "a", "inputs nxt k\n")
     put(folder, "b", "secv-proof 1\nobligations 1\no 1 0\nend\n")
     put(folder, "c", "inputs nxt k\n0 0\n")
+    put(folder, "d", "start owner 1\ninputs nxt k\n0 0\n")
+    put(folder, "e", "start r 5\ninputs nxt k\n0 0\n")
+    put(folder, "g", "inputs nxt k\n1 0\n")
+    put(folder, "h", "start owner 1\nstart r 5\ninputs nxt k\n0 0\n0 0\n")
+    put(folder, "i", "start owner 1\nstart r 6\ninputs nxt k\n0 0\n0 0\n")
+    put(folder, "j", "inputs nxt k\r\n0 0\r\n")
+    put(folder, "k", "inputs nxt k\n0 0\n0 100\n")
+    put(folder, "l", "secv-proof 1\r\nobligations 1\r\no 1 0\r\nend\r\n")
+    put(folder, "many", MANY)
     put(folder, "large", " " * 1048577)
     put(folder, "points", POINTS + "module m; endmodule\n")
     for words, given, said in RUNS:

@@ -16,12 +16,13 @@ ghost use Rattle.secv.specs.Shown.{help_text, version_text};
 mod kept;
 mod messages;
 
-use kept::KeptFiles;
-use messages::{Causes, Person, explain, explain_memory, explain_output, explain_words};
+use kept::{KeptFiles, KeptInput};
+use messages::{AtHand, Causes, Person, explain, explain_memory, explain_output, explain_words};
 use std::io::{self, ErrorKind, Stdin, Stdout};
 use std::process::ExitCode;
 use sv_cli::run;
 use sv_io::{FileCabinet, PutFault, StdSink, StdSource, put_all};
+use sv_messages::Given;
 use sv_words::{CommandName, help_asked, help_text};
 
 const HELP: &str =
@@ -68,7 +69,7 @@ fn main(rt: HostRuntime) -> ExitCode {
         stderr: rt.stderr(),
     };
     let mut cabinet = KeptFiles::new(FileCabinet::new(&rt));
-    let mut input = StdSource::new(rt.stdin());
+    let mut input = KeptInput::new(rt.alloc(), StdSource::new(rt.stdin()));
     let mut out = StdSink::new(rt.stdout());
     let status = match words_of(&rt) {
         Ok(words) => answer(person, &words, &mut cabinet, &mut input, &mut out),
@@ -92,7 +93,7 @@ fn answer(
     person: Person,
     words: &[String],
     cabinet: &mut KeptFiles<&HostRuntime>,
-    input: &mut StdSource<Stdin>,
+    input: &mut KeptInput<Stdin>,
     out: &mut StdSink<Stdout>,
 ) -> u8
     ensures help { IsHelp (words_of words.now) → Prints help_text 0 out.old out.new result }
@@ -103,8 +104,8 @@ fn answer(
     ensures alone { IsShown (words_of words.now) →
         (cabinet.new ≡ cabinet.old) × (input.new ≡ input.old) }
     ensures ends { (IsShown (words_of words.now) → ⊥) →
-        Ends (words_of words.now) (traffic cabinet.old.files input.old out.old)
-        (traffic cabinet.new.files input.new out.new) result }
+        Ends (words_of words.now) (traffic cabinet.old.files input.old.source out.old)
+        (traffic cabinet.new.files input.new.source out.new) result }
 {
     match words {
         [word] if word.as_str() == "--help" => print(person, out, HELP, DONE),
@@ -154,19 +155,28 @@ fn command(
     person: Person,
     words: &[String],
     cabinet: &mut KeptFiles<&HostRuntime>,
-    input: &mut StdSource<Stdin>,
+    input: &mut KeptInput<Stdin>,
     out: &mut StdSink<Stdout>,
 ) -> u8
-    ensures { Ends (words_of words.now) (traffic cabinet.old.files input.old out.old)
-        (traffic cabinet.new.files input.new out.new) result }
+    ensures { Ends (words_of words.now) (traffic cabinet.old.files input.old.source out.old)
+        (traffic cabinet.new.files input.new.source out.new) result }
 {
     let outcome = run(person.alloc, words, cabinet, input, out);
     let causes = Causes {
         file: cabinet.files.last_error(),
         files_read: cabinet.files.files_read(),
-        input: input.last_error(),
+        input: input.source.last_error(),
         output: out.last_error(),
     };
-    explain(person, words, &outcome, cabinet.text(), &causes);
+    let at_hand = AtHand {
+        text: cabinet.first(),
+        given: Given {
+            second: cabinet.second(),
+            third: cabinet.third(),
+            input: input.lines(),
+            first: input.first_line(),
+        },
+    };
+    explain(person, words, &outcome, &at_hand, &causes);
     outcome.status()
 }

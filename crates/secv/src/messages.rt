@@ -2,7 +2,7 @@
 use std::alloc::Global;
 use std::io::{self, Stderr};
 use sv_cli::{Broken, Outcome, UsageKind};
-use sv_messages::{Origin, OutOfMemory, file_name, message, spent_message};
+use sv_messages::{Given, Origin, OutOfMemory, file_name, message, spent_message};
 use sv_words::{Command, read_words};
 
 const MEMORY: &str = "secv: memory ran out";
@@ -24,14 +24,28 @@ pub struct Causes<'a> {
     pub output: Option<&'a io::Error>,
 }
 
+/// What messages are made from: the first file that was read, empty where it was not read whole,
+/// and what else is at hand.
+#[derive(Clone, Copy)]
+pub struct AtHand<'a> {
+    pub text: &'a [u8],
+    pub given: Given<'a>,
+}
+
 /// What stood in the way of a verdict, or what else than the printed answer a person may want to
-/// know. `text` is the first file that was read, empty where it was not read whole.
-pub fn explain(person: Person, words: &[String], outcome: &Outcome, text: &[u8], causes: &Causes) {
+/// know.
+pub fn explain(
+    person: Person,
+    words: &[String],
+    outcome: &Outcome,
+    at_hand: &AtHand,
+    causes: &Causes,
+) {
     match outcome {
         Outcome::Done => {}
-        Outcome::Refused(broken) => explain_refusal(person, words, broken, text),
+        Outcome::Refused(broken) => explain_refusal(person, words, broken, at_hand),
         Outcome::Usage(kind) => explain_usage(person, words, *kind),
-        Outcome::Unknown(spent) => explain_spent(person, words, spent.obligation, text),
+        Outcome::Unknown(spent) => explain_spent(person, words, spent.obligation, at_hand.text),
         Outcome::ReadFault => explain_read(person, words, causes),
         Outcome::WriteFault => explain_write(person, words, causes),
         Outcome::OutOfMemory => explain_memory(person),
@@ -106,12 +120,13 @@ fn origin_of<'a>(command: &'a Command, text: &'a [u8]) -> Origin<'a> {
 }
 
 // Why a text, a certificate or a stimulus is refused.
-fn explain_refusal(person: Person, words: &[String], broken: &Broken, text: &[u8]) {
+fn explain_refusal(person: Person, words: &[String], broken: &Broken, at_hand: &AtHand) {
     let Some(command) = command_of(person, words) else {
         return explain_memory(person);
     };
-    let origin = origin_of(&command, text);
-    say(person, message(person.alloc, &origin, &command, broken))
+    let origin = origin_of(&command, at_hand.text);
+    let lines = message(person.alloc, &origin, &command, &at_hand.given, broken);
+    say(person, lines)
 }
 
 // That the budget did not suffice for an obligation.

@@ -1,15 +1,108 @@
 // What is said of clocks that are not as a clock is to be.
+use crate::constants::place_of;
 use crate::drivers::instance_words;
+use crate::instances::{instance_of, master_of, own_name};
 use crate::rows::shown;
-use crate::said::Case;
+use crate::said::{Case, Said};
 use crate::uses::{driven_at, link_in, read_at, signal_named};
 use std::alloc::{AllocError, Global};
+use sv_ast::{Links, Text};
 use sv_flat::{Flat, ProcKind, SigId, SigKind, Signal};
 use sv_lattice::Label;
 use sv_num::Place;
 
-/// Of a clock that is not as a clock is to be.
-pub fn clock(alloc: Global, case: &Case) -> Result<String, AllocError> {
+/// Of a clock that is not as a clock is to be. Of one that no whole signal is linked to, the place
+/// is that of the link.
+pub fn clock(alloc: Global, case: &Case) -> Result<Said, AllocError> {
+    if let Some(flat) = case.origin.flat(alloc) {
+        if is_unlinked(&flat, case.name()) {
+            if let Some(text) = case.origin.tree(alloc) {
+                if let Some(link) = port_link(&text, case.origin.top, case.name()) {
+                    return unlinked(alloc, case, link);
+                }
+            }
+        }
+    }
+    Ok(Said::here(case, clock_words(alloc, case)?))
+}
+
+// Whether the signal of a name is an input of an instance that no whole signal is linked to.
+fn is_unlinked(flat: &Flat, name: &[u8]) -> bool {
+    let Some(number) = signal_named(flat, name) else {
+        return false;
+    };
+    match flat.signals.get(number) {
+        Some(signal) => {
+            signal.kind == SigKind::Input && signal.width == 1 && linked_to(flat, number).is_none()
+        }
+        None => false,
+    }
+}
+
+// How an instance links a port: to an expression, to nothing, or not at all.
+#[derive(Clone, Copy)]
+enum PortLink {
+    Expr(Place),
+    Nothing(Place),
+    Missing(Place),
+}
+
+// The link of the port that is the signal of a name.
+fn port_link(text: &Text, top: Option<&str>, name: &[u8]) -> Option<PortLink> {
+    let instance = instance_of(text, top, name)?;
+    let port = own_name(name);
+    let missing = PortLink::Missing(instance.name_place);
+    match &instance.links {
+        Links::Named(links) => match links.iter().find(|link| link.0.bytes() == port) {
+            Some(link) => match &link.2 {
+                Some(expr) => Some(PortLink::Expr(place_of(expr))),
+                None => Some(PortLink::Nothing(link.1)),
+            },
+            None => Some(missing),
+        },
+        Links::Ordered(links) => {
+            let ports = &master_of(text, instance)?.ports;
+            let at = ports.iter().position(|found| found.name.bytes() == port)?;
+            match links.get(at) {
+                Some(expr) => Some(PortLink::Expr(place_of(expr))),
+                None => Some(missing),
+            }
+        }
+    }
+}
+
+// Of a clock of an instance that no whole signal is linked to.
+fn unlinked(alloc: Global, case: &Case, link: PortLink) -> Result<Said, AllocError> {
+    let name = shown(alloc, case.name())?;
+    let (place, words) = match link {
+        PortLink::Expr(place) => (
+            place,
+            format!(in alloc;
+                "the clock `{name}` is linked to an expression here: link it to the clock itself, \
+                and let an enable decide in the block"
+            )?,
+        ),
+        PortLink::Nothing(place) => (
+            place,
+            format!(in alloc;
+                "the clock `{name}` is linked to nothing here: link it to the clock around it"
+            )?,
+        ),
+        PortLink::Missing(place) => (
+            place,
+            format!(in alloc;
+                "this instance links nothing to its clock `{name}`: link it to the clock around it"
+            )?,
+        ),
+    };
+    Ok(Said {
+        place: Some(place),
+        words,
+    })
+}
+
+// What is wrong with a clock, in words.
+fn clock_words(alloc: Global, case: &Case) -> Result<String, AllocError> {
     let name = shown(alloc, case.name())?;
     if let Some(flat) = case.origin.flat(alloc) {
         if let Some(number) = signal_named(&flat, case.name()) {

@@ -240,12 +240,13 @@ fn ends_value(bytes: &[u8]) -> bool {
 }
 
 /// How a name at a spot is used: as a clock, as a bound of a range in a declaration, as what a
-/// statement assigns, or as a value.
+/// statement assigns, whole or a part of it, or as a value.
 #[derive(Clone, Copy)]
 pub enum Use {
     Clock,
     Bound,
     Register,
+    RegisterPart,
     Value,
 }
 
@@ -258,10 +259,45 @@ pub fn use_at(spot: Spot) -> Use {
     if is_bound(spot) {
         return Use::Bound;
     }
+    let is_joined = is_in_joined_target(spot);
+    if !is_joined && !are_before_form(spot.text, spot.front) {
+        return Use::Value;
+    }
     match bytes_at(spot.text, spot.behind, Some(0)) {
-        b"=" | b"<=" if are_before_form(spot.text, spot.front) => Use::Register,
+        b"[" if is_joined || is_assigned(spot.text, behind_select(spot)) => Use::RegisterPart,
+        _ if is_joined || is_assigned(spot.text, spot.behind) => Use::Register,
         _ => Use::Value,
     }
+}
+
+// Whether an assignment's sign comes next.
+fn is_assigned(text: &[u8], tokens: &[Token]) -> bool {
+    matches!(bytes_at(text, tokens, Some(0)), b"=" | b"<=")
+}
+
+// Whether a spot is in the braces of a target: in those with which a statement begins.
+fn is_in_joined_target(spot: Spot) -> bool {
+    let Some(number) = last_open(spot.text, spot.front) else {
+        return false;
+    };
+    bytes_at(spot.text, spot.front, Some(number)) == b"{".as_slice()
+        && are_before_form(spot.text, spot.front.get(..number).unwrap_or(&[]))
+}
+
+// What stands behind the select that comes next.
+fn behind_select(spot: Spot) -> &[Token] {
+    let mut depth = 0usize;
+    for (number, token) in spot.behind.iter().enumerate() {
+        match nesting_of(bytes_of(spot.text, token)) {
+            Nesting::Opens => depth = depth.saturating_add(1),
+            Nesting::Shuts if depth <= 1 => {
+                return behind(spot.behind.get(number..).unwrap_or(&[]));
+            }
+            Nesting::Shuts => depth = depth.saturating_sub(1),
+            Nesting::Neither => {}
+        }
+    }
+    &[]
 }
 
 // Whether a spot is in the range of a declaration.

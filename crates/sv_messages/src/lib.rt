@@ -1,9 +1,9 @@
 //! What a person is told of a refusal, in the words of a hardware designer.
 //!
-//! Takes what a command was asked, the text that it read, and why the answer was no (`Broken` of
-//! `sv_report`). [`message`] gives a line that says what is wrong and, where there is a usual one,
-//! the mend; where the refusal has a place the line begins with it, and below stand the line of the
-//! text and a caret.
+//! Takes what a command was asked, the text that it read, what else it was given, and why the
+//! answer was no (`Broken` of `sv_report`). [`message`] gives a line that says what is wrong and,
+//! where there is a usual one, the mend; where the refusal has a place the line begins with it, and
+//! below stand the line of the text and a caret.
 //!
 //! A message is nothing proved: a cause is found anew in the text, by the calls of the layers
 //! below, and where it is not found the message says less. Promised is that a message ends safely
@@ -12,7 +12,10 @@
 #![tactic(auto)]
 
 mod clocks;
+mod comparisons;
+mod constants;
 mod contexts;
+mod counts;
 mod drivers;
 mod excerpts;
 mod flows;
@@ -24,9 +27,11 @@ mod maps;
 mod messages;
 mod modules;
 mod names;
+mod numerals;
 mod origins;
 mod rows;
 mod said;
+mod selects;
 mod stimuli;
 mod syntax;
 mod uses;
@@ -35,3 +40,4 @@ pub use messages::{message, spent_message};
 pub use origins::Origin;
 pub use rows::file_name;
 pub use std::alloc::AllocError as OutOfMemory;
+pub use stimuli::Given;

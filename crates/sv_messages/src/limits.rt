@@ -1,6 +1,7 @@
 // What is said of limits.
+use crate::counts::{Paths, obligations_of, paths_to};
 use crate::origins::{first_unbuilt, place_of};
-use crate::rows::{Row, file_name, shown, shown_word};
+use crate::rows::{Row, file_name, grouped, shown, shown_word};
 use crate::said::{Case, Said, owned};
 use std::alloc::{AllocError, Global};
 use sv_ast::Item;
@@ -51,43 +52,74 @@ fn declared_at(design: &Design, name: &[u8]) -> Option<Place> {
     Some(signal.place)
 }
 
-// Of the signal that is named.
-fn of_signal(alloc: Global, case: &Case, words: String) -> Said {
-    let place = match case.origin.design(alloc) {
-        Some(design) => declared_at(&design, case.name()),
-        None => None,
-    };
-    Said { place, words }
+// Where the signal that is named is declared, and the paths to it.
+fn signal_of(alloc: Global, case: &Case) -> Result<(Option<Place>, Option<Paths>), AllocError> {
+    match case.origin.design(alloc) {
+        Some(design) => {
+            let paths = paths_to(alloc, &design, case.name())?;
+            Ok((declared_at(&design, case.name()), paths))
+        }
+        None => Ok((None, None)),
+    }
 }
 
 /// Of a signal with too many paths.
 pub fn paths(alloc: Global, case: &Case) -> Result<Said, AllocError> {
     let name = shown(alloc, case.name())?;
-    let words = format!(in alloc;
-        "over 4,096 paths lead through the statements to `{name}`, which is \
-        the most: split its block, or name a value between by a `wire`"
-    )?;
-    Ok(of_signal(alloc, case, words))
+    let mend = "split its block, or name a value between by a `wire`";
+    let (place, paths) = signal_of(alloc, case)?;
+    let words = match paths {
+        Some(paths) => {
+            let count = grouped(alloc, paths.count)?;
+            format!(in alloc;
+                "{count} paths lead through the statements to `{name}`, and 4,096 there may be: \
+                {mend}"
+            )?
+        }
+        None => format!(in alloc;
+            "over 4,096 paths lead through the statements to `{name}`, which is the most: {mend}"
+        )?,
+    };
+    Ok(Said { place, words })
 }
 
 /// Of a path into which too much is put.
 pub fn nodes(alloc: Global, case: &Case) -> Result<Said, AllocError> {
     let name = shown(alloc, case.name())?;
-    let words = format!(in alloc;
-        "over 65,536 nodes of earlier values are put into one path of \
-        `{name}`, which is the most: name a value between by a `wire`"
-    )?;
-    Ok(of_signal(alloc, case, words))
+    let mend = "name a value between by a `wire`";
+    let (place, paths) = signal_of(alloc, case)?;
+    let words = match paths {
+        Some(paths) => {
+            let count = grouped(alloc, paths.nodes)?;
+            format!(in alloc;
+                "{count} nodes of earlier values are put into one path of `{name}`, and 65,536 \
+                there may be: {mend}"
+            )?
+        }
+        None => format!(in alloc;
+            "over 65,536 nodes of earlier values are put into one path of `{name}`, which is the \
+            most: {mend}"
+        )?,
+    };
+    Ok(Said { place, words })
 }
 
 /// Of too many obligations.
 pub fn obligations(alloc: Global, case: &Case) -> Result<Said, AllocError> {
     let file = file_name(alloc, case.origin.file)?;
-    let words = format!(in alloc;
-        "{file}: the design has over 65,536 obligations, which are the most: \
-        split blocks that have many paths; a module that `--top MODULE` checks alone tells nothing \
-        of the whole"
-    )?;
+    let mend = "split blocks that have many paths; a module that `--top MODULE` checks alone \
+                tells nothing of the whole";
+    let words = match case.origin.design(alloc) {
+        Some(design) => {
+            let count = grouped(alloc, obligations_of(alloc, &design)?)?;
+            format!(in alloc;
+                "{file}: the design has {count} obligations, and 65,536 there may be: {mend}"
+            )?
+        }
+        None => format!(in alloc;
+            "{file}: the design has over 65,536 obligations, which are the most: {mend}"
+        )?,
+    };
     Ok(Said::nowhere(words))
 }
 

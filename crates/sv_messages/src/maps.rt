@@ -133,8 +133,8 @@ pub fn map_row(alloc: Global, case: &Case) -> Result<String, AllocError> {
     format!(in alloc; "the label map `{name}` has a wrong range, key or point, or a key twice")
 }
 
-// Whether a literal is a number below 0: a signed one whose highest bit is 1.
-fn is_negative(number: &Lit) -> bool {
+/// Whether a literal is a number below 0: a signed one whose highest bit is 1.
+pub fn is_negative(number: &Lit) -> bool {
     let bits = number.bits;
     let below = (bits.width() as u32).saturating_sub(1);
     bits.signed() && matches!(bits.value().checked_shr(below), Some(1))

@@ -1,5 +1,6 @@
 // The lines of a message.
 use crate::clocks::clock;
+use crate::comparisons::{leak, lengths, unlike_given};
 use crate::drivers::{circle as signal_circle, drivers, undriven, wrong_assign};
 use crate::excerpts::push_excerpt;
 use crate::flows::{flow, spent};
@@ -7,12 +8,13 @@ use crate::forms::lexical_form;
 use crate::links::{link, parameter};
 use crate::modules::{no_top, recursive, too_many, unknown_module};
 use crate::names::{label, twice, unknown_name};
+use crate::numerals::bad_number;
 use crate::origins::Origin;
 use crate::rows::{file_name, shown};
 use crate::said::{Case, Said, owned};
-use crate::stimuli::{proof, stimulus};
+use crate::stimuli::{Given, proof, stimulus};
 use crate::syntax::{bad_byte, left_out, too_long, unexpected};
-use crate::{limits, maps};
+use crate::{limits, maps, selects};
 use std::alloc::{AllocError, Global};
 use sv_num::{Name, Place, Rule};
 use sv_report::Broken;
@@ -21,13 +23,14 @@ use sv_words::Command;
 // Where a limit stands that has no place.
 const NOWHERE: Place = Place { line: 1, column: 1 };
 
-/// The lines that tell a person why a text, a certificate or a stimulus is refused: one that says
-/// what is wrong, and where there is a place the line of the text and a caret. Nothing is said of
-/// two runs that differ. It fails where memory runs out.
+/// The lines that tell a person why a text, a certificate or a stimulus is refused, or how two runs
+/// differ: one that says what is wrong, and where there is a place the line of the text and a
+/// caret. It fails where memory runs out.
 pub fn message(
     alloc: Global,
     origin: &Origin,
     command: &Command,
+    given: &Given,
     broken: &Broken,
 ) -> Result<String, AllocError> {
     match broken {
@@ -43,11 +46,13 @@ pub fn message(
         }
         Broken::Limit(number, names) => ruled(alloc, origin, command, *number, NOWHERE, names),
         Broken::Fails(number, v) => lines(alloc, origin, flow(alloc, origin, *number, v)?),
-        Broken::Proof(line) => proof(alloc, command, *line),
+        Broken::Proof(line) => proof(alloc, command, given, *line),
         Broken::Stimulus(source, line, kind) => {
-            stimulus(alloc, origin, command, *source, *line, *kind)
+            stimulus(alloc, origin, command, given, (*source, *line, *kind))
         }
-        Broken::Input(..) | Broken::View(..) | Broken::Lengths(_) => Ok(String::new(alloc)),
+        Broken::Input(cycle, signal) => unlike_given(alloc, origin, command, *cycle, *signal),
+        Broken::View(cycle, signal) => leak(alloc, origin, command, *cycle, *signal),
+        Broken::Lengths(cycles) => lengths(alloc, command, *cycles),
     }
 }
 
@@ -100,7 +105,7 @@ fn lines(alloc: Global, origin: &Origin, said: Said) -> Result<String, AllocErro
 fn message_of(alloc: Global, rule: Rule, case: &Case) -> Result<Said, AllocError> {
     let words = match rule {
         Rule::BadByte => bad_byte(alloc, case)?,
-        Rule::BadNumber => owned(alloc, BAD_NUMBER)?,
+        Rule::BadNumber => bad_number(alloc, case)?,
         Rule::OpenComment => owned(alloc, "this comment has no end: `*/` is missing")?,
         Rule::UnsupportedForm => owned(alloc, lexical_form(case.name()))?,
         Rule::NotBuilt => return limits::unbuilt(alloc, case),
@@ -124,11 +129,8 @@ fn message_of(alloc: Global, rule: Rule, case: &Case) -> Result<Said, AllocError
         Rule::TooMany => too_many(alloc, case)?,
         Rule::Parameter => parameter(alloc, case)?,
         Rule::UnknownName => unknown_name(alloc, case)?,
-        Rule::TooWide => owned(
-            alloc,
-            "this has over 64 bits, which are the most: split it in two",
-        )?,
-        Rule::BadSelect => owned(alloc, BAD_SELECT)?,
+        Rule::TooWide => selects::too_wide(alloc, case)?,
+        Rule::BadSelect => selects::bad_select(alloc, case)?,
         Rule::NotConstant => owned(
             alloc,
             "a constant is wanted here, and this is a signal: use a parameter",
@@ -139,11 +141,11 @@ fn message_of(alloc: Global, rule: Rule, case: &Case) -> Result<Said, AllocError
             alloc,
             "a number directly in braces needs a size, as 4'd3 has",
         )?,
-        Rule::BadCount => owned(alloc, "a replication is written 1 to 64 times")?,
-        Rule::BadRange => owned(alloc, "a range is `[m:0]` with m from 0 to 63")?,
+        Rule::BadCount => selects::bad_count(alloc, case)?,
+        Rule::BadRange => selects::bad_range(alloc, case)?,
         Rule::Label => label(alloc, case)?,
         Rule::WrongAssign => wrong_assign(alloc, case)?,
-        Rule::Clock => clock(alloc, case)?,
+        Rule::Clock => return clock(alloc, case),
         Rule::Drivers => drivers(alloc, case)?,
         Rule::Undriven => undriven(alloc, case)?,
         Rule::Latch => latch(alloc, case)?,
@@ -164,15 +166,8 @@ fn message_of(alloc: Global, rule: Rule, case: &Case) -> Result<Said, AllocError
     Ok(Said::here(case, words))
 }
 
-const BAD_NUMBER: &str =
-    "this is no number that can be: without a size it is below 2^32; with one, \
-     as in 8'hff, it has 1 to 64 bits and digits of its base; and no letter follows it";
-
 const TOO_DEEP: &str = "this opens a level too many: at most 64 brackets, operators and statements \
      may be open at once; name a part by a `wire`";
-
-const BAD_SELECT: &str =
-    "this bit or part lies outside of its signal, or its high bound is below its low one";
 
 const DIVISION: &str = "`/` and `%` are for constants alone: divide by a power of 2 by a shift, or \
      build a divider";

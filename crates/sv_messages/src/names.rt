@@ -1,4 +1,5 @@
 // What is said of names: unknown ones, those declared twice, and labels.
+use crate::constants::Constants;
 use crate::contexts::{Use, is_in_value, spot_at, use_at};
 use crate::maps::{counts_of, points_of};
 use crate::origins::{Origin, is_up_to, module_at};
@@ -145,6 +146,7 @@ fn declaration_at(origin: &Origin, alloc: Global, place: Place) -> (&'static str
         Use::Clock => ("input", ""),
         Use::Bound => ("parameter", " = 8;"),
         Use::Register => ("reg", ";"),
+        Use::RegisterPart => ("reg [7:0]", ";"),
         Use::Value => ("wire", ";"),
     }
 }
@@ -243,21 +245,45 @@ fn table_label(
     if found.second.is_some() != second.is_some() {
         return wrong_count(alloc, map, found.second.is_some());
     }
-    let name = shown(alloc, case.name())?;
+    let width = Constants::new(alloc, text, module)?.width(case.name());
+    wrong_width(alloc, found, label, case.name(), width)
+}
+
+// Of a selector of so many bits, which are not those of the map's range.
+fn wrong_width(
+    alloc: Global,
+    found: &MapText,
+    label: (&[u8], &[u8], Option<&[u8]>),
+    name: &[u8],
+    width: Option<u64>,
+) -> Result<String, AllocError> {
+    let (map, first, second) = label;
+    let count = count_at(found, name, first, second);
+    let counts = counts_of(found);
+    let name = shown(alloc, name)?;
     let map = shown(alloc, map)?;
-    match count_at(found, case.name(), first, second) {
-        Some(2) => format!(in alloc;
-            "the range of the label map `{map}` has 1 bit, and `{name}`, which picks its row, has \
-            more"
-        ),
-        Some(count) => {
+    let width = match width {
+        Some(width) => format!(in alloc; "{width}")?,
+        None => owned(alloc, "another number")?,
+    };
+    match (count, counts) {
+        (Some(count), _) => {
             let bits = count.trailing_zeros();
+            let unit = if bits == 1 { "bit" } else { "bits" };
             format!(in alloc;
-                "the range of the label map `{map}` has {bits} bits, and `{name}`, which picks its \
-                row, has not"
+                "the range of the label map `{map}` has {bits} {unit}, and `{name}`, which picks \
+                its row, has {width}"
             )
         }
-        None => format!(in alloc;
+        (None, Some(counts)) => {
+            let first = counts.0.trailing_zeros();
+            let second = counts.1.trailing_zeros();
+            format!(in alloc;
+                "the ranges of the label map `{map}` have {first} and {second} bits, and `{name}`, \
+                which picks its row by both, has {width}"
+            )
+        }
+        (None, None) => format!(in alloc;
             "`{name}` has not as many bits as the range of the label map `{map}`, whose row it \
             picks"
         ),

@@ -24,6 +24,25 @@ pub fn shown(alloc: Global, name: &[u8]) -> Result<String, AllocError> {
     format!(in alloc; "{front}...{end}")
 }
 
+/// A number in decimal, its digits in groups of three; what is too large to be counted is over
+/// 10^19.
+pub fn grouped(alloc: Global, number: u64) -> Result<String, AllocError> {
+    if number == u64::MAX {
+        return format!(in alloc; "over 10^19");
+    }
+    let digits = format!(in alloc; "{number}")?;
+    let mut left = digits.len();
+    let mut text = String::new(alloc);
+    for digit in digits.as_str().chars() {
+        text.push(digit)?;
+        left = left.saturating_sub(1);
+        if left > 0 && left % 3 == 0 {
+            text.push(',')?;
+        }
+    }
+    Ok(text)
+}
+
 /// The name of a file as it is shown: control characters, and others that cannot be seen, are
 /// escaped; quotes and backslashes stand as they are.
 pub fn file_name(alloc: Global, name: &str) -> Result<String, AllocError> {

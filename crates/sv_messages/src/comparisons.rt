@@ -1,0 +1,111 @@
+// What is said of two runs that differ.
+use crate::origins::Origin;
+use crate::rows::{file_name, grouped, shown, shown_word};
+use std::alloc::{AllocError, Global};
+use sv_design::Design;
+use sv_flat::{SigId, Signal};
+use sv_lattice::Label;
+use sv_words::Command;
+
+// The level that looks at both runs.
+fn level_of(alloc: Global, command: &Command) -> Result<String, AllocError> {
+    match command {
+        Command::Compare { level, .. } => shown_word(alloc, level.as_str()),
+        _ => Ok(String::new(alloc)),
+    }
+}
+
+// The two stimuli.
+fn stimuli_of(alloc: Global, command: &Command) -> Result<String, AllocError> {
+    match command {
+        Command::Compare { a, b, .. } => {
+            let a = file_name(alloc, a.as_str())?;
+            let b = file_name(alloc, b.as_str())?;
+            format!(in alloc; "{a} and {b}")
+        }
+        _ => format!(in alloc; "the stimuli"),
+    }
+}
+
+// What besides a signal is to be alike, where another signal picks its label.
+fn with_label(signal: &Signal) -> &'static str {
+    match signal.label {
+        Label::Point(_) => "",
+        Label::Table { .. } => ", and what picks its label",
+    }
+}
+
+/// Of two runs that are given what differs.
+pub fn unlike_given(
+    alloc: Global,
+    origin: &Origin,
+    command: &Command,
+    cycle: u64,
+    signal: SigId,
+) -> Result<String, AllocError> {
+    let Some(design) = origin.design(alloc) else {
+        return Ok(String::new(alloc));
+    };
+    let Some(found) = design.signals().get(signal.0 as usize) else {
+        return Ok(String::new(alloc));
+    };
+    let level = level_of(alloc, command)?;
+    let stimuli = stimuli_of(alloc, command)?;
+    let name = shown(alloc, found.name.bytes())?;
+    let label = with_label(found);
+    if is_register(&design, signal) {
+        return format!(in alloc;
+            "secv: `{level}` sees the register `{name}` start differently in {stimuli}, which \
+            tells nothing of the design: a register starts at 0 or by a line `start {name} VALUE`; \
+            give it the same value in both{label}\n"
+        );
+    }
+    let cycle = grouped(alloc, cycle)?;
+    format!(in alloc;
+        "secv: in cycle {cycle} `{level}` sees the input `{name}` differently in {stimuli}, which \
+        tells nothing of the design: give it the same value in both{label}\n"
+    )
+}
+
+// Whether a signal is a register of the design.
+fn is_register(design: &Design, signal: SigId) -> bool {
+    design
+        .registers()
+        .iter()
+        .any(|register| *register == signal)
+}
+
+/// Of two runs that are given what looks alike, and look different.
+pub fn leak(
+    alloc: Global,
+    origin: &Origin,
+    command: &Command,
+    cycle: u64,
+    signal: SigId,
+) -> Result<String, AllocError> {
+    let Some(design) = origin.design(alloc) else {
+        return Ok(String::new(alloc));
+    };
+    let Some(found) = design.signals().get(signal.0 as usize) else {
+        return Ok(String::new(alloc));
+    };
+    let level = level_of(alloc, command)?;
+    let name = shown(alloc, found.name.bytes())?;
+    let cycle = grouped(alloc, cycle)?;
+    format!(in alloc;
+        "secv: in cycle {cycle} `{level}` sees `{name}` differently in the two runs, though all \
+        that it was given looks alike up to there: the design leaks\n"
+    )
+}
+
+/// Of two runs that look alike until the shorter one ends, which has so many cycles.
+pub fn lengths(alloc: Global, command: &Command, cycles: u64) -> Result<String, AllocError> {
+    let level = level_of(alloc, command)?;
+    let stimuli = stimuli_of(alloc, command)?;
+    let number = grouped(alloc, cycles)?;
+    let unit = if cycles == 1 { "cycle" } else { "cycles" };
+    format!(in alloc;
+        "secv: `{level}` sees no difference in the {number} {unit} that {stimuli} both have, and \
+        one of them has more: give both as many\n"
+    )
+}

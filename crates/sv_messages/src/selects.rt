@@ -1,0 +1,380 @@
+// What is said of bits and parts that lie outside of their signals, of ranges, and of lengths.
+use crate::constants::{Constants, place_of};
+use crate::origins::{item_at, module_at};
+use crate::rows::{grouped, shown};
+use crate::said::{Case, owned};
+use std::alloc::{AllocError, Global};
+use sv_ast::{Arm, Expr, Instance, Item, Links, Module, Select, Span, Stmt, Target};
+use sv_num::Place;
+
+// What is sought at a place: a bit, by the place of its index, or a part; what has too many bits;
+// or a replication by the place of its count.
+#[derive(Clone, Copy)]
+enum Sought {
+    Select(Place),
+    Length(Place),
+    Count(Place),
+}
+
+// What is found there.
+#[derive(Clone, Copy)]
+enum Found<'t> {
+    Bit(&'t [u8], &'t Expr),
+    Part(&'t [u8], &'t Expr, &'t Expr),
+    Expr(&'t Expr),
+    Targets(&'t [Target]),
+}
+
+// The first of two that there is.
+fn first_of<'t>(first: Option<Found<'t>>, second: Option<Found<'t>>) -> Option<Found<'t>> {
+    match first {
+        Some(found) => Some(found),
+        None => second,
+    }
+}
+
+// What is found in an expression, in its operands first.
+#[cycle(in_expr)]
+fn in_expr(expr: &Expr, sought: Sought) -> Option<Found<'_>> {
+    let inside = match expr {
+        Expr::Number(_, _) => None,
+        Expr::Name(_, _) => None,
+        Expr::Bit(_, _, index) => in_expr(index, sought),
+        Expr::Part(_, _, high, low) => first_of(in_expr(high, sought), in_expr(low, sought)),
+        Expr::Unary(_, _, operand) => in_expr(operand, sought),
+        Expr::Binary(_, _, left, right) => first_of(in_expr(left, sought), in_expr(right, sought)),
+        Expr::Choice(_, cond, yes, no) => {
+            let in_values = first_of(in_expr(yes, sought), in_expr(no, sought));
+            first_of(in_expr(cond, sought), in_values)
+        }
+        Expr::Join(_, parts) => in_exprs(parts, sought),
+        Expr::Repeat(_, count, parts) => first_of(in_expr(count, sought), in_exprs(parts, sought)),
+    };
+    first_of(inside, as_sought(expr, sought))
+}
+
+#[cycle(in_expr)]
+fn in_exprs(exprs: &[Expr], sought: Sought) -> Option<Found<'_>> {
+    for expr in exprs {
+        if let Some(found) = in_expr(expr, sought) {
+            return Some(found);
+        }
+    }
+    None
+}
+
+// The expression itself, where it is what is sought.
+fn as_sought(expr: &Expr, sought: Sought) -> Option<Found<'_>> {
+    match (expr, sought) {
+        (Expr::Bit(name, _, index), Sought::Select(place)) if place_of(index) == place => {
+            Some(Found::Bit(name.bytes(), index))
+        }
+        (Expr::Part(name, at, high, low), Sought::Select(place)) if *at == place => {
+            Some(Found::Part(name.bytes(), high, low))
+        }
+        (Expr::Join(at, _), Sought::Length(place)) if *at == place => Some(Found::Expr(expr)),
+        (Expr::Repeat(at, _, _), Sought::Length(place)) if *at == place => Some(Found::Expr(expr)),
+        (Expr::Repeat(_, count, _), Sought::Count(place)) if place_of(count) == place => {
+            Some(Found::Expr(count))
+        }
+        _ => None,
+    }
+}
+
+// What is found in an assignment, its targets first.
+fn in_assignment<'t>(
+    targets: &'t [Target],
+    at: Place,
+    value: &'t Expr,
+    sought: Sought,
+) -> Option<Found<'t>> {
+    match sought {
+        Sought::Select(place) => {
+            for target in targets {
+                if let Some(found) = in_target(target, place) {
+                    return Some(found);
+                }
+            }
+        }
+        Sought::Length(place) if at == place => return Some(Found::Targets(targets)),
+        _ => {}
+    }
+    in_expr(value, sought)
+}
+
+fn in_target(target: &Target, place: Place) -> Option<Found<'_>> {
+    match &target.select {
+        Select::Bit(index) if place_of(index) == place => {
+            Some(Found::Bit(target.name.bytes(), index))
+        }
+        Select::Part(high, low) if target.place == place => {
+            Some(Found::Part(target.name.bytes(), high, low))
+        }
+        _ => None,
+    }
+}
+
+// What is found in a statement.
+#[cycle(in_statement)]
+fn in_statement(stmt: &Stmt, sought: Sought) -> Option<Found<'_>> {
+    match stmt {
+        Stmt::Null => None,
+        Stmt::Assign {
+            targets,
+            place,
+            value,
+            ..
+        } => in_assignment(targets, *place, value, sought),
+        Stmt::Block(stmts) => in_statements(stmts, sought),
+        Stmt::If { cond, yes, no, .. } => {
+            let in_no = match no {
+                Some(no) => in_statement(no, sought),
+                None => None,
+            };
+            let in_arms = first_of(in_statement(yes, sought), in_no);
+            first_of(in_expr(cond, sought), in_arms)
+        }
+        Stmt::Case { selector, arms, .. } => {
+            first_of(in_expr(selector, sought), in_arms(arms, sought))
+        }
+    }
+}
+
+#[cycle(in_statement)]
+fn in_statements(stmts: &[Stmt], sought: Sought) -> Option<Found<'_>> {
+    for stmt in stmts {
+        if let Some(found) = in_statement(stmt, sought) {
+            return Some(found);
+        }
+    }
+    None
+}
+
+#[cycle(in_statement)]
+fn in_arms(arms: &[Arm], sought: Sought) -> Option<Found<'_>> {
+    for arm in arms {
+        let in_arm = in_statement(&arm.body, sought);
+        if let Some(found) = first_of(in_exprs(&arm.items, sought), in_arm) {
+            return Some(found);
+        }
+    }
+    None
+}
+
+// What is found in an item.
+fn in_item(item: &Item, sought: Sought) -> Option<Found<'_>> {
+    match item {
+        Item::Param(param) => in_expr(&param.value, sought),
+        Item::Decl(decl) => in_expr(decl.value.as_ref()?, sought),
+        Item::Assign {
+            targets,
+            place,
+            value,
+        } => in_assignment(targets, *place, value, sought),
+        Item::Always { body, .. } => in_statement(body, sought),
+        Item::Instance(instance) => in_links(instance, sought),
+        _ => None,
+    }
+}
+
+// What is found in the links of an instance.
+fn in_links(instance: &Instance, sought: Sought) -> Option<Found<'_>> {
+    match &instance.links {
+        Links::Ordered(links) => in_exprs(links, sought),
+        Links::Named(links) => {
+            for link in links {
+                if let Some(expr) = &link.2 {
+                    if let Some(found) = in_expr(expr, sought) {
+                        return Some(found);
+                    }
+                }
+            }
+            None
+        }
+    }
+}
+
+// What is found in the item around a place.
+fn found_at(module: &Module, place: Place, sought: Sought) -> Option<Found<'_>> {
+    in_item(item_at(module, place)?, sought)
+}
+
+const OUTSIDE: &str =
+    "this bit or part lies outside of its signal, or its high bound is below its low one";
+
+/// Of a bit or part outside of its signal, or with its bounds in the wrong order.
+pub fn bad_select(alloc: Global, case: &Case) -> Result<String, AllocError> {
+    let Some(text) = case.origin.tree(alloc) else {
+        return owned(alloc, OUTSIDE);
+    };
+    let Some(module) = module_at(&text, case.place) else {
+        return owned(alloc, OUTSIDE);
+    };
+    let constants = Constants::new(alloc, &text, module)?;
+    match found_at(module, case.place, Sought::Select(case.place)) {
+        Some(Found::Bit(name, index)) => outside(alloc, &constants, name, index),
+        Some(Found::Part(name, high, low)) => wrong_part(alloc, &constants, name, high, low),
+        _ => owned(alloc, OUTSIDE),
+    }
+}
+
+// That a signal has so many bits.
+fn bits_of(alloc: Global, constants: &Constants, name: &[u8]) -> Result<String, AllocError> {
+    let signal = shown(alloc, name)?;
+    match constants.width(name) {
+        Some(1) => format!(in alloc; "`{signal}` has 1 bit, whose number is 0"),
+        Some(width) => {
+            let last = width.saturating_sub(1);
+            format!(in alloc; "`{signal}` has {width} bits, whose numbers are 0 to {last}")
+        }
+        None => format!(in alloc; "`{signal}` has fewer bits"),
+    }
+}
+
+// Of a bit that a signal has not.
+fn outside(
+    alloc: Global,
+    constants: &Constants,
+    name: &[u8],
+    index: &Expr,
+) -> Result<String, AllocError> {
+    let bits = bits_of(alloc, constants, name)?;
+    match constants.value(index) {
+        Some(number) => format!(in alloc; "there is no bit {number}: {bits}"),
+        None => format!(in alloc; "there is no such bit: {bits}"),
+    }
+}
+
+// Of a part that a signal has not, or whose bounds are in the wrong order.
+fn wrong_part(
+    alloc: Global,
+    constants: &Constants,
+    name: &[u8],
+    high: &Expr,
+    low: &Expr,
+) -> Result<String, AllocError> {
+    let (Some(high), Some(low)) = (constants.value(high), constants.value(low)) else {
+        return owned(alloc, OUTSIDE);
+    };
+    if high < low {
+        return format!(in alloc;
+            "the high bound of the part `[{high}:{low}]` is below its low one: write \
+            `[{low}:{high}]`"
+        );
+    }
+    let bits = bits_of(alloc, constants, name)?;
+    format!(in alloc; "there is no part `[{high}:{low}]`: {bits}")
+}
+
+/// Of what has over 64 bits.
+pub fn too_wide(alloc: Global, case: &Case) -> Result<String, AllocError> {
+    match length_at(alloc, case)? {
+        Some(length) if length > 64 => {
+            let length = grouped(alloc, length)?;
+            format!(in alloc; "this has {length} bits, and 64 there may be: split it in two")
+        }
+        _ => owned(
+            alloc,
+            "this has over 64 bits, which are the most: split it in two",
+        ),
+    }
+}
+
+// How many bits has what stands at the place of a case.
+fn length_at(alloc: Global, case: &Case) -> Result<Option<u64>, AllocError> {
+    let Some(text) = case.origin.tree(alloc) else {
+        return Ok(None);
+    };
+    let Some(module) = module_at(&text, case.place) else {
+        return Ok(None);
+    };
+    let constants = Constants::new(alloc, &text, module)?;
+    match found_at(module, case.place, Sought::Length(case.place)) {
+        Some(Found::Expr(expr)) => Ok(constants.length(expr)),
+        Some(Found::Targets(targets)) => Ok(constants.targets_length(targets)),
+        _ => Ok(None),
+    }
+}
+
+/// Of a replication that is written too often, or not at all.
+pub fn bad_count(alloc: Global, case: &Case) -> Result<String, AllocError> {
+    if let Some(text) = case.origin.tree(alloc) {
+        if let Some(module) = module_at(&text, case.place) {
+            let constants = Constants::new(alloc, &text, module)?;
+            let found = found_at(module, case.place, Sought::Count(case.place));
+            if let Some(Found::Expr(count)) = found {
+                if let Some(count) = constants.value(count) {
+                    return format!(in alloc;
+                        "this replication is written {count} times, and 1 to 64 times it may be"
+                    );
+                }
+            }
+        }
+    }
+    owned(alloc, "a replication is written 1 to 64 times")
+}
+
+// The range of a module whose high bound is at a place.
+fn range_at(module: &Module, place: Place) -> Option<&Span> {
+    for param in &module.params {
+        if let Some(span) = range_if(&param.span, place) {
+            return Some(span);
+        }
+    }
+    for port in &module.ports {
+        if let Some(span) = range_if(&port.span, place) {
+            return Some(span);
+        }
+    }
+    for item in &module.items {
+        let span = match item {
+            Item::Param(param) => range_if(&param.span, place),
+            Item::Decl(decl) => range_if(&decl.span, place),
+            _ => None,
+        };
+        if span.is_some() {
+            return span;
+        }
+    }
+    None
+}
+
+fn range_if(span: &Option<Span>, place: Place) -> Option<&Span> {
+    match span {
+        Some(span) if place_of(&span.high) == place => Some(span),
+        _ => None,
+    }
+}
+
+/// Of a range that is none of a signal.
+pub fn bad_range(alloc: Global, case: &Case) -> Result<String, AllocError> {
+    if let Some(text) = case.origin.tree(alloc) {
+        if let Some(module) = module_at(&text, case.place) {
+            if let Some(span) = range_at(module, case.place) {
+                let constants = Constants::new(alloc, &text, module)?;
+                let bounds = (constants.value(&span.high), constants.value(&span.low));
+                if let (Some(high), Some(low)) = bounds {
+                    return wrong_range(alloc, high, low);
+                }
+            }
+        }
+    }
+    owned(alloc, "a range is `[m:0]` with m from 0 to 63")
+}
+
+// Of a range between two numbers.
+fn wrong_range(alloc: Global, high: u64, low: u64) -> Result<String, AllocError> {
+    if low == 0 {
+        let bits = grouped(alloc, high.saturating_add(1))?;
+        return format!(in alloc;
+            "the range `[{high}:0]` has {bits} bits, and 64 there may be: split the signal in two"
+        );
+    }
+    if high == 0 {
+        return format!(in alloc;
+            "the range `[0:{low}]` has its low bound first: write `[{low}:0]`, with the highest \
+            bit first"
+        );
+    }
+    format!(in alloc; "the range `[{high}:{low}]` is to end at 0: `[m:0]`, with m from 0 to 63")
+}

@@ -1,7 +1,8 @@
 #!/usr/bin/env python3
 """Checks hierarchies at the limits of elaboration through ./secv: signals, instances, points and rows of maps at the limit and one past
 it, modules nested and chained, and a hierarchy whose whole size no machine could hold; and blocks of 4,096 signals and of 100,000 statements, with
-a latch and without one; and encodings at the limit of variables, of the longest chain of `else`, and of as many labels as fit. Each wanted line, with the number of obligations where nothing is broken, is worked out here from docs/language.md. The last line is 'N passed, M failed'.
+a latch and without one; and encodings at the limit of variables, of the longest chain of `else`, and of as many labels as fit; all but two chains
+with 1 MB of stack. Each wanted line, with the number of obligations where nothing is broken, is worked out here from docs/language.md. The last line is 'N passed, M failed'.
 """
 import os
 import resource
@@ -13,8 +14,8 @@ TOP = os.path.dirname(os.path.dirname(os.path.abspath(__file__)))
 SECV = os.path.join(TOP, "secv")
 MOST_SECONDS = 10
 MOST_MEGABYTES = 256
-# What most systems give a program.
-STACK_MEGABYTES = 8
+# Of a stack: less than most systems give a program, and what most give, which a chain of `else` through 64 levels of cases needs.
+LITTLE_STACK, STACK = 1024, 8192
 passed = failed = 0
 
 
@@ -28,13 +29,13 @@ def accepted(count):
     return f"accepted {count} obligations"
 
 
-def check(what, text, wanted, folder, words=()):
-    """The program's line for the text, and whether it is the wanted one, in little processor time and memory."""
+def check(what, text, wanted, folder, words=(), stack=LITTLE_STACK):
+    """The program's line for the text, and whether it is the wanted one, in little processor time and memory, with so many KB of stack."""
     global passed, failed
     path = os.path.join(folder, "text.v")
     with open(path, "w", encoding="ascii") as file:
         file.write(text)
-    limit = f"ulimit -S -s {STACK_MEGABYTES * 1024}; ulimit -v {MOST_MEGABYTES * 1024}; exec \"$@\""
+    limit = f"ulimit -S -s {stack}; ulimit -v {MOST_MEGABYTES * 1024}; exec \"$@\""
     before = processor_seconds()
     try:
         answer = subprocess.run(["sh", "-c", limit, "sh", SECV, "check", path, *words], stdin=subprocess.DEVNULL, stdout=subprocess.PIPE,
@@ -86,6 +87,10 @@ def instances(folder):
         lines = [f"module m{i}(input a); {f'm{i + 1} u(.a(a));' if i + 1 < count else ''} endmodule" for i in range(count)]
         wanted = accepted(count - 1) if count <= 1024 else f"refused 315 too-many {count - 1}:{len(f'module m{count - 2}(input a); ') + 1}"
         check(f"{count} modules, each in the one before", "\n".join(lines) + "\n", wanted, folder)
+    # through a thousand levels to a register, whose clock is the top's: an obligation for each input but the top's, each output and the register
+    lines = [f"module m{i}(input c, input a, output y); m{i + 1} u(.c(c), .a(a), .y(y)); endmodule" for i in range(999)]
+    lines += ["module m999(input c, input a, output y); reg r; always @(posedge c) r <= a; assign y = r; endmodule"]
+    check("a clock through 1,000 levels", "\n".join(lines) + "\n", accepted(999 + 1000 + 1), folder)
     # a tree: 31 in the top, and 32 in each of these, are 1 + 31 + 31 * 32 = 1,024
     for more in (0, 1):
         lines = ["module s(input a); endmodule", "module r(input a);", *[f"  s u{i}(.a(a));" for i in range(32)], "endmodule"]
@@ -227,8 +232,8 @@ def chains(folder):
     check("a chain of 512 else in 64 levels", nested_cases([9] * 64), accepted(513), folder)
     one_more = nested_cases([65] * 64)
     clauses("a chain with one more else", one_more, "refused 702 paths y\n", folder)
-    check("a chain with one more else", one_more, "refused 702 paths y", folder)
-    check("64 levels of 256 arms", nested_cases([256] * 64), "refused 702 paths y", folder)
+    check("a chain with one more else", one_more, "refused 702 paths y", folder, stack=STACK)
+    check("64 levels of 256 arms", nested_cases([256] * 64), "refused 702 paths y", folder, stack=STACK)
     clauses("64 levels of 256 arms", nested_cases([256] * 64), "refused 702 paths y\n", folder)
 
 

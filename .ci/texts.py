@@ -13,6 +13,8 @@ SECV = os.path.join(TOP, "secv")
 LIMIT = 1048576
 MOST_SECONDS = 10
 MOST_MEGABYTES = 256
+# Of the stack.
+LITTLE_STACK = 1024
 REFUSED = """and automatic buf bufif0 bufif1 casex casez cell cmos config deassign defparam design disable edge endconfig endfunction endgenerate
  endprimitive endspecify endtable endtask event for force forever fork function generate genvar highz0 highz1 ifnone incdir include initial inout
  instance integer join large liblist library macromodule medium nand negedge nmos nor noshowcancelled not notif0 notif1 or pmos primitive pull0 pull1
@@ -32,12 +34,12 @@ passed = failed = 0
 
 
 def check(what, text, wanted, folder):
-    """The program's line for the text, and whether it is the wanted one, in little time and memory."""
+    """The program's line for the text, and whether it is the wanted one, in little time, memory and stack."""
     global passed, failed
     path = os.path.join(folder, "text.v")
     with open(path, "wb") as file:
         file.write(text if isinstance(text, bytes) else text.encode())
-    limit = f"ulimit -v {MOST_MEGABYTES * 1024}; exec \"$@\""
+    limit = f"ulimit -S -s {LITTLE_STACK}; ulimit -v {MOST_MEGABYTES * 1024}; exec \"$@\""
     answer = subprocess.run(["sh", "-c", limit, "sh", SECV, "check", path], stdin=subprocess.DEVNULL, stdout=subprocess.PIPE,
                             stderr=subprocess.DEVNULL, timeout=MOST_SECONDS, check=False)
     if (answer.stdout, answer.returncode) == ((wanted + "\n").encode(), 1 if wanted.startswith("refused ") else 0):

@@ -30,7 +30,7 @@ ANSWERS = {"Outcome", "Checked", "Verified", "Decided", "Solved", "Compared", "E
 # What no clause says, and why that stands.
 OPEN = {
     ("sv_words", "help_text", "what it gives"): "the text is that of `clap`, and is only tested",
-    **{("sv_messages", name, "what it gives"): "what a person is told is only tested" for name in ("message", "spent_message")},
+    **{("sv_messages", name, "what it gives"): "what a person is told is only tested" for name in ("file_name", "message", "spent_message")},
 }
 HANDLES = re.compile(r"\b(Abort|Wait|Threads|Net|Processes)\b")
 MEMORY = {"OutOfMemory", "AllocError", "AllocFailed"}

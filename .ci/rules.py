@@ -1,7 +1,7 @@
 #!/usr/bin/env python3
 """Checks each rule of elaboration and of admission through ./secv by other texts than those of docs/language.md, those of admission at
-bits, parts, joins and instances, and where the lines for a person point to (`.ci/messages.py` has their words). In a text `@@` marks the place that is told; what has no such mark is
-told at 1:1. Texts that break none of them nearly do, and are accepted. The last line is 'N passed, M failed'.
+bits, parts, joins and instances, and where the lines for a person point to (`.ci/messages.py` has their words). In a text `@@` marks the place that is
+told, and `~~` one that a person is shown in its stead; what has no mark is told at 1:1. Texts that break none of them nearly do, and are accepted. The last line is 'N passed, M failed'.
 """
 import os
 import subprocess
@@ -74,7 +74,7 @@ ADMISSION = [
     (602, "module m(input @@c, input [1:0] d, output reg q); always @(posedge c) q <= d[c]; endmodule", "", "c"),
     (602, "labelmap D [0:0] 0: L; default: H; endlabelmap\nmodule m(input @@c, input {D(c)} d, output reg q); always @(posedge c) q <= d; endmodule\n",
      "", "c"),
-    (602, FLIP.replace("input k", "input @@k") + "module m(input [1:0] c, input d, output q); s u(c[0], d, q); endmodule", "", "u.k"),
+    (602, FLIP.replace("input k", "input @@k") + "module m(input [1:0] c, input d, output q); s u(~~c[0], d, q); endmodule", "", "u.k"),
     (602, FLIP.replace("input e", "input @@e") + "module m(input c, d, output q); s u(c, c, q); endmodule", "", "u.e"),
     (602, "module m(input c, @@d, output reg q, r); always @(posedge c) q <= 0; always @(posedge d) r <= 0; endmodule", "", "d"),
     (603, Q + "reg [1:0] r; assign w = 0; always @* q = 0; always @* r[0] = a; @@always @* r[1] = b;\n" + END, "", "r"),
@@ -124,9 +124,9 @@ passed = failed = 0
 
 def check(number, marked, words, names, folder):
     """The program's line for the text and that for a person, and whether they are the wanted ones."""
-    before, mark, behind = marked.partition("@@")
+    before, mark, behind = marked.replace("~~", "").partition("@@")
     text = before + behind
-    place = f"{before.count(chr(10)) + 1}:{len(before) - before.rfind(chr(10))}" if mark else "1:1"
+    place = place_behind(before) if mark else "1:1"
     wanted = " ".join(["refused", str(number), NAMES[number], place, *names.split()])
     path = os.path.join(folder, "text.v")
     with open(path, "w", encoding="ascii") as file:
@@ -134,9 +134,15 @@ def check(number, marked, words, names, folder):
     answer = subprocess.run([SECV, "check", path, *words.split()], stdin=subprocess.DEVNULL, stdout=subprocess.PIPE,
                             stderr=subprocess.PIPE, timeout=10, check=False)
     # what is not built is printed at 1:1, and shown to a person where it stands
-    shown = text.replace("invariant ", "@" * 10, 1).rfind("@") + 2 if number == 199 else 0
+    shown = f"1:{text.replace('invariant ', '@' * 10, 1).rfind('@') + 2}" if number == 199 else place
+    front, mark, _ = marked.replace("@@", "").partition("~~")
     said = answer.stderr.decode()
-    compare(f"{text!r} {words}", answer, wanted, explained(path, f"1:{shown}" if shown else place, text, said), 1)
+    compare(f"{text!r} {words}", answer, wanted, explained(path, place_behind(front) if mark else shown, text, said), 1)
+
+
+def place_behind(front):
+    """The line and column of what follows this front of a text."""
+    return f"{front.count(chr(10)) + 1}:{len(front) - front.rfind(chr(10))}"
 
 
 def compare(what, answer, wanted, said, status):

@@ -57,6 +57,23 @@ LIMITS = [
     ("sv_gen", "Sample", "(lanes ≤ @)"),
 ]
 
+# What the guide says in a sentence: a text, and the first line of what `check` tells of it.
+SENTENCES = [
+    ("module m(input a, output reg q); always @(posedge clk or posedge rst) ; endmodule", "refused 202 unsupported 1:55 or"),
+    ("module m(input a, output reg q); always @(a or b) ; endmodule", "refused 202 unsupported 1:43 sensitivity-list"),
+    ("module m(input [3:0] a, output reg y); always @* case (a) 0, 1: y = 1; default: y = 0; endcase endmodule", "accepted 2 obligations"),
+    # a label holds for all bits, and a whole signal of the map's length picks it
+    ("module m(input a, input {H} b, output y); wire [1:0] {H} v = {a, b}; assign y = v[1]; endmodule", "refused flow 1 y from v"),
+    ("labelmap D [0:0] default: L; endlabelmap\nmodule m(input [1:0] s, input {D(s[0])} a); endmodule", "refused 201 unexpected 2:35"),
+    ("labelmap D [0:0] default: L; endlabelmap\nmodule m(input [1:0] s, input {D(s)} a); endmodule", "refused 410 label 2:32 s"),
+    # released values are not built, and memories are told behind the rest of the grammar
+    ("module m(input {H} a, output y); assign y = $release(a, L); endmodule", "refused 199 not-built 1:1"),
+    ("module m; reg s [1:0]; initial ; endmodule", "refused 202 unsupported 1:24 initial"),
+    ("module m; reg s [1:0]; endmodule", "refused 199 not-built 1:1"),
+    # a signal above its declaration
+    ("module m(input a, output y); assign y = t; wire t = a; endmodule", "accepted 2 obligations"),
+]
+
 # What is said of `initial`.
 INITIAL = "`initial` is left out: reset the register at the clock; for `sim` a line `start` of the stimulus sets it"
 
@@ -128,26 +145,35 @@ def in_order(folder):
             put(folder, mark, block)
     compare("the last steps lead to the pair of examples/", steps[-2:], [obligations(folder, f"examples/dma_{word}.v") for word in ("leak", "mended")])
     marks = [kind for kind, _ in BLOCKS if kind in ("verilog before", "verilog after")]
-    compare("behind each text stands what it is rewritten as", marks, ["verilog before", "verilog after"] * 10)
+    compare("behind each text stands what it is rewritten as", marks, ["verilog before", "verilog after"] * 13)
+
+
+def aligned(text):
+    """A design with its declarations in columns, by blanks and tabs, and with lattices and maps that do not begin their lines."""
+    columns = re.sub(r"\b(input|output|wire|reg)\b([^;,{\n]*) \{", lambda found: f"{found[1]}\t   {found[2].strip()}   {{", text)
+    return re.sub(r"^(?=lattice|labelmap)", " \t", columns, flags=re.M)
 
 
 def without_labels(folder):
-    """The guide's script takes all labels away, and nothing else: what is left of a design of examples/ is accepted, and of the DMA engine it is dma_plain.v."""
+    """The guide's script takes all labels away, and nothing else: what is left of a design of examples/ is accepted, and of the DMA engine it is dma_plain.v.
+    So it does where declarations stand in columns."""
     os.symlink(os.path.join(TOP, "examples"), os.path.join(folder, "examples"))
     for name in sorted(os.listdir(os.path.join(TOP, "examples"))):
         if name.endswith(".v") and name != "unknown_value.v":
             put(folder, name, typed(folder, f"sed -E -f examples/plain.sed examples/{name}"))
             compare(f"{name} without labels", run(folder, f"check {name}")[0].split()[0], "accepted")
+            put(folder, "aligned", aligned(stored("examples", name)))
+            texts = [typed(folder, command) for command in ("sed -E -f examples/plain.sed aligned", f"cat {name}")]
+            compare(f"{name} in columns, without labels", *("".join(text.split()) for text in texts))
     lines = [[line.replace("dma_leak", "dma_plain") for line in text.splitlines() if line and not line.startswith("//")]
              for text in (typed(folder, "cat dma_leak.v"), stored("examples", "dma_plain.v"))]
     compare("the DMA engine without labels", *lines)
 
 
-def two_events(folder):
-    """What the guide says of other lists of events in a sentence."""
-    for events, line in (("posedge clk or posedge rst", "1:55 or"), ("a or b", "1:43 sensitivity-list")):
-        put(folder, "text.v", f"module m(input a, output reg q); always @({events}) ; endmodule\n")
-        compare(events, run(folder, "check text.v"), (f"refused 202 unsupported {line}\n", 1))
+def in_sentences(folder):
+    for text, wanted in SENTENCES:
+        put(folder, "text.v", text + "\n")
+        compare(text, run(folder, "check text.v")[0].splitlines()[0], wanted)
 
 
 def solvers(folder):
@@ -161,20 +187,20 @@ def solvers(folder):
         put(folder, name, f"#!/bin/sh\n{script}\n")
         os.chmod(os.path.join(folder, name), 0o755)
     ways = ["PATH=$PWD/without:$PATH "]
-    if typed(folder, "parallel --version 2>none").startswith("GNU parallel"):
+    if typed(folder, "parallel --version 2>/dev/null").startswith("GNU parallel"):
         ways.append("")
     else:
         leave_out("solve_all.sh by GNU parallel", "GNU parallel is not installed")
     script, design = os.path.join("examples", "solve_all.sh"), os.path.join("examples", "turn.v")
     for way in ways:
-        for words, wanted in ((f"SOLVER=no-solver sh {script} {design}", "no solver: no-solver is not installed\nstatus 2\n"),
+        for words, wanted in ((f"SOLVER=no-solver sh {script} {design}", "no solver: no-solver is not installed; SOLVER=NAME names another\nstatus 2\n"),
                               (f"SOLVER=false sh {script} {design} | tail -n 1", "0 of 2 obligations hold\nstatus 0\n"),
-                              (f"SOLVER=false sh {script} {design} >none", "status 3\n"),
+                              (f"SOLVER=false sh {script} {design} >/dev/null", "status 3\n"),
                               (f"SOLVER=./holds TMPDIR='a place' sh {script} {design}", "2 of 2 obligations hold\nstatus 0\n"),
                               (f"SOLVER=./fails SLOTS=1 sh {script} {design}",
                                "obligation 1 fails\nobligation 2 fails\n0 of 2 obligations hold\nstatus 1\n"),
                               (f"SOLVER=./holds sh {script} nothing.v", "0 of 0 obligations hold\nstatus 0\n"),
-                              (f"SOLVER=./holds sh {script} examples/unknown_value.v 2>none", "refused 104 unsupported 3:34 four-state\nstatus 1\n")):
+                              (f"SOLVER=./holds sh {script} examples/unknown_value.v 2>/dev/null", "refused 104 unsupported 3:34 four-state\nstatus 1\n")):
             compare(f"{way}{words}", typed(folder, f"{way}{words}; echo status $?"), wanted)
 
 
@@ -233,4 +259,4 @@ def pages(_):
 
 
 if __name__ == "__main__":
-    finish([in_order, without_labels, two_events, solvers, limits, editors, form, pages])
+    finish([in_order, without_labels, in_sentences, solvers, limits, editors, form, pages])

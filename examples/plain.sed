@@ -1,5 +1,6 @@
-# Takes the labels of a design away, where they stand as in these examples, for tools that read none: sed -E -f plain.sed DESIGN
-/^(lattice|labelmap) /{
+# Takes the labels of a design away, for tools that read none: sed -E -f plain.sed DESIGN
+# A label stands on one line with its `input`, `output`, `wire` or `reg`, and a lattice and each map have lines of their own.
+/^[[:blank:]]*(lattice|labelmap)[[:blank:]]/{
   :more
   /end(lattice|labelmap)/!{
     N
@@ -7,4 +8,4 @@
   }
   d
 }
-s/((input|output|wire|reg)( (reg|wire|signed))*( \[[^]]*\])?) \{[^}]*\}/\1/g
+s/((^|[^[:alnum:]_$])(input|output|wire|reg)([[:blank:]]+(reg|wire|signed))*([[:blank:]]*\[[^]]*\])?)[[:blank:]]*\{[^}]*\}/\1/g

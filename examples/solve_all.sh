@@ -6,7 +6,7 @@
 # `secv check --proof` and `secv verify` believe none.
 [ $# = 1 ] || { echo "usage: solve_all.sh FILE" >&2; exit 2; }
 FILE=$1 SOLVER=${SOLVER:-minisat} SECV=${SECV:-$(cd -P "$(dirname "$0")/.." && pwd)/secv}
-command -v "$SOLVER" >/dev/null || { echo "no solver: $SOLVER is not installed"; exit 2; }
+command -v "$SOLVER" >/dev/null || { echo "no solver: $SOLVER is not installed; SOLVER=NAME names another" >&2; exit 2; }
 WORK=$(mktemp -d) || exit 2
 trap 'rm -rf "$WORK"' EXIT
 export FILE SOLVER SECV WORK

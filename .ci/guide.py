@@ -1,9 +1,10 @@
 #!/usr/bin/env python3
 """Does what the pages of docs/guide/ say, in the order of docs/guide.md and in one folder, and compares whole outputs, standard error among them: each
-console block is run, each diff is made in the design of the five steps, each text marked `before` is refused as its last line says, and `list` takes every
-other one. The numbers of its table stand in the definitions, its rules have the names that the program gives them, and what it gives to editors matches real
-messages. Then it looks at all pages: that none is long, that lines of prose end at 120 columns, and that the files that they name are there. What needs
-minisat or GNU parallel is told as not run where that is not installed. The last line is 'N passed, M failed'.
+console block is run, each diff is made in the design of the five steps, each text marked `before` is refused as its last line says, `list` takes every
+other one, and those that no command names are accepted. What it says in a sentence is tried too. The numbers of its table stand in the definitions, its
+rules have the names that the program gives them, and what it gives to editors matches real messages. Then it looks at all pages: that none is long, that
+lines of prose end at 120 columns, and that the files that they name are there. What needs minisat or GNU parallel is told as not run where that is not
+installed. The last line is 'N passed, M failed'.
 """
 import json
 import os
@@ -115,8 +116,10 @@ def refused(folder, block):
     compare(f"before: {block}", (told, status), (block.splitlines()[-1].removeprefix("// ") + "\n", 1))
 
 
-def taken(folder, block):
+def taken(folder, block, mark):
     put(folder, "text.v", block)
+    if mark in ("", "after"):
+        compare(f"check accepts {block}", run(folder, "check text.v")[0].split()[0], "accepted")
     told, status = run(folder, "list text.v")
     compare(f"list takes {block}", status, 0)
     compare(f"it has obligations: {block}", told != "", True)
@@ -138,7 +141,7 @@ def in_order(folder):
         elif kind == "verilog before":
             refused(folder, block)
         elif language == "verilog":
-            taken(folder, block)
+            taken(folder, block, mark)
         else:
             compare(f"a block of a kind that is tried: {kind}", kind in ("vim", "json"), True)
         if mark.endswith((".v", ".sh", ".sed")):

@@ -1,9 +1,13 @@
 #!/usr/bin/env python3
 """Checks what is said to a person of each refusal: the words, and the line of the text with a caret. In a text `@@` marks the place that is
-told. The last line is 'N passed, M failed'.
+told. Checks too how far a terminal shows `sim` to be. The last line is 'N passed, M failed'.
 """
+import concurrent.futures
 import os
+import pty
+import select
 import subprocess
+import time
 
 from harness import MOST_SECONDS, SECV, compare, excerpt, finish, put
 
@@ -425,5 +429,61 @@ def names(folder):
     compare("a long word", said_of(folder, ["check", "f", "--top", "c" * 1000]).partition(",")[0], f"f:1:1: there is no module `{'c' * 50}...{'c' * 27}`")
 
 
+def come(stream, end):
+    """What comes from a pipe or a terminal until this stands in it, or nothing more comes."""
+    got = b""
+    while end not in got and select.select([stream], [], [], MOST_SECONDS)[0]:
+        try:
+            piece = os.read(stream, 65536)
+        except OSError:  # no program holds the terminal any more
+            break
+        if not piece:
+            break
+        got += piece
+    return got
+
+
+def slow(folder, streams, last):
+    """What these streams show, which are a terminal, of a simulation whose second cycle comes after two seconds, and then one more, and this line. Where there
+    are none, what standard error has."""
+    ours, theirs = pty.openpty()
+    ends = {name: theirs if name in streams else subprocess.PIPE for name in ("stdin", "stdout", "stderr")}
+    with subprocess.Popen([SECV, "sim", "f"], cwd=folder, **ends) as program:
+        os.close(theirs)
+        given = program.stdin.fileno() if program.stdin else ours
+        trace = program.stdout.fileno() if program.stdout else ours
+        got = {ours: b"", trace: b""}
+        for cycle, text in enumerate((b"inputs nxt k\n0 0\n", b"0 0\n", b"0 0\n")):
+            os.write(given, text)
+            stream, sign = (ours, b"cycle %d") if cycle and streams == ["stderr"] else (trace, b"%d nxt=0 ")
+            got[stream] += come(stream, sign % cycle)
+            time.sleep(0.25 if cycle else 2.1)
+        if program.stdin:
+            os.write(given, last)
+            program.stdin.close()
+        else:
+            os.write(ours, last + b"\x04")
+        got[ours] += come(ours, b"\0")
+        if not streams:
+            got[ours] += program.stderr.read()
+    os.close(ours)
+    return got[ours]
+
+
+def progress(folder):
+    """A terminal shows the last cycle of a simulation that takes over two seconds, and nothing of it before a message and at the end; nothing shows it where
+    the stimulus is typed there, or the trace shown, nor where standard error is none."""
+    put(folder, "f", OWNER)
+    shown = b"\rsecv: cycle 1\rsecv: cycle 2\r" + b" " * 32 + b"\r"
+    wrong = b"secv: line 5 of the input: `x` is no value of the input `k`: a hexadecimal one of 8 bits is wanted"
+    cases = ((["stderr"], b"", shown), (["stderr"], b"0 x\n", shown + wrong + b"\r\n"), ([], b"0 x\n", wrong + b"\n"),
+             (["stdout", "stderr"], b"", None), (["stdin", "stderr"], b"", None))
+    with concurrent.futures.ThreadPoolExecutor(len(cases)) as pool:
+        for (streams, last, wanted), got in zip(cases, pool.map(lambda case: slow(folder, *case[:2]), cases)):
+            # a machine that takes two seconds to begin shows the first cycle too
+            what = got.removeprefix(b"\rsecv: cycle 0") if wanted else b"secv: cycle" in got
+            compare(f"a terminal for {streams}, and at last {last}", what, wanted or False)
+
+
 if __name__ == "__main__":
-    finish([texts, runs, lines, names])
+    finish([texts, runs, lines, names, progress])

@@ -1,9 +1,11 @@
 // Files and input of the system, of which what messages are about is kept.
 ghost use Rattle.std.specs.Prelude.{◌≡◌};
 
+use super::progress::Progress;
 use std::alloc::{AllocError, Global};
 use std::io::Read;
 use std::rt::Files;
+use std::time::Clock;
 use sv_io::{Cabinet, Failed, FetchFault, FileCabinet, Source, StdSource, StoreFault};
 
 // The bytes of the largest stimulus or certificate of which a copy is kept.
@@ -98,26 +100,30 @@ fn copy_of(alloc: Global, answer: &Result<Vec<u8>, FetchFault>, most: usize) -> 
     }
 }
 
-/// The input of the system, with a copy of the lines that its last take went on with or gave.
+/// The input of the system, with a copy of the lines that its last take went on with or gave. Of a
+/// stimulus that it gives it shows the progress, as of `sim`, which simulates all cycles whose
+/// lines a take gave whole before it takes more.
 #[derive(Drop)]
-pub struct KeptInput<R: Read> {
+pub struct KeptInput<R: Read, C: Clock> {
     pub source: StdSource<R>,
+    pub progress: Progress<C>,
     tail: Tail,
 }
 
-impl<R: Read> KeptInput<R> {
+impl<R: Read, C: Clock> KeptInput<R, C> {
     /// Over a source that gave nothing so far.
-    pub fn new(alloc: Global, source: StdSource<R>) -> KeptInput<R>
+    pub fn new(alloc: Global, source: StdSource<R>, progress: Progress<C>) -> KeptInput<R, C>
         ensures { result.source ≡ source }
     {
         KeptInput {
             source,
+            progress,
             tail: Tail {
-                alloc,
                 bytes: Vec::new(alloc),
                 open: 0,
                 ended: 0,
-                first: 1,
+                gone: 0,
+                header: None,
                 is_lost: false,
             },
         }
@@ -134,11 +140,11 @@ impl<R: Read> KeptInput<R> {
 
     /// The number of the first of these lines, from 1.
     pub fn first_line(&self) -> u64 {
-        self.tail.first
+        self.tail.gone.saturating_add(1)
     }
 }
 
-impl<R: Read> Source for KeptInput<R> {
+impl<R: Read, C: Clock> Source for KeptInput<R, C> {
     ghost use Rattle.std.specs.Prelude.{false, []};
     ghost use Rattle.sv_io.specs.System.{source_given, source_ended, source_faults};
 
@@ -153,6 +159,9 @@ impl<R: Read> Source for KeptInput<R> {
     ghost faults = { λ input. source_faults input.source };
 
     fn take(&mut self, buf: &mut [u8]) -> Result<usize, Failed> {
+        if let Some(cycle) = self.tail.last_cycle() {
+            self.progress.show(cycle);
+        }
         let answer = self.source.take(buf);
         if let Ok(count) = answer {
             self.tail.keep(buf.get(..count).unwrap_or(b""));
@@ -162,39 +171,66 @@ impl<R: Read> Source for KeptInput<R> {
 }
 
 // The last lines of an input: how many bytes of them are of lines that have ended, how many lines
-// those are, and the number of the first.
+// those are, how many lines were let go before, and the number of the header, from 1, once it has
+// ended.
 #[derive(Drop)]
 struct Tail {
-    alloc: Global,
     bytes: Vec<u8>,
     open: usize,
     ended: u64,
-    first: u64,
+    gone: u64,
+    header: Option<u64>,
     is_lost: bool,
 }
 
 impl Tail {
+    // The last cycle whose line has ended, from 0; None before there is one.
+    fn last_cycle(&self) -> Option<u64> {
+        if self.is_lost {
+            return None;
+        }
+        let ended = self.gone.saturating_add(self.ended);
+        ended.checked_sub(self.header?)?.checked_sub(1)
+    }
+
     // Lets go the lines that have ended, and keeps what the input gave next.
     fn keep(&mut self, piece: &[u8]) {
+        self.let_go();
         if self.put(piece).is_err() {
             self.is_lost = true;
         }
     }
 
-    fn put(&mut self, piece: &[u8]) -> Result<(), AllocError> {
+    fn let_go(&mut self) {
         if self.open > 0 {
-            let rest = self.bytes.get(self.open..).unwrap_or(b"");
-            self.bytes = Vec::from_slice(self.alloc, rest)?;
-            self.first = self.first.saturating_add(self.ended);
+            let open = self.open.min(self.bytes.len());
+            self.bytes.copy_within(open.., 0);
+            self.bytes.truncate(self.bytes.len() - open);
+            self.gone = self.gone.saturating_add(self.ended);
             self.open = 0;
             self.ended = 0;
         }
-        if let Some(last) = piece.iter().rposition(|byte| *byte == b'\n') {
-            self.open = self.bytes.len().saturating_add(last).saturating_add(1);
-            self.ended = lines_in(piece);
-        }
+    }
+
+    fn put(&mut self, piece: &[u8]) -> Result<(), AllocError> {
+        let before = self.bytes.len();
         self.bytes.extend_from_slice(piece)?;
+        if let Some(last) = piece.iter().rposition(|byte| *byte == b'\n') {
+            self.open = before.saturating_add(last).saturating_add(1);
+            self.ended = lines_in(piece);
+            if self.header.is_none() {
+                self.header = self.header_here();
+            }
+        }
         Ok(())
+    }
+
+    // The number of the header, if it is among the lines that have ended: the first that begins
+    // with `inputs`.
+    fn header_here(&self) -> Option<u64> {
+        let mut lines = self.bytes.get(..self.open)?.split(|byte| *byte == b'\n');
+        let before = lines.position(|line| line.starts_with(b"inputs"))?;
+        Some(self.gone.saturating_add(before as u64).saturating_add(1))
     }
 }
 

@@ -2,8 +2,8 @@
 //!
 //! `main` makes the files, the input and the output, and takes the words of the system. `answer`
 //! gives the exit status: of a text about the program, or of the outcome of `run` over these three.
-//! Only `main` holds the runtime: all else reaches the system through these three, memory and
-//! standard error.
+//! Only `main` holds the runtime: all else reaches the system through these three, memory, standard
+//! error and, for what standard error shows of a simulation that takes long, the clock.
 //! What a status says of what passed through them stands in `specs/Ends.antt`. `main` itself has no
 //! contract.
 #![tactic(auto)]
@@ -15,10 +15,12 @@ ghost use Rattle.secv.specs.Shown.{help_text, version_text};
 
 mod kept;
 mod messages;
+mod progress;
 
 use kept::{KeptFiles, KeptInput};
 use messages::{AtHand, Causes, Person, explain, explain_memory, explain_output, explain_words};
-use std::io::{self, ErrorKind, Stdin, Stdout};
+use progress::Progress;
+use std::io::{self, ErrorKind, IsTerminal, Stdin, Stdout};
 use std::process::ExitCode;
 use sv_cli::run;
 use sv_io::{FileCabinet, PutFault, StdSink, StdSource, put_all};
@@ -69,7 +71,8 @@ fn main(rt: HostRuntime) -> ExitCode {
         stderr: rt.stderr(),
     };
     let mut cabinet = KeptFiles::new(FileCabinet::new(&rt));
-    let mut input = KeptInput::new(rt.alloc(), StdSource::new(rt.stdin()));
+    let progress = Progress::new(&rt, rt.stderr(), is_watched(&rt));
+    let mut input = KeptInput::new(rt.alloc(), StdSource::new(rt.stdin()), progress);
     let mut out = StdSink::new(rt.stdout());
     let status = match words_of(&rt) {
         Ok(words) => answer(person, &words, &mut cabinet, &mut input, &mut out),
@@ -80,6 +83,11 @@ fn main(rt: HostRuntime) -> ExitCode {
         Err(_) => end_without_memory(person),
     };
     ExitCode::from(status)
+}
+
+// Whether a person waits at a terminal who neither types the stimulus there nor sees the trace.
+fn is_watched(rt: &HostRuntime) -> bool {
+    rt.stderr().is_terminal() && !rt.stdin().is_terminal() && !rt.stdout().is_terminal()
 }
 
 // The words after the program's name. One that is not UTF-8 is `InvalidData`.
@@ -93,7 +101,7 @@ fn answer(
     person: Person,
     words: &[String],
     cabinet: &mut KeptFiles<&HostRuntime>,
-    input: &mut KeptInput<Stdin>,
+    input: &mut KeptInput<Stdin, &HostRuntime>,
     out: &mut StdSink<Stdout>,
 ) -> u8
     ensures help { IsHelp (words_of words.now) → Prints help_text 0 out.old out.new result }
@@ -155,13 +163,14 @@ fn command(
     person: Person,
     words: &[String],
     cabinet: &mut KeptFiles<&HostRuntime>,
-    input: &mut KeptInput<Stdin>,
+    input: &mut KeptInput<Stdin, &HostRuntime>,
     out: &mut StdSink<Stdout>,
 ) -> u8
     ensures { Ends (words_of words.now) (traffic cabinet.old.files input.old.source out.old)
         (traffic cabinet.new.files input.new.source out.new) result }
 {
     let outcome = run(person.alloc, words, cabinet, input, out);
+    input.progress.wipe();
     let causes = Causes {
         file: cabinet.files.last_error(),
         files_read: cabinet.files.files_read(),

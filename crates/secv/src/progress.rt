@@ -1,0 +1,72 @@
+// How far a simulation is, for a person who waits at a terminal.
+use std::io::Stderr;
+use std::time::{Clock, Duration, Instant};
+
+// In milliseconds: of work that takes no longer nothing is shown, and so much time passes at least
+// from one line to the next.
+const SHORT: u64 = 2_000;
+
+const PAUSE: u64 = 200;
+
+// Blanks over the longest line that is shown.
+const BLANKS: &str = "\r                                \r";
+
+/// Shows on standard error, in one line that is written over, which cycle was simulated last.
+#[derive(Drop)]
+pub struct Progress<C: Clock> {
+    clock: C,
+    stderr: Stderr,
+    // When the next line may be shown; None where none is to be.
+    due: Option<Instant>,
+    is_shown: bool,
+}
+
+impl<C: Clock> Progress<C> {
+    /// Of work that begins now. Nothing is ever shown where nobody watches, or where the clock
+    /// cannot be read.
+    pub fn new(clock: C, stderr: Stderr, is_watched: bool) -> Progress<C> {
+        let due = if is_watched {
+            later(&clock, SHORT)
+        } else {
+            None
+        };
+        Progress {
+            clock,
+            stderr,
+            due,
+            is_shown: false,
+        }
+    }
+
+    /// Shows that this cycle was simulated last, if that is due.
+    pub fn show(&mut self, cycle: u64) {
+        if self.is_due() {
+            // not used: where this cannot be written, nothing is shown
+            let _ = eprint!(self.stderr; "\rsecv: cycle {cycle}");
+            self.is_shown = true;
+            self.due = later(&self.clock, PAUSE);
+        }
+    }
+
+    fn is_due(&self) -> bool {
+        match self.due {
+            Some(due) => Instant::now(&self.clock).is_ok_and(|now| now >= due),
+            None => false,
+        }
+    }
+
+    /// Wipes what was shown.
+    pub fn wipe(&self) {
+        if self.is_shown {
+            // not used: where this cannot be written, nothing was shown
+            let _ = self.stderr.eprint(BLANKS);
+        }
+    }
+}
+
+// So many milliseconds from now; None where the clock does not tell it.
+fn later<C: Clock>(clock: &C, millis: u64) -> Option<Instant> {
+    Instant::now(clock)
+        .ok()?
+        .checked_add(Duration::from_millis(millis))
+}

@@ -100,9 +100,8 @@ fn copy_of(alloc: Global, answer: &Result<Vec<u8>, FetchFault>, most: usize) -> 
     }
 }
 
-/// The input of the system, with a copy of the lines that its last take went on with or gave. Of a
-/// stimulus that it gives it shows the progress, as of `sim`, which simulates all cycles whose
-/// lines a take gave whole before it takes more.
+/// The input of the system, with a copy of the lines that its last take went on with or gave. A take
+/// shows the last cycle whose line was given whole before: `sim` has written its line by then.
 #[derive(Drop)]
 pub struct KeptInput<R: Read, C: Clock> {
     pub source: StdSource<R>,

@@ -2,10 +2,10 @@
 use std::io::Stderr;
 use std::time::{Clock, Duration, Instant};
 
-// In milliseconds: of work that takes no longer nothing is shown, and so much time passes at least
-// from one line to the next.
+// Milliseconds of work of which nothing is shown.
 const SHORT: u64 = 2_000;
 
+// Milliseconds at least from one line to the next.
 const PAUSE: u64 = 200;
 
 // Blanks over the longest line that is shown.

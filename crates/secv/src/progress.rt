@@ -41,10 +41,10 @@ impl<C: Clock> Progress<C> {
     /// Shows that this cycle was simulated last, if that is due.
     pub fn show(&mut self, cycle: u64) {
         if self.is_due() {
+            self.due = later(&self.clock, PAUSE);
+            self.is_shown = true;
             // not used: where this cannot be written, nothing is shown
             let _ = eprint!(self.stderr; "\rsecv: cycle {cycle}");
-            self.is_shown = true;
-            self.due = later(&self.clock, PAUSE);
         }
     }
 

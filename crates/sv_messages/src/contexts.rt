@@ -105,6 +105,14 @@ pub fn is_type_word(kind: TokenKind) -> bool {
     )
 }
 
+/// Whether the word begins a declaration of parameters.
+pub fn is_parameter_word(kind: TokenKind) -> bool {
+    matches!(
+        kind,
+        TokenKind::Word(WordKind::Parameter | WordKind::Localparam)
+    )
+}
+
 /// Whether the bracket of a number opens a label: a brace behind a word of a declaration, or behind
 /// its range.
 pub fn opens_label(text: &[u8], tokens: &[Token], number: usize) -> bool {
@@ -239,12 +247,13 @@ fn ends_value(bytes: &[u8]) -> bool {
     matches!(bytes, b"," | b";")
 }
 
-/// How a name at a spot is used: as a clock, as a bound of a range in a declaration, as what a
-/// statement assigns, whole or a part of it, or as a value.
+/// How a name at a spot is used: as a clock, as a bound of a range in a declaration, as what an
+/// `assign` or a statement assigns, whole or a part of it, or as a value.
 #[derive(Clone, Copy)]
 pub enum Use {
     Clock,
     Bound,
+    Net,
     Register,
     RegisterPart,
     Value,
@@ -259,6 +268,9 @@ pub fn use_at(spot: Spot) -> Use {
     if is_bound(spot) {
         return Use::Bound;
     }
+    if is_net(spot) {
+        return Use::Net;
+    }
     let is_joined = is_in_joined_target(spot);
     if !is_joined && !are_before_form(spot.text, spot.front) {
         return Use::Value;
@@ -268,6 +280,18 @@ pub fn use_at(spot: Spot) -> Use {
         _ if is_joined || is_assigned(spot.text, spot.behind) => Use::Register,
         _ => Use::Value,
     }
+}
+
+// Whether an `assign` has its target at a spot, alone or in braces.
+fn is_net(spot: Spot) -> bool {
+    let before = match last_open(spot.text, spot.front) {
+        Some(number) => number.checked_sub(1),
+        None if bytes_at(spot.text, spot.behind, Some(0)) == b"=".as_slice() => {
+            spot.front.len().checked_sub(1)
+        }
+        None => None,
+    };
+    matches!(bytes_at(spot.text, spot.front, before), b"assign" | b",")
 }
 
 // Whether an assignment's sign comes next.
@@ -300,8 +324,8 @@ fn behind_select(spot: Spot) -> &[Token] {
     &[]
 }
 
-// Whether a spot is in the range of a declaration.
-fn is_bound(spot: Spot) -> bool {
+/// Whether a spot is in the range of a declaration.
+pub fn is_bound(spot: Spot) -> bool {
     let Some(number) = last_open(spot.text, spot.front) else {
         return false;
     };
@@ -309,7 +333,7 @@ fn is_bound(spot: Spot) -> bool {
         return false;
     }
     match kind_before(spot.front, number, 1) {
-        Some(kind) => is_type_word(kind),
+        Some(kind) => is_type_word(kind) || is_parameter_word(kind),
         None => false,
     }
 }

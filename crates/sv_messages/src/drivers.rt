@@ -130,16 +130,25 @@ fn driver_fault(
         _ => match first_driver(flat, number) {
             Some(process) if process.place != case.place => {
                 let Place { line, column } = process.place;
-                format!(in alloc;
-                    "`{name}` has a driver already, at {line}:{column}: assign all its bits in one \
-                    `always` or `assign`"
-                )
+                let mend = mend_of_two(flat, number);
+                format!(in alloc; "`{name}` has a driver already, at {line}:{column}: {mend}")
             }
-            _ => format!(in alloc;
-                "`{name}` has a driver already: assign all its bits in one `always` or `assign`"
-            ),
+            _ => {
+                let mend = mend_of_two(flat, number);
+                format!(in alloc; "`{name}` has a driver already: {mend}")
+            }
         },
     }
+}
+
+// How two drivers of a signal become one.
+fn mend_of_two(flat: &Flat, number: usize) -> &'static str {
+    for process in &flat.processes {
+        if process.kind == ProcKind::PortOut && driven_at(&process.body, number).is_some() {
+            return "link each output to a `wire` of its own, and join those in one `assign`";
+        }
+    }
+    "assign all its bits in one `always` or `assign`"
 }
 
 // Of an input of an instance, with the process that drives it before.
@@ -194,27 +203,29 @@ fn first_driver(flat: &Flat, number: usize) -> Option<&Process> {
 /// Of a signal without a driver.
 pub fn undriven(alloc: Global, case: &Case) -> Result<String, AllocError> {
     let name = shown(alloc, case.name())?;
-    let is_input = match case.origin.tree(alloc) {
-        Some(text) => is_input(&text, case),
-        None => false,
+    let kind = match case.origin.tree(alloc) {
+        Some(text) => declared_kind(&text, case),
+        None => None,
     };
-    if is_input {
-        let at = instance_words(alloc, case)?;
-        return format!(in alloc;
-            "nothing drives `{name}`, an input{at}, which links nothing to it: link it there"
-        );
+    match kind {
+        Some(DeclKind::Input) => {
+            let at = instance_words(alloc, case)?;
+            format!(in alloc;
+                "nothing drives `{name}`, an input{at}, which links nothing to it: link it there"
+            )
+        }
+        Some(DeclKind::Reg | DeclKind::OutputReg) => {
+            format!(in alloc; "nothing drives the `reg` `{name}`: assign it in an `always`")
+        }
+        _ => format!(in alloc; "nothing drives `{name}`: assign it, or link it to an output"),
     }
-    format!(in alloc; "nothing drives `{name}`: assign it, or link it to an output")
 }
 
-// Whether the signal of a case is declared an input.
-fn is_input(text: &Text, case: &Case) -> bool {
-    let Some(module) = module_at(text, case.place) else {
-        return false;
-    };
-    match first_declaration(module, own_name(case.name())) {
-        Some(Declared::Signal(decl)) => decl.kind == DeclKind::Input,
-        _ => false,
+// As what the signal of a case is declared.
+fn declared_kind(text: &Text, case: &Case) -> Option<DeclKind> {
+    match first_declaration(module_at(text, case.place)?, own_name(case.name()))? {
+        Declared::Signal(decl) => Some(decl.kind),
+        _ => None,
     }
 }
 

@@ -267,6 +267,16 @@ fn condition_on(query: &Query, read: SigId) -> Option<Place> {
     found
 }
 
+// The condition before an assignment that reads the signal, in words; nothing where none does.
+fn condition_words(alloc: Global, query: &Query, read: SigId) -> Result<String, AllocError> {
+    match condition_on(query, read) {
+        Some(Place { line, column }) if query.right.is_some() => {
+            format!(in alloc; ", which the condition at {line}:{column} reads")
+        }
+        _ => Ok(String::new(alloc)),
+    }
+}
+
 // How a target learns from a read.
 fn leak_words(
     alloc: Global,
@@ -280,6 +290,7 @@ fn leak_words(
     let read = signal_name(alloc, design, leak.read)?;
     let from = point_name(alloc, design, leak.from)?;
     let to = point_name(alloc, design, leak.to)?;
+    let by = condition_words(alloc, query, leak.read)?;
     let at = "at the printed values";
     match &query.goal {
         Goal::Selector { .. } => format!(in alloc;
@@ -301,11 +312,11 @@ fn leak_words(
             frame: Frame::Next,
             ..
         } => format!(in alloc;
-            "obligation {number}: `{name}` learns from `{read}`: {at} `{read}` is \
+            "obligation {number}: `{name}` learns from `{read}`{by}: {at} `{read}` is \
             at `{from}`, and `{name}` at `{to}`: the label of a register is that of the next cycle"
         ),
         _ => format!(in alloc;
-            "obligation {number}: `{name}` learns from `{read}`: {at} `{read}` is \
+            "obligation {number}: `{name}` learns from `{read}`{by}: {at} `{read}` is \
             at `{from}`, and `{name}` at `{to}`"
         ),
     }

@@ -41,8 +41,8 @@ pub fn grammar_form(word: &[u8]) -> &'static str {
         b"delay" => "delays are left out: take `#` and the number away",
         b"reg-init" => "a start value of a `reg` is left out: set it by a reset at the clock",
         b"memory" => {
-            "a range behind this name is left out: only a `reg` declared alone can be a memory, \
-             and those are not built yet; name the registers, and pick one by `case`"
+            "a range stands before the name, as in `wire [7:0] a`; only a `reg` declared alone can \
+             be a memory, and those are not built yet"
         }
         b"target-select" => {
             "an `assign` sets whole signals: join the bits on its right side, or assign the part \
@@ -81,8 +81,10 @@ fn word_form(word: &[u8]) -> &'static str {
              outside"
         }
         b"integer" | b"real" | b"realtime" | b"time" => {
-            "this type is left out: declare a `reg` of so many bits"
+            "this type is left out: declare a `reg` of so many bits, and a parameter without a type"
         }
+        b"event" => "named events are left out: one clock edge drives all registers",
+        b"macromodule" => "`macromodule` is left out: write `module`",
         b"or" => {
             "a block waits for one edge: write `always @(posedge clk)`, and ask the reset inside"
         }

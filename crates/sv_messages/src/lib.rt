@@ -25,6 +25,7 @@ mod limits;
 mod links;
 mod maps;
 mod messages;
+mod mistakes;
 mod modules;
 mod names;
 mod numerals;

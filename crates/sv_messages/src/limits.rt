@@ -155,6 +155,9 @@ pub fn no_obligation(alloc: Global, case: &Case) -> Result<Said, AllocError> {
     };
     let words = match count {
         Some(0) => format!(in alloc; "{file}: the design has no obligation")?,
+        Some(1) => format!(in alloc;
+            "{file}: the design has one obligation, 1, and none has the number {number}"
+        )?,
         Some(count) => format!(in alloc;
             "{file}: the design has the obligations 1 to {count}, and \
             none has the number {number}"

@@ -53,28 +53,17 @@ fn link_of(
     instance: &Instance,
     master: &Module,
 ) -> Result<String, AllocError> {
-    let module = shown(alloc, master.name.bytes())?;
     if case.names.is_empty() {
-        let count = master.ports.len();
-        return format!(in alloc;
-            "this is a link too many: the module `{module}` has {count} ports"
-        );
+        return link_too_many(alloc, master);
     }
-    let name = shown(alloc, case.name())?;
     let Some(port) = master
         .ports
         .iter()
         .find(|port| port.name.bytes() == case.name())
     else {
-        let mut row = Row::new(alloc);
-        for port in &master.ports {
-            row.add(port.name.bytes(), "")?;
-        }
-        let ports = row.finish()?;
-        return format!(in alloc;
-            "the module `{module}` has no port `{name}`; its ports are {ports}"
-        );
+        return no_port(alloc, case.name(), master);
     };
+    let name = shown(alloc, case.name())?;
     if let Some(Place { line, column }) = earlier_link(&instance.links, case) {
         return format!(in alloc; "the port `{name}` is linked twice, first at {line}:{column}");
     }
@@ -90,6 +79,26 @@ fn link_of(
         "the output `{name}` is linked to what is no whole signal: link a `wire`, and \
         take its bits from that"
     )
+}
+
+// Of a link behind those of all ports.
+fn link_too_many(alloc: Global, master: &Module) -> Result<String, AllocError> {
+    let module = shown(alloc, master.name.bytes())?;
+    let count = master.ports.len();
+    let unit = if count == 1 { "port" } else { "ports" };
+    format!(in alloc; "this is a link too many: the module `{module}` has {count} {unit}")
+}
+
+// Of a link of no port of a module.
+fn no_port(alloc: Global, name: &[u8], master: &Module) -> Result<String, AllocError> {
+    let module = shown(alloc, master.name.bytes())?;
+    let name = shown(alloc, name)?;
+    let mut row = Row::new(alloc);
+    for port in &master.ports {
+        row.add(port.name.bytes(), "")?;
+    }
+    let ports = row.finish()?;
+    format!(in alloc; "the module `{module}` has no port `{name}`; its ports are {ports}")
 }
 
 // The name at a place that is linked whole.
@@ -137,7 +146,7 @@ fn no_signal(
             let around = shown(alloc, around.name.bytes())?;
             format!(in alloc;
                 "there is no signal `{linked}` in module `{around}`, to link the output `{port}` \
-                to: declare it, as in `wire {linked};`"
+                to: declare it as wide as that, as in `wire {linked};`"
             )
         }
         Some(Declared::Parameter(_)) => format!(in alloc;

@@ -86,7 +86,8 @@ pub fn no_join(alloc: Global, case: &Case) -> Result<String, AllocError> {
     let other = shown(alloc, case.other())?;
     format!(in alloc;
         "`{one}` and `{other}` have no least point above both, for a signal that is \
-        made of both: declare one, with a pair from each to it"
+        made of both: declare one, with a pair from each to it, and from it to each other point \
+        above both"
     )
 }
 
@@ -96,7 +97,7 @@ pub fn no_meet(alloc: Global, case: &Case) -> Result<String, AllocError> {
     let other = shown(alloc, case.other())?;
     format!(in alloc;
         "`{one}` and `{other}` have no greatest point below both: declare one, with a \
-        pair from it to each"
+        pair from it to each, and to it from each other point below both"
     )
 }
 

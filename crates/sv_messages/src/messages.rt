@@ -103,71 +103,82 @@ fn lines(alloc: Global, origin: &Origin, said: Said) -> Result<String, AllocErro
 
 // What is said of a rule or limit.
 fn message_of(alloc: Global, rule: Rule, case: &Case) -> Result<Said, AllocError> {
-    let words = match rule {
-        Rule::BadByte => bad_byte(alloc, case)?,
-        Rule::BadNumber => bad_number(alloc, case)?,
-        Rule::OpenComment => owned(alloc, "this comment has no end: `*/` is missing")?,
-        Rule::UnsupportedForm => owned(alloc, lexical_form(case.name()))?,
-        Rule::NotBuilt => return limits::unbuilt(alloc, case),
-        Rule::Unexpected => unexpected(alloc, case)?,
-        Rule::UnsupportedWord => left_out(alloc, case)?,
-        Rule::TooDeep => owned(alloc, TOO_DEEP)?,
-        Rule::TooLong => too_long(alloc, case)?,
-        Rule::LatticeSize => maps::lattice_size(alloc, case)?,
-        Rule::LatticeName => maps::lattice_name(alloc, case)?,
-        Rule::Circle => maps::circle(alloc, case)?,
-        Rule::NoJoin => maps::no_join(alloc, case)?,
-        Rule::NoMeet => maps::no_meet(alloc, case)?,
-        Rule::MapName => maps::map_name(alloc, case)?,
-        Rule::MapRow => maps::map_row(alloc, case)?,
-        Rule::MapHole => maps::map_hole(alloc, case)?,
-        Rule::NoTop => no_top(alloc, case)?,
-        Rule::UnknownModule => unknown_module(alloc, case)?,
-        Rule::Twice => twice(alloc, case)?,
-        Rule::Port => link(alloc, case)?,
-        Rule::Recursive => recursive(alloc, case)?,
-        Rule::TooMany => too_many(alloc, case)?,
-        Rule::Parameter => parameter(alloc, case)?,
-        Rule::UnknownName => unknown_name(alloc, case)?,
-        Rule::TooWide => selects::too_wide(alloc, case)?,
-        Rule::BadSelect => selects::bad_select(alloc, case)?,
-        Rule::NotConstant => owned(
-            alloc,
-            "a constant is wanted here, and this is a signal: use a parameter",
-        )?,
-        Rule::ZeroDivisor => owned(alloc, "this divisor is 0")?,
-        Rule::Division => owned(alloc, DIVISION)?,
+    match rule {
+        Rule::NotBuilt => limits::unbuilt(alloc, case),
+        Rule::Clock => clock(alloc, case),
+        Rule::FileSize => limits::file_size(alloc, case),
+        Rule::Paths => limits::paths(alloc, case),
+        Rule::Obligations => limits::obligations(alloc, case),
+        Rule::StimulusSize => limits::stimulus_size(alloc),
+        Rule::Gen => limits::lanes(alloc, case),
+        Rule::NoObligation => limits::no_obligation(alloc, case),
+        Rule::Level => limits::level(alloc, case),
+        Rule::Encoding => limits::encoding(alloc, case),
+        Rule::ProofSize => limits::proof_size(alloc, case),
+        Rule::StimulusFile => limits::stimulus_file(alloc, case),
+        Rule::ObligationSize => limits::nodes(alloc, case),
+        _ => Ok(Said::here(case, words_of(alloc, rule, case)?)),
+    }
+}
+
+// What is said of a rule of the text, at the place of its refusal.
+fn words_of(alloc: Global, rule: Rule, case: &Case) -> Result<String, AllocError> {
+    match rule {
+        Rule::BadByte => bad_byte(alloc, case),
+        Rule::BadNumber => bad_number(alloc, case),
+        Rule::OpenComment => owned(alloc, "this comment has no end: `*/` is missing"),
+        Rule::UnsupportedForm => owned(alloc, lexical_form(case.name())),
+        Rule::Unexpected => unexpected(alloc, case),
+        Rule::UnsupportedWord => left_out(alloc, case),
+        Rule::TooDeep => owned(alloc, TOO_DEEP),
+        Rule::TooLong => too_long(alloc, case),
+        Rule::LatticeSize => maps::lattice_size(alloc, case),
+        Rule::LatticeName => maps::lattice_name(alloc, case),
+        Rule::Circle => maps::circle(alloc, case),
+        Rule::NoJoin => maps::no_join(alloc, case),
+        Rule::NoMeet => maps::no_meet(alloc, case),
+        Rule::MapName => maps::map_name(alloc, case),
+        Rule::MapRow => maps::map_row(alloc, case),
+        Rule::MapHole => maps::map_hole(alloc, case),
+        Rule::NoTop => no_top(alloc, case),
+        Rule::UnknownModule => unknown_module(alloc, case),
+        Rule::Twice => twice(alloc, case),
+        Rule::Port => link(alloc, case),
+        Rule::Recursive => recursive(alloc, case),
+        Rule::TooMany => too_many(alloc, case),
+        Rule::Parameter => parameter(alloc, case),
+        _ => design_words(alloc, rule, case),
+    }
+}
+
+// What is said of a rule on names, expressions, labels or drivers.
+fn design_words(alloc: Global, rule: Rule, case: &Case) -> Result<String, AllocError> {
+    match rule {
+        Rule::UnknownName => unknown_name(alloc, case),
+        Rule::TooWide => selects::too_wide(alloc, case),
+        Rule::BadSelect => selects::bad_select(alloc, case),
+        Rule::NotConstant => selects::not_constant(alloc, case),
+        Rule::ZeroDivisor => owned(alloc, "this divisor is 0"),
+        Rule::Division => owned(alloc, DIVISION),
         Rule::UnsizedPart => owned(
             alloc,
             "a number directly in braces needs a size, as 4'd3 has",
-        )?,
-        Rule::BadCount => selects::bad_count(alloc, case)?,
-        Rule::BadRange => selects::bad_range(alloc, case)?,
-        Rule::Label => label(alloc, case)?,
-        Rule::WrongAssign => wrong_assign(alloc, case)?,
-        Rule::Clock => return clock(alloc, case),
-        Rule::Drivers => drivers(alloc, case)?,
-        Rule::Undriven => undriven(alloc, case)?,
-        Rule::Latch => latch(alloc, case)?,
-        Rule::Phase => phase(alloc, case)?,
-        Rule::Loop => signal_circle(alloc, case)?,
-        Rule::FileSize => return limits::file_size(alloc, case),
-        Rule::Paths => return limits::paths(alloc, case),
-        Rule::Obligations => return limits::obligations(alloc, case),
-        Rule::StimulusSize => return limits::stimulus_size(alloc),
-        Rule::Gen => return limits::lanes(alloc, case),
-        Rule::NoObligation => return limits::no_obligation(alloc, case),
-        Rule::Level => return limits::level(alloc, case),
-        Rule::Encoding => return limits::encoding(alloc, case),
-        Rule::ProofSize => return limits::proof_size(alloc, case),
-        Rule::StimulusFile => return limits::stimulus_file(alloc, case),
-        Rule::ObligationSize => return limits::nodes(alloc, case),
-    };
-    Ok(Said::here(case, words))
+        ),
+        Rule::BadCount => selects::bad_count(alloc, case),
+        Rule::BadRange => selects::bad_range(alloc, case),
+        Rule::Label => label(alloc, case),
+        Rule::WrongAssign => wrong_assign(alloc, case),
+        Rule::Drivers => drivers(alloc, case),
+        Rule::Undriven => undriven(alloc, case),
+        Rule::Latch => latch(alloc, case),
+        Rule::Phase => phase(alloc, case),
+        Rule::Loop => signal_circle(alloc, case),
+        _ => owned(alloc, "this breaks a rule"),
+    }
 }
 
 const TOO_DEEP: &str = "this opens a level too many: at most 64 brackets, operators and statements \
-     may be open at once; name a part by a `wire`";
+     may be open at once; name a part by a `wire`, or ask a chain of `else if` by a `case`";
 
 const DIVISION: &str = "`/` and `%` are for constants alone: divide by a power of 2 by a shift, or \
      build a divider";

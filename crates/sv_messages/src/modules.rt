@@ -33,7 +33,7 @@ pub fn no_top(alloc: Global, case: &Case) -> Result<String, AllocError> {
     if count == 0 {
         return owned(
             alloc,
-            "there is no top, since each module stands in another one: name it by `--top MODULE`",
+            "there is no top, since each module stands in some module: name it by `--top MODULE`",
         );
     }
     let tops = row.finish()?;

@@ -130,24 +130,32 @@ pub fn unknown_name(alloc: Global, case: &Case) -> Result<String, AllocError> {
         }
         _ => {
             let around = shown(alloc, module.name.bytes())?;
-            let (before, behind) = declaration_at(&case.origin, alloc, case.place);
+            let declaration = declaration_at(alloc, &case.origin, case.place, name.as_str())?;
             format!(in alloc;
                 "there is no signal or parameter `{name}` in module `{around}`: declare \
-                it, as in `{before} {name}{behind}`"
+                it, as in {declaration}"
             )
         }
     }
 }
 
-// What stands before and behind a name in a declaration that makes it fit where it is used.
-fn declaration_at(origin: &Origin, alloc: Global, place: Place) -> (&'static str, &'static str) {
+// A declaration of a name that makes it fit where it is used.
+fn declaration_at(
+    alloc: Global,
+    origin: &Origin,
+    place: Place,
+    name: &str,
+) -> Result<String, AllocError> {
     let tokens = origin.tokens(alloc);
     match use_at(spot_at(origin.text, &tokens, place)) {
-        Use::Clock => ("input", ""),
-        Use::Bound => ("parameter", " = 8;"),
-        Use::Register => ("reg", ";"),
-        Use::RegisterPart => ("reg [7:0]", ";"),
-        Use::Value => ("wire", ";"),
+        Use::Clock => format!(in alloc; "`input {name}`"),
+        Use::Bound => format!(in alloc; "`parameter {name} = 8;`"),
+        Use::Net => format!(in alloc; "`wire {name};`"),
+        Use::Register => format!(in alloc; "`reg {name};`"),
+        Use::RegisterPart => format!(in alloc; "`reg [7:0] {name};`"),
+        Use::Value => {
+            format!(in alloc; "`wire {name};`, or `parameter {name} = 8;` for a constant")
+        }
     }
 }
 

@@ -54,9 +54,9 @@ fn behind_base(bytes: &[u8]) -> Option<((u32, &'static str), &[u8])> {
 
 // How many bytes at the front are letters, digits or `_`.
 fn word_length(bytes: &[u8]) -> usize {
-    match bytes
-        .iter()
-        .position(|byte| !byte.is_ascii_alphanumeric() && *byte != b'_')
+    match bytes.iter().position(|byte| !byte.is_ascii_alphanumeric()
+        && *byte != b'_'
+        && *byte != b'$')
     {
         Some(end) => end,
         None => bytes.len(),
@@ -98,15 +98,19 @@ fn plain(alloc: Global, digits: &[u8], rest: &[u8]) -> Result<String, AllocError
     }
     let number = shown(alloc, digits)?;
     let letters = shown(alloc, rest.get(..word_length(rest)).unwrap_or(b""))?;
-    if decimal(digits) < 0x1_0000_0000 {
+    let value = decimal(digits);
+    if value < 0x1_0000_0000 {
         return format!(in alloc;
             "`{letters}` stands right behind the number {number}: a name begins with no digit, \
             and a number has a base, as in 8'hff, or is decimal"
         );
     }
+    if value == u64::MAX {
+        return format!(in alloc; "the number {number} has over 64 bits, which are the most");
+    }
     format!(in alloc;
         "{number} has no size, so it has to be below 2^32: write its size before it, as in \
-        40'd{number}"
+        64'd{number}"
     )
 }
 

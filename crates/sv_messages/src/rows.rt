@@ -68,6 +68,12 @@ fn is_quote(c: char) -> bool {
     c == '\'' || c == '"' || c == '\\'
 }
 
+/// The bytes of a word of a stimulus as they are shown, as those of a name of a file.
+pub fn shown_bytes(alloc: Global, word: &[u8]) -> Result<String, AllocError> {
+    let word = shown(alloc, word)?;
+    file_name(alloc, word.as_str())
+}
+
 /// A word of a command as it is shown, of a long one the front and the end.
 pub fn shown_word(alloc: Global, word: &str) -> Result<String, AllocError> {
     let word = file_name(alloc, word)?;

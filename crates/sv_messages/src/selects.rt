@@ -1,5 +1,6 @@
 // What is said of bits and parts that lie outside of their signals, of ranges, and of lengths.
 use crate::constants::{Constants, place_of};
+use crate::contexts::{bytes_at, is_bound, last_open, spot_at};
 use crate::origins::{item_at, module_at};
 use crate::rows::{grouped, shown};
 use crate::said::{Case, owned};
@@ -264,6 +265,21 @@ fn wrong_part(
     }
     let bits = bits_of(alloc, constants, name)?;
     format!(in alloc; "there is no part `[{high}:{low}]`: {bits}")
+}
+
+/// Of a signal where a constant is wanted.
+pub fn not_constant(alloc: Global, case: &Case) -> Result<String, AllocError> {
+    let tokens = case.origin.tokens(alloc);
+    let spot = spot_at(case.origin.text, &tokens, case.place);
+    let words = match bytes_at(spot.text, spot.front, last_open(spot.text, spot.front)) {
+        b"case" => "an item of a `case` is a constant, and this is a signal: ask it by `if`",
+        b"[" if !is_bound(spot) => {
+            "a part's bounds, and the index of what is assigned, are constants, and this is a \
+             signal: shift by it, or ask it by `case`"
+        }
+        _ => "a constant is wanted here, and this is a signal: use a parameter",
+    };
+    owned(alloc, words)
 }
 
 /// Of what has over 64 bits.

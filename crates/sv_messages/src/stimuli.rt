@@ -1,6 +1,6 @@
 // What is said of wrong lines of stimuli and certificates.
 use crate::origins::Origin;
-use crate::rows::{Row, file_name, shown};
+use crate::rows::{Row, file_name, shown, shown_bytes};
 use crate::said::owned;
 use std::alloc::{AllocError, Global};
 use sv_design::Design;
@@ -173,7 +173,7 @@ fn register_named<'d>(design: &'d Design, name: &[u8]) -> Option<&'d Signal> {
 
 // Of a line that starts what is no register, or is started already.
 fn wrong_name(alloc: Global, design: &Design, name: &[u8]) -> Result<String, AllocError> {
-    let word = shown(alloc, name)?;
+    let word = shown_bytes(alloc, name)?;
     if register_named(design, name).is_some() {
         return format!(in alloc;
             "the register `{word}` is started by an earlier line already: take one of the two away"
@@ -182,8 +182,8 @@ fn wrong_name(alloc: Global, design: &Design, name: &[u8]) -> Result<String, All
     let registers = signals_in(alloc, design, design.registers())?;
     if name.is_empty() {
         return format!(in alloc;
-            "a line `start REGISTER VALUE` names a register that no earlier line starts; the \
-            registers are {registers}"
+            "behind `start` stand one blank and the name of a register; the registers are \
+            {registers}"
         );
     }
     format!(in alloc; "there is no register `{word}`; the registers are {registers}")
@@ -216,11 +216,11 @@ fn wrong_start(alloc: Global, design: &Design, line: &[u8]) -> Result<String, Al
     match register_named(design, name) {
         Some(register) if !is_value(value, register.width) => {
             let name = shown(alloc, name)?;
-            let value = shown(alloc, value)?;
+            let value = shown_bytes(alloc, value)?;
             let bits = bits(alloc, register.width)?;
             format!(in alloc;
-                "`{value}` is no value of the register `{name}`: a hexadecimal one of {bits} is \
-                wanted"
+                "`{value}` is no value of the register `{name}`: wanted are 1 to 16 hexadecimal \
+                digits that fit in {bits}"
             )
         }
         _ => {
@@ -236,7 +236,12 @@ fn wrong_start(alloc: Global, design: &Design, line: &[u8]) -> Result<String, Al
 // Of a line of a cycle: the first input that has no value of its own, or values too many.
 fn wrong_cycle(alloc: Global, design: &Design, line: &[u8]) -> Result<String, AllocError> {
     let header = header_of(alloc, design)?;
-    let mut rest = if line.is_empty() { None } else { Some(line) };
+    if line.is_empty() {
+        return format!(in alloc;
+            "this line is empty: each has a value for each name of `{header}`"
+        );
+    }
+    let mut rest = Some(line);
     for input in design.inputs() {
         let Some(signal) = signal_of(design, *input) else {
             continue;
@@ -273,9 +278,10 @@ fn wrong_value(alloc: Global, signal: &Signal, word: &[u8]) -> Result<String, Al
             "a blank too many stands where a value of the input `{name}`, of {bits}, is wanted"
         );
     }
-    let word = shown(alloc, word)?;
+    let word = shown_bytes(alloc, word)?;
     format!(in alloc;
-        "`{word}` is no value of the input `{name}`: a hexadecimal one of {bits} is wanted"
+        "`{word}` is no value of the input `{name}`: wanted are 1 to 16 hexadecimal digits that \
+        fit in {bits}"
     )
 }
 

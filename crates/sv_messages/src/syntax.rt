@@ -4,6 +4,7 @@ use crate::contexts::{
     is_type_word, last_open, opens_label, opens_list, opens_selectors, spot_at,
 };
 use crate::forms::grammar_form;
+use crate::mistakes::{by_words, foreign, in_block, in_nothing, may_end, ranged};
 use crate::rows::shown;
 use crate::said::{Case, owned};
 use std::alloc::{AllocError, Global};
@@ -34,7 +35,8 @@ pub fn bad_byte(alloc: Global, case: &Case) -> Result<String, AllocError> {
         }
         Some(byte) if byte >= 128 => owned(
             alloc,
-            "letters beyond ASCII stand in comments alone: write the name with letters a to z",
+            "characters beyond ASCII stand in comments alone: write a name with letters a to z, and \
+             blanks, dashes and quotes of ASCII",
         ),
         Some(byte) => {
             format!(in alloc; "the byte {byte:#04x} stands in no Verilog text but in comments")
@@ -89,6 +91,9 @@ fn too_early(alloc: Global, spot: Spot, before: &Token) -> Result<String, AllocE
                 is open"
             )
         }
+        None if !hold_module(spot.front) => {
+            format!(in alloc; "the text ends too early, behind `{word}`: a module is missing")
+        }
         None => format!(in alloc;
             "the text ends too early, behind `{word}`: is an `end`, `endcase` or \
             `endmodule` missing?"
@@ -99,14 +104,6 @@ fn too_early(alloc: Global, spot: Spot, before: &Token) -> Result<String, AllocE
 // What is open last before a spot.
 fn open_at(spot: Spot) -> Option<&Token> {
     spot.front.get(last_open(spot.text, spot.front)?)
-}
-
-// Whether a token, by its bytes, may be the last one before a `;`.
-fn may_end(token: &Token, bytes: &[u8]) -> bool {
-    match bytes {
-        b")" | b"]" | b"}" => true,
-        _ => matches!(token.kind, TokenKind::Name | TokenKind::Number(_)),
-    }
 }
 
 // Of a token behind another one.
@@ -125,18 +122,32 @@ fn unexpected_behind(
 // What is said of the usual mistake, if one is seen.
 fn hint_of(alloc: Global, spot: Spot, here: &Token, before: &Token) -> Result<String, AllocError> {
     if let Some(hint) = misplaced(spot, here, before) {
-        return owned(alloc, hint);
+        return as_hint(alloc, Some(hint));
     }
     match last_open(spot.text, spot.front) {
         Some(number) => hint_inside(alloc, spot, here, before, number),
-        None if is_end_of_line(spot, here, before) => missing(alloc, before, "a `;`"),
+        None if asks_end(spot, here, before) => missing(alloc, before, "a `;`"),
+        None => as_hint(alloc, in_nothing(spot, here)),
+    }
+}
+
+// A hint, if there is one, as it stands behind what is wrong.
+fn as_hint(alloc: Global, hint: Option<&str>) -> Result<String, AllocError> {
+    match hint {
+        Some(hint) => format!(in alloc; ": {hint}"),
         None => Ok(String::new(alloc)),
     }
 }
 
-// Whether a line ends behind the token before, which may be the last of a form.
-fn is_end_of_line(spot: Spot, here: &Token, before: &Token) -> bool {
-    here.place.line > before.place.line && may_end(before, bytes_of(spot.text, before))
+// Whether a `;` may be missing behind the token before, which may be the last of a form: a line
+// ends there, or a word begins another form.
+fn asks_end(spot: Spot, here: &Token, before: &Token) -> bool {
+    let begins = match here.kind {
+        TokenKind::Word(WordKind::Input | WordKind::Output | WordKind::Signed) => false,
+        TokenKind::Word(_) => true,
+        _ => false,
+    };
+    (begins || here.place.line > before.place.line) && may_end(spot.text, before)
 }
 
 // That one of these may be missing behind a token.
@@ -148,14 +159,20 @@ fn missing(alloc: Global, before: &Token, what: &str) -> Result<String, AllocErr
 // Of a label, a label map or a lattice where none stands.
 fn misplaced(spot: Spot, here: &Token, before: &Token) -> Option<&'static str> {
     match here.kind {
+        TokenKind::Word(kind) if is_reserved(spot, kind) => {
+            return Some("it is a reserved word: take another name");
+        }
         TokenKind::Word(WordKind::Labelmap) if hold_module(spot.front) => {
-            return Some(": a label map stands before all modules");
+            return Some("a label map stands before all modules");
         }
         TokenKind::Word(WordKind::Lattice) if ends_head(before.kind) || hold_module(spot.front) => {
-            return Some(": a text has one lattice, before its label maps and modules");
+            return Some("a text has one lattice, before its label maps and modules");
         }
         TokenKind::Number(_) if is_selector(spot) => {
-            return Some(": a signal picks the row of a label map; for a constant write the point");
+            return Some("a signal picks the row of a label map; for a constant write the point");
+        }
+        _ if is_selector(spot) && !matches!(bytes_of(spot.text, here), b"," | b")") => {
+            return Some("a whole signal picks the row: name the bit or the expression by a `wire`");
         }
         _ => {}
     }
@@ -163,53 +180,22 @@ fn misplaced(spot: Spot, here: &Token, before: &Token) -> Option<&'static str> {
         return Some(hint);
     }
     if is_label_late(spot, here) && bytes_of(spot.text, before) == b",".as_slice() {
-        return Some(": a further name has the label of the one before; declare it on its own");
+        return Some("a further name has the label of the one before; declare it on its own");
     }
     if is_label_early(spot, here) || is_label_late(spot, here) {
-        Some(": a label stands behind the range, right before the name")
+        Some("a label stands behind the range, right before the name")
     } else {
-        None
+        by_words(spot, here, before)
     }
 }
 
-// Of words of SystemVerilog, which are read as names where an item or a declaration begins, and of
-// an assignment outside a block.
-fn foreign(spot: Spot, here: &Token) -> Option<&'static str> {
-    let (name, front) = spot.front.split_last()?;
-    if matches!(name.kind, TokenKind::Name) && begins_item(spot, front) {
-        match bytes_of(spot.text, name) {
-            b"logic" => return Some(LOGIC),
-            b"always_comb" => return Some(": write `always @*`"),
-            b"always_ff" => return Some(": write `always @(posedge clk)`"),
-            _ if is_assignment(spot, here, front) => {
-                return Some(": an assignment stands in an `always`, or behind `assign`");
-            }
-            _ => {}
-        }
-    }
-    let (word, front) = front.split_last()?;
-    if bytes_of(spot.text, word) == b"logic".as_slice() && begins_item(spot, front) {
-        Some(LOGIC)
-    } else {
-        None
-    }
-}
-
-// Whether a token is the sign of an assignment in a module whose target begins behind these tokens.
-fn is_assignment(spot: Spot, here: &Token, front: &[Token]) -> bool {
-    matches!(bytes_of(spot.text, here), b"=" | b"<=")
-        && hold_module(front)
-        && are_before_form(spot.text, front)
-}
-
-const LOGIC: &str = ": `logic` is left out: declare a `wire` or a `reg`";
-
-// Whether an item or a declaration begins, or its type goes on, behind these tokens.
-fn begins_item(spot: Spot, front: &[Token]) -> bool {
-    match front.last() {
-        Some(last) if is_type_word(last.kind) => true,
-        _ => are_before_form(spot.text, front),
-    }
+// Whether a word of labels stands in a module where no item begins.
+fn is_reserved(spot: Spot, kind: WordKind) -> bool {
+    let is_of_labels = matches!(
+        kind,
+        WordKind::Point | WordKind::Lattice | WordKind::Labelmap | WordKind::Invariant
+    );
+    is_of_labels && hold_module(spot.front) && !are_before_form(spot.text, spot.front)
 }
 
 // Whether a word ends a lattice or a label map.
@@ -259,40 +245,46 @@ fn hint_inside(
     number: usize,
 ) -> Result<String, AllocError> {
     let open = bytes_at(spot.text, spot.front, Some(number));
-    match open {
+    let is_open = match open {
         b"begin" | b"case" => {
-            if is_end_of_line(spot, here, before) {
+            if let Some(hint) = in_block(spot, here, bytes_of(spot.text, before), open) {
+                return as_hint(alloc, Some(hint));
+            }
+            if asks_end(spot, here, before) {
                 return missing(alloc, before, "a `;`");
             }
-            if !ends_inside(here.kind, open) {
-                return Ok(String::new(alloc));
-            }
+            ends_inside(spot, here, before, open)
         }
         _ => {
             if asks_bracket(spot, here, before) {
                 return missing(alloc, before, wanted_in(spot, number));
             }
-            if !ends_brackets(spot, here) {
-                return Ok(String::new(alloc));
-            }
+            ends_brackets(spot, here, open)
         }
-    }
+    };
     match spot.front.get(number) {
-        Some(open) => {
+        Some(open) if is_open => {
             let what = shown(alloc, bytes_of(spot.text, open))?;
             let Place { line, column } = open.place;
             format!(in alloc; ": the `{what}` of {line}:{column} is open")
         }
-        None => Ok(String::new(alloc)),
+        _ => Ok(String::new(alloc)),
     }
 }
 
-// Whether a word ends what is around a `begin` or a `case`, and stands in none.
-fn ends_inside(kind: TokenKind, open: &[u8]) -> bool {
-    match kind {
-        TokenKind::Word(WordKind::Endmodule | WordKind::Module | WordKind::Always) => true,
-        TokenKind::Word(WordKind::Endcase) => open == b"begin".as_slice(),
-        TokenKind::Word(WordKind::End) => open == b"case".as_slice(),
+// Whether a token ends what is around a `begin` or a `case`, or begins an arm around a `begin`, and
+// stands in none.
+fn ends_inside(spot: Spot, here: &Token, before: &Token, open: &[u8]) -> bool {
+    let is_in_begin = open == b"begin".as_slice();
+    match here.kind {
+        TokenKind::Word(
+            WordKind::Endmodule | WordKind::Module | WordKind::Always | WordKind::Assign,
+        ) => true,
+        TokenKind::Word(WordKind::Endcase) => is_in_begin,
+        TokenKind::Word(WordKind::End) => !is_in_begin,
+        TokenKind::Word(WordKind::Default) | TokenKind::Number(_) => {
+            is_in_begin && matches!(bytes_of(spot.text, before), b";" | b"end")
+        }
         _ => false,
     }
 }
@@ -304,17 +296,19 @@ fn asks_bracket(spot: Spot, here: &Token, before: &Token) -> bool {
         TokenKind::Word(WordKind::Input | WordKind::Output | WordKind::Parameter) => true,
         _ => bytes_of(spot.text, here) == b".".as_slice(),
     };
-    let last = bytes_of(spot.text, before);
-    may_end(before, last)
+    may_end(spot.text, before)
         && (begins || here.place.line > before.place.line)
         && bytes_of(spot.text, here) != b";".as_slice()
 }
 
-// Whether a token stands in no brackets.
-fn ends_brackets(spot: Spot, here: &Token) -> bool {
-    match here.kind {
-        TokenKind::Word(_) => !is_type_word(here.kind),
-        _ => bytes_of(spot.text, here) == b";".as_slice(),
+// Whether a token stands in no brackets, or shuts others than the one that is open.
+fn ends_brackets(spot: Spot, here: &Token, open: &[u8]) -> bool {
+    match bytes_of(spot.text, here) {
+        b";" => true,
+        b")" => open != b"(".as_slice(),
+        b"]" => open != b"[".as_slice(),
+        b"}" => open != b"{".as_slice(),
+        _ => matches!(here.kind, TokenKind::Word(_)) && !is_type_word(here.kind),
     }
 }
 
@@ -334,6 +328,10 @@ pub fn left_out(alloc: Global, case: &Case) -> Result<String, AllocError> {
     let tokens = case.origin.tokens(alloc);
     let spot = spot_at(case.origin.text, &tokens, case.place);
     let word = case.name();
+    match ranged(spot) {
+        Some(words) if word == b"memory".as_slice() => return owned(alloc, words),
+        _ => {}
+    }
     if is_name(spot, word) {
         let word = shown(alloc, word)?;
         return format!(in alloc; "`{word}` is a reserved word of Verilog: take another name");

@@ -1,0 +1,156 @@
+// Usual mistakes in the grammar, by what stands around a token: what is said of each.
+use crate::contexts::{
+    Spot, are_before_form, bytes_at, bytes_of, hold_module, is_parameter_word, is_type_word,
+    last_open,
+};
+use sv_token::{Token, TokenKind, WordKind};
+
+const SYSTEM_VERILOG: &str = "this is SystemVerilog, and Verilog of 2005 is read";
+
+const ELSE: &str = "no `if` waits for it: is an `end` missing before it, or `begin` and `end` \
+                    around several statements behind the `if`?";
+
+const ARM: &str = "an arm has one statement: several stand in `begin` and `end`";
+
+/// Of words of SystemVerilog, which are read as names where an item or a declaration begins, and of
+/// an assignment outside a block.
+pub fn foreign(spot: Spot, here: &Token) -> Option<&'static str> {
+    let (name, front) = spot.front.split_last()?;
+    if matches!(name.kind, TokenKind::Name) && begins_item(spot, front) {
+        if let Some(hint) = foreign_word(bytes_of(spot.text, name)) {
+            return Some(hint);
+        }
+        if is_assignment(spot, here, front) {
+            return Some(
+                "an assignment stands behind `assign`, or in an `always`, where several stand in \
+                 `begin` and `end`",
+            );
+        }
+    }
+    let (word, front) = front.split_last()?;
+    if begins_item(spot, front) {
+        foreign_word(bytes_of(spot.text, word))
+    } else {
+        None
+    }
+}
+
+// Of a word of SystemVerilog.
+fn foreign_word(word: &[u8]) -> Option<&'static str> {
+    match word {
+        b"logic" => Some("`logic` is left out: declare a `wire` or a `reg`"),
+        b"always_comb" => Some("write `always @*`"),
+        b"always_ff" => Some("write `always @(posedge clk)`"),
+        b"always_latch"
+        | b"assert"
+        | b"bit"
+        | b"byte"
+        | b"enum"
+        | b"import"
+        | b"int"
+        | b"interface"
+        | b"package"
+        | b"priority"
+        | b"struct"
+        | b"typedef"
+        | b"unique" => { Some(SYSTEM_VERILOG) }
+        _ => None,
+    }
+}
+
+// Whether an item or a declaration begins, or its type goes on, behind these tokens.
+fn begins_item(spot: Spot, front: &[Token]) -> bool {
+    match front.last() {
+        Some(last) if is_type_word(last.kind) || is_parameter_word(last.kind) => true,
+        _ => are_before_form(spot.text, front),
+    }
+}
+
+// Whether a token is the sign of an assignment in a module, in no block, whose target begins behind
+// these tokens.
+fn is_assignment(spot: Spot, here: &Token, front: &[Token]) -> bool {
+    matches!(bytes_of(spot.text, here), b"=" | b"<=")
+        && hold_module(front)
+        && are_before_form(spot.text, front)
+        && last_open(spot.text, front).is_none()
+}
+
+/// Of a token and the two before it.
+pub fn by_words(spot: Spot, here: &Token, before: &Token) -> Option<&'static str> {
+    let word = bytes_of(spot.text, here);
+    match bytes_of(spot.text, before) {
+        b"," if matches!(word, b")" | b"}" | b";") => return Some("take the `,` away"),
+        b";" | b"end" | b"endcase" | b"endmodule" if word == b";".as_slice() => {
+            return Some("take the `;` away");
+        }
+        b"if" | b"case" => return Some("what it asks stands in `(` and `)`"),
+        _ => {}
+    }
+    match bytes_at(spot.text, spot.front, spot.front.len().checked_sub(2)) {
+        b"." if matches!(word, b"," | b")") => Some("link each port, as in `.a(b)`"),
+        b"assign" if matches!(word, b"<=" | b"==") => Some("an `assign` takes `=`"),
+        _ => None,
+    }
+}
+
+/// Of a token where no bracket, `begin` or `case` is open.
+pub fn in_nothing(spot: Spot, here: &Token) -> Option<&'static str> {
+    match here.kind {
+        TokenKind::Word(WordKind::Input | WordKind::Output) => {
+            Some("ports are declared in the header, as in `module m(input a, output y);`")
+        }
+        TokenKind::Word(WordKind::If | WordKind::Case | WordKind::Begin)
+            if are_before_form(spot.text, spot.front) => {
+            Some("a statement stands in an `always`")
+        }
+        TokenKind::Word(WordKind::Else) if hold_module(spot.front) => Some(ELSE),
+        TokenKind::Word(WordKind::End) => Some("no `begin` is open here"),
+        TokenKind::Word(WordKind::Module) if hold_module(spot.front) => {
+            Some("is an `endmodule` missing before it?")
+        }
+        _ => None,
+    }
+}
+
+/// Of a token in a `begin` or a `case`.
+pub fn in_block(spot: Spot, here: &Token, last: &[u8], open: &[u8]) -> Option<&'static str> {
+    let begins = are_before_form(spot.text, spot.front) && last != b")".as_slice();
+    match here.kind {
+        TokenKind::Word(WordKind::Else) if begins => Some(ELSE),
+        TokenKind::Word(WordKind::Reg | WordKind::Wire) if begins => {
+            Some(
+                "no signal is declared in a block: declare it before the `always`, or is an `end` missing?",
+            )
+        }
+        _ if open == b"case".as_slice() && is_second(spot, here) => Some(ARM),
+        _ => None,
+    }
+}
+
+// Whether a statement behind that of an arm is read up to this token, as an item of a next arm.
+fn is_second(spot: Spot, here: &Token) -> bool {
+    let before = bytes_at(spot.text, spot.front, spot.front.len().checked_sub(2));
+    match bytes_of(spot.text, here) {
+        b"=" => matches!(before, b";" | b"end"),
+        b";" => before == b"<=".as_slice(),
+        _ => false,
+    }
+}
+
+/// Of a range behind a word of SystemVerilog, which is read as a name.
+pub fn ranged(spot: Spot) -> Option<&'static str> {
+    let (before, front) = spot.front.split_last()?;
+    if begins_item(spot, front) {
+        foreign_word(bytes_of(spot.text, before))
+    } else {
+        None
+    }
+}
+
+/// Whether a token may be the last one of an expression, and before a `;`.
+pub fn may_end(text: &[u8], token: &Token) -> bool {
+    match bytes_of(text, token) {
+        b")" | b"]" | b"}" => true,
+        _ => matches!(token.kind, TokenKind::Name | TokenKind::Number(_)),
+    }
+}

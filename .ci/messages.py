@@ -40,6 +40,18 @@ TICKED = "module s(input d, c, output reg q);\n  always @(posedge c) q <= d;\nen
 EXPRESSED = "the clock `u.c` is linked to an expression here: link it to the clock itself, and let an enable decide in the block"
 GATES = "gates are left out: write an `assign`, as `assign y = a & b;`"
 ALONE = "a clock stands behind `posedge` and in links alone; let an enable decide in the block"
+ASCII = "characters beyond ASCII stand in comments alone: write a name with letters a to z, and blanks, dashes and quotes of ASCII"
+OUTSIDE = "an assignment stands behind `assign`, or in an `always`, where several stand in `begin` and `end`"
+ARM = "an arm has one statement: several stand in `begin` and `end`"
+FOREIGN = "this is SystemVerilog, and Verilog of 2005 is read"
+HEADER = "ports are declared in the header, as in `module m(input a, output y);`"
+ELSE = "no `if` waits for it: is an `end` missing before it, or `begin` and `end` around several statements behind the `if`?"
+RESERVED = "it is a reserved word: take another name"
+BLOCK = "no signal is declared in a block: declare it before the `always`, or is an `end` missing?"
+RANGE = "a range stands before the name, as in `wire [7:0] a`; only a `reg` declared alone can be a memory, and those are not built yet"
+SELECTED = "a part's bounds, and the index of what is assigned, are constants, and this is a signal: shift by it, or ask it by `case`"
+ITEM = "an item of a `case` is a constant, and this is a signal: ask it by `if`"
+TYPE = "this type is left out: declare a `reg` of so many bits, and a parameter without a type"
 LOOPS = "loops are left out: write the copies out, or print them by a script"
 GIVEN = "module m(input a, b, input [7:0] v, output y);\n  "
 # A text, the words behind FILE, and what is said of the place.
@@ -50,14 +62,19 @@ TEXTS = [
     (GIVEN + "assign y = a @@` b;" + END, "", "no token begins with ``` here"),
     ("@@\ufeffmodule m;" + END, "", "the file begins with a byte order mark: store it as ASCII or UTF-8 without one"),
     ("module m; /* 中文, ｆｕ, 한 🔒 e\u0301 */ @@1;" + END, "", "`1` cannot stand behind `;`"),
-    ("module m(input @@é);" + END, "", "letters beyond ASCII stand in comments alone: write the name with letters a to z"),
+    ("module m(input @@é);" + END, "", ASCII),
+    (GIVEN + "assign y = a @@– b;" + END, "", ASCII),
+    (GIVEN + "assign y =@@\u00a0a;" + END, "", ASCII),
     (GIVEN + "assign y = @@4'b12;" + END, "", "`2` is no binary digit"),
     (GIVEN + "assign y = @@70'h1;" + END, "", "this number has a size of 70 bits, and 1 to 64 there may be"),
     (GIVEN + "assign y = @@0'h1;" + END, "", "this number has a size of 0 bits, and 1 to 64 there may be"),
     (GIVEN + "assign y = @@8'h;" + END, "", "this number has no hexadecimal digit behind its base"),
     (GIVEN + "assign y = @@8'so_7;" + END, "", "a digit stands right behind a base, and `_` only later"),
     (GIVEN + "assign y = @@4_294_967_296;" + END, "", "4_294_967_296 has no size, so it has to be below 2^32: write its size before it, as in "
-     "40'd4_294_967_296"),
+     "64'd4_294_967_296"),
+    (GIVEN + "assign y = @@99999999999999999999;" + END, "", "the number 99999999999999999999 has over 64 bits, which are the most"),
+    (GIVEN + "assign y = @@2$;" + END, "", "`$` stands right behind the number 2: a name begins with no digit, and a number has a base, as in 8'hff, or is "
+     "decimal"),
     (GIVEN + "assign y = @@'h1_0000_0000;" + END, "", "the hexadecimal number 1_0000_0000 has no size, so it has to be below 2^32: write its size before the `'`, "
      "as in 64'hff"),
     (GIVEN + f"assign y = @@64'h1{'0' * 32};" + END, "", f"the hexadecimal number 1{'0' * 32} is 2^128 or more, and 64 bits there may be"),
@@ -91,10 +108,45 @@ TEXTS = [
     ("module m(input a, @@{H} b);" + END, "", "`{` cannot stand behind `,`: a further name has the label of the one before; declare it on its own"),
     ("module m(@@{H} input a);" + END, "", "`{` cannot stand behind `(`: a label stands behind the range, right before the name"),
     (GIVEN + "wire c @@{H};" + END, "", "`{` cannot stand behind `c`: a label stands behind the range, right before the name"),
-    (CLOCKED + "q @@<= d;" + END, "", "`<=` cannot stand behind `q`: an assignment stands in an `always`, or behind `assign`"),
-    (CLOCKED + "assign w = d;\n  q @@= d;" + END, "", "`=` cannot stand behind `q`: an assignment stands in an `always`, or behind `assign`"),
+    (CLOCKED + "q @@<= d;" + END, "", f"`<=` cannot stand behind `q`: {OUTSIDE}"),
+    (CLOCKED + "assign w = d;\n  q @@= d;" + END, "", f"`=` cannot stand behind `q`: {OUTSIDE}"),
+    (CLOCKED + "always @(posedge clk)\n    q <= d;\n    q @@<= 0;" + END, "", f"`<=` cannot stand behind `q`: {OUTSIDE}"),
+    (CLOCKED + "always @* case (d) 0: q = 1; q @@= d; endcase" + END, "", f"`=` cannot stand behind `q`: {ARM}"),
+    (CLOCKED + "always @(posedge clk) case (d) 0: q <= 1; q <= d@@; endcase" + END, "", f"`;` cannot stand behind `d`: {ARM}"),
+    (CLOCKED + "always @* case (d) 0: begin q = 1; @@1: q = d; endcase" + END, "", "`1` cannot stand behind `;`: the `begin` of 2:25 is open"),
+    (CLOCKED + "always @* begin q = d @@end" + END, "", "`end` cannot stand behind `d` of 2:23: is a `;` missing there?"),
+    (CLOCKED + "always @(posedge clk) if (d) q <= 0 @@else q <= d;" + END, "", "`else` cannot stand behind `0` of 2:37: is a `;` missing there?"),
+    (CLOCKED + "assign w = d @@assign q = d;" + END, "", "`assign` cannot stand behind `d` of 2:14: is a `;` missing there?"),
+    (CLOCKED + "always @(posedge clk) if (d) begin q <= 0; @@else q <= d; end" + END, "", f"`else` cannot stand behind `;`: {ELSE}"),
+    (CLOCKED + "always @(posedge clk) if (d) q <= 0; else q <= 1; @@else q <= d;" + END, "", f"`else` cannot stand behind `;`: {ELSE}"),
+    (CLOCKED + "always @(posedge clk) begin if (d) q <= 0; end @@else q <= d;" + END, "", f"`else` cannot stand behind `end`: {ELSE}"),
+    (CLOCKED + "always @* begin q = d; end @@end" + END, "", "`end` cannot stand behind `end`: no `begin` is open here"),
+    (CLOCKED + "always @* begin\n    @@reg t; t = d; q = t; end" + END, "", f"`reg` cannot stand behind `begin`: {BLOCK}"),
+    (CLOCKED + "always @* begin : b\n    @@reg t; t = d; q = t; end" + END, "", f"`reg` cannot stand behind `b`: {BLOCK}"),
+    (CLOCKED + "always @* begin if (d) begin q = 0; end\n  @@wire t = d;" + END, "", f"`wire` cannot stand behind `end`: {BLOCK}"),
+    (CLOCKED + "always @* begin if (d) begin q = 0; end\n  @@assign w = d;" + END, "", "`assign` cannot stand behind `end`: the `begin` of 2:13 is open"),
+    (CLOCKED + "assign w = d;\n  @@input e;" + END, "", f"`input` cannot stand behind `;`: {HEADER}"),
+    (CLOCKED + "assign w = d;\n  @@if (d) assign q = d;" + END, "", "`if` cannot stand behind `;`: a statement stands in an `always`"),
+    (CLOCKED + "always @* if @@d q = 0;" + END, "", "`d` cannot stand behind `if`: what it asks stands in `(` and `)`"),
+    (CLOCKED + "assign w @@<= d;" + END, "", "`<=` cannot stand behind `w`: an `assign` takes `=`"),
+    (CLOCKED + "assign w = d;@@;" + END, "", "`;` cannot stand behind `;`: take the `;` away"),
+    ("module m;\nendmodule@@;\n", "", "`;` cannot stand behind `endmodule`: take the `;` away"),
+    ("module m(input a, output y,@@);" + END, "", "`)` cannot stand behind `,`: take the `,` away"),
+    (USE + "s u(.i(a), .o(y),@@);" + END, "", "`)` cannot stand behind `,`: take the `,` away"),
+    (USE + "s u(.i@@, .o);" + END, "", "`,` cannot stand behind `i`: link each port, as in `.a(b)`"),
+    ("module m;\n@@module n;\nendmodule\n", "", "`module` cannot stand behind `;`: is an `endmodule` missing before it?"),
+    ("lattice point A; endlattice\nlabelmap D [0:0] default: A; endlabelmap@@", "", "the text ends too early, behind `endlabelmap`: a module is missing"),
+    (GIVEN + "wire @@point;" + END, "", f"`point` cannot stand behind `wire`: {RESERVED}"),
+    (GIVEN + "assign y = @@labelmap;" + END, "", f"`labelmap` cannot stand behind `=`: {RESERVED}"),
+    (GIVEN + "assign y = {v[1@@};" + END, "", "`}` cannot stand behind `1`: the `[` of 2:16 is open"),
     ("module m(input a @@= 1);" + END, "", "`=` cannot stand behind `a`"),
     (GIVEN + "logic c@@;" + END, "", "`;` cannot stand behind `c`: `logic` is left out: declare a `wire` or a `reg`"),
+    ("module m(input a, output logic @@[7:0] y);" + END, "", "`logic` is left out: declare a `wire` or a `reg`"),
+    ("module m(input logic @@{H} a);" + END, "", "`{` cannot stand behind `logic`: `logic` is left out: declare a `wire` or a `reg`"),
+    (GIVEN + "wire c@@[7:0];" + END, "", RANGE),
+    (GIVEN + "int i@@;" + END, "", f"`;` cannot stand behind `i`: {FOREIGN}"),
+    ("module m #(parameter int @@W = 8) (input a);" + END, "", f"`W` cannot stand behind `int`: {FOREIGN}"),
+    (GIVEN + "always_comb y @@= a;" + END, "", "`=` cannot stand behind `y`: write `always @*`"),
     (GIVEN + "logic @@[3:0] c;" + END, "", "`[` cannot stand behind `logic`: `logic` is left out: declare a `wire` or a `reg`"),
     ("module m(input logic @@a);" + END, "", "`a` cannot stand behind `logic`: `logic` is left out: declare a `wire` or a `reg`"),
     (CLOCKED + "always_ff @@@(posedge clk) q <= d;" + END, "", "`@` cannot stand behind `always_ff`: write `always @(posedge clk)`"),
@@ -102,6 +154,8 @@ TEXTS = [
     (GIVEN + "assign y = {a} @@[0];" + END, "", "`[` cannot stand behind `}`"),
     (GIVEN + "assign y = a @@{b};" + END, "", "`{` cannot stand behind `a`"),
     (LANES + "module m(input {Dom(@@1)} z);" + END, "", "`1` cannot stand behind `(`: a signal picks the row of a label map; for a constant write the point"),
+    (LANES + "module m(input [3:0] a, input {Dom(a@@[1:0])} z);" + END, "", "`[` cannot stand behind `a`: a whole signal picks the row: name the bit or the "
+     "expression by a `wire`"),
     ("module m; endmodule\n@@labelmap D [0:0] default: L; endlabelmap\n", "", "`labelmap` cannot stand behind `endmodule`: a label map stands before all "
      "modules"),
     ("labelmap D [0:0] default: L; endlabelmap\n@@lattice point A; endlattice\nmodule m;" + END, "", "`lattice` cannot stand behind `endlabelmap`: a text has "
@@ -118,15 +172,17 @@ TEXTS = [
     (GIVEN + "wire @@wait;" + END, "", "`wait` is a reserved word of Verilog: take another name"),
     (GIVEN + "reg @@time;" + END, "", "`time` is a reserved word of Verilog: take another name"),
     (GIVEN + "assign y = a & @@large;" + END, "", "`large` is a reserved word of Verilog: take another name"),
-    (GIVEN + "@@time t;" + END, "", "this type is left out: declare a `reg` of so many bits"),
-    ("module m(input @@integer n);" + END, "", "this type is left out: declare a `reg` of so many bits"),
-    (GIVEN + "always @* begin : b\n  @@integer i; end" + END, "", "this type is left out: declare a `reg` of so many bits"),
+    (GIVEN + "@@time t;" + END, "", TYPE),
+    ("module m(input @@integer n);" + END, "", TYPE),
+    ("module m #(parameter @@integer W = 8) (input a);" + END, "", TYPE),
+    (GIVEN + "@@event e;" + END, "", "named events are left out: one clock edge drives all registers"),
+    (GIVEN + "always @* begin : b\n  @@integer i; end" + END, "", TYPE),
     ("module m(input a, @@inout b);" + END, "", "`inout` is left out: give the pad an input, an output and an enable, and keep it outside"),
     (GIVEN + "always @(@@negedge a) y = a;" + END, "", "the falling edge is left out: registers take their values at `posedge`"),
     (GIVEN + "@@specify endspecify" + END, "", "timing is left out: take the `specify` block away"),
     ("module m(@@a, b);" + END, "", "names alone in a header are left out: declare each port there, as in `input [7:0] a`"),
     ("module m(input a, output y); assign y = " + "-" * 64 + "@@-a; endmodule\n", "", "this opens a level too many: at most 64 brackets, operators and "
-     "statements may be open at once; name a part by a `wire`"),
+     "statements may be open at once; name a part by a `wire`, or ask a chain of `else if` by a `case`"),
     ("module m(input a, output y); assign y = a" + " + a" * 511 + " + @@a; endmodule\n", "", "this is the 1,025th token of an expression, which has at "
      "most 1,024: name a part of it by a `wire`"),
     ("module m(input [8:0] a, output reg y); always @* case (a)\n" + "".join(f"{arm}: y = 1;\n" for arm in range(256)) + "@@256: y = 1;\nendcase" + END, "",
@@ -137,9 +193,11 @@ TEXTS = [
     ("@@lattice point A, B; A <= B; B <= A; endlattice\nmodule m;" + END, "", "`A` and `B` flow to each other, so they are one point: take one of them "
      "away, or a pair between them"),
     ("@@lattice point A, B; endlattice\nmodule m;" + END, "", "`A` and `B` have no least point above both, for a signal that is made of both: declare one, "
-     "with a pair from each to it"),
+     "with a pair from each to it, and from it to each other point above both"),
+    ("@@lattice point P, A, B, C, D, T; P <= A; P <= B; A <= C; A <= D; B <= C; B <= D; C <= T; D <= T; endlattice\nmodule m;" + END, "", "`A` and `B` have no "
+     "least point above both, for a signal that is made of both: declare one, with a pair from each to it, and from it to each other point above both"),
     ("@@lattice point T, U, V; U <= T; V <= T; endlattice\nmodule m;" + END, "", "`U` and `V` have no greatest point below both: declare one, with a pair "
-     "from it to each"),
+     "from it to each, and to it from each other point below both"),
     (LANES + "labelmap @@Dom [1:0] default: L; endlabelmap\nmodule m;" + END, "", "the label map `Dom` is declared twice, first at 1:10"),
     ("labelmap @@D [8:0] 0: L; default: H; endlabelmap\nmodule m;" + END, "", "label map `D`: its range is to be `[m:0]` with m from 0 to 7"),
     ("labelmap @@D [1'sb1:0] default: H; endlabelmap\nmodule m;" + END, "", "label map `D`: its range is to be `[m:0]` with m from 0 to 7"),
@@ -156,16 +214,17 @@ TEXTS = [
      "`default: POINT;`"),
     ("@@module m; endmodule\nmodule n; endmodule\n", "", "2 modules stand in no other one: `m`, `n`; name the top by `--top MODULE`"),
     ("@@module m; endmodule\n", "--top n", "there is no module `n`, which `--top` names; the modules are `m`"),
-    ("@@module a; b u(); endmodule\nmodule b; a u(); endmodule\n", "", "there is no top, since each module stands in another one: name it by `--top MODULE`"),
+    ("@@module a; b u(); endmodule\nmodule b; a u(); endmodule\n", "", "there is no top, since each module stands in some module: name it by `--top MODULE`"),
     ("module m;\n  @@q u();" + END, "", "there is no module `q`: a design is one file, so join its files by `cat`"),
     ("module m; endmodule\nmodule @@m; endmodule\n", "", "there are two modules `m`, the first at 1:8"),
     ("module m(input a);\n  wire @@a;" + END, "", "`a` is declared twice in one module, first at 1:16"),
     (USE + "s u(.i(a), .@@q(y));" + END, "", "the module `s` has no port `q`; its ports are `i`, `o`"),
     (USE + "s u(.i(a), .o(y), .@@i(a));" + END, "", "the port `i` is linked twice, first at 6:8"),
     (USE + "s u(.i(a), .@@i(a)), v(a, y);" + END, "", "the port `i` is linked twice, first at 6:8"),
+    ("module s(input i);\nendmodule\nmodule t(input a);\n  s u(a, @@a);" + END, "", "this is a link too many: the module `s` has 1 port"),
     (USE + "s u(a, y, @@a);" + END, "", "this is a link too many: the module `s` has 2 ports"),
     (USE + "s u(.i(a), .o(@@{y}));" + END, "", "the output `o` is linked to what is no whole signal: link a `wire`, and take its bits from that"),
-    (USE + "s u(.i(a), .o(@@zz));" + END, "", "there is no signal `zz` in module `t`, to link the output `o` to: declare it, as in `wire zz;`"),
+    (USE + "s u(.i(a), .o(@@zz));" + END, "", "there is no signal `zz` in module `t`, to link the output `o` to: declare it as wide as that, as in `wire zz;`"),
     (USE + "localparam Z = 1; s u(a, @@Z);" + END, "", "the output `o` is linked to the parameter `Z`: link a `wire`"),
     (USE + "s u(a, @@u);" + END, "", "the output `o` is linked to `u`, which is no signal: link a `wire`"),
     ("module a; b u(); endmodule\nmodule b; @@a v(); endmodule\n", "--top a", "with this instance the module `a` would stand inside itself, without end"),
@@ -178,21 +237,31 @@ TEXTS = [
     (USE + "s #(.@@R(1)) u(a, y);" + END, "", "the parameter `R` is local, at 2:14, so no instance sets it: declare it in the header, `module s "
      "#(parameter R = ..)`"),
     (USE + "s #(1, 2, @@3) u(a, y);" + END, "", "this is a value too many: the parameters of the module `s` that may be set are `P`, `Q`"),
-    (GIVEN + "assign y = @@c;" + END, "", "there is no signal or parameter `c` in module `m`: declare it, as in `wire c;`"),
+    (GIVEN + "assign y = @@c;" + END, "", "there is no signal or parameter `c` in module `m`: declare it, as in `wire c;`, or `parameter c = 8;` for a constant"),
     (GIVEN + "wire [@@V-1:0] c;" + END, "", "there is no signal or parameter `V` in module `m`: declare it, as in `parameter V = 8;`"),
     (GIVEN + "always @* @@r = a;" + END, "", "there is no signal or parameter `r` in module `m`: declare it, as in `reg r;`"),
     (GIVEN + "always @* begin @@r[v[1]] = a; end" + END, "", "there is no signal or parameter `r` in module `m`: declare it, as in `reg [7:0] r;`"),
     ("module m(input a, output reg y);\n  always @(posedge a) if (y) {y, @@r} <= 2;" + END, "", "there is no signal or parameter `r` in module `m`: declare it, as in "
      "`reg r;`"),
     (GIVEN + "always @* {@@r[3:0], y} = v;" + END, "", "there is no signal or parameter `r` in module `m`: declare it, as in `reg [7:0] r;`"),
-    (GIVEN + "always @* case (a) @@r[0]: y = v; endcase" + END, "", "there is no signal or parameter `r` in module `m`: declare it, as in `wire r;`"),
+    (GIVEN + "always @* case (a) @@r[0]: y = v; endcase" + END, "", "there is no signal or parameter `r` in module `m`: declare it, as in `wire r;`, or "
+     "`parameter r = 8;` for a constant"),
     (GIVEN + "assign @@r = a;" + END, "", "there is no signal or parameter `r` in module `m`: declare it, as in `wire r;`"),
     ("module m(input a, output reg y);\n  always @(posedge @@c) y <= a;" + END, "", "there is no signal or parameter `c` in module `m`: declare it, as in "
      "`input c`"),
     (GIVEN + "parameter P = 1;\n  assign @@P = a;" + END, "", "`P` is a parameter, and a signal is wanted here"),
     (GIVEN + "wire [@@P:0] c; parameter P = 1;" + END, "", "the parameter `P` is declared later, at 2:27: declare it before it is used"),
     (GIVEN + "assign y = @@" + "c" * 200 + ";" + END, "", f"there is no signal or parameter `{'c' * 50}...{'c' * 27}` in module `m`: declare it, as in `wire "
-     f"{'c' * 50}...{'c' * 27};`"),
+     f"{'c' * 50}...{'c' * 27};`, or `parameter {'c' * 50}...{'c' * 27} = 8;` for a constant"),
+    (GIVEN + "assign y = {@@N{a}};" + END, "", "there is no signal or parameter `N` in module `m`: declare it, as in `wire N;`, or `parameter N = 8;` for a constant"),
+    (USE + "s #(.P(@@N)) u(a, y);" + END, "", "there is no signal or parameter `N` in module `t`: declare it, as in `wire N;`, or `parameter N = 8;` for a constant"),
+    (GIVEN + "localparam [@@N:0] Z = 1;" + END, "", "there is no signal or parameter `N` in module `m`: declare it, as in `parameter N = 8;`"),
+    (GIVEN + "assign y = a, @@r = b;" + END, "", "there is no signal or parameter `r` in module `m`: declare it, as in `wire r;`"),
+    (GIVEN + "assign {@@r, y} = v;" + END, "", "there is no signal or parameter `r` in module `m`: declare it, as in `wire r;`"),
+    (GIVEN + "wire [@@a:0] c;" + END, "", "a constant is wanted here, and this is a signal: use a parameter"),
+    (GIVEN + "wire [3:0] c = v[@@a:0];" + END, "", SELECTED),
+    (GIVEN + "reg [7:0] r; always @* begin r = 0; r[@@a] = b; end" + END, "", SELECTED),
+    (GIVEN + "reg r; always @* case (1'b1) @@a: r = 1; default: r = 0; endcase" + END, "", ITEM),
     (GIVEN + "parameter P = @@P;" + END, "", "the parameter `P` is used in its own value: write a number there, or a parameter that is declared before"),
     (GIVEN + "localparam A = 2 * (1 + @@A), B = 2;" + END, "", "the parameter `A` is used in its own value: write a number there, or a parameter that is declared "
      "before"),
@@ -278,12 +347,14 @@ TEXTS = [
      "everybody sees the time, so a clock is public; take its label away"),
     ("module m(input a, output y);\n  assign y = a;\n  assign @@y = ~a;" + END, "", "`y` has a driver already, at 2:10: assign all its bits in one `always` or "
      "`assign`"),
+    (USE + "s u(a, y), v(a, @@y);" + END, "", "`y` has a driver already, at 6:10: link each output to a `wire` of its own, and join those in one `assign`"),
     ("module s(input i, output o);\n  assign o = i;\n  assign @@i = 1;\nendmodule\nmodule m(input a, output y);\n  s u(.i(a), .o(y));" + END, "", "`u.i` is an "
      "input of the instance at 6:5, and what is linked to it at 6:10 drives it: take this assignment away"),
     ("module s(input i, output o);\n  assign i = 0, o = i;\n  assign @@i = 1;\nendmodule\nmodule m(output y);\n  s u(.i(), .o(y));" + END, "", "`u.i` is an input "
      "of the instance at 6:5, which links nothing to it: link it there, and assign it nowhere"),
     ("module s(input @@i, output o);\n  assign o = i;\nendmodule\nmodule t(output o);\n  s v(.i(), .o(o));\nendmodule\nmodule m(output y);\n  t u(y);" + END, "",
      "nothing drives `u.v.i`, an input of the instance at 5:5, which links nothing to it: link it there"),
+    ("module m(output y);\n  reg @@r;\n  assign y = r;" + END, "", "nothing drives the `reg` `r`: assign it in an `always`"),
     ("module m(output @@y);" + END, "", "nothing drives `y`: assign it, or link it to an output"),
     ("module m(input a, output reg y);\n  @@always @* if (a) y = 1;" + END, "", "this block does not assign all bits of `y` on every path, so it would be a latch: "
      "give it a value at the block's begin, or in each `else` and `default`"),
@@ -296,6 +367,11 @@ TEXTS = [
     (GIVEN + "assign y = a; reg @@s [3:0];" + END, "", "memories are not built yet: name the registers, and pick one by `case`"),
     (GIVEN + "assign y = a; invariant @@a;" + END, "", "`invariant` is not built yet: add its condition to the path that needs it"),
     ("module m(input {H} k, output y);\n  assign @@y = k;" + END, "", "obligation 1: `y` learns from `k`: at the printed values `k` is at `H`, and `y` at `L`"),
+    ("module m(input {H} k, input a, output reg y);\n  always @*\n    if (k)\n      @@y = a;\n    else\n      y = 0;" + END, "", "obligation 1: `y` learns from `k`, "
+     "which the condition at 3:5 reads: at the printed values `k` is at `H`, and `y` at `L`"),
+    ("module m(input clk, input [1:0] {H} k, input a, output reg y);\n  always @(posedge clk)\n    case (k)\n      0: @@y <= a;\n      default: y <= 0;\n    endcase"
+     + END, "", "obligation 1: `y` learns from `k`, which the condition at 4:7 reads: at the printed values `k` is at `H`, and `y` at `L`: the label of a register is "
+     "that of the next cycle"),
     (OWNER.replace("if (nxt)", "@@if (nxt)"), "", "obligation 3: the register `r` keeps its value on this path, and its label falls: at the printed values it "
      "is at `H`, and at `L` in the next cycle; clear it where its label falls"),
     (OWNER.replace("if (nxt) r", "@@r"), "", "obligation 2: `r` learns from `k`: at the printed values `k` is at `H`, and `r` at `L`: the label of a register is "
@@ -317,14 +393,12 @@ RETURN = "the line ends with CR and LF: let each line end with LF alone, as `tr 
 # Words and a stimulus for the design OWNER in the file `f`, and what is said.
 RUNS = [
     ("sim f", "", "secv: line 1 of the input: here is to stand the line `inputs nxt k`, or before it a line `start REGISTER VALUE`\n"),
-    ("sim f", "inputs nxt k\n0 0\n0 100\n", "secv: line 3 of the input: `100` is no value of the input `k`: a hexadecimal one of 8 bits is wanted\n"),
-    ("sim f", "inputs nxt k\n2 0\n", "secv: line 2 of the input: `2` is no value of the input `nxt`: a hexadecimal one of 1 bit is wanted\n"),
-    ("sim f", "inputs nxt k\n" + "0 0\n" * 20000 + "0 x\n0 0\n", "secv: line 20002 of the input: `x` is no value of the input `k`: a hexadecimal one of 8 bits is "
-     "wanted\n"),
+    ("sim f", "inputs nxt k\n0 0\n0 100\n", "secv: line 3 of the input: `100` is no value of the input `k`: wanted are 1 to 16 hexadecimal digits that fit in 8 bits\n"),
+    ("sim f", "inputs nxt k\n2 0\n", "secv: line 2 of the input: `2` is no value of the input `nxt`: wanted are 1 to 16 hexadecimal digits that fit in 1 bit\n"),
+    ("sim f", "inputs nxt k\n" + "0 0\n" * 20000 + "0 x\n0 0\n", "secv: line 20002 of the input: `x` is no value of the input `k`: wanted are 1 to 16 hexadecimal digits that fit in 8 bits\n"),
     ("sim f", "inputs nxt k\n0 0\n0", "secv: line 3 of the input: a value of the input `k`, of 8 bits, is missing: each line has a value for each name of "
      "`inputs nxt k`\n"),
-    ("sim f", "inputs nxt k\n\n0 0\n", "secv: line 2 of the input: a value of the input `nxt`, of 1 bit, is missing: each line has a value for each name of "
-     "`inputs nxt k`\n"),
+    ("sim f", "inputs nxt k\n\n0 0\n", "secv: line 2 of the input: this line is empty: each has a value for each name of `inputs nxt k`\n"),
     ("sim f", "inputs nxt k\n0  0\n", "secv: line 2 of the input: a blank too many stands where a value of the input `k`, of 8 bits, is wanted\n"),
     ("sim f", "inputs nxt k\n0 0 \n", "secv: line 2 of the input: a blank too many stands at the end of this line\n"),
     ("sim f", "inputs nxt k\n0 0 0\n", "secv: line 2 of the input: this line has more values than there are inputs: each has a value for each name of "
@@ -332,11 +406,18 @@ RUNS = [
     ("sim f", "inputs nxt k\nstart r 1\n", "secv: line 2 of the input: a line `start REGISTER VALUE` stands before the line `inputs nxt k`: behind it there are "
      "values of inputs alone\n"),
     ("sim f", "start q 1\n", "secv: line 1 of the input: there is no register `q`; the registers are `owner` (1 bit), `r` (8 bits)\n"),
+    ("sim f", "start  r 1\n", "secv: line 1 of the input: behind `start` stand one blank and the name of a register; the registers are `owner` (1 bit), `r` "
+     "(8 bits)\n"),
+    ("sim f", "start \x1b[2Jq 1\n", "secv: line 1 of the input: there is no register `\\u{1b}[2Jq`; the registers are `owner` (1 bit), `r` (8 bits)\n"),
+    ("sim f", "inputs nxt k\n0 \x1b[2J\u202e\n", "secv: line 2 of the input: `\\u{1b}[2J\\u{202e}` is no value of the input `k`: wanted are 1 to 16 hexadecimal digits "
+     "that fit in 8 bits\n"),
+    ("sim f", "inputs nxt k\n0 0x5\n", "secv: line 2 of the input: `0x5` is no value of the input `k`: wanted are 1 to 16 hexadecimal digits that fit in 8 bits\n"),
+    ("cnf one 2", "", "secv: one: the design has one obligation, 1, and none has the number 2\n"),
     ("sim f", "start r 5\nstart r 6\n", "secv: line 2 of the input: the register `r` is started by an earlier line already: take one of the two away\n"),
-    ("sim f", "start r 100\n", "secv: line 1 of the input: `100` is no value of the register `r`: a hexadecimal one of 8 bits is wanted\n"),
+    ("sim f", "start r 100\n", "secv: line 1 of the input: `100` is no value of the register `r`: wanted are 1 to 16 hexadecimal digits that fit in 8 bits\n"),
     ("sim f", "inputs nxt k\r\n0 0\r\n", f"secv: line 1 of the input: {RETURN}\n"),
     ("compare f j c --level L", "", f"j:1:1: {RETURN}\n"),
-    ("compare f c k --level L", "", "k:3:1: `100` is no value of the input `k`: a hexadecimal one of 8 bits is wanted\n"),
+    ("compare f c k --level L", "", "k:3:1: `100` is no value of the input `k`: wanted are 1 to 16 hexadecimal digits that fit in 8 bits\n"),
     ("verify f l", "", f"l:1:1: {RETURN}\n"),
     ("sim f", "inputs nxt k\n" + "0" * 1048577, "secv: line 2 of the input: the line has over 1,048,576 bytes, which are the most\n"),
     ("sim f --level Q", "", "secv: f: there is no point `Q`, which `--level` names; the points are `L`, `H`\n"),
@@ -397,6 +478,7 @@ def runs(folder):
     put(folder, "k", "inputs nxt k\n0 0\n0 100\n")
     put(folder, "l", "secv-proof 1\r\nobligations 1\r\no 1 0\r\nend\r\n")
     put(folder, "many", MANY)
+    put(folder, "one", "module m(input a, output y);\n  assign y = a;\nendmodule\n")
     put(folder, "large", " " * 1048577)
     put(folder, "points", POINTS + "module m; endmodule\n")
     for words, given, said in RUNS:

@@ -119,7 +119,8 @@ pub fn in_block(spot: Spot, here: &Token, last: &[u8], open: &[u8]) -> Option<&'
         TokenKind::Word(WordKind::Else) if begins => Some(ELSE),
         TokenKind::Word(WordKind::Reg | WordKind::Wire) if begins => {
             Some(
-                "no signal is declared in a block: declare it before the `always`, or is an `end` missing?",
+                "no signal is declared in a block: declare it before the `always`, or is an `end` \
+                 missing?",
             )
         }
         _ if open == b"case".as_slice() && is_second(spot, here) => Some(ARM),

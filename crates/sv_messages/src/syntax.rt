@@ -35,8 +35,8 @@ pub fn bad_byte(alloc: Global, case: &Case) -> Result<String, AllocError> {
         }
         Some(byte) if byte >= 128 => owned(
             alloc,
-            "characters beyond ASCII stand in comments alone: write a name with letters a to z, and \
-             blanks, dashes and quotes of ASCII",
+            "characters beyond ASCII stand in comments alone: write a name with letters a to z, \
+             and blanks, dashes and quotes of ASCII",
         ),
         Some(byte) => {
             format!(in alloc; "the byte {byte:#04x} stands in no Verilog text but in comments")

@@ -314,8 +314,8 @@ TEXTS = [
      "their values together"),
     (CLOCKED + "assign w = d; always @* @@q <= d;" + END, "", "`q` is assigned by `<=` in an `always @*`: write `=`"),
     (CLOCKED + "always @* begin q = d; @@w = d; end" + END, "", "`w` is assigned in an `always`, so declare it a `reg`, at 1:51"),
-    (CLOCKED + "assign w = d;\n  assign @@q = d;" + END, "", "`q` is a `reg`, which an `always` alone assigns: take the word away at 1:41, or assign it in an "
-     "`always`"),
+    (CLOCKED + "assign w = d;\n  assign @@q = d;" + END, "", "`q` is a `reg`, which an `always` alone assigns: take `reg` away from its declaration at 1:41, or "
+     "assign it in an `always`"),
     (CLOCKED + "assign w = d;\n  assign @@d = w;" + END, "", "`d` is an input of the top, declared at 1:27, and is driven from outside"),
     (CLOCKED + "assign w = d; always @(posedge clk) @@d <= w;" + END, "", "`d` is an input, declared at 1:27, and is driven from outside: where the module is to "
      "drive it, declare it an `output reg`"),
@@ -336,9 +336,11 @@ TEXTS = [
     ("labelmap D [0:0] 0: L; default: H; endlabelmap\nmodule m(input @@c, input {D(c)} d, output reg {H} q);\n  always @(posedge c) q <= d;" + END, "", "the clock "
      "`c` picks the label of `d` of 2:32: " + ALONE),
     ("module s(input @@c, d, output reg q);\n  assign c = d;\n  always @(posedge c) q <= d;\nendmodule\nmodule m(input clk, d, output q);\n  s u(clk, d, q);"
-     + END, "", "the clock `u.c` is driven at 2:10: " + ALONE),
+     + END, "", "the clock `u.c`, linked to `clk` of 5:16, is driven at 2:10: " + ALONE),
     ("module s(input @@c, d, output reg q);\n  always @(posedge c) q <= d;\nendmodule\nmodule m(input a, b, d, output x, y);\n  s u(a, d, x), v(b, d, y);" + END,
      "", "the clock `u.c` is `a` of 4:16, and `b` of 4:19 is a clock, too: a design has one; let an enable decide in the block"),
+    ("module s(input c, @@d, output reg q);\n  always @(posedge c) q <= d;\nendmodule\nmodule m(input clk, output q);\n  s u(clk, clk, q);" + END, "", "the clock "
+     "`u.d`, linked to `clk` of 4:16, is read at 2:28: " + ALONE),
     (TICKED + "s u(d, @@~a, x);" + END, "", EXPRESSED),
     (TICKED + "s u(.q(x), .c(@@1'b0), .d(d));" + END, "", EXPRESSED),
     (TICKED + "s u(.q(x), .@@c(), .d(d));" + END, "", "the clock `u.c` is linked to nothing here: link it to the clock around it"),
@@ -358,8 +360,8 @@ TEXTS = [
     ("module m(output @@y);" + END, "", "nothing drives `y`: assign it, or link it to an output"),
     ("module m(input a, output reg y);\n  @@always @* if (a) y = 1;" + END, "", "this block does not assign all bits of `y` on every path, so it would be a latch: "
      "give it a value at the block's begin, or in each `else` and `default`"),
-    ("module m(input a, output reg y);\n  always @* y = a ^ @@y;" + END, "", "`y` is read here before its block has assigned it for good: name the earlier "
-     "value by a `wire` of its own"),
+    ("module m(input a, output reg y);\n  always @* y = a ^ @@y;" + END, "", "`y` is read here, where its block has not assigned it on every path, or assigns "
+     "it again: name the earlier value by a `wire` of its own, or keep it in a register"),
     ("module m(output @@y);\n  wire w; assign w = y; assign y = w;" + END, "", "these signals read each other in a circle without a register between, each the "
      "next and the last `y`: `y`, `w`; break it by a register, or split a signal"),
     ("module m(output [1:0] @@y);\n  assign y = {y[0], 1'b1};" + END, "", "`y` reads itself without a register between, so it has no value: break the circle by "

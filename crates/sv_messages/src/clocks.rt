@@ -191,11 +191,23 @@ fn clock_fault(
             is public; take its label away"
         );
     }
+    let linked = linked_words(alloc, flat, number)?;
     let used = used(alloc, flat, number)?;
     format!(in alloc;
-        "the clock `{name}` {used}: a clock stands behind `posedge` and in links alone; let an \
-        enable decide in the block"
+        "the clock `{name}`{linked} {used}: a clock stands behind `posedge` and in links alone; let \
+        an enable decide in the block"
     )
+}
+
+// The signal that is linked to a clock of an instance, in words; nothing where none is.
+fn linked_words(alloc: Global, flat: &Flat, number: usize) -> Result<String, AllocError> {
+    match linked_to(flat, number) {
+        Some(source) => {
+            let source = signal_shown(alloc, flat, source)?;
+            format!(in alloc; ", linked to {source},")
+        }
+        None => Ok(String::new(alloc)),
+    }
 }
 
 // Whether a label is the point that flows to all.

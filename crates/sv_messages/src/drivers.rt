@@ -85,8 +85,8 @@ fn outside_blocks(alloc: Global, name: &str, decl: Option<&Decl>) -> Result<Stri
         Some(decl) if is_reg(decl) => {
             let Place { line, column } = decl.place;
             format!(in alloc;
-                "`{name}` is a `reg`, which an `always` alone assigns: take the word \
-                away at {line}:{column}, or assign it in an `always`"
+                "`{name}` is a `reg`, which an `always` alone assigns: take `reg` away from its \
+                declaration at {line}:{column}, or assign it in an `always`"
             )
         }
         Some(decl) if decl.kind == DeclKind::Input => {

@@ -246,7 +246,8 @@ TEXTS = [
     (GIVEN + "always @* {@@r[3:0], y} = v;" + END, "", "there is no signal or parameter `r` in module `m`: declare it, as in `reg [7:0] r;`"),
     (GIVEN + "always @* case (a) @@r[0]: y = v; endcase" + END, "", "there is no signal or parameter `r` in module `m`: declare it, as in `wire r;`, or "
      "`parameter r = 8;` for a constant"),
-    (GIVEN + "assign @@r = a;" + END, "", "there is no signal or parameter `r` in module `m`: declare it, as in `wire r;`"),
+    (GIVEN + "assign @@r = a;" + END, "", "there is no signal or parameter `r` in module `m`: declare it, as in `wire r;`, or "
+     "`parameter r = 8;` for a constant"),
     ("module m(input a, output reg y);\n  always @(posedge @@c) y <= a;" + END, "", "there is no signal or parameter `c` in module `m`: declare it, as in "
      "`input c`"),
     (GIVEN + "parameter P = 1;\n  assign @@P = a;" + END, "", "`P` is a parameter, and a signal is wanted here"),
@@ -256,8 +257,10 @@ TEXTS = [
     (GIVEN + "assign y = {@@N{a}};" + END, "", "there is no signal or parameter `N` in module `m`: declare it, as in `wire N;`, or `parameter N = 8;` for a constant"),
     (USE + "s #(.P(@@N)) u(a, y);" + END, "", "there is no signal or parameter `N` in module `t`: declare it, as in `wire N;`, or `parameter N = 8;` for a constant"),
     (GIVEN + "localparam [@@N:0] Z = 1;" + END, "", "there is no signal or parameter `N` in module `m`: declare it, as in `parameter N = 8;`"),
-    (GIVEN + "assign y = a, @@r = b;" + END, "", "there is no signal or parameter `r` in module `m`: declare it, as in `wire r;`"),
-    (GIVEN + "assign {@@r, y} = v;" + END, "", "there is no signal or parameter `r` in module `m`: declare it, as in `wire r;`"),
+    (GIVEN + "assign y = a, @@r = b;" + END, "", "there is no signal or parameter `r` in module `m`: declare it, as in `wire r;`, or "
+     "`parameter r = 8;` for a constant"),
+    (GIVEN + "assign {@@r, y} = v;" + END, "", "there is no signal or parameter `r` in module `m`: declare it, as in `wire r;`, or "
+     "`parameter r = 8;` for a constant"),
     (GIVEN + "wire [@@a:0] c;" + END, "", "a constant is wanted here, and this is a signal: use a parameter"),
     (GIVEN + "wire [3:0] c = v[@@a:0];" + END, "", SELECTED),
     (GIVEN + "reg [7:0] r; always @* begin r = 0; r[@@a] = b; end" + END, "", SELECTED),

@@ -247,13 +247,12 @@ fn ends_value(bytes: &[u8]) -> bool {
     matches!(bytes, b"," | b";")
 }
 
-/// How a name at a spot is used: as a clock, as a bound of a range in a declaration, as what an
-/// `assign` or a statement assigns, whole or a part of it, or as a value.
+/// How a name at a spot is used: as a clock, as a bound of a range in a declaration, as what a
+/// statement assigns, whole or a part of it, or as a value.
 #[derive(Clone, Copy)]
 pub enum Use {
     Clock,
     Bound,
-    Net,
     Register,
     RegisterPart,
     Value,
@@ -268,9 +267,6 @@ pub fn use_at(spot: Spot) -> Use {
     if is_bound(spot) {
         return Use::Bound;
     }
-    if is_net(spot) {
-        return Use::Net;
-    }
     let is_joined = is_in_joined_target(spot);
     if !is_joined && !are_before_form(spot.text, spot.front) {
         return Use::Value;
@@ -280,18 +276,6 @@ pub fn use_at(spot: Spot) -> Use {
         _ if is_joined || is_assigned(spot.text, spot.behind) => Use::Register,
         _ => Use::Value,
     }
-}
-
-// Whether an `assign` has its target at a spot, alone or in braces.
-fn is_net(spot: Spot) -> bool {
-    let before = match last_open(spot.text, spot.front) {
-        Some(number) => number.checked_sub(1),
-        None if bytes_at(spot.text, spot.behind, Some(0)) == b"=".as_slice() => {
-            spot.front.len().checked_sub(1)
-        }
-        None => None,
-    };
-    matches!(bytes_at(spot.text, spot.front, before), b"assign" | b",")
 }
 
 // Whether an assignment's sign comes next.

@@ -277,6 +277,14 @@ fn condition_words(alloc: Global, query: &Query, read: SigId) -> Result<String, 
     }
 }
 
+// Of which cycle the label of a target is, where that is not plain.
+fn frame_words(query: &Query) -> &'static str {
+    match frame_of(query) {
+        Frame::Next => ": the label of a register is that of the next cycle",
+        Frame::Now => "",
+    }
+}
+
 // How a target learns from a read.
 fn leak_words(
     alloc: Global,
@@ -308,16 +316,12 @@ fn leak_words(
                 cycle; clear it where its label falls"
             )
         }
-        Goal::Flow {
-            frame: Frame::Next,
-            ..
-        } => format!(in alloc;
-            "obligation {number}: `{name}` learns from `{read}`{by}: {at} `{read}` is \
-            at `{from}`, and `{name}` at `{to}`: the label of a register is that of the next cycle"
-        ),
-        _ => format!(in alloc;
-            "obligation {number}: `{name}` learns from `{read}`{by}: {at} `{read}` is \
-            at `{from}`, and `{name}` at `{to}`"
-        ),
+        _ => {
+            let of = frame_words(query);
+            format!(in alloc;
+                "obligation {number}: `{name}` learns from `{read}`{by}: {at} `{read}` is at \
+                `{from}`, and `{name}` at `{to}`{of}"
+            )
+        }
     }
 }

@@ -150,7 +150,6 @@ fn declaration_at(
     match use_at(spot_at(origin.text, &tokens, place)) {
         Use::Clock => format!(in alloc; "`input {name}`"),
         Use::Bound => format!(in alloc; "`parameter {name} = 8;`"),
-        Use::Net => format!(in alloc; "`wire {name};`"),
         Use::Register => format!(in alloc; "`reg {name};`"),
         Use::RegisterPart => format!(in alloc; "`reg [7:0] {name};`"),
         Use::Value => {

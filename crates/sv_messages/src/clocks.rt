@@ -194,8 +194,8 @@ fn clock_fault(
     let linked = linked_words(alloc, flat, number)?;
     let used = used(alloc, flat, number)?;
     format!(in alloc;
-        "the clock `{name}`{linked} {used}: a clock stands behind `posedge` and in links alone; let \
-        an enable decide in the block"
+        "the clock `{name}`{linked} {used}: a clock stands behind `posedge` and in links alone; \
+        let an enable decide in the block"
     )
 }
 

@@ -400,7 +400,8 @@ RUNS = [
     ("sim f", "", "secv: line 1 of the input: here is to stand the line `inputs nxt k`, or before it a line `start REGISTER VALUE`\n"),
     ("sim f", "inputs nxt k\n0 0\n0 100\n", "secv: line 3 of the input: `100` is no value of the input `k`: wanted are 1 to 16 hexadecimal digits that fit in 8 bits\n"),
     ("sim f", "inputs nxt k\n2 0\n", "secv: line 2 of the input: `2` is no value of the input `nxt`: wanted are 1 to 16 hexadecimal digits that fit in 1 bit\n"),
-    ("sim f", "inputs nxt k\n" + "0 0\n" * 20000 + "0 x\n0 0\n", "secv: line 20002 of the input: `x` is no value of the input `k`: wanted are 1 to 16 hexadecimal digits that fit in 8 bits\n"),
+    ("sim f", "inputs nxt k\n" + "0 0\n" * 20000 + "0 x\n0 0\n", "secv: line 20002 of the input: `x` is no value of the input `k`: wanted are 1 to 16 "
+     "hexadecimal digits that fit in 8 bits\n"),
     ("sim f", "inputs nxt k\n0 0\n0", "secv: line 3 of the input: a value of the input `k`, of 8 bits, is missing: each line has a value for each name of "
      "`inputs nxt k`\n"),
     ("sim f", "inputs nxt k\n\n0 0\n", "secv: line 2 of the input: this line is empty: each has a value for each name of `inputs nxt k`\n"),

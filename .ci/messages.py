@@ -85,7 +85,8 @@ TEXTS = [
     (GIVEN + "assign y = a @@=== b;" + END, "", "`===` and `!==` are left out, since no signal is x or z: write `==` or `!=`"),
     (GIVEN + "assign y = @@1'bx;" + END, "", "`x`, `z` and `?` are left out, since every bit is 0 or 1: write a value, and ask the bits by `if` in "
      "place of `casez`"),
-    (GIVEN + "\t/* ü */\tassign y = v[a @@+: 2];" + END, "", "`+:` and `-:` are left out: shift the signal into a wire, and take the lowest part of that"),
+    (GIVEN + "\t/* ü */\tassign y = v[a @@+: 2];" + END, "", "`+:` and `-:` are left out: where it is read, shift the signal into a wire, "
+     "and take the lowest part of that; where it is assigned, pick the part by `case`"),
     ("@@wire a;\n", "", "a text does not begin with `wire`: it begins with `module`, or with `lattice` or `labelmap`"),
     (GIVEN + "assign y = a\n  @@assign y = b;" + END, "", "`assign` cannot stand behind `a` of 2:14: is a `;` missing there?"),
     (GIVEN + "always @* begin end\n  @@1;" + END, "", "`1` cannot stand behind `end`"),
@@ -105,7 +106,8 @@ TEXTS = [
     ("module m(input a, output reg y);\n  always @* begin y = a;@@", "", "the text ends too early, behind `;`: the `begin` of 2:13 is open"),
     ("module m(input {H} @@[7:0] a);" + END, "", "`[` cannot stand behind `}`: a label stands behind the range, right before the name"),
     ("module m(input a @@{H});" + END, "", "`{` cannot stand behind `a`: a label stands behind the range, right before the name"),
-    ("module m(input a, @@{H} b);" + END, "", "`{` cannot stand behind `,`: a further name has the label of the one before; declare it on its own"),
+    ("module m(input a, @@{H} b);" + END, "", "`{` cannot stand behind `,`: a further name has the label of the one before; declare it on its own, as in "
+     "`input {H} b`"),
     ("module m(@@{H} input a);" + END, "", "`{` cannot stand behind `(`: a label stands behind the range, right before the name"),
     (GIVEN + "wire c @@{H};" + END, "", "`{` cannot stand behind `c`: a label stands behind the range, right before the name"),
     (CLOCKED + "q @@<= d;" + END, "", f"`<=` cannot stand behind `q`: {OUTSIDE}"),

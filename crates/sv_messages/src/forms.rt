@@ -10,16 +10,16 @@ pub fn lexical_form(word: &[u8]) -> &'static str {
         b"escaped-name" => "names with `\\` are left out: a name is letters, digits, `_` and `$`",
         b"string" => "strings are left out: take away what only a simulation prints",
         b"system-name" => {
-            "system tasks and functions are left out: take the call away; for `$signed` declare a \
-             `signed` wire"
+            "system tasks and functions are left out: take the call away; for `$clog2` write the \
+             number, and for `$signed` declare a `signed` wire"
         }
         b"case-equality" => {
             "`===` and `!==` are left out, since no signal is x or z: write `==` or `!=`"
         }
         b"power" => "`**` is left out: write the value, or shift a 1",
         b"indexed-part" => {
-            "`+:` and `-:` are left out: shift the signal into a wire, and take the lowest part of \
-             that"
+            "`+:` and `-:` are left out: where it is read, shift the signal into a wire, and take \
+             the lowest part of that; where it is assigned, pick the part by `case`"
         }
         b"event" => "named events are left out: one clock edge drives all registers",
         b"real" => "numbers with a point are left out: a signal holds whole numbers",

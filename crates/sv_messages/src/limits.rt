@@ -21,7 +21,10 @@ pub fn unbuilt(alloc: Global, case: &Case) -> Result<Said, AllocError> {
         Some(Item::Memory(_)) => {
             "memories are not built yet: name the registers, and pick one by `case`"
         }
-        Some(Item::Release { .. }) => "`$release` is not built yet",
+        Some(Item::Release { .. }) => {
+            "`$release` is not built yet: label what is made of a secret as secret; what is public \
+             beside it is still checked"
+        }
         Some(Item::Invariant(_, _)) => {
             "`invariant` is not built yet: add its condition to the path that needs it"
         }

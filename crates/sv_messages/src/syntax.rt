@@ -180,7 +180,10 @@ fn misplaced(spot: Spot, here: &Token, before: &Token) -> Option<&'static str> {
         return Some(hint);
     }
     if is_label_late(spot, here) && bytes_of(spot.text, before) == b",".as_slice() {
-        return Some("a further name has the label of the one before; declare it on its own");
+        return Some(
+            "a further name has the label of the one before; declare it on its own, as in `input \
+             {H} b`",
+        );
     }
     if is_label_early(spot, here) || is_label_late(spot, here) {
         Some("a label stands behind the range, right before the name")

@@ -565,7 +565,7 @@ def progress(folder):
     the stimulus is typed there, or the trace shown, nor where standard error is none."""
     put(folder, "f", OWNER)
     shown = b"\rsecv: cycle 1\rsecv: cycle 2\r" + b" " * 32 + b"\r"
-    wrong = b"secv: line 5 of the input: `x` is no value of the input `k`: a hexadecimal one of 8 bits is wanted"
+    wrong = b"secv: line 5 of the input: `x` is no value of the input `k`: wanted are 1 to 16 hexadecimal digits that fit in 8 bits"
     cases = ((["stderr"], b"", shown), (["stderr"], b"0 x\n", shown + wrong + b"\r\n"), ([], b"0 x\n", wrong + b"\n"),
              (["stdout", "stderr"], b"", None), (["stdin", "stderr"], b"", None))
     with concurrent.futures.ThreadPoolExecutor(len(cases)) as pool:

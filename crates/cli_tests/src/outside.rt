@@ -1,6 +1,6 @@
 // Each call of the outside fails in turn, of each command over its worked rows.
 use crate::calls::{Outside, run_over};
-use crate::texts::{COUNTER, GATE, INVERTERS, SUMS, TURN};
+use crate::texts::{COUNTER, GATE, INVERTERS, ONE_LANE, SUMS, TURN, TURNED_LEAK, UNDRIVEN};
 use std::alloc::{AllocError, Global};
 use std::process::Abort;
 use std::test::Fail;
@@ -8,9 +8,25 @@ use sv_io::MemCabinet;
 
 const CERTIFICATE: &str = "secv-proof 1\nobligations 2\no 1 1\n0 3 5 6 0\no 2 1\n0 1 3 0\nend\n";
 
+const WRONG_LINE_4: &str = "secv-proof 1\nobligations 2\no 1 1\n0 4 3 1 0\no 2 1\n0 1 3 0\nend\n";
+
+const NO_LINE_7: &str = "secv-proof 1\nobligations 2\no 1 1\n0 3 5 6 0\no 2 1\n0 1 3 0\n";
+
 const FIRST: &str = "inputs turn a b\n0 1 0\n1 1 1\n";
 
 const SECOND: &str = "inputs turn a b\n0 1 1\n1 1 0\n";
+
+const OTHER: &str = "inputs turn a b\n0 0 1\n1 1 0\n";
+
+// What stands beside the design.
+const FILES: [(&str, &str); 6] = [
+    ("p", CERTIFICATE),
+    ("p4", WRONG_LINE_4),
+    ("p7", NO_LINE_7),
+    ("A", FIRST),
+    ("B", SECOND),
+    ("C", OTHER),
+];
 
 const STIMULUS: &str = "start q 9\ninputs en d\n1 3\n0 F\n1 0\n";
 
@@ -20,34 +36,80 @@ const TURN_LIST: &str = "1 y now +3:19 =3:10 reads turn b\n2 y now -3:19 =3:10 r
 
 const CLAUSES: &str = "p cnf 3 6\n1 0\n1 -3 0\n-2 -3 0\n-1 2 3 0\n2 0\n3 0\n";
 
+const ONE: &str = "accepted 1 obligations\n";
+
 const TWO: &str = "accepted 2 obligations\n";
 
 const AS_JSON: &str = "{\"obligations\":2,\"verdict\":\"accepted\"}\n";
 
+const LEAKED: &str = "refused flow 2 y from b\nin turn 0\nin a 0\nin b 0\n";
+
+const NOT_DRIVEN: &str = "refused 604 undriven 1:17 y\n";
+
+const NO_OBLIGATION: &str = "refused 706 no-obligation\n";
+
+const WRONG_HEADER: &str = "refused stimulus input 1 header\n";
+
 const SPENT: &str = "unknown obligation 2 budget 1\n";
+
+const TURNED: &str = "inputs a\n0\n1\n";
+
+const INVERTED: &str = "0 a=0 y=1 p=1 q=0\n1 a=1 y=0 p=0 q=1\n";
 
 const ROUNDS: &str = "0 a=0 y=1 p=1 q=0\n1 a=1 y=0 p=0 q=1\nrounds 4\n";
 
-// Words over a design, beside which stand a certificate and two stimuli, and an input; how many
-// calls of the files there are, and what is written.
-type Row = (&'static str, &'static str, &'static str, u32, &'static str);
+const EQUAL: &str = "equal 2 cycles\n";
 
-const ROWS: [Row; 15] = [
-    ("check f", GATE, "", 1, "accepted 1 obligations\n"),
-    ("check f --json", TURN, "", 1, AS_JSON),
-    ("check f --budget 1", SUMS, "", 1, SPENT),
-    ("check f --proof q", TURN, "", 2, TWO),
-    ("check f --proof p", TURN, "", 2, TWO),
-    ("verify f p", TURN, "", 2, TWO),
-    ("verify f A", TURN, "", 2, "refused proof 1\n"),
-    ("list f", TURN, "", 1, TURN_LIST),
-    ("cnf f 1", TURN, "", 1, CLAUSES),
-    ("sim f", COUNTER, STIMULUS, 1, TRACE),
-    ("sim f --order 1", INVERTERS, "inputs a\n0\n1\n", 1, ROUNDS),
-    ("compare f A B --level L", TURN, "", 3, "equal 2 cycles\n"),
-    ("compare f A B --level H", TURN, "", 3, "differ input 0 b\n"),
-    ("gen 1 --check", TURN, "", 0, "accepted 14 obligations\n"),
-    ("chekc f", TURN, "", 0, "usage unknown-command\n"),
+const DIFFER_A: &str = "differ input 0 a\n";
+
+const DIFFER_B: &str = "differ input 0 b\n";
+
+const DIFFER_Y: &str = "differ view 0 y\n";
+
+const NO_LEVEL: &str = "refused 707 level\n";
+
+// Words over a design, beside which stand certificates and stimuli, and an input; how many calls
+// of the files and how many takes there are, and what is written.
+type Row = (
+    &'static str,
+    &'static str,
+    &'static str,
+    u32,
+    u32,
+    &'static str,
+);
+
+const ROWS: [Row; 30] = [
+    ("check f", GATE, "", 1, 0, ONE),
+    ("check f --top top", TURN, "", 1, 0, TWO),
+    ("check f --json", TURN, "", 1, 0, AS_JSON),
+    ("check f --budget 1", SUMS, "", 1, 0, SPENT),
+    ("check f --proof q", TURN, "", 2, 0, TWO),
+    ("check f --proof p", TURN, "", 2, 0, TWO),
+    ("check f --proof q", SUMS, "", 2, 0, TWO),
+    ("check f", TURNED_LEAK, "", 1, 0, LEAKED),
+    ("check f", UNDRIVEN, "", 1, 0, NOT_DRIVEN),
+    ("check none", TURN, "", 1, 0, ""),
+    ("check f g", TURN, "", 0, 0, "usage words\n"),
+    ("verify f p", TURN, "", 2, 0, TWO),
+    ("verify f p7", TURN, "", 2, 0, "refused proof 7\n"),
+    ("verify f p4", TURN, "", 2, 0, "refused proof 4\n"),
+    ("verify f A", TURN, "", 2, 0, "refused proof 1\n"),
+    ("list f", TURN, "", 1, 0, TURN_LIST),
+    ("cnf f 1", TURN, "", 1, 0, CLAUSES),
+    ("cnf f 3", TURN, "", 1, 0, NO_OBLIGATION),
+    ("sim f", COUNTER, STIMULUS, 1, 35, TRACE),
+    ("sim f --level L", COUNTER, "inputs x\n", 1, 9, WRONG_HEADER),
+    ("sim f", INVERTERS, TURNED, 1, 14, INVERTED),
+    ("sim f --order 1", INVERTERS, TURNED, 1, 14, ROUNDS),
+    ("compare f A B --level L", TURN, "", 3, 0, EQUAL),
+    ("compare f A B --level L", TURNED_LEAK, "", 3, 0, DIFFER_Y),
+    ("compare f A C --level L", TURN, "", 3, 0, DIFFER_A),
+    ("compare f A B --level H", TURN, "", 3, 0, DIFFER_B),
+    ("compare f A C --level Q", TURN, "", 1, 0, NO_LEVEL),
+    ("gen 1", TURN, "", 0, 0, ONE_LANE),
+    ("gen 1 --check", TURN, "", 0, 0, "accepted 14 obligations\n"),
+    ("chekc f", TURN, "", 0, 0, "usage unknown-command\n"),
 ];
 
 const READ_FAULT: u8 = 4;
@@ -57,7 +119,8 @@ const WRITE_FAULT: u8 = 5;
 // The files of a row, of which the call with the number fails; none does at 0.
 fn files_of(alloc: Global, text: &str, call: u32) -> Result<MemCabinet, AllocError> {
     let mut files = MemCabinet::new(alloc, vec![in alloc; call]?);
-    for (name, bytes) in [("f", text), ("p", CERTIFICATE), ("A", FIRST), ("B", SECOND)] {
+    files.hold("f", text.as_bytes())?;
+    for (name, bytes) in FILES {
         files.hold(name, bytes.as_bytes())?;
     }
     Ok(files)
@@ -71,9 +134,14 @@ fn is_kept(files: &MemCabinet, name: &str, before: &[u8], certificate: &[u8]) ->
     }
 }
 
+// Whether nothing is stored: `q` is absent, and `p` is what it was.
+fn is_not_stored(files: &MemCabinet) -> bool {
+    files.bytes("q").is_none() && files.bytes("p").unwrap_or(b"") == CERTIFICATE.as_bytes()
+}
+
 // Each call of the files fails once, and then nothing is written; a call more is not made.
 fn fails_at_each_file(rt: &impl Abort, alloc: Global, row: Row) -> Result<(), Fail> {
-    let (words, text, stimulus, calls, whole) = row;
+    let (words, text, stimulus, calls, _, whole) = row;
     let mut sure = files_of(alloc, text, 0)?;
     let outside = Outside {
         stimulus,
@@ -93,7 +161,8 @@ fn fails_at_each_file(rt: &impl Abort, alloc: Global, row: Row) -> Result<(), Fa
         assert_eq!(rt; (status, bytes.is_empty()), (wanted, true));
         assert!(rt; is_kept(&files, "q", b"", certificate));
         assert!(rt; is_kept(&files, "p", CERTIFICATE.as_bytes(), certificate));
-        assert!(rt; is_kept(&files, "f", text.as_bytes(), text.as_bytes()));
+        assert!(rt; wanted == WRITE_FAULT || is_not_stored(&files));
+        assert_eq!(rt; files.bytes("f").unwrap_or(b""), text.as_bytes());
     }
     let mut files = files_of(alloc, text, calls.saturating_add(1))?;
     let (_, bytes) = run_over(alloc, words, &mut files, outside)?;
@@ -111,7 +180,7 @@ fn a_file_that_fails_is_silent(rt: HostRuntime) -> Result<(), Fail> {
 
 // Each put fails once, and has what stands before it written.
 fn fails_at_each_put(rt: &impl Abort, alloc: Global, row: Row) -> Result<(), Fail> {
-    let (words, text, stimulus, _, whole) = row;
+    let (words, text, stimulus, _, _, whole) = row;
     let mut put = 0_u32;
     for before in 0..whole.len() {
         put = put.saturating_add(1);
@@ -136,12 +205,10 @@ fn an_output_that_fails_has_the_front(rt: HostRuntime) -> Result<(), Fail> {
     Ok(())
 }
 
-// Each take fails once, up to the one that shows the end, and has a front of the trace written.
+// Each take fails once, and has a front of the trace written; a take more is not made.
 fn fails_at_each_take(rt: &impl Abort, alloc: Global, row: Row) -> Result<(), Fail> {
-    let (words, text, stimulus, _, whole) = row;
-    let mut take = 0_u32;
-    for _ in 0..=stimulus.len() {
-        take = take.saturating_add(1);
+    let (words, text, stimulus, _, takes, whole) = row;
+    for take in 1..=takes {
         let mut files = files_of(alloc, text, 0)?;
         let outside = Outside {
             stimulus,
@@ -149,14 +216,17 @@ fn fails_at_each_take(rt: &impl Abort, alloc: Global, row: Row) -> Result<(), Fa
             put: 0,
         };
         let (status, bytes) = run_over(alloc, words, &mut files, outside)?;
-        let wanted = if words.starts_with("sim") {
-            READ_FAULT
-        } else {
-            status
-        };
-        assert_eq!(rt; status, wanted);
+        assert_eq!(rt; status, READ_FAULT);
         assert!(rt; whole.as_bytes().starts_with(bytes.as_slice()));
     }
+    let mut files = files_of(alloc, text, 0)?;
+    let outside = Outside {
+        stimulus,
+        take: takes.saturating_add(1),
+        put: 0,
+    };
+    let (_, bytes) = run_over(alloc, words, &mut files, outside)?;
+    assert_eq!(rt; bytes.as_slice(), whole.as_bytes());
     Ok(())
 }
 

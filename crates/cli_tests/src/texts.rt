@@ -10,6 +10,16 @@ module top(input turn, input a, input {H} b, output {Dom(turn)} y);
 endmodule
 ";
 
+/// The same with the two inputs exchanged: where the output is public it shows the secret one.
+pub const TURNED_LEAK: &str = "labelmap Dom [0:0] 0: L; default: H; endlabelmap
+module top(input turn, input a, input {H} b, output {Dom(turn)} y);
+  assign y = turn ? a : b;
+endmodule
+";
+
+/// An output that nothing drives.
+pub const UNDRIVEN: &str = "module m(output y); endmodule";
+
 /// A public and a secret register.
 pub const COUNTER: &str = "module m(input clk, input en, input [3:0] {H} d,
   output reg [3:0] q, output reg [3:0] {H} s);
@@ -32,5 +42,24 @@ endmodule
 /// never shown. Unit resolution alone does not see that they are equal.
 pub const SUMS: &str = "module m(input a, input b, input c, input l, input {H} h, output y);
   assign y = ((a ^ b) ^ c) == ((c ^ b) ^ a) ? l : h;
+endmodule
+";
+
+/// The sample of one lane.
+pub const ONE_LANE: &str = "labelmap Dom [0:0] 0: L; default: H; endlabelmap
+module lane(input clk, input turn, input req, input bin, input [7:0] {Dom(turn)} d,
+  output reg g, output reg [7:0] lo, output reg [7:0] {H} hi, output bout);
+  assign bout = bin | req;
+  always @(posedge clk) begin
+    g <= req & ~bin & ~turn;
+    if (turn) hi <= d; else lo <= d;
+  end
+endmodule
+module top(input clk, input turn
+  , input r0, input [7:0] {Dom(turn)} d0, output g0, output [7:0] l0, output [7:0] {H} h0
+  );
+  wire b0;
+  lane u0(.clk(clk), .turn(turn), .req(r0), .bin(1'b0), .d(d0), .g(g0), .lo(l0), .hi(h0), \
+    .bout(b0));
 endmodule
 ";

@@ -25,28 +25,45 @@
 //! `SliceRoutes.antt` the routes through a slice, `RouteViews.antt` ties routes to what is walked,
 //! `Driven.antt` paths to the target whose they are, and `Written.antt` lines to what is written;
 //! those seven are private: they say how the code goes; the meaning stands in the files before.
+//!
+//! A body with earlier reads is walked in a second way: `Later.antt` and `Marked.antt` say how it
+//! is marked, `MarkedArms.antt` how a chain of branches is, and `PutIn.antt` what is put into an
+//! expression; `Trails.antt` tells its paths, of which no expression is kept, `TrailViews.antt`
+//! ties them to what is walked and `TrailLines.antt` to their lines; `Alongs.antt` tells how one path is
+//! walked once more along the arms that it took, where its conditions are asked for, and
+//! `AlongViews.antt` ties that to what is walked. These nine are private too.
 #![tactic(auto)]
 
 mod body_slices;
 mod checked;
+mod exchange;
 mod faults;
 mod frames;
 mod indexed;
+mod later;
 mod laws;
 mod limits;
 mod list_lines;
 mod list_parts;
 mod list_texts;
 mod listing;
+mod marked;
+mod marking;
 mod nodes;
 mod path_lines;
+mod path_names;
 mod path_queries;
 mod pieces;
 mod queries;
+mod read_bits;
 mod reads;
 mod routes;
 mod selectors;
 mod targets;
+mod trail_lines;
+mod trail_queries;
+mod trail_walks;
+mod trails;
 mod valuations;
 mod walks;
 

@@ -1,4 +1,4 @@
-use Rattle.std.proofs.Common.{◌≡◌, ◌<◌, ◌∷◌, ◌++◌, ℕ, List, Option, map, reverse, length}
+use Rattle.std.proofs.Common.{◌≡◌, ◌<◌, ◌∷◌, ◌++◌, ℕ, List, Option, Some, cond, map, reverse, length}
 use Rattle.std.proofs.Common.{All, sym, ap, subst, ◌∙◌}
 use Rattle.std.specs.Prelude.{codes, decimal}
 use Rattle.sv_num.specs.declared.faults.Place.{Place}
@@ -8,7 +8,7 @@ use Rattle.sv_flat.specs.Views.{process_form}
 use Rattle.sv_obl.specs.declared.frames.Frame.{Frame}
 use Rattle.sv_obl.specs.declared.list_lines.Mark.{Mark}
 use Rattle.sv_obl.specs.ListLines.{blanked, name_of, frame_word, right_word}
-use Rattle.sv_obl.specs.Obligations.{frame_of}
+use Rattle.sv_obl.specs.Obligations.{is_link, frame_of}
 use Rattle.sv_obl.specs.TrailLines.{trail_words}
 use Rattle.sv_obl.specs.TrailViews.{trail_form}
 use Rattle.sv_obl.specs.Views.{number_of}
@@ -49,7 +49,8 @@ returns c =
     (map number_of c.deref-3.result.now)) marked
     ∙ ap (λ (r : Option Place). words (frame_of process.kind) conditions r
     (map number_of c.deref-3.result.now)) c.place_of-right.ensures
-    ∙ ap (λ (rs : List ℕ). words (frame_of process.kind) conditions _ rs) found in
+    ∙ ap (λ (rs : List ℕ). words (frame_of process.kind) conditions
+    (cond (is_link process.kind) (Some process.place) trail.place) rs) found in
     c.in_ok-push.ensures.items
     ∙ ap (λ (x : List ℕ). x ++ codes "\n") (c.in_ok-push_flow.ensures
     ∙ ap (λ (x : List ℕ). x ++ blanked (words c.frame_of.result

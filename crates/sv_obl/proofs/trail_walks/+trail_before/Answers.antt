@@ -87,7 +87,7 @@ before_arm-returns-in_err-before-clause-adds t c =
     let mark : Mark = record { truth = c.args.truth; place = c.args.place } in
     arm_fails (marked_by (length signals) mark (typed_tree c.args.cond.now))
     (trail_forms c.args.all.now.items) (before (trail_form c.choose.new.self))
-    (before (chosen c.args.truth (trail_form c.args.trail))) c.before.new.all c.before.new.all
+    (before (chosen c.args.truth (trail_form c.args.trail))) c.before-2.new.all c.before-2.new.all
     c.in_err-before.field-0.0 c.from_residual.result (ap before c.in_ok-choose.ensures)
     c.from_residual.ensures.1 c.in_err-before.ensures.adds
 

@@ -56,7 +56,7 @@ module _ (signals : List SignalForm) where
         (nat_le (p.high + 1 - p.low) (width - p.from)) part) in
         let short = leb-true width 64 (second_of (nat_le 1 width) (nat_le width 64)
         (first_of (is_one_to 64 width) (node_well_formed signals width signed node) formed)) in
-        (ordered, (omega arith, omega arith))
+        (ordered, omega arith, omega arith)
 
     sound_words : (a : FlatStatement) → IsTrue (statement_sound signals a) → HasWords a
     sound_words nothing sound = tt

@@ -1,4 +1,4 @@
-use Rattle.std.proofs.Common.{◌≡◌, get_or, refl, sym, subst, ◌∙◌}
+use Rattle.std.proofs.Common.{◌≡◌, ◌<◌, get_or, refl, sym, subst, ◌∙◌}
 use Rattle.sv_flat.specs.ByNumber.{signal_forms}
 use Rattle.sv_flat.specs.Clocks.{processes_of}
 use Rattle.sv_flat.specs.Views.{design_of, process_form}
@@ -15,22 +15,24 @@ use Rattle.sv_obl.proofs.TargetFacts.{form_at}
 use Rattle.sv_obl.proofs.WrittenFacts.{few_routes, few_trails}
 use Rattle.sv_obl.proofs.targets.driven_paths.Goals as goal
 
-pub bounds-marked-place : goal.bounds-marked-place
-bounds-marked-place c =
+pub index-requires : goal.index-requires
+index-requires c =
     let design = design_of c.args.design.now in
     let x = c.index-processes-place.result in
     let there : get_or (processes_of design) c.in-Some.place (process_form x) ≡ process_form x =
     form_at process_form c.processes.result.now (processes_of design) c.in-Some.place x
     c.index-processes-place.is c.processes.ensures.processes in
-    inside_marked c.args.design.now c.driver.ensures.design c.args.target.0 c.requires.known
+    subst (λ n. c.in-Some.place < n) (sym c.args.bodies.now.marked.ok.0)
+    (inside_marked c.args.design.now c.driver.ensures.design c.args.target.0 c.requires.known
     c.args.bodies.now.marked.items c.requires.bodies.marked c.in-Some.place
-    (sym c.driver.ensures.driver ∙ c.in-Some.is) (process_form x) there
+    (sym c.driver.ensures.driver ∙ c.in-Some.is) (process_form x) there)
 
-pub bounds-indexed-place : goal.bounds-indexed-place
-bounds-indexed-place c =
-    inside_bodies (design_of c.args.design.now) c.args.target.0 c.in-Some.place
+pub index-indexed-requires : goal.index-indexed-requires
+index-indexed-requires c =
+    subst (λ n. c.in-Some.place < n) (sym c.args.bodies.now.indexed.ok.0)
+    (inside_bodies (design_of c.args.design.now) c.args.target.0 c.in-Some.place
     (process_form c.index-processes-place.result) c.args.bodies.now.indexed.items
-    c.requires.bodies.indexed (sym c.driver.ensures.driver ∙ c.in-Some.is)
+    c.requires.bodies.indexed (sym c.driver.ensures.driver ∙ c.in-Some.is))
 
 pub trails_within-requires-clause-tells : goal.trails_within-requires-clause-tells
 trails_within-requires-clause-tells c =
@@ -42,27 +44,27 @@ trails_within-requires-clause-tells c =
     (can_walk c.args.design.now c.driver.ensures.design c.args.target.0 c.requires.known
     c.args.bodies.now.marked.items c.requires.bodies.marked c.in-Some.place
     (sym c.driver.ensures.driver ∙ c.in-Some.is) (process_form x) there
-    c.index-marked-place.result c.index-marked-place.is c.in-Some-body.body
-    c.in-Some-body.is).tells
+    c.index.result.now c.index.ensures c.in-Some-index.body
+    c.in-Some-index.is).tells
 
-pub returns-in_err-trails-clause-excess : goal.returns-in_err-trails-clause-excess
-returns-in_err-trails-clause-excess c =
+pub returns-in_err-trails-in-Some-index-clause-excess : goal.returns-in_err-trails-in-Some-index-clause-excess
+returns-in_err-trails-in-Some-index-clause-excess c =
     let design = design_of c.args.design.now in
     let x = c.index-processes-place.result in
     let there : get_or (processes_of design) c.in-Some.place (process_form x) ≡ process_form x =
     form_at process_form c.processes.result.now (processes_of design) c.in-Some.place x
     c.index-processes-place.is c.processes.ensures.processes in
-    answers_error _ c.in_err-trails.field-0.0 c.from_residual.result c.from_residual.ensures.1
-    (subst (λ e. Told e c.in_err-trails.field-0.0)
+    answers_error _ c.in_err-trails-in-Some-index.field-0.0 c.from_residual.result c.from_residual.ensures.1
+    (subst (λ e. Told e c.in_err-trails-in-Some-index.field-0.0)
     (driven_trails c.args.design.now c.driver.ensures.design c.args.target.0 c.requires.known
     c.args.bodies.now.marked.items c.requires.bodies.marked c.in-Some.place
     (sym c.driver.ensures.driver ∙ c.in-Some.is) (process_form x) there
-    c.index-marked-place.result c.index-marked-place.is c.in-Some-body.body c.in-Some-body.is
+    c.index.result.now c.index.ensures c.in-Some-index.body c.in-Some-index.is
     c.signals.result.now c.signals.ensures.signals c.args.total)
-    c.in_err-trails.ensures.excess)
+    c.in_err-trails-in-Some-index.ensures.excess)
 
-pub returns-in_ok-trails-clause-excess : goal.returns-in_ok-trails-clause-excess
-returns-in_ok-trails-clause-excess c =
+pub returns-in_ok-trails-in-Some-index-clause-excess : goal.returns-in_ok-trails-in-Some-index-clause-excess
+returns-in_ok-trails-in-Some-index-clause-excess c =
     let design = design_of c.args.design.now in
     let x = c.index-processes-place.result in
     let there : get_or (processes_of design) c.in-Some.place (process_form x) ≡ process_form x =
@@ -71,54 +73,54 @@ returns-in_ok-trails-clause-excess c =
     sym (driven_trails c.args.design.now c.driver.ensures.design c.args.target.0 c.requires.known
     c.args.bodies.now.marked.items c.requires.bodies.marked c.in-Some.place
     (sym c.driver.ensures.driver ∙ c.in-Some.is) (process_form x) there
-    c.index-marked-place.result c.index-marked-place.is c.in-Some-body.body c.in-Some-body.is
+    c.index.result.now c.index.ensures c.in-Some-index.body c.in-Some-index.is
     c.signals.result.now c.signals.ensures.signals c.args.total)
-    ∙ c.in_ok-trails.ensures.excess
+    ∙ c.in_ok-trails-in-Some-index.ensures.excess
 
-pub returns-in_ok-trails-clause-driven : goal.returns-in_ok-trails-clause-driven
-returns-in_ok-trails-clause-driven c =
+pub returns-in_ok-trails-in-Some-index-clause-driven : goal.returns-in_ok-trails-in-Some-index-clause-driven
+returns-in_ok-trails-in-Some-index-clause-driven c =
     let design = design_of c.args.design.now in
     let x = c.index-processes-place.result in
     let there : get_or (processes_of design) c.in-Some.place (process_form x) ≡ process_form x =
     form_at process_form c.processes.result.now (processes_of design) c.in-Some.place x
     c.index-processes-place.is c.processes.ensures.processes in
     let trails = trails_before (signal_forms c.signals.result.now) c.args.target.0
-    (marked_statement c.in-Some-body.body) (open_trail c.args.target.0) in
+    (marked_statement c.in-Some-index.body) (open_trail c.args.target.0) in
     record {
       are =
           are_trails c.args.design.now c.driver.ensures.design c.args.target.0 c.requires.known
           c.args.bodies.now.marked.items c.requires.bodies.marked c.in-Some.place
           (sym c.driver.ensures.driver ∙ c.in-Some.is) (process_form x) there
-          c.index-marked-place.result c.index-marked-place.is c.in-Some-body.body
-          c.in-Some-body.is c.signals.result.now c.signals.ensures.signals x
-          c.in_ok-trails.trails.items refl c.in_ok-trails.ensures.trails;
+          c.index.result.now c.index.ensures c.in-Some-index.body
+          c.in-Some-index.is c.signals.result.now c.signals.ensures.signals x
+          c.in_ok-trails-in-Some-index.trails.items refl c.in_ok-trails-in-Some-index.ensures.trails;
       few =
-          few_trails c.args.target.0 c.args.total trails c.in_ok-trails.trails.items
-          c.in_ok-trails.ensures.excess c.in_ok-trails.ensures.trails;
+          few_trails c.args.target.0 c.args.total trails c.in_ok-trails-in-Some-index.trails.items
+          c.in_ok-trails-in-Some-index.ensures.excess c.in_ok-trails-in-Some-index.ensures.trails;
     }
 
-pub returns-in_err-routes-clause-excess : goal.returns-in_err-routes-clause-excess
-returns-in_err-routes-clause-excess c =
+pub returns-in_err-routes-in-None-index-clause-excess : goal.returns-in_err-routes-in-None-index-clause-excess
+returns-in_err-routes-in-None-index-clause-excess c =
     let design = design_of c.args.design.now in
     let x = c.index-processes-place.result in
     let there : get_or (processes_of design) c.in-Some.place (process_form x) ≡ process_form x =
     form_at process_form c.processes.result.now (processes_of design) c.in-Some.place x
     c.index-processes-place.is c.processes.ensures.processes in
     let drives = sym c.driver.ensures.driver ∙ c.in-Some.is in
-    answers_error _ c.in_err-routes.field-0.0 c.from_residual.result c.from_residual.ensures.1
-    (subst (λ e. Told e c.in_err-routes.field-0.0)
+    answers_error _ c.in_err-routes-in-None-index.field-0.0 c.from_residual-in_err-routes-in-None-index.result c.from_residual-in_err-routes-in-None-index.ensures.1
+    (subst (λ e. Told e c.in_err-routes-in-None-index.field-0.0)
     (driven_excess c.args.design.now c.driver.ensures.design c.args.target.0 c.requires.known
     c.args.bodies.now.indexed.items c.requires.bodies.indexed c.in-Some.place drives
     (process_form x) there
     (unmarked c.args.design.now c.driver.ensures.design c.args.target.0 c.requires.known
     c.args.bodies.now.marked.items c.requires.bodies.marked c.in-Some.place drives
-    (process_form x) there c.index-marked-place.result c.index-marked-place.is c.in-None-body.is)
-    c.index-indexed-place.result c.index-indexed-place.is c.signals.result.now
-    c.signals.ensures.signals c.args.total)
-    c.in_err-routes.ensures.excess)
+    (process_form x) there c.index.result.now c.index.ensures c.in-None-index.is)
+    c.index-indexed.result.now c.index-indexed.ensures c.signals-in-None-index.result.now
+    c.signals-in-None-index.ensures.signals c.args.total)
+    c.in_err-routes-in-None-index.ensures.excess)
 
-pub returns-in_ok-routes-clause-excess : goal.returns-in_ok-routes-clause-excess
-returns-in_ok-routes-clause-excess c =
+pub returns-in_ok-routes-in-None-index-clause-excess : goal.returns-in_ok-routes-in-None-index-clause-excess
+returns-in_ok-routes-in-None-index-clause-excess c =
     let design = design_of c.args.design.now in
     let x = c.index-processes-place.result in
     let there : get_or (processes_of design) c.in-Some.place (process_form x) ≡ process_form x =
@@ -130,21 +132,21 @@ returns-in_ok-routes-clause-excess c =
     (process_form x) there
     (unmarked c.args.design.now c.driver.ensures.design c.args.target.0 c.requires.known
     c.args.bodies.now.marked.items c.requires.bodies.marked c.in-Some.place drives
-    (process_form x) there c.index-marked-place.result c.index-marked-place.is c.in-None-body.is)
-    c.index-indexed-place.result c.index-indexed-place.is c.signals.result.now
-    c.signals.ensures.signals c.args.total)
-    ∙ c.in_ok-routes.ensures.excess
+    (process_form x) there c.index.result.now c.index.ensures c.in-None-index.is)
+    c.index-indexed.result.now c.index-indexed.ensures c.signals-in-None-index.result.now
+    c.signals-in-None-index.ensures.signals c.args.total)
+    ∙ c.in_ok-routes-in-None-index.ensures.excess
 
-pub returns-in_ok-routes-clause-driven : goal.returns-in_ok-routes-clause-driven
-returns-in_ok-routes-clause-driven c =
+pub returns-in_ok-routes-in-None-index-clause-driven : goal.returns-in_ok-routes-in-None-index-clause-driven
+returns-in_ok-routes-in-None-index-clause-driven c =
     let design = design_of c.args.design.now in
     let x = c.index-processes-place.result in
     let there : get_or (processes_of design) c.in-Some.place (process_form x) ≡ process_form x =
     form_at process_form c.processes.result.now (processes_of design) c.in-Some.place x
     c.index-processes-place.is c.processes.ensures.processes in
     let drives = sym c.driver.ensures.driver ∙ c.in-Some.is in
-    let routes = routes_before (signal_forms c.signals.result.now) c.args.target.0
-    (looked_up c.args.target.0 c.index-indexed-place.result) open_route in
+    let routes = routes_before (signal_forms c.signals-in-None-index.result.now) c.args.target.0
+    (looked_up c.args.target.0 c.index-indexed.result.now) open_route in
     record {
       are =
           are_routes c.args.design.now c.driver.ensures.design c.args.target.0 c.requires.known
@@ -152,14 +154,14 @@ returns-in_ok-routes-clause-driven c =
           (process_form x) there
           (unmarked c.args.design.now c.driver.ensures.design c.args.target.0 c.requires.known
           c.args.bodies.now.marked.items c.requires.bodies.marked c.in-Some.place drives
-          (process_form x) there c.index-marked-place.result c.index-marked-place.is
-          c.in-None-body.is)
-          c.index-indexed-place.result c.index-indexed-place.is c.signals.result.now
-          c.signals.ensures.signals x c.in_ok-routes.routes.items refl
-          c.in_ok-routes.ensures.routes;
+          (process_form x) there c.index.result.now c.index.ensures
+          c.in-None-index.is)
+          c.index-indexed.result.now c.index-indexed.ensures c.signals-in-None-index.result.now
+          c.signals-in-None-index.ensures.signals x c.in_ok-routes-in-None-index.routes.items refl
+          c.in_ok-routes-in-None-index.ensures.routes;
       few =
-          few_routes c.args.target.0 c.args.total routes c.in_ok-routes.routes.items
-          c.in_ok-routes.ensures.excess c.in_ok-routes.ensures.routes;
+          few_routes c.args.target.0 c.args.total routes c.in_ok-routes-in-None-index.routes.items
+          c.in_ok-routes-in-None-index.ensures.excess c.in_ok-routes-in-None-index.ensures.routes;
     }
 
 pub returns-in-None-clause-excess : goal.returns-in-None-clause-excess

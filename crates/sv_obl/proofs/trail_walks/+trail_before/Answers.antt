@@ -88,8 +88,8 @@ before_arm-returns-in_err-before-clause-adds t c =
     arm_fails (marked_by (length signals) mark (typed_tree c.args.cond.now))
     (trail_forms c.args.all.now.items) (before (trail_form c.choose.new.self))
     (before (chosen c.args.truth (trail_form c.args.trail))) c.before-2.new.all c.before-2.new.all
-    c.in_err-before.field-0.0 c.from_residual.result (ap before c.in_ok-choose.ensures)
-    c.from_residual.ensures.1 c.in_err-before.ensures.adds
+    c.in_err-before.field-0.0 c.from_residual-in_err-before.result (ap before c.in_ok-choose.ensures)
+    c.from_residual-in_err-before.ensures.1 c.in_err-before.ensures.adds
 
 pub before_each-returns-in_err-before-clause-adds :
     goal.before_each-returns-in_err-before-clause-adds

@@ -1,4 +1,4 @@
-use Rattle.std.proofs.Common.{sym, ap, ◌∙◌}
+use Rattle.std.proofs.Common.{◌≡◌, length, ap, arith}
 use Rattle.std.proofs.lemmas.List.{length-map}
 use Rattle.sv_flat.specs.Views.{typed_tree}
 use Rattle.sv_obl.specs.declared.list_lines.Mark.{Mark}
@@ -20,9 +20,11 @@ put_way-returns-in_err-put_ways-clause-adds t c =
 
 pub put_way-put_behind-requires : goal.put_way-put_behind-requires
 put_way-put_behind-requires t c =
-    start_inside (trail_forms c.args.all.now.items)
+    let old = c.args.all.now in
+    let same = length-map old.items trail_form in
+    let at : c.len-start.result ≡ length (trail_forms old.items) =
+    omega (arith, c.len-start.ensures, old.ok.0, same) in
+    start_inside (trail_forms old.items)
     (with_own_ways c.args.count c.args.from (typed_tree c.args.right.now)
     (trail_form c.choose.new.self))
-    c.put_ways.new.all.items c.len-start.result
-    (c.len-start.ensures ∙ sym (length-map c.args.all.now.items trail_form))
-    c.in_ok-put_ways.ensures.adds
+    c.put_ways.new.all.items c.len-start.result at c.in_ok-put_ways.ensures.adds

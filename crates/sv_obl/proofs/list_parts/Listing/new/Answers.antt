@@ -27,9 +27,9 @@ marked_bodies-requires-clause-bodies c =
     let d = c.signals.ensures.design in
     subst (λ (signals : List Signal). All (λ (process : ProcessForm).
     IsTrue (statement_sound (signal_forms signals) process.body))
-    (map process_form c.processes.result.now)) (sym c.signals.ensures.signals)
+    (map process_form c.processes-processes.result.now)) (sym c.signals.ensures.signals)
     (subst (All (λ (process : ProcessForm).
-    IsTrue (statement_sound design.signals process.body))) (sym c.processes.ensures.processes)
+    IsTrue (statement_sound design.signals process.body))) (sym c.processes-processes.ensures.processes)
     (contained_all (λ (process : ProcessForm).
     IsTrue (statement_sound design.signals process.body)) (processes_of design)
     (λ p at. body_is_sound design d.is_sound d.is_admitted p at)))
@@ -41,13 +41,13 @@ returns-clause-at c =
       bodies = record {
         indexed =
             subst (λ (ps : List ProcessForm). AreIndexed ps c.in_ok-indexed.indexed.items)
-            c.processes.ensures.processes c.in_ok-indexed.ensures;
+            c.processes-processes.ensures.processes c.in_ok-indexed.ensures;
         marked =
             subst (λ (ps : List ProcessForm).
             AllZip (HasMarked design.signals) ps c.in_ok-marked.marked.items)
-            c.processes.ensures.processes
+            c.processes-processes.ensures.processes
             (subst (λ (signals : List Signal). AllZip (HasMarked (signal_forms signals))
-            (map process_form c.processes.result.now) c.in_ok-marked.marked.items)
+            (map process_form c.processes-processes.result.now) c.in_ok-marked.marked.items)
             c.signals.ensures.signals c.in_ok-marked.ensures);
       };
       counted = none_counted design;

@@ -181,11 +181,11 @@ fn latch(alloc: Global, case: &Case) -> Result<String, AllocError> {
     )
 }
 
-// Of a read in the middle of a block.
+// Of a read of what a block has not assigned yet.
 fn phase(alloc: Global, case: &Case) -> Result<String, AllocError> {
     let name = shown(alloc, case.name())?;
     format!(in alloc;
-        "`{name}` is read here before its block has assigned it for good: name the \
-        earlier value by a `wire` of its own"
+        "`{name}` is read here before its block has assigned it on every path: assign it \
+        above, or give it a value at the block's begin"
     )
 }

@@ -395,6 +395,21 @@ module _ (design : FlatDesign)
       (some_from (reads_by false s target.0) ps p at
       (to_feeds design p false s target.0 target.2)))
 
+  -- what the target follows in the process that assigns it, it follows among all
+  pub followed_is : (p : ProcessForm) → Contains ps p → IsTrue (assigns p.body t) → (k : ℕ)
+      → holds all k ≡ holds (followed design p t) k
+  followed_is p at own k = same_answer (holds all k) (holds (followed design p t) k)
+      (λ h. holds-from_Contains (followed design p t) k
+      (of_own (out_of k (Contains-from_holds all k h)).0))
+      (λ h. holds-from_Contains all k
+      (into p at k (Contains-from_holds (followed design p t) k h)))
+    where
+      of_own : Driven k → Contains (followed design p t) k
+      of_own (inl e) = subst (λ z. Contains (followed design p t) z) e (itself p)
+      of_own (inr (q, q_at, q_own, inside)) =
+          subst (λ (z : ProcessForm). Contains (followed design z t) k)
+          (one t q p below q_at at q_own own) inside
+
 -- where no signal has a second driver, two processes that assign one signal are the same
 module _ (design : FlatDesign) (drivers_are : driver_faults design ≡ []) where
   none_second : (b : Bool) (xs : List ProcessForm) → slice_get xs (cond b 0 1) ≡ None

@@ -2,11 +2,12 @@
 use Rattle.std.proofs.Common.{◌≡◌, ⊎_elim, ℕ, zero, suc, ◌-◌, ◌<◌, Bool, true, false}
 use Rattle.std.proofs.Common.{cond, not, ◌&&◌, ◌||◌, Option, Some, None, Vec, Global, ◌==◌, List}
 use Rattle.std.proofs.Common.{[], ◌∷◌, ◌++◌, length, map, get_or, set, refl, sym, ap, subst, ◌∙◌}
-use Rattle.std.proofs.Common.{arith, get_or-set_same, get_or-set_other}
+use Rattle.std.proofs.Common.{arith, get_or-set_same, get_or-set_other, nat_lt, ltb-true, ltb-false}
+use Rattle.std.proofs.Common.{lt-ltb}
 use Rattle.std.specs.Prelude.{IsTrue, IsFalse, Contains, slice_get, option_map, filter}
 use Rattle.std.specs.List.{AllByRecursion, list_any, range_with_len}
 use Rattle.std.proofs.lemmas.Bool.{false≢true, eqb-true, eq-eqb, or_left}
-use Rattle.std.proofs.lemmas.List.{length_push}
+use Rattle.std.proofs.lemmas.List.{length_push, get_or_past}
 use Rattle.std.proofs.lemmas.List.{append-nil, map-set, get_or-map, length-map}
 use Rattle.sv_flat.proofs.LeastSets.{either_way, holds-from_Contains, Contains-from_holds}
 use Rattle.sv_flat.proofs.LeastSets.{in_those, those_below, those_pass}
@@ -17,7 +18,8 @@ use Rattle.sv_flat.specs.Sets.{holds}
 use Rattle.sv_flat.specs.declared.signals.SigId.{SigId}
 use Rattle.sv_design.specs.Numbers.{numbers}
 use Rattle.sv_design.specs.declared.graphs.Graph.{Graph}
-use Rattle.sv_design.specs.Graphs.{row, size, has_edge, AddsEdge, AddsOnce, GainsEdges, IsWhole}
+use Rattle.sv_design.specs.Graphs.{row, rows_of, size, has_edge, AddsEdge, AddsOnce, GainsEdges}
+use Rattle.sv_design.specs.Graphs.{IsWhole}
 use Rattle.sv_design.specs.Graphs.{IsTurned, ends_in, is_last}
 use Rattle.sv_design.proofs.MarkFacts.{any_append, or_no, or_yes, or_three}
 use Rattle.sv_design.proofs.BitFacts.{same_answer}
@@ -165,6 +167,14 @@ module _ (old now next : Graph) (done : List ℕ) (from to : ℕ) where
       ∙ or_no (holds done a) ((from == a) || false) (or_no (from == a) false refl ∙ other))))
       (either_way (from == a))
 
+-- no edge leads from what is no signal of the graph
+no_edge_from : (graph : Graph) (a b : ℕ) → IsFalse (nat_lt a (size graph)) →
+    IsFalse (has_edge graph a b)
+no_edge_from graph a b outside =
+    ap (λ r. holds r b) (get_or_past (rows_of graph) a []
+    (let size_is : length (rows_of graph) ≡ size graph = rw length-map refl in
+    let past = ltb-false a (size graph) outside in omega (arith, size_is, past)))
+
 -- ---- edges turned round
 
 pub turned_below : (graph turned : Graph) (n : ℕ)
@@ -185,6 +195,23 @@ turned_has graph turned is a b below = same_answer (has_edge turned b a) (has_ed
     (λ h. ap (λ r. holds r a) (is b)
     ∙ holds-from_Contains (filter (λ z. has_edge graph z b) (range_with_len 0 (size graph))) a
     (in_those (size graph) (λ z. has_edge graph z b) a below h))
+
+-- all edges, where they lead to its signals
+pub turned_edge : (graph turned : Graph) → IsTurned graph turned → (a b : ℕ) →
+    has_edge turned b a ≡ has_edge graph a b
+turned_edge graph turned is a b = ⊎_elim
+    (λ inside. turned_has graph turned is a b (ltb-true a (size graph) inside))
+    (λ outside. same_answer (has_edge turned b a) (has_edge graph a b)
+    (λ h.
+    let below = turned_below graph turned (size graph) is b a h in
+    absurd (false≢true (sym outside ∙ lt-ltb a (size graph) below)))
+    (λ h. absurd (false≢true (sym (no_edge_from graph a b outside) ∙ h))))
+    (either_way (nat_lt a (size graph)))
+
+pub turned_whole : (graph turned : Graph) → IsTurned graph turned → size turned ≡ size graph →
+    IsWhole turned
+turned_whole graph turned is same b a h =
+    subst (λ n. a < n) (sym same) (turned_below graph turned (size graph) is b a h)
 
 -- ---- an edge once
 

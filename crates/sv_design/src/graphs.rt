@@ -9,7 +9,7 @@ use std::alloc::{AllocError, Global};
 use sv_flat::SigId;
 
 /// A graph over signals: for each signal, by its number, those that its edges lead to.
-#[derive(Drop)]
+#[derive(Debug, Drop)]
 pub struct Graph {
     pub rows: Vec<Vec<SigId>>,
 }

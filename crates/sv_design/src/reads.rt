@@ -13,7 +13,7 @@ ghost use Rattle.sv_flat.specs.Views.{design_of, typed_tree, process_kind, proce
 ghost use Rattle.sv_flat.specs.Views.{flat_statement, flat_statements, chain_of};
 ghost use Rattle.sv_design.specs.BitSets.{in_bits, has_some, HasTargetsBelow};
 ghost use Rattle.sv_design.specs.Feeds.{is_sought, names_sought, feeds, sought_in, feeds_in};
-ghost use Rattle.sv_design.specs.Feeds.{feeds_through};
+ghost use Rattle.sv_design.specs.Feeds.{feeds_through, AreWants};
 ghost use Rattle.sv_design.specs.Graphs.{size, rows_of, has_edge, GainsEdges, IsWhole};
 ghost use Rattle.sv_design.specs.Marks.{is_marked, IsTable};
 ghost use Rattle.sv_design.specs.Numbers.{numbers};
@@ -353,31 +353,42 @@ fn with_followers(alloc: Global, settled: Graph, earlier: &Graph) -> Result<Grap
     Ok(Graph { rows })
 }
 
+/// What the processes read for each signal.
+#[derive(Drop)]
+pub struct ReadGraphs {
+    /// For each signal those read for it, in signal order.
+    pub reads: Graph,
+    /// For each signal those of which an earlier value is read for it.
+    pub wants: Graph,
+}
+
 /// For each signal the signals read for it, in signal order, of a design whose signals have one
 /// driver each: those that it is assigned by, those in a condition with an arm that assigns it, for
-/// an earlier read what is read for its signal, and a register itself. It fails where memory runs
-/// out.
+/// an earlier read what is read for its signal, and a register itself; and for each the signals of
+/// its earlier reads. It fails where memory runs out.
 pub fn reads_of(
     alloc: Global,
     flat: &Flat,
     zeros: &[u64],
     processes: &[Process],
     registers: &[bool],
-) -> Result<Graph, AllocError>
+) -> Result<ReadGraphs, AllocError>
     requires sound { IsTrue (sound (design_of flat.now)) }
     requires zeros { AreZeros (length flat.now.signals.items) zeros.now }
     requires processes { map process_form processes.now ≡ processes_of (design_of flat.now) }
     requires registers { IsTable (length flat.now.signals.items) registers.now
         (is_register (design_of flat.now)) }
     requires drivers { driver_faults (design_of flat.now) ≡ [] }
-    ensures { IfOk result (λ reads.
-        rows_of reads ≡ map (reads_for (design_of flat.now))
+    ensures reads { IfOk result (λ graphs.
+        rows_of graphs.reads ≡ map (reads_for (design_of flat.now))
         (signal_numbers (design_of flat.now))) }
+    ensures wants { IfOk result (λ graphs. AreWants (design_of flat.now) graphs.wants) }
 {
     let settled = readers_of(alloc, flat, zeros, processes, false)?;
     let earlier = readers_of(alloc, flat, zeros, processes, true)?;
     let mut readers = with_followers(alloc, settled, &earlier)?;
     add_registers(&mut readers, registers)?;
     let reads = readers.turned(alloc)?;
-    Ok(reads)
+    let wants = earlier.turned(alloc)?;
+    Ok(ReadGraphs { reads, wants })
 }

@@ -16,6 +16,7 @@ pub mod ListParts
 pub mod MadeValues
 pub mod Marked
 pub mod MarkedArms
+pub mod MarkedBodies
 pub mod Nodes
 pub mod Noninterference
 pub mod Obligations

@@ -17,8 +17,9 @@
 //! obligation one of the design's, as each of them is. `check_limits` tells that limit alone, or
 //! how many obligations there are. `Listing` gives the obligations target by target, and the lines
 //! of `secv list`, with no more in memory than the paths of one target and what is made of them.
-//! `Bodies` gives what of a body matters to one target, its slice (`BodySlices.antt`); for that it
-//! holds the bodies indexed, as `Listing` does (`IndexedBodies.antt`).
+//! `Bodies` gives what of a body matters to one target, its slice (`BodySlices.antt`), and a body
+//! with its earlier reads wanted, where it has some (`MarkedBodies.antt`); for that it holds the
+//! bodies as `Listing` does (`IndexedBodies.antt`).
 //!
 //! Inside, `Routes.antt` tells paths as they are where no read is an earlier one,
 //! `IndexedStatements.antt` how a body is indexed, `IndexedArms.antt` how a chain of branches is,
@@ -82,6 +83,7 @@ pub use limits::check_limits;
 pub use list_lines::list_line;
 pub use list_parts::Listing;
 pub use listing::obligations;
+pub use marked::Marked;
 pub use queries::{Goal, Query, Step};
 pub use std::alloc::AllocError as OutOfMemory;
 pub use valuations::Valuation;

@@ -193,7 +193,9 @@ fn forward_all(
 // Puts the bits that a statement can assign into a set. No call goes down a chain of branches.
 #[cycle(add_assigned)]
 fn add_assigned(flat: &Flat, bits: &mut Bits, stmt: &FStmt) -> Result<(), AllocError>
-    requires { IsTrue (statement_sound (design_of flat.now).signals (flat_statement stmt.now)) }
+    requires sound { IsTrue (sound (design_of flat.now)) }
+    requires stmt { IsTrue
+        (statement_sound (design_of flat.now).signals (flat_statement stmt.now)) }
     ensures { OnOk result (AddsAssigned bits.old bits.new (flat_statement stmt.now)) }
 {
     let mut rest = stmt;
@@ -209,6 +211,7 @@ fn add_assigned(flat: &Flat, bits: &mut Bits, stmt: &FStmt) -> Result<(), AllocE
 #[cycle(add_assigned)]
 fn add_assigned_plain(flat: &Flat, bits: &mut Bits, stmt: &FStmt) -> Result<(), AllocError>
     requires plain { IsFalse (is_branch (flat_statement stmt.now)) }
+    requires sound { IsTrue (sound (design_of flat.now)) }
     requires stmt { IsTrue
         (statement_sound (design_of flat.now).signals (flat_statement stmt.now)) }
     ensures { OnOk result (AddsAssigned bits.old bits.new (flat_statement stmt.now)) }
@@ -223,7 +226,8 @@ fn add_assigned_plain(flat: &Flat, bits: &mut Bits, stmt: &FStmt) -> Result<(), 
 // The same of some statements.
 #[cycle(add_assigned)]
 fn add_assigned_all(flat: &Flat, bits: &mut Bits, stmts: &[FStmt]) -> Result<(), AllocError>
-    requires { IsTrue
+    requires sound { IsTrue (sound (design_of flat.now)) }
+    requires stmts { IsTrue
         (statement_sound (design_of flat.now).signals (chain_of (flat_statements stmts.now))) }
     ensures { OnOk result
         (AddsAssigned bits.old bits.new (chain_of (flat_statements stmts.now))) }
@@ -236,7 +240,9 @@ fn add_assigned_all(flat: &Flat, bits: &mut Bits, stmts: &[FStmt]) -> Result<(),
 
 // The bits that a block can assign.
 fn assigned_bits(alloc: Global, flat: &Flat, body: &FStmt) -> Result<Bits, AllocError>
-    requires { IsTrue (statement_sound (design_of flat.now).signals (flat_statement body.now)) }
+    requires sound { IsTrue (sound (design_of flat.now)) }
+    requires body { IsTrue
+        (statement_sound (design_of flat.now).signals (flat_statement body.now)) }
     ensures { IfOk result (λ bits. SameBits (in_bits bits) (can_assign (flat_statement body.now))) }
 {
     let mut bits = Bits::new(alloc);

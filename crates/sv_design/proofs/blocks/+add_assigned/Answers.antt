@@ -16,15 +16,18 @@ use Rattle.sv_design.proofs.Sound.{branch_is, sound_as, block_is, next_statement
 use Rattle.sv_design.proofs.blocks.+add_assigned.Goals as goal
 
 pub add_assigned-loop-rest-init : goal.add_assigned-loop-rest-init
-add_assigned-loop-rest-init t c = (λ s b. refl, c.requires, search (rules, the_lemmas))
+add_assigned-loop-rest-init t c = (λ s b. refl, c.requires.stmt, search (rules, the_lemmas))
 
 pub add_assigned-add_assigned-requires : goal.add_assigned-add_assigned-requires
 add_assigned-add_assigned-requires t c =
     let signals = (design_of c.args.flat.now).signals in (
       search (rules, the_lemmas),
-      sound_as signals (sym c.deref.ensures)
-          (and_parts _ _ (and_parts _ _
-          (sound_as signals c.in-If.is c.loop-rest.invariant.1)).0).1,
+      (
+        c.requires.sound,
+        sound_as signals (sym c.deref.ensures)
+            (and_parts _ _ (and_parts _ _
+            (sound_as signals c.in-If.is c.loop-rest.invariant.1)).0).1,
+      ),
     )
 
 pub add_assigned-loop-rest-preserved : goal.add_assigned-loop-rest-preserved
@@ -46,12 +49,14 @@ add_assigned-loop-rest-preserved t c =
 pub add_assigned-add_assigned_plain-requires : goal.add_assigned-add_assigned_plain-requires
 add_assigned-add_assigned_plain-requires t c = (
   search (rules, the_lemmas),
-  (no_branch c.loop-rest.rest.now c.in_default.not-If, c.loop-rest.invariant.1),
+  (
+    no_branch c.loop-rest.rest.now c.in_default.not-If,
+    (c.requires.sound, c.loop-rest.invariant.1),
+  ),
 )
 
-pub add_assigned-returns-in_ok-add_assigned_plain :
-    goal.add_assigned-returns-in_ok-add_assigned_plain
-add_assigned-returns-in_ok-add_assigned_plain t c =
+pub add_assigned-returns : goal.add_assigned-returns
+add_assigned-returns t c =
     assigned_rest c.args.bits.now c.loop-rest.bits c.add_assigned_plain.new.bits
     (flat_statement c.args.stmt.now) (flat_statement c.loop-rest.rest.now)
     c.in_ok-add_assigned_plain.ensures c.loop-rest.invariant.0
@@ -72,9 +77,12 @@ pub add_assigned_plain-add_assigned_all-requires : goal.add_assigned_plain-add_a
 add_assigned_plain-add_assigned_all-requires t c =
     let signals = (design_of c.args.flat.now).signals in (
       search (rules, the_lemmas),
-      subst (λ z. IsTrue (statement_sound signals z))
-          (block_is _ c.in-Block.stmts _ c.in-Block.is c.deref-in-Block.ensures.value)
-          c.requires.stmt,
+      (
+        c.requires.sound,
+        subst (λ z. IsTrue (statement_sound signals z))
+            (block_is _ c.in-Block.stmts _ c.in-Block.is c.deref-in-Block.ensures.value)
+            c.requires.stmt,
+      ),
     )
 
 pub add_assigned_plain-returns-in-Block : goal.add_assigned_plain-returns-in-Block
@@ -87,8 +95,11 @@ add_assigned_plain-returns-in-Block t c =
 pub add_assigned_all-add_assigned-requires : goal.add_assigned_all-add_assigned-requires
 add_assigned_all-add_assigned-requires t c = (
   search (rules, the_lemmas),
-  sound_at (design_of c.args.flat.now).signals c.args.stmts.now c.loop-stmt.stmt-index
-      c.stmt-item.result c.loop-stmt-test.true c.stmt-item.is c.requires,
+  (
+    c.requires.sound,
+    sound_at (design_of c.args.flat.now).signals c.args.stmts.now c.loop-stmt.stmt-index
+        c.stmt-item.result c.loop-stmt-test.true c.stmt-item.is c.requires.stmts,
+  ),
 )
 
 pub add_assigned_all-loop-stmt-preserved : goal.add_assigned_all-loop-stmt-preserved

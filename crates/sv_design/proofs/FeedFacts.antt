@@ -34,11 +34,14 @@ use Rattle.sv_flat.proofs.Depths.{first_of, second_of}
 use Rattle.sv_flat.proofs.LeastSets.{either_way, or_cases, some_from, from_some, range_has}
 use Rattle.sv_flat.proofs.LeastSets.{Contains-from_filter, least_set_has, least_set_closed}
 use Rattle.sv_flat.proofs.LeastSets.{least_set_below, least_set_least}
+use Rattle.sv_design.specs.declared.bit_graphs.BitGraph.{BitGraph}
 use Rattle.sv_design.specs.declared.graphs.Graph.{Graph}
 use Rattle.sv_design.specs.declared.reads.Sought.{Sought}
+use Rattle.sv_design.specs.BitGraphs.{size, has_edge, IsTurned, GainsEdges}
 use Rattle.sv_design.specs.Feeds.{is_sought, names_sought, feeds, sought_in, feeds_in}
 use Rattle.sv_design.specs.Feeds.{feeds_through}
-use Rattle.sv_design.specs.Graphs.{size, rows_of, has_edge, IsTurned, GainsEdges}
+use Rattle.sv_design.specs.Graphs.{rows_of}
+use Rattle.sv_design.specs.Graphs as graphs
 use Rattle.sv_design.specs.Marks.{is_marked, IsTable}
 use Rattle.sv_design.specs.Numbers.{numbers}
 use Rattle.sv_design.proofs.Passes.{or_turned}
@@ -514,8 +517,8 @@ no_register x b =
 
 -- ---- the signals read for each signal
 
-pub rows_are : (design : FlatDesign) (graph turned : Graph) → size graph ≡ length design.signals
-    → size turned ≡ size graph → IsTurned graph turned
+pub rows_are : (design : FlatDesign) (graph : BitGraph) (turned : Graph)
+    → size graph ≡ length design.signals → graphs.size turned ≡ size graph → IsTurned graph turned
     → ((a b : ℕ) → b < length design.signals → has_edge graph a b ≡ is_read_for design b a)
     → rows_of turned ≡ map (reads_for design) (signal_numbers design)
 rows_are design graph turned same same_turned is edges =
@@ -528,7 +531,7 @@ rows_are design graph turned same same_turned is edges =
 
 -- the edges of the processes and of the registers
 pub edge_is : (design : FlatDesign) → driver_faults design ≡ []
-    → (settled earlier readers graph : Graph) (registers : List Bool) (n : ℕ)
+    → (settled earlier readers graph : BitGraph) (registers : List Bool) (n : ℕ)
     → n ≡ length design.signals
     → IsTable n registers (is_register design)
     → ((a b : ℕ) →

@@ -57,23 +57,24 @@ module _ {X : Type 0} (f : X → List ℕ) where
 -- ---- edges
 
 -- those so far, and those that are left
-abbrev pub EdgesSoFar : (old now : Graph) → (all left : ℕ → ℕ → Bool) → Type 0
-EdgesSoFar old now all left =
-    (a b : ℕ) → (has_edge now a b || left a b) ≡ (has_edge old a b || all a b)
+abbrev pub EdgesSoFar : (old now all left : ℕ → ℕ → Bool) → Type 0
+EdgesSoFar old now all left = (a b : ℕ) → (now a b || left a b) ≡ (old a b || all a b)
 
-pub edges_more : (old now next : Graph) (all left this rest : ℕ → ℕ → Bool)
+pub edges_more : (old now next all left this rest : ℕ → ℕ → Bool)
     → ((a b : ℕ) → left a b ≡ (this a b || rest a b))
-    → GainsEdges now next this → EdgesSoFar old now all left → EdgesSoFar old next all rest
+    → ((a b : ℕ) → next a b ≡ (now a b || this a b)) → EdgesSoFar old now all left
+    → EdgesSoFar old next all rest
 edges_more old now next all left this rest splits gains so_far a b =
     ap (λ t. t || rest a b) (gains a b)
-    ∙ or_three (has_edge now a b) (this a b) (rest a b)
-    ∙ ap (λ t. has_edge now a b || t) (sym (splits a b))
+    ∙ or_three (now a b) (this a b) (rest a b)
+    ∙ ap (λ t. now a b || t) (sym (splits a b))
     ∙ so_far a b
 
-pub edges_end : (old now : Graph) (all left : ℕ → ℕ → Bool) → ((a b : ℕ) → left a b ≡ false) →
-    EdgesSoFar old now all left → GainsEdges old now all
+pub edges_end : (old now all left : ℕ → ℕ → Bool) → ((a b : ℕ) → left a b ≡ false)
+    → EdgesSoFar old now all left → (a b : ℕ)
+    → now a b ≡ (old a b || all a b)
 edges_end old now all left none so_far a b =
-    sym (or_no (has_edge now a b) (left a b) (none a b)) ∙ so_far a b
+    sym (or_no (now a b) (left a b) (none a b)) ∙ so_far a b
 
 pub no_edges : (graph : Graph) → ((a : ℕ) → row graph a ≡ []) → (a b : ℕ) →
     has_edge graph a b ≡ false
@@ -81,25 +82,6 @@ no_edges graph none a b = ap (λ r. holds r b) (none a)
 
 pub empty_is_whole : (graph : Graph) → ((a : ℕ) → row graph a ≡ []) → IsWhole graph
 empty_is_whole graph none a b h = absurd (false≢true (sym (no_edges graph none a b) ∙ h))
-
--- ---- rows without edges
-
-abbrev pub some_edge : Vec SigId Global → Bool
-some_edge v = not (length v.items == 0)
-
-none_there : (xs : List SigId) → IsFalse (not (length xs == 0)) → numbers xs ≡ []
-none_there [] h = refl
-none_there (x ∷ xs) h =
-    let is : suc (length xs) ≡ 0 = eqb-true (length (x ∷ xs)) 0
-    (negated_false (length (x ∷ xs) == 0) h) in absurd (omega arith)
-
-pub no_row_has : (rows : List (Vec SigId Global)) → IsFalse (list_any some_edge rows) → (a b : ℕ) →
-    IsFalse (holds (get_or (map (λ (v : Vec SigId Global). numbers v.items) rows) a []) b)
-no_row_has [] h a b = refl
-no_row_has (v ∷ rows) h zero b =
-    ap (λ r. holds r b) (none_there v.items (or_none_left (some_edge v) (list_any some_edge rows) h))
-no_row_has (v ∷ rows) h (suc a) b =
-    no_row_has rows (or_none_right (some_edge v) (list_any some_edge rows) h) a b
 
 -- ---- edges once
 
@@ -167,51 +149,34 @@ module _ (old now next : Graph) (done : List ℕ) (from to : ℕ) where
       ∙ or_no (holds done a) ((from == a) || false) (or_no (from == a) false refl ∙ other))))
       (either_way (from == a))
 
--- no edge leads from what is no signal of the graph
-no_edge_from : (graph : Graph) (a b : ℕ) → IsFalse (nat_lt a (size graph)) →
-    IsFalse (has_edge graph a b)
-no_edge_from graph a b outside =
-    ap (λ r. holds r b) (get_or_past (rows_of graph) a []
-    (let size_is : length (rows_of graph) ≡ size graph = rw length-map refl in
-    let past = ltb-false a (size graph) outside in omega (arith, size_is, past)))
-
 -- ---- edges turned round
 
-pub turned_below : (graph turned : Graph) (n : ℕ)
-    → ((b : ℕ) → row turned b ≡ filter (λ a. has_edge graph a b) (range_with_len 0 n))
-    → (a b : ℕ) → IsTrue (has_edge turned a b) → b < n
-turned_below graph turned n is a b h =
-    those_below n (λ z. has_edge graph z a) b
-    (Contains-from_holds (filter (λ z. has_edge graph z a) (range_with_len 0 n)) b
-    (ap (λ r. holds r b) (sym (is a)) ∙ h))
+module _ (edges : ℕ → ℕ → Bool) (turned : Graph) (n : ℕ)
+    (is : (b : ℕ) → row turned b ≡ filter (λ a. edges a b) (range_with_len 0 n)) where
+  pub turned_below : (a b : ℕ) → IsTrue (has_edge turned a b) → b < n
+  turned_below a b h =
+      those_below n (λ z. edges z a) b
+      (Contains-from_holds (filter (λ z. edges z a) (range_with_len 0 n)) b
+      (ap (λ r. holds r b) (sym (is a)) ∙ h))
 
-pub turned_has : (graph turned : Graph) → IsTurned graph turned → (a b : ℕ) → a < size graph →
-    has_edge turned b a ≡ has_edge graph a b
-turned_has graph turned is a b below = same_answer (has_edge turned b a) (has_edge graph a b)
-    (λ h. those_pass (size graph) (λ z.
-    has_edge graph z b) a
-    (Contains-from_holds (filter (λ z. has_edge graph z b) (range_with_len 0 (size graph))) a
-    (ap (λ r. holds r a) (sym (is b)) ∙ h)))
-    (λ h. ap (λ r. holds r a) (is b)
-    ∙ holds-from_Contains (filter (λ z. has_edge graph z b) (range_with_len 0 (size graph))) a
-    (in_those (size graph) (λ z. has_edge graph z b) a below h))
+  pub turned_has : (a b : ℕ) → a < n → has_edge turned b a ≡ edges a b
+  turned_has a b below = same_answer (has_edge turned b a) (edges a b)
+      (λ h. those_pass n (λ z. edges z b) a
+      (Contains-from_holds (filter (λ z. edges z b) (range_with_len 0 n)) a
+      (ap (λ r. holds r a) (sym (is b)) ∙ h)))
+      (λ h. ap (λ r. holds r a) (is b)
+      ∙ holds-from_Contains (filter (λ z. edges z b) (range_with_len 0 n)) a
+      (in_those n (λ z. edges z b) a below h))
 
--- all edges, where they lead to its signals
-pub turned_edge : (graph turned : Graph) → IsTurned graph turned → (a b : ℕ) →
-    has_edge turned b a ≡ has_edge graph a b
-turned_edge graph turned is a b = ⊎_elim
-    (λ inside. turned_has graph turned is a b (ltb-true a (size graph) inside))
-    (λ outside. same_answer (has_edge turned b a) (has_edge graph a b)
-    (λ h.
-    let below = turned_below graph turned (size graph) is b a h in
-    absurd (false≢true (sym outside ∙ lt-ltb a (size graph) below)))
-    (λ h. absurd (false≢true (sym (no_edge_from graph a b outside) ∙ h))))
-    (either_way (nat_lt a (size graph)))
+  -- all edges, where they lead from these signals
+  pub turned_edge : ((a b : ℕ) → IsTrue (edges a b) → a < n) → (a b : ℕ) →
+      has_edge turned b a ≡ edges a b
+  turned_edge inside a b = same_answer (has_edge turned b a) (edges a b)
+      (λ h. sym (turned_has a b (turned_below b a h)) ∙ h)
+      (λ h. turned_has a b (inside a b h) ∙ h)
 
-pub turned_whole : (graph turned : Graph) → IsTurned graph turned → size turned ≡ size graph →
-    IsWhole turned
-turned_whole graph turned is same b a h =
-    subst (λ n. a < n) (sym same) (turned_below graph turned (size graph) is b a h)
+  pub turned_whole : size turned ≡ n → IsWhole turned
+  turned_whole same b a h = subst (λ m. a < m) (sym same) (turned_below b a h)
 
 -- ---- an edge once
 

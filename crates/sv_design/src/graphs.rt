@@ -24,13 +24,6 @@ impl Graph {
         Ok(Graph { rows })
     }
 
-    /// Whether it has an edge.
-    pub fn has_edges(&self) -> bool
-        ensures { IsFalse result → (a b : ℕ) → IsFalse (has_edge self.now a b) }
-    {
-        self.rows.iter().any(|row| !row.is_empty())
-    }
-
     /// Adds an edge. It fails where memory runs out.
     pub fn add(&mut self, from: SigId, to: SigId) -> Result<(), AllocError>
         requires { from.0 < size self.old }

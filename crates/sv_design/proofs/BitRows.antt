@@ -1,18 +1,22 @@
 -- Rows of bits, and graphs of them.
-use Rattle.std.proofs.Common.{◌≡◌, ◌≢◌, ℕ, ◌+◌, ◌/◌, ◌%◌, ◌^◌, ◌<◌, ◌≤◌, Bool, true, false, ◌&&◌}
-use Rattle.std.proofs.Common.{◌||◌, ◌==◌, nat_lt, ltb-true, ltb-false, lt-ltb, List, [], ◌∷◌, length}
+use Rattle.std.proofs.Common.{◌≡◌, ◌≢◌, ℕ, zero, suc, ◌+◌, ◌/◌, ◌%◌, ◌^◌, ◌<◌, ◌≤◌, Bool, true}
+use Rattle.std.proofs.Common.{false, not, ◌&&◌, ◌||◌, ◌==◌, nat_lt, ltb-true, ltb-false, lt-ltb, List, [], ◌∷◌, length}
 use Rattle.std.proofs.Common.{map, set, get_or, Vec, Global, get_or-set_same, get_or-set_other}
 use Rattle.std.proofs.Common.{⊎_elim, refl, sym, ap, ap₂, subst, ◌∙◌, arith}
 use Rattle.std.specs.Int.{bit_at}
+use Rattle.std.specs.List.{list_any}
 use Rattle.std.specs.Prelude.{IsTrue, IsFalse, bit_or, replicate}
+use Rattle.std.specs.Vec.{with_item, with_items}
 use Rattle.std.proofs.Math.ListN.{length-map}
 use Rattle.std.proofs.lemmas.Bool.{false≢true, eqb-true, eq-eqb}
 use Rattle.std.proofs.lemmas.Bool.Decides.{nat_tests}
 use Rattle.std.proofs.lemmas.List.{get_or_past, map-set, get_or-map, get_or-replicate, length-set}
-use Rattle.std.proofs.lemmas.List.{length-replicate}
+use Rattle.std.proofs.lemmas.List.{length-replicate, with_items_is}
 use Rattle.std.proofs.lemmas.Nat.Bits.{bit_at-zero, bit_at-pow_same, bit_at-pow_other}
 use Rattle.sv_lattice.proofs.TableLemmas.{or_test}
 use Rattle.sv_flat.specs.Sets.{holds, those}
+use Rattle.sv_flat.proofs.AdmittedFacts.{negated_false}
+use Rattle.sv_flat.proofs.SameRuns.{or_none_left, or_none_right}
 use Rattle.sv_flat.proofs.LeastSets.{or_cases, either_way, those_pass, in_those, Contains-from_holds}
 use Rattle.sv_flat.proofs.LeastSets.{holds-from_Contains}
 use Rattle.sv_design.specs.declared.bit_graphs.BitGraph.{BitGraph}
@@ -93,7 +97,7 @@ empty_row n s = ⊎_elim
     (λ inside. ap (λ w. is_set w (s % 64)) (get_or-replicate n (s / 64) 0 0
     (ltb-true (s / 64) n inside)) ∙ no_bit (s % 64))
     (λ outside. none_past (replicate n 0) s
-    (let past : n ≤ s / 64 = ltb-false (s / 64) n outside in omega (arith, length-replicate n 0)))
+    (let past : n ≤ s / 64 = ltb-false (s / 64) n outside in omega (arith, length-replicate {A = ℕ} n 0)))
     (either_way (nat_lt (s / 64) n))
 
 -- ---- graphs
@@ -125,6 +129,32 @@ pub edge_below : (n : ℕ) (graph : BitGraph) → IsOver n graph → (a b : ℕ)
 edge_below n graph over a b h =
     let inside = edge_inside graph a b h in
     (over.1 a (subst (λ m. a < m) over.0 inside)).1 b h
+
+-- ---- rows without bits
+
+abbrev pub some_word : Vec ℕ Global → Bool
+some_word v = list_any (λ word. not (word == 0)) v.items
+
+no_word : (xs : List ℕ) → IsFalse (list_any (λ word. not (word == 0)) xs) → (k : ℕ) →
+    get_or xs k 0 ≡ 0
+no_word [] h k = refl
+no_word (x ∷ xs) h zero =
+    eqb-true x 0 (negated_false (x == 0)
+    (or_none_left (not (x == 0)) (list_any (λ word. not (word == 0)) xs) h))
+no_word (x ∷ xs) h (suc k) =
+    no_word xs (or_none_right (not (x == 0)) (list_any (λ word. not (word == 0)) xs) h) k
+
+pub no_row_has : (rows : List (Vec ℕ Global)) → IsFalse (list_any some_word rows) → (a b : ℕ) →
+    in_row (get_or (map words_of rows) a []) b ≡ false
+no_row_has [] h a b = none_past [] b (omega arith)
+no_row_has (v ∷ rows) h zero b =
+    ap (λ w. is_set w (b % 64))
+    (no_word v.items (or_none_left (some_word v) (list_any some_word rows) h) (b / 64))
+    ∙ no_bit (b % 64)
+no_row_has (v ∷ rows) h (suc a) b =
+    no_row_has rows (or_none_right (some_word v) (list_any some_word rows) h) a b
+
+-- ---- changes
 
 -- one row changed
 module _ (n : ℕ) (old new : BitGraph) (s : ℕ) (v : Vec ℕ Global) (inside : s < size old)
@@ -169,10 +199,31 @@ module _ (n : ℕ) (old new : BitGraph) (s : ℕ) (v : Vec ℕ Global) (inside :
             (either_way (s == a)),
       )
 
--- nothing was added
-pub same_edges : (old : ℕ → ℕ → Bool) (less : ℕ → ℕ → Bool) → ((a b : ℕ) → IsFalse (less a b)) →
-    (a b : ℕ) → old a b ≡ (old a b || less a b)
-same_edges old less none a b = sym (or_no (old a b) (less a b) (none a b))
+-- the words of one row changed
+module _ (graph : BitGraph) (s : ℕ) (v : Vec ℕ Global) (next now : List ℕ) (more : ℕ → Bool)
+    (inside : s < size graph) (at : v ≡ get_or graph.rows.items s v) (read : now ≡ v.items)
+    (same : length next ≡ length now) (gains : GainsBits now next more) where
+  abbrev changed : BitGraph
+  changed = record { rows = with_item graph.rows s (with_items v next) }
+
+  now_is : now ≡ row graph s
+  now_is = read ∙ row_at graph s v inside at
+
+  next_is : words_of (with_items v next) ≡ next
+  next_is = with_items_is v next (same ∙ ap length read ∙ sym v.ok.0)
+
+  all_gains : GainsBits (row graph s) (words_of (with_items v next)) more
+  all_gains b = ap (λ xs. in_row xs b) next_is ∙ gains b ∙ ap (λ xs. in_row xs b || more b) now_is
+
+  pub changed_gains : GainsEdges graph changed (λ a b. (s == a) && more b)
+  changed_gains =
+      row_gains (size graph) graph changed s (with_items v next) inside refl more all_gains
+
+  pub changed_over : IsOver (size graph) graph → ((b : ℕ) → IsTrue (more b) → b < size graph) →
+      IsOver (size graph) changed
+  changed_over over below =
+      row_over (size graph) graph changed s (with_items v next) inside refl more all_gains over
+      (ap length next_is ∙ same ∙ ap length now_is) below
 
 -- a graph of rows without bits
 module _ (n : ℕ) (graph : BitGraph)

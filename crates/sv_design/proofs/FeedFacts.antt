@@ -25,7 +25,7 @@ use Rattle.sv_flat.specs.Readings.{ReadForm, reads, BitSet, no_bits, either, Rea
 use Rattle.sv_flat.specs.Readings.{readings_of, is_followed}
 use Rattle.sv_flat.specs.Reads.{process_readings, is_earlier, wants, followed, reads_settled}
 use Rattle.sv_flat.specs.Reads.{is_read_for, reads_for}
-use Rattle.sv_flat.specs.Sets.{least_set}
+use Rattle.sv_flat.specs.Sets.{holds, least_set}
 use Rattle.sv_flat.specs.declared.signals.SigId.{SigId}
 use Rattle.sv_flat.proofs.AdmittedFacts.{and_true, none_made, some_is_some, empty_left}
 use Rattle.sv_flat.proofs.AdmittedFacts.{empty_right}
@@ -33,7 +33,8 @@ use Rattle.sv_flat.proofs.BlockFacts.{followed_is_assigned}
 use Rattle.sv_flat.proofs.Depths.{first_of, second_of}
 use Rattle.sv_flat.proofs.LeastSets.{either_way, or_cases, some_from, from_some, range_has}
 use Rattle.sv_flat.proofs.LeastSets.{Contains-from_filter, least_set_has, least_set_closed}
-use Rattle.sv_flat.proofs.LeastSets.{least_set_below, least_set_least}
+use Rattle.sv_flat.proofs.LeastSets.{least_set_below, least_set_least, holds-from_Contains}
+use Rattle.sv_flat.proofs.LeastSets.{Contains-from_holds}
 use Rattle.sv_design.specs.declared.bit_graphs.BitGraph.{BitGraph}
 use Rattle.sv_design.specs.declared.graphs.Graph.{Graph}
 use Rattle.sv_design.specs.declared.reads.Sought.{Sought}

@@ -22,7 +22,7 @@ use Rattle.sv_design.proofs.SearchFacts.{below_or_at}
 
 -- ---- ways back
 
-only_one : (x y : ℕ) → Contains (x ∷ []) y → x ≡ y
+pub only_one : (x y : ℕ) → Contains (x ∷ []) y → x ≡ y
 only_one x y at = ⊎_elim (λ e. e) (λ l. absurd (Contains-nil y l)) (Contains-cases x [] y at)
 
 -- where there are no earlier reads, what is read for a signal feeds it at once

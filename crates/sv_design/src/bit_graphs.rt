@@ -1,6 +1,6 @@
 // Graphs over signals, by bits: an edge that is added again takes no more room, and what leads on
 // from a signal is added to a row a word at a time.
-ghost use Rattle.std.specs.Prelude.{◌≡◌, ◌<◌, ◌≤◌, ◌/◌, ◌^◌, ◌==◌, ◌||◌, ◌&&◌, ℕ, Bool, false};
+ghost use Rattle.std.specs.Prelude.{◌≡◌, ◌<◌, ◌≤◌, ◌/◌, ◌^◌, ◌==◌, ◌||◌, ◌&&◌, not, ℕ, Bool, false};
 ghost use Rattle.std.specs.Prelude.{List, length, filter, replicate, IsTrue, IsFalse, OnOk, IfOk};
 ghost use Rattle.std.specs.List.{list_any, range_with_len};
 ghost use Rattle.sv_design.specs.BitGraphs.{in_row, words, IsRow, HasRoom, GainsBits, size, has_edge};
@@ -23,6 +23,13 @@ fn empty_row(alloc: Global, count: usize) -> Result<Vec<u64>, AllocError>
     vec![in alloc; 0; count / 64 + 1]
 }
 
+// A copy of a row.
+fn copied(alloc: Global, row: &[u64]) -> Result<Vec<u64>, AllocError>
+    ensures { IfOk result (λ copy. copy.items ≡ row.now) }
+{
+    row.to_vec(alloc)
+}
+
 // Whether a row has the signal.
 fn has_bit(row: &[u64], signal: SigId) -> bool
     ensures { result ≡ in_row row.now signal.0 }
@@ -35,7 +42,7 @@ fn has_bit(row: &[u64], signal: SigId) -> bool
 
 // Whether a row has a signal.
 fn has_bits(row: &[u64]) -> bool
-    ensures { IsFalse result → (s : ℕ) → in_row row.now s ≡ false }
+    ensures { result ≡ list_any (λ word. not (word == 0)) row.now }
 {
     row.iter().any(|word| *word != 0)
 }
@@ -185,7 +192,7 @@ impl BitGraph {
             (has_edge self.new) (size self.old)) }
     {
         for middle in 0..self.rows.len() {
-            let targets = self.rows[middle].as_slice().to_vec(alloc)?;
+            let targets = copied(alloc, &self.rows[middle])?;
             self.lead_all_on(SigId(middle as u32), &targets);
         }
         Ok(())

@@ -1,5 +1,4 @@
-use Rattle.std.proofs.Common.{ap, ◌∙◌, sym, refl, arith}
-use Rattle.std.proofs.lemmas.List.{get_or_default}
+use Rattle.std.proofs.Common.{◌%◌, refl, arith}
 use Rattle.std.proofs.lemmas.Nat.{one_shl}
 use Rattle.sv_design.proofs.BitRows.{bit_more}
 use Rattle.sv_design.proofs.bit_graphs.put_bit.Goals as goal

@@ -3,7 +3,7 @@ use Rattle.std.specs.Prelude.{IsTrue}
 use Rattle.std.specs.List.{list_any}
 use Rattle.std.specs.Map.{keys_of}
 use Rattle.std.specs.Map.Iter.{deref}
-use Rattle.std.proofs.lemmas.List.{length-replicate}
+use Rattle.std.proofs.lemmas.List.{length-replicate, with_items_is}
 use Rattle.std.proofs.lemmas.Map.Iter.{rest_more, rest_all}
 use Rattle.sv_design.specs.BitGraphs.{in_row, words}
 use Rattle.sv_design.specs.BitSets.{has_some}
@@ -40,12 +40,16 @@ loop-signal-preserved c =
     let old = c.deref_mut.result.now in
     let rest = c.next.new.self in
     let splits = rest_more deref c.loop-signal.signal-iterator c.next.new.self c.next.result
-    c.in-Some.signal c.in-Some.is c.next.ensures.steps in (
-      c.put_target.ensures.size ∙ ap length c.deref_mut.ensures.value
-          ∙ c.loop-signal.invariant.0,
+    c.in-Some.signal c.in-Some.is c.next.ensures.steps in
+    let size : length c.put_target.new.row ≡ length c.loop-signal.row.items =
+    c.put_target.ensures.size ∙ ap length c.deref_mut.ensures.value in
+    let items = with_items_is c.loop-signal.row c.put_target.new.row
+    (size ∙ sym c.loop-signal.row.ok.0) in (
+      ap length items ∙ size ∙ c.loop-signal.invariant.0,
       λ s.
           let left = λ (ks : List ℕ). list_any (λ z. z == s) ks in
-          ap (λ t. t || (has_some set s && left rest)) (c.put_target.ensures.bits s)
+          ap (λ xs. in_row xs s || (has_some set s && left rest)) items
+          ∙ ap (λ t. t || (has_some set s && left rest)) (c.put_target.ensures.bits s)
           ∙ or_three (in_row old s) (has_some set k && (k == s)) (has_some set s && left rest)
           ∙ ap (λ t. in_row old s || t) (sym (keys_more set k s (left rest)))
           ∙ ap (λ ks. in_row old s || (has_some set s && left ks)) (sym splits)

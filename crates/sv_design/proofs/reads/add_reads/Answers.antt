@@ -50,7 +50,8 @@ add_name-requires-clause-known c =
 pub add_name-requires-clause-targets : goal.add_name-requires-clause-targets
 add_name-requires-clause-targets c =
     subst (IsRow (length c.args.flat.now.signals.items)) (sym c.deref.ensures.value)
-    (subst (λ n. IsRow n c.in_ok-row.row.items) c.len.ensures c.in_ok-row.ensures.row)
+    (subst (λ n. IsRow n c.in_ok-row.row.items) (c.len.ensures ∙ c.args.flat.now.signals.ok.0)
+    c.in_ok-row.ensures.row)
 
 pub loop-name-preserved : goal.loop-name-preserved
 loop-name-preserved c =

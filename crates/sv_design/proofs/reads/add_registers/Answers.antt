@@ -1,6 +1,6 @@
 use Rattle.std.proofs.Common.{◌≡◌, ◌&&◌, ◌||◌, ◌==◌, nat_lt, length, refl, sym, ap, subst, ◌∙◌}
 use Rattle.std.proofs.Common.{arith}
-use Rattle.sv_design.specs.BitGraphs.{has_edge, GainsEdges}
+use Rattle.sv_design.specs.BitGraphs.{has_edge, IsOver, GainsEdges}
 use Rattle.sv_design.specs.Marks.{is_marked}
 use Rattle.sv_design.proofs.FeedFacts.{registers_more, no_register}
 use Rattle.sv_design.proofs.MarkFacts.{or_no, or_three}
@@ -19,7 +19,8 @@ pub loop-s-preserved : goal.loop-s-preserved
 loop-s-preserved c =
     let registers = c.args.registers.now in
     let s = c.loop-s.s in (
-      c.add_register.ensures.over,
+      subst (λ n. IsOver n c.add_register.new.graph) c.loop-s.invariant.0.0
+          c.add_register.ensures.over,
       λ a b.
           c.add_register.ensures.gains a b
           ∙ ap (λ t. t || (is_marked registers s && ((s == a) && (s == b))))

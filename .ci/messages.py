@@ -365,8 +365,8 @@ TEXTS = [
     ("module m(output @@y);" + END, "", "nothing drives `y`: assign it, or link it to an output"),
     ("module m(input a, output reg y);\n  @@always @* if (a) y = 1;" + END, "", "this block does not assign all bits of `y` on every path, so it would be a latch: "
      "give it a value at the block's begin, or in each `else` and `default`"),
-    ("module m(input a, output reg y);\n  always @* y = a ^ @@y;" + END, "", "`y` is read here, where its block has not assigned it on every path, or assigns "
-     "it again: name the earlier value by a `wire` of its own, or keep it in a register"),
+    ("module m(input a, output reg y);\n  always @* y = a ^ @@y;" + END, "", "`y` is read here before its block has assigned it on every path: assign it "
+     "above, or give it a value at the block's begin"),
     ("module m(output @@y);\n  wire w; assign w = y; assign y = w;" + END, "", "these signals read each other in a circle without a register between, each the "
      "next and the last `y`: `y`, `w`; break it by a register, or split a signal"),
     ("module m(output [1:0] @@y);\n  assign y = {y[0], 1'b1};" + END, "", "`y` reads itself without a register between, so it has no value: break the circle by "

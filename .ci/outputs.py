@@ -30,6 +30,8 @@ STIMULUS = "start q 9\ninputs en d\n1 3\n0 F\n1 0\n"
 WRONG = STIMULUS.replace("0 F", "0 10")
 TRACE = "0 en=1 d=3 q=9 s=0 n=a\n1 en=0 d=f q=a s=3 n=b\n2 en=1 d=0 q=a s=c n=b\n"
 PUBLIC_TRACE = "0 en=1 q=9 n=a\n1 en=0 q=a n=b\n2 en=1 q=a n=b\n"
+MIDDLE = ("module m(input a, input {H} h, output reg y, output reg {H} z);\n  reg t;\n  always @* begin\n    t = h; z = t;\n"
+          "    t = a; y = t;\n  end\nendmodule\n")
 INVERTERS = "module m(input a, output y);\n  wire p, q;\n  assign y = ~q;\n  assign q = ~p;\n  assign p = ~a;\nendmodule\n"
 TURNED = "inputs a\n0\n1\n"
 INVERTED = "0 a=0 y=1 p=1 q=0\n1 a=1 y=0 p=0 q=1\n"
@@ -41,6 +43,8 @@ CHECKS = [
     ("check f", REGISTER, "refused flow 1 r from k\nreg r 0\nin k 0\nnext k 0\n"),
     ("check f", REGISTER.replace("{L}", "{H}"), "accepted 1 obligations\n"),
     ("check f", WIRE, "accepted 2 obligations\n"),
+    ("check f", MIDDLE, "accepted 3 obligations\n"),
+    ("check f", MIDDLE.replace("{H} z", "z"), "refused flow 2 z from h\nin a 0\nin h 0\n"),
     ("check f", "module m(input a, output y); assign y = a + a; endmodule\n", "accepted 1 obligations\n"),
     ("check f", "\n module ' m;", "refused 101 bad-byte 2:9\n"),
     ("check f", "x\n `", "refused 101 bad-byte 2:2\n"),
@@ -136,8 +140,8 @@ LISTS = [
     ("module m(output y); endmodule", "refused 604 undriven 1:17 y\n"),
     ("module m(input [1:0] s, output reg [1:0] y);\n  always @*\n    case (s)\n      0: y = 3;\n      1: y = 2;\n      2: y = 1;\n    endcase\n" + END,
      "refused 605 latch 2:3 y\n"),
-    ("module m(input a, input {H} h, output reg y, output reg {H} z);\n  reg t;\n  always @* begin\n    t = h; z = t;\n    t = a; y = t;\n  end\n" + END,
-     "refused 606 phase 4:16 t\n"),
+    (MIDDLE, "1 y now =5:12 reads t\n2 z now =4:12 reads h\n3 t now =5:5 reads a\n"),
+    (MIDDLE.replace("t = h; z = t;", "z = t; t = h;"), "refused 606 phase 4:9 t\n"),
     ("module m(output p, q, r); assign p = r; assign q = p; assign r = q; endmodule", "refused 607 loop 1:17 p r q\n"),
 ]
 
@@ -164,6 +168,8 @@ TRACES = [
      "2 a=0 y=6 w=1 first.a=0 first.y=1 last.a=1 last.y=6\n"),
     ("module m(input clk, output reg a, output reg b);\n  always @(posedge clk) a <= b;\n  always @(posedge clk) b <= a;\n" + END, "",
      "start a 1\ninputs\n\n\n", "0 a=1 b=0\n1 a=0 b=1\n"),
+    (MIDDLE, "", "inputs a h\n0 0\n0 1\n1 0\n1 1\n",
+     "0 a=0 h=0 y=0 z=0 t=0\n1 a=0 h=1 y=0 z=1 t=0\n2 a=1 h=0 y=1 z=0 t=1\n3 a=1 h=1 y=1 z=1 t=1\n"),
     (INVERTERS, "", "inputs a\n", ""),
     (COUNTER, "", STIMULUS, TRACE),
     (COUNTER, "--level L", STIMULUS, PUBLIC_TRACE),

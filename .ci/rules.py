@@ -94,9 +94,8 @@ ADMISSION = [
     (605, S + NEST.replace(" default: y = 5;", "") + END, "", "y"),
     (606, T + "t = 0; v[1:0] = a; y = @@v[2]; v[3:2] = b; end\n" + END, "", "v"),
     (606, T + "t = 0; v[1:0] = a; y = @@v; v[3:2] = b; end\n" + END, "", "v"),
-    (606, T + "t = 0; v = 0; y = @@v[a]; v[3] = b; end\n" + END, "", "v"),
     (606, T + "y = 0; {t, v} = {@@v, t}; end\n" + END, "", "v"),
-    (606, T + "v = 0; y = 0; t = a; case (@@t) 0: y = a; default: t = b; endcase end\n" + END, "", "t"),
+    (606, T + "v = 0; y = 0; if (a) t = b; case (@@t) 0: y = a; default: t = b; endcase t = a; end\n" + END, "", "t"),
     (606, "module s(output reg o); always @* o = @@o; endmodule module m(output y, z); s u(y), v(z); endmodule", "", "u.o"),
     (607, "module m(output @@p, q, r); assign p = r; assign q = p; assign r = q; endmodule", "", "p r q"),
     (607, "module m(output [1:0] @@y); assign y = {y[0], 1'b1}; endmodule", "", "y"),
@@ -104,12 +103,16 @@ ADMISSION = [
     (607, "module t; wire @@w; s u(w, w); endmodule module s(input i, output o); assign o = i; endmodule", "", "w u.o u.i"),
     (607, T.replace(" v)", " @@v)") + "y = 0; t = 0; v = 0; {v[0], v[1]} = {v[2], v[3]}; end\n" + END, "", "v"),
     (607, T.replace(" v)", " @@v)") + "y = 0; t = 0; v = 0; v[1:0] = v[3:2]; end\n" + END, "", "v"),
+    (607, T.replace(" t,", " @@t,") + "v = a; y = b; t = v[0]; v = y; y = t; end\n" + END, "", "t"),
     (199, "module m(input a, output y); invariant a; assign y = a; endmodule", "", ""),
     (199, "module m(input a, output y); m u(a, y); invariant a; endmodule", "", ""),
 ]
 # Texts that break no rule, each with the number of its obligations: bits and parts of a signal by one process, a clock beside a link that is no whole
-# name, registers that nothing holds, and cases of which each value of the selector has its arm.
+# name, registers that nothing holds, cases of which each value of the selector has its arm, and reads of what a block has assigned so far.
 WHOLE = [
+    (3, T + "t = 0; v = 0; y = v[a]; v[3] = b; end\n" + END),
+    (5, T + "v = 0; y = 0; t = a; case (t) 0: y = a; default: t = b; endcase end\n" + END),
+    (3, T + "t = a; v = 0; y = b; {t, y} = {y, t}; v[0] = t; t = 0; end\n" + END),
     (3, Q + "reg [3:0] r; assign w = a; always @* begin q = 0; {r[1:0], r[3:2]} = {a, b}; end\n" + END),
     (3, Q + "reg [3:0] r; assign w = a; always @(posedge clk) begin q <= 0; r[0] <= a; r[0] <= b; end\n" + END),
     (6, FLIP + "module m(input c, d, output q, z); s u(c, d, q), v((c), q, z); endmodule"),

@@ -1,4 +1,4 @@
--- In an admitted design nothing is read earlier, so a process makes the word of a target by itself.
+-- A process without an earlier read makes the word of a target by itself.
 use Rattle.std.proofs.Common.{◌≡◌, ℕ, zero, suc, ◌+◌, ◌<◌, ◌≤◌, Bool, true, false, ◌||◌, ◌&&◌, ◌==◌}
 use Rattle.std.proofs.Common.{cond, List, [], ◌∷◌, filter, fold, drop, length, replicate, refl, sym}
 use Rattle.std.proofs.Common.{ap, ap₂, ◌∙◌, ⊎_elim, arith, ltb-true}
@@ -20,8 +20,8 @@ use Rattle.sv_flat.proofs.SameRuns.{none_found}
 use Rattle.sv_flat.proofs.LeastSets.{either_way, from_some}
 use Rattle.sv_flat.proofs.Depths.{first_of, second_of}
 use Rattle.sv_flat.proofs.AdmittedFacts.{body_is_sound, assigned_is_signal}
-use Rattle.sv_flat.proofs.BlockFacts.{is_settled}
 use Rattle.sv_obl.specs.BodySlices.{sliced}
+use Rattle.sv_obl.specs.MarkedBodies.{AllSettled}
 use Rattle.sv_obl.specs.Wanted.{with_copies, copy_of, is_copy, original, marked}
 use Rattle.sv_obl.proofs.PathLists.{cond_true, cond_false}
 use Rattle.sv_obl.proofs.PutFacts.{copy_is_copy, original_of_copy, signal_is_settled}
@@ -280,7 +280,7 @@ module _ (signals : List SignalForm) (words : Words) (s : ℕ) where
 
 module _ (design : FlatDesign) (is_sound : IsTrue (sound design)) (admitted : IsAdmitted design)
     (p : ProcessForm) (s : ℕ) (at : Contains (processes_of design) p)
-    (own : IsTrue (assigns p.body s)) where
+    (own : IsTrue (assigns p.body s)) (all_settled : AllSettled design p) where
   abbrev signals : List SignalForm
   signals = design.signals
 
@@ -297,15 +297,14 @@ module _ (design : FlatDesign) (is_sound : IsTrue (sound design)) (admitted : Is
       is_earlier design p r && r.serves m && (r.name.signal == k))
       (process_readings design p) brings in
       let r = found.0 in
-      false≢true (sym (is_settled design is_sound admitted p at r found.1)
+      false≢true (sym (all_settled r found.1)
       ∙ first_of (is_earlier design p r) (r.serves m)
       (first_of (is_earlier design p r && r.serves m) (r.name.signal == k) found.2))))
       (length design.signals)
 
   pub nothing_marked : marked design.signals (is_block p.kind) p.body no_bits ≡ p.body
   nothing_marked =
-      marked_itself design.signals (is_block p.kind) p.body no_bits no_bits
-      (λ r r_at. is_settled design is_sound admitted p at r r_at)
+      marked_itself design.signals (is_block p.kind) p.body no_bits no_bits all_settled
 
   abbrev begun : Words → Words
   begun words = starting_words design.signals (is_clocked p.kind) words

@@ -23,9 +23,10 @@ use Rattle.sv_flat.proofs.Members.{Contains-left, Contains-right}
 use Rattle.sv_flat.proofs.LeastSets.{from_some, or_cases}
 use Rattle.sv_flat.proofs.Depths.{first_of, second_of}
 use Rattle.sv_flat.proofs.AdmittedFacts.{body_is_sound, assigned_is_signal}
-use Rattle.sv_flat.proofs.BlockFacts.{serves_is_read}
+use Rattle.sv_flat.proofs.BlockFacts.{settled_is_read, follows_itself}
 use Rattle.sv_flat.proofs.FlatScheduled.{parts_of}
 use Rattle.sv_design.specs.Designs.{IsDesign}
+use Rattle.sv_obl.specs.MarkedBodies.{AllSettled, IsMarkedFor}
 use Rattle.sv_obl.specs.BodySlices.{sliced, in_sequence, SameParts, first_body, driven_body}
 use Rattle.sv_obl.proofs.MadeFacts.{combinational_driver, register_driver}
 use Rattle.sv_obl.proofs.OneDriver.{no_driver, one_driver_at}
@@ -233,11 +234,12 @@ module _ (design : FlatDesign) (is_sound : IsTrue (sound design)) (admitted : Is
       )
       by false none x y = tt
 
-  pub body_ready : AreReady design.signals n words (sliced s p.body)
-  body_ready =
+  pub body_ready : AllSettled design p → AreReady design.signals n words (sliced s p.body)
+  body_ready all_settled =
       slice_ready p.body no_bits no_bits (body_is_sound design is_sound admitted p at)
       (λ r r_at served.
-      has r.name.signal (serves_is_read design is_sound admitted p s at own r r_at served))
+      has r.name.signal (settled_is_read design is_sound admitted p at s own s
+      (follows_itself design is_sound admitted p at s own) r r_at served (all_settled r r_at)))
 
 -- ---- a driven signal
 
@@ -301,26 +303,32 @@ module _ (design : FlatDesign) (is : IsDesign design) (s : ℕ)
   body_there body same =
       subst (λ ps. SameParts body (sliced s (first_body ps))) driver.alone same
 
-  -- its word is the one that its slice makes
-  pub settled_by_slice : (words : Words) (f : Formula) (body : FlatStatement) →
+  unmarked_is_settled : IsMarkedFor design s None → AllSettled design driver.process
+  unmarked_is_settled unmarked = unmarked driver.process driver.at driver.own
+
+  -- its word is the one that its slice makes, where its process has no earlier read
+  pub settled_by_slice : IsMarkedFor design s None → (words : Words) (f : Formula)
+      (body : FlatStatement) →
       SameParts body (sliced s (driven_body design s)) →
       settled_word design words s f
       ≡ target_word design.signals words s body (starting_word design words s) f
-  settled_by_slice words f body same =
+  settled_by_slice unmarked words f body same =
       let p = driver.process in
       let false_bits = replicate (signal_width design.signals s) false_literal in
       ap (λ ps. word_by_first design s ps words f) driver.alone
-      ∙ driven_alone design is.is_sound is.is_admitted p s driver.at driver.own words f
+      ∙ driven_alone design is.is_sound is.is_admitted p s driver.at driver.own
+      (unmarked_is_settled unmarked) words f
       ∙ ap (λ c. target_word design.signals words s (sliced s p.body)
       (cond c (words s) false_bits) f) driver.kind
       ∙ sym (same_parts_word design.signals words s body (sliced s p.body) (body_there body same)
       (starting_word design words s) f)
 
-  pub slice_names : (n : ℕ) (words : Words) →
+  pub slice_names : IsMarkedFor design s None → (n : ℕ) (words : Words) →
       ((t : ℕ) → IsTrue (is_read_for design s t) → StandsOf design.signals n words t) →
       (body : FlatStatement) → SameParts body (sliced s (driven_body design s)) →
       AreReady design.signals n words body
-  slice_names n words has body same =
+  slice_names unmarked n words has body same =
       let p = driver.process in
       same_parts_ready design.signals n words body (sliced s p.body) (body_there body same)
-      (body_ready design is.is_sound is.is_admitted p s driver.at driver.own n words has)
+      (body_ready design is.is_sound is.is_admitted p s driver.at driver.own n words has
+      (unmarked_is_settled unmarked))

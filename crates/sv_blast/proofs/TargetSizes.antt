@@ -1,8 +1,7 @@
--- What a process takes for its target is what the target's slice takes: in an admitted design no
--- value is an earlier one.
+-- What a process without an earlier read takes for its target is what the target's slice takes.
 use Rattle.std.proofs.Common.{◌≡◌, ℕ, zero, suc, ◌+◌, ◌<◌, Bool, true, false, cond, ◌||◌, ◌&&◌, ◌==◌}
 use Rattle.std.proofs.Common.{List, [], ◌∷◌, length, refl, sym, ap, ap₂, subst, ◌∙◌, ⊎_elim}
-use Rattle.std.proofs.Common.{arith, ltb-true}
+use Rattle.std.proofs.Common.{arith, ltb-true, None}
 use Rattle.std.specs.Prelude.{Contains, IsTrue}
 use Rattle.std.specs.List.{list_any, list_all}
 use Rattle.std.proofs.lemmas.Bool.{false≢true}
@@ -22,7 +21,7 @@ use Rattle.sv_flat.proofs.LeastSets.{from_some, least_set_least, Contains-from_h
 use Rattle.sv_flat.proofs.LeastSets.{holds-from_Contains, those_pass, Contains-from_filter}
 use Rattle.sv_flat.proofs.Depths.{first_of, second_of}
 use Rattle.sv_flat.proofs.AdmittedFacts.{body_is_sound}
-use Rattle.sv_flat.proofs.BlockFacts.{is_settled}
+use Rattle.sv_obl.specs.MarkedBodies.{AllSettled, IsMarkedFor}
 use Rattle.sv_obl.specs.BodySlices.{sliced, in_sequence, SameParts, first_body, driven_body}
 use Rattle.sv_obl.specs.Wanted.{with_copies, marked}
 use Rattle.sv_obl.proofs.MadeFacts.{follows_itself}
@@ -152,7 +151,7 @@ least_alone (suc m) brings s low has only =
 module _ (design : FlatDesign) (is_sound : IsTrue (sound design)) (admitted : IsAdmitted design)
     (s : ℕ) (known : s < length design.signals) where
   module _ (p : ProcessForm) (at : Contains (processes_of design) p)
-      (own : IsTrue (assigns p.body s)) where
+      (own : IsTrue (assigns p.body s)) (all_settled : AllSettled design p) where
     -- no value is an earlier one, so the signal alone is followed
     only_itself : (u : ℕ) → IsTrue (holds (followed design p s) u) → u ≡ s
     only_itself u held =
@@ -167,7 +166,7 @@ module _ (design : FlatDesign) (is_sound : IsTrue (sound design)) (admitted : Is
         is_earlier design p r && r.serves m && (r.name.signal == k))
         (process_readings design p) brings in
         let r = found.0 in
-        absurd (false≢true (sym (is_settled design is_sound admitted p at r found.1)
+        absurd (false≢true (sym (all_settled r found.1)
         ∙ first_of (is_earlier design p r) (r.serves m)
         (first_of (is_earlier design p r && r.serves m) (r.name.signal == k) found.2))))
         u (Contains-from_holds (followed design p s) u held)
@@ -179,8 +178,7 @@ module _ (design : FlatDesign) (is_sound : IsTrue (sound design)) (admitted : Is
 
     pub marked_is_itself : marked design.signals (is_block p.kind) p.body no_bits ≡ p.body
     marked_is_itself =
-        marked_itself design.signals (is_block p.kind) p.body no_bits no_bits
-        (λ r r_at. is_settled design is_sound admitted p at r r_at)
+        marked_itself design.signals (is_block p.kind) p.body no_bits no_bits all_settled
 
     process_slice_size : process_size design s p
         ≡ slice_size design.signals (signal_width design.signals s) (sliced s p.body)
@@ -188,10 +186,11 @@ module _ (design : FlatDesign) (is_sound : IsTrue (sound design)) (admitted : Is
         ap₂ (statement_size design.signals) followed_alone marked_is_itself
         ∙ sliced_size design.signals s p.body (body_is_sound design is_sound admitted p at)
 
-  -- what the target's slice takes
-  pub slice_takes : (slice : FlatStatement) → SameParts slice (sliced s (driven_body design s)) →
+  -- what the target's slice takes, where its process has no earlier read
+  pub slice_takes : IsMarkedFor design s None → (slice : FlatStatement) →
+      SameParts slice (sliced s (driven_body design s)) →
       slice_size design.signals (signal_width design.signals s) slice ≡ signal_size design s
-  slice_takes slice same =
+  slice_takes unmarked slice same =
       same_parts_size design.signals width slice (sliced s (driven_body design s)) same
       ∙ by (drivers (processes_of design) s) refl
     where
@@ -205,4 +204,4 @@ module _ (design : FlatDesign) (is_sound : IsTrue (sound design)) (admitted : Is
           let found = Contains-from_filter (λ (q : ProcessForm). assigns q.body s)
           (processes_of design) p
           (subst (λ qs. Contains qs p) (sym is) (Contains-head p ps)) in
-          sym (process_slice_size p found.1 found.0)
+          sym (process_slice_size p found.1 found.0 (unmarked p found.1 found.0))

@@ -1,8 +1,7 @@
 -- Which encoding a coder holds, and when it is a coder of a design.
 use Rattle.std.specs.Prelude.{[], Option, Some, None, IfSome}
 use Rattle.sv_flat.specs.Design.{FlatDesign}
-use Rattle.sv_flat.specs.Clocks.{processes_of}
-use Rattle.sv_obl.specs.IndexedBodies.{AreIndexed}
+use Rattle.sv_obl.specs.MarkedBodies.{AreBodiesOf}
 use Rattle.sv_encoding.specs.Encoding.{Encoding}
 use Rattle.sv_blast.specs.Framed.{encoding_made, IsFramed}
 use Rattle.sv_blast.specs.declared.coder.Coder.{Coder}
@@ -20,5 +19,5 @@ encoding_in coder = last_encoding coder.made
 -- a coder of a design, whose bodies are indexed; what was made last begins with the frames of its
 -- cones
 pub record IsCoder (design : FlatDesign) (coder : Coder) : Type 0 where
-  pub bodies : AreIndexed (processes_of design) coder.bodies.now.bodies.items
+  pub bodies : AreBodiesOf design coder.bodies.now
   pub made : IfSome coder.made (IsFramed design)

@@ -1,11 +1,10 @@
 -- Private: how the code goes. What an encoder holds.
 use Rattle.std.specs.Prelude.{◌≡◌}
 use Rattle.sv_flat.specs.Design.{FlatDesign}
-use Rattle.sv_flat.specs.Clocks.{processes_of}
 use Rattle.sv_flat.specs.Views.{design_of}
 use Rattle.sv_design.specs.Numbers.{numbers}
 use Rattle.sv_obl.specs.DesignQueries.{IsQueryOf}
-use Rattle.sv_obl.specs.IndexedBodies.{AreIndexed}
+use Rattle.sv_obl.specs.MarkedBodies.{AreBodiesOf}
 use Rattle.sv_obl.specs.Obligations.{Obligation}
 use Rattle.sv_obl.specs.Views.{obligation_of}
 use Rattle.sv_encoding.specs.Cones.{now_cone, next_cone}
@@ -21,6 +20,6 @@ obligation_in encoder = obligation_of encoder.query.now
 -- an obligation of the design, with its cones and the design's indexed bodies
 pub record IsEncoder (encoder : Encoder) : Type 0 where
   pub query : IsQueryOf (design_in encoder) (obligation_in encoder)
-  pub bodies : AreIndexed (processes_of (design_in encoder)) encoder.bodies.now.bodies.items
+  pub bodies : AreBodiesOf (design_in encoder) encoder.bodies.now
   pub now : numbers encoder.now_cone.items ≡ now_cone (design_in encoder) (obligation_in encoder)
   pub next : numbers encoder.next_cone.items ≡ next_cone (design_in encoder) (obligation_in encoder)

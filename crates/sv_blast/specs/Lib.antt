@@ -3,6 +3,7 @@ pub mod Coders
 pub mod ConeSizes
 pub mod Decoded
 pub mod Encoders
+pub mod FollowedWords
 pub mod Framed
 pub mod Goals
 pub mod LabelSteps

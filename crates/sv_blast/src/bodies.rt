@@ -3,14 +3,13 @@ ghost use Rattle.std.specs.Prelude.{◌≡◌, ◌<◌, ◌≤◌, ◌||◌, IsT
 ghost use Rattle.std.specs.Prelude.{length, map, fold};
 ghost use Rattle.std.specs.List.{list_all};
 ghost use Rattle.sv_flat.specs.ByNumber.{signal_forms, is_branch};
-ghost use Rattle.sv_flat.specs.Clocks.{processes_of};
 ghost use Rattle.sv_flat.specs.Processes.{is_clocked, is_register};
 ghost use Rattle.sv_flat.specs.Reads.{is_combinational};
 ghost use Rattle.sv_flat.specs.Soundness.{piece_fits};
 ghost use Rattle.sv_flat.specs.Values.{signal_width};
 ghost use Rattle.sv_flat.specs.Views.{design_of, piece_form, process_kind, typed_tree};
 ghost use Rattle.sv_obl.specs.BodySlices.{slice_statement};
-ghost use Rattle.sv_obl.specs.IndexedBodies.{AreIndexed};
+ghost use Rattle.sv_obl.specs.MarkedBodies.{AreBodiesOf};
 ghost use Rattle.sv_gates.specs.Extending.{Begins};
 ghost use Rattle.sv_gates.specs.Formulas.{most_variables};
 ghost use Rattle.sv_circuits.specs.Circuits.{IsWord};
@@ -22,6 +21,7 @@ ghost use Rattle.sv_blast.specs.TargetWords.{target_word, IsReady, AreReady};
 
 use crate::arms::{Arm, chosen_back, copied, push_arm};
 use crate::expressions::{expression, is_true};
+use crate::followed::followed_word;
 use crate::tables::WordTable;
 use std::alloc::{AllocError, Global};
 use sv_circuits::{falsity, filled, replaced};
@@ -248,6 +248,7 @@ impl Encoder<'_> {
 
 /// The word of a combinational signal in this cycle, or of a register in the next one, from the
 /// words of what is read for it (IEEE 1364-2005, clauses 6 and 9). The bodies are the design's.
+/// Where the process of the signal has no earlier read, its slice alone is walked.
 /// `Full` says that variables ran out, `OutOfMemory` that memory did; then some gates may stay.
 pub fn settled(
     alloc: Global,
@@ -259,7 +260,7 @@ pub fn settled(
 ) -> Result<Vec<Literal>, GateFault>
     requires driven { IsTrue (is_register (design_of design.now) target.0
         || is_combinational (design_of design.now) target.0) }
-    requires bodies { AreIndexed (processes_of (design_of design.now)) bodies.now.bodies.items }
+    requires bodies { AreBodiesOf (design_of design.now) bodies.now }
     requires words { StandForReads (design_of design.now) gates.old.variables (words_of words.now)
         target.0 }
     ensures made { IfOk result (λ word. settled_word (design_of design.now) (words_of words.now)
@@ -272,6 +273,9 @@ pub fn settled(
         gates.old).0).variables }
 {
     let signals = design.signals();
+    if let Some(body) = bodies.marked(design, target) {
+        return followed_word(alloc, gates, design, bodies, body, words, target);
+    }
     let slice = bodies.slice(alloc, design, target)?;
     let word = starting(alloc, gates, design, words, target)?;
     let encoder = Encoder {

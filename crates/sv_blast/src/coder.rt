@@ -1,11 +1,10 @@
 // The encodings of a design's obligations, one after the other.
 ghost use Rattle.std.specs.Prelude.{◌≡◌, ◌<◌, ◌≤◌, map, OnOk, IsErrOf};
-ghost use Rattle.sv_flat.specs.Clocks.{processes_of};
 ghost use Rattle.sv_flat.specs.Design.{FlatDesign};
 ghost use Rattle.sv_flat.specs.Views.{design_of};
 ghost use Rattle.sv_gates.specs.Formulas.{most_variables};
 ghost use Rattle.sv_obl.specs.DesignQueries.{IsQueryOf};
-ghost use Rattle.sv_obl.specs.IndexedBodies.{AreIndexed};
+ghost use Rattle.sv_obl.specs.MarkedBodies.{AreBodiesOf};
 ghost use Rattle.sv_obl.specs.Views.{obligation_of};
 ghost use Rattle.sv_encoding.specs.BothWays.{IsWhole};
 ghost use Rattle.sv_encoding.specs.Encoding.{encoding};
@@ -35,7 +34,7 @@ impl<'a, 'b> Coder<'a, 'b> {
     /// One that has encoded nothing yet; of each design whose bodies these are.
     pub fn new(alloc: Global, bodies: &'a Bodies<'b>) -> Coder<'a, 'b>
         ensures { (design : FlatDesign) →
-            AreIndexed (processes_of design) bodies.now.bodies.items → IsCoder design result }
+            AreBodiesOf design bodies.now → IsCoder design result }
     {
         Coder {
             alloc,
@@ -47,7 +46,7 @@ impl<'a, 'b> Coder<'a, 'b> {
     /// The bodies of the design.
     pub fn bodies(&self) -> &'a Bodies<'b>
         ensures { (design : FlatDesign) → IsCoder design self.now →
-            AreIndexed (processes_of design) result.now.bodies.items }
+            AreBodiesOf design result.now }
     {
         self.bodies
     }

@@ -5,9 +5,8 @@ ghost use Rattle.sv_flat.specs.Views.{typed_tree};
 ghost use Rattle.sv_flat.specs.Views.{design_of};
 ghost use Rattle.sv_gates.specs.Formulas.{IsLiteral, most_variables};
 ghost use Rattle.sv_gates.specs.Gates.{start};
-ghost use Rattle.sv_flat.specs.Clocks.{processes_of};
 ghost use Rattle.sv_obl.specs.DesignQueries.{IsQueryOf};
-ghost use Rattle.sv_obl.specs.IndexedBodies.{AreIndexed};
+ghost use Rattle.sv_obl.specs.MarkedBodies.{AreBodiesOf};
 ghost use Rattle.sv_obl.specs.Views.{obligation_of};
 ghost use Rattle.sv_encoding.specs.BothWays.{IsWhole};
 ghost use Rattle.sv_encoding.specs.Cones.{now_cone, next_cone, conditions_of};
@@ -62,7 +61,7 @@ impl<'a, 'b, 'c, 'd> Encoder<'a, 'b, 'c, 'd> {
         query: &'c Query,
     ) -> Result<Encoder<'a, 'b, 'c, 'd>, AllocError>
         requires query { IsQueryOf (design_of design.now) (obligation_of query.now) }
-        requires bodies { AreIndexed (processes_of (design_of design.now)) bodies.now.bodies.items }
+        requires bodies { AreBodiesOf (design_of design.now) bodies.now }
         ensures encoder { IfOk result IsEncoder }
         ensures design { IfOk result (λ encoder. design_in encoder ≡ design_of design.now) }
         ensures query { IfOk result (λ encoder. obligation_in encoder ≡ obligation_of query.now) }
@@ -408,7 +407,7 @@ pub fn encoded(
     query: &Query,
 ) -> Result<Framed, BlastFault>
     requires query { IsQueryOf (design_of design.now) (obligation_of query.now) }
-    requires bodies { AreIndexed (processes_of (design_of design.now)) bodies.now.bodies.items }
+    requires bodies { AreBodiesOf (design_of design.now) bodies.now }
     requires before { IfSome before (IsFramed (design_of design.now)) }
     ensures framed { IfOk result (IsFramed (design_of design.now)) }
     ensures coded { IfOk result (λ made. encoding_made made

@@ -1,11 +1,10 @@
 // The words of a cycle's signals.
 ghost use Rattle.std.specs.Prelude.{◌≡◌, ℕ, ◌<◌, ◌≤◌, OnOk, IsErrOf, IsTrue, All, Contains, length};
-ghost use Rattle.sv_flat.specs.Clocks.{processes_of};
 ghost use Rattle.sv_flat.specs.Processes.{is_register};
 ghost use Rattle.sv_flat.specs.Reads.{is_read_for};
 ghost use Rattle.sv_flat.specs.Views.{design_of};
 ghost use Rattle.sv_design.specs.Numbers.{numbers};
-ghost use Rattle.sv_obl.specs.IndexedBodies.{AreIndexed};
+ghost use Rattle.sv_obl.specs.MarkedBodies.{AreBodiesOf};
 ghost use Rattle.sv_gates.specs.Extending.{Begins};
 ghost use Rattle.sv_gates.specs.Formulas.{most_variables};
 ghost use Rattle.sv_encoding.specs.Encoding.{fresh_words};
@@ -56,7 +55,7 @@ pub fn make_settled(
     signals: &[SigId],
     words: &mut WordTable,
 ) -> Result<(), GateFault>
-    requires bodies { AreIndexed (processes_of (design_of design.now)) bodies.now.bodies.items }
+    requires bodies { AreBodiesOf (design_of design.now) bodies.now }
     requires ready { AreReady (design_of design.now)
         (StandsOf (design_of design.now).signals gates.old.variables (words_of words.old))
         (numbers signals.now) }
@@ -85,7 +84,7 @@ pub fn make_next(
     registers: &[SigId],
     words: &mut WordTable,
 ) -> Result<(), GateFault>
-    requires bodies { AreIndexed (processes_of (design_of design.now)) bodies.now.bodies.items }
+    requires bodies { AreBodiesOf (design_of design.now) bodies.now }
     requires registers { All (λ s. IsTrue (is_register (design_of design.now) s))
         (numbers registers.now) }
     requires read { (s t : ℕ) → Contains (numbers registers.now) s →

@@ -26,6 +26,7 @@ mod constants;
 mod decoding;
 mod encoding;
 mod expressions;
+mod followed;
 mod framed;
 mod frames;
 mod goals;

@@ -2,12 +2,11 @@
 // that there may be.
 ghost use Rattle.std.specs.Prelude.{◌≡◌, ◌+◌, ◌<◌, ◌||◌, min, sum, map, length, All, IfOk};
 ghost use Rattle.sv_flat.specs.ByNumber.{signal_forms};
-ghost use Rattle.sv_flat.specs.Clocks.{processes_of};
 ghost use Rattle.sv_flat.specs.Processes.{is_clocked, is_top_input, is_register};
 ghost use Rattle.sv_flat.specs.Views.{design_of, process_kind};
 ghost use Rattle.sv_design.specs.Numbers.{numbers};
 ghost use Rattle.sv_obl.specs.DesignQueries.{IsQueryOf};
-ghost use Rattle.sv_obl.specs.IndexedBodies.{AreIndexed};
+ghost use Rattle.sv_obl.specs.MarkedBodies.{AreBodiesOf};
 ghost use Rattle.sv_obl.specs.Views.{obligation_of};
 ghost use Rattle.sv_encoding.specs.Cones.{now_cone, next_cone, conditions_of};
 ghost use Rattle.sv_encoding.specs.Sizes.{encoding_size, label_size, label_of_signal, stays_size};
@@ -60,7 +59,7 @@ fn now_size(
     signal: SigId,
 ) -> Result<u32, AllocError>
     requires known { signal.0 < length design.now.signals.items }
-    requires bodies { AreIndexed (processes_of (design_of design.now)) bodies.now.bodies.items }
+    requires bodies { AreBodiesOf (design_of design.now) bodies.now }
     ensures { IfOk result (λ size. size ≡ min (now_size (design_of design.now) signal.0) 4194305) }
 {
     if is_given(design, signal) {
@@ -77,7 +76,7 @@ fn next_size(
     signal: SigId,
 ) -> Result<u32, AllocError>
     requires known { signal.0 < length design.now.signals.items }
-    requires bodies { AreIndexed (processes_of (design_of design.now)) bodies.now.bodies.items }
+    requires bodies { AreBodiesOf (design_of design.now) bodies.now }
     ensures { IfOk result (λ size. size ≡ min (next_size (design_of design.now) signal.0) 4194305) }
 {
     if is_top_input(design, signal) {
@@ -94,7 +93,7 @@ fn now_sizes(
     cone: &[SigId],
 ) -> Result<u32, AllocError>
     requires known { All (λ s. s < length design.now.signals.items) (numbers cone.now) }
-    requires bodies { AreIndexed (processes_of (design_of design.now)) bodies.now.bodies.items }
+    requires bodies { AreBodiesOf (design_of design.now) bodies.now }
     ensures { IfOk result (λ size. size ≡
         min (now_sizes (design_of design.now) (numbers cone.now)) 4194305) }
 {
@@ -113,7 +112,7 @@ fn next_sizes(
     cone: &[SigId],
 ) -> Result<u32, AllocError>
     requires known { All (λ s. s < length design.now.signals.items) (numbers cone.now) }
-    requires bodies { AreIndexed (processes_of (design_of design.now)) bodies.now.bodies.items }
+    requires bodies { AreBodiesOf (design_of design.now) bodies.now }
     ensures { IfOk result (λ size. size ≡
         min (next_sizes (design_of design.now) (numbers cone.now)) 4194305) }
 {
@@ -133,7 +132,7 @@ pub fn frames_size(
     now: &[SigId],
     next: &[SigId],
 ) -> Result<u32, AllocError>
-    requires bodies { AreIndexed (processes_of (design_of design.now)) bodies.now.bodies.items }
+    requires bodies { AreBodiesOf (design_of design.now) bodies.now }
     requires now { All (λ s. s < length design.now.signals.items) (numbers now.now) }
     requires next { All (λ s. s < length design.now.signals.items) (numbers next.now) }
     ensures { IfOk result (λ size. size ≡
@@ -213,7 +212,7 @@ pub fn encoding_size(
     now: &[SigId],
     next: &[SigId],
 ) -> Result<u32, AllocError>
-    requires bodies { AreIndexed (processes_of (design_of design.now)) bodies.now.bodies.items }
+    requires bodies { AreBodiesOf (design_of design.now) bodies.now }
     requires query { IsQueryOf (design_of design.now) (obligation_of query.now) }
     requires now { numbers now.now ≡ now_cone (design_of design.now) (obligation_of query.now) }
     requires next { numbers next.now ≡ next_cone (design_of design.now) (obligation_of query.now) }

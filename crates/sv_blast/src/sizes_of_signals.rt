@@ -1,13 +1,13 @@
 // How many gates the words that processes give signals take, up to one over the most variables.
 ghost use Rattle.std.specs.Prelude.{◌≡◌, ◌+◌, ◌<◌, min, length, IfOk};
 ghost use Rattle.sv_flat.specs.ByNumber.{signal_forms};
-ghost use Rattle.sv_flat.specs.Clocks.{processes_of};
 ghost use Rattle.sv_flat.specs.Views.{design_of, typed_tree};
 ghost use Rattle.sv_obl.specs.BodySlices.{slice_statement};
-ghost use Rattle.sv_obl.specs.IndexedBodies.{AreIndexed};
+ghost use Rattle.sv_obl.specs.MarkedBodies.{AreBodiesOf};
 ghost use Rattle.sv_encoding.specs.Sizes.{signal_size, truth_size};
 ghost use Rattle.sv_blast.specs.SliceSizes.{slice_size};
 
+use crate::followed::followed_size;
 use crate::sizes_of_expressions::{expression_size, truth_size, width_of};
 use crate::sizes_of_operators::sum;
 use std::alloc::{AllocError, Global};
@@ -57,11 +57,14 @@ pub fn signal_size(
     signal: SigId,
 ) -> Result<u32, AllocError>
     requires known { signal.0 < length design.now.signals.items }
-    requires bodies { AreIndexed (processes_of (design_of design.now)) bodies.now.bodies.items }
+    requires bodies { AreBodiesOf (design_of design.now) bodies.now }
     ensures { IfOk result (λ size. size ≡
         min (signal_size (design_of design.now) signal.0) 4194305) }
 {
     let signals = design.signals();
+    if let Some(body) = bodies.marked(design, signal) {
+        return followed_size(alloc, design, bodies, body, signal);
+    }
     let slice = bodies.slice(alloc, design, signal)?;
     Ok(slice_size(signals, width_of(signals, signal), &slice))
 }

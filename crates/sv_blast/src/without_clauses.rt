@@ -1,11 +1,10 @@
 // What is told of an obligation without a clause: whether labels alone decide it, and whether its
 // encoding is small enough.
 ghost use Rattle.std.specs.Prelude.{◌≡◌, ◌<◌, ◌==◌, length, All, IsErrOf, OnOk};
-ghost use Rattle.sv_flat.specs.Clocks.{processes_of};
 ghost use Rattle.sv_flat.specs.Views.{design_of};
 ghost use Rattle.sv_design.specs.Numbers.{numbers};
 ghost use Rattle.sv_obl.specs.DesignQueries.{IsQueryOf};
-ghost use Rattle.sv_obl.specs.IndexedBodies.{AreIndexed};
+ghost use Rattle.sv_obl.specs.MarkedBodies.{AreBodiesOf};
 ghost use Rattle.sv_obl.specs.Views.{obligation_of};
 ghost use Rattle.sv_encoding.specs.BothWays.{always_goes};
 ghost use Rattle.sv_encoding.specs.Deciding.{Fits, IsTooLarge};
@@ -54,7 +53,7 @@ pub fn check_size(
     query: &Query,
 ) -> Result<(), BlastFault>
     requires query { IsQueryOf (design_of design.now) (obligation_of query.now) }
-    requires bodies { AreIndexed (processes_of (design_of design.now)) bodies.now.bodies.items }
+    requires bodies { AreBodiesOf (design_of design.now) bodies.now }
     ensures fits { OnOk result (Fits (design_of design.now) (obligation_of query.now)) }
     ensures large { IsErrOf result BlastFault.TooLarge →
         IsTooLarge (design_of design.now) (obligation_of query.now) }

@@ -1,9 +1,8 @@
 // Obligations that labels alone decide.
 ghost use Rattle.std.specs.Prelude.{◌≡◌, IsTrue, IfOk, IsErrOf};
-ghost use Rattle.sv_flat.specs.Clocks.{processes_of};
 ghost use Rattle.sv_flat.specs.Views.{design_of};
 ghost use Rattle.sv_obl.specs.DesignQueries.{IsQueryOf};
-ghost use Rattle.sv_obl.specs.IndexedBodies.{AreIndexed};
+ghost use Rattle.sv_obl.specs.MarkedBodies.{AreBodiesOf};
 ghost use Rattle.sv_obl.specs.Views.{obligation_of};
 ghost use Rattle.sv_encoding.specs.BothWays.{always_goes};
 ghost use Rattle.sv_encoding.specs.Deciding.{IsTooLarge};
@@ -25,7 +24,7 @@ pub fn is_valid_by_labels(
     bodies: &Bodies,
     query: &Query,
 ) -> Result<bool, BlastFault>
-    requires bodies { AreIndexed (processes_of (design_of design.now)) bodies.now.bodies.items }
+    requires bodies { AreBodiesOf (design_of design.now) bodies.now }
     requires query { IsQueryOf (design_of design.now) (obligation_of query.now) }
     ensures by_labels { IfOk result (λ valid. let o = obligation_of query.now in
         valid ≡ always_goes (design_of design.now) o.reads o.goal) }

@@ -1,7 +1,7 @@
 -- What a block assigns, and what is asked of it.
 use Rattle.std.proofs.Common.{◌≡◌, ℕ, zero, suc, ◌+◌, ◌*◌, ◌^◌, ◌<◌, Bool, true, false, cond, not}
-use Rattle.std.proofs.Common.{◌&&◌, ◌||◌, ◌==◌, nat_le, ltb-true, le-leb, leb-true, List, [], ◌∷◌}
-use Rattle.std.proofs.Common.{◌++◌, length, map, Option, None, Some, ◌⊎◌, inl, inr, ⊎_elim, refl}
+use Rattle.std.proofs.Common.{◌&&◌, ◌==◌, nat_le, ltb-true, le-leb, leb-true, List, [], ◌∷◌}
+use Rattle.std.proofs.Common.{◌++◌, length, Option, None, Some, ◌⊎◌, inl, inr, ⊎_elim, refl}
 use Rattle.std.proofs.Common.{sym, ap, subst, ◌∙◌, append_assoc, arith, rules}
 use Rattle.std.specs.Prelude.{Contains, IsTrue, IsFalse, filter, flat_map, unwrap_or, ◌↔◌}
 use Rattle.std.specs.List.{list_any, list_all, range_with_len}
@@ -12,23 +12,22 @@ use Rattle.std.proofs.Math.Nat.{pow-suc}
 use Rattle.std.proofs.lemmas.List.{append-nil}
 use Rattle.std.proofs.lemmas.Bool.{false≢true, or_left, or_right, eqb-true, eq-eqb}
 use Rattle.std.proofs.lemmas.Nat.Bits.{bit_at-lt, bit_at-zero, same_from_bits_below}
-use Rattle.sv_system.proofs.Lists.{Contains-head, Contains-nil, Contains-cases, Contains-filter}
+use Rattle.sv_system.proofs.Lists.{Contains-head, Contains-nil, Contains-cases}
 use Rattle.sv_system.proofs.Lists.{Contains-map, Contains-from_map}
 use Rattle.sv_num.specs.declared.faults.Place.{Place}
 use Rattle.sv_flat.specs.Assigned.{assigns, can_assign, always_assigns, has_bit}
-use Rattle.sv_flat.specs.Blocks.{is_latched, is_unassigned, is_out_of_phase, phase_breach}
+use Rattle.sv_flat.specs.Blocks.{is_latched}
 use Rattle.sv_flat.specs.Breaches.{Breach, breach}
 use Rattle.sv_flat.specs.Design.{SignalForm, PieceForm, FlatStatement, nothing, after, assign}
 use Rattle.sv_flat.specs.Design.{branch, ProcessForm, FlatDesign}
 use Rattle.sv_flat.specs.Processes.{signals_that}
-use Rattle.sv_flat.specs.Readings.{readings, no_bits, is_followed}
 use Rattle.sv_flat.specs.Soundness.{well_formed, piece_fits, statement_sound}
 use Rattle.sv_flat.specs.Values.{signal_width}
-use Rattle.sv_flat.proofs.BlockFacts.{can_is_assigned, followed_is_assigned}
+use Rattle.sv_flat.proofs.BlockFacts.{can_is_assigned}
 use Rattle.sv_flat.proofs.AdmittedFacts.{none_in, and_true, assigned_is_signal}
 use Rattle.sv_flat.proofs.Depths.{first_of, second_of, from_all}
 use Rattle.sv_flat.proofs.LeastSets.{either_way, or_cases, range_has, some_from, from_some}
-use Rattle.sv_flat.proofs.LeastSets.{in_those, those_pass, Contains-from_filter}
+use Rattle.sv_flat.proofs.LeastSets.{in_those, those_pass}
 use Rattle.sv_flat.proofs.Members.{Contains-left, Contains-right, Contains-either}
 use Rattle.sv_design.specs.declared.bits.Bits.{Bits}
 use Rattle.sv_design.specs.declared.found.Found.{Found}
@@ -36,8 +35,7 @@ use Rattle.sv_design.specs.declared.scopes.Scope.{Nothing, the_lemmas}
 use Rattle.sv_design.specs.Scopes.{in_scope}
 use Rattle.sv_design.specs.BitSets.{is_set, mask_in, in_bits, has_some, LacksBit}
 use Rattle.sv_design.specs.First.{breach_of, FindsFirst, first_found}
-use Rattle.sv_design.specs.Phases.{wrong_reads, is_wrong_read, SameBits, latches_of}
-use Rattle.sv_design.specs.Phases.{phase_faults_of}
+use Rattle.sv_design.specs.Phases.{SameBits, latches_of}
 use Rattle.sv_design.proofs.BitFacts.{same_answer}
 use Rattle.sv_design.proofs.EntryFacts.{key_test, nothing_in}
 use Rattle.sv_design.proofs.Firsts.{finds_both}
@@ -140,63 +138,6 @@ same_first number xs ys (Some found) to from first = record {
   among = to (breach_of number found) first.among;
   before = λ other at. first.before other (from other at);
 }
-
-passed : {X Y : Type 0} (f : X → Y) (test : X → Bool) (xs : List X) (y : Y)
-    → Contains (map f (filter test xs)) y
-    → (x : X) × (f x ≡ y) × IsTrue (test x) × Contains xs x
-passed f test xs y at =
-    let from = Contains-from_map f (filter test xs) y at in
-    let kept = Contains-from_filter test xs from.0 from.1 in
-    (from.0, from.2, kept.0, kept.1)
-
-passes : {X Y : Type 0} (f : X → Y) (test : X → Bool) (xs : List X) (x : X) → Contains xs x →
-    IsTrue (test x) → Contains (map f (filter test xs)) (f x)
-passes f test xs x at h = Contains-map f (filter test xs) x (Contains-filter test xs x at h)
-
--- ---- rule 606 of one block
-
-pub phases_found : (design : FlatDesign) (body : FlatStatement) (early late : Option Found)
-    → FindsFirst 606 (wrong_reads true design.signals body
-    (readings design.signals body no_bits no_bits)) early
-    → FindsFirst 606 (wrong_reads false design.signals body
-    (readings design.signals body no_bits no_bits)) late
-    → FindsFirst 606 (phase_faults_of design body) (first_found early late)
-phases_found design body early late finds_early finds_late =
-    let signals = design.signals in
-    let rs = readings signals body no_bits no_bits in
-    let xs = wrong_reads true signals body rs in
-    let ys = wrong_reads false signals body rs in
-    let all = is_out_of_phase signals body in
-    same_first 606 (xs ++ ys) (phase_faults_of design body) (first_found early late)
-    (λ x at. ⊎_elim
-    (λ l.
-    let r = passed phase_breach (is_wrong_read true signals body) rs x l in
-    subst (Contains (phase_faults_of design body)) r.1 (passes phase_breach all rs r.0 r.3
-    (and_true (assigns body r.0.name.signal) (is_unassigned signals r.0 || is_followed signals r.0)
-    (first_of (assigns body r.0.name.signal) (is_unassigned signals r.0) r.2)
-    (or_left (is_unassigned signals r.0) (is_followed signals r.0)
-    (second_of (assigns body r.0.name.signal) (is_unassigned signals r.0) r.2)))))
-    (λ m.
-    let r = passed phase_breach (is_wrong_read false signals body) rs x m in
-    subst (Contains (phase_faults_of design body)) r.1 (passes phase_breach all rs r.0 r.3
-    (and_true (assigns body r.0.name.signal) (is_unassigned signals r.0 || is_followed signals r.0)
-    (followed_is_assigned signals body r.0 r.3 r.2)
-    (or_right (is_unassigned signals r.0) (is_followed signals r.0) r.2))))
-    (Contains-either xs ys x at))
-    (λ x at.
-    let r = passed phase_breach all rs x at in
-    let s = r.0.name.signal in
-    let assigned = first_of (assigns body s) (is_unassigned signals r.0
-    || is_followed signals r.0) r.2 in
-    subst (Contains (xs ++ ys)) r.1 (⊎_elim
-    (λ l. Contains-left xs ys (phase_breach r.0)
-    (passes phase_breach (is_wrong_read true signals body) rs r.0 r.3
-    (and_true (assigns body s) (is_unassigned signals r.0) assigned l)))
-    (λ m. Contains-right xs ys (phase_breach r.0)
-    (passes phase_breach (is_wrong_read false signals body) rs r.0 r.3 m))
-    (or_cases (is_unassigned signals r.0) (is_followed signals r.0)
-    (second_of (assigns body s) (is_unassigned signals r.0 || is_followed signals r.0) r.2))))
-    (finds_both xs ys 606 early late finds_early finds_late)
 
 -- ---- rule 605 of one signal
 

@@ -25,7 +25,7 @@ use Rattle.sv_flat.specs.Readings.{ReadForm, reads, BitSet, no_bits, either, Rea
 use Rattle.sv_flat.specs.Readings.{readings_of, is_followed}
 use Rattle.sv_flat.specs.Reads.{process_readings, is_earlier, wants, followed, reads_settled}
 use Rattle.sv_flat.specs.Reads.{is_read_for, reads_for}
-use Rattle.sv_flat.specs.Sets.{least_set}
+use Rattle.sv_flat.specs.Sets.{holds, least_set}
 use Rattle.sv_flat.specs.declared.signals.SigId.{SigId}
 use Rattle.sv_flat.proofs.AdmittedFacts.{and_true, none_made, some_is_some, empty_left}
 use Rattle.sv_flat.proofs.AdmittedFacts.{empty_right}
@@ -33,12 +33,16 @@ use Rattle.sv_flat.proofs.BlockFacts.{followed_is_assigned}
 use Rattle.sv_flat.proofs.Depths.{first_of, second_of}
 use Rattle.sv_flat.proofs.LeastSets.{either_way, or_cases, some_from, from_some, range_has}
 use Rattle.sv_flat.proofs.LeastSets.{Contains-from_filter, least_set_has, least_set_closed}
-use Rattle.sv_flat.proofs.LeastSets.{least_set_below, least_set_least}
+use Rattle.sv_flat.proofs.LeastSets.{least_set_below, least_set_least, holds-from_Contains}
+use Rattle.sv_flat.proofs.LeastSets.{Contains-from_holds}
+use Rattle.sv_design.specs.declared.bit_graphs.BitGraph.{BitGraph}
 use Rattle.sv_design.specs.declared.graphs.Graph.{Graph}
 use Rattle.sv_design.specs.declared.reads.Sought.{Sought}
+use Rattle.sv_design.specs.BitGraphs.{size, has_edge, IsTurned, GainsEdges}
 use Rattle.sv_design.specs.Feeds.{is_sought, names_sought, feeds, sought_in, feeds_in}
 use Rattle.sv_design.specs.Feeds.{feeds_through}
-use Rattle.sv_design.specs.Graphs.{size, rows_of, has_edge, IsTurned, GainsEdges}
+use Rattle.sv_design.specs.Graphs.{rows_of}
+use Rattle.sv_design.specs.Graphs as graphs
 use Rattle.sv_design.specs.Marks.{is_marked, IsTable}
 use Rattle.sv_design.specs.Numbers.{numbers}
 use Rattle.sv_design.proofs.Passes.{or_turned}
@@ -395,6 +399,21 @@ module _ (design : FlatDesign)
       (some_from (reads_by false s target.0) ps p at
       (to_feeds design p false s target.0 target.2)))
 
+  -- what the target follows in the process that assigns it, it follows among all
+  pub followed_is : (p : ProcessForm) → Contains ps p → IsTrue (assigns p.body t) → (k : ℕ)
+      → holds all k ≡ holds (followed design p t) k
+  followed_is p at own k = same_answer (holds all k) (holds (followed design p t) k)
+      (λ h. holds-from_Contains (followed design p t) k
+      (of_own (out_of k (Contains-from_holds all k h)).0))
+      (λ h. holds-from_Contains all k
+      (into p at k (Contains-from_holds (followed design p t) k h)))
+    where
+      of_own : Driven k → Contains (followed design p t) k
+      of_own (inl e) = subst (λ z. Contains (followed design p t) z) e (itself p)
+      of_own (inr (q, q_at, q_own, inside)) =
+          subst (λ (z : ProcessForm). Contains (followed design z t) k)
+          (one t q p below q_at at q_own own) inside
+
 -- where no signal has a second driver, two processes that assign one signal are the same
 module _ (design : FlatDesign) (drivers_are : driver_faults design ≡ []) where
   none_second : (b : Bool) (xs : List ProcessForm) → slice_get xs (cond b 0 1) ≡ None
@@ -499,8 +518,8 @@ no_register x b =
 
 -- ---- the signals read for each signal
 
-pub rows_are : (design : FlatDesign) (graph turned : Graph) → size graph ≡ length design.signals
-    → size turned ≡ size graph → IsTurned graph turned
+pub rows_are : (design : FlatDesign) (graph : BitGraph) (turned : Graph)
+    → size graph ≡ length design.signals → graphs.size turned ≡ size graph → IsTurned graph turned
     → ((a b : ℕ) → b < length design.signals → has_edge graph a b ≡ is_read_for design b a)
     → rows_of turned ≡ map (reads_for design) (signal_numbers design)
 rows_are design graph turned same same_turned is edges =
@@ -513,7 +532,7 @@ rows_are design graph turned same same_turned is edges =
 
 -- the edges of the processes and of the registers
 pub edge_is : (design : FlatDesign) → driver_faults design ≡ []
-    → (settled earlier readers graph : Graph) (registers : List Bool) (n : ℕ)
+    → (settled earlier readers graph : BitGraph) (registers : List Bool) (n : ℕ)
     → n ≡ length design.signals
     → IsTable n registers (is_register design)
     → ((a b : ℕ) →

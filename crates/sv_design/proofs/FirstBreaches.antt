@@ -2,7 +2,7 @@
 use Rattle.std.proofs.Common.{◌≡◌, ◌⊎◌, inl, inr, ⊎_elim, ℕ, ◌<◌, Bool, ◌==◌, ◌&&◌, not, nat_lt}
 use Rattle.std.proofs.Common.{ltb-true, List, [], ◌∷◌, ◌++◌, length, map, refl, sym, ap, ap₂, subst}
 use Rattle.std.proofs.Common.{arith, Some, None, Option}
-use Rattle.std.specs.Prelude.{IsTrue, IsFalse, IfSome, Contains, filter, flat_map, option_map, ◌||◌}
+use Rattle.std.specs.Prelude.{IsTrue, IsFalse, IfSome, Contains, filter, flat_map, option_map}
 use Rattle.std.specs.Prelude.{unwrap_or}
 use Rattle.std.specs.List.{list_all, filter_map, cons_option}
 use Rattle.std.proofs.lemmas.Bool.{eqb-true}
@@ -23,7 +23,7 @@ use Rattle.sv_flat.specs.Drivers.{clock_faults, extra_driver, driver_fault, driv
 use Rattle.sv_flat.specs.Drivers.{is_undriven, undriven}
 use Rattle.sv_flat.specs.Loops.{reads_along, all_differ, IsLoop}
 use Rattle.sv_flat.specs.Processes.{is_block, declared_at, signal_numbers, signals_that}
-use Rattle.sv_flat.specs.Readings.{readings, no_bits, is_followed}
+use Rattle.sv_flat.specs.Readings.{readings, no_bits}
 use Rattle.sv_flat.specs.Reads.{is_combinational}
 use Rattle.sv_flat.specs.Soundness.{piece_fits, well_formed, kind_sound, statement_sound}
 use Rattle.sv_flat.specs.Soundness.{sound}
@@ -227,7 +227,7 @@ module _ (design : FlatDesign) (is_sound : IsTrue (sound design)) where
       (ltb-true r.name.signal (length design.signals)
       (assigned_is_signal design.signals p.body (body_is_sound p process) r.name.signal
       (first_of (assigns p.body r.name.signal)
-      (is_unassigned design.signals r || is_followed design.signals r) wrong)))
+      (is_unassigned design.signals r) wrong)))
       read.2
 
   loop_is : (b : Breach) → IsLoop design b → IsOf design 607 b

@@ -2,11 +2,12 @@
 use Rattle.std.proofs.Common.{◌≡◌, ⊎_elim, ℕ, zero, suc, ◌-◌, ◌<◌, Bool, true, false}
 use Rattle.std.proofs.Common.{cond, not, ◌&&◌, ◌||◌, Option, Some, None, Vec, Global, ◌==◌, List}
 use Rattle.std.proofs.Common.{[], ◌∷◌, ◌++◌, length, map, get_or, set, refl, sym, ap, subst, ◌∙◌}
-use Rattle.std.proofs.Common.{arith, get_or-set_same, get_or-set_other}
+use Rattle.std.proofs.Common.{arith, get_or-set_same, get_or-set_other, nat_lt, ltb-true, ltb-false}
+use Rattle.std.proofs.Common.{lt-ltb}
 use Rattle.std.specs.Prelude.{IsTrue, IsFalse, Contains, slice_get, option_map, filter}
 use Rattle.std.specs.List.{AllByRecursion, list_any, range_with_len}
 use Rattle.std.proofs.lemmas.Bool.{false≢true, eqb-true, eq-eqb, or_left}
-use Rattle.std.proofs.lemmas.List.{length_push}
+use Rattle.std.proofs.lemmas.List.{length_push, get_or_past}
 use Rattle.std.proofs.lemmas.List.{append-nil, map-set, get_or-map, length-map}
 use Rattle.sv_flat.proofs.LeastSets.{either_way, holds-from_Contains, Contains-from_holds}
 use Rattle.sv_flat.proofs.LeastSets.{in_those, those_below, those_pass}
@@ -17,7 +18,8 @@ use Rattle.sv_flat.specs.Sets.{holds}
 use Rattle.sv_flat.specs.declared.signals.SigId.{SigId}
 use Rattle.sv_design.specs.Numbers.{numbers}
 use Rattle.sv_design.specs.declared.graphs.Graph.{Graph}
-use Rattle.sv_design.specs.Graphs.{row, size, has_edge, AddsEdge, AddsOnce, GainsEdges, IsWhole}
+use Rattle.sv_design.specs.Graphs.{row, rows_of, size, has_edge, AddsEdge, AddsOnce, GainsEdges}
+use Rattle.sv_design.specs.Graphs.{IsWhole}
 use Rattle.sv_design.specs.Graphs.{IsTurned, ends_in, is_last}
 use Rattle.sv_design.proofs.MarkFacts.{any_append, or_no, or_yes, or_three}
 use Rattle.sv_design.proofs.BitFacts.{same_answer}
@@ -55,23 +57,24 @@ module _ {X : Type 0} (f : X → List ℕ) where
 -- ---- edges
 
 -- those so far, and those that are left
-abbrev pub EdgesSoFar : (old now : Graph) → (all left : ℕ → ℕ → Bool) → Type 0
-EdgesSoFar old now all left =
-    (a b : ℕ) → (has_edge now a b || left a b) ≡ (has_edge old a b || all a b)
+abbrev pub EdgesSoFar : (old now all left : ℕ → ℕ → Bool) → Type 0
+EdgesSoFar old now all left = (a b : ℕ) → (now a b || left a b) ≡ (old a b || all a b)
 
-pub edges_more : (old now next : Graph) (all left this rest : ℕ → ℕ → Bool)
+pub edges_more : (old now next all left this rest : ℕ → ℕ → Bool)
     → ((a b : ℕ) → left a b ≡ (this a b || rest a b))
-    → GainsEdges now next this → EdgesSoFar old now all left → EdgesSoFar old next all rest
+    → ((a b : ℕ) → next a b ≡ (now a b || this a b)) → EdgesSoFar old now all left
+    → EdgesSoFar old next all rest
 edges_more old now next all left this rest splits gains so_far a b =
     ap (λ t. t || rest a b) (gains a b)
-    ∙ or_three (has_edge now a b) (this a b) (rest a b)
-    ∙ ap (λ t. has_edge now a b || t) (sym (splits a b))
+    ∙ or_three (now a b) (this a b) (rest a b)
+    ∙ ap (λ t. now a b || t) (sym (splits a b))
     ∙ so_far a b
 
-pub edges_end : (old now : Graph) (all left : ℕ → ℕ → Bool) → ((a b : ℕ) → left a b ≡ false) →
-    EdgesSoFar old now all left → GainsEdges old now all
+pub edges_end : (old now all left : ℕ → ℕ → Bool) → ((a b : ℕ) → left a b ≡ false)
+    → EdgesSoFar old now all left → (a b : ℕ)
+    → now a b ≡ (old a b || all a b)
 edges_end old now all left none so_far a b =
-    sym (or_no (has_edge now a b) (left a b) (none a b)) ∙ so_far a b
+    sym (or_no (now a b) (left a b) (none a b)) ∙ so_far a b
 
 pub no_edges : (graph : Graph) → ((a : ℕ) → row graph a ≡ []) → (a b : ℕ) →
     has_edge graph a b ≡ false
@@ -79,25 +82,6 @@ no_edges graph none a b = ap (λ r. holds r b) (none a)
 
 pub empty_is_whole : (graph : Graph) → ((a : ℕ) → row graph a ≡ []) → IsWhole graph
 empty_is_whole graph none a b h = absurd (false≢true (sym (no_edges graph none a b) ∙ h))
-
--- ---- rows without edges
-
-abbrev pub some_edge : Vec SigId Global → Bool
-some_edge v = not (length v.items == 0)
-
-none_there : (xs : List SigId) → IsFalse (not (length xs == 0)) → numbers xs ≡ []
-none_there [] h = refl
-none_there (x ∷ xs) h =
-    let is : suc (length xs) ≡ 0 = eqb-true (length (x ∷ xs)) 0
-    (negated_false (length (x ∷ xs) == 0) h) in absurd (omega arith)
-
-pub no_row_has : (rows : List (Vec SigId Global)) → IsFalse (list_any some_edge rows) → (a b : ℕ) →
-    IsFalse (holds (get_or (map (λ (v : Vec SigId Global). numbers v.items) rows) a []) b)
-no_row_has [] h a b = refl
-no_row_has (v ∷ rows) h zero b =
-    ap (λ r. holds r b) (none_there v.items (or_none_left (some_edge v) (list_any some_edge rows) h))
-no_row_has (v ∷ rows) h (suc a) b =
-    no_row_has rows (or_none_right (some_edge v) (list_any some_edge rows) h) a b
 
 -- ---- edges once
 
@@ -167,24 +151,32 @@ module _ (old now next : Graph) (done : List ℕ) (from to : ℕ) where
 
 -- ---- edges turned round
 
-pub turned_below : (graph turned : Graph) (n : ℕ)
-    → ((b : ℕ) → row turned b ≡ filter (λ a. has_edge graph a b) (range_with_len 0 n))
-    → (a b : ℕ) → IsTrue (has_edge turned a b) → b < n
-turned_below graph turned n is a b h =
-    those_below n (λ z. has_edge graph z a) b
-    (Contains-from_holds (filter (λ z. has_edge graph z a) (range_with_len 0 n)) b
-    (ap (λ r. holds r b) (sym (is a)) ∙ h))
+module _ (edges : ℕ → ℕ → Bool) (turned : Graph) (n : ℕ)
+    (is : (b : ℕ) → row turned b ≡ filter (λ a. edges a b) (range_with_len 0 n)) where
+  pub turned_below : (a b : ℕ) → IsTrue (has_edge turned a b) → b < n
+  turned_below a b h =
+      those_below n (λ z. edges z a) b
+      (Contains-from_holds (filter (λ z. edges z a) (range_with_len 0 n)) b
+      (ap (λ r. holds r b) (sym (is a)) ∙ h))
 
-pub turned_has : (graph turned : Graph) → IsTurned graph turned → (a b : ℕ) → a < size graph →
-    has_edge turned b a ≡ has_edge graph a b
-turned_has graph turned is a b below = same_answer (has_edge turned b a) (has_edge graph a b)
-    (λ h. those_pass (size graph) (λ z.
-    has_edge graph z b) a
-    (Contains-from_holds (filter (λ z. has_edge graph z b) (range_with_len 0 (size graph))) a
-    (ap (λ r. holds r a) (sym (is b)) ∙ h)))
-    (λ h. ap (λ r. holds r a) (is b)
-    ∙ holds-from_Contains (filter (λ z. has_edge graph z b) (range_with_len 0 (size graph))) a
-    (in_those (size graph) (λ z. has_edge graph z b) a below h))
+  pub turned_has : (a b : ℕ) → a < n → has_edge turned b a ≡ edges a b
+  turned_has a b below = same_answer (has_edge turned b a) (edges a b)
+      (λ h. those_pass n (λ z. edges z b) a
+      (Contains-from_holds (filter (λ z. edges z b) (range_with_len 0 n)) a
+      (ap (λ r. holds r a) (sym (is b)) ∙ h)))
+      (λ h. ap (λ r. holds r a) (is b)
+      ∙ holds-from_Contains (filter (λ z. edges z b) (range_with_len 0 n)) a
+      (in_those n (λ z. edges z b) a below h))
+
+  -- all edges, where they lead from these signals
+  pub turned_edge : ((a b : ℕ) → IsTrue (edges a b) → a < n) → (a b : ℕ) →
+      has_edge turned b a ≡ edges a b
+  turned_edge inside a b = same_answer (has_edge turned b a) (edges a b)
+      (λ h. sym (turned_has a b (turned_below b a h)) ∙ h)
+      (λ h. turned_has a b (inside a b h) ∙ h)
+
+  pub turned_whole : size turned ≡ n → IsWhole turned
+  turned_whole same b a h = subst (λ m. a < m) (sym same) (turned_below b a h)
 
 -- ---- an edge once
 

@@ -23,6 +23,9 @@ pub mod TableFacts
 pub mod ReadFacts
 pub mod FeedFacts
 pub mod FollowFacts
+pub mod Ways
+pub mod BitRows
+pub mod FollowTables
 pub mod UseFacts
 pub mod Differing
 pub mod ReadOrders

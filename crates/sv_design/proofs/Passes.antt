@@ -5,26 +5,24 @@ use Rattle.std.proofs.Common.{◌∙◌, append_assoc, Bor}
 use Rattle.std.specs.Prelude.{IsTrue}
 use Rattle.std.specs.List.{list_any}
 use Rattle.std.proofs.lemmas.List.{append-nil}
-use Rattle.sv_flat.specs.Assigned.{assigns, can_assign, always_assigns, has_bit}
+use Rattle.sv_flat.specs.Assigned.{can_assign, always_assigns, has_bit}
 use Rattle.sv_flat.specs.Breaches.{Breach}
 use Rattle.sv_flat.specs.Design.{SignalForm, FlatStatement, nothing, after}
-use Rattle.sv_flat.specs.Readings.{BitSet, either, Reading, readings}
+use Rattle.sv_flat.specs.Readings.{BitSet, either, readings}
 use Rattle.sv_flat.specs.Soundness.{statement_sound}
 use Rattle.sv_flat.specs.Views.{flat_statement, flat_statements, chain_of}
 use Rattle.sv_flat.specs.declared.statements.FStmt.{FStmt}
 use Rattle.sv_flat.specs.declared.statements.Piece.{Piece}
 use Rattle.sv_design.specs.declared.bits.Bits.{Bits}
-use Rattle.sv_design.specs.declared.blocks.Asked.{Asked}
-use Rattle.sv_design.specs.declared.blocks.Asked.TheVariants.{Unassigned, Followed}
 use Rattle.sv_design.specs.declared.found.Found.{Found}
 use Rattle.sv_design.specs.declared.scopes.Scope.{Scope, Inside}
-use Rattle.sv_design.specs.BitSets.{in_bits, mask_in, has_some, piece_forms}
+use Rattle.sv_design.specs.BitSets.{in_bits, mask_in, piece_forms}
 use Rattle.sv_design.specs.First.{FindsFirst, first_found}
-use Rattle.sv_design.specs.Phases.{wrong_reads, SameBits, is_early, FindsReads}
+use Rattle.sv_design.specs.Phases.{wrong_reads, SameBits, HasTargets, AddsAssigned, FindsReads}
 use Rattle.sv_design.specs.Scopes.{in_scope}
 use Rattle.sv_design.proofs.EntryFacts.{nothing_in}
 use Rattle.sv_design.proofs.Firsts.{finds_both}
-use Rattle.sv_design.proofs.PhaseFacts.{wrong_reads-append, both_reads}
+use Rattle.sv_design.proofs.PhaseFacts.{wrong_reads-append}
 use Rattle.sv_design.proofs.PieceFacts.{in_scope-inside}
 use Rattle.sv_design.proofs.Sound.{next_statement, sound_first, sound_rest}
 
@@ -77,6 +75,10 @@ or_three : (a b c : Bool) → ((a || b) || c) ≡ (a || (b || c))
 or_three true b c = refl
 or_three false b c = refl
 
+or_nothing : (a : Bool) → (a || false) ≡ a
+or_nothing true = refl
+or_nothing false = refl
+
 -- the bits of a block inside of others
 pub bits_inside : (here : Bor Bits) (around : Bor Scope) (first second : BitSet)
     → SameBits (in_bits here.now) first → SameBits second (in_scope around.now)
@@ -85,56 +87,57 @@ bits_inside here around first second same_first same_second s b =
     ap₂ ◌||◌ (sym (same_first s b)) (same_second s b)
     ∙ sym (ap (λ (z : BitSet). z s b) (in_scope-inside here around))
 
--- ---- parts of statements
+-- ---- what statements can assign
 
-module _ (signals : List SignalForm) where
-  -- the reads of what has its own bits around it too
-  pub reads_inside : (h : Bor Bits) (r : Bor Scope) (around whole : BitSet) (reads : BitSet → BitSet
-      → List Reading) (found : Option Found)
-      → SameBits (in_bits h.now) whole → SameBits (in_scope r.now) around
-      → FindsReads signals Followed (in_scope (Inside h r)) reads found
-      → FindsReads signals Followed around (λ a f. reads a (either whole f)) found
-  reads_inside h r around whole reads found same_bits same_scope finds body a f asks bits =
-      finds body a (either whole f) asks (bits_inside h r whole f same_bits (λ s b.
-      bits s b ∙ sym (same_scope s b)))
+-- their bits so far, and what is left of the whole
+abbrev pub AssignedSoFar : (first now : Bits) → (whole rest : FlatStatement) → Type 0
+AssignedSoFar first now whole rest =
+    (s b : ℕ) → (in_bits now s b || can_assign rest s b) ≡
+    (in_bits first s b || can_assign whole s b)
 
-  module _ (asked : Asked) (around : BitSet) (first second third : BitSet → BitSet →
-      List Reading) (x y z m n : Option Found) where
-    pub three_reads : FindsReads signals asked around first x
-        → FindsReads signals asked around second y → FindsReads signals asked around third z
-        → m ≡ first_found x y → n ≡ first_found m z
-        → FindsReads signals asked around (λ a f. (first a f ++ second a f) ++ third a f) n
-    three_reads in_first in_second in_third inner outer body a f asks bits =
-        let e = is_early asked in
-        let xs = wrong_reads e signals body (first a f) in
-        let ys = wrong_reads e signals body (second a f) in
-        let zs = wrong_reads e signals body (third a f) in
-        let front = subst (FindsFirst 606 (xs ++ ys)) (sym inner)
-        (finds_both xs ys 606 x y (in_first body a f asks bits)
-        (in_second body a f asks bits)) in
-        subst (FindsFirst 606 (wrong_reads e signals body ((first a f ++ second a f) ++ third a f)))
-        (sym outer)
-        (subst (λ ws. FindsFirst 606 ws (first_found m z))
-        (sym (wrong_reads-append e signals body (first a f ++ second a f) (third a f)
-        ∙ ap (λ ws. ws ++ zs) (wrong_reads-append e signals body (first a f) (second a f))))
-        (finds_both (xs ++ ys) zs 606 m z front (in_third body a f asks bits)))
+pub assigned_more : (first now next : Bits) (whole rest one other : FlatStatement)
+    → ((s b : ℕ) → can_assign rest s b ≡ (can_assign one s b || can_assign other s b))
+    → AddsAssigned now next one → AssignedSoFar first now whole rest
+    → AssignedSoFar first next whole other
+assigned_more first now next whole rest one other parts adds so_far s b =
+    ap (λ t. t || can_assign other s b) (adds s b)
+    ∙ or_three (in_bits now s b) (can_assign one s b) (can_assign other s b)
+    ∙ ap (λ t. in_bits now s b || t) (sym (parts s b))
+    ∙ so_far s b
 
--- ---- forward
+pub assigned_rest : (first now next : Bits) (whole rest : FlatStatement)
+    → AddsAssigned now next rest → AssignedSoFar first now whole rest
+    → AddsAssigned first next whole
+assigned_rest first now next whole rest adds so_far s b = adds s b ∙ so_far s b
+
+pub assigned_end : (first now : Bits) (whole rest : FlatStatement) → rest ≡ nothing
+    → AssignedSoFar first now whole rest → AddsAssigned first now whole
+assigned_end first now whole rest none so_far s b =
+    sym (or_nothing (in_bits now s b))
+    ∙ ap (λ z. in_bits now s b || can_assign z s b) (sym none) ∙ so_far s b
+
+-- the bits of a statement alone
+pub only_assigned : (none bits : Bits) (body : FlatStatement) → ((s : ℕ) → mask_in none s ≡ 0)
+    → AddsAssigned none bits body → SameBits (in_bits bits) (can_assign body)
+only_assigned none bits body empty adds s b =
+    adds s b ∙ ap (λ t. t || can_assign body s b) (nothing_in (mask_in none s) b (empty s))
+
+-- ---- reads, forward
 
 -- the statements so far, with the bits that they always assign, and those that are left
 pub record ForwardSoFar (signals : List SignalForm) (assigned : Bits) (around : BitSet)
     (all left : FlatStatement) (here : Bits) (found : Option Found) : Type 0 where
   pub reads_are : (body : FlatStatement) (a f : BitSet)
-      → ((s : ℕ) → has_some assigned s ≡ assigns body s) → SameBits a around
+      → HasTargets body assigned → SameBits a around
       → (done : List Breach) × (before : BitSet) × FindsFirst 606 done found
-      × (wrong_reads true signals body (readings signals all a f) ≡
-      done ++ wrong_reads true signals body (readings signals left before f))
+      × (wrong_reads signals body (readings signals all a f) ≡
+      done ++ wrong_reads signals body (readings signals left before f))
       × SameBits before (either (in_bits here) around)
   pub bits_are : SameBits (either (in_bits here) (always_assigns left)) (always_assigns all)
 
-module _ (signals : List SignalForm) (assigned : Bor Bits) (around : BitSet) where
+module _ (signals : List SignalForm) (assigned : Bits) (around : BitSet) where
   pub forward_begin : (all : FlatStatement) (none : Bits) → ((s : ℕ) → mask_in none s ≡ 0) →
-      ForwardSoFar signals assigned.now around all all none None
+      ForwardSoFar signals assigned around all all none None
   forward_begin all none empty = record {
     reads_are = λ body a f asks same. (
       [],
@@ -150,20 +153,20 @@ module _ (signals : List SignalForm) (assigned : Bor Bits) (around : BitSet) whe
   pub forward_more : (h : Bor Bits) (r : Bor Scope) (all left first rest : FlatStatement)
       (bits more : Bits) (found other next : Option Found) → left ≡ after first rest
       → SameBits (in_scope r.now) around
-      → FindsReads signals (Unassigned assigned) (in_scope (Inside h r)) (readings signals first)
+      → FindsReads signals assigned (in_scope (Inside h r)) (readings signals first)
       other → SameBits (in_bits bits) (always_assigns first)
       → ((s b : ℕ) → in_bits more s b ≡ (in_bits h.now s b || in_bits bits s b))
       → next ≡ first_found found other
-      → ForwardSoFar signals assigned.now around all left h.now found
-      → ForwardSoFar signals assigned.now around all rest more next
+      → ForwardSoFar signals assigned around all left h.now found
+      → ForwardSoFar signals assigned around all rest more next
   forward_more h r all left first rest bits more found other next splits scope finds always gains is
       so_far = record {
         reads_are = λ body a f asks same.
             let done = so_far.reads_are body a f asks same in
             let before = done.1 in
-            let this = wrong_reads true signals body
+            let this = wrong_reads signals body
             (readings signals first before (either (can_assign rest) f)) in
-            let later = wrong_reads true signals body
+            let later = wrong_reads signals body
             (readings signals rest (either (always_assigns first) before) f) in (
               done.0 ++ this,
               either (always_assigns first) before,
@@ -173,10 +176,10 @@ module _ (signals : List SignalForm) (assigned : Bor Bits) (around : BitSet) whe
                   (λ s b. done.4 s b ∙ bits_inside h r (in_bits h.now) around (λ s b. refl) (λ s b.
                   sym (scope s b)) s b))),
               done.3
-                  ∙ ap (λ z. done.0 ++ wrong_reads true signals body (readings signals z before f))
+                  ∙ ap (λ z. done.0 ++ wrong_reads signals body (readings signals z before f))
                   splits
                   ∙ ap (λ z. done.0 ++ z)
-                  (wrong_reads-append true signals body
+                  (wrong_reads-append signals body
                   (readings signals first before (either (can_assign rest) f))
                   (readings signals rest (either (always_assigns first) before) f))
                   ∙ sym (append_assoc done.0 this later),
@@ -194,55 +197,17 @@ module _ (signals : List SignalForm) (assigned : Bor Bits) (around : BitSet) whe
             ∙ so_far.bits_are s b;
       }
 
-  or_nothing : (a : Bool) → (a || false) ≡ a
-  or_nothing true = refl
-  or_nothing false = refl
-
   pub forward_end : (all left : FlatStatement) (here : Bits) (found : Option Found) → left ≡ nothing
-      → ForwardSoFar signals assigned.now around all left here found
-      → FindsReads signals (Unassigned assigned) around (readings signals all) found
+      → ForwardSoFar signals assigned around all left here found
+      → FindsReads signals assigned around (readings signals all) found
       × SameBits (in_bits here) (always_assigns all)
   forward_end all left here found none so_far = (
     λ body a f asks same.
         let done = so_far.reads_are body a f asks same in
         subst (λ ws. FindsFirst 606 ws found)
         (sym (done.3 ∙ ap (λ z.
-        done.0 ++ wrong_reads true signals body (readings signals z done.1 f)) none
+        done.0 ++ wrong_reads signals body (readings signals z done.1 f)) none
         ∙ append-nil done.0)) done.2,
     λ s b. sym (or_nothing (in_bits here s b))
         ∙ ap (λ z. in_bits here s b || always_assigns z s b) (sym none) ∙ so_far.bits_are s b,
   )
-
--- ---- backward
-
-module _ (signals : List SignalForm) (around : BitSet) where
-  pub backward_more : (h : Bor Bits) (r : Bor Scope) (left first rest : FlatStatement)
-      (bits more : Bits) (found other next : Option Found) → left ≡ after first rest
-      → SameBits (in_scope r.now) around
-      → FindsReads signals Followed (in_scope (Inside h r)) (readings signals first) other
-      → SameBits (in_bits bits) (can_assign first)
-      → ((s b : ℕ) → in_bits more s b ≡ (in_bits h.now s b || in_bits bits s b))
-      → next ≡ first_found other found
-      → FindsReads signals Followed around (readings signals rest) found
-      × SameBits (in_bits h.now) (can_assign rest)
-      → FindsReads signals Followed around (readings signals left) next
-      × SameBits (in_bits more) (can_assign left)
-  backward_more h r left first rest bits more found other next splits scope finds can gains is
-      so_far = (
-        subst (λ z. FindsReads signals Followed around (readings signals z) next) (sym splits)
-            (subst (FindsReads signals Followed around (readings signals (after first rest)))
-            (sym is)
-            (both_reads signals Followed around (in_scope (Inside h r)) around
-            (readings signals first)
-            (readings signals rest) other found
-            (λ a f. a) (λ a f. either (can_assign rest) f) (λ a f.
-            either (always_assigns first) a) (λ a f. f)
-            (λ a f same. bits_inside h r (can_assign rest) f so_far.1 (λ s b.
-            same s b ∙ sym (scope s b)))
-            (λ a f same. same)
-            finds so_far.0)),
-        λ s b.
-            gains s b ∙ ap₂ ◌||◌ (so_far.1 s b) (can s b)
-            ∙ or_turned (can_assign rest s b) (can_assign first s b)
-            ∙ ap (λ z. can_assign z s b) (sym splits),
-      )

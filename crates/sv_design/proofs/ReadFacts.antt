@@ -14,10 +14,10 @@ use Rattle.sv_flat.specs.Soundness.{sound, kind_sound, statement_sound}
 use Rattle.sv_flat.specs.Clocks.{is_clock_link, processes_of}
 use Rattle.sv_flat.proofs.Depths.{second_of}
 use Rattle.sv_flat.proofs.AdmittedFacts.{assigned_is_signal}
-use Rattle.sv_design.specs.declared.graphs.Graph.{Graph}
+use Rattle.sv_design.specs.declared.bit_graphs.BitGraph.{BitGraph}
 use Rattle.sv_design.specs.BitSets.{mask_in, has_some, in_bits, HasTargetsBelow}
 use Rattle.sv_design.specs.Feeds.{names_sought, feeds}
-use Rattle.sv_design.specs.Graphs.{has_edge, GainsEdges}
+use Rattle.sv_design.specs.BitGraphs.{has_edge, GainsEdges}
 use Rattle.sv_design.specs.Phases.{SameBits}
 use Rattle.sv_design.proofs.BlockPasses.{targets_are}
 use Rattle.sv_design.specs.Scopes.{in_scope}
@@ -31,42 +31,36 @@ use Rattle.sv_design.proofs.Sound.{process_is_sound}
 
 -- ---- the signals of a set
 
-all_and : (h k : Bool) → (IsTrue h → IsTrue k) → (h && k) ≡ h
-all_and true k f = f refl
-all_and false k f = refl
+pub keys_begin : (h k : Bool) → (IsTrue h → IsTrue k) → (h && k) ≡ h
+keys_begin true k f = f refl
+keys_begin false k f = refl
 
-pub keys_begin : (x h k : Bool) → (IsTrue h → IsTrue k) → (x && (h && k)) ≡ (x && h)
-keys_begin x h k f = ap (λ t. x && t) (all_and h k f)
+split_same : (h r : Bool) → (h && true) ≡ ((h && true) || (h && r))
+split_same true r = refl
+split_same false r = refl
 
-split_same : (x h r : Bool) → (x && (h && true)) ≡ ((x && (h && true)) || (x && (h && r)))
-split_same true true r = refl
-split_same true false r = refl
-split_same false h r = refl
+split_other : (h g r : Bool) → (h && r) ≡ ((g && false) || (h && r))
+split_other h true r = refl
+split_other h false r = refl
 
-split_other : (x h g r : Bool) → (x && (h && r)) ≡ ((x && (g && false)) || (x && (h && r)))
-split_other true h true r = refl
-split_other true h false r = refl
-split_other false h g r = refl
-
-pub keys_more : (set : Bits) (x : Bool) (k b : ℕ) (rest : Bool)
-    → (x && (has_some set b && ((k == b) || rest))) ≡
-    ((x && (has_some set k && (k == b))) || (x && (has_some set b && rest)))
-keys_more set x k b rest = ⊎_elim
+pub keys_more : (set : Bits) (k b : ℕ) (rest : Bool)
+    → (has_some set b && ((k == b) || rest)) ≡
+    ((has_some set k && (k == b)) || (has_some set b && rest))
+keys_more set k b rest = ⊎_elim
     (λ same.
-    ap (λ t. x && (has_some set b && (t || rest))) same
-    ∙ split_same x (has_some set b) rest
-    ∙ ap₂ (λ h t. (x && (h && t)) || (x && (has_some set b && rest)))
+    ap (λ t. has_some set b && (t || rest)) same
+    ∙ split_same (has_some set b) rest
+    ∙ ap₂ (λ h t. (h && t) || (has_some set b && rest))
     (sym (ap (has_some set) (eqb-true k b same))) (sym same))
     (λ other.
-    ap (λ t. x && (has_some set b && (t || rest))) other
-    ∙ split_other x (has_some set b) (has_some set k) rest
-    ∙ ap (λ t. (x && (has_some set k && t)) || (x && (has_some set b && rest))) (sym other))
+    ap (λ t. has_some set b && (t || rest)) other
+    ∙ split_other (has_some set b) (has_some set k) rest
+    ∙ ap (λ t. (has_some set k && t) || (has_some set b && rest)) (sym other))
     (either_way (k == b))
 
-pub keys_end : (x h : Bool) → (x && (h && false)) ≡ false
-keys_end true true = refl
-keys_end true false = refl
-keys_end false h = refl
+pub keys_end : (h : Bool) → (h && false) ≡ false
+keys_end true = refl
+keys_end false = refl
 
 -- ---- names
 
@@ -79,12 +73,12 @@ names_more false m h = refl
 
 -- ---- statements
 
-pub same_edges : (old new : Graph) (edges others : ℕ → ℕ → Bool) →
+pub same_edges : (old new : BitGraph) (edges others : ℕ → ℕ → Bool) →
     ((a b : ℕ) → edges a b ≡ others a b) → GainsEdges old new edges → GainsEdges old new others
 same_edges old new edges others same gains a b =
     gains a b ∙ ap (λ t. has_edge old a b || t) (same a b)
 
-pub both_edges : (old mid new : Graph) (first second : ℕ → ℕ → Bool) → GainsEdges old mid first
+pub both_edges : (old mid new : BitGraph) (first second : ℕ → ℕ → Bool) → GainsEdges old mid first
     → GainsEdges mid new second
     → GainsEdges old new (λ a b. first a b || second a b)
 both_edges old mid new first second one two a b =
@@ -114,7 +108,7 @@ body_of_process design is_sound p at =
 
 -- the names that are sought in what has its own bits around it
 pub gains_inside : (signals : List SignalForm) (sought : Sought) (e : TypedTree)
-    (whole : FlatStatement) (set : Bits) (old new : Graph) (h : Bor Bits) (r : Bor Scope)
+    (whole : FlatStatement) (set : Bits) (old new : BitGraph) (h : Bor Bits) (r : Bor Scope)
     → SameBits (in_bits h.now) (can_assign whole)
     → ((b : ℕ) → has_some set b ≡ assigns whole b)
     → GainsEdges old new (λ a b.
@@ -139,7 +133,7 @@ pub bits_begin : (none : Bits) (last : FlatStatement) → last ≡ nothing
 bits_begin none last is empty s b =
     nothing_in (mask_in none s) b (empty s) ∙ ap (λ z. can_assign z s b) (sym is)
 
-pub feeds_begin : (signals : List SignalForm) (sought : Sought) (graph : Graph)
+pub feeds_begin : (signals : List SignalForm) (sought : Sought) (graph : BitGraph)
     (last : FlatStatement) (later : BitSet) → last ≡ nothing
     → GainsEdges graph graph (feeds signals sought last later)
 feeds_begin signals sought graph last later is a b =
@@ -158,7 +152,7 @@ bits_before left first rest splits here bits more same can gains s b =
     ∙ ap (λ z. can_assign z s b) (sym splits)
 
 pub feeds_before : (signals : List SignalForm) (sought : Sought) (left first rest : FlatStatement)
-    → left ≡ after first rest → (h : Bor Bits) (r : Bor Scope) (old now next : Graph)
+    → left ≡ after first rest → (h : Bor Bits) (r : Bor Scope) (old now next : BitGraph)
     → SameBits (in_bits h.now) (can_assign rest)
     → GainsEdges old now (feeds signals sought rest (in_scope r.now))
     → GainsEdges now next (feeds signals sought first (in_scope (Inside h r)))

@@ -66,13 +66,15 @@ module _ (design : FlatDesign) (origins sinks : Graph) (are : AreOrigins design 
   sinks_are = record {
     over = same ∙ are.over;
     edges = λ a b below.
-        turned_has origins sinks turned b a (subst (λ n. b < n) (sym are.over) below)
+        turned_has (has_edge origins) sinks (size origins) turned b a
+        (subst (λ n. b < n) (sym are.over) below)
         ∙ are.edges b a;
   }
 
   pub sinks_whole : IsWhole sinks
   sinks_whole a b h =
-      subst (λ n. b < n) (sym same) (turned_below origins sinks (size origins) turned a b h)
+      subst (λ n. b < n) (sym same) (turned_below (has_edge origins) sinks (size origins)
+      turned a b h)
 
 -- the signals that lead up to some, as a table
 pub led_are : (design : FlatDesign) (test : ℕ → Bool) (sinks : Graph) (tops led : List Bool)

@@ -8,6 +8,7 @@ pub mod Tables
 pub mod Faults
 pub mod First
 pub mod BitSets
+pub mod BitGraphs
 pub mod WrongAssigns
 pub mod DriverTables
 pub mod Graphs

@@ -3,10 +3,15 @@ use Rattle.std.specs.Prelude.{◌≡◌, ◌<◌, ℕ, Bool, false, ◌||◌, Li
 use Rattle.sv_flat.specs.Design.{SignalForm, FlatStatement, nothing, after, assign, branch}
 use Rattle.sv_flat.specs.Design.{ProcessKind, clocked}
 use Rattle.sv_flat.specs.Readings.{names_signal}
+use Rattle.sv_flat.specs.Sets.{those}
 
 -- the table has the signal
 abbrev pub is_marked : List Bool → ℕ → Bool
 is_marked table s = slice_index_or table s false
+
+-- the signals that the table has, in order
+abbrev pub followed_in : List Bool → List ℕ
+followed_in table = those (length table) (is_marked table)
 
 -- the second table has the signals of the first, and those that pass a test
 abbrev pub Marks : (old new : List Bool) → (more : ℕ → Bool) → Type 0

@@ -9,6 +9,7 @@ use Rattle.sv_flat.specs.SignalLists.{system_signals, inputs as inputs_of}
 use Rattle.sv_flat.specs.SignalLists.{registers as registers_of, top_clock, driver_of}
 use Rattle.sv_flat.specs.Reads.{reads_for, order as order_of}
 use Rattle.sv_design.specs.declared.tables.Tables.{Tables}
+use Rattle.sv_design.specs.Feeds.{AreWants}
 use Rattle.sv_design.specs.Numbers.{numbers, number_if_any}
 
 -- the tables are those of the design
@@ -25,3 +26,4 @@ pub record AreTables (design : FlatDesign) (tables : Tables) : Type 0 where
   pub drivers_are : tables.drivers.items ≡ map (driver_of design) (signal_numbers design)
   pub reads_are : map (λ reads. numbers reads.items) tables.reads.items ≡
       map (reads_for design) (signal_numbers design)
+  pub wants_are : AreWants design tables.wants

@@ -10,6 +10,7 @@ ghost use Rattle.sv_flat.specs.Soundness.{sound};
 ghost use Rattle.sv_flat.specs.Views.{design_of, process_form};
 ghost use Rattle.sv_design.specs.DriverTables.{AreClocks, AreDriversOf};
 ghost use Rattle.sv_design.specs.Faults.{IsFaultOf};
+ghost use Rattle.sv_design.specs.Feeds.{AreWants};
 ghost use Rattle.sv_design.specs.Marks.{IsTable};
 ghost use Rattle.sv_design.specs.Numbers.{numbers};
 ghost use Rattle.sv_design.specs.Orders.{AreReads, IsLongestOrder, IsWholeOrder};
@@ -24,11 +25,12 @@ use crate::clocks::clock_table;
 use crate::depths::by_depth;
 use crate::design::Design;
 use crate::drivers::{Drivers, driver_numbers, drivers_of, first_extra_driver, first_undriven};
+use crate::graphs::Graph;
 use crate::loops::first_circle;
 use crate::names::zeros_of;
 use crate::orders::{Reads, read_order, reads_table};
 use crate::processes::kept_processes;
-use crate::reads::reads_of;
+use crate::reads::{ReadGraphs, reads_of};
 use crate::refusals::{refusal, refuse};
 use crate::registers::{clocked_count, comb_table, register_table};
 use crate::signal_lists::{inputs_of, registers_of, seen_of, top_clock};
@@ -79,7 +81,8 @@ fn check_blocks(alloc: Global, flat: &Flat) -> Result<(), Fault>
     Ok(())
 }
 
-// What is read for each signal of a design whose signals have one driver each.
+// What is read for each signal of a design whose signals have one driver each, and of which an
+// earlier value.
 fn read_tables(
     alloc: Global,
     flat: &Flat,
@@ -87,7 +90,7 @@ fn read_tables(
     clocks: &[bool],
     processes: &[Process],
     registers: &[bool],
-) -> Result<Reads, AllocError>
+) -> Result<(Reads, Graph), AllocError>
     requires sound { IsTrue (sound (design_of flat.now)) }
     requires zeros { AreZeros (length flat.now.signals.items) zeros.now }
     requires clocks { AreClocks (design_of flat.now) clocks.now }
@@ -95,12 +98,13 @@ fn read_tables(
     requires registers { IsTable (length flat.now.signals.items) registers.now
         (is_register (design_of flat.now)) }
     requires drivers { driver_faults (design_of flat.now) ≡ [] }
-    ensures { IfOk result (AreReads (design_of flat.now)) }
+    ensures reads { IfOk result (λ both. AreReads (design_of flat.now) both.0) }
+    ensures wants { IfOk result (λ both. AreWants (design_of flat.now) both.1) }
 {
     let combs = comb_table(alloc, flat, clocks, registers)?;
-    let reads = reads_of(alloc, flat, zeros, processes, registers)?;
+    let ReadGraphs { reads, wants } = reads_of(alloc, flat, zeros, processes, registers)?;
     let tables = reads_table(alloc, combs, reads)?;
-    Ok(tables)
+    Ok((tables, wants))
 }
 
 // How many signals are combinational.
@@ -163,7 +167,7 @@ fn collected(alloc: Global, flat: &Flat, zeros: &[u64], driven: Driven) -> Resul
     let Driven { clocks, drivers } = driven;
     let in_registers = register_table(alloc, flat)?;
     let processes = kept_processes(alloc, flat, &clocks)?;
-    let reads = read_tables(alloc, flat, zeros, &clocks, &processes, &in_registers)?;
+    let (reads, wants) = read_tables(alloc, flat, zeros, &clocks, &processes, &in_registers)?;
     let order = ordered(alloc, flat, &reads)?;
     let clock = top_clock(flat, &clocks);
     let seen = seen_of(alloc, flat, &clocks)?;
@@ -184,6 +188,7 @@ fn collected(alloc: Global, flat: &Flat, zeros: &[u64], driven: Driven) -> Resul
         clocked,
         drivers,
         reads: reads.reads.rows,
+        wants,
     })
 }
 

@@ -1,40 +1,29 @@
 // Rules 605 and 606: an `always @*` keeps nothing from one run to the next.
-ghost use Rattle.std.specs.Prelude.{◌≡◌, ◌≤◌, ◌<◌, ℕ, Bool, true, false, ◌&&◌, ◌||◌, nat_le};
-ghost use Rattle.std.specs.Prelude.{nat_lt, [], ◌∷◌, length, IfOk, IsTrue, IsFalse};
+ghost use Rattle.std.specs.Prelude.{◌≡◌, ◌≤◌, ◌<◌, ℕ, Bool, ◌&&◌, nat_le, nat_lt, [], ◌∷◌};
+ghost use Rattle.std.specs.Prelude.{length, IfOk, OnOk, IsTrue, IsFalse};
 ghost use Rattle.sv_flat.specs.Assigned.{assigns, always_assigns, can_assign};
-ghost use Rattle.sv_flat.specs.Blocks.{is_latched, latches, phase_faults};
+ghost use Rattle.sv_flat.specs.Blocks.{is_latched, is_out_of_phase, latches, phase_faults};
 ghost use Rattle.sv_flat.specs.ByNumber.{is_branch};
 ghost use Rattle.sv_flat.specs.Design.{FlatStatement};
 ghost use Rattle.sv_flat.specs.Readings.{Reading, readings, readings_of};
 ghost use Rattle.sv_flat.specs.Soundness.{sound, statement_sound, well_formed};
 ghost use Rattle.sv_flat.specs.Views.{design_of, typed_tree, process_form, flat_statement};
 ghost use Rattle.sv_flat.specs.Views.{flat_statements, chain_of};
-ghost use Rattle.sv_design.specs.Arms.{both_of, common_bits, IsBackward, AreArms, AreConditions};
+ghost use Rattle.sv_design.specs.Arms.{both_of, common_bits};
 ghost use Rattle.sv_design.specs.BitSets.{is_set, in_bits, has_some};
 ghost use Rattle.sv_design.specs.First.{FindsFirst};
-ghost use Rattle.sv_design.specs.declared.blocks.Asked.TheVariants.{Unassigned, Followed};
-ghost use Rattle.sv_design.specs.Phases.{is_wrong_read, bits_around, SameBits, is_early, IsAskedOf};
-ghost use Rattle.sv_design.specs.Phases.{FindsReads, latches_of, latches_in, phase_faults_of};
-ghost use Rattle.sv_design.specs.Phases.{phase_faults_in};
-ghost use Rattle.sv_design.specs.ReadForms.{read_form, read_forms, AreZeros};
+ghost use Rattle.sv_design.specs.Phases.{SameBits, HasTargets, FindsReads, AddsAssigned};
+ghost use Rattle.sv_design.specs.Phases.{latches_of, latches_in, phase_faults_of, phase_faults_in};
+ghost use Rattle.sv_design.specs.ReadForms.{read_form, AreZeros};
 ghost use Rattle.sv_design.specs.Scopes.{in_scope};
 
-use crate::bits::{Bits, lacks, mask, share};
+use crate::bits::{Bits, lacks, mask};
 use crate::found::{Found, first_of, found_if};
 use crate::names::{Read, names_in, zeros_of};
 use crate::scopes::Scope;
 use std::alloc::{AllocError, Global};
 use sv_flat::{FExpr, FStmt, Flat, ProcKind, Process, SigId};
 use sv_num::Place;
-
-/// What is asked of the reads of a block.
-#[derive(Clone, Copy)]
-pub enum Asked<'a> {
-    /// Whether one, of a signal with a bit in the set, has a bit that is not assigned yet.
-    Unassigned(&'a Bits),
-    /// Whether one has a bit that can be assigned again.
-    Followed,
-}
 
 /// The bits of a signal of some width that are read, as a number.
 pub fn bits_read(width: u8, read: &Read) -> u64
@@ -52,22 +41,17 @@ pub fn bits_read(width: u8, read: &Read) -> u64
     }
 }
 
-// Whether a read is wrong where some bits are around it.
-fn is_wrong(flat: &Flat, asked: Asked, read: &Read, around: &Scope) -> bool
+// Whether a read of a signal with a bit in `targets` has a bit that is not assigned yet.
+fn is_wrong(flat: &Flat, targets: &Bits, read: &Read, assigned: &Scope) -> bool
     requires sound { IsTrue (sound (design_of flat.now)) }
     requires known { read.now.signal.0 < length flat.now.signals.items }
-    ensures { (body : FlatStatement) (reading : Reading) → IsAskedOf body asked.entry
+    ensures { (body : FlatStatement) (reading : Reading) → HasTargets body targets.now
         → reading.name ≡ read_form read.now
-        → SameBits (bits_around (is_early asked.entry) reading.assigned reading.follows)
-        (in_scope around.now)
-        → result ≡ is_wrong_read (is_early asked.entry) (design_of flat.now).signals body reading }
+        → SameBits reading.assigned (in_scope assigned.now)
+        → result ≡ is_out_of_phase (design_of flat.now).signals body reading }
 {
     let bits = bits_read(flat.signals[read.signal.0 as usize].width, read);
-    let around = around.of(read.signal);
-    match asked {
-        Asked::Unassigned(assigned) => assigned.has(read.signal) & lacks(bits, around),
-        Asked::Followed => share(bits, around),
-    }
+    targets.has(read.signal) & lacks(bits, assigned.of(read.signal))
 }
 
 // The first wrong read of an expression.
@@ -75,21 +59,21 @@ fn wrong_in(
     alloc: Global,
     flat: &Flat,
     zeros: &[u64],
-    asked: Asked,
+    targets: &Bits,
     expr: &FExpr,
-    around: &Scope,
+    assigned: &Scope,
 ) -> Result<Option<Found>, AllocError>
     requires sound { IsTrue (sound (design_of flat.now)) }
     requires zeros { AreZeros (length flat.now.signals.items) zeros.now }
     requires formed { IsTrue (well_formed (design_of flat.now).signals (typed_tree expr.now)) }
     ensures { IfOk result (λ found. (serves : ℕ → Bool)
-        → FindsReads (design_of flat.now).signals asked.entry (in_scope around.now)
+        → FindsReads (design_of flat.now).signals targets.now (in_scope assigned.now)
         (readings_of (design_of flat.now).signals (typed_tree expr.now) serves) found) }
 {
     let names = names_in(alloc, flat.signals.as_slice(), zeros, expr)?;
     let mut found = None;
     for read in &names {
-        let wrong = is_wrong(flat, asked, read, around);
+        let wrong = is_wrong(flat, targets, read, assigned);
         found = first_of(found, found_if(wrong, read.place, read.signal));
     }
     Ok(found)
@@ -107,23 +91,23 @@ fn common_with(alloc: Global, before: Option<Bits>, arm: Bits) -> Result<Bits, A
 }
 
 // The first read of a statement of a bit that is not assigned yet, of a signal with a bit in
-// `assigned`, and the bits that every path through the statement assigns. No call goes down a chain
+// `targets`, and the bits that every path through the statement assigns. No call goes down a chain
 // of branches: a `case` may have many arms.
 #[cycle(forward)]
 fn forward(
     alloc: Global,
     flat: &Flat,
     zeros: &[u64],
-    assigned: &Bits,
+    targets: &Bits,
     stmt: &FStmt,
-    around: &Scope,
+    assigned: &Scope,
 ) -> Result<(Option<Found>, Bits), AllocError>
     requires sound { IsTrue (sound (design_of flat.now)) }
     requires zeros { AreZeros (length flat.now.signals.items) zeros.now }
     requires stmt { IsTrue
         (statement_sound (design_of flat.now).signals (flat_statement stmt.now)) }
     ensures { IfOk result (λ both.
-        FindsReads (design_of flat.now).signals (Unassigned assigned.entry) (in_scope around.now)
+        FindsReads (design_of flat.now).signals targets.now (in_scope assigned.now)
         (readings (design_of flat.now).signals (flat_statement stmt.now)) both.0
         × SameBits (in_bits both.1) (always_assigns (flat_statement stmt.now))) }
 {
@@ -131,22 +115,15 @@ fn forward(
     let mut common = None;
     let mut rest = stmt;
     while let FStmt::If { cond, yes, no, .. } = rest {
-        let in_cond = wrong_in(
-            alloc,
-            flat,
-            zeros,
-            Asked::Unassigned(assigned),
-            cond,
-            around,
-        )?;
-        let (in_yes, by_yes) = forward(alloc, flat, zeros, assigned, yes, around)?;
+        let in_cond = wrong_in(alloc, flat, zeros, targets, cond, assigned)?;
+        let (in_yes, by_yes) = forward(alloc, flat, zeros, targets, yes, assigned)?;
         let in_arm = first_of(in_cond, in_yes);
         found = first_of(found, in_arm);
         let more = common_with(alloc, common, by_yes)?;
         common = Some(more);
         rest = no;
     }
-    let (in_last, by_last) = forward_plain(alloc, flat, zeros, assigned, rest, around)?;
+    let (in_last, by_last) = forward_plain(alloc, flat, zeros, targets, rest, assigned)?;
     let always = common_with(alloc, common, by_last)?;
     Ok((first_of(found, in_last), always))
 }
@@ -157,9 +134,9 @@ fn forward_plain(
     alloc: Global,
     flat: &Flat,
     zeros: &[u64],
-    assigned: &Bits,
+    targets: &Bits,
     stmt: &FStmt,
-    around: &Scope,
+    assigned: &Scope,
 ) -> Result<(Option<Found>, Bits), AllocError>
     requires plain { IsFalse (is_branch (flat_statement stmt.now)) }
     requires sound { IsTrue (sound (design_of flat.now)) }
@@ -167,19 +144,18 @@ fn forward_plain(
     requires stmt { IsTrue
         (statement_sound (design_of flat.now).signals (flat_statement stmt.now)) }
     ensures { IfOk result (λ both.
-        FindsReads (design_of flat.now).signals (Unassigned assigned.entry) (in_scope around.now)
+        FindsReads (design_of flat.now).signals targets.now (in_scope assigned.now)
         (readings (design_of flat.now).signals (flat_statement stmt.now)) both.0
         × SameBits (in_bits both.1) (always_assigns (flat_statement stmt.now))) }
 {
     match stmt {
         FStmt::Assign { pieces, value, .. } => {
-            let asked = Asked::Unassigned(assigned);
-            let found = wrong_in(alloc, flat, zeros, asked, value, around)?;
+            let found = wrong_in(alloc, flat, zeros, targets, value, assigned)?;
             let mut bits = Bits::new(alloc);
             bits.add_pieces(pieces)?;
             Ok((found, bits))
         }
-        FStmt::Block(stmts) => forward_all(alloc, flat, zeros, assigned, stmts, around),
+        FStmt::Block(stmts) => forward_all(alloc, flat, zeros, targets, stmts, assigned),
         FStmt::If { .. } => unreachable!(),
     }
 }
@@ -190,159 +166,88 @@ fn forward_all(
     alloc: Global,
     flat: &Flat,
     zeros: &[u64],
-    assigned: &Bits,
+    targets: &Bits,
     stmts: &[FStmt],
-    around: &Scope,
+    assigned: &Scope,
 ) -> Result<(Option<Found>, Bits), AllocError>
     requires sound { IsTrue (sound (design_of flat.now)) }
     requires zeros { AreZeros (length flat.now.signals.items) zeros.now }
     requires stmts { IsTrue
         (statement_sound (design_of flat.now).signals (chain_of (flat_statements stmts.now))) }
     ensures { IfOk result (λ both.
-        FindsReads (design_of flat.now).signals (Unassigned assigned.entry) (in_scope around.now)
+        FindsReads (design_of flat.now).signals targets.now (in_scope assigned.now)
         (readings (design_of flat.now).signals (chain_of (flat_statements stmts.now))) both.0
         × SameBits (in_bits both.1) (always_assigns (chain_of (flat_statements stmts.now)))) }
 {
     let mut found = None;
     let mut here = Bits::new(alloc);
     for stmt in stmts {
-        let around = Scope::Inside(&here, &*around);
-        let (other, bits) = forward(alloc, flat, zeros, assigned, stmt, &around)?;
+        let before = Scope::Inside(&here, &*assigned);
+        let (other, bits) = forward(alloc, flat, zeros, targets, stmt, &before)?;
         found = first_of(found, other);
         here.add_all(&bits)?;
     }
     Ok((found, here))
 }
 
-/// The first arm of a branch, with the first read in it of a bit that can be assigned again, and the
-/// bits that it can assign.
-#[derive(Drop)]
-pub struct Arm<'a> {
-    pub cond: &'a FExpr,
-    pub found: Option<Found>,
-    pub bits: Bits,
-}
-
-// From what is known of the last arm of a chain of branches back: what is known of the whole chain.
-fn backward_arms(
-    alloc: Global,
-    flat: &Flat,
-    zeros: &[u64],
-    arms: Vec<Arm>,
-    last: (Option<Found>, Bits),
-    around: &Scope,
-) -> Result<(Option<Found>, Bits), AllocError>
+// Puts the bits that a statement can assign into a set. No call goes down a chain of branches.
+#[cycle(add_assigned)]
+fn add_assigned(flat: &Flat, bits: &mut Bits, stmt: &FStmt) -> Result<(), AllocError>
     requires sound { IsTrue (sound (design_of flat.now)) }
-    requires zeros { AreZeros (length flat.now.signals.items) zeros.now }
-    requires conds { AreConditions (design_of flat.now).signals arms.items }
-    ensures { (rest whole : FlatStatement)
-        → AreArms (design_of flat.now).signals (in_scope around.now) arms.entry.items rest whole
-        → IsBackward (design_of flat.now).signals (in_scope around.now) rest last.0 last.1
-        → IfOk result (λ both.
-        IsBackward (design_of flat.now).signals (in_scope around.now) whole both.0 both.1) }
-{
-    let mut arms = arms;
-    let (mut found, mut bits) = last;
-    while let Some(arm) = arms.pop() {
-        bits.add_all(&arm.bits)?;
-        let inside = Scope::Inside(&bits, &*around);
-        let in_cond = wrong_in(alloc, flat, zeros, Asked::Followed, arm.cond, &inside)?;
-        let in_arm = first_of(in_cond, arm.found);
-        found = first_of(in_arm, found);
-    }
-    Ok((found, bits))
-}
-
-// The first read of a statement of a bit that can be assigned again, and the bits that the
-// statement can assign. No call goes down a chain of branches: a `case` may have many arms.
-#[cycle(backward)]
-fn backward(
-    alloc: Global,
-    flat: &Flat,
-    zeros: &[u64],
-    stmt: &FStmt,
-    around: &Scope,
-) -> Result<(Option<Found>, Bits), AllocError>
-    requires sound { IsTrue (sound (design_of flat.now)) }
-    requires zeros { AreZeros (length flat.now.signals.items) zeros.now }
     requires stmt { IsTrue
         (statement_sound (design_of flat.now).signals (flat_statement stmt.now)) }
-    ensures { IfOk result (λ both.
-        FindsReads (design_of flat.now).signals Followed (in_scope around.now)
-        (readings (design_of flat.now).signals (flat_statement stmt.now)) both.0
-        × SameBits (in_bits both.1) (can_assign (flat_statement stmt.now))) }
+    ensures { OnOk result (AddsAssigned bits.old bits.new (flat_statement stmt.now)) }
 {
-    let mut arms = Vec::new(alloc);
     let mut rest = stmt;
-    while let FStmt::If { cond, yes, no, .. } = rest {
-        let (found, bits) = backward(alloc, flat, zeros, yes, around)?;
-        arms.push(Arm { cond, found, bits })?;
+    while let FStmt::If { yes, no, .. } = rest {
+        add_assigned(flat, bits, yes)?;
         rest = no;
     }
-    let last = backward_plain(alloc, flat, zeros, rest, around)?;
-    backward_arms(alloc, flat, zeros, arms, last, around)
+    add_assigned_plain(flat, bits, rest)?;
+    Ok(())
 }
 
 // The same of a statement that is no branch.
-#[cycle(backward)]
-fn backward_plain(
-    alloc: Global,
-    flat: &Flat,
-    zeros: &[u64],
-    stmt: &FStmt,
-    around: &Scope,
-) -> Result<(Option<Found>, Bits), AllocError>
+#[cycle(add_assigned)]
+fn add_assigned_plain(flat: &Flat, bits: &mut Bits, stmt: &FStmt) -> Result<(), AllocError>
     requires plain { IsFalse (is_branch (flat_statement stmt.now)) }
     requires sound { IsTrue (sound (design_of flat.now)) }
-    requires zeros { AreZeros (length flat.now.signals.items) zeros.now }
     requires stmt { IsTrue
         (statement_sound (design_of flat.now).signals (flat_statement stmt.now)) }
-    ensures { IfOk result (λ both.
-        FindsReads (design_of flat.now).signals Followed (in_scope around.now)
-        (readings (design_of flat.now).signals (flat_statement stmt.now)) both.0
-        × SameBits (in_bits both.1) (can_assign (flat_statement stmt.now))) }
+    ensures { OnOk result (AddsAssigned bits.old bits.new (flat_statement stmt.now)) }
 {
     match stmt {
-        FStmt::Assign { pieces, value, .. } => {
-            let mut bits = Bits::new(alloc);
-            bits.add_pieces(pieces)?;
-            let inside = Scope::Inside(&bits, &*around);
-            let found = wrong_in(alloc, flat, zeros, Asked::Followed, value, &inside)?;
-            Ok((found, bits))
-        }
-        FStmt::Block(stmts) => backward_all(alloc, flat, zeros, stmts, around),
+        FStmt::Assign { pieces, .. } => bits.add_pieces(pieces),
+        FStmt::Block(stmts) => add_assigned_all(flat, bits, stmts),
         FStmt::If { .. } => unreachable!(),
     }
 }
 
-// The same of some statements, one after the other.
-#[cycle(backward)]
-fn backward_all(
-    alloc: Global,
-    flat: &Flat,
-    zeros: &[u64],
-    stmts: &[FStmt],
-    around: &Scope,
-) -> Result<(Option<Found>, Bits), AllocError>
+// The same of some statements.
+#[cycle(add_assigned)]
+fn add_assigned_all(flat: &Flat, bits: &mut Bits, stmts: &[FStmt]) -> Result<(), AllocError>
     requires sound { IsTrue (sound (design_of flat.now)) }
-    requires zeros { AreZeros (length flat.now.signals.items) zeros.now }
     requires stmts { IsTrue
         (statement_sound (design_of flat.now).signals (chain_of (flat_statements stmts.now))) }
-    ensures { IfOk result (λ both.
-        FindsReads (design_of flat.now).signals Followed (in_scope around.now)
-        (readings (design_of flat.now).signals (chain_of (flat_statements stmts.now))) both.0
-        × SameBits (in_bits both.1) (can_assign (chain_of (flat_statements stmts.now)))) }
+    ensures { OnOk result
+        (AddsAssigned bits.old bits.new (chain_of (flat_statements stmts.now))) }
 {
-    let mut found = None;
-    let mut here = Bits::new(alloc);
-    for i in 0..stmts.len() {
-        let stmt = &stmts[stmts.len() - 1 - i];
-        let around = Scope::Inside(&here, &*around);
-        let (other, bits) = backward(alloc, flat, zeros, stmt, &around)?;
-        found = first_of(other, found);
-        here.add_all(&bits)?;
+    for stmt in stmts {
+        add_assigned(flat, bits, stmt)?;
     }
-    Ok((found, here))
+    Ok(())
+}
+
+// The bits that a block can assign.
+fn assigned_bits(alloc: Global, flat: &Flat, body: &FStmt) -> Result<Bits, AllocError>
+    requires sound { IsTrue (sound (design_of flat.now)) }
+    requires body { IsTrue
+        (statement_sound (design_of flat.now).signals (flat_statement body.now)) }
+    ensures { IfOk result (λ bits. SameBits (in_bits bits) (can_assign (flat_statement body.now))) }
+{
+    let mut bits = Bits::new(alloc);
+    add_assigned(flat, &mut bits, body)?;
+    Ok(bits)
 }
 
 // Whether a block assigns a bit of the signal, and some bit of it not on every path.
@@ -403,12 +308,10 @@ fn block_faults(
         faults.phase) }
 {
     let nothing = Scope::Nothing;
-    let (late, assigned) = backward(alloc, flat, zeros, &process.body, &nothing)?;
-    let (early, always) = forward(alloc, flat, zeros, &assigned, &process.body, &nothing)?;
-    Ok(BlockFaults {
-        latch: first_latch(flat, process.place, &assigned, &always),
-        phase: first_of(early, late),
-    })
+    let assigned = assigned_bits(alloc, flat, &process.body)?;
+    let (phase, always) = forward(alloc, flat, zeros, &assigned, &process.body, &nothing)?;
+    let latch = first_latch(flat, process.place, &assigned, &always);
+    Ok(BlockFaults { latch, phase })
 }
 
 // What is wrong with a process, where it is a block.

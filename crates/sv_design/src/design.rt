@@ -1,16 +1,22 @@
 // Admitted designs.
 ghost use Rattle.std.specs.Prelude.{◌≡◌, ◌<◌, length, map, position, option_map, IfSome};
+ghost use Rattle.std.specs.Prelude.{Contains, IfOk, IsTrue};
 ghost use Rattle.std.specs.Str.{bytes_eq};
+ghost use Rattle.sv_flat.specs.Assigned.{assigns};
+ghost use Rattle.sv_flat.specs.Design.{ProcessForm};
 ghost use Rattle.sv_flat.specs.Views.{design_of, process_form};
 ghost use Rattle.sv_flat.specs.Clocks.{is_clock, processes_of};
 ghost use Rattle.sv_flat.specs.FlatSystem.{combinational_processes, clocked_processes};
 ghost use Rattle.sv_flat.specs.SignalLists.{system_signals, inputs, registers, top_clock};
 ghost use Rattle.sv_flat.specs.SignalLists.{driver_of};
-ghost use Rattle.sv_flat.specs.Reads.{reads_for, order};
+ghost use Rattle.sv_flat.specs.Reads.{reads_for, order, followed};
 ghost use Rattle.sv_design.specs.Designs.{IsDesign};
+ghost use Rattle.sv_design.specs.Marks.{followed_in};
 ghost use Rattle.sv_design.specs.Numbers.{numbers, number_if_any};
 
 use crate::tables::Tables;
+use crate::tops::reached;
+use std::alloc::{AllocError, Global};
 use std::marker::Model;
 use sv_flat::{Flat, Process, SigId, Signal};
 use sv_lattice::{LabelMap, Lattice, Point};
@@ -174,6 +180,21 @@ impl Design {
     {
         let reads = self.tables.reads.as_slice();
         reads[s.0 as usize].as_slice()
+    }
+
+    /// For each signal, whether the signal follows it: itself, each signal of which an earlier
+    /// value is read for it, each of which one is read for those, and so on. An error says that
+    /// memory ran out.
+    pub fn follows(&self, alloc: Global, s: SigId) -> Result<Vec<bool>, AllocError>
+        requires { s.0 < length self.now.signals.items }
+        ensures follows { IfOk result (λ table. (process : ProcessForm)
+            → Contains (processes_of (design_of self.now)) process
+            → IsTrue (assigns process.body s.0)
+            → followed_in table.items ≡ followed (design_of self.now) process s.0) }
+        ensures size { IfOk result (λ table. length table.items ≡ length self.now.signals.items) }
+        ensures design { IsDesign (design_of self.now) }
+    {
+        reached(alloc, &self.tables.wants, &[s])
     }
 
     /// The first point with the name, or None where no point has it.

@@ -9,7 +9,7 @@ use std::alloc::{AllocError, Global};
 use sv_flat::SigId;
 
 /// A graph over signals: for each signal, by its number, those that its edges lead to.
-#[derive(Drop)]
+#[derive(Debug, Drop)]
 pub struct Graph {
     pub rows: Vec<Vec<SigId>>,
 }
@@ -22,13 +22,6 @@ impl Graph {
     {
         let rows = vec![in alloc; Vec::new(alloc); count]?;
         Ok(Graph { rows })
-    }
-
-    /// Whether it has an edge.
-    pub fn has_edges(&self) -> bool
-        ensures { IsFalse result → (a b : ℕ) → IsFalse (has_edge self.now a b) }
-    {
-        self.rows.iter().any(|row| !row.is_empty())
     }
 
     /// Adds an edge. It fails where memory runs out.

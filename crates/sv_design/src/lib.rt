@@ -13,7 +13,7 @@
 //! holds of it, `Tables.antt` what its lists are, and `Numbers.antt` has the words for signals by
 //! their numbers.
 //!
-//! `BitSets.antt`, `ClockTables.antt`, `Depths.antt`, `DriverTables.antt`, `Feeds.antt`,
+//! `BitGraphs.antt`, `BitSets.antt`, `ClockTables.antt`, `Depths.antt`, `DriverTables.antt`, `Feeds.antt`,
 //! `Graphs.antt`, `Links.antt`, `Marks.antt`, `Nests.antt`, `Orders.antt`, `Phases.antt`,
 //! `Queues.antt`, `ReadForms.antt`, `Refusals.antt`, `Scopes.antt`, `Searches.antt`,
 //! `Selectors.antt`, `Tops.antt` and `WrongAssigns.antt` are private: they say how the code goes;
@@ -25,6 +25,7 @@
 mod admit;
 mod assignments;
 mod begins;
+mod bit_graphs;
 mod bits;
 mod blocks;
 mod clock_rule;

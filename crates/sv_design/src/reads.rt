@@ -1,65 +1,33 @@
 // The signals read for each signal.
 ghost use Rattle.std.specs.Prelude.{◌≡◌, ◌<◌, ◌≤◌, ◌^◌, ◌==◌, ◌&&◌, nat_lt, ℕ, [], length, map};
-ghost use Rattle.std.specs.Prelude.{Contains, IsTrue, OnOk, IfOk};
+ghost use Rattle.std.specs.Prelude.{IsTrue, OnOk, IfOk};
 ghost use Rattle.sv_flat.specs.Assigned.{can_assign};
 ghost use Rattle.sv_flat.specs.Clocks.{processes_of};
 ghost use Rattle.sv_flat.specs.Drivers.{driver_faults};
 ghost use Rattle.sv_flat.specs.Processes.{is_block, is_register, signal_numbers};
 ghost use Rattle.sv_flat.specs.Readings.{no_bits};
 ghost use Rattle.sv_flat.specs.Reads.{reads_for};
-ghost use Rattle.sv_flat.specs.Sets.{holds, those, least_set};
 ghost use Rattle.sv_flat.specs.Soundness.{sound, statement_sound, well_formed};
 ghost use Rattle.sv_flat.specs.Views.{design_of, typed_tree, process_kind, process_form};
 ghost use Rattle.sv_flat.specs.Views.{flat_statement, flat_statements, chain_of};
+ghost use Rattle.sv_design.specs.BitGraphs.{in_row, IsRow, size, has_edge, IsOver, GainsEdges};
 ghost use Rattle.sv_design.specs.BitSets.{in_bits, has_some, HasTargetsBelow};
 ghost use Rattle.sv_design.specs.Feeds.{is_sought, names_sought, feeds, sought_in, feeds_in};
-ghost use Rattle.sv_design.specs.Feeds.{feeds_through};
-ghost use Rattle.sv_design.specs.Graphs.{size, rows_of, has_edge, GainsEdges, IsWhole};
+ghost use Rattle.sv_design.specs.Feeds.{feeds_through, AreWants};
+ghost use Rattle.sv_design.specs.Graphs.{rows_of};
 ghost use Rattle.sv_design.specs.Marks.{is_marked, IsTable};
-ghost use Rattle.sv_design.specs.Numbers.{numbers};
 ghost use Rattle.sv_design.specs.Phases.{SameBits};
 ghost use Rattle.sv_design.specs.ReadForms.{read_form, AreZeros};
 ghost use Rattle.sv_design.specs.Scopes.{in_scope};
 
+use crate::bit_graphs::{BitGraph, row_of};
 use crate::bits::{Bits, share};
 use crate::blocks::bits_read;
 use crate::graphs::Graph;
-use crate::lists::listed;
 use crate::names::{Read, names_in};
 use crate::scopes::Scope;
-use crate::tops::reached;
 use std::alloc::{AllocError, Global};
 use sv_flat::{FExpr, FStmt, Flat, ProcKind, Process, SigId};
-
-// Adds an edge from a signal to another, where that one is in a set.
-fn add_read(graph: &mut Graph, read: SigId, target: SigId, targets: &Bits) -> Result<(), AllocError>
-    requires read { read.0 < size graph.old }
-    requires targets { HasTargetsBelow (size graph.old) targets.now }
-    ensures size { size graph.new ≡ size graph.old }
-    ensures gains { OnOk result (GainsEdges graph.old graph.new (λ a b.
-        (read.0 == a) && (has_some targets.now target.0 && (target.0 == b)))) }
-    ensures whole { OnOk result (IsWhole graph.old → IsWhole graph.new) }
-{
-    if targets.has(target) {
-        graph.add(read, target)?;
-    }
-    Ok(())
-}
-
-// Adds an edge from a signal to each signal of a set.
-fn add_reads_of(graph: &mut Graph, read: SigId, targets: &Bits) -> Result<(), AllocError>
-    requires read { read.0 < size graph.old }
-    requires targets { HasTargetsBelow (size graph.old) targets.now }
-    ensures size { size graph.new ≡ size graph.old }
-    ensures gains { OnOk result (GainsEdges graph.old graph.new (λ a b.
-        (read.0 == a) && has_some targets.now b)) }
-    ensures whole { OnOk result (IsWhole graph.old → IsWhole graph.new) }
-{
-    for target in targets.masks.keys() {
-        add_read(graph, read, SigId(*target), targets)?;
-    }
-    Ok(())
-}
 
 /// Which reads of a process are sought: the earlier ones of an `always @*`, where an assignment to
 /// a bit that is read can follow the read, or all others.
@@ -85,29 +53,27 @@ fn is_sought(flat: &Flat, sought: Sought, read: &Read, later: &Scope) -> bool
     }
 }
 
-// Adds edges from a name to each signal of a set, where the name is sought.
+// Adds edges from a name to each signal of a row, where the name is sought.
 fn add_name(
     flat: &Flat,
-    graph: &mut Graph,
+    graph: &mut BitGraph,
     sought: Sought,
     name: &Read,
     later: &Scope,
-    targets: &Bits,
-) -> Result<(), AllocError>
+    targets: &[u64],
+)
     requires sound { IsTrue (sound (design_of flat.now)) }
-    requires size { size graph.old ≡ length flat.now.signals.items }
+    requires over { IsOver (length flat.now.signals.items) graph.old }
     requires known { name.now.signal.0 < length flat.now.signals.items }
-    requires targets { HasTargetsBelow (size graph.old) targets.now }
-    ensures size { size graph.new ≡ size graph.old }
-    ensures gains { OnOk result (GainsEdges graph.old graph.new (λ a b.
+    requires targets { IsRow (length flat.now.signals.items) targets.now }
+    ensures over { IsOver (length flat.now.signals.items) graph.new }
+    ensures gains { GainsEdges graph.old graph.new (λ a b.
         ((name.now.signal.0 == a) && is_sought (design_of flat.now).signals sought
-        (in_scope later.now) (read_form name.now)) && has_some targets.now b)) }
-    ensures whole { OnOk result (IsWhole graph.old → IsWhole graph.new) }
+        (in_scope later.now) (read_form name.now)) && in_row targets.now b) }
 {
     if is_sought(flat, sought, name, later) {
-        add_reads_of(graph, name.signal, targets)?;
+        graph.add_row(name.signal, targets);
     }
-    Ok(())
 }
 
 // Adds edges from the names in an expression that are sought to each signal of a set.
@@ -115,7 +81,7 @@ fn add_reads(
     alloc: Global,
     flat: &Flat,
     zeros: &[u64],
-    graph: &mut Graph,
+    graph: &mut BitGraph,
     sought: Sought,
     expr: &FExpr,
     later: &Scope,
@@ -124,17 +90,17 @@ fn add_reads(
     requires sound { IsTrue (sound (design_of flat.now)) }
     requires zeros { AreZeros (length flat.now.signals.items) zeros.now }
     requires formed { IsTrue (well_formed (design_of flat.now).signals (typed_tree expr.now)) }
-    requires size { size graph.old ≡ length flat.now.signals.items }
-    requires targets { HasTargetsBelow (size graph.old) targets.now }
-    ensures size { size graph.new ≡ size graph.old }
+    requires over { IsOver (length flat.now.signals.items) graph.old }
+    requires targets { HasTargetsBelow (length flat.now.signals.items) targets.now }
+    ensures over { IsOver (length flat.now.signals.items) graph.new }
     ensures gains { OnOk result (GainsEdges graph.old graph.new (λ a b.
         names_sought (design_of flat.now).signals sought (in_scope later.now)
         (typed_tree expr.now) a && has_some targets.now b)) }
-    ensures whole { OnOk result (IsWhole graph.old → IsWhole graph.new) }
 {
     let names = names_in(alloc, flat.signals.as_slice(), zeros, expr)?;
+    let row = row_of(alloc, flat.signals.len(), targets)?;
     for name in &names {
-        add_name(flat, graph, sought, name, later, targets)?;
+        add_name(flat, graph, sought, name, later, &row);
     }
     Ok(())
 }
@@ -146,7 +112,7 @@ fn follow(
     alloc: Global,
     flat: &Flat,
     zeros: &[u64],
-    graph: &mut Graph,
+    graph: &mut BitGraph,
     sought: Sought,
     stmt: &FStmt,
     later: &Scope,
@@ -155,15 +121,14 @@ fn follow(
     requires zeros { AreZeros (length flat.now.signals.items) zeros.now }
     requires body { IsTrue
         (statement_sound (design_of flat.now).signals (flat_statement stmt.now)) }
-    requires size { size graph.old ≡ length flat.now.signals.items }
-    ensures size { size graph.new ≡ size graph.old }
+    requires over { IsOver (length flat.now.signals.items) graph.old }
+    ensures over { IsOver (length flat.now.signals.items) graph.new }
     ensures bits { IfOk result (λ bits.
         SameBits (in_bits bits) (can_assign (flat_statement stmt.now))) }
     ensures gains { OnOk result
         (GainsEdges graph.old graph.new
         (feeds (design_of flat.now).signals sought (flat_statement stmt.now)
         (in_scope later.now))) }
-    ensures whole { OnOk result (IsWhole graph.old → IsWhole graph.new) }
 {
     match stmt {
         FStmt::Assign { pieces, value, .. } => {
@@ -191,7 +156,7 @@ fn follow_all(
     alloc: Global,
     flat: &Flat,
     zeros: &[u64],
-    graph: &mut Graph,
+    graph: &mut BitGraph,
     sought: Sought,
     stmts: &[FStmt],
     later: &Scope,
@@ -200,15 +165,14 @@ fn follow_all(
     requires zeros { AreZeros (length flat.now.signals.items) zeros.now }
     requires body { IsTrue
         (statement_sound (design_of flat.now).signals (chain_of (flat_statements stmts.now))) }
-    requires size { size graph.old ≡ length flat.now.signals.items }
-    ensures size { size graph.new ≡ size graph.old }
+    requires over { IsOver (length flat.now.signals.items) graph.old }
+    ensures over { IsOver (length flat.now.signals.items) graph.new }
     ensures bits { IfOk result (λ bits.
         SameBits (in_bits bits) (can_assign (chain_of (flat_statements stmts.now)))) }
     ensures gains { OnOk result
         (GainsEdges graph.old graph.new
         (feeds (design_of flat.now).signals sought (chain_of (flat_statements stmts.now))
         (in_scope later.now))) }
-    ensures whole { OnOk result (IsWhole graph.old → IsWhole graph.new) }
 {
     let mut here = Bits::new(alloc);
     for i in 0..stmts.len() {
@@ -221,17 +185,16 @@ fn follow_all(
 }
 
 // Adds an edge from a register to itself.
-fn add_register(graph: &mut Graph, signal: SigId, is_register: bool) -> Result<(), AllocError>
-    requires { signal.0 < size graph.old }
-    ensures size { size graph.new ≡ size graph.old }
-    ensures gains { OnOk result (GainsEdges graph.old graph.new (λ a b.
-        is_register && ((signal.0 == a) && (signal.0 == b)))) }
-    ensures whole { OnOk result (IsWhole graph.old → IsWhole graph.new) }
+fn add_register(graph: &mut BitGraph, signal: SigId, is_register: bool)
+    requires signal { signal.0 < size graph.old }
+    requires over { IsOver (size graph.old) graph.old }
+    ensures over { IsOver (size graph.old) graph.new }
+    ensures gains { GainsEdges graph.old graph.new (λ a b.
+        is_register && ((signal.0 == a) && (signal.0 == b))) }
 {
     if is_register {
-        graph.add(signal, signal)?;
+        graph.add(signal, signal);
     }
-    Ok(())
 }
 
 // Whether a process is an `always @*`.
@@ -247,7 +210,7 @@ fn follow_process(
     alloc: Global,
     flat: &Flat,
     zeros: &[u64],
-    graph: &mut Graph,
+    graph: &mut BitGraph,
     process: &Process,
     earlier: bool,
 ) -> Result<(), AllocError>
@@ -255,13 +218,12 @@ fn follow_process(
     requires zeros { AreZeros (length flat.now.signals.items) zeros.now }
     requires body { IsTrue
         (statement_sound (design_of flat.now).signals (flat_statement process.now.body)) }
-    requires size { size graph.old ≡ length flat.now.signals.items }
-    ensures size { size graph.new ≡ size graph.old }
+    requires over { IsOver (length flat.now.signals.items) graph.old }
+    ensures over { IsOver (length flat.now.signals.items) graph.new }
     ensures gains { OnOk result
         (GainsEdges graph.old graph.new
         (feeds (design_of flat.now).signals (sought_in earlier (process_form process.now))
         (flat_statement process.now.body) no_bits)) }
-    ensures whole { OnOk result (IsWhole graph.old → IsWhole graph.new) }
 {
     let in_block = is_block(process.kind);
     let has_none = earlier & !in_block;
@@ -283,17 +245,16 @@ fn readers_of(
     zeros: &[u64],
     processes: &[Process],
     earlier: bool,
-) -> Result<Graph, AllocError>
+) -> Result<BitGraph, AllocError>
     requires sound { IsTrue (sound (design_of flat.now)) }
     requires zeros { AreZeros (length flat.now.signals.items) zeros.now }
     requires processes { map process_form processes.now ≡ processes_of (design_of flat.now) }
-    ensures size { IfOk result (λ graph. size graph ≡ length flat.now.signals.items) }
+    ensures over { IfOk result (IsOver (length flat.now.signals.items)) }
     ensures edges { IfOk result (λ graph.
         (a b : ℕ) → has_edge graph a b ≡
         feeds_in (design_of flat.now).signals earlier (processes_of (design_of flat.now)) a b) }
-    ensures whole { IfOk result IsWhole }
 {
-    let mut graph = Graph::new(alloc, flat.signals.len())?;
+    let mut graph = BitGraph::new(alloc, flat.signals.len())?;
     for process in processes {
         follow_process(alloc, flat, zeros, &mut graph, process, earlier)?;
     }
@@ -301,83 +262,78 @@ fn readers_of(
 }
 
 // Adds an edge from each register to itself.
-fn add_registers(graph: &mut Graph, registers: &[bool]) -> Result<(), AllocError>
+fn add_registers(graph: &mut BitGraph, registers: &[bool])
     requires size { length registers.now ≡ size graph.old }
     requires few { length registers.now ≤ 2 ^ 32 }
-    ensures size { size graph.new ≡ size graph.old }
-    ensures gains { OnOk result (GainsEdges graph.old graph.new (λ a b.
-        nat_lt b (length registers.now) && (is_marked registers.now b && (b == a)))) }
-    ensures whole { OnOk result (IsWhole graph.old → IsWhole graph.new) }
+    requires over { IsOver (size graph.old) graph.old }
+    ensures over { IsOver (size graph.old) graph.new }
+    ensures gains { GainsEdges graph.old graph.new (λ a b.
+        nat_lt b (length registers.now) && (is_marked registers.now b && (b == a))) }
 {
     for (s, is_register) in registers.iter().enumerate() {
-        add_register(graph, SigId(s as u32), *is_register)?;
+        add_register(graph, SigId(s as u32), *is_register);
     }
-    Ok(())
-}
-
-// The signals that edges lead to from some signals on, in signal order.
-fn followers(alloc: Global, earlier: &Graph, signals: &[SigId]) -> Result<Vec<SigId>, AllocError>
-    requires whole { IsWhole earlier.now }
-    requires few { size earlier.now < 2 ^ 32 }
-    requires signals { (k : ℕ) → Contains (numbers signals.now) k → k < size earlier.now }
-    ensures { IfOk result (λ list. let n = size earlier.now in
-        numbers list.items ≡ those n (holds (least_set n (has_edge earlier.now)
-        (numbers signals.now)))) }
-{
-    let table = reached(alloc, earlier, signals)?;
-    let list = listed(alloc, &table)?;
-    Ok(list)
 }
 
 // From the graph of settled reads that of all reads: a signal is read for what it is read for by a
 // settled read, and for what that is read for by an earlier one, to the end.
-fn with_followers(alloc: Global, settled: Graph, earlier: &Graph) -> Result<Graph, AllocError>
-    requires whole_settled { IsWhole settled }
-    requires whole { IsWhole earlier.now }
-    requires size { size earlier.now ≡ size settled }
-    requires few { size settled < 2 ^ 32 }
-    ensures size { IfOk result (λ graph. size graph ≡ size settled) }
-    ensures edges { IfOk result (λ graph. (a b : ℕ) → b < size settled →
-        has_edge graph a b ≡
-        feeds_through (size settled) (has_edge settled) (has_edge earlier.now) a b) }
-    ensures whole { IfOk result IsWhole }
+fn follow_earlier(
+    alloc: Global,
+    graph: &mut BitGraph,
+    mut earlier: BitGraph,
+) -> Result<(), AllocError>
+    requires few { size graph.old < 2 ^ 32 }
+    requires over { IsOver (size graph.old) graph.old }
+    requires earlier { IsOver (size graph.old) earlier }
+    ensures over { IsOver (size graph.old) graph.new }
+    ensures edges { OnOk result ((a b : ℕ) → b < size graph.old →
+        has_edge graph.new a b ≡
+        feeds_through (size graph.old) (has_edge graph.old) (has_edge earlier) a b) }
 {
     if !earlier.has_edges() {
-        return Ok(settled);
+        return Ok(());
     }
-    let mut rows = Vec::new(alloc);
-    for signals in &settled.rows {
-        let list = followers(alloc, earlier, signals)?;
-        rows.push(list)?;
-    }
-    Ok(Graph { rows })
+    earlier.shorten(alloc)?;
+    graph.follow(&earlier);
+    Ok(())
+}
+
+/// What the processes read for each signal.
+#[derive(Drop)]
+pub struct ReadGraphs {
+    /// For each signal those read for it, in signal order.
+    pub reads: Graph,
+    /// For each signal those of which an earlier value is read for it.
+    pub wants: Graph,
 }
 
 /// For each signal the signals read for it, in signal order, of a design whose signals have one
 /// driver each: those that it is assigned by, those in a condition with an arm that assigns it, for
-/// an earlier read what is read for its signal, and a register itself. It fails where memory runs
-/// out.
+/// an earlier read what is read for its signal, and a register itself; and for each the signals of
+/// its earlier reads. It fails where memory runs out.
 pub fn reads_of(
     alloc: Global,
     flat: &Flat,
     zeros: &[u64],
     processes: &[Process],
     registers: &[bool],
-) -> Result<Graph, AllocError>
+) -> Result<ReadGraphs, AllocError>
     requires sound { IsTrue (sound (design_of flat.now)) }
     requires zeros { AreZeros (length flat.now.signals.items) zeros.now }
     requires processes { map process_form processes.now ≡ processes_of (design_of flat.now) }
     requires registers { IsTable (length flat.now.signals.items) registers.now
         (is_register (design_of flat.now)) }
     requires drivers { driver_faults (design_of flat.now) ≡ [] }
-    ensures { IfOk result (λ reads.
-        rows_of reads ≡ map (reads_for (design_of flat.now))
+    ensures reads { IfOk result (λ graphs.
+        rows_of graphs.reads ≡ map (reads_for (design_of flat.now))
         (signal_numbers (design_of flat.now))) }
+    ensures wants { IfOk result (λ graphs. AreWants (design_of flat.now) graphs.wants) }
 {
-    let settled = readers_of(alloc, flat, zeros, processes, false)?;
+    let mut readers = readers_of(alloc, flat, zeros, processes, false)?;
     let earlier = readers_of(alloc, flat, zeros, processes, true)?;
-    let mut readers = with_followers(alloc, settled, &earlier)?;
-    add_registers(&mut readers, registers)?;
+    let wants = earlier.turned(alloc)?;
+    follow_earlier(alloc, &mut readers, earlier)?;
+    add_registers(&mut readers, registers);
     let reads = readers.turned(alloc)?;
-    Ok(reads)
+    Ok(ReadGraphs { reads, wants })
 }

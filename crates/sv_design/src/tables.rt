@@ -1,4 +1,5 @@
 // What is worked out of a design once, when it is admitted.
+use crate::graphs::Graph;
 use sv_flat::{Process, SigId};
 
 /// The tables of an admitted design.
@@ -23,4 +24,6 @@ pub struct Tables {
     pub drivers: Vec<Option<usize>>,
     // for each signal, the signals read for it
     pub reads: Vec<Vec<SigId>>,
+    // for each signal, those of which an earlier value is read for it
+    pub wants: Graph,
 }

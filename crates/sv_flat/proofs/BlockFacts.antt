@@ -1,6 +1,6 @@
 -- What the rules of blocks say: a settled read for what a target follows lies below the target, a
 -- read of what the block assigns is assigned before; at the end every bit is assigned.
-use Rattle.std.proofs.Common.{ℕ, ◌+◌, ◌<◌, ◌≤◌, Bool, not, ◌&&◌, ◌||◌, ◌==◌, nat_le, ltb-true, List}
+use Rattle.std.proofs.Common.{ℕ, ◌+◌, ◌<◌, ◌≤◌, Bool, not, ◌&&◌, ◌==◌, nat_le, ltb-true, List}
 use Rattle.std.proofs.Common.{[], ◌∷◌, ◌++◌, length, map, ◌⊎◌, inl, inr, ⊎_elim, refl, sym, ap}
 use Rattle.std.proofs.Common.{subst, ◌∙◌, arith}
 use Rattle.std.specs.Prelude.{Contains, IsTrue, IsFalse, filter}
@@ -226,9 +226,7 @@ module _ (design : FlatDesign) (is_sound : IsTrue (sound design))
       → IsTrue (assigns p.body r.name.signal) → IsFalse (is_unassigned design.signals r)
   none_unassigned p at block r r_at own = none_found (is_unassigned design.signals r) (λ missing.
       false≢true (sym (in_phase p at block r r_at)
-      ∙ and_true (assigns p.body r.name.signal) (is_unassigned design.signals r
-      || is_followed design.signals r) own
-      (or_left (is_unassigned design.signals r) (is_followed design.signals r) missing)))
+      ∙ and_true (assigns p.body r.name.signal) (is_unassigned design.signals r) own missing))
 
   -- ---- what is followed
 
@@ -410,37 +408,3 @@ module _ (design : FlatDesign) (is_sound : IsTrue (sound design))
       (or_none_left (is_wrong_sign p.kind t.blocking) _ (or_none_left _ _ right))))
       (λ no_block. one_is_blocking design.signals p.body (is_one p at unclocked no_block))
       (either_way (is_block p.kind))
-
-  -- ---- as long as no block reads what it can assign again
-
-  -- every read is settled
-  pub is_settled : (p : ProcessForm) → Contains (processes_of design) p → (r : Reading)
-      → Contains (process_readings design p) r
-      → IsFalse (is_earlier design p r)
-  is_settled p at r r_at = none_found (is_earlier design p r) (λ earlier.
-      let block = first_of (is_block p.kind) (is_followed design.signals r) earlier in
-      let follows = second_of (is_block p.kind) (is_followed design.signals r) earlier in
-      false≢true (sym (in_phase p at block r r_at)
-      ∙ and_true (assigns p.body r.name.signal) (is_unassigned design.signals r
-      || is_followed design.signals r)
-      (earlier_is_assigned p r r_at earlier)
-      (or_right (is_unassigned design.signals r) (is_followed design.signals r) follows)))
-
-  -- what is read for a target is read for it in the design
-  pub serves_is_read : (p : ProcessForm) (t : ℕ) → Contains (processes_of design) p
-      → IsTrue (assigns p.body t) → (r : Reading)
-      → Contains (process_readings design p) r → IsTrue (r.serves t)
-      → IsTrue (is_read_for design t r.name.signal)
-  serves_is_read p t at assigned r r_at served =
-      settled_is_read p at t assigned t (follows_itself p at t assigned) r r_at served
-      (is_settled p at r r_at)
-
-  -- and lies below it
-  pub serves_is_lower : (p : ProcessForm) (t : ℕ) → Contains (processes_of design) p
-      → IsFalse (is_clocked p.kind)
-      → IsTrue (assigns p.body t)
-      → (r : Reading) → Contains (process_readings design p) r → IsTrue (r.serves t)
-      → depth design r.name.signal < depth design t
-  serves_is_lower p t at unclocked assigned r r_at served =
-      settled_is_lower p at t assigned unclocked t (follows_itself p at t assigned) r r_at served
-      (is_settled p at r r_at)

@@ -189,7 +189,8 @@ t_a = sets 4 (at 5 5) (named 0 (at 5 9))
 abbrev y_t : FlatStatement
 y_t = sets 2 (at 5 12) (named 4 (at 5 16))
 
-pub assigned_again : breaks (block_of (t_h ∷ z_t ∷ t_a ∷ y_t ∷ [])) 606 4 16 4
+-- what is assigned again may be read before
+pub assigned_again : keeps (block_of (t_h ∷ z_t ∷ t_a ∷ y_t ∷ []))
 assigned_again = refl
 
 pub read_too_early : breaks (block_of (z_t ∷ t_a ∷ y_t ∷ [])) 606 4 16 4
@@ -213,8 +214,8 @@ reads_bit i = over_two_points
 pub other_bit_follows : keeps (reads_bit 0)
 other_bit_follows = refl
 
-pub same_bit_follows : breaks (reads_bit 1) 606 1 84 2
-same_bit_follows = refl
+pub bit_without_value : breaks (reads_bit 1) 606 1 84 2
+bit_without_value = refl
 
 -- ---- 607, reads and depth
 

@@ -1,10 +1,10 @@
 -- An `always @*` keeps nothing from one run to the next (this project's profile: no latches).
-use Rattle.std.specs.Prelude.{ℕ, Bool, ◌&&◌, ◌||◌, not, List, map, filter, flat_map}
+use Rattle.std.specs.Prelude.{ℕ, Bool, ◌&&◌, not, List, map, filter, flat_map}
 use Rattle.std.specs.List.{list_any, range_with_len}
 use Rattle.sv_flat.specs.Design.{SignalForm, FlatStatement, ProcessForm, FlatDesign}
 use Rattle.sv_flat.specs.Values.{signal_width}
 use Rattle.sv_flat.specs.Assigned.{assigns, always_assigns}
-use Rattle.sv_flat.specs.Readings.{Reading, readings, no_bits, some_bit_read, is_followed}
+use Rattle.sv_flat.specs.Readings.{Reading, readings, no_bits, some_bit_read}
 use Rattle.sv_flat.specs.Processes.{is_block, signals_that}
 use Rattle.sv_flat.specs.Breaches.{Breach, breach}
 
@@ -29,12 +29,11 @@ abbrev pub is_unassigned : List SignalForm → Reading → Bool
 is_unassigned signals reading =
     some_bit_read signals reading.name (λ b. not (reading.assigned reading.name.signal b))
 
--- The block reads a signal that it assigns where it is not assigned yet, or where it can be
--- assigned again.
+-- The block reads a signal that it assigns where it is not assigned yet. One that can be assigned
+-- again may be read: what is read is the value so far.
 abbrev pub is_out_of_phase : List SignalForm → FlatStatement → Reading → Bool
 is_out_of_phase signals body reading =
-    assigns body reading.name.signal
-    && (is_unassigned signals reading || is_followed signals reading)
+    assigns body reading.name.signal && is_unassigned signals reading
 
 abbrev pub phase_breach : Reading → Breach
 phase_breach reading = breach 606 reading.name.place reading.name.signal

@@ -196,7 +196,7 @@ fn latch(alloc: Global, case: &Case) -> Result<String, AllocError> {
 fn phase(alloc: Global, case: &Case) -> Result<String, AllocError> {
     let name = shown(alloc, case.name())?;
     format!(in alloc;
-        "`{name}` is read here, where its block has not assigned it on every path, or assigns it \
-        again: name the earlier value by a `wire` of its own, or keep it in a register"
+        "`{name}` is read here before its block has assigned it on every path: assign it \
+        above, or give it a value at the block's begin"
     )
 }

@@ -18,11 +18,12 @@ use Rattle.sv_flat.specs.Soundness.{is_one_to, has_type, node_well_formed, well_
 use Rattle.sv_flat.specs.Soundness.{statement_sound, is_signal, sound}
 use Rattle.std.specs.List.{list_all}
 use Rattle.sv_flat.specs.Assigned.{assigns}
-use Rattle.sv_flat.specs.Readings.{ReadForm, reads, names_signal}
-use Rattle.sv_flat.specs.Processes.{is_clocked, is_register, signal_numbers, drivers}
+use Rattle.sv_flat.specs.Readings.{ReadForm, reads, names_signal, no_bits}
+use Rattle.sv_flat.specs.Processes.{is_block, is_clocked, is_register, signal_numbers, drivers}
 use Rattle.sv_flat.specs.SignalLists.{system_signals}
 use Rattle.sv_flat.specs.Clocks.{is_clock, processes_of}
 use Rattle.sv_flat.specs.Admission.{IsAdmitted}
+use Rattle.sv_flat.proofs.BlockFacts.{is_settled}
 use Rattle.sv_flat.proofs.Members.{Contains-either}
 use Rattle.sv_flat.proofs.Depths.{first_of, second_of}
 use Rattle.sv_flat.proofs.LeastSets.{from_some, some_from, in_those, those_below}
@@ -42,6 +43,7 @@ use Rattle.sv_obl.specs.Obligations.{obligations}
 use Rattle.sv_obl.specs.Routes.{RouteForm, open_route, behind, is_all, with_put, with_ways, with_right}
 use Rattle.sv_obl.specs.Routes.{routes_before}
 use Rattle.sv_obl.specs.Views.{IsGoalAmong, IsAmong}
+use Rattle.sv_obl.specs.Wanted.{marked}
 use Rattle.sv_obl.specs.DesignQueries.{Ascends, IsExpressionOf, IsStepOf, IsTargetIn}
 use Rattle.sv_obl.specs.DesignQueries.{IsGoalOf, IsQueryOf, HasPlace, IsPlaced}
 use Rattle.sv_flat.proofs.Members.{only, contained_all, all_contained}
@@ -50,6 +52,7 @@ use Rattle.sv_obl.proofs.PathRuns.{step_of}
 use Rattle.sv_obl.proofs.RoutePaths.{Matches, AllMatch}
 use Rattle.sv_obl.proofs.RouteObligations.{steps_same, paths_are, all_match}
 use Rattle.sv_flat.proofs.SelectorFacts.{selector_is_seen, selected_is_seen}
+use Rattle.sv_obl.proofs.Unchanged.{marked_itself}
 use Rattle.sv_obl.proofs.TargetReads.{reads_of, Origin, origin, inside, in_system, read_is_seen}
 
 -- ---- lists
@@ -231,13 +234,18 @@ module _ (design : FlatDesign) (is_sound : IsTrue (sound design))
     from : Origin design is_sound admitted p s at assigned q
     from = origin design is_sound admitted p s at assigned q q_at
 
+    -- no read is an earlier one, since rule 606 refuses such a body
+    unmarked : marked signals (is_block p.kind) p.body no_bits ≡ p.body
+    unmarked = marked_itself signals (is_block p.kind) p.body no_bits no_bits
+        (λ r r_at. is_settled design is_sound admitted p at r r_at)
+
     steps_formed : (step : StepForm) → Contains q.steps step →
         IsTrue (well_formed signals step.condition)
     steps_formed step step_at =
         let made = Contains-from_map (closed signals (is_clocked p.kind))
         (before signals s p.body (open_path signals s)) q
         (subst (λ ps. Contains ps q)
-        (paths_are design p s below is_sound admitted at) q_at) in
+        (paths_are design p s below is_sound admitted at unmarked) q_at) in
         let route = its_route signals s below (before signals s p.body (open_path signals s))
         (routes_before signals s p.body open_route)
         (all_match design p s below is_sound admitted at) made.0 made.1 in

@@ -8,15 +8,17 @@ use Rattle.std.specs.Prelude.{IsTrue, Contains}
 use Rattle.sv_flat.specs.ByNumber.{signal_forms}
 use Rattle.sv_flat.specs.Clocks.{processes_of}
 use Rattle.sv_flat.specs.Design.{ProcessForm, continuous, FlatStatement, nothing, FlatDesign}
-use Rattle.sv_flat.specs.Processes.{is_clocked}
+use Rattle.sv_flat.specs.Processes.{is_block, is_clocked}
+use Rattle.sv_flat.specs.Readings.{no_bits}
 use Rattle.sv_flat.specs.SignalLists.{driver_of}
 use Rattle.sv_flat.specs.Soundness.{is_signal}
 use Rattle.sv_flat.specs.Views.{design_of, signal_form, process_form}
 use Rattle.sv_flat.specs.declared.designs.Flat.{Flat}
+use Rattle.sv_flat.specs.declared.designs.Process.{Process}
 use Rattle.sv_flat.specs.declared.signals.Signal.{Signal}
 use Rattle.sv_design.specs.Designs.{IsDesign}
 use Rattle.sv_obl.specs.declared.indexed.Indexed.{Indexed}
-use Rattle.sv_obl.specs.declared.targets.Driven.{Driven}
+use Rattle.sv_obl.specs.declared.routes.Route.{Route}
 use Rattle.sv_obl.specs.declared.faults.OblFault.{OblFault}
 use Rattle.sv_obl.specs.Answers.{excess_at, Told, Answers}
 use Rattle.sv_obl.specs.Limits.{Excess}
@@ -24,12 +26,13 @@ use Rattle.sv_obl.specs.BodySlices.{sliced, in_sequence, SameParts, slice_statem
 use Rattle.sv_obl.specs.BodySlices.{driven_body}
 use Rattle.sv_obl.specs.SliceRoutes.{IsSliceOf}
 use Rattle.sv_obl.specs.declared.body_slices.BodySlice.{BodySlice}
-use Rattle.sv_obl.specs.Driven.{HasPaths}
+use Rattle.sv_obl.specs.Driven.{AreRoutes}
 use Rattle.sv_obl.specs.Obligations.{target_obligations}
 use Rattle.sv_obl.specs.Routes.{RouteForm, open_route, routes_before, route_obligation, names_on}
 use Rattle.sv_obl.specs.Routes.{target_excess}
 use Rattle.sv_obl.specs.IndexedBodies.{looked_up, IsIndexed, AreIndexed}
 use Rattle.sv_obl.specs.RouteViews.{route_forms}
+use Rattle.sv_obl.specs.Wanted.{marked}
 use Rattle.sv_obl.proofs.IndexedFacts.{indexed_of_driver, inside_bodies, same_routes}
 use Rattle.sv_obl.proofs.OneDriver.{no_driver, one_driver_at}
 use Rattle.sv_obl.proofs.TargetFacts.{length_mapped, none_listed, none_passed}
@@ -63,8 +66,10 @@ module _ (flat : Flat) (is : IsDesign (design_of flat)) (s : ℕ)
 
   module _ (bodies : List Indexed) (all : AreIndexed (processes_of design) bodies) (k : ℕ)
       (driven : driver_of design s ≡ Some k) (p : ProcessForm)
-      (there : get_or (processes_of design) k p ≡ p) (x : Indexed) (at : x ≡ get_or bodies k x)
-      (signals : List Signal) (are : signals ≡ flat.signals.items) where
+      (there : get_or (processes_of design) k p ≡ p)
+      (unmarked : marked design.signals (is_block p.kind) p.body no_bits ≡ p.body)
+      (x : Indexed) (at : x ≡ get_or bodies k x) (signals : List Signal)
+      (are : signals ≡ flat.signals.items) where
     abbrev routes : List RouteForm
     routes = routes_before (signal_forms signals) s (looked_up s x) open_route
 
@@ -77,32 +82,32 @@ module _ (flat : Flat) (is : IsDesign (design_of flat)) (s : ℕ)
 
     pub driven_excess : (total : ℕ) → target_excess s total routes ≡ excess_at design total s
     driven_excess total = ap (target_excess s total) same
-        ∙ excess_same design is.is_sound is.is_admitted s inside is_known k p driven there total
+        ∙ excess_same design is.is_sound is.is_admitted s inside is_known k p driven there unmarked
+        total
 
     driven_listed : map (route_obligation (length design.signals) p s) routes
         ≡ target_obligations [] design s
     driven_listed = ap (map (route_obligation (length design.signals) p s)) same
-        ∙ listed_same design is.is_sound is.is_admitted s inside is_known k p driven there
+        ∙ listed_same design is.is_sound is.is_admitted s inside is_known k p driven there unmarked
 
     driven_names : (route : RouteForm) → Contains routes route
         → All (λ t. t < length design.signals) (names_on (is_clocked p.kind) s route)
     driven_names route among =
-        names_within design is.is_sound is.is_admitted s inside is_known k p driven there route
+        names_within design is.is_sound is.is_admitted s inside is_known k p driven there unmarked
+        route
         (subst (λ rs. Contains rs route) same among)
 
-    pub has_paths : (driven : Driven) (total : ℕ) → process_form driven.process.now ≡ p
-        → route_forms driven.routes.items ≡ routes → total + length driven.routes.items ≤ 65536
-        → HasPaths design s total driven
-    has_paths driven total through are few =
+    pub are_routes : (process : Process) (found : List Route) → process_form process ≡ p
+        → route_forms found ≡ routes → AreRoutes design s process found
+    are_routes process found through made =
         record {
           listed =
-              ap₂ (λ q rs. map (route_obligation (length design.signals) q s) rs) through are
+              ap₂ (λ q rs. map (route_obligation (length design.signals) q s) rs) through made
               ∙ driven_listed;
-          few = few;
           names = λ route among.
               subst (λ (q : ProcessForm). All (λ t. t < length design.signals)
               (names_on (is_clocked q.kind) s route)) (sym through)
-              (driven_names route (subst (λ rs. Contains rs route) are among));
+              (driven_names route (subst (λ rs. Contains rs route) made among));
         }
 
   -- ---- slices

@@ -10,7 +10,7 @@ use Rattle.sv_num.specs.Vectors.{is_true}
 use Rattle.sv_system.specs.System.{Environment, Fits, IsStill, last_update}
 use Rattle.sv_system.proofs.Lists.{Contains-nil, Contains-map, Contains-filter}
 use Rattle.sv_system.proofs.Lists.{Contains-cases}
-use Rattle.sv_flat.specs.Design.{SignalForm, TypedTree, PieceForm, FlatStatement, nothing, after}
+use Rattle.sv_flat.specs.Design.{SignalForm, TypedTree, FlatStatement, nothing, after}
 use Rattle.sv_flat.specs.Design.{assign, branch, ProcessForm, FlatDesign}
 use Rattle.sv_flat.specs.Values.{signal_width, value}
 use Rattle.sv_flat.specs.Runs.{updates_of}
@@ -26,128 +26,31 @@ use Rattle.sv_flat.specs.Reads.{is_read_for, process_readings}
 use Rattle.sv_flat.specs.FlatSystem.{flat_system}
 use Rattle.sv_flat.specs.Admission.{IsAdmitted}
 use Rattle.sv_flat.proofs.Members.{Contains-left, Contains-right}
-use Rattle.sv_flat.proofs.LeastSets.{either_way, some_from, from_some, holds-from_Contains}
+use Rattle.sv_flat.proofs.LeastSets.{some_from, from_some, holds-from_Contains}
 use Rattle.sv_flat.proofs.Depths.{first_of, second_of}
 use Rattle.sv_flat.proofs.ReadSignals.{reads_signals}
-use Rattle.sv_flat.proofs.SameRuns.{or_none_left, or_none_right, none_found}
+use Rattle.sv_flat.proofs.SameRuns.{none_found}
 use Rattle.sv_flat.proofs.AdmittedFacts.{and_true, is_process, body_is_sound, assigned_is_signal}
 use Rattle.sv_flat.proofs.AdmittedFacts.{drives, extra_at, combinational_is_driven}
 use Rattle.sv_flat.proofs.AdmittedFacts.{clocked_is_process}
-use Rattle.sv_flat.proofs.BlockFacts.{is_settled, serves_is_read}
-use Rattle.sv_obl.specs.MadeValues.{after_piece, made, made_on_the_way, starting_values}
+use Rattle.sv_obl.specs.MadeValues.{after_piece, made, made_on_the_way, starting_values, made_in}
 use Rattle.sv_obl.specs.Wanted.{with_copies, copy_of, is_copy, original, mark, marked_tree, marked}
 use Rattle.sv_obl.proofs.BlockFollows.{keeps_now}
 use Rattle.sv_obl.proofs.OneDriver.{no_second}
-use Rattle.sv_obl.proofs.OnTheWay.{pieces_make, stays_settled, pieces_here, way_runs, way_alike}
-use Rattle.sv_obl.proofs.PathLists.{cond_true, cond_false, none_kept}
-use Rattle.sv_obl.proofs.PutFacts.{made_with, width_settled, signal_is_settled, copy_is_copy}
+use Rattle.sv_obl.proofs.OnTheWay.{stays_settled, pieces_here, way_runs, way_alike}
+use Rattle.sv_obl.proofs.PathLists.{cond_true, cond_false}
+use Rattle.sv_obl.proofs.PutFacts.{width_settled, signal_is_settled, copy_is_copy}
 use Rattle.sv_obl.proofs.PutFacts.{original_of_copy}
 use Rattle.sv_obl.proofs.TargetReads.{clocked_is_no_block, Served, clocked_alone, serves_target}
 use Rattle.sv_obl.proofs.TargetReads.{itself}
 use Rattle.sv_obl.proofs.TargetValues.{one_gives, comes_to_rest, follows, start_is, blocking}
 use Rattle.sv_obl.proofs.TargetValues.{clocked_waits, waits_follow, begins}
-use Rattle.sv_obl.proofs.TreeFacts.{well_held, exchanged_value, same_names}
+use Rattle.sv_obl.proofs.TreeFacts.{well_held, exchanged_value}
 
 none_is_first : (ps : List ProcessForm) (p : ProcessForm) → Contains ps p →
     slice_get ps 0 ≡ None → ⊥
 none_is_first [] p at e = Contains-nil p at
 none_is_first (q ∷ ps) p at e = false≢true (ap is_none e)
-
-module _ (signals : List SignalForm) (s : ℕ) where
-  -- ---- what it is made from
-
-  either_leaves : (c : Bool) (x y old : ℕ) → x ≡ old → y ≡ old → cond c x y ≡ old
-  either_leaves true x y old first second = first
-  either_leaves false x y old first second = second
-
-  -- a statement that does not assign the signal leaves it
-  pub made_leaves : (z : Environment ℕ) (body : FlatStatement) (old : ℕ) → IsFalse (assigns body s)
-      → made signals z s body old ≡ old
-  made_leaves z nothing old none = refl
-  made_leaves z (after first second) old none =
-      made_leaves z second (made signals z s first old)
-      (or_none_right (assigns first s) (assigns second s) none)
-      ∙ made_leaves z first old (or_none_left (assigns first s) (assigns second s) none)
-  made_leaves z (assign pieces place blocked right) old none =
-      pieces_make signals s (value signals z right) pieces old
-      ∙ ap (λ ps. made_with signals (value signals z right) ps old)
-      (none_kept (λ (p : PieceForm). p.signal == s) pieces none)
-  made_leaves z (branch place condition first second) old none =
-      either_leaves (is_true (value signals z condition)) (made signals z s first old)
-      (made signals z s second old) old
-      (made_leaves z first old (or_none_left (assigns first s) (assigns second s) none))
-      (made_leaves z second old (or_none_right (assigns first s) (assigns second s) none))
-
-  module _ (z y : Environment ℕ) where
-    -- the environments agree on what is read for the signal
-    abbrev AlikeFor : List Reading → Type 0
-    AlikeFor rs =
-        (r : Reading) → Contains rs r → IsTrue (r.serves s) → z r.name.signal ≡ y r.name.signal
-
-    tree_alike : (t : TypedTree) (whole : FlatStatement) (early follows : BitSet)
-        → IsTrue (well_formed signals t) → IsTrue (assigns whole s)
-        → AlikeFor (readings_of signals t (assigns whole) early follows)
-        → value signals z t ≡ value signals y t
-    tree_alike t whole early follows well own alike =
-        same_names signals (length signals) z y t (well_held signals t well) (λ r at.
-        alike (record { name = r; serves = assigns whole; assigned = early; follows = follows })
-        (Contains-map (λ (x : ReadForm).
-        record { name = x; serves = assigns whole; assigned = early; follows = follows })
-        (reads signals t) r at) own)
-
-    -- so they make the same of it
-    pub made_alike : (body : FlatStatement) (early later : BitSet) (old : ℕ)
-        → IsTrue (statement_sound signals body)
-        → AlikeFor (readings signals body early later)
-        → made signals z s body old ≡ made signals y s body old
-    made_alike nothing early later old sound alike = refl
-    made_alike (after first second) early later old sound alike =
-        let late = either (can_assign second) later in
-        let mid = either (always_assigns first) early in
-        ap (made signals z s second)
-        (made_alike first early late old
-        (first_of (statement_sound signals first) (statement_sound signals second) sound)
-        (λ r at. alike r (Contains-left (readings signals first early late)
-        (readings signals second mid later) r at)))
-        ∙ made_alike second mid later (made signals y s first old)
-        (second_of (statement_sound signals first) (statement_sound signals second) sound)
-        (λ r at. alike r (Contains-right (readings signals first early late)
-        (readings signals second mid later) r at))
-    made_alike (assign pieces place blocked right) early later old sound alike =
-        let whole = assign pieces place blocked right in
-        ⊎_elim
-        (λ own. ap (λ v. fold (after_piece signals s v) old pieces)
-        (tree_alike right whole early (either (can_assign whole) later)
-        (first_of (well_formed signals right) (list_all (piece_fits signals right) pieces) sound)
-        own alike))
-        (λ other. made_leaves z whole old other ∙ sym (made_leaves y whole old other))
-        (either_way (assigns whole s))
-    made_alike (branch place condition first second) early later old sound alike =
-        let whole = branch place condition first second in
-        let follows = either (can_assign whole) later in
-        let here = readings_of signals condition (assigns whole) early follows in
-        let in_first = readings signals first early later in
-        let in_second = readings signals second early later in
-        let front = first_of (well_formed signals condition && statement_sound signals first)
-        (statement_sound signals second) sound in
-        ⊎_elim
-        (λ own.
-        ap (λ v. cond (is_true v) (made signals z s first old) (made signals z s second old))
-        (tree_alike condition whole early follows
-        (first_of (well_formed signals condition) (statement_sound signals first) front) own
-        (λ r at. alike r (Contains-left (here ++ in_first) in_second r
-        (Contains-left here in_first r at))))
-        ∙ ap₂ (cond (is_true (value signals y condition)))
-        (made_alike first early later old
-        (second_of (well_formed signals condition) (statement_sound signals first) front)
-        (λ r at. alike r (Contains-left (here ++ in_first) in_second r
-        (Contains-right here in_first r at))))
-        (made_alike second early later old
-        (second_of (well_formed signals condition && statement_sound signals first)
-        (statement_sound signals second) sound)
-        (λ r at. alike r (Contains-right (here ++ in_first) in_second r at))))
-        (λ other. made_leaves z whole old other ∙ sym (made_leaves y whole old other))
-        (either_way (assigns whole s))
 
 module _ (signals : List SignalForm) (in_block : Bool) (followed : List ℕ) (z : Environment ℕ) where
   -- ---- wanted names
@@ -293,12 +196,9 @@ module _ (design : FlatDesign) (is_sound : IsTrue (sound design)) (admitted : Is
 
   -- ---- what the process makes on its way
 
-  -- from where it begins, of the copy of the signal
+  -- from where it begins
   abbrev pub made_by : Environment ℕ → ℕ
-  made_by e =
-      made_on_the_way design.signals (followed design p s)
-      (marked design.signals (is_block p.kind) p.body no_bits)
-      (starting_values design.signals (is_clocked p.kind) e) (copy_of design.signals s)
+  made_by e = made_in design p s e
 
   -- the settled value of a signal
   pub way_makes_settled : IsFalse (is_clocked p.kind) → (e : Environment ℕ)
@@ -396,30 +296,6 @@ module _ (design : FlatDesign) (is_sound : IsTrue (sound design)) (admitted : Is
       ∙ sym (way_is_made (λ r r_at. ap (λ c. c && is_followed design.signals r)
       (clocked_is_no_block p.kind clock)) e)
       ∙ way_makes_next clock e
-
-  -- ---- as long as no block reads what it can assign again
-
-  pub starts_and_makes : (e : Environment ℕ)
-      → made_by e ≡ made design.signals e s p.body (cond (is_clocked p.kind) (e s) 0)
-  starts_and_makes e = way_is_made (λ r r_at. is_settled design is_sound admitted p at r r_at) e
-
-  -- a body makes from 0 the settled value of a signal
-  pub makes_settled : IsFalse (is_clocked p.kind) → (e : Environment ℕ)
-      → Fits (flat_system design) e → IsStill (flat_system design) e
-      → made design.signals e s p.body 0 ≡ e s
-  makes_settled unclocked e fits still =
-      ap (made design.signals e s p.body) (sym (cond_false (is_clocked p.kind) (e s) 0 unclocked))
-      ∙ sym (starts_and_makes e)
-      ∙ way_makes_settled unclocked e fits still
-
-  -- from what is read for the signal alone
-  pub makes_from_reads : (e f : Environment ℕ)
-      → ((t : ℕ) → IsTrue (is_read_for design s t) → e t ≡ f t)
-      → (old : ℕ) → made design.signals e s p.body old ≡ made design.signals f s p.body old
-  makes_from_reads e f same old =
-      made_alike design.signals s e f p.body no_bits no_bits old sound_body
-      (λ r r_at served. same r.name.signal
-      (serves_is_read design is_sound admitted p s at own r r_at served))
 
 -- ---- drivers
 

@@ -18,18 +18,18 @@ filter_alike f g same [] = refl
 filter_alike f g same (x ∷ xs) =
     ap₂ (λ b ys. cond b (x ∷ ys) ys) (same x) (filter_alike f g same xs)
 
-filter_none : (xs : List ℕ) → filter (λ (t : ℕ). false) xs ≡ []
+pub filter_none : (xs : List ℕ) → filter (λ (t : ℕ). false) xs ≡ []
 filter_none [] = refl
 filter_none (x ∷ xs) = filter_none xs
 
-compare_less : (k a : ℕ) → k < a → nat_cmp k a ≡ Less
+pub compare_less : (k a : ℕ) → k < a → nat_cmp k a ≡ Less
 compare_less k a h = ap (λ b. cond b Less (cond (k == a) Equal Greater)) (lt-ltb k a h)
 
-compare_equal : (k a : ℕ) → k ≡ a → nat_cmp k a ≡ Equal
+pub compare_equal : (k a : ℕ) → k ≡ a → nat_cmp k a ≡ Equal
 compare_equal k a h =
     ap₂ (λ b c. cond b Less (cond c Equal Greater)) (le-ltb k a (omega arith)) (eq-eqb k a h)
 
-compare_greater : (k a : ℕ) → a < k → nat_cmp k a ≡ Greater
+pub compare_greater : (k a : ℕ) → a < k → nat_cmp k a ≡ Greater
 compare_greater k a h =
     ap₂ (λ b c. cond b Less (cond c Equal Greater)) (le-ltb k a (omega arith))
     (ne_eqb k a (λ e. absurd (omega arith)))
@@ -69,7 +69,7 @@ module _ (k : ℕ) (test : ℕ → Bool) where
       or_none true = refl
       or_none false = refl
 
-  put_in_range : (a n : ℕ) → a ≤ k → k < a + n
+  pub put_in_range : (a n : ℕ) → a ≤ k → k < a + n
       → insert_key nat_cmp (filter test (range_with_len a n)) k
       ≡ filter with_k (range_with_len a n)
   put_in_range a zero low high = absurd (omega arith)

@@ -58,7 +58,7 @@ next_reversed f g xs i x y done new inside is gains same here =
     ∙ sym (reverse-append (f x ∷ []) (map f (drop (length xs - i) xs)))
     ∙ ap (λ zs. reverse (map f zs)) (sym rest)
 
-reversed_map : {X Y : Type 0} (f : X → Y) (xs : List X) → map f (reverse xs) ≡ reverse (map f xs)
+pub reversed_map : {X Y : Type 0} (f : X → Y) (xs : List X) → map f (reverse xs) ≡ reverse (map f xs)
 reversed_map f [] = refl
 reversed_map f (x ∷ xs) =
     ap (map f) (reverse-append (x ∷ []) xs)

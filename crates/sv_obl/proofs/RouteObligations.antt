@@ -21,7 +21,6 @@ use Rattle.sv_flat.specs.Clocks.{processes_of}
 use Rattle.sv_flat.specs.Processes.{is_clocked, is_block}
 use Rattle.sv_flat.specs.Readings.{ReadForm, reads, names_signal, no_bits}
 use Rattle.sv_flat.proofs.AdmittedFacts.{body_is_sound}
-use Rattle.sv_flat.proofs.BlockFacts.{is_settled}
 use Rattle.sv_flat.proofs.Members.{Contains-either}
 use Rattle.sv_flat.proofs.LeastSets.{or_cases, from_some, holds-from_Contains}
 use Rattle.sv_flat.proofs.LeastSets.{Contains-from_holds}
@@ -40,7 +39,6 @@ use Rattle.sv_obl.proofs.PutAlone.{Settled, AllSettled, kept_each, by_signals, c
 use Rattle.sv_obl.proofs.PutAlone.{steps_stay, here, settled_names}
 use Rattle.sv_obl.proofs.RouteNames.{stands, exchanged_in, names_alike, held_name}
 use Rattle.sv_obl.proofs.RoutePaths.{Matches, AllMatch, open_matches, before_match}
-use Rattle.sv_obl.proofs.Unchanged.{marked_itself}
 
 any_reversed : {X : Type 0} (test : X → Bool) (xs : List X) →
     list_any test (reverse xs) ≡ list_any test xs
@@ -285,42 +283,42 @@ module _ (design : FlatDesign) (p : ProcessForm) (s : ℕ) (inside : s < length 
       (λ later. all_below ps rs all.1 r later)
       (Contains-cases q rs r at)
 
-  -- ---- where no read is an earlier one
+  -- ---- the routes of the body
 
   module _ (is_sound : IsTrue (sound design)) (admitted : IsAdmitted design)
       (at : Contains (processes_of design) p) where
     abbrev pub target_routes : List RouteForm
     target_routes = routes_before signals s p.body open_route
 
-    body_same : marked signals (is_block p.kind) p.body no_bits ≡ p.body
-    body_same = marked_itself signals (is_block p.kind) p.body no_bits no_bits
-        (λ r r_at. is_settled design is_sound admitted p at r r_at)
-
-    pub paths_are : paths signals s p.kind p.body
-        ≡ map close_path (before signals s p.body (open_path signals s))
-    paths_are = ap (λ body. map close_path (before signals s body (open_path signals s))) body_same
-
     pub all_match : AllMatch signals s inside (before signals s p.body (open_path signals s))
         target_routes
     all_match = before_match signals s inside p.body (body_is_sound design is_sound admitted p at)
         (open_path signals s) open_route (open_matches signals s inside)
 
-    -- the obligations of the target through the process are those of its routes
-    pub target_is : map (path_obligation [] design p s) (paths signals s p.kind p.body)
-        ≡ map (route_obligation (length signals) p s) target_routes
-    target_is = ap (map (path_obligation [] design p s)) paths_are
-        ∙ obligations_same (before signals s p.body (open_path signals s)) target_routes all_match
-
-    pub target_large : list_any (λ (path : Path). nat_lt 65536 path.nodes)
-        (paths signals s p.kind p.body)
-        ≡ list_any is_large target_routes
-    target_large = ap (list_any (λ (path : Path). nat_lt 65536 path.nodes)) paths_are
-        ∙ large_same (before signals s p.body (open_path signals s)) target_routes all_match
-
-    pub target_count : length (paths signals s p.kind p.body) ≡ length target_routes
-    target_count = ap length paths_are
-        ∙ count_same (before signals s p.body (open_path signals s)) target_routes all_match
-
     pub target_below : (r : RouteForm) → Contains target_routes r
         → All (λ t. t < length signals) (names_on (is_clocked p.kind) s r)
     target_below = all_below (before signals s p.body (open_path signals s)) target_routes all_match
+
+    -- ---- where no read is an earlier one
+
+    module _ (unmarked : marked signals (is_block p.kind) p.body no_bits ≡ p.body) where
+      pub paths_are : paths signals s p.kind p.body
+          ≡ map close_path (before signals s p.body (open_path signals s))
+      paths_are =
+          ap (λ body. map close_path (before signals s body (open_path signals s))) unmarked
+
+      -- the obligations of the target through the process are those of its routes
+      pub target_is : map (path_obligation [] design p s) (paths signals s p.kind p.body)
+          ≡ map (route_obligation (length signals) p s) target_routes
+      target_is = ap (map (path_obligation [] design p s)) paths_are
+          ∙ obligations_same (before signals s p.body (open_path signals s)) target_routes all_match
+
+      pub target_large : list_any (λ (path : Path). nat_lt 65536 path.nodes)
+          (paths signals s p.kind p.body)
+          ≡ list_any is_large target_routes
+      target_large = ap (list_any (λ (path : Path). nat_lt 65536 path.nodes)) paths_are
+          ∙ large_same (before signals s p.body (open_path signals s)) target_routes all_match
+
+      pub target_count : length (paths signals s p.kind p.body) ≡ length target_routes
+      target_count = ap length paths_are
+          ∙ count_same (before signals s p.body (open_path signals s)) target_routes all_match

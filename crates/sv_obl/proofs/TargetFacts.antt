@@ -13,48 +13,48 @@ use Rattle.sv_flat.specs.Design.{ProcessForm, FlatDesign}
 use Rattle.sv_flat.specs.Soundness.{sound, is_signal}
 use Rattle.sv_flat.specs.Admission.{IsAdmitted}
 use Rattle.sv_flat.specs.Clocks.{processes_of}
-use Rattle.sv_flat.specs.Processes.{drivers, is_clocked}
+use Rattle.sv_flat.specs.Processes.{drivers, is_block, is_clocked}
+use Rattle.sv_flat.specs.Readings.{no_bits}
 use Rattle.sv_flat.specs.SignalLists.{driver_of}
 use Rattle.sv_obl.specs.declared.queries.Query.{Query}
-use Rattle.sv_obl.specs.declared.routes.Route.{Route}
 use Rattle.sv_obl.specs.Answers.{excess_at}
 use Rattle.sv_obl.specs.Limits.{Excess, many_paths, large_path, many_obligations, target_paths}
 use Rattle.sv_obl.specs.Obligations.{Obligation, path_obligation, target_obligations}
 use Rattle.sv_obl.specs.Paths.{Path, paths}
 use Rattle.sv_obl.specs.Routes.{RouteForm, open_route, routes_before, route_obligation}
 use Rattle.sv_obl.specs.Routes.{names_on, target_excess}
-use Rattle.sv_obl.specs.RouteViews.{route_form, route_forms}
 use Rattle.sv_obl.specs.Views.{obligation_of}
+use Rattle.sv_obl.specs.Wanted.{marked}
 use Rattle.sv_obl.proofs.OneDriver.{no_driver, one_driver_at}
 use Rattle.sv_obl.proofs.RouteObligations.{target_is, target_large, target_count}
 use Rattle.sv_obl.proofs.RouteObligations.{target_below}
 
 -- the obligation of one more path
-pub next_query : (become : RouteForm → Obligation) (routes : List Route) (i : ℕ) (x : Route)
-    → i < length routes → x ≡ get_or routes i x
+pub next_query : {F X : Type 0} (form : X → F) (become : F → Obligation) (xs : List X) (i : ℕ)
+    (x : X) → i < length xs → x ≡ get_or xs i x
     → (queries new : List Query) (q : Query) (whole : List Obligation)
-    → new ≡ queries ++ q ∷ [] → obligation_of q ≡ become (route_form x)
-    → map obligation_of queries ++ map become (route_forms (drop i routes)) ≡ whole
-    → map obligation_of new ++ map become (route_forms (drop (i + 1) routes)) ≡ whole
-next_query become routes i x inside is queries new q whole gains same here =
-    ap (λ qs. map obligation_of qs ++ map become (route_forms (drop (i + 1) routes))) gains
-    ∙ ap (λ os. os ++ map become (route_forms (drop (i + 1) routes)))
+    → new ≡ queries ++ q ∷ [] → obligation_of q ≡ become (form x)
+    → map obligation_of queries ++ map become (map form (drop i xs)) ≡ whole
+    → map obligation_of new ++ map become (map form (drop (i + 1) xs)) ≡ whole
+next_query form become xs i x inside is queries new q whole gains same here =
+    ap (λ qs. map obligation_of qs ++ map become (map form (drop (i + 1) xs))) gains
+    ∙ ap (λ os. os ++ map become (map form (drop (i + 1) xs)))
     (map-append obligation_of queries (q ∷ []))
     ∙ append_assoc (map obligation_of queries) (obligation_of q ∷ [])
-    (map become (route_forms (drop (i + 1) routes)))
-    ∙ ap₂ (λ o k. map obligation_of queries ++ o ∷ map become (route_forms (drop k routes)))
+    (map become (map form (drop (i + 1) xs)))
+    ∙ ap₂ (λ o k. map obligation_of queries ++ o ∷ map become (map form (drop k xs)))
     same (add-one i)
     ∙ ap (λ t. map obligation_of queries
-    ++ become (route_form t) ∷ map become (route_forms (drop (suc i) routes))) is
-    ∙ ap (λ ts. map obligation_of queries ++ map become (route_forms ts))
-    (sym (drop-cons routes i x inside))
+    ++ become (form t) ∷ map become (map form (drop (suc i) xs))) is
+    ∙ ap (λ ts. map obligation_of queries ++ map become (map form ts))
+    (sym (drop-cons xs i x inside))
     ∙ here
 
-pub route_there : (routes : List Route) (i : ℕ) (x : Route) → i < length routes
-    → x ≡ get_or routes i x → Contains (route_forms routes) (route_form x)
-route_there routes i x inside is =
-    Contains-map route_form routes x
-    (subst (Contains routes) (sym is) (Contains-get_or routes i x inside))
+pub form_there : {F X : Type 0} (form : X → F) (xs : List X) (i : ℕ) (x : X) → i < length xs
+    → x ≡ get_or xs i x → Contains (map form xs) (form x)
+form_there form xs i x inside is =
+    Contains-map form xs x
+    (subst (Contains xs) (sym is) (Contains-get_or xs i x inside))
 
 pub length_mapped : {X Y : Type 0} (f : X → Y) (xs : List X) → length (map f xs) ≡ length xs
 length_mapped f [] = refl
@@ -123,7 +123,8 @@ module _ (design : FlatDesign) (is_sound : IsTrue (sound design)) (admitted : Is
   -- ---- a target that a process drives
 
   module _ (k : ℕ) (p : ProcessForm) (driven : driver_of design s ≡ Some k)
-      (there : get_or (processes_of design) k p ≡ p) where
+      (there : get_or (processes_of design) k p ≡ p)
+      (unmarked : marked design.signals (is_block p.kind) p.body no_bits ≡ p.body) where
     abbrev routes : List RouteForm
     routes = routes_before design.signals s p.body open_route
 
@@ -143,8 +144,8 @@ module _ (design : FlatDesign) (is_sound : IsTrue (sound design)) (admitted : Is
     excess_same total = sym (
         ap (λ found. excess_of total (length found) (list_any (λ (path : Path).
         nat_lt 65536 path.nodes) found)) paths_are
-        ∙ ap₂ (excess_of total) (target_count design p s inside is_sound admitted at)
-        (target_large design p s inside is_sound admitted at))
+        ∙ ap₂ (excess_of total) (target_count design p s inside is_sound admitted at unmarked)
+        (target_large design p s inside is_sound admitted at unmarked))
 
     pub listed_same : map (route_obligation (length design.signals) p s) routes
         ≡ target_obligations [] design s
@@ -152,7 +153,7 @@ module _ (design : FlatDesign) (is_sound : IsTrue (sound design)) (admitted : Is
         ap (flat_map (λ (x : ProcessForm).
         map (path_obligation [] design x s) (paths design.signals s x.kind x.body))) alone
         ∙ append-nil (map (path_obligation [] design p s) (paths design.signals s p.kind p.body))
-        ∙ target_is design p s inside is_sound admitted at)
+        ∙ target_is design p s inside is_sound admitted at unmarked)
 
     pub names_within : (route : RouteForm) → Contains routes route
         → All (λ t. t < length design.signals) (names_on (is_clocked p.kind) s route)

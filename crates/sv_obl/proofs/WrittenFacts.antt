@@ -15,18 +15,26 @@ use Rattle.sv_obl.specs.declared.faults.OblFault.{OblFault}
 use Rattle.sv_obl.specs.declared.list_texts.Lines.{Lines}
 use Rattle.sv_obl.specs.declared.queries.Query.{Query}
 use Rattle.sv_obl.specs.declared.routes.Route.{Route}
+use Rattle.sv_obl.specs.declared.trails.Trail.{Trail}
 use Rattle.sv_obl.specs.Answers.{Told, excess_at}
 use Rattle.sv_obl.specs.DesignQueries.{IsQueryOf}
-use Rattle.sv_obl.specs.Driven.{HasPaths}
+use Rattle.sv_obl.specs.Driven.{ArePaths, how_many, HasPaths}
 use Rattle.sv_obl.specs.declared.targets.Driven.{Driven}
+use Rattle.sv_obl.specs.declared.targets.Paths.{Paths}
+use Rattle.sv_obl.specs.declared.targets.Paths.TheVariants.{Routes, Trails}
+use Rattle.sv_flat.specs.declared.designs.Process.{Process}
 use Rattle.sv_flat.specs.Views.{process_form}
+use Rattle.sv_obl.specs.Alongs.{trail_obligation, trails_excess, is_large_trail}
 use Rattle.sv_obl.specs.Limits.{Excess, many_paths, large_path, many_obligations}
 use Rattle.sv_obl.specs.Limits.{first_excess, excess, target_paths}
 use Rattle.sv_obl.specs.ListLines.{list_line, lines_from, list_text}
 use Rattle.sv_obl.specs.Obligations.{Obligation, target_obligations, selector_obligations}
+use Rattle.sv_obl.specs.Marked.{marked_statement}
 use Rattle.sv_obl.specs.Obligations.{obligations}
 use Rattle.sv_obl.specs.Routes.{RouteForm, names_on, route_obligation, is_large, target_excess}
 use Rattle.sv_obl.specs.RouteViews.{route_form, route_forms}
+use Rattle.sv_obl.specs.Trails.{TrailForm}
+use Rattle.sv_obl.specs.TrailViews.{trail_form, trail_forms}
 use Rattle.sv_obl.specs.Views.{obligation_of, IsAmong}
 use Rattle.sv_obl.specs.ListParts.{obligations_before, obligations_from, lines_left, AreCounted}
 use Rattle.sv_obl.specs.Written.{Writes}
@@ -58,13 +66,13 @@ formed_more f xs i x inside is =
     ∙ map-append f (take i xs) (get_or xs i x ∷ [])
     ∙ ap (λ y. map f (take i xs) ++ f y ∷ []) (sym is)
 
-pub routes_more : (become : RouteForm → Obligation) (routes : List Route) (i : ℕ) (x : Route)
-    → i < length routes → x ≡ get_or routes i x
-    → map become (route_forms (take (i + 1) routes))
-    ≡ map become (route_forms (take i routes)) ++ become (route_form x) ∷ []
-routes_more become routes i x inside is =
-    ap (map become) (formed_more route_form routes i x inside is)
-    ∙ map-append become (route_forms (take i routes)) (route_form x ∷ [])
+pub forms_more : {F X : Type 0} (form : X → F) (become : F → Obligation) (xs : List X) (i : ℕ)
+    (x : X) → i < length xs → x ≡ get_or xs i x
+    → map become (map form (take (i + 1) xs))
+    ≡ map become (map form (take i xs)) ++ become (form x) ∷ []
+forms_more form become xs i x inside is =
+    ap (map become) (formed_more form xs i x inside is)
+    ∙ map-append become (map form (take i xs)) (form x ∷ [])
 
 -- those before a place are as many as its number
 count_before : {X : Type 0} (xs : List X) (i : ℕ) → i < length xs → length (take i xs) ≡ i
@@ -142,14 +150,14 @@ module _ (signals : List SignalForm) where
       let before = count_before xs i inside in
       omega arith
 
-  pub fewer_routes : (become : RouteForm → Obligation) (routes : List Route) (i most : ℕ)
-      (a b : Lines) → i < length routes → a.count + length routes ≤ most
-      → Writes signals (map become (route_forms (take i routes))) a b → b.count < most
-  fewer_routes become routes i most a b inside few w =
+  pub fewer_formed : {F X : Type 0} (form : X → F) (become : F → Obligation) (xs : List X)
+      (i most : ℕ) (a b : Lines) → i < length xs → a.count + length xs ≤ most
+      → Writes signals (map become (map form (take i xs))) a b → b.count < most
+  fewer_formed form become xs i most a b inside few w =
       let counted = w.count in
-      let mapped = length_mapped become (route_forms (take i routes)) in
-      let formed = length_mapped route_form (take i routes) in
-      let before = count_before routes i inside in
+      let mapped = length_mapped become (map form (take i xs)) in
+      let formed = length_mapped form (take i xs) in
+      let before = count_before xs i inside in
       omega arith
 
 -- ---- obligations
@@ -223,13 +231,24 @@ module _ (design : FlatDesign) where
       }
 
   -- a target has as many obligations as paths
+  as_many : (i : ℕ) (process : Process) (paths : Paths) → ArePaths design i process paths
+      → how_many paths ≡ length (target_obligations [] design i)
+  as_many i process (Routes routes) are =
+      let become = route_obligation (length design.signals) (process_form process) i in
+      sym (length_mapped route_form routes.items)
+      ∙ sym (length_mapped become (route_forms routes.items))
+      ∙ ap length are.listed
+  as_many i process (Trails body trails) are =
+      let become = trail_obligation design.signals (process_form process) i
+      (marked_statement body.now) in
+      sym (length_mapped trail_form trails.items)
+      ∙ sym (length_mapped become (trail_forms trails.items))
+      ∙ ap length are.listed
+
   pub paths_many : (i total : ℕ) (driven : Driven) → HasPaths design i total driven
-      → total + length driven.routes.items ≡ total + length (target_obligations [] design i)
+      → total + how_many driven.paths ≡ total + length (target_obligations [] design i)
   paths_many i total driven has =
-      let become = route_obligation (length design.signals) (process_form driven.process.now) i in
-      ap (λ n. total + n)
-      (sym (length_mapped route_form driven.routes.items)
-      ∙ sym (length_mapped become (route_forms driven.routes.items)) ∙ ap length has.listed)
+      ap (λ n. total + n) (as_many i driven.process.now driven.paths has.are)
 
   -- and none where no process drives it
   pub no_paths : (i total : ℕ) → target_obligations [] design i ≡ []
@@ -377,3 +396,12 @@ few_routes s total forms routes none are =
     (third_is_false (nat_lt 4096 (length forms)) (list_any is_large forms)
     (nat_lt 65536 (total + length forms)) (many_paths s) (large_path s) many_obligations none) in
     subst (λ n. total + n ≤ 65536) (sym (ap length are) ∙ length_mapped route_form routes) few
+
+pub few_trails : (s total : ℕ) (forms : List TrailForm) (trails : List Trail)
+    → trails_excess s total forms ≡ None → trail_forms trails ≡ forms
+    → total + length trails ≤ 65536
+few_trails s total forms trails none are =
+    let few = ltb-false 65536 (total + length forms)
+    (third_is_false (nat_lt 4096 (length forms)) (list_any is_large_trail forms)
+    (nat_lt 65536 (total + length forms)) (many_paths s) (large_path s) many_obligations none) in
+    subst (λ n. total + n ≤ 65536) (sym (ap length are) ∙ length_mapped trail_form trails) few

@@ -6,7 +6,7 @@ use Rattle.sv_flat.specs.Clocks.{processes_of}
 use Rattle.sv_flat.specs.Design.{FlatDesign}
 use Rattle.sv_flat.specs.Processes.{signal_numbers}
 use Rattle.sv_obl.specs.declared.list_parts.Listing.{Listing}
-use Rattle.sv_obl.specs.IndexedBodies.{AreIndexed}
+use Rattle.sv_obl.specs.Driven.{AreWalked}
 use Rattle.sv_obl.specs.Limits.{first_excess, excess}
 use Rattle.sv_obl.specs.ListLines.{lines_from}
 use Rattle.sv_obl.specs.Obligations.{Obligation, target_obligations, selector_obligations}
@@ -38,5 +38,5 @@ pub record AreCounted (design : FlatDesign) (target total : ℕ) : Type 0 where
 
 -- this target comes next
 pub record IsAt (design : FlatDesign) (target : ℕ) (listing : Listing) : Type 0 where
-  pub bodies : AreIndexed (processes_of design) listing.bodies.items
+  pub bodies : AreWalked design (processes_of design) listing.bodies
   pub counted : AreCounted design target listing.count

@@ -4,11 +4,14 @@ use Rattle.std.specs.Prelude.{ℕ, Bool, ◌==◌, not, if◌then◌else◌, Lis
 use Rattle.sv_num.specs.Vectors.{is_true}
 use Rattle.sv_system.specs.System.{Environment, put}
 use Rattle.sv_flat.specs.Design.{SignalForm, PieceForm, FlatStatement, nothing, after, assign}
-use Rattle.sv_flat.specs.Design.{branch}
+use Rattle.sv_flat.specs.Design.{branch, ProcessForm, FlatDesign}
 use Rattle.sv_flat.specs.Values.{value}
 use Rattle.sv_flat.specs.Runs.{with_piece}
+use Rattle.sv_flat.specs.Processes.{is_clocked, is_block}
+use Rattle.sv_flat.specs.Readings.{no_bits}
+use Rattle.sv_flat.specs.Reads.{followed}
 use Rattle.sv_flat.specs.Sets.{holds}
-use Rattle.sv_obl.specs.Wanted.{with_copies, copy_of, is_copy, original}
+use Rattle.sv_obl.specs.Wanted.{with_copies, copy_of, is_copy, original, marked}
 
 -- the target's value after one piece: where the piece is of the target, its bits are those that it
 -- takes from the value of the right side
@@ -65,3 +68,11 @@ starting_values signals is_register settled t =
     if not (is_copy signals t) then settled t
     else if is_register then settled (original signals t)
     else 0
+
+-- What a process makes of a signal from where it begins: of the signal's copy, among those of all
+-- signals that are followed for it.
+abbrev pub made_in : FlatDesign → ProcessForm → (target : ℕ) → (settled : Environment ℕ) → ℕ
+made_in design process s settled =
+    made_on_the_way design.signals (followed design process s)
+    (marked design.signals (is_block process.kind) process.body no_bits)
+    (starting_values design.signals (is_clocked process.kind) settled) (copy_of design.signals s)

@@ -1,19 +1,23 @@
 // What of a body matters to one target, so that a walk for it asks nothing twice.
-ghost use Rattle.std.specs.Prelude.{◌≡◌, ℕ, ◌-◌, ◌<◌, [], map, length, IfOk, OnOk};
+ghost use Rattle.std.specs.Prelude.{◌≡◌, ℕ, ◌-◌, ◌<◌, [], ◌++◌, map, length, is_some, IfOk, OnOk};
+ghost use Rattle.std.specs.List.{list_any};
 ghost use Rattle.sv_flat.specs.Design.{FlatStatement, assign, branch};
-ghost use Rattle.sv_flat.specs.Clocks.{processes_of};
+ghost use Rattle.sv_flat.specs.ByNumber.{signal_forms};
 ghost use Rattle.sv_flat.specs.Views.{typed_tree, design_of};
 ghost use Rattle.sv_obl.specs.BodySlices.{sliced, SameParts, slice_statement, driven_body};
 ghost use Rattle.sv_obl.specs.SliceRoutes.{is_nothing, IsSliceOf, IsChain, AreSlicesOf, EndsIn};
-ghost use Rattle.sv_obl.specs.IndexedBodies.{AreIndexed, looked_up, chosen, numbers_at};
+ghost use Rattle.sv_obl.specs.IndexedBodies.{looked_up, chosen, numbers_at};
+ghost use Rattle.sv_obl.specs.MarkedBodies.{AreBodiesOf, IsMarkedFor};
 ghost use Rattle.sv_obl.specs.RouteViews.{piece_forms};
+ghost use Rattle.sv_obl.specs.Wanted.{with_copies};
 
 use crate::indexed::{Indexed, indexed_bodies};
+use crate::marked::{Marked, marked_bodies};
 use crate::pieces::is_some_of;
 use std::alloc::{AllocError, Global};
 use std::collections::BTreeMap;
 use sv_design::Design;
-use sv_flat::{FExpr, Piece, SigId};
+use sv_flat::{FExpr, Piece, SigId, Signal};
 use sv_num::Place;
 
 /// What of a statement matters to one target (a program slice): each part that does not assign the
@@ -237,20 +241,66 @@ fn part_slices<'a>(
     Ok(slices)
 }
 
-/// The indexed bodies of a design's processes, of which each target's slice is taken.
+/// The bodies of a design's processes, of which each target's slice is taken: indexed, and those
+/// with an earlier read with such reads wanted.
 #[derive(Drop)]
 pub struct Bodies<'a> {
     pub bodies: Vec<Indexed<'a>>,
+    pub marked: Vec<Option<Marked<'a>>>,
+    /// The signals and then their copies, where a body has an earlier read, else none.
+    pub twice: Vec<Signal>,
+}
+
+// Copies of signals, behind those that are there.
+fn push_copies(
+    alloc: Global,
+    signals: &[Signal],
+    copies: &mut Vec<Signal>,
+) -> Result<(), AllocError>
+    ensures { OnOk result (signal_forms copies.new.items
+        ≡ signal_forms copies.old.items ++ signal_forms signals.now) }
+{
+    for signal in signals {
+        copies.push(signal.copy(alloc)?)?;
+    }
+    Ok(())
+}
+
+// The signals and then their copies.
+fn with_copies(alloc: Global, signals: &[Signal]) -> Result<Vec<Signal>, AllocError>
+    ensures { IfOk result (λ twice.
+        signal_forms twice.items ≡ with_copies (signal_forms signals.now)) }
+{
+    let mut twice = Vec::new(alloc);
+    push_copies(alloc, signals, &mut twice)?;
+    push_copies(alloc, signals, &mut twice)?;
+    Ok(twice)
+}
+
+// Whether some body has an earlier read.
+fn has_marked(marked: &[Option<Marked>]) -> bool
+    ensures { result ≡ list_any is_some marked.now }
+{
+    marked.iter().any(|body| body.is_some())
 }
 
 impl<'a> Bodies<'a> {
     /// Those of a design; an error where memory runs out.
     pub fn new(alloc: Global, design: &'a Design) -> Result<Bodies<'a>, AllocError>
-        ensures { IfOk result (λ found.
-            AreIndexed (processes_of (design_of design.now)) found.bodies.items) }
+        ensures { IfOk result (AreBodiesOf (design_of design.now)) }
     {
+        let signals = design.signals();
+        let bodies = indexed_bodies(alloc, design.processes())?;
+        let marked = marked_bodies(alloc, signals, design.processes())?;
+        let twice = if has_marked(&marked) {
+            with_copies(alloc, signals)?
+        } else {
+            Vec::new(alloc)
+        };
         Ok(Bodies {
-            bodies: indexed_bodies(alloc, design.processes())?,
+            bodies,
+            marked,
+            twice,
         })
     }
 
@@ -263,13 +313,26 @@ impl<'a> Bodies<'a> {
         target: SigId,
     ) -> Result<BodySlice<'a>, AllocError>
         requires known { target.0 < length design.now.signals.items }
-        requires bodies { AreIndexed (processes_of (design_of design.now)) self.now.bodies.items }
+        requires bodies { AreBodiesOf (design_of design.now) self.now }
         ensures { IfOk result (λ slice. SameParts (slice_statement slice)
             (sliced target.0 (driven_body (design_of design.now) target.0))) }
     {
         match design.driver(target) {
             Some(place) => slice_for(&self.bodies[place], alloc, target),
             None => Ok(BodySlice::Nothing),
+        }
+    }
+
+    /// The body of the process that drives a target with its earlier reads wanted, where it has
+    /// one.
+    pub fn marked(&self, design: &Design, target: SigId) -> Option<&Marked<'a>>
+        requires known { target.0 < length design.now.signals.items }
+        requires bodies { AreBodiesOf (design_of design.now) self.now }
+        ensures { IsMarkedFor (design_of design.now) target.0 result }
+    {
+        match design.driver(target) {
+            Some(place) => self.marked[place].as_ref(),
+            None => None,
         }
     }
 }

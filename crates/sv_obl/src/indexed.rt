@@ -47,8 +47,8 @@ pub enum Indexed<'a> {
     },
 }
 
-// Adds the signals of pieces.
-fn push_pieces(pieces: &[Piece], names: &mut Vec<u32>) -> Result<(), AllocError>
+/// Adds the signals of pieces.
+pub fn push_pieces(pieces: &[Piece], names: &mut Vec<u32>) -> Result<(), AllocError>
     ensures { OnOk result (names.new.items ≡ names.old.items
         ++ map (λ (piece : PieceForm). piece.signal) (piece_forms pieces.now)) }
 {
@@ -58,8 +58,8 @@ fn push_pieces(pieces: &[Piece], names: &mut Vec<u32>) -> Result<(), AllocError>
     Ok(())
 }
 
-// Adds the numbers of a set.
-fn push_set(set: &BTreeSet<u32>, names: &mut Vec<u32>) -> Result<(), AllocError>
+/// Adds the numbers of a set.
+pub fn push_set(set: &BTreeSet<u32>, names: &mut Vec<u32>) -> Result<(), AllocError>
     ensures { OnOk result (names.new.items ≡ names.old.items ++ set.now.keys) }
 {
     for number in set {

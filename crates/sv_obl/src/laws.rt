@@ -6,17 +6,16 @@ ghost use Rattle.sv_flat.specs.Clocks.{processes_of};
 ghost use Rattle.sv_flat.specs.Design.{TypedTree, ProcessForm, FlatDesign};
 ghost use Rattle.sv_flat.specs.FlatSystem.{flat_system};
 ghost use Rattle.sv_flat.specs.Admission.{IsAdmitted};
-ghost use Rattle.sv_flat.specs.Processes.{is_block, is_clocked, is_register, drivers};
-ghost use Rattle.sv_flat.specs.Reads.{is_combinational, followed, is_read_for};
+ghost use Rattle.sv_flat.specs.Processes.{is_clocked, is_register, drivers};
+ghost use Rattle.sv_flat.specs.Reads.{is_combinational, is_earlier, is_read_for, process_readings};
 ghost use Rattle.sv_flat.specs.Soundness.{sound};
-ghost use Rattle.sv_flat.specs.Readings.{no_bits};
+ghost use Rattle.sv_flat.specs.Readings.{Reading};
 ghost use Rattle.sv_flat.specs.Values.{value};
-ghost use Rattle.sv_obl.specs.MadeValues.{made, made_on_the_way, starting_values};
+ghost use Rattle.sv_obl.specs.MadeValues.{made, made_in};
 ghost use Rattle.sv_obl.specs.Noninterference.{IsChecked, NoninterferentUnder};
 ghost use Rattle.sv_obl.specs.Paths.{Path};
 ghost use Rattle.sv_obl.specs.PathValues.{IsTaken};
 ghost use Rattle.sv_obl.specs.Validity.{AllValid};
-ghost use Rattle.sv_obl.specs.Wanted.{copy_of, marked};
 ghost use Rattle.sv_system.specs.System.{Environment, Fits, IsStill, Noninterferent};
 
 /// In a settled environment exactly one path of a target is taken.
@@ -77,14 +76,15 @@ pub fn valid_designs_are_noninterferent()
         Noninterferent (flat_system design) }
 {}
 
-/// In a settled environment a combinational signal has the value that its process makes of it from
-/// 0, all that is read having its value of that environment.
+/// In a settled environment a combinational signal has the value that its process makes of it,
+/// settled names having their values of that environment, and wanted ones those that the statements
+/// before them make.
 pub fn settled_value_is_made()
     ensures { (design : FlatDesign) → IsTrue (sound design) → IsAdmitted design
         → (p : ProcessForm) → Contains (processes_of design) p → IsFalse (is_clocked p.kind)
         → (s : ℕ) → IsTrue (assigns p.body s)
         → (e : Environment ℕ) → Fits (flat_system design) e → IsStill (flat_system design) e
-        → made design.signals e s p.body 0 ≡ e s }
+        → made_in design p s e ≡ e s }
 {}
 
 /// A register's value after the clock edge is what its process makes of the value before it.
@@ -101,20 +101,20 @@ pub fn made_values_come_from_reads()
     ensures { (design : FlatDesign) → IsTrue (sound design) → IsAdmitted design
         → (p : ProcessForm) → Contains (processes_of design) p
         → (s : ℕ) → IsTrue (assigns p.body s) → (e f : Environment ℕ)
-        → ((t : ℕ) → IsTrue (is_read_for design s t) → e t ≡ f t) → (old : ℕ)
-        → made design.signals e s p.body old ≡ made design.signals f s p.body old }
+        → ((t : ℕ) → IsTrue (is_read_for design s t) → e t ≡ f t)
+        → made_in design p s e ≡ made_in design p s f }
 {}
 
-/// The statement in which earlier reads are wanted makes the same, from where the process begins:
-/// of the copy of a signal, among the signals that are followed for it, what the process makes of
-/// the signal.
+/// Where a process has no earlier read, it is what the process makes of the signal by itself, every
+/// name having its settled value.
 pub fn wanted_names_make_the_same()
     ensures { (design : FlatDesign) → IsTrue (sound design) → IsAdmitted design
         → (p : ProcessForm) → Contains (processes_of design) p
-        → (s : ℕ) → IsTrue (assigns p.body s) → (e : Environment ℕ)
-        → made_on_the_way design.signals (followed design p s)
-        (marked design.signals (is_block p.kind) p.body no_bits)
-        (starting_values design.signals (is_clocked p.kind) e) (copy_of design.signals s)
+        → (s : ℕ) → IsTrue (assigns p.body s)
+        → ((r : Reading) → Contains (process_readings design p) r
+        → IsFalse (is_earlier design p r))
+        → (e : Environment ℕ)
+        → made_in design p s e
         ≡ made design.signals e s p.body (if is_clocked p.kind then e s else 0) }
 {}
 

@@ -17,36 +17,54 @@
 //! obligation one of the design's, as each of them is. `check_limits` tells that limit alone, or
 //! how many obligations there are. `Listing` gives the obligations target by target, and the lines
 //! of `secv list`, with no more in memory than the paths of one target and what is made of them.
-//! `Bodies` gives what of a body matters to one target, its slice (`BodySlices.antt`); for that it
-//! holds the bodies indexed, as `Listing` does (`IndexedBodies.antt`).
+//! `Bodies` gives what of a body matters to one target, its slice (`BodySlices.antt`), and a body
+//! with its earlier reads wanted, where it has some (`MarkedBodies.antt`); for that it holds the
+//! bodies as `Listing` does (`IndexedBodies.antt`).
 //!
 //! Inside, `Routes.antt` tells paths as they are where no read is an earlier one,
 //! `IndexedStatements.antt` how a body is indexed, `IndexedArms.antt` how a chain of branches is,
 //! `SliceRoutes.antt` the routes through a slice, `RouteViews.antt` ties routes to what is walked,
 //! `Driven.antt` paths to the target whose they are, and `Written.antt` lines to what is written;
 //! those seven are private: they say how the code goes; the meaning stands in the files before.
+//!
+//! A body with earlier reads is walked in a second way: `Later.antt` and `Marked.antt` say how it
+//! is marked, `MarkedArms.antt` how a chain of branches is, and `PutIn.antt` what is put into an
+//! expression; `Trails.antt` tells its paths, of which no expression is kept, `TrailViews.antt`
+//! ties them to what is walked and `TrailLines.antt` to their lines; `Alongs.antt` tells how one path is
+//! walked once more along the arms that it took, where its conditions are asked for, and
+//! `AlongViews.antt` ties that to what is walked. These nine are private too.
 #![tactic(auto)]
 
 mod body_slices;
 mod checked;
+mod exchange;
 mod faults;
 mod frames;
 mod indexed;
+mod later;
 mod laws;
 mod limits;
 mod list_lines;
 mod list_parts;
 mod list_texts;
 mod listing;
+mod marked;
+mod marking;
 mod nodes;
 mod path_lines;
+mod path_names;
 mod path_queries;
 mod pieces;
 mod queries;
+mod read_bits;
 mod reads;
 mod routes;
 mod selectors;
 mod targets;
+mod trail_lines;
+mod trail_queries;
+mod trail_walks;
+mod trails;
 mod valuations;
 mod walks;
 
@@ -65,6 +83,7 @@ pub use limits::check_limits;
 pub use list_lines::list_line;
 pub use list_parts::Listing;
 pub use listing::obligations;
+pub use marked::Marked;
 pub use queries::{Goal, Query, Step};
 pub use std::alloc::AllocError as OutOfMemory;
 pub use valuations::Valuation;

@@ -14,30 +14,31 @@ ghost use Rattle.sv_obl.specs.Obligations.{target_obligations, selector_obligati
 ghost use Rattle.sv_obl.specs.Views.{obligation_of};
 
 use crate::faults::{MOST_OBLIGATIONS, OblFault};
-use crate::indexed::{Indexed, indexed_bodies};
+use crate::indexed::indexed_bodies;
 use crate::list_texts::{Lines, push_paths, push_queries};
+use crate::marked::marked_bodies;
 use crate::queries::Query;
 use crate::selectors::all_selectors;
-use crate::targets::{Driven, driven_routes, queries_of};
+use crate::targets::{Driven, Walked, driven_paths, queries_of};
 use std::alloc::{AllocError, Global};
 use sv_design::Design;
 use sv_flat::SigId;
 
 /// The obligations of a design in parts: those of one target after the other, in signal order, and
-/// then those of selectors; as values, or as `secv list` prints them. It holds the indexed bodies
-/// of the processes, and how many obligations the targets so far have. A part is to be let go
-/// before the next is made, so that no more than one stands in memory.
+/// then those of selectors; as values, or as `secv list` prints them. It holds the bodies of the
+/// processes as they are walked, and how many obligations the targets so far have. A part is to be
+/// let go before the next is made, so that no more than one stands in memory.
 #[derive(Drop)]
 pub struct Listing<'a> {
-    pub bodies: Vec<Indexed<'a>>,
+    pub bodies: Walked<'a>,
     pub count: u32,
 }
 
 // The paths of the target that comes next, if a process drives it, and how many obligations there
 // are with those of this target.
 #[derive(Drop)]
-struct Next<'d, 'a> {
-    paths: Option<Driven<'d, 'a>>,
+struct Next<'d, 's, 'a> {
+    paths: Option<Driven<'d, 's, 'a>>,
     count: u32,
 }
 
@@ -47,19 +48,22 @@ impl<'a> Listing<'a> {
         ensures at { IfOk result (IsAt (design_of design.now) 0) }
         ensures all { lines_left (design_of design.now) 0 ≡ list_text (design_of design.now) }
     {
+        let processes = design.processes();
+        let indexed = indexed_bodies(alloc, processes)?;
+        let marked = marked_bodies(alloc, design.signals(), processes)?;
         Ok(Listing {
-            bodies: indexed_bodies(alloc, design.processes())?,
+            bodies: Walked { indexed, marked },
             count: 0,
         })
     }
 
     // What comes next. The listing stays where it is.
-    fn next_paths<'d>(
-        &self,
+    fn next_paths<'s, 'd>(
+        &'s self,
         alloc: Global,
         design: &'d Design,
         target: SigId,
-    ) -> Result<Next<'d, 'a>, OblFault>
+    ) -> Result<Next<'d, 's, 'a>, OblFault>
         requires known { target.0 < length design.now.signals.items }
         requires at { IsAt (design_of design.now) target.0 self.now }
         ensures driven { IfOk result
@@ -69,9 +73,9 @@ impl<'a> Listing<'a> {
         ensures design { IsDesign (design_of design.now) }
         ensures told { IfErr result (Told (excess (design_of design.now))) }
     {
-        match driven_routes(alloc, design, &self.bodies, target, self.count as usize)? {
+        match driven_paths(alloc, design, &self.bodies, target, self.count as usize)? {
             Some(driven) => {
-                let count = self.count + driven.routes.len() as u32;
+                let count = self.count + driven.paths.len() as u32;
                 Ok(Next {
                     paths: Some(driven),
                     count,
@@ -98,7 +102,10 @@ impl<'a> Listing<'a> {
         ensures stays { OnErr result (self.new ≡ self.old) }
         ensures told { IfErr result (Told (excess (design_of design.now))) }
     {
-        self.count = self.next_paths(alloc, design, target)?.count;
+        let next = self.next_paths(alloc, design, target)?;
+        let count = next.count;
+        drop(next);
+        self.count = count;
         Ok(())
     }
 
@@ -122,8 +129,10 @@ impl<'a> Listing<'a> {
         ensures told { IfErr result (Told (excess (design_of design.now))) }
     {
         let next = self.next_paths(alloc, design, target)?;
-        let queries = queries_of(alloc, target, &next.paths)?;
-        self.count = next.count;
+        let queries = queries_of(alloc, design.signals(), target, &next.paths)?;
+        let count = next.count;
+        drop(next);
+        self.count = count;
         Ok(queries)
     }
 
@@ -146,7 +155,9 @@ impl<'a> Listing<'a> {
         let mut lines = Lines::after(alloc, self.count);
         let next = self.next_paths(alloc, design, target)?;
         push_paths(alloc, &mut lines, design, target, &next.paths)?;
-        self.count = next.count;
+        let count = next.count;
+        drop(next);
+        self.count = count;
         Ok(lines.text)
     }
 

@@ -1,21 +1,28 @@
 // Lines of obligations, one after the other: those of the paths of a target, and of selectors.
-ghost use Rattle.std.specs.Prelude.{◌≡◌, ◌+◌, ◌<◌, ◌≤◌, [], ◌∷◌, map, length, All, OnOk};
+ghost use Rattle.std.specs.Prelude.{◌≡◌, ◌+◌, ◌<◌, ◌≤◌, [], ◌∷◌, map, reverse, length, All, OnOk};
 ghost use Rattle.std.specs.Prelude.{Contains};
 ghost use Rattle.sv_flat.specs.ByNumber.{signal_forms};
 ghost use Rattle.sv_flat.specs.Processes.{is_clocked};
 ghost use Rattle.sv_flat.specs.Views.{process_form, process_kind, design_of};
+ghost use Rattle.sv_flat.specs.Design.{FlatStatement};
+ghost use Rattle.sv_obl.specs.Alongs.{conditions_along, trail_obligation};
 ghost use Rattle.sv_obl.specs.Driven.{IsDriven};
+ghost use Rattle.sv_obl.specs.ListLines.{step_word};
 ghost use Rattle.sv_obl.specs.Obligations.{target_obligations};
 ghost use Rattle.sv_obl.specs.Routes.{RouteForm, names_on, route_obligation};
 ghost use Rattle.sv_obl.specs.RouteViews.{route_form, route_forms};
+ghost use Rattle.sv_obl.specs.Trails.{TrailForm};
+ghost use Rattle.sv_obl.specs.TrailViews.{trail_form, trail_forms};
 ghost use Rattle.sv_obl.specs.Views.{obligation_of, IsAmong};
-ghost use Rattle.sv_obl.specs.Written.{Writes};
+ghost use Rattle.sv_obl.specs.Written.{mark_word, Writes};
 
 use crate::list_lines::push_line;
 use crate::path_lines::push_path;
 use crate::queries::Query;
 use crate::routes::Route;
-use crate::targets::Driven;
+use crate::targets::{Driven, Paths};
+use crate::trail_lines::push_trail;
+use crate::trails::Trail;
 use std::alloc::{AllocError, Global};
 use sv_design::Design;
 use sv_flat::{Process, SigId, Signal};
@@ -131,6 +138,66 @@ fn push_routes(
     Ok(())
 }
 
+// Adds the line of a path through a body with earlier reads.
+fn push_trail_line(
+    alloc: Global,
+    lines: &mut Lines,
+    signals: &[Signal],
+    process: &Process,
+    target: SigId,
+    trail: &Trail,
+) -> Result<(), AllocError>
+    requires known { target.0 < length signals.now }
+    requires names { All (λ t. t < length signals.now) trail.now.names.settled.keys }
+    requires few { lines.old.count < 65536 }
+    ensures line { (body : FlatStatement)
+        → map step_word (conditions_along (signal_forms signals.now) target.0 body
+        (trail_form trail.now)) ≡ map mark_word (reverse trail.now.marks.items)
+        → OnOk result (Writes (signal_forms signals.now) (trail_obligation
+        (signal_forms signals.now) (process_form process.now) target.0 body
+        (trail_form trail.now) ∷ []) lines.old lines.new) }
+    ensures count { OnOk result (lines.new.count ≡ lines.old.count + 1) }
+{
+    let number = lines.count + 1;
+    push_trail(
+        alloc,
+        &mut lines.text,
+        signals,
+        number,
+        process,
+        target,
+        trail,
+    )?;
+    lines.count = number;
+    Ok(())
+}
+
+// Adds those of paths through such a body.
+fn push_trails(
+    alloc: Global,
+    lines: &mut Lines,
+    signals: &[Signal],
+    process: &Process,
+    target: SigId,
+    trails: &[Trail],
+) -> Result<(), AllocError>
+    requires known { target.0 < length signals.now }
+    requires names { (trail : TrailForm) → Contains (trail_forms trails.now) trail
+        → All (λ t. t < length signals.now) trail.names.settled }
+    requires few { lines.old.count + length trails.now ≤ 65536 }
+    ensures { (body : FlatStatement) → ((trail : TrailForm)
+        → Contains (trail_forms trails.now) trail
+        → map step_word (conditions_along (signal_forms signals.now) target.0 body trail)
+        ≡ map mark_word (reverse trail.marks)) → OnOk result (Writes (signal_forms signals.now)
+        (map (trail_obligation (signal_forms signals.now) (process_form process.now) target.0 body)
+        (trail_forms trails.now)) lines.old lines.new) }
+{
+    for trail in trails {
+        push_trail_line(alloc, lines, signals, process, target, trail)?;
+    }
+    Ok(())
+}
+
 /// Adds those of a target of a design with these signals, given its paths if a process drives it.
 pub fn push_paths(
     alloc: Global,
@@ -144,15 +211,18 @@ pub fn push_paths(
     ensures { OnOk result (Writes (design_of design.now).signals
         (target_obligations [] (design_of design.now) target.0) lines.old lines.new) }
 {
-    if let Some(driven) = found {
-        push_routes(
-            alloc,
-            lines,
-            design.signals(),
-            driven.process,
-            target,
-            &driven.routes,
-        )?;
+    match found {
+        Some(driven) => {
+            let signals = design.signals();
+            match &driven.paths {
+                Paths::Routes(routes) => {
+                    push_routes(alloc, lines, signals, driven.process, target, routes)
+                }
+                Paths::Trails(_, trails) => {
+                    push_trails(alloc, lines, signals, driven.process, target, trails)
+                }
+            }
+        }
+        None => Ok(()),
     }
-    Ok(())
 }

@@ -2,16 +2,19 @@
 ghost use Rattle.std.specs.Prelude.{◌≡◌, ◌≤◌, ◌*◌, ◌+◌, min};
 ghost use Rattle.std.specs.List.{list_any};
 ghost use Rattle.sv_flat.specs.Views.{typed_tree, typed_trees, node_tree, parts_of};
+ghost use Rattle.sv_obl.specs.Alongs.{is_large_trail};
 ghost use Rattle.sv_obl.specs.Nodes.{nodes_in, nodes_under, nodes_in_parts};
 ghost use Rattle.sv_obl.specs.Routes.{with_nodes, is_large};
 ghost use Rattle.sv_obl.specs.RouteViews.{route_form, route_forms};
+ghost use Rattle.sv_obl.specs.TrailViews.{trail_form, trail_forms};
 
 use crate::faults::MOST_NODES;
 use crate::routes::Route;
+use crate::trails::Trail;
 use sv_flat::{FExpr, FNode};
 
-// The sum of two counts, up to one over the limit.
-fn sum(first: u32, second: u32) -> u32
+/// The sum of two counts, up to one over the limit.
+pub fn sum(first: u32, second: u32) -> u32
     ensures { result ≡ min (first + second) 65537 }
 {
     first.saturating_add(second).min(MOST_NODES + 1)
@@ -103,4 +106,18 @@ pub fn some_large(routes: &[Route]) -> bool
     ensures { result ≡ list_any is_large (route_forms routes.now) }
 {
     routes.iter().any(is_large)
+}
+
+// Whether over 65,536 nodes are put into the path, where several names are wanted at once.
+fn is_large_trail(trail: &Trail) -> bool
+    ensures { result ≡ is_large_trail (trail_form trail.now) }
+{
+    trail.nodes > MOST_NODES
+}
+
+/// Whether over 65,536 nodes are put into one of such paths.
+pub fn some_trail_large(trails: &[Trail]) -> bool
+    ensures { result ≡ list_any is_large_trail (trail_forms trails.now) }
+{
+    trails.iter().any(is_large_trail)
 }

@@ -2,7 +2,7 @@
 ghost use Rattle.std.specs.Prelude.{◌≡◌, ◌<◌, ◌==◌, length};
 ghost use Rattle.sv_flat.specs.ByNumber.{signal_forms};
 ghost use Rattle.sv_flat.specs.Soundness.{is_whole};
-ghost use Rattle.sv_flat.specs.Values.{signal_width};
+ghost use Rattle.sv_flat.specs.Values.{signal_of, signal_width};
 ghost use Rattle.sv_flat.specs.Views.{piece_form};
 ghost use Rattle.std.specs.List.{list_any};
 ghost use Rattle.sv_flat.specs.Design.{PieceForm};
@@ -13,13 +13,31 @@ ghost use Rattle.sv_obl.specs.RouteViews.{piece_forms};
 use sv_flat::{Piece, SigId, Signal};
 use sv_num::Place;
 
-// Whether the piece has all bits of its signal.
-fn is_whole(signals: &[Signal], piece: &Piece) -> bool
-    requires { piece.now.signal.0 < length signals.now }
+/// The width of a signal, and 0 where there is none.
+pub fn width_of(signals: &[Signal], signal: SigId) -> u8
+    ensures { result ≡ signal_width (signal_forms signals.now) signal.0 }
+{
+    match signals.get(signal.0 as usize) {
+        Some(known) => known.width,
+        None => 0,
+    }
+}
+
+/// Whether a signal is signed, as none is that is not there.
+pub fn is_signed(signals: &[Signal], signal: SigId) -> bool
+    ensures { result ≡ (signal_of (signal_forms signals.now) signal.0).signed }
+{
+    match signals.get(signal.0 as usize) {
+        Some(known) => known.signed,
+        None => false,
+    }
+}
+
+/// Whether the piece has all bits of its signal.
+pub fn is_whole(signals: &[Signal], piece: &Piece) -> bool
     ensures { result ≡ is_whole (signal_forms signals.now) (piece_form piece.now) }
 {
-    let width = signals[piece.signal.0 as usize].width;
-    piece.low == 0 && u32::from(piece.high) + 1 == u32::from(width)
+    piece.low == 0 && u32::from(piece.high) + 1 == u32::from(width_of(signals, piece.signal))
 }
 
 /// Whether one of the pieces is the whole target.

@@ -130,8 +130,8 @@ pub fn with_names(set: BTreeSet<u32>, expr: &FExpr) -> Result<BTreeSet<u32>, All
     Ok(all)
 }
 
-// The signals of a set.
-fn signals_of(alloc: Global, set: &BTreeSet<u32>) -> Result<Vec<SigId>, AllocError>
+/// The signals of a set; an error where memory runs out.
+pub fn signals_of(alloc: Global, set: &BTreeSet<u32>) -> Result<Vec<SigId>, AllocError>
     ensures { IfOk result (λ signals. map number_of signals.items ≡ set.now.keys) }
 {
     let mut signals = Vec::new(alloc);

@@ -8,7 +8,11 @@ ghost use Rattle.sv_flat.specs.Design.{FlatDesign};
 ghost use Rattle.sv_flat.specs.Views.{process_form, process_kind, design_of};
 ghost use Rattle.sv_design.specs.Designs.{IsDesign};
 ghost use Rattle.sv_obl.specs.Answers.{Answers, excess_at};
-ghost use Rattle.sv_obl.specs.Driven.{IsDriven};
+ghost use Rattle.sv_obl.specs.Alongs.{trail_obligation, trails_excess};
+ghost use Rattle.sv_obl.specs.Driven.{how_many, CanWalk, IsDriven, IsWalked, AreWalked};
+ghost use Rattle.sv_obl.specs.Marked.{marked_statement, TellsTargets};
+ghost use Rattle.sv_obl.specs.Trails.{open_trail, trails_before};
+ghost use Rattle.sv_obl.specs.TrailViews.{trail_forms};
 ghost use Rattle.sv_obl.specs.Obligations.{target_obligations};
 ghost use Rattle.sv_obl.specs.Routes.{RouteForm, open_route, routes_before, names_on};
 ghost use Rattle.sv_obl.specs.Routes.{route_obligation, target_excess};
@@ -19,10 +23,14 @@ ghost use Rattle.sv_obl.specs.Views.{obligation_of};
 use crate::body_slices::slice_for;
 use crate::faults::{MOST_OBLIGATIONS, OblFault, WalkFault};
 use crate::indexed::Indexed;
-use crate::nodes::some_large;
+use crate::marked::Marked;
+use crate::nodes::{some_large, some_trail_large};
 use crate::path_queries::query_of;
 use crate::queries::Query;
 use crate::routes::Route;
+use crate::trail_queries::trail_query;
+use crate::trail_walks::trails_of;
+use crate::trails::Trail;
 use crate::walks::routes_of;
 use std::alloc::{AllocError, Global};
 use sv_design::Design;
@@ -36,11 +44,39 @@ pub fn count_of(design: &Design) -> u32
     design.signals().len() as u32
 }
 
+/// Paths of a target: routes through a body without an earlier read, and trails through one that
+/// has some.
+#[derive(Drop)]
+pub enum Paths<'m, 'a> {
+    Routes(Vec<Route<'a>>),
+    Trails(&'m Marked<'a>, Vec<Trail>),
+}
+
+impl<'m, 'a> Paths<'m, 'a> {
+    /// How many they are.
+    pub fn len(&self) -> usize
+        ensures { result ≡ how_many self.now }
+    {
+        match self {
+            Paths::Routes(routes) => routes.len(),
+            Paths::Trails(_, trails) => trails.len(),
+        }
+    }
+}
+
 /// The paths of a target through the process that drives it.
 #[derive(Drop)]
-pub struct Driven<'d, 'a> {
+pub struct Driven<'d, 'm, 'a> {
     pub process: &'d Process,
-    pub routes: Vec<Route<'a>>,
+    pub paths: Paths<'m, 'a>,
+}
+
+/// The bodies of processes, as they are walked: indexed, and those with earlier reads with these
+/// wanted.
+#[derive(Drop)]
+pub struct Walked<'a> {
+    pub indexed: Vec<Indexed<'a>>,
+    pub marked: Vec<Option<Marked<'a>>>,
 }
 
 // The paths of the target through the process, where they are few enough.
@@ -88,17 +124,50 @@ fn paths_within<'a>(
     Ok(routes)
 }
 
-/// The target's paths through the process that drives it, if one does, where they keep all limits
-/// after so many obligations. The bodies of the processes are given indexed.
-pub fn driven_routes<'d, 'a>(
+// The paths of the target through a body with earlier reads, where they keep all limits after so
+// many obligations.
+fn trails_within(
     alloc: Global,
-    design: &'d Design,
-    bodies: &[Indexed<'a>],
+    signals: &[Signal],
+    body: &Marked,
     target: SigId,
     total: usize,
-) -> Result<Option<Driven<'d, 'a>>, OblFault>
+) -> Result<Vec<Trail>, OblFault>
+    requires known { target.0 < length signals.now }
+    requires tells { TellsTargets body.now }
+    requires few { total ≤ 65536 }
+    ensures excess { Answers (trails_excess target.0 total (trails_before
+        (signal_forms signals.now) target.0 (marked_statement body.now) (open_trail target.0)))
+        result }
+    ensures trails { IfOk result (λ trails. trail_forms trails.items ≡ trails_before
+        (signal_forms signals.now) target.0 (marked_statement body.now) (open_trail target.0)) }
+{
+    let trails = match trails_of(alloc, signals, target, body) {
+        Ok(trails) => trails,
+        Err(WalkFault::TooMany) => return Err(OblFault::Paths(target)),
+        Err(WalkFault::OutOfMemory) => return Err(OblFault::OutOfMemory),
+    };
+    if some_trail_large(&trails) {
+        return Err(OblFault::Large(target));
+    }
+    if total + trails.len() > MOST_OBLIGATIONS {
+        return Err(OblFault::Many);
+    }
+    Ok(trails)
+}
+
+/// The target's paths through the process that drives it, if one does, where they keep all limits
+/// after so many obligations. The bodies of the processes are given as they are walked.
+pub fn driven_paths<'d, 'm, 'a>(
+    alloc: Global,
+    design: &'d Design,
+    bodies: &'m Walked<'a>,
+    target: SigId,
+    total: usize,
+) -> Result<Option<Driven<'d, 'm, 'a>>, OblFault>
     requires known { target.0 < length design.now.signals.items }
-    requires bodies { AreIndexed (processes_of (design_of design.now)) bodies.now }
+    requires bodies { AreWalked (design_of design.now) (processes_of (design_of design.now))
+        bodies.now }
     requires few { total ≤ 65536 }
     ensures excess { Answers (excess_at (design_of design.now) total target.0) result }
     ensures driven { IfOk result (IsDriven (design_of design.now) target.0 total) }
@@ -107,9 +176,23 @@ pub fn driven_routes<'d, 'a>(
     match design.driver(target) {
         Some(place) => {
             let process = &design.processes()[place];
-            let indexed = &bodies[place];
-            let routes = paths_within(alloc, design.signals(), indexed, target, total)?;
-            Ok(Some(Driven { process, routes }))
+            match &bodies.marked[place] {
+                Some(body) => {
+                    let trails = trails_within(alloc, design.signals(), body, target, total)?;
+                    Ok(Some(Driven {
+                        process,
+                        paths: Paths::Trails(body, trails),
+                    }))
+                }
+                None => {
+                    let indexed = &bodies.indexed[place];
+                    let routes = paths_within(alloc, design.signals(), indexed, target, total)?;
+                    Ok(Some(Driven {
+                        process,
+                        paths: Paths::Routes(routes),
+                    }))
+                }
+            }
         }
         None => Ok(None),
     }
@@ -134,20 +217,65 @@ fn add_queries(
     Ok(())
 }
 
+// Adds those of paths through a body with earlier reads.
+fn add_trail_queries(
+    alloc: Global,
+    signals: &[Signal],
+    process: &Process,
+    target: SigId,
+    body: &Marked,
+    trails: &[Trail],
+    queries: &mut Vec<Query>,
+) -> Result<(), AllocError>
+    requires known { target.0 < length signals.now }
+    requires few { length signals.now < 4294967296 }
+    requires walks { CanWalk body.now }
+    ensures { OnOk result (map obligation_of queries.new.items ≡ map obligation_of queries.old.items
+        ++ map (trail_obligation (signal_forms signals.now) (process_form process.now) target.0
+        (marked_statement body.now)) (trail_forms trails.now)) }
+{
+    for trail in trails {
+        queries.push(trail_query(alloc, signals, process, target, body, trail)?)?;
+    }
+    Ok(())
+}
+
 /// The obligations of a target, given its paths if a process drives it; an error where memory runs
 /// out.
 pub fn queries_of(
     alloc: Global,
+    signals: &[Signal],
     target: SigId,
     found: &Option<Driven>,
 ) -> Result<Vec<Query>, AllocError>
-    ensures { (design : FlatDesign) (total : ℕ) → IsDriven design target.0 total found.now
+    requires known { target.0 < length signals.now }
+    requires few { length signals.now < 4294967296 }
+    requires walks { IsWalked found.now }
+    ensures { (design : FlatDesign) (total : ℕ) → signal_forms signals.now ≡ design.signals
+        → IsDriven design target.0 total found.now
         → IfOk result (λ queries.
         map obligation_of queries.items ≡ target_obligations [] design target.0) }
 {
     let mut queries = Vec::new(alloc);
-    if let Some(driven) = found {
-        add_queries(alloc, driven.process, target, &driven.routes, &mut queries)?;
+    match found {
+        Some(driven) => match &driven.paths {
+            Paths::Routes(routes) => {
+                add_queries(alloc, driven.process, target, routes, &mut queries)?;
+                Ok(queries)
+            }
+            Paths::Trails(body, trails) => {
+                add_trail_queries(
+                    alloc,
+                    signals,
+                    driven.process,
+                    target,
+                    *body,
+                    trails,
+                    &mut queries,
+                )?;
+                Ok(queries)
+            }
+        },
+        None => Ok(queries),
     }
-    Ok(queries)
 }

@@ -55,8 +55,8 @@ fn times_put(signals: &[Signal], target: SigId, pieces: &[Piece], route: &Route)
     }
 }
 
-// The place of the last assignment once this one is taken too.
-fn place_with(target: SigId, pieces: &[Piece], place: Option<Place>) -> Option<Place>
+/// The place of the last assignment once this one is taken too.
+pub fn place_with(target: SigId, pieces: &[Piece], place: Option<Place>) -> Option<Place>
     ensures { result ≡ later_place (first_place target.0 (piece_forms pieces.now)) place }
 {
     match place {

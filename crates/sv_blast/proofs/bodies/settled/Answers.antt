@@ -1,4 +1,7 @@
-use Rattle.std.proofs.Common.{◌≡◌, ◌<◌, sym, ap, subst, ◌∙◌}
+use Rattle.std.proofs.Common.{◌≡◌, ℕ, ◌<◌, Option, None, Bor, sym, ap, subst, ◌∙◌}
+use Rattle.sv_flat.specs.Design.{FlatDesign}
+use Rattle.sv_obl.specs.declared.marked.Marked.{Marked}
+use Rattle.sv_obl.specs.MarkedBodies.{IsMarkedFor}
 use Rattle.sv_flat.specs.ByNumber.{signal_forms}
 use Rattle.sv_flat.specs.Views.{design_of, signal_form}
 use Rattle.sv_obl.specs.BodySlices.{slice_statement}
@@ -11,6 +14,17 @@ use Rattle.sv_blast.specs.WordTables.{words_of}
 use Rattle.sv_blast.specs.TargetWords.{target_word, AreReady}
 use Rattle.sv_blast.proofs.SliceWords.{known, settled_by_slice, slice_names}
 use Rattle.sv_blast.proofs.bodies.settled.Goals as goal
+
+-- where no marked body was found
+unmarked : {design : FlatDesign} {s : ℕ} {found : Option (Bor Marked)} → IsMarkedFor design s found
+    → found ≡ None → IsMarkedFor design s None
+unmarked {design} {s} is none = subst (IsMarkedFor design s) none is
+
+pub marked-requires-clause-known : goal.marked-requires-clause-known
+marked-requires-clause-known c =
+    let s = c.args.target.0 in
+    subst (λ n. s < n) (length_mapped signal_form c.args.design.now.signals.items)
+    (known (design_of c.args.design.now) c.signals-signals.ensures.design s c.requires.driven)
 
 pub slice-requires-clause-known : goal.slice-requires-clause-known
 slice-requires-clause-known c =
@@ -32,7 +46,8 @@ after_slice-requires-clause-ready c =
     subst (λ signals. AreReady (signal_forms signals) n words body)
     (sym c.signals-signals.ensures.signals)
     (slice_names (design_of c.args.design.now) c.signals-signals.ensures.design c.args.target.0
-    c.requires.driven n words c.requires.words body c.in_ok-slice.ensures)
+    c.requires.driven (unmarked c.marked.ensures c.in_default.is) n words c.requires.words body
+    c.in_ok-slice.ensures)
 
 pub returns-clause-made : goal.returns-clause-made
 returns-clause-made c =
@@ -45,7 +60,7 @@ returns-clause-made c =
     let whole : settled_word (design_of c.args.design.now) words s f
     ≡ target_word (signal_forms signals) words s body start f =
     settled_by_slice (design_of c.args.design.now) c.signals-signals.ensures.design s
-    c.requires.driven words f body c.in_ok-slice.ensures
+    c.requires.driven (unmarked c.marked.ensures c.in_default.is) words f body c.in_ok-slice.ensures
     ∙ ap (λ w. target_word (signal_forms c.args.design.now.signals.items) words s body w f)
     (sym c.in_ok-word.ensures.made)
     ∙ ap (λ xs. target_word (signal_forms xs) words s body start f)
@@ -68,7 +83,7 @@ returns-clause-full c =
     let whole : settled_word (design_of c.args.design.now) words s f
     ≡ target_word (signal_forms signals) words s body start f =
     settled_by_slice (design_of c.args.design.now) c.signals-signals.ensures.design s
-    c.requires.driven words f body c.in_ok-slice.ensures
+    c.requires.driven (unmarked c.marked.ensures c.in_default.is) words f body c.in_ok-slice.ensures
     ∙ ap (λ w. target_word (signal_forms c.args.design.now.signals.items) words s body w f)
     (sym c.in_ok-word.ensures.made)
     ∙ ap (λ xs. target_word (signal_forms xs) words s body start f)

@@ -1,4 +1,5 @@
-use Rattle.std.proofs.Common.{min, ap, ap₂, ◌∙◌}
+use Rattle.std.proofs.Common.{min, ap, ap₂, subst, ◌∙◌}
+use Rattle.sv_obl.specs.MarkedBodies.{IsMarkedFor}
 use Rattle.sv_flat.specs.ByNumber.{signal_forms}
 use Rattle.sv_flat.specs.Values.{signal_width}
 use Rattle.sv_flat.specs.Views.{design_of}
@@ -20,4 +21,5 @@ returns c =
     (ap₂ (λ forms width. slice_size forms width slice) (ap signal_forms signals)
     (c.width_of.ensures ∙ ap (λ ss. signal_width (signal_forms ss) s) signals)
     ∙ slice_takes design is.is_sound is.is_admitted s
-    (known_signal c.args.design.now s c.requires.known) slice c.in_ok-slice.ensures)
+    (known_signal c.args.design.now s c.requires.known)
+    (subst (IsMarkedFor design s) c.in_default.is c.marked.ensures) slice c.in_ok-slice.ensures)

@@ -43,5 +43,6 @@ returns-clause-tables c =
           ∙ others_are design processes clocked c.in_ok-processes.ensures is;
       clocked_are = clocked_are design processes clocked c.in_ok-processes.ensures is;
       drivers_are = c.in_ok-drivers.ensures design c.requires.drivers;
-      reads_are = (c.in_ok-reads.ensures).reads_are;
+      reads_are = (c.in_ok-reads.ensures.reads).reads_are;
+      wants_are = c.in_ok-reads.ensures.wants;
     }

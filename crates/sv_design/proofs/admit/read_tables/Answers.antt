@@ -11,23 +11,24 @@ pub reads_table-requires-clause-size : goal.reads_table-requires-clause-size
 reads_table-requires-clause-size c =
     let design = design_of c.args.flat.now in
     c.in_ok-combs.ensures.0 ∙ sym (length-map c.args.flat.now.signals.items signal_form)
-    ∙ sym (reads_size design c.in_ok-reads.reads c.in_ok-reads.ensures)
+    ∙ sym (reads_size design c.in_ok-reads.field-0.reads c.in_ok-reads.ensures.reads)
 
 pub reads_table-requires-clause-whole : goal.reads_table-requires-clause-whole
 reads_table-requires-clause-whole c =
-    reads_whole (design_of c.args.flat.now) c.in_ok-reads.reads c.in_ok-reads.ensures
+    reads_whole (design_of c.args.flat.now) c.in_ok-reads.field-0.reads
+    c.in_ok-reads.ensures.reads
 
 pub reads_table-requires-clause-few : goal.reads_table-requires-clause-few
 reads_table-requires-clause-few c =
     let design = design_of c.args.flat.now in
     let few = few_signals design c.requires.sound in
-    let size = reads_size design c.in_ok-reads.reads c.in_ok-reads.ensures in
+    let size = reads_size design c.in_ok-reads.field-0.reads c.in_ok-reads.ensures.reads in
     omega arith
 
-pub returns : goal.returns
-returns c =
+pub returns-clause-reads : goal.returns-clause-reads
+returns-clause-reads c =
     let design = design_of c.args.flat.now in
     c.in_ok-tables.ensures design
     (subst (λ n. IsTable n c.in_ok-combs.combs.items (is_combinational design))
     (sym (length-map c.args.flat.now.signals.items signal_form)) c.in_ok-combs.ensures)
-    c.in_ok-reads.ensures
+    c.in_ok-reads.ensures.reads

@@ -18,12 +18,12 @@ decreases-forward_all l = 3 * goal.size-forward_all l + 2
 -- what is left of the statement, which is no deeper, and the arms so far come to the whole
 abbrev pub invariant-forward-loop-rest : goal.invariant-forward-loop-rest
 invariant-forward-loop-rest l =
-    ForwardArms (design_of l.flat).signals l.assigned (in_scope l.around)
+    ForwardArms (design_of l.flat).signals l.targets (in_scope l.assigned)
     (flat_statement l.fn.stmt) (flat_statement l.rest) l.common l.found
     × (size-FStmt l.rest ≤ size-FStmt l.fn.stmt)
 
 abbrev pub invariant-forward_all-loop-stmt : goal.invariant-forward_all-loop-stmt
 invariant-forward_all-loop-stmt l =
-    ForwardSoFar (design_of l.flat).signals l.assigned (in_scope l.around)
+    ForwardSoFar (design_of l.flat).signals l.targets (in_scope l.assigned)
     (chain_of (flat_statements l.stmts))
     (chain_of (flat_statements (drop l.stmt-index l.stmts))) l.here l.found

@@ -7,7 +7,7 @@ use Rattle.sv_design.specs.BitSets.{is_set}
 use Rattle.sv_design.specs.ReadForms.{read_form}
 use Rattle.sv_design.specs.Scopes.{in_scope}
 use Rattle.sv_design.proofs.DriverFacts.{signal_at, inside_design}
-use Rattle.sv_design.proofs.PhaseFacts.{read_lacks, read_shares, unassigned_is, followed_is}
+use Rattle.sv_design.proofs.PhaseFacts.{read_lacks, unassigned_is}
 use Rattle.sv_design.proofs.Sound.{few_bits}
 use Rattle.sv_design.proofs.blocks.is_wrong.Goals as goal
 
@@ -22,8 +22,8 @@ bits_read-bits-requires c =
     (few_bits (design_of flat) c.requires.sound s
     (inside_design flat items s refl c.requires.known))
 
-pub returns-in-Unassigned : goal.returns-in-Unassigned
-returns-in-Unassigned c = λ body reading asks name same.
+pub returns : goal.returns
+returns c = λ body reading targets name same.
     let flat = c.args.flat.now in
     let items = flat.signals.items in
     let signals = (design_of flat).signals in
@@ -35,27 +35,7 @@ returns-in-Unassigned c = λ body reading asks name same.
     (nat_le r.low b && nat_le b r.high && nat_lt b (signal_width signals r.signal)) =
     λ b. c.bits_read-bits.ensures b ∙ ap (λ (z : SignalForm).
     nat_le r.low b && nat_le b r.high && nat_lt b z.width) (sym at) in
-    unassigned_is signals c.args.asked body reading r (in_scope c.args.around.now) asks name same
-    c.of-around.result c.of-around.ensures
-    c.in-Unassigned.assigned c.in-Unassigned.is c.has.result c.lacks.result c.has.ensures
-    (λ test is. read_lacks signals r c.bits_read-bits.result is_bits c.of-around.result test is
+    unassigned_is signals c.args.targets.now body reading r (in_scope c.args.assigned.now) targets
+    name same c.of.result c.of.ensures c.has.result c.lacks.result c.has.ensures
+    (λ test is. read_lacks signals r c.bits_read-bits.result is_bits c.of.result test is
     c.lacks.result c.lacks.ensures)
-
-pub returns-in-Followed : goal.returns-in-Followed
-returns-in-Followed c = λ body reading asks name same.
-    let flat = c.args.flat.now in
-    let items = flat.signals.items in
-    let signals = (design_of flat).signals in
-    let r = read_form c.args.read.now in
-    let at_place : c.index.result.now ≡ get_or items r.signal c.index.result.now = search rules in
-    let at = signal_at flat items r.signal c.index.result.now refl c.requires.known at_place in
-    let is_bits : (b : ℕ) →
-    is_set c.bits_read-bits.result b ≡
-    (nat_le r.low b && nat_le b r.high && nat_lt b (signal_width signals r.signal)) =
-    λ b. c.bits_read-bits.ensures b ∙ ap (λ (z : SignalForm).
-    nat_le r.low b && nat_le b r.high && nat_lt b z.width) (sym at) in
-    followed_is signals c.args.asked body reading r (in_scope c.args.around.now) asks name same
-    c.of-around.result c.of-around.ensures
-    c.in-Followed.is c.share.result
-    (λ test is. read_shares signals r c.bits_read-bits.result is_bits c.of-around.result test is
-    c.share.result c.share.ensures)

@@ -26,7 +26,7 @@ is_wrong-wrong-requires-clause-known c =
 pub loop-read-preserved : goal.loop-read-preserved
 loop-read-preserved c = λ serves.
     let signals = (design_of c.args.flat.now).signals in
-    name_more signals c.args.asked (in_scope c.args.around.now) serves
+    name_more signals c.args.targets.now (in_scope c.args.assigned.now) serves
     (readings_of signals (typed_tree c.args.expr.now) serves)
     c.deref-read-items.result.now c.loop-read.read-index no_read c.loop-read-test.true
     c.loop-read.found c.found_if.result c.first_of-found.result
@@ -37,7 +37,7 @@ pub returns : goal.returns
 returns c = λ serves.
     let signals = (design_of c.args.flat.now).signals in
     let items = c.deref-read-items.result.now in
-    reads_end signals c.args.asked (in_scope c.args.around.now)
+    reads_end signals c.args.targets.now (in_scope c.args.assigned.now)
     (readings_of signals (typed_tree c.args.expr.now) serves)
     _ c.loop-read.found
     (λ a f. at_drop_all (λ rs.

@@ -10,7 +10,7 @@ use Rattle.sv_design.proofs.blocks.wrong_in.Given as goal
 abbrev pub invariant-loop-read : goal.invariant-loop-read
 invariant-loop-read l = (serves : ℕ → Bool)
     → let signals = (design_of l.flat).signals in
-    ReadsSoFar signals l.asked (in_scope l.around) (readings_of signals (typed_tree l.expr) serves)
+    ReadsSoFar signals l.targets (in_scope l.assigned) (readings_of signals (typed_tree l.expr) serves)
     (λ assigned follows.
     map (reading_of serves assigned follows)
     (read_forms (drop l.read-index l.read-items))) l.found

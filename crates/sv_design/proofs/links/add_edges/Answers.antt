@@ -36,7 +36,8 @@ loop-process-preserved c =
     let p = c.process-item.result in
     let rest = map process_form (drop (i + 1) processes) in (
       c.in_ok-add_edge.ensures.size ∙ c.loop-process.invariant.0,
-      edges_more c.args.graph.now c.loop-process.graph c.add_edge.new.graph
+      edges_more (has_edge c.args.graph.now) (has_edge c.loop-process.graph)
+          (has_edge c.add_edge.new.graph)
           (lists_pair (edges_of edges (map process_form processes)))
           (lists_pair (edges_of edges (map process_form (drop i processes))))
           (is_pair (edge_of edges (process_form p)))
@@ -60,7 +61,7 @@ returns-clause-gains c =
     subst (λ ps. GainsEdges c.args.graph.now c.loop-process.graph
     (lists_pair (edges_of edges (map process_form ps))))
     c.deref-process-items.ensures.value (
-    edges_end c.args.graph.now c.loop-process.graph
+    edges_end (has_edge c.args.graph.now) (has_edge c.loop-process.graph)
     (lists_pair (edges_of edges (map process_form processes)))
     (lists_pair (edges_of edges (map process_form (drop c.loop-process.process-index processes))))
     (λ a b. at_drop_all (λ ps. lists_pair (edges_of edges (map process_form ps)) a b) processes

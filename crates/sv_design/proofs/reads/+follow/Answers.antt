@@ -14,7 +14,7 @@ use Rattle.sv_flat.specs.declared.statements.FStmt.{the_lemmas}
 use Rattle.sv_design.specs.declared.bits.Bits.{Bits}
 use Rattle.sv_design.specs.BitSets.{in_bits, piece_forms}
 use Rattle.sv_design.specs.Feeds.{names_sought, feeds}
-use Rattle.sv_design.specs.Graphs.{GainsEdges}
+use Rattle.sv_design.specs.BitGraphs.{GainsEdges}
 use Rattle.sv_design.specs.Phases.{SameBits}
 use Rattle.sv_design.specs.Scopes.{in_scope}
 use Rattle.sv_design.proofs.BlockPasses.{targets_are}
@@ -31,7 +31,7 @@ follow-add_reads-requires-clause-targets t c =
     let whole = assign pieces c.in-Assign.place c.in-Assign.blocking
     (typed_tree c.in-Assign.value) in
     targets_below signals whole c.add_pieces.new.self _
-    (length-map c.args.flat.now.signals.items signal_form ∙ sym c.requires.size)
+    (length-map c.args.flat.now.signals.items signal_form)
     (sound_as signals c.in-Assign.is c.requires.body)
     (only_pieces c.new-bits.result c.add_pieces.new.self _ _ c.deref.ensures.value
     c.new-bits.ensures c.in_ok-add_pieces-in-Assign.ensures)
@@ -52,7 +52,7 @@ follow-follow-requires-in-If t c =
           (
             sound_as signals (sym c.deref-in-If-2.ensures)
                 (and_parts _ _ (sound_as signals c.in-If.is c.requires.body)).1,
-            c.in_ok-by_yes-in-If.ensures.size ∙ c.requires.size,
+            c.in_ok-by_yes-in-If.ensures.over,
           ),
         ),
       ),
@@ -94,7 +94,7 @@ follow-follow_all-requires t c =
             subst (λ b. IsTrue (statement_sound signals b))
                 (block_is _ c.in-Block.stmts _ c.in-Block.is c.deref-in-Block.ensures.value)
                 c.requires.body,
-            c.requires.size,
+            c.requires.over,
           ),
         ),
       ),
@@ -130,8 +130,7 @@ follow-add_reads-requires-in-If-clause-targets t c =
     ∙ or_turned (can_assign second s b) (can_assign first s b) in
     let sound = subst (λ b. IsTrue (statement_sound signals b)) is c.requires.body in
     targets_below signals whole c.add_all.new.self _
-    (length-map c.args.flat.now.signals.items signal_form ∙ sym c.requires.size
-    ∙ sym c.in_ok-by_yes-in-If.ensures.size ∙ sym c.in_ok-bits-in-If.ensures.size)
+    (length-map c.args.flat.now.signals.items signal_form)
     sound bits
 
 pub follow-returns-in_ok-add_reads-in-If-clause-gains :
@@ -164,12 +163,6 @@ follow-returns-in_ok-add_reads-in-If-clause-gains t c =
     (targets_are signals whole c.add_all.new.self sound bits)
     c.in_ok-add_reads-in-If.ensures.gains))
 
-pub follow-returns-in_ok-add_reads-in-If-clause-whole :
-    goal.follow-returns-in_ok-add_reads-in-If-clause-whole
-follow-returns-in_ok-add_reads-in-If-clause-whole t c = λ whole.
-    c.in_ok-add_reads-in-If.ensures.whole
-    (c.in_ok-bits-in-If.ensures.whole (c.in_ok-by_yes-in-If.ensures.whole whole))
-
 pub follow_all-loop-i-init : goal.follow_all-loop-i-init
 follow_all-loop-i-init t c =
     let signals = (design_of c.args.flat.now).signals in
@@ -177,10 +170,9 @@ follow_all-loop-i-init t c =
     let last = chain_of (flat_statements (drop (length stmts - 0) stmts)) in
     let none : last ≡ nothing = ap (λ ss. chain_of (flat_statements ss))
     (drop_all (length stmts - 0) stmts (omega arith)) in (
-      refl,
+      c.requires.over,
       bits_begin c.new-here.result last none c.new-here.ensures,
       feeds_begin signals c.args.sought c.args.graph.now last (in_scope c.args.later.now) none,
-      λ whole. whole,
     )
 
 pub follow_all-follow-requires : goal.follow_all-follow-requires
@@ -196,7 +188,7 @@ follow_all-follow-requires t c =
           (
             sound_at (design_of c.args.flat.now).signals stmts j c.index-stmts-stmts.result inside
                 c.index-stmts-stmts.is c.requires.body,
-            c.loop-i.invariant.0 ∙ c.requires.size,
+            c.loop-i.invariant.0,
           ),
         ),
       ),
@@ -224,12 +216,11 @@ follow_all-loop-i-preserved t c =
     let gained = subst (λ k. GainsEdges c.args.graph.now c.loop-i.graph
     (feeds signals sought (chain_of (flat_statements (drop k stmts))) later)) next
     c.loop-i.invariant.2 in (
-      c.in_ok-bits.ensures.size ∙ c.loop-i.invariant.0,
+      c.in_ok-bits.ensures.over,
       bits_before left this rest splits c.loop-i.here c.in_ok-bits.bits c.add_all.new.self before
           c.in_ok-bits.ensures.bits c.in_ok-add_all.ensures,
       feeds_before signals sought left this rest splits _ _ c.args.graph.now c.loop-i.graph
           c.follow.new.graph before gained c.in_ok-bits.ensures.gains,
-      λ w. c.in_ok-bits.ensures.whole (c.loop-i.invariant.3 w),
     )
 
 pub follow_all-returns-clause-bits : goal.follow_all-returns-clause-bits

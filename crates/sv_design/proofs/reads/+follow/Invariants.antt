@@ -1,9 +1,9 @@
-use Rattle.std.proofs.Common.{◌≡◌, ◌-◌, length, drop}
+use Rattle.std.proofs.Common.{◌-◌, length, drop}
 use Rattle.sv_flat.specs.Assigned.{can_assign}
 use Rattle.sv_flat.specs.Views.{design_of, flat_statements, chain_of}
 use Rattle.sv_design.specs.BitSets.{in_bits}
 use Rattle.sv_design.specs.Feeds.{feeds}
-use Rattle.sv_design.specs.Graphs.{size, GainsEdges, IsWhole}
+use Rattle.sv_design.specs.BitGraphs.{IsOver, GainsEdges}
 use Rattle.sv_design.specs.Phases.{SameBits}
 use Rattle.sv_design.specs.Scopes.{in_scope}
 use Rattle.sv_design.proofs.reads.+follow.Given as goal
@@ -13,7 +13,6 @@ abbrev pub invariant-follow_all-loop-i : goal.invariant-follow_all-loop-i
 invariant-follow_all-loop-i l =
     let signals = (design_of l.flat).signals in
     let last = chain_of (flat_statements (drop (length l.stmts - l.i) l.stmts)) in
-    (size l.graph ≡ size l.initial.graph)
+    IsOver (length l.flat.signals.items) l.graph
     × SameBits (in_bits l.here) (can_assign last)
     × GainsEdges l.initial.graph l.graph (feeds signals l.sought last (in_scope l.later))
-    × (IsWhole l.initial.graph → IsWhole l.graph)

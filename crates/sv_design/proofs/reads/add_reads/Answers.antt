@@ -7,9 +7,9 @@ use Rattle.sv_flat.specs.ByNumber.{signal_forms}
 use Rattle.sv_flat.specs.Readings.{reads, ReadForm}
 use Rattle.sv_flat.specs.Views.{design_of, signal_form, typed_tree}
 use Rattle.sv_design.specs.declared.names.Read.{Read}
-use Rattle.sv_design.specs.BitSets.{has_some, HasTargetsBelow}
+use Rattle.sv_design.specs.BitGraphs.{in_row, IsRow, has_edge}
+use Rattle.sv_design.specs.BitSets.{has_some}
 use Rattle.sv_design.specs.Feeds.{is_sought, names_sought}
-use Rattle.sv_design.specs.Graphs.{size, has_edge}
 use Rattle.sv_design.specs.ReadForms.{read_form, read_forms}
 use Rattle.sv_design.specs.Scopes.{in_scope}
 use Rattle.sv_design.proofs.GraphFacts.{edges_more, edges_end}
@@ -27,15 +27,11 @@ loop-name-init c =
     let same : read_forms c.deref-name-items.result.now ≡ reads signals tree =
     ap read_forms c.deref-name-items.ensures.value ∙ c.in_ok-names.ensures
     ∙ ap (λ ss. reads (signal_forms ss) tree) c.as_slice.ensures.value in (
-      refl,
+      c.requires.over,
       λ a b. ap (λ t. has_edge c.args.graph.now a b || t && has_some c.args.targets.now b)
           (sym (any_map (test a) read_form c.deref-name-items.result.now)
           ∙ ap (list_any (test a)) same),
-      λ whole. whole,
     )
-
-pub add_name-requires-clause-size : goal.add_name-requires-clause-size
-add_name-requires-clause-size c = c.loop-name.invariant.0 ∙ c.requires.size
 
 pub add_name-requires-clause-known : goal.add_name-requires-clause-known
 add_name-requires-clause-known c =
@@ -53,8 +49,9 @@ add_name-requires-clause-known c =
 
 pub add_name-requires-clause-targets : goal.add_name-requires-clause-targets
 add_name-requires-clause-targets c =
-    subst (λ n. HasTargetsBelow n c.args.targets.now) (sym c.loop-name.invariant.0)
-    c.requires.targets
+    subst (IsRow (length c.args.flat.now.signals.items)) (sym c.deref.ensures.value)
+    (subst (λ n. IsRow n c.in_ok-row.row.items) (c.len.ensures ∙ c.args.flat.now.signals.ok.0)
+    c.in_ok-row.ensures.row)
 
 pub loop-name-preserved : goal.loop-name-preserved
 loop-name-preserved c =
@@ -64,20 +61,23 @@ loop-name-preserved c =
     let signals = (design_of c.args.flat.now).signals in
     let later = in_scope c.args.later.now in
     let test = λ (a : ℕ) (r : Read).
-    (r.signal.0 == a) && is_sought signals c.args.sought later (read_form r) in (
-      c.in_ok-add_name.ensures.size ∙ c.loop-name.invariant.0,
-      edges_more c.args.graph.now c.loop-name.graph c.add_name.new.graph
+    (r.signal.0 == a) && is_sought signals c.args.sought later (read_form r) in
+    let this = get_or items i no_read in (
+      c.add_name.ensures.over,
+      edges_more (has_edge c.args.graph.now) (has_edge c.loop-name.graph)
+          (has_edge c.add_name.new.graph)
           (λ a b. names_sought signals c.args.sought later (typed_tree c.args.expr.now) a
           && has_some set b)
           (λ a b. list_any (test a) (drop i items) && has_some set b)
-          (λ a b. test a (get_or items i no_read) && has_some set b)
+          (λ a b. test a this && has_some set b)
           (λ a b. list_any (test a) (drop (i + 1) items) && has_some set b)
           (λ a b. ap (λ t. t && has_some set b)
           (at_drop_more (list_any (test a)) items i no_read c.loop-name-test.true)
-          ∙ names_more (test a (get_or items i no_read)) (list_any (test a) (drop (i + 1) items))
-          (has_some set b))
-          c.in_ok-add_name.ensures.gains c.loop-name.invariant.1,
-      λ whole. c.in_ok-add_name.ensures.whole (c.loop-name.invariant.2 whole),
+          ∙ names_more (test a this) (list_any (test a) (drop (i + 1) items)) (has_some set b))
+          (λ a b. c.add_name.ensures.gains a b
+          ∙ ap (λ t. has_edge c.loop-name.graph a b || (test a this && t))
+          (ap (λ r. in_row r b) c.deref.ensures.value ∙ c.in_ok-row.ensures.bits b))
+          c.loop-name.invariant.1,
     )
 
 pub returns-clause-gains : goal.returns-clause-gains
@@ -88,7 +88,7 @@ returns-clause-gains c =
     let later = in_scope c.args.later.now in
     let test = λ (a : ℕ) (r : Read).
     (r.signal.0 == a) && is_sought signals c.args.sought later (read_form r) in
-    edges_end c.args.graph.now c.loop-name.graph
+    edges_end (has_edge c.args.graph.now) (has_edge c.loop-name.graph)
     (λ a b. names_sought signals c.args.sought later (typed_tree c.args.expr.now) a
     && has_some set b)
     (λ a b. list_any (test a) (drop c.loop-name.name-index items) && has_some set b)

@@ -1,10 +1,10 @@
-use Rattle.std.proofs.Common.{◌≡◌, ◌&&◌, ◌==◌, drop}
+use Rattle.std.proofs.Common.{◌&&◌, ◌==◌, length, drop}
 use Rattle.std.specs.List.{list_any}
 use Rattle.sv_flat.specs.Views.{design_of, typed_tree}
 use Rattle.sv_design.specs.declared.names.Read.{Read}
 use Rattle.sv_design.specs.BitSets.{has_some}
 use Rattle.sv_design.specs.Feeds.{is_sought, names_sought}
-use Rattle.sv_design.specs.Graphs.{size, IsWhole}
+use Rattle.sv_design.specs.BitGraphs.{has_edge, IsOver}
 use Rattle.sv_design.specs.ReadForms.{read_form}
 use Rattle.sv_design.specs.Scopes.{in_scope}
 use Rattle.sv_design.proofs.GraphFacts.{EdgesSoFar}
@@ -15,11 +15,10 @@ abbrev pub invariant-loop-name : goal.invariant-loop-name
 invariant-loop-name l =
     let signals = (design_of l.flat).signals in
     let later = in_scope l.later in
-    (size l.graph ≡ size l.initial.graph)
-    × EdgesSoFar l.initial.graph l.graph (λ a b.
+    IsOver (length l.flat.signals.items) l.graph
+    × EdgesSoFar (has_edge l.initial.graph) (has_edge l.graph) (λ a b.
     names_sought signals l.sought later (typed_tree l.expr) a && has_some l.targets b)
     (λ a b. list_any (λ (r : Read).
     (r.signal.0 == a) && is_sought signals l.sought later (read_form r))
     (drop l.name-index l.name-items)
     && has_some l.targets b)
-    × (IsWhole l.initial.graph → IsWhole l.graph)

@@ -1,6 +1,6 @@
 use Rattle.std.proofs.Common.{◌≡◌, ◌&&◌, ◌||◌, ◌==◌, nat_lt, length, refl, sym, ap, subst, ◌∙◌}
 use Rattle.std.proofs.Common.{arith}
-use Rattle.sv_design.specs.Graphs.{has_edge, GainsEdges}
+use Rattle.sv_design.specs.BitGraphs.{has_edge, IsOver, GainsEdges}
 use Rattle.sv_design.specs.Marks.{is_marked}
 use Rattle.sv_design.proofs.FeedFacts.{registers_more, no_register}
 use Rattle.sv_design.proofs.MarkFacts.{or_no, or_three}
@@ -8,21 +8,21 @@ use Rattle.sv_design.proofs.reads.add_registers.Goals as goal
 
 pub loop-s-init : goal.loop-s-init
 loop-s-init c = (
-  refl,
+  c.requires.over,
   λ a b.
       sym (or_no (has_edge c.args.graph.now a b) (nat_lt b 0
       && (is_marked c.args.registers.now b && (b == a)))
       (no_register (is_marked c.args.registers.now b && (b == a)) b)),
-  λ whole. whole,
 )
 
 pub loop-s-preserved : goal.loop-s-preserved
 loop-s-preserved c =
     let registers = c.args.registers.now in
     let s = c.loop-s.s in (
-      c.in_ok-add_register.ensures.size ∙ c.loop-s.invariant.0,
+      subst (λ n. IsOver n c.add_register.new.graph) c.loop-s.invariant.0.0
+          c.add_register.ensures.over,
       λ a b.
-          c.in_ok-add_register.ensures.gains a b
+          c.add_register.ensures.gains a b
           ∙ ap (λ t. t || (is_marked registers s && ((s == a) && (s == b))))
           (c.loop-s.invariant.1 a b)
           ∙ or_three (has_edge c.args.graph.now a b) (nat_lt b s
@@ -30,7 +30,6 @@ loop-s-preserved c =
           && ((s == a) && (s == b)))
           ∙ ap (λ t. has_edge c.args.graph.now a b || t)
           (sym (registers_more (is_marked registers) s a b)),
-      λ whole. c.in_ok-add_register.ensures.whole (c.loop-s.invariant.2 whole),
     )
 
 pub returns-clause-gains : goal.returns-clause-gains

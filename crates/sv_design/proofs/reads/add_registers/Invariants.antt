@@ -1,10 +1,9 @@
-use Rattle.std.proofs.Common.{◌≡◌, ◌&&◌, ◌==◌, nat_lt}
-use Rattle.sv_design.specs.Graphs.{size, GainsEdges, IsWhole}
+use Rattle.std.proofs.Common.{◌&&◌, ◌==◌, nat_lt}
+use Rattle.sv_design.specs.BitGraphs.{size, IsOver, GainsEdges}
 use Rattle.sv_design.specs.Marks.{is_marked}
 use Rattle.sv_design.proofs.reads.add_registers.Given as goal
 
 abbrev pub invariant-loop-s : goal.invariant-loop-s
-invariant-loop-s l = (size l.graph ≡ size l.initial.graph)
+invariant-loop-s l = IsOver (size l.initial.graph) l.graph
     × GainsEdges l.initial.graph l.graph (λ a b.
     nat_lt b l.s && (is_marked l.registers b && (b == a)))
-    × (IsWhole l.initial.graph → IsWhole l.graph)

@@ -4,7 +4,7 @@ use Rattle.sv_flat.specs.Processes.{is_block}
 use Rattle.sv_flat.specs.Readings.{BitSet, no_bits}
 use Rattle.sv_flat.specs.Views.{design_of, process_form, flat_statement}
 use Rattle.sv_design.specs.Feeds.{feeds, sought_in}
-use Rattle.sv_design.specs.Graphs.{has_edge, GainsEdges}
+use Rattle.sv_design.specs.BitGraphs.{has_edge, GainsEdges}
 use Rattle.sv_design.specs.Scopes.{in_scope}
 use Rattle.sv_design.specs.declared.scopes.Scope.{Nothing}
 use Rattle.sv_design.proofs.BlockPasses.{in_scope-nothing}

@@ -7,19 +7,19 @@ use Rattle.sv_system.proofs.Lists.{Contains-map}
 use Rattle.sv_flat.specs.Design.{ProcessForm}
 use Rattle.sv_flat.specs.Views.{design_of, process_form}
 use Rattle.sv_flat.specs.Readings.{no_bits}
+use Rattle.sv_design.specs.BitGraphs.{has_edge, IsOver}
 use Rattle.sv_design.specs.Feeds.{feeds, sought_in, feeds_in}
-use Rattle.sv_design.proofs.GraphFacts.{edges_more, edges_end, no_edges, empty_is_whole}
+use Rattle.sv_design.proofs.GraphFacts.{edges_more, edges_end}
 use Rattle.sv_design.proofs.ReadFacts.{body_of_process}
 use Rattle.sv_design.proofs.TableFacts.{any_more}
 use Rattle.sv_design.proofs.reads.readers_of.Goals as goal
 
 pub loop-process-init : goal.loop-process-init
 loop-process-init c = (
-  c.in_ok-graph.ensures.size
-      ∙ (let same : c.len.result ≡
-      length c.args.flat.now.signals.items = omega (arith, c.len.ensures) in same),
+  (let same : c.len.result ≡
+      length c.args.flat.now.signals.items = omega (arith, c.len.ensures) in
+      subst (λ n. IsOver n c.in_ok-graph.graph) same c.in_ok-graph.ensures.over),
   λ a b. refl,
-  empty_is_whole c.in_ok-graph.graph c.in_ok-graph.ensures.edges,
 )
 
 pub follow_process-requires-clause-body : goal.follow_process-requires-clause-body
@@ -43,8 +43,9 @@ loop-process-preserved c =
     let p = process_form c.process-item.result in
     let test = λ (a b : ℕ) (q : ProcessForm).
     feeds signals (sought_in earlier q) q.body no_bits a b in (
-      c.in_ok-follow_process.ensures.size ∙ c.loop-process.invariant.0,
-      edges_more c.in_ok-graph.graph c.loop-process.graph c.follow_process.new.graph
+      c.in_ok-follow_process.ensures.over,
+      edges_more (has_edge c.in_ok-graph.graph) (has_edge c.loop-process.graph)
+          (has_edge c.follow_process.new.graph)
           (feeds_in signals earlier (map process_form processes))
           (feeds_in signals earlier (map process_form (drop i processes)))
           (feeds signals (sought_in earlier p) p.body no_bits)
@@ -52,7 +53,6 @@ loop-process-preserved c =
           (λ a b. any_more process_form (test a b) processes i c.process-item.result
           c.loop-process-test.true c.process-item.is)
           c.in_ok-follow_process.ensures.gains c.loop-process.invariant.1,
-      c.in_ok-follow_process.ensures.whole c.loop-process.invariant.2,
     )
 
 pub returns-clause-edges : goal.returns-clause-edges
@@ -60,12 +60,12 @@ returns-clause-edges c = λ a b.
     let signals = (design_of c.args.flat.now).signals in
     let processes = c.args.processes.now in
     let earlier = c.args.earlier in
-    edges_end c.in_ok-graph.graph c.loop-process.graph
+    edges_end (has_edge c.in_ok-graph.graph) (has_edge c.loop-process.graph)
     (feeds_in signals earlier (map process_form processes))
     (feeds_in signals earlier (map process_form (drop c.loop-process.process-index processes)))
     (λ x y. at_drop_all (λ ps. feeds_in signals earlier (map process_form ps) x y) processes
     c.loop-process.process-index c.loop-process-test.false)
     c.loop-process.invariant.1 a b
     ∙ ap (λ t. t || feeds_in signals earlier (map process_form processes) a b)
-    (no_edges c.in_ok-graph.graph c.in_ok-graph.ensures.edges a b)
+    (c.in_ok-graph.ensures.edges a b)
     ∙ ap (λ ps. feeds_in signals earlier ps a b) c.requires.processes

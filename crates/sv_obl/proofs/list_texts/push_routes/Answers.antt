@@ -3,8 +3,8 @@ use Rattle.sv_flat.specs.ByNumber.{signal_forms}
 use Rattle.sv_flat.specs.Views.{process_form}
 use Rattle.sv_obl.specs.Routes.{route_obligation}
 use Rattle.sv_obl.specs.RouteViews.{route_form, route_forms}
-use Rattle.sv_obl.proofs.TargetFacts.{route_there}
-use Rattle.sv_obl.proofs.WrittenFacts.{routes_more, fewer_routes, none_written, one_written}
+use Rattle.sv_obl.proofs.TargetFacts.{form_there}
+use Rattle.sv_obl.proofs.WrittenFacts.{forms_more, fewer_formed, none_written, one_written}
 use Rattle.sv_obl.proofs.list_texts.push_routes.Goals as goal
 
 pub loop-route-init : goal.loop-route-init
@@ -13,12 +13,12 @@ loop-route-init c = none_written (signal_forms c.args.signals.now) c.args.lines.
 pub push_route-requires-clause-names : goal.push_route-requires-clause-names
 push_route-requires-clause-names c =
     let x = c.route-item.result in
-    c.requires.names (route_form x) (route_there c.args.routes.now c.loop-route.route-index x
-    c.loop-route-test.true c.route-item.is)
+    c.requires.names (route_form x) (form_there route_form c.args.routes.now
+    c.loop-route.route-index x c.loop-route-test.true c.route-item.is)
 
 pub push_route-requires-clause-few : goal.push_route-requires-clause-few
 push_route-requires-clause-few c =
-    fewer_routes (signal_forms c.args.signals.now)
+    fewer_formed (signal_forms c.args.signals.now) route_form
     (route_obligation (length c.args.signals.now) (process_form c.args.process.now)
     c.args.target.0) c.args.routes.now c.loop-route.route-index 65536 c.args.lines.now
     c.loop-route.lines c.loop-route-test.true c.requires.few c.loop-route.invariant
@@ -34,5 +34,5 @@ loop-route-preserved c =
     one_written forms (map become (route_forms (take i routes)))
     (map become (route_forms (take (i + 1) routes))) (become (route_form x)) c.args.lines.now
     c.loop-route.lines c.push_route.new.lines
-    (routes_more become routes i x c.loop-route-test.true c.route-item.is)
+    (forms_more route_form become routes i x c.loop-route-test.true c.route-item.is)
     c.loop-route.invariant c.in_ok-push_route.ensures

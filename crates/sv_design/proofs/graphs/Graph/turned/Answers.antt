@@ -36,7 +36,7 @@ loop-from-preserved c =
       c.in_ok-add_sources.ensures.size ∙ c.loop-from.invariant.0,
       λ b.
           c.in_ok-add_sources.ensures.adds
-          (turned_below self c.loop-from.turned from c.loop-from.invariant.1) b
+          (turned_below (has_edge self) c.loop-from.turned from c.loop-from.invariant.1) b
           ∙ ap (λ r. row c.loop-from.turned b ++ cond (holds r b) (from ∷ []) []) is
           ∙ ap (λ r. r ++ cond (has_edge self from b) (from ∷ []) []) (c.loop-from.invariant.1 b)
           ∙ sym (filter_more (λ a. has_edge self a b) from),

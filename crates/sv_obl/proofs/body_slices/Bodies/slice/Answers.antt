@@ -11,7 +11,7 @@ pub index-requires : goal.index-requires
 index-requires c =
     subst (λ n. c.in-Some.place < n) (sym c.args.self.now.bodies.ok.0)
     (has_body c.args.design.now c.driver.ensures.design c.args.target.0 c.requires.known
-    c.args.self.now.bodies.items c.requires.bodies c.in-Some.place
+    c.args.self.now.bodies.items c.requires.bodies.indexed c.in-Some.place
     (sym c.driver.ensures.driver ∙ c.in-Some.is))
 
 pub returns-in-Some : goal.returns-in-Some
@@ -25,7 +25,7 @@ returns-in-Some c =
     let x = c.index.result.now in
     on_ok c.slice_for.result (IsSliceOf s (looked_up s x))
     (λ slice. SameParts (slice_statement slice) (sliced s (driven_body (design_of flat) s)))
-    (λ slice is_slice. driven_slice flat is s c.requires.known bodies c.requires.bodies k driven x
+    (λ slice is_slice. driven_slice flat is s c.requires.known bodies c.requires.bodies.indexed k driven x
     slice c.index.ensures is_slice)
     c.slice_for.ensures
 

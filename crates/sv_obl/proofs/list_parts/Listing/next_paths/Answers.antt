@@ -25,7 +25,7 @@ returns-in-Some-clause-counted c =
     (sym (length_mapped signal_form c.args.design.now.signals.items)) c.requires.known in
     more_counted design c.args.target.0 total _ inside c.requires.at.counted
     c.in_ok-driven.ensures.excess
-    (ap (λ n. total + n) (c.len.ensures ∙ c.in-Some.driven.routes.ok.0)
+    (ap (λ n. total + n) c.len.ensures
     ∙ paths_many design c.args.target.0 total c.in-Some.driven
     (subst (IsDriven design c.args.target.0 total) c.in-Some.is
     c.in_ok-driven.ensures.driven))

@@ -1,0 +1,233 @@
+// Graphs over signals, by bits: an edge that is added again takes no more room, and what leads on
+// from a signal is added to a row a word at a time.
+ghost use Rattle.std.specs.Prelude.{◌≡◌, ◌<◌, ◌≤◌, ◌/◌, ◌^◌, ◌==◌, ◌||◌, ◌&&◌, not, ℕ, Bool, false};
+ghost use Rattle.std.specs.Prelude.{List, length, filter, replicate, IsTrue, IsFalse, OnOk, IfOk};
+ghost use Rattle.std.specs.List.{list_any, range_with_len};
+ghost use Rattle.sv_design.specs.BitGraphs.{in_row, words, IsRow, HasRoom, GainsBits, size, has_edge};
+ghost use Rattle.sv_design.specs.BitGraphs.{IsOver, GainsEdges, IsTurned, Shortens};
+ghost use Rattle.sv_design.specs.BitSets.{has_some, HasTargetsBelow};
+ghost use Rattle.sv_design.specs.Feeds.{feeds_through};
+ghost use Rattle.sv_design.specs.Graphs.{size as graph_size};
+ghost use Rattle.sv_design.specs.Numbers.{numbers};
+
+use crate::bits::Bits;
+use crate::graphs::Graph;
+use crate::lists::push_if;
+use std::alloc::{AllocError, Global};
+use sv_flat::SigId;
+
+// A row without bits, with room for so many signals.
+fn empty_row(alloc: Global, count: usize) -> Result<Vec<u64>, AllocError>
+    ensures { IfOk result (λ row. row.items ≡ replicate (words count) 0) }
+{
+    vec![in alloc; 0; count / 64 + 1]
+}
+
+// A copy of a row.
+fn copied(alloc: Global, row: &[u64]) -> Result<Vec<u64>, AllocError>
+    ensures { IfOk result (λ copy. copy.items ≡ row.now) }
+{
+    row.to_vec(alloc)
+}
+
+// Whether a row has the signal.
+fn has_bit(row: &[u64], signal: SigId) -> bool
+    ensures { result ≡ in_row row.now signal.0 }
+{
+    match row.get(signal.0 as usize / 64) {
+        Some(word) => *word >> (signal.0 % 64) & 1 == 1,
+        None => false,
+    }
+}
+
+// Whether a row has a signal.
+fn has_bits(row: &[u64]) -> bool
+    ensures { result ≡ list_any (λ word. not (word == 0)) row.now }
+{
+    row.iter().any(|word| *word != 0)
+}
+
+// Puts a signal into a row.
+fn put_bit(row: &mut [u64], signal: SigId)
+    requires { signal.0 / 64 < length row.old }
+    ensures size { length row.new ≡ length row.old }
+    ensures bits { GainsBits row.old row.new (λ s. signal.0 == s) }
+{
+    row[signal.0 as usize / 64] |= 1 << (signal.0 % 64);
+}
+
+// Puts the signals of another row into a row.
+fn put_row(row: &mut [u64], more: &[u64])
+    requires { length more.now ≡ length row.old }
+    ensures size { length row.new ≡ length row.old }
+    ensures bits { GainsBits row.old row.new (in_row more.now) }
+{
+    for (place, word) in more.iter().enumerate() {
+        row[place] |= *word;
+    }
+}
+
+// Puts a signal into a row, where it is in a set.
+fn put_target(row: &mut [u64], target: SigId, set: &Bits)
+    requires { HasRoom row.old set.now }
+    ensures size { length row.new ≡ length row.old }
+    ensures bits { GainsBits row.old row.new (λ s. has_some set.now target.0 && (target.0 == s)) }
+{
+    if set.has(target) {
+        put_bit(row, target);
+    }
+}
+
+/// The row of the signals in a set, with room for so many. It fails where memory runs out.
+pub fn row_of(alloc: Global, count: usize, set: &Bits) -> Result<Vec<u64>, AllocError>
+    requires { HasTargetsBelow count set.now }
+    ensures row { IfOk result (λ row. IsRow count row.items) }
+    ensures bits { IfOk result (λ row. (s : ℕ) → in_row row.items s ≡ has_some set.now s) }
+{
+    let mut row = empty_row(alloc, count)?;
+    for signal in set.masks.keys() {
+        put_target(&mut row, SigId(*signal), set);
+    }
+    Ok(row)
+}
+
+// The first so many signals that a row has, in order.
+fn listed(alloc: Global, count: usize, row: &[u64]) -> Result<Vec<SigId>, AllocError>
+    requires { count ≤ 2 ^ 32 }
+    ensures { IfOk result (λ signals.
+        numbers signals.items ≡ filter (in_row row.now) (range_with_len 0 count)) }
+{
+    let mut signals = Vec::new(alloc);
+    for s in 0..count {
+        let signal = SigId(s as u32);
+        push_if(has_bit(row, signal), signal, &mut signals)?;
+    }
+    Ok(signals)
+}
+
+/// A graph over signals: for each signal, by its number, a bit for each that its edges lead to.
+#[derive(Drop)]
+pub struct BitGraph {
+    pub rows: Vec<Vec<u64>>,
+}
+
+impl BitGraph {
+    /// So many signals without edges. It fails where memory runs out.
+    pub fn new(alloc: Global, count: usize) -> Result<BitGraph, AllocError>
+        ensures over { IfOk result (IsOver count) }
+        ensures edges { IfOk result (λ graph. (a b : ℕ) → has_edge graph a b ≡ false) }
+    {
+        let mut rows = Vec::new(alloc);
+        'rows: for _ in 0..count {
+            let row = empty_row(alloc, count)?;
+            rows.push(row)?;
+        }
+        Ok(BitGraph { rows })
+    }
+
+    /// Whether it has an edge.
+    pub fn has_edges(&self) -> bool
+        ensures { IsFalse result → (a b : ℕ) → IsFalse (has_edge self.now a b) }
+    {
+        self.rows.iter().any(|row| has_bits(row))
+    }
+
+    /// Adds an edge from a signal to each signal of a row.
+    pub fn add_row(&mut self, from: SigId, targets: &[u64])
+        requires from { from.0 < size self.old }
+        requires over { IsOver (size self.old) self.old }
+        requires targets { IsRow (size self.old) targets.now }
+        ensures over { IsOver (size self.old) self.new }
+        ensures gains { GainsEdges self.old self.new (λ a b.
+            (from.0 == a) && in_row targets.now b) }
+    {
+        put_row(&mut self.rows[from.0 as usize], targets);
+    }
+
+    /// Adds an edge.
+    pub fn add(&mut self, from: SigId, to: SigId)
+        requires from { from.0 < size self.old }
+        requires to { to.0 < size self.old }
+        requires over { IsOver (size self.old) self.old }
+        ensures over { IsOver (size self.old) self.new }
+        ensures gains { GainsEdges self.old self.new (λ a b. (from.0 == a) && (to.0 == b)) }
+    {
+        put_bit(&mut self.rows[from.0 as usize], to);
+    }
+
+    // Adds an edge from a signal to each signal of a row, where one leads to `middle`.
+    fn lead_on(&mut self, from: SigId, middle: SigId, targets: &[u64])
+        requires from { from.0 < size self.old }
+        requires over { IsOver (size self.old) self.old }
+        requires targets { IsRow (size self.old) targets.now }
+        ensures over { IsOver (size self.old) self.new }
+        ensures gains { GainsEdges self.old self.new (λ a b.
+            (from.0 == a) && (has_edge self.old a middle.0 && in_row targets.now b)) }
+    {
+        if has_bit(&self.rows[from.0 as usize], middle) {
+            self.add_row(from, targets);
+        }
+    }
+
+    // Adds an edge from each signal that leads to `middle` to each signal of a row.
+    fn lead_all_on(&mut self, middle: SigId, targets: &[u64])
+        requires few { size self.old < 2 ^ 32 }
+        requires over { IsOver (size self.old) self.old }
+        requires targets { IsRow (size self.old) targets.now }
+        ensures over { IsOver (size self.old) self.new }
+        ensures gains { GainsEdges self.old self.new (λ a b.
+            has_edge self.old a middle.0 && in_row targets.now b) }
+    {
+        for from in 0..self.rows.len() {
+            self.lead_on(SigId(from as u32), middle, targets);
+        }
+    }
+
+    /// Adds an edge for each way over edges. It fails where memory runs out.
+    pub fn shorten(&mut self, alloc: Global) -> Result<(), AllocError>
+        requires few { size self.old < 2 ^ 32 }
+        requires over { IsOver (size self.old) self.old }
+        ensures over { IsOver (size self.old) self.new }
+        ensures ways { OnOk result (Shortens (size self.old) (has_edge self.old)
+            (has_edge self.new) (size self.old)) }
+    {
+        for middle in 0..self.rows.len() {
+            let targets = copied(alloc, &self.rows[middle])?;
+            self.lead_all_on(SigId(middle as u32), &targets);
+        }
+        Ok(())
+    }
+
+    /// Adds an edge from each signal to what those that it leads to lead to in another graph, which
+    /// has an edge for each of its ways.
+    pub fn follow(&mut self, ways: &BitGraph)
+        requires few { size self.old < 2 ^ 32 }
+        requires over { IsOver (size self.old) self.old }
+        requires ways { IsOver (size self.old) ways.now }
+        ensures over { IsOver (size self.old) self.new }
+        ensures edges { (edges : ℕ → ℕ → Bool)
+            → Shortens (size self.old) edges (has_edge ways.now) (size self.old)
+            → (a b : ℕ) → b < size self.old
+            → has_edge self.new a b ≡ feeds_through (size self.old) (has_edge self.old) edges a b }
+    {
+        for middle in 0..ways.rows.len() {
+            self.lead_all_on(SigId(middle as u32), &ways.rows[middle]);
+        }
+    }
+
+    /// The graph with each edge turned round, those of a signal in signal order. It fails where
+    /// memory runs out.
+    pub fn turned(&self, alloc: Global) -> Result<Graph, AllocError>
+        requires over { IsOver (size self.now) self.now }
+        requires few { size self.now < 2 ^ 32 }
+        ensures size { IfOk result (λ turned. graph_size turned ≡ size self.now) }
+        ensures turned { IfOk result (IsTurned self.now) }
+    {
+        let mut turned = Graph::new(alloc, self.rows.len())?;
+        for (from, row) in self.rows.iter().enumerate() {
+            let targets = listed(alloc, self.rows.len(), row)?;
+            turned.add_sources(&targets, SigId(from as u32))?;
+        }
+        Ok(turned)
+    }
+}

@@ -1,0 +1,158 @@
+-- A target by its number in the design, and the process that drives it, whose body is given with
+-- its earlier reads wanted where it has some.
+use Rattle.std.proofs.Common.{◌≡◌, ℕ, zero, suc, ◌+◌, ◌<◌, ◌≤◌, List, [], ◌∷◌, length, map, get_or}
+use Rattle.std.proofs.Common.{Vec, Global, Option, Some, None, refl, sym, ap, ap₂, subst, ◌∙◌, arith, lt-ltb}
+use Rattle.std.specs.Prelude.{IsTrue, Contains}
+use Rattle.std.specs.Borrow.{Bor}
+use Rattle.std.specs.List.{AllZip}
+use Rattle.std.proofs.lemmas.List.Quantifiers.{position-Some}
+use Rattle.std.proofs.lemmas.Slice.Zip.{AllZip-long}
+use Rattle.sv_flat.specs.Assigned.{assigns}
+use Rattle.sv_flat.specs.ByNumber.{signal_forms}
+use Rattle.sv_flat.specs.Clocks.{processes_of}
+use Rattle.sv_flat.specs.Design.{SignalForm, ProcessForm, FlatDesign}
+use Rattle.sv_flat.specs.Processes.{is_block}
+use Rattle.sv_flat.specs.Readings.{no_bits}
+use Rattle.sv_flat.specs.SignalLists.{driver_of}
+use Rattle.sv_flat.specs.Soundness.{is_signal}
+use Rattle.sv_flat.specs.Views.{design_of, signal_form, process_form}
+use Rattle.sv_flat.specs.declared.designs.Flat.{Flat}
+use Rattle.sv_flat.specs.declared.designs.Process.{Process}
+use Rattle.sv_flat.specs.declared.signals.Signal.{Signal}
+use Rattle.sv_flat.proofs.AdmittedFacts.{body_is_sound}
+use Rattle.sv_design.specs.Designs.{IsDesign}
+use Rattle.sv_design.proofs.Sound.{few_bits}
+use Rattle.sv_obl.specs.declared.marked.Marked.{Marked}
+use Rattle.sv_obl.specs.declared.routes.Route.{Route}
+use Rattle.sv_obl.specs.declared.targets.Driven.{Driven}
+use Rattle.sv_obl.specs.declared.targets.Paths.{Paths}
+use Rattle.sv_obl.specs.declared.targets.Paths.TheVariants.{Routes, Trails}
+use Rattle.sv_obl.specs.declared.trails.Trail.{Trail}
+use Rattle.sv_obl.specs.Alongs.{trail_obligation, trails_excess}
+use Rattle.sv_obl.specs.Answers.{excess_at}
+use Rattle.sv_obl.specs.Driven.{CanWalk, AreRoutes, AreTrails, ArePaths, how_many, HasPaths}
+use Rattle.sv_obl.specs.Driven.{IsDriven, ArePathsWalked, IsWalked}
+use Rattle.sv_obl.specs.Marked.{marked_statement, HasMarked}
+use Rattle.sv_obl.specs.Trails.{TrailForm, open_trail, trails_before}
+use Rattle.sv_obl.specs.TrailViews.{trail_forms}
+use Rattle.sv_obl.specs.Wanted.{marked}
+use Rattle.sv_obl.proofs.MarkedWords.{walked_words}
+use Rattle.sv_obl.proofs.OneDriver.{one_driver_at}
+use Rattle.sv_obl.proofs.TargetFacts.{length_mapped}
+use Rattle.sv_obl.proofs.TrailTargets.{trails_excess_same, trails_listed, trail_words_are}
+use Rattle.sv_obl.proofs.TrailTargets.{trail_names_are}
+use Rattle.sv_obl.proofs.Unmarked.{body_left}
+
+marked_at : (signals : List SignalForm) (ps : List ProcessForm) (xs : List (Option Marked)) (k : ℕ)
+    (p : ProcessForm) (x : Option Marked) → AllZip (HasMarked signals) ps xs → k < length xs
+    → get_or ps k p ≡ p → x ≡ get_or xs k x → HasMarked signals p x
+marked_at signals [] [] k p x all inside there is = absurd (omega arith)
+marked_at signals [] (y ∷ xs) k p x all inside there is = absurd all
+marked_at signals (q ∷ ps) [] k p x all inside there is = absurd all
+marked_at signals (q ∷ ps) (y ∷ xs) zero p x all inside there is =
+    subst (λ z. HasMarked signals p z) (sym is) (subst (λ z. HasMarked signals z y) there all.0)
+marked_at signals (q ∷ ps) (y ∷ xs) (suc k) p x all inside there is =
+    marked_at signals ps xs k p x all.1 (omega arith) there is
+
+-- ---- what was found
+
+paths_walked : (design : FlatDesign) (s : ℕ) (process : Process) (paths : Paths)
+    → ArePaths design s process paths → ArePathsWalked paths
+paths_walked design s process (Routes routes) are = tt
+paths_walked design s process (Trails body trails) are = are.walks
+
+pub driven_walked : (design : FlatDesign) (s total : ℕ) (found : Option Driven)
+    → IsDriven design s total found → IsWalked found
+driven_walked design s total None is = tt
+driven_walked design s total (Some driven) is =
+    paths_walked design s driven.process.now driven.paths is.are
+
+module _ (design : FlatDesign) (s total : ℕ) (driven : Driven)
+    (is : HasPaths design s total driven) where
+  pub as_routes : (routes : Vec Route Global) → driven.paths ≡ Routes routes
+      → AreRoutes design s driven.process.now routes.items
+  as_routes routes same = subst (ArePaths design s driven.process.now) same is.are
+
+  pub as_trails : (body : Bor Marked) (trails : Vec Trail Global) → driven.paths ≡ Trails body trails
+      → AreTrails design s driven.process.now body.now trails.items
+  as_trails body trails same = subst (ArePaths design s driven.process.now) same is.are
+
+  pub few_paths : (paths : Paths) → driven.paths ≡ paths → total + how_many paths ≤ 65536
+  few_paths paths same = subst (λ p. total + how_many p ≤ 65536) same is.few
+
+-- ---- the process that drives the target
+
+module _ (flat : Flat) (is : IsDesign (design_of flat)) (s : ℕ)
+    (known : s < length flat.signals.items) (bodies : List (Option Marked))
+    (all : AllZip (HasMarked (design_of flat).signals) (processes_of (design_of flat)) bodies)
+    (k : ℕ) (driven : driver_of (design_of flat) s ≡ Some k) (p : ProcessForm)
+    (there : get_or (processes_of (design_of flat)) k p ≡ p) where
+  abbrev design : FlatDesign
+  design = design_of flat
+
+  is_known : IsTrue (is_signal design.signals s)
+  is_known = lt-ltb s (length design.signals)
+      (subst (λ n. s < n) (sym (length_mapped signal_form flat.signals.items)) known)
+
+  pub inside_marked : k < length bodies
+  inside_marked =
+      subst (λ n. k < n)
+      (sym (AllZip-long (HasMarked design.signals) (processes_of design) bodies all))
+      (position-Some (λ (q : ProcessForm). assigns q.body s) (processes_of design) k p driven).0
+
+  has_marked : (x : Option Marked) → x ≡ get_or bodies k x → HasMarked design.signals p x
+  has_marked x at =
+      marked_at design.signals (processes_of design) bodies k p x all inside_marked there at
+
+  -- where the process has no marked body, none of its reads is an earlier one
+  pub unmarked : (x : Option Marked) → x ≡ get_or bodies k x → x ≡ None
+      → marked design.signals (is_block p.kind) p.body no_bits ≡ p.body
+  unmarked x at none = body_left design.signals (is_block p.kind) p.body no_bits
+      (subst (HasMarked design.signals p) none (has_marked x at))
+
+  module _ (x : Option Marked) (at : x ≡ get_or bodies k x) (body : Marked)
+      (is_body : x ≡ Some body) where
+    has_body : HasMarked design.signals p (Some body)
+    has_body = subst (HasMarked design.signals p) is_body (has_marked x at)
+
+    is_process : Contains (processes_of design) p
+    is_process = subst (Contains (processes_of design)) there
+        (one_driver_at design is.is_sound is.is_admitted s is_known k p driven).0
+
+    pub can_walk : CanWalk body
+    can_walk = record {
+      tells = (has_body.0).tells;
+      words = walked_words design.signals (few_bits design is.is_sound) (is_block p.kind) p.body
+          body has_body.0 (body_is_sound design is.is_sound is.is_admitted p is_process);
+    }
+
+    module _ (signals : List Signal) (are : signals ≡ flat.signals.items) where
+      abbrev trails : List TrailForm
+      trails = trails_before (signal_forms signals) s (marked_statement body) (open_trail s)
+
+      same : trails
+          ≡ trails_before design.signals s (marked_statement body) (open_trail s)
+      same = ap (λ sigs. trails_before (signal_forms sigs) s (marked_statement body) (open_trail s))
+          are
+
+      pub driven_trails : (total : ℕ) → trails_excess s total trails ≡ excess_at design total s
+      driven_trails total = ap (trails_excess s total) same
+          ∙ trails_excess_same design is.is_sound is.is_admitted s is_known k p driven there body
+          has_body.0 has_body.1 total
+
+      pub are_trails : (process : Process) (found : List Trail) → process_form process ≡ p
+          → trail_forms found ≡ trails → AreTrails design s process body found
+      are_trails process found through made = record {
+        listed =
+            ap₂ (λ q ts. map (trail_obligation design.signals q s (marked_statement body)) ts)
+            through (made ∙ same)
+            ∙ trails_listed design is.is_sound is.is_admitted s is_known k p driven there body
+            has_body.0 has_body.1;
+        names = λ trail among.
+            trail_names_are design is.is_sound is.is_admitted s is_known k p driven there body
+            has_body.0 has_body.1 trail (subst (λ ts. Contains ts trail) (made ∙ same) among);
+        marks = λ trail among.
+            trail_words_are design is.is_sound is.is_admitted s is_known k p driven there body
+            has_body.0 has_body.1 trail (subst (λ ts. Contains ts trail) (made ∙ same) among);
+        walks = can_walk;
+      }

@@ -1,0 +1,338 @@
+-- Trails only grow more on the walk, so it may end as soon as they are too many; and what does not
+-- take a statement stays.
+use Rattle.std.proofs.Common.{◌≡◌, ℕ, ◌+◌, ◌<◌, ◌≤◌, Bool, true, false, cond, ◌||◌}
+use Rattle.std.proofs.Common.{List, [], ◌∷◌, ◌++◌, length, map, flat_map, get_or, take, drop}
+use Rattle.std.proofs.Common.{Ok, Err}
+use Rattle.std.proofs.Common.{Result, Option, Some, None, IsErrAnd, refl, sym, ap, ap₂, subst, ◌∙◌}
+use Rattle.std.proofs.Common.{arith, length-append, append_assoc}
+use Rattle.std.specs.Global.{Vec}
+use Rattle.std.specs.List.{list_any}
+use Rattle.std.proofs.lemmas.Bool.{false≢true}
+use Rattle.std.proofs.lemmas.List.{length-map}
+use Rattle.std.proofs.lemmas.List.Folds.{length-flat_map-take}
+use Rattle.sv_num.specs.declared.faults.Place.{Place}
+use Rattle.sv_flat.specs.ByNumber.{signal_forms}
+use Rattle.sv_flat.specs.Views.{signal_form}
+use Rattle.sv_flat.specs.declared.signals.Signal.{Signal}
+use Rattle.sv_flat.specs.Design.{SignalForm, TypedTree, typed, choice, PieceForm, FlatStatement}
+use Rattle.sv_flat.specs.Design.{nothing, after, assign, branch}
+use Rattle.sv_flat.specs.Assigned.{assigns}
+use Rattle.sv_obl.specs.declared.faults.WalkFault.{WalkFault}
+use Rattle.sv_obl.specs.declared.faults.WalkFault.TheVariants.{TooMany, OutOfMemory}
+use Rattle.sv_obl.specs.declared.trails.Trail.{Trail}
+use Rattle.sv_obl.specs.Paths.{later_place}
+use Rattle.sv_obl.specs.Routes.{names_in, first_place, with_nodes}
+use Rattle.sv_obl.specs.Trails.{NamesForm, TrailForm, wanted_signals, takes, chosen, marked_by}
+use Rattle.sv_obl.specs.Trails.{own_pieces, own_times, times_put, without_covered, with_put_names}
+use Rattle.sv_obl.specs.Trails.{with_right_put, whole_from, with_own_ways, with_own_put}
+use Rattle.sv_obl.specs.Trails.{with_assign, trails_before}
+use Rattle.sv_obl.specs.TrailViews.{trail_form, trail_forms, AddsTrails}
+use Rattle.sv_obl.proofs.WalkFacts.{flat_longer}
+
+-- ---- what is not taken
+
+module _ {X : Type 0} (f g : X → Bool) where
+  first_none : (xs : List X) → list_any (λ x. f x || g x) xs ≡ false → list_any f xs ≡ false
+  first_none [] h = refl
+  first_none (x ∷ xs) h = by (f x) (g x) (list_any (λ y. f y || g y) xs) (first_none xs) h
+    where
+      by : (a b rest : Bool) → (rest ≡ false → list_any f xs ≡ false)
+          → ((a || b) || rest) ≡ false → (a || list_any f xs) ≡ false
+      by true b rest later is = absurd (false≢true (sym is))
+      by false true rest later is = absurd (false≢true (sym is))
+      by false false rest later is = later is
+
+  second_none : (xs : List X) → list_any (λ x. f x || g x) xs ≡ false → list_any g xs ≡ false
+  second_none [] h = refl
+  second_none (x ∷ xs) h = by (f x) (g x) (list_any (λ y. f y || g y) xs) (second_none xs) h
+    where
+      by : (a b rest : Bool) → (rest ≡ false → list_any g xs ≡ false)
+          → ((a || b) || rest) ≡ false → (b || list_any g xs) ≡ false
+      by true b rest later is = absurd (false≢true (sym is))
+      by false true rest later is = absurd (false≢true (sym is))
+      by false false rest later is = later is
+
+module _ (signals : List SignalForm) (s : ℕ) where
+  -- what takes no part of a statement stays as it is
+  pub stays : (statement : FlatStatement) (trail : TrailForm) → takes statement trail ≡ false
+      → trails_before signals s statement trail ≡ trail ∷ []
+  stays nothing trail h = refl
+  stays (after first second) trail h =
+      let ss = wanted_signals trail in
+      ap (flat_map (trails_before signals s first))
+      (stays second trail (second_none (assigns first) (assigns second) ss h))
+      ∙ ap (λ ts. ts ++ [])
+      (stays first trail (first_none (assigns first) (assigns second) ss h))
+  stays (assign pieces place blocking right) trail h =
+      ap (λ b. cond b (with_assign signals s pieces right trail) (trail ∷ [])) h
+  stays (branch place condition first second) trail h =
+      ap (λ b. cond b (map (marked_by (length signals) (record { truth = true; place = place })
+      condition) (trails_before signals s first (chosen true trail))
+      ++ map (marked_by (length signals) (record { truth = false; place = place }) condition)
+      (trails_before signals s second (chosen false trail))) (trail ∷ [])) h
+
+-- ---- no walk ends without a trail
+
+some_cond : (c : Bool) (xs ys : List TrailForm) → 1 ≤ length xs → 1 ≤ length ys →
+    1 ≤ length (cond c xs ys)
+some_cond true xs ys one two = one
+some_cond false xs ys one two = two
+
+some_both : (f g : TrailForm → TrailForm) (xs ys : List TrailForm) → 1 ≤ length xs →
+    1 ≤ length (map f xs ++ map g ys)
+some_both f g xs ys one =
+    let both = length-append (map f xs) (map g ys) in
+    let same = length-map xs f in
+    omega arith
+
+some_ways : (count from : ℕ) (right : TypedTree) (trail : TrailForm) →
+    1 ≤ length (with_own_ways count from right trail)
+some_ways count from (typed w signed (choice place c a b)) trail =
+    some_both _ _ (with_own_ways count from a (chosen true trail))
+    (with_own_ways count from b (chosen false trail)) (some_ways count from a (chosen true trail))
+some_ways count from right trail = omega arith
+
+some_put : (count times : ℕ) (from : Option ℕ) (right : TypedTree) (trail : TrailForm) →
+    1 ≤ length (with_own_put count times from right trail)
+some_put count times (Some from) right trail = some_ways count from right trail
+some_put count times None right trail = omega arith
+
+module _ (signals : List SignalForm) (s : ℕ) where
+  pub some_trail : (statement : FlatStatement) (trail : TrailForm) →
+      1 ≤ length (trails_before signals s statement trail)
+  some_trail nothing trail = omega arith
+  some_trail (after first second) trail =
+      let one = some_trail second trail in
+      let more = flat_longer (trails_before signals s first) (some_trail first)
+      (trails_before signals s second trail) in
+      omega arith
+  some_trail (assign pieces place blocking right) trail =
+      some_cond (takes (assign pieces place blocking right) trail)
+      (with_assign signals s pieces right trail) (trail ∷ [])
+      (some_put (length signals) (own_pieces trail.own pieces)
+      (whole_from signals trail.own pieces) right (with_right_put signals s pieces right trail))
+      (omega arith)
+  some_trail (branch place condition first second) trail =
+      some_cond (takes (branch place condition first second) trail) _ (trail ∷ [])
+      (some_both
+      (marked_by (length signals) (record { truth = true; place = place }) condition)
+      (marked_by (length signals) (record { truth = false; place = place }) condition)
+      (trails_before signals s first (chosen true trail))
+      (trails_before signals s second (chosen false trail)) (some_trail first (chosen true trail)))
+      (omega arith)
+
+-- ---- what an assignment puts in
+
+-- where each part is what the definition says
+pub right_put : (forms : List SignalForm) (s : ℕ) (pieces : List PieceForm) (right : TypedTree)
+    (trail : TrailForm) (count times own nodes : ℕ) (place : Option Place) (left names : NamesForm)
+    → count ≡ length forms → times ≡ times_put trail.names pieces
+    → own ≡ own_times forms s pieces trail → nodes ≡ with_nodes trail.nodes (times + own) right
+    → place ≡ later_place (first_place s pieces) trail.place
+    → left ≡ without_covered forms trail.names pieces
+    → names ≡ with_put_names count times left (names_in [] right)
+    → record {
+      marks = trail.marks;
+      choices = trail.choices;
+      names = names;
+      own = trail.own;
+      nodes = nodes;
+      place = place;
+    } ≡ with_right_put forms s pieces right trail
+right_put forms s pieces right trail count times own nodes place left names many so_often own_is
+    nodes_is place_is left_is names_is =
+    let made : NamesForm → ℕ → Option Place → TrailForm = λ ns k p. record {
+      marks = trail.marks;
+      choices = trail.choices;
+      names = ns;
+      own = trail.own;
+      nodes = k;
+      place = p;
+    } in
+    let e1 : names ≡ with_put_names (length forms) (times_put trail.names pieces)
+    (without_covered forms trail.names pieces) (names_in [] right) =
+    names_is
+    ∙ ap₂ (λ n k. with_put_names n k left (names_in [] right)) many so_often
+    ∙ ap (λ l. with_put_names (length forms) (times_put trail.names pieces) l (names_in [] right))
+    left_is in
+    let e2 : nodes ≡ with_nodes trail.nodes
+    (times_put trail.names pieces + own_times forms s pieces trail) right =
+    nodes_is ∙ ap₂ (λ a b. with_nodes trail.nodes (a + b) right) so_often own_is in
+    ap₂ (λ ns k. made ns k place) e1 e2
+    ∙ ap (made (with_put_names (length forms) (times_put trail.names pieces)
+    (without_covered forms trail.names pieces) (names_in [] right))
+    (with_nodes trail.nodes (times_put trail.names pieces + own_times forms s pieces trail) right))
+    place_is
+
+-- ---- an assignment that is taken
+
+-- so many signals have so many plain forms
+pub form_count : (signals : List Signal) → length (signal_forms signals) ≡ length signals
+form_count signals = length-map signals signal_form
+
+module _ (forms : List SignalForm) (s : ℕ) (pieces : List PieceForm) (right : TypedTree)
+    (trail put : TrailForm) (count : ℕ) (many : count ≡ length forms)
+    (is : put ≡ with_right_put forms s pieces right trail) where
+  pub put_whole : (from : ℕ) → whole_from forms trail.own pieces ≡ Some from
+      → with_own_ways count from right put ≡ with_assign forms s pieces right trail
+  put_whole from whole =
+      ap₂ (λ n t. with_own_ways n from right t) many is
+      ∙ ap (λ o. with_own_put (length forms) (own_pieces trail.own pieces) o right
+      (with_right_put forms s pieces right trail)) (sym whole)
+
+  pub put_parts : (times : ℕ) → times ≡ own_pieces trail.own pieces
+      → whole_from forms trail.own pieces ≡ None
+      → with_own_put count times None right put ≡ with_assign forms s pieces right trail
+  put_parts times so_many none =
+      ap₂ (λ n t. with_own_put n times None right t) many is
+      ∙ ap (λ k. with_own_put (length forms) k None right
+      (with_right_put forms s pieces right trail)) so_many
+      ∙ ap (λ o. with_own_put (length forms) (own_pieces trail.own pieces) o right
+      (with_right_put forms s pieces right trail)) (sym none)
+
+-- where a test passes
+pub if_taken : (b : Bool) (xs ys : List TrailForm) → b ≡ true → xs ≡ cond b xs ys
+if_taken b xs ys is = sym (ap (λ t. cond t xs ys) is)
+
+-- ---- a walk that ends early
+
+-- more trails are too many too
+ends_early : (forms more : List TrailForm) (trails later : Vec Trail) (e : WalkFault)
+    → length forms ≤ length more → AddsTrails forms trails (Err e) → AddsTrails more later (Err e)
+ends_early forms more trails later TooMany less h = omega arith
+ends_early forms more trails later OutOfMemory less h = tt
+
+pub fails_early : (forms more : List TrailForm) (trails later : Vec Trail) (e : WalkFault)
+    (result : Result Unit WalkFault) → length forms ≤ length more
+    → IsErrAnd result (λ y. y ≡ e) → AddsTrails forms trails (Err e)
+    → AddsTrails more later result
+fails_early forms more trails later e (Ok done) less same h = elim same [ ]
+fails_early forms more trails later e (Err y) less same h =
+    subst (λ x. AddsTrails more later (Err x)) (sym same)
+    (ends_early forms more trails later e less h)
+
+-- where the first of two arms gives too many, both do
+pub branch_longer : (old given first second whole : List TrailForm) → given ≡ first
+    → first ++ second ≡ whole → length (old ++ given) ≤ length (old ++ whole)
+branch_longer old given first second whole same is =
+    let one = length-append old given in
+    let two = length-append old whole in
+    let three : length whole ≡ length first + length second =
+    ap length (sym is) ∙ length-append first second in
+    let four : length given ≡ length first = ap length same in
+    omega arith
+
+-- where an arm gives too many, they are as many behind its condition
+pub arm_fails : (f : TrailForm → TrailForm) (old given arm : List TrailForm)
+    (trails later : Vec Trail) (e : WalkFault) (result : Result Unit WalkFault) → given ≡ arm
+    → IsErrAnd result (λ y. y ≡ e) → AddsTrails (old ++ given) trails (Err e)
+    → AddsTrails (old ++ map f arm) later result
+arm_fails f old given arm trails later e result same is h =
+    let one = length-append old given in
+    let two = length-append old (map f arm) in
+    let three = length-map arm f in
+    let four : length given ≡ length arm = ap length same in
+    fails_early (old ++ given) (old ++ map f arm) trails later e result (omega arith) is h
+
+take_front : (xs ys : List TrailForm) → take (length xs) (xs ++ ys) ≡ xs
+take_front [] ys = refl
+take_front (x ∷ xs) ys = ap (λ zs. x ∷ zs) (take_front xs ys)
+
+drop_front : (xs ys : List TrailForm) → drop (length xs) (xs ++ ys) ≡ ys
+drop_front [] ys = refl
+drop_front (x ∷ xs) ys = drop_front xs ys
+
+-- those of an arm stand behind its condition
+pub arm_done : (f : TrailForm → TrailForm) (old given arm between new : List TrailForm) (start : ℕ)
+    → start ≡ length old → between ≡ old ++ given → given ≡ arm
+    → new ≡ take start between ++ map f (drop start between) → new ≡ old ++ map f arm
+arm_done f old given arm between new start at adds same is =
+    is
+    ∙ ap₂ (λ n zs. take n zs ++ map f (drop n zs)) at adds
+    ∙ ap₂ (λ xs ys. xs ++ map f ys) (take_front old given) (drop_front old given)
+    ∙ ap (λ ys. old ++ map f ys) same
+
+-- those before an arm are no more than those with it
+pub start_inside : (old given : List TrailForm) (trails : List Trail) (start : ℕ)
+    → start ≡ length old → trail_forms trails ≡ old ++ given → start ≤ length trails
+start_inside old given trails start at adds =
+    let one = length-append old given in
+    let two = length-map trails trail_form in
+    let three : length (trail_forms trails) ≡ length (old ++ given) = ap length adds in
+    omega arith
+
+-- a branch that is taken has the trails of its arms
+pub branch_taken : (signals : List SignalForm) (s : ℕ) (place : Place) (condition : TypedTree)
+    (first second whole : FlatStatement) (trail copied : TrailForm) → copied ≡ trail
+    → whole ≡ branch place condition first second → takes whole trail ≡ true
+    → map (marked_by (length signals) (record { truth = true; place = place }) condition)
+    (trails_before signals s first (chosen true copied))
+    ++ map (marked_by (length signals) (record { truth = false; place = place }) condition)
+    (trails_before signals s second (chosen false trail))
+    ≡ trails_before signals s whole trail
+branch_taken signals s place condition first second whole trail copied same is taken =
+    let arm : Bool → FlatStatement → TrailForm → List TrailForm = λ truth body t.
+    map (marked_by (length signals) (record { truth = truth; place = place }) condition)
+    (trails_before signals s body (chosen truth t)) in
+    ap (λ t. arm true first t ++ arm false second trail) same
+    ∙ if_taken (takes (branch place condition first second) trail)
+    (arm true first trail ++ arm false second trail) (trail ∷ [])
+    (subst (λ a. takes a trail ≡ true) is taken)
+    ∙ ap (λ a. trails_before signals s a trail) (sym is)
+
+-- where the first of two arms was added, the second adds both
+pub arms_done : (old first second whole between : List TrailForm) (trails : Vec Trail)
+    (result : Result Unit WalkFault) → between ≡ old ++ first → first ++ second ≡ whole
+    → AddsTrails (between ++ second) trails result → AddsTrails (old ++ whole) trails result
+arms_done old first second whole between trails result adds is h =
+    subst (λ ts. AddsTrails ts trails result)
+    (ap (λ ts. ts ++ second) adds ∙ append_assoc old first second
+    ∙ ap (λ ts. old ++ ts) is) h
+
+pub one_too_many : (trails : List Trail) (trail : TrailForm) → 4096 ≤ length trails
+    → 4096 < length (trail_forms trails ++ trail ∷ [])
+one_too_many trails trail full =
+    let same = length-map trails trail_form in
+    let more = length-append (trail_forms trails) (trail ∷ []) in
+    omega (arith, same, more)
+
+-- ---- the trails before a statement, one by one
+
+module _ (f : TrailForm → List TrailForm) where
+  flat_trails : (trails : List Trail) →
+      flat_map f (trail_forms trails) ≡ flat_map (λ (t : Trail). f (trail_form t)) trails
+  flat_trails [] = refl
+  flat_trails (t ∷ trails) = ap (λ ts. f (trail_form t) ++ ts) (flat_trails trails)
+
+  -- the trails so far and the next one give no more trails than all of them
+  pub next_longer : (trails seen : List Trail) (x : Trail) → seen ≡ take (length seen) trails
+      → length seen < length trails → x ≡ get_or trails (length seen) x
+      → length (flat_map f (trail_forms seen)) + length (f (trail_form x))
+      ≤ length (flat_map f (trail_forms trails))
+  next_longer trails seen x so_far inside is =
+      let g = λ (t : Trail). f (trail_form t) in
+      let more = length-flat_map-take g trails (length seen) x inside in
+      let front : length (flat_map g (take (length seen) trails))
+      ≡ length (flat_map f (trail_forms seen)) =
+      ap length (ap (flat_map g) (sym so_far) ∙ sym (flat_trails seen)) in
+      let next : length (g (get_or trails (length seen) x)) ≡ length (f (trail_form x)) =
+      ap (λ (t : Trail). length (f (trail_form t))) (sym is) in
+      let whole : length (flat_map g trails) ≡ length (flat_map f (trail_forms trails)) =
+      ap length (sym (flat_trails trails)) in
+      omega arith
+
+-- where the second of two statements gives too many, both do
+pub chain_longer : (signals : List SignalForm) (s : ℕ) (first second : FlatStatement)
+    (trail : TrailForm) (none old : List TrailForm) → none ≡ []
+    → length (none ++ trails_before signals s second trail)
+    ≤ length (old ++ trails_before signals s (after first second) trail)
+chain_longer signals s first second trail none old empty =
+    let one = length-append none (trails_before signals s second trail) in
+    let two = length-append old (trails_before signals s (after first second) trail) in
+    let three : length none ≡ 0 = ap length empty in
+    let four = flat_longer (trails_before signals s first) (some_trail signals s first)
+    (trails_before signals s second trail) in
+    let five : length (trails_before signals s (after first second) trail)
+    ≡ length (flat_map (trails_before signals s first) (trails_before signals s second trail)) =
+    refl in
+    omega arith

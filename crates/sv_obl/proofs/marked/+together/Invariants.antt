@@ -1,0 +1,4 @@
+use Rattle.sv_obl.proofs.marked.+together.Given as goal
+
+abbrev pub decreases-together : goal.decreases-together
+decreases-together l = l.count

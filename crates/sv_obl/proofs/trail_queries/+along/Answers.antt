@@ -1,0 +1,12 @@
+use Rattle.std.proofs.Common.{sym, ◌∙◌}
+use Rattle.sv_flat.specs.ByNumber.{signal_forms}
+use Rattle.sv_obl.specs.AlongViews.{way_form}
+use Rattle.sv_obl.specs.Marked.{marked_statement}
+use Rattle.sv_obl.proofs.AlongFacts.{along_stays}
+use Rattle.sv_obl.proofs.trail_queries.+along.Goals as goal
+
+pub along-returns-then-not-is_taken : goal.along-returns-then-not-is_taken
+along-returns-then-not-is_taken t c =
+    sym (along_stays (signal_forms c.args.signals.now) c.args.target.0
+    (marked_statement c.args.stmt.now) (way_form c.args.made)
+    (sym c.is_taken.ensures ∙ c.if-not-is_taken.true))

@@ -1,0 +1,35 @@
+use Rattle.std.proofs.Common.{◌≡◌, false, map, reverse, ap, ◌∙◌, Vec, Global}
+use Rattle.sv_flat.specs.ByNumber.{signal_forms}
+use Rattle.sv_obl.specs.declared.queries.Step.{Step}
+use Rattle.sv_obl.specs.Alongs.{WayForm, along, open_way, conditions_along}
+use Rattle.sv_obl.specs.AlongViews.{way_form}
+use Rattle.sv_obl.specs.Marked.{marked_statement}
+use Rattle.sv_obl.specs.Paths.{step_with}
+use Rattle.sv_obl.specs.TrailViews.{trail_form}
+use Rattle.sv_obl.specs.Views.{step_form}
+use Rattle.sv_obl.specs.Wanted.{closed_tree}
+use Rattle.sv_obl.proofs.AlongFacts.{begins}
+use Rattle.sv_obl.proofs.RouteFacts.{reversed_map}
+use Rattle.sv_obl.proofs.SliceChains.{on_ok}
+use Rattle.sv_obl.proofs.trail_queries.steps_along.Goals as goal
+
+pub returns : goal.returns
+returns c =
+    let forms = signal_forms c.args.signals.now in
+    let s = c.args.target.0 in
+    let body = marked_statement c.args.body.now in
+    let trail = trail_form c.args.trail.now in
+    let close = step_with (closed_tree forms false) in
+    let way : way_form c.in_ok-made.made ≡ along forms s body (open_way s trail.choices) =
+    c.in_ok-made.ensures
+    ∙ ap (along forms s body) (begins s (trail_form c.open.result) c.new.result.items
+    c.as_slice.result.now trail.choices c.open.ensures c.new.ensures.items
+    c.as_slice.ensures.value) in
+    let closed : map step_form c.in_ok-steps.steps.items
+    ≡ map close (along forms s body (open_way s trail.choices)).steps =
+    c.in_ok-steps.ensures ∙ ap (λ (w : WayForm). map close w.steps) way in
+    on_ok c.turned.result (λ (v : Vec Step Global). v.items ≡ reverse c.in_ok-steps.steps.items)
+    (λ (v : Vec Step Global). map step_form v.items ≡ conditions_along forms s body trail)
+    (λ v is. ap (map step_form) is ∙ reversed_map step_form c.in_ok-steps.steps.items
+    ∙ ap reverse closed)
+    c.turned.ensures

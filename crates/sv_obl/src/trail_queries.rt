@@ -1,0 +1,349 @@
+// The obligation of one path through a body with earlier reads. The path is walked once more, along
+// the arms that it took, and its conditions are made into expressions on the way.
+ghost use Rattle.std.specs.Prelude.{◌≡◌, ◌<◌, map, reverse, length, None, IfOk, OnOk};
+ghost use Rattle.sv_flat.specs.ByNumber.{signal_forms};
+ghost use Rattle.sv_flat.specs.Views.{typed_tree, process_form};
+ghost use Rattle.sv_obl.specs.Alongs.{next_arm, on_arm, with_step, along_ways, along_own};
+ghost use Rattle.sv_obl.specs.Alongs.{along_assign, along};
+ghost use Rattle.sv_obl.specs.Alongs.{conditions_along, trail_obligation};
+ghost use Rattle.sv_obl.specs.AlongViews.{way_form};
+ghost use Rattle.sv_obl.specs.Exchange.{exchanged as exchanged_tree};
+ghost use Rattle.sv_obl.specs.Marked.{marked_statement, TellsTargets};
+ghost use Rattle.sv_obl.specs.Paths.{step_with};
+ghost use Rattle.sv_obl.specs.PutIn.{put_for, CanBePut, AreInWords, HasWords};
+ghost use Rattle.sv_obl.specs.RouteViews.{piece_forms};
+ghost use Rattle.sv_obl.specs.TrailViews.{trail_form};
+ghost use Rattle.sv_obl.specs.Views.{step_form, obligation_of};
+ghost use Rattle.sv_obl.specs.Wanted.{with_copies};
+
+use crate::exchange::{Put, exchanged};
+use crate::list_lines::Mark;
+use crate::marked::Marked;
+use crate::path_queries::{frame_of, place_of};
+use crate::queries::{Goal, Query, Step};
+use crate::reads::signals_of;
+use crate::trail_walks::is_taken;
+use crate::trails::Trail;
+use std::alloc::{AllocError, Global};
+use sv_flat::{FExpr, FNode, Piece, Process, SigId, Signal};
+use sv_num::Place;
+
+// A path on the way: what it wants, and its conditions, the last in the text first.
+#[derive(Drop)]
+struct Making<'c> {
+    trail: Trail,
+    steps: Vec<Step>,
+    choices: &'c [bool],
+    next: usize,
+}
+
+impl<'c> Making<'c> {
+    // The arm that is taken next.
+    fn choose(&mut self) -> bool
+        ensures arm { result ≡ next_arm (way_form self.old).arms }
+        ensures way { way_form self.new ≡ on_arm (way_form self.old) }
+    {
+        let next = self.next;
+        let choices = self.choices;
+        if next < choices.len() {
+            self.next = next + 1;
+            choices[next]
+        } else {
+            false
+        }
+    }
+
+    // Adds a condition.
+    fn add(
+        &mut self,
+        alloc: Global,
+        count: u32,
+        place: Place,
+        cond: &FExpr,
+        truth: bool,
+    ) -> Result<(), AllocError>
+        ensures { OnOk result (way_form self.new ≡ with_step count (record {
+          place = place;
+          condition = typed_tree cond.now;
+          truth = truth;
+        }) (way_form self.old)) }
+    {
+        self.trail
+            .add_mark(alloc, count, Mark { truth, place }, cond)?;
+        self.steps.push(Step {
+            place,
+            cond: cond.copy(alloc)?,
+            truth,
+        })?;
+        Ok(())
+    }
+}
+
+// The conditions with what is put into each.
+fn put_in_steps(
+    alloc: Global,
+    signals: &[Signal],
+    steps: Vec<Step>,
+    put: Put,
+) -> Result<Vec<Step>, AllocError>
+    requires few { length signals.now < 4294967296 }
+    requires put { CanBePut put }
+    ensures { IfOk result (λ made. map step_form made.items ≡ map (step_with (exchanged_tree
+        (with_copies (signal_forms signals.now)) (put_for (signal_forms signals.now) put.entry)))
+        (map step_form steps.items)) }
+{
+    let mut made = Vec::with_capacity(alloc, steps.len())?;
+    for step in steps {
+        made.push(Step {
+            place: step.place,
+            cond: exchanged(step.cond, alloc, signals, put)?,
+            truth: step.truth,
+        })?;
+    }
+    Ok(made)
+}
+
+// Takes the way of a right side that was taken for the result's own name.
+#[cycle(along_ways)]
+fn along_ways<'c>(
+    right: &FExpr,
+    alloc: Global,
+    count: u32,
+    from: u8,
+    made: Making<'c>,
+) -> Result<Making<'c>, AllocError>
+    ensures { IfOk result (λ way. way_form way
+        ≡ along_ways count from (typed_tree right.now) (way_form made.entry)) }
+{
+    let mut making = made;
+    match &right.node {
+        FNode::Choice(place, cond, yes, no) => {
+            if making.choose() {
+                along_way(yes, true, *place, cond, alloc, count, from, making)
+            } else {
+                along_way(no, false, *place, cond, alloc, count, from, making)
+            }
+        }
+        _ => {
+            making.trail.put_value(alloc, count, from, right)?;
+            Ok(making)
+        }
+    }
+}
+
+// Takes one way of a choice, behind its condition.
+#[cycle(along_ways)]
+fn along_way<'c>(
+    right: &FExpr,
+    truth: bool,
+    place: Place,
+    cond: &FExpr,
+    alloc: Global,
+    count: u32,
+    from: u8,
+    made: Making<'c>,
+) -> Result<Making<'c>, AllocError>
+    ensures { IfOk result (λ way. way_form way ≡ with_step count (record {
+      place = place;
+      condition = typed_tree cond.now;
+      truth = truth;
+    }) (along_ways count from (typed_tree right.now) (way_form made.entry))) }
+{
+    let mut all = along_ways(right, alloc, count, from, made)?;
+    all.add(alloc, count, place, cond, truth)?;
+    Ok(all)
+}
+
+// Takes an assignment that is wanted.
+fn along_assign<'c>(
+    alloc: Global,
+    signals: &[Signal],
+    target: SigId,
+    pieces: &[Piece],
+    right: &FExpr,
+    made: Making<'c>,
+) -> Result<Making<'c>, AllocError>
+    requires known { target.0 < length signals.now }
+    requires few { length signals.now < 4294967296 }
+    requires words { AreInWords (piece_forms pieces.now) }
+    ensures { IfOk result (λ way. way_form way ≡ along_assign (signal_forms signals.now) target.0
+        (piece_forms pieces.now) (typed_tree right.now) (way_form made.entry)) }
+{
+    let count = signals.len() as u32;
+    let mut trail = made.trail;
+    let times = trail.own_pieces(pieces);
+    let whole = trail.whole_from(signals, pieces);
+    trail.put_right(alloc, signals, target, pieces, right)?;
+    let steps = put_in_steps(alloc, signals, made.steps, Put::Pieces(pieces, right))?;
+    let making = Making {
+        trail,
+        steps,
+        choices: made.choices,
+        next: made.next,
+    };
+    match whole {
+        Some(from) => along_ways(right, alloc, count, from, making),
+        None => along_rest(alloc, count, times, right, making),
+    }
+}
+
+// Puts so many pieces for some bits of the result's own name.
+fn along_rest<'c>(
+    alloc: Global,
+    count: u32,
+    times: u32,
+    right: &FExpr,
+    made: Making<'c>,
+) -> Result<Making<'c>, AllocError>
+    ensures { IfOk result (λ way. way_form way
+        ≡ along_own count times None (typed_tree right.now) (way_form made.entry)) }
+{
+    let mut making = made;
+    if times == 0 {
+        return Ok(making);
+    }
+    making.trail.put_parts(alloc, count, times, right)?;
+    Ok(making)
+}
+
+// Takes a statement before the path.
+#[cycle(along)]
+fn along<'c>(
+    stmt: &Marked,
+    alloc: Global,
+    signals: &[Signal],
+    target: SigId,
+    made: Making<'c>,
+) -> Result<Making<'c>, AllocError>
+    requires known { target.0 < length signals.now }
+    requires few { length signals.now < 4294967296 }
+    requires tells { TellsTargets stmt.now }
+    requires words { HasWords (marked_statement stmt.now) }
+    ensures { IfOk result (λ way. way_form way ≡ along (signal_forms signals.now) target.0
+        (marked_statement stmt.now) (way_form made.entry)) }
+{
+    if !is_taken(stmt, &made.trail) {
+        return Ok(made);
+    }
+    match stmt {
+        Marked::Nothing => Ok(made),
+        Marked::Assign { pieces, right, .. } => {
+            along_assign(alloc, signals, target, *pieces, right, made)
+        }
+        Marked::Chain { first, second, .. } => {
+            let between = along(second, alloc, signals, target, made)?;
+            along(first, alloc, signals, target, between)
+        }
+        Marked::Branch {
+            place,
+            cond,
+            yes,
+            no,
+            ..
+        } => {
+            let mut making = made;
+            if making.choose() {
+                along_arm(yes, true, *place, cond, alloc, signals, target, making)
+            } else {
+                along_arm(no, false, *place, cond, alloc, signals, target, making)
+            }
+        }
+    }
+}
+
+// Takes one arm of a branch, behind its condition.
+#[cycle(along)]
+fn along_arm<'c>(
+    stmt: &Marked,
+    truth: bool,
+    place: Place,
+    cond: &FExpr,
+    alloc: Global,
+    signals: &[Signal],
+    target: SigId,
+    made: Making<'c>,
+) -> Result<Making<'c>, AllocError>
+    requires known { target.0 < length signals.now }
+    requires few { length signals.now < 4294967296 }
+    requires tells { TellsTargets stmt.now }
+    requires words { HasWords (marked_statement stmt.now) }
+    ensures { IfOk result (λ way. way_form way ≡ with_step (length signals.now) (record {
+      place = place;
+      condition = typed_tree cond.now;
+      truth = truth;
+    }) (along (signal_forms signals.now) target.0 (marked_statement stmt.now)
+        (way_form made.entry))) }
+{
+    let mut all = along(stmt, alloc, signals, target, made)?;
+    all.add(alloc, signals.len() as u32, place, cond, truth)?;
+    Ok(all)
+}
+
+// The conditions in textual order.
+fn turned(alloc: Global, steps: Vec<Step>) -> Result<Vec<Step>, AllocError>
+    ensures { IfOk result (λ made. made.items ≡ reverse steps.items) }
+{
+    let mut rest = steps;
+    let mut turned = Vec::with_capacity(alloc, rest.len())?;
+    while let Some(step) = rest.pop() {
+        turned.push(step)?;
+    }
+    Ok(turned)
+}
+
+// The conditions of the path, in textual order.
+fn steps_along(
+    alloc: Global,
+    signals: &[Signal],
+    target: SigId,
+    body: &Marked,
+    trail: &Trail,
+) -> Result<Vec<Step>, AllocError>
+    requires known { target.0 < length signals.now }
+    requires few { length signals.now < 4294967296 }
+    requires tells { TellsTargets body.now }
+    requires words { HasWords (marked_statement body.now) }
+    ensures { IfOk result (λ steps. map step_form steps.items ≡ conditions_along
+        (signal_forms signals.now) target.0 (marked_statement body.now) (trail_form trail.now)) }
+{
+    let start = Making {
+        trail: Trail::open(alloc, target),
+        steps: Vec::new(alloc),
+        choices: trail.choices.as_slice(),
+        next: 0,
+    };
+    let made = along(body, alloc, signals, target, start)?;
+    let steps = put_in_steps(alloc, signals, made.steps, Put::Zero)?;
+    turned(alloc, steps)
+}
+
+/// The obligation of a path of the target through the process; an error where memory runs out.
+pub fn trail_query(
+    alloc: Global,
+    signals: &[Signal],
+    process: &Process,
+    target: SigId,
+    body: &Marked,
+    trail: &Trail,
+) -> Result<Query, AllocError>
+    requires known { target.0 < length signals.now }
+    requires few { length signals.now < 4294967296 }
+    requires tells { TellsTargets body.now }
+    requires words { HasWords (marked_statement body.now) }
+    ensures { IfOk result (λ query. obligation_of query ≡ trail_obligation
+        (signal_forms signals.now) (process_form process.now) target.0
+        (marked_statement body.now) (trail_form trail.now)) }
+{
+    let path = steps_along(alloc, signals, target, body, trail)?;
+    let reads = signals_of(alloc, &trail.names.settled)?;
+    Ok(Query {
+        facts: Vec::new(alloc),
+        path,
+        right: place_of(process, trail.place),
+        reads,
+        goal: Goal::Flow {
+            target,
+            frame: frame_of(process.kind),
+        },
+    })
+}

@@ -1,9 +1,8 @@
 // How many paths lead to a signal, how much is put into one of them, and how many obligations a
 // design has, where they exceed a limit: each part of a body is counted once.
 ghost use Rattle.std.specs.Prelude.{◌≡◌, ◌<◌, length};
-ghost use Rattle.sv_flat.specs.Clocks.{processes_of};
 ghost use Rattle.sv_flat.specs.Views.{design_of};
-ghost use Rattle.sv_obl.specs.IndexedBodies.{AreIndexed};
+ghost use Rattle.sv_obl.specs.MarkedBodies.{AreBodiesOf};
 
 use std::alloc::{AllocError, Global};
 use sv_design::Design;
@@ -222,7 +221,7 @@ fn paths_by(
     target: SigId,
 ) -> Result<Paths, AllocError>
     requires known { target.0 < length design.now.signals.items }
-    requires bodies { AreIndexed (processes_of (design_of design.now)) bodies.now.bodies.items }
+    requires bodies { AreBodiesOf (design_of design.now) bodies.now }
 {
     if design.driver(target).is_none() {
         return Ok(NONE);

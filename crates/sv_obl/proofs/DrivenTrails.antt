@@ -32,7 +32,7 @@ use Rattle.sv_obl.specs.Alongs.{trail_obligation, trails_excess}
 use Rattle.sv_obl.specs.Answers.{excess_at}
 use Rattle.sv_obl.specs.Driven.{CanWalk, AreRoutes, AreTrails, ArePaths, how_many, HasPaths}
 use Rattle.sv_obl.specs.Driven.{IsDriven, ArePathsWalked, IsWalked}
-use Rattle.sv_obl.specs.Marked.{marked_statement, HasMarked}
+use Rattle.sv_obl.specs.MarkedBodies.{marked_statement, IsMarkedBody}
 use Rattle.sv_obl.specs.Trails.{TrailForm, open_trail, trails_before}
 use Rattle.sv_obl.specs.TrailViews.{trail_forms}
 use Rattle.sv_obl.specs.Wanted.{marked}
@@ -44,13 +44,13 @@ use Rattle.sv_obl.proofs.TrailTargets.{trail_names_are}
 use Rattle.sv_obl.proofs.Unmarked.{body_left}
 
 marked_at : (signals : List SignalForm) (ps : List ProcessForm) (xs : List (Option Marked)) (k : ℕ)
-    (p : ProcessForm) (x : Option Marked) → AllZip (HasMarked signals) ps xs → k < length xs
-    → get_or ps k p ≡ p → x ≡ get_or xs k x → HasMarked signals p x
+    (p : ProcessForm) (x : Option Marked) → AllZip (IsMarkedBody signals) ps xs → k < length xs
+    → get_or ps k p ≡ p → x ≡ get_or xs k x → IsMarkedBody signals p x
 marked_at signals [] [] k p x all inside there is = absurd (omega arith)
 marked_at signals [] (y ∷ xs) k p x all inside there is = absurd all
 marked_at signals (q ∷ ps) [] k p x all inside there is = absurd all
 marked_at signals (q ∷ ps) (y ∷ xs) zero p x all inside there is =
-    subst (λ z. HasMarked signals p z) (sym is) (subst (λ z. HasMarked signals z y) there all.0)
+    subst (λ z. IsMarkedBody signals p z) (sym is) (subst (λ z. IsMarkedBody signals z y) there all.0)
 marked_at signals (q ∷ ps) (y ∷ xs) (suc k) p x all inside there is =
     marked_at signals ps xs k p x all.1 (omega arith) there is
 
@@ -84,7 +84,7 @@ module _ (design : FlatDesign) (s total : ℕ) (driven : Driven)
 
 module _ (flat : Flat) (is : IsDesign (design_of flat)) (s : ℕ)
     (known : s < length flat.signals.items) (bodies : List (Option Marked))
-    (all : AllZip (HasMarked (design_of flat).signals) (processes_of (design_of flat)) bodies)
+    (all : AllZip (IsMarkedBody (design_of flat).signals) (processes_of (design_of flat)) bodies)
     (k : ℕ) (driven : driver_of (design_of flat) s ≡ Some k) (p : ProcessForm)
     (there : get_or (processes_of (design_of flat)) k p ≡ p) where
   abbrev design : FlatDesign
@@ -97,10 +97,10 @@ module _ (flat : Flat) (is : IsDesign (design_of flat)) (s : ℕ)
   pub inside_marked : k < length bodies
   inside_marked =
       subst (λ n. k < n)
-      (sym (AllZip-long (HasMarked design.signals) (processes_of design) bodies all))
+      (sym (AllZip-long (IsMarkedBody design.signals) (processes_of design) bodies all))
       (position-Some (λ (q : ProcessForm). assigns q.body s) (processes_of design) k p driven).0
 
-  has_marked : (x : Option Marked) → x ≡ get_or bodies k x → HasMarked design.signals p x
+  has_marked : (x : Option Marked) → x ≡ get_or bodies k x → IsMarkedBody design.signals p x
   has_marked x at =
       marked_at design.signals (processes_of design) bodies k p x all inside_marked there at
 
@@ -108,12 +108,12 @@ module _ (flat : Flat) (is : IsDesign (design_of flat)) (s : ℕ)
   pub unmarked : (x : Option Marked) → x ≡ get_or bodies k x → x ≡ None
       → marked design.signals (is_block p.kind) p.body no_bits ≡ p.body
   unmarked x at none = body_left design.signals (is_block p.kind) p.body no_bits
-      (subst (HasMarked design.signals p) none (has_marked x at))
+      (subst (IsMarkedBody design.signals p) none (has_marked x at))
 
   module _ (x : Option Marked) (at : x ≡ get_or bodies k x) (body : Marked)
       (is_body : x ≡ Some body) where
-    has_body : HasMarked design.signals p (Some body)
-    has_body = subst (HasMarked design.signals p) is_body (has_marked x at)
+    has_body : IsMarkedBody design.signals p (Some body)
+    has_body = subst (IsMarkedBody design.signals p) is_body (has_marked x at)
 
     is_process : Contains (processes_of design) p
     is_process = subst (Contains (processes_of design)) there

@@ -13,7 +13,8 @@ use Rattle.sv_obl.specs.declared.later.Bits.{Bits}
 use Rattle.sv_obl.specs.declared.marked.Marked.{Marked}
 use Rattle.sv_obl.specs.declared.marked.MarkedArm.{MarkedArm}
 use Rattle.sv_obl.specs.Later.{in_bits}
-use Rattle.sv_obl.specs.Marked.{marked_statement, GoesAs, IsBranch, IsMarking}
+use Rattle.sv_obl.specs.Marked.{IsBranch, IsMarking}
+use Rattle.sv_obl.specs.MarkedBodies.{marked_statement}
 use Rattle.sv_obl.specs.MarkedArms.{IsArm, AreArms, AreConditions}
 use Rattle.sv_obl.specs.Wanted.{marked as marked_as, marked_tree}
 use Rattle.sv_obl.proofs.MarkedFacts.{or_turned, goes_branch}

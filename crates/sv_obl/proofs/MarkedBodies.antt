@@ -15,7 +15,8 @@ use Rattle.sv_flat.specs.Views.{process_form}
 use Rattle.sv_obl.specs.declared.marked.Marked.{Marked}
 use Rattle.sv_obl.specs.declared.later.Scope.{Nothing, the_lemmas}
 use Rattle.sv_obl.specs.Later.{in_scope}
-use Rattle.sv_obl.specs.Marked.{marked_statement, has_copy, IsMarkedOf, HasMarked}
+use Rattle.sv_obl.specs.Marked.{has_copy}
+use Rattle.sv_obl.specs.MarkedBodies.{marked_statement, IsMarkedOf, IsMarkedBody}
 use Rattle.sv_obl.specs.Wanted.{marked as marked_as}
 use Rattle.sv_obl.proofs.NoCopies.{no_copies}
 use Rattle.sv_obl.proofs.Unchanged.{marked_itself}
@@ -43,7 +44,7 @@ module _ (signals : List SignalForm) (process : ProcessForm) where
   in_it = marked_as signals (is_block process.kind) process.body no_bits
 
   pub not_marked : is_block process.kind ≡ false
-      → IsTrue (statement_sound signals process.body) → HasMarked signals process None
+      → IsTrue (statement_sound signals process.body) → IsMarkedBody signals process None
   not_marked is sound = none_marked signals (is_block process.kind) process.body is sound
 
   module _ (x : Marked) (block : is_block process.kind ≡ true)
@@ -60,10 +61,10 @@ module _ (signals : List SignalForm) (process : ProcessForm) where
         ∙ ap (λ k. has_copy k (marked_statement x)) many
         ∙ (is_it.goes).copies (length signals)
 
-    pub some_marked : found ≡ true → HasMarked signals process (Some x)
+    pub some_marked : found ≡ true → IsMarkedBody signals process (Some x)
     some_marked so = (is_it, sym copies_are ∙ so)
 
-    pub none_found : found ≡ false → HasMarked signals process None
+    pub none_found : found ≡ false → IsMarkedBody signals process None
     none_found so = sym copies_are ∙ so
 
 -- ---- processes
@@ -77,13 +78,13 @@ one_more same (z ∷ xs) (w ∷ ys) x y all one = (all.0, one_more same xs ys x 
 
 pub next_body : (signals : List SignalForm) (ps : List Process) (i : ℕ) (p : Process)
     (old new : List (Option Marked)) (x : Option Marked) → i < length ps → p ≡ get_or ps i p
-    → AllZip (HasMarked signals) (map process_form (take i ps)) old
-    → HasMarked signals (process_form p) x → new ≡ old ++ x ∷ []
-    → AllZip (HasMarked signals) (map process_form (take (i + 1) ps)) new
+    → AllZip (IsMarkedBody signals) (map process_form (take i ps)) old
+    → IsMarkedBody signals (process_form p) x → new ≡ old ++ x ∷ []
+    → AllZip (IsMarkedBody signals) (map process_form (take (i + 1) ps)) new
 next_body signals ps i p old new x inside is so made items =
-    subst (AllZip (HasMarked signals) (map process_form (take (i + 1) ps))) (sym items)
-    (subst (λ fs. AllZip (HasMarked signals) fs (old ++ x ∷ [])) (sym forms)
-    (one_more (HasMarked signals) (map process_form (take i ps)) old (process_form p) x so made))
+    subst (AllZip (IsMarkedBody signals) (map process_form (take (i + 1) ps))) (sym items)
+    (subst (λ fs. AllZip (IsMarkedBody signals) fs (old ++ x ∷ [])) (sym forms)
+    (one_more (IsMarkedBody signals) (map process_form (take i ps)) old (process_form p) x so made))
   where
     forms : map process_form (take (i + 1) ps)
         ≡ map process_form (take i ps) ++ process_form p ∷ []

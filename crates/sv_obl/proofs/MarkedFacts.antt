@@ -22,8 +22,10 @@ use Rattle.sv_obl.specs.declared.marked.Marked.{Marked}
 use Rattle.sv_obl.specs.declared.marked.Marked as marked
 use Rattle.sv_obl.specs.Alongs.{along, next_arm, on_arm, with_step}
 use Rattle.sv_obl.specs.Later.{in_bits, HasBits}
-use Rattle.sv_obl.specs.Marked.{marked_statement, targets_in, AreTargets, TellsTargets, IsChain}
-use Rattle.sv_obl.specs.Marked.{IsBranch, names_copy, has_copy, GoesAs, IsMarkedOf, IsMarking}
+use Rattle.sv_obl.specs.Marked.{targets_in, IsChain}
+use Rattle.sv_obl.specs.MarkedBodies.{marked_statement, AreTargets, TellsTargets}
+use Rattle.sv_obl.specs.Marked.{IsBranch, names_copy, has_copy, IsMarking}
+use Rattle.sv_obl.specs.MarkedBodies.{IsMarkedOf}
 use Rattle.sv_obl.specs.Marked.{stacked, AllTell, EndsIn}
 use Rattle.sv_obl.specs.Paths.{StepForm}
 use Rattle.sv_obl.specs.PutIn.{HasWords}

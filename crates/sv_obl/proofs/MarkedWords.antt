@@ -15,7 +15,7 @@ use Rattle.sv_flat.specs.Values.{signal_width}
 use Rattle.sv_flat.proofs.Depths.{first_of, second_of, from_all}
 use Rattle.sv_flat.proofs.Members.{contained_all}
 use Rattle.sv_obl.specs.declared.marked.Marked.{Marked}
-use Rattle.sv_obl.specs.Marked.{marked_statement, IsMarkedOf}
+use Rattle.sv_obl.specs.MarkedBodies.{marked_statement, IsMarkedOf}
 use Rattle.sv_obl.specs.PutIn.{HasWords}
 use Rattle.sv_obl.specs.Wanted.{marked}
 

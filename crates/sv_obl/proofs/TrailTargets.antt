@@ -25,7 +25,8 @@ use Rattle.sv_obl.specs.Alongs.{conditions_along, trails_excess}
 use Rattle.sv_obl.specs.Answers.{excess_at}
 use Rattle.sv_obl.specs.ListLines.{step_word}
 use Rattle.sv_obl.specs.Limits.{Excess, many_paths, large_path, many_obligations, target_paths}
-use Rattle.sv_obl.specs.Marked.{marked_statement, IsMarkedOf, names_copy, has_copy}
+use Rattle.sv_obl.specs.Marked.{names_copy, has_copy}
+use Rattle.sv_obl.specs.MarkedBodies.{marked_statement, IsMarkedOf}
 use Rattle.sv_obl.specs.Obligations.{flow, is_link, frame_of, path_obligation, target_obligations}
 use Rattle.sv_obl.specs.Paths.{Path, step_with, paths}
 use Rattle.sv_obl.specs.Routes.{names_in}

@@ -29,7 +29,7 @@ use Rattle.sv_obl.specs.Limits.{Excess, many_paths, large_path, many_obligations
 use Rattle.sv_obl.specs.Limits.{first_excess, excess, target_paths}
 use Rattle.sv_obl.specs.ListLines.{list_line, lines_from, list_text}
 use Rattle.sv_obl.specs.Obligations.{Obligation, target_obligations, selector_obligations}
-use Rattle.sv_obl.specs.Marked.{marked_statement}
+use Rattle.sv_obl.specs.MarkedBodies.{marked_statement}
 use Rattle.sv_obl.specs.Obligations.{obligations}
 use Rattle.sv_obl.specs.Routes.{RouteForm, names_on, route_obligation, is_large, target_excess}
 use Rattle.sv_obl.specs.RouteViews.{route_form, route_forms}

@@ -13,9 +13,10 @@ ghost use Rattle.sv_flat.specs.Processes.{is_block};
 ghost use Rattle.sv_flat.specs.Views.{process_form, process_kind};
 ghost use Rattle.sv_design.specs.ReadForms.{AreZeros};
 ghost use Rattle.sv_obl.specs.Later.{in_scope};
-ghost use Rattle.sv_obl.specs.Marked.{marked_statement, targets_in, IsChain, IsBranch};
-ghost use Rattle.sv_obl.specs.Marked.{names_copy, has_copy, IsMarking, EndsIn, HasMarked};
+ghost use Rattle.sv_obl.specs.Marked.{targets_in, IsChain, IsBranch, names_copy, has_copy};
+ghost use Rattle.sv_obl.specs.Marked.{IsMarking, EndsIn};
 ghost use Rattle.sv_obl.specs.MarkedArms.{AreArms, AreConditions};
+ghost use Rattle.sv_obl.specs.MarkedBodies.{marked_statement, IsMarkedBody};
 
 use crate::indexed::{push_pieces, push_set};
 use crate::later::{Bits, Scope};
@@ -353,7 +354,7 @@ fn marked_body<'a>(
     requires zeros { AreZeros (length signals.now) zeros.now }
     requires body { IsTrue
         (statement_sound (signal_forms signals.now) (flat_statement process.now.body)) }
-    ensures { IfOk result (HasMarked (signal_forms signals.now) (process_form process.now)) }
+    ensures { IfOk result (IsMarkedBody (signal_forms signals.now) (process_form process.now)) }
 {
     if !is_block(process.kind) {
         return Ok(None);
@@ -374,7 +375,7 @@ pub fn marked_bodies<'a>(
     requires bodies { All (λ (process : ProcessForm). IsTrue
         (statement_sound (signal_forms signals.now) process.body))
         (map process_form processes.now) }
-    ensures { IfOk result (λ bodies. AllZip (HasMarked (signal_forms signals.now))
+    ensures { IfOk result (λ bodies. AllZip (IsMarkedBody (signal_forms signals.now))
         (map process_form processes.now) bodies.items) }
 {
     if signals.len() > 2_147_483_647 {

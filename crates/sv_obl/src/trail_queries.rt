@@ -8,7 +8,7 @@ ghost use Rattle.sv_obl.specs.Alongs.{along_assign, along};
 ghost use Rattle.sv_obl.specs.Alongs.{conditions_along, trail_obligation};
 ghost use Rattle.sv_obl.specs.AlongViews.{way_form};
 ghost use Rattle.sv_obl.specs.Exchange.{exchanged as exchanged_tree};
-ghost use Rattle.sv_obl.specs.Marked.{marked_statement, TellsTargets};
+ghost use Rattle.sv_obl.specs.MarkedBodies.{marked_statement, TellsTargets};
 ghost use Rattle.sv_obl.specs.Paths.{step_with};
 ghost use Rattle.sv_obl.specs.PutIn.{put_for, CanBePut, AreInWords, HasWords};
 ghost use Rattle.sv_obl.specs.RouteViews.{piece_forms};

@@ -11,7 +11,7 @@ use Rattle.sv_flat.proofs.AdmittedFacts.{body_is_sound}
 use Rattle.sv_flat.proofs.Members.{contained_all}
 use Rattle.sv_design.proofs.Sound.{few_bits}
 use Rattle.sv_obl.specs.IndexedBodies.{AreIndexed}
-use Rattle.sv_obl.specs.Marked.{HasMarked}
+use Rattle.sv_obl.specs.MarkedBodies.{IsMarkedBody}
 use Rattle.sv_obl.proofs.WrittenFacts.{none_counted}
 use Rattle.sv_obl.proofs.list_parts.Listing.new.Goals as goal
 
@@ -44,9 +44,9 @@ returns-clause-at c =
             c.processes-processes.ensures.processes c.in_ok-indexed.ensures;
         marked =
             subst (λ (ps : List ProcessForm).
-            AllZip (HasMarked design.signals) ps c.in_ok-marked.marked.items)
+            AllZip (IsMarkedBody design.signals) ps c.in_ok-marked.marked.items)
             c.processes-processes.ensures.processes
-            (subst (λ (signals : List Signal). AllZip (HasMarked (signal_forms signals))
+            (subst (λ (signals : List Signal). AllZip (IsMarkedBody (signal_forms signals))
             (map process_form c.processes-processes.result.now) c.in_ok-marked.marked.items)
             c.signals.ensures.signals c.in_ok-marked.ensures);
       };

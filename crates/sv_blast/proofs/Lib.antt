@@ -6,9 +6,16 @@ pub mod ConeStarts
 pub mod ConeSums
 pub mod ConstantForms
 pub mod ConstantIndexes
+pub mod CopyChoices
 pub mod DecodedBits
 pub mod DecodedLists
 pub mod FlowSteps
+pub mod FollowedArms
+pub mod FollowedBodies
+pub mod FollowedLists
+pub mod FollowedNames
+pub mod FollowedParts
+pub mod FollowedSteps
 pub mod FrameSteps
 pub mod FramedSteps
 pub mod Growing

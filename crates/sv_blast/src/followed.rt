@@ -8,17 +8,16 @@ ghost use Rattle.std.specs.BTreeSet.{IsOrdered};
 ghost use Rattle.std.specs.List.{list_any, list_all};
 ghost use Rattle.std.specs.Ordering.{nat_cmp};
 ghost use Rattle.sv_flat.specs.Assigned.{assigns};
-ghost use Rattle.sv_flat.specs.ByNumber.{is_branch};
+ghost use Rattle.sv_flat.specs.ByNumber.{signal_forms, is_branch};
 ghost use Rattle.sv_flat.specs.Design.{PieceForm};
 ghost use Rattle.sv_flat.specs.Processes.{is_register};
-ghost use Rattle.sv_flat.specs.Reads.{is_combinational};
+ghost use Rattle.sv_flat.specs.Reads.{is_combinational, reads_for};
 ghost use Rattle.sv_flat.specs.Soundness.{piece_fits};
 ghost use Rattle.sv_flat.specs.Values.{signal_width};
 ghost use Rattle.sv_flat.specs.Views.{design_of, piece_form, typed_tree};
 ghost use Rattle.sv_design.specs.Marks.{is_marked};
 ghost use Rattle.sv_design.specs.Numbers.{numbers};
-ghost use Rattle.sv_obl.specs.MarkedBodies.{marked_statement, TellsTargets, AreBodiesOf};
-ghost use Rattle.sv_obl.specs.MarkedBodies.{IsMarkedFor};
+ghost use Rattle.sv_obl.specs.MarkedBodies.{marked_statement, TellsTargets, IsMarkedFor};
 ghost use Rattle.sv_obl.specs.Wanted.{with_copies, copy_of};
 ghost use Rattle.sv_gates.specs.Extending.{Begins};
 ghost use Rattle.sv_gates.specs.Formulas.{IsLiteral, most_variables};
@@ -43,7 +42,7 @@ use sv_circuits::{chosen, falsity, filled, replaced};
 use sv_design::Design;
 use sv_flat::{FExpr, Piece, SigId, Signal};
 use sv_gates::{GateFault, Gates, Literal};
-use sv_obl::{Bodies, Marked};
+use sv_obl::{Marked, know_design};
 
 /// What words are made for: the signals, alone and with their copies behind them, since a wanted
 /// name is that of a copy; those that are read for the target, and those that it follows.
@@ -56,7 +55,33 @@ pub struct Followed<'a> {
     pub follows: &'a [bool],
 }
 
-impl Followed<'_> {
+impl<'a> Followed<'a> {
+    /// For a target that follows these signals; the second list has the copies of all signals too.
+    pub fn new(
+        alloc: Global,
+        design: &'a Design,
+        twice: &'a [Signal],
+        follows: &'a [bool],
+        target: SigId,
+    ) -> Followed<'a>
+        requires known { target.0 < length design.now.signals.items }
+        requires few { length design.now.signals.items ≤ 2147483647 }
+        requires twice { signal_forms twice.now ≡ with_copies (design_of design.now).signals }
+        requires size { length follows.now ≡ length design.now.signals.items }
+        ensures held { IsFollowed result }
+        ensures signals { result.signals.now ≡ design.now.signals.items }
+        ensures reads { numbers result.reads.now ≡ reads_for (design_of design.now) target.0 }
+        ensures follows { result.follows.now ≡ follows.now }
+    {
+        Followed {
+            alloc,
+            signals: design.signals(),
+            twice,
+            reads: design.reads_for(target),
+            follows,
+        }
+    }
+
     // ---- signals and their copies
 
     // The copy of a followed signal.
@@ -68,15 +93,15 @@ impl Followed<'_> {
         SigId(self.signals.len() as u32 + signal.0)
     }
 
-    // Whether one of some signals is followed.
-    fn follows_some(&self, targets: &BTreeSet<u32>) -> bool
+    /// Whether one of some signals is followed.
+    pub fn follows_some(&self, targets: &BTreeSet<u32>) -> bool
         ensures { result ≡ list_any (is_marked self.now.follows.now) targets.now.keys }
     {
         targets.iter().any(|target| has_mark(self.follows, SigId(*target)))
     }
 
-    // Whether one of some pieces is of a followed signal.
-    fn has_piece(&self, pieces: &[Piece]) -> bool
+    /// Whether one of some pieces is of a followed signal.
+    pub fn has_piece(&self, pieces: &[Piece]) -> bool
         ensures { result ≡ list_any (λ (piece : PieceForm).
             is_marked self.now.follows.now piece.signal) (map piece_form pieces.now) }
     {
@@ -413,15 +438,16 @@ pub fn followed_word(
     alloc: Global,
     gates: &mut Gates,
     design: &Design,
-    bodies: &Bodies,
+    twice: &[Signal],
     body: &Marked,
     words: &WordTable,
     target: SigId,
 ) -> Result<Vec<Literal>, GateFault>
     requires driven { IsTrue (is_register (design_of design.now) target.0
         || is_combinational (design_of design.now) target.0) }
-    requires bodies { AreBodiesOf (design_of design.now) bodies.now }
     requires body { IsMarkedFor (design_of design.now) target.0 (Some body) }
+    requires few { length design.now.signals.items ≤ 2147483647 }
+    requires twice { signal_forms twice.now ≡ with_copies (design_of design.now).signals }
     requires words { StandForReads (design_of design.now) gates.old.variables (words_of words.now)
         target.0 }
     ensures made { IfOk result (λ word. settled_word (design_of design.now) (words_of words.now)
@@ -434,14 +460,9 @@ pub fn followed_word(
         gates.old).0).variables }
 {
     let _some = gates.variables();
+    know_design(design);
     let follows = design.follows(alloc, target)?;
-    let followed = Followed {
-        alloc,
-        signals: design.signals(),
-        twice: &bodies.twice,
-        reads: design.reads_for(target),
-        follows: &follows,
-    };
+    let followed = Followed::new(alloc, design, twice, &follows, target);
     let mut own = followed.read_words(words)?;
     followed.clear_copies(gates, &mut own)?;
     followed.after(body, gates, &mut own)?;

@@ -27,6 +27,8 @@ mod decoding;
 mod encoding;
 mod expressions;
 mod followed;
+mod followed_arms;
+mod followed_sizes;
 mod framed;
 mod frames;
 mod goals;

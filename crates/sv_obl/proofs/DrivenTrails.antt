@@ -41,7 +41,7 @@ use Rattle.sv_obl.proofs.OneDriver.{one_driver_at}
 use Rattle.sv_obl.proofs.TargetFacts.{length_mapped}
 use Rattle.sv_obl.proofs.TrailTargets.{trails_excess_same, trails_listed, trail_words_are}
 use Rattle.sv_obl.proofs.TrailTargets.{trail_names_are}
-use Rattle.sv_obl.proofs.Unmarked.{body_left}
+use Rattle.sv_obl.proofs.Unchanged.{marked_itself}
 
 marked_at : (signals : List SignalForm) (ps : List ProcessForm) (xs : List (Option Marked)) (k : ℕ)
     (p : ProcessForm) (x : Option Marked) → AllZip (IsMarkedBody signals) ps xs → k < length xs
@@ -107,7 +107,7 @@ module _ (flat : Flat) (is : IsDesign (design_of flat)) (s : ℕ)
   -- where the process has no marked body, none of its reads is an earlier one
   pub unmarked : (x : Option Marked) → x ≡ get_or bodies k x → x ≡ None
       → marked design.signals (is_block p.kind) p.body no_bits ≡ p.body
-  unmarked x at none = body_left design.signals (is_block p.kind) p.body no_bits
+  unmarked x at none = marked_itself design.signals (is_block p.kind) p.body no_bits no_bits
       (subst (IsMarkedBody design.signals p) none (has_marked x at))
 
   module _ (x : Option Marked) (at : x ≡ get_or bodies k x) (body : Marked)

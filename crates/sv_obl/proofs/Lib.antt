@@ -23,7 +23,6 @@ pub mod MarkedValues
 pub mod MarkedWords
 pub mod MarkingFacts
 pub mod NameFacts
-pub mod NoCopies
 pub mod NumberSets
 pub mod OnTheWay
 pub mod OneDriver
@@ -40,6 +39,7 @@ pub mod RouteFacts
 pub mod RouteNames
 pub mod RouteObligations
 pub mod RoutePaths
+pub mod SameWalks
 pub mod SliceChains
 pub mod SliceFacts
 pub mod StatementFacts

@@ -6,6 +6,8 @@ pub mod DrivenTargets
 pub mod DrivenTrails
 pub mod ExchangeFacts
 pub mod FalsifyExamples
+pub mod FormedExchange
+pub mod FormedPaths
 pub mod GuardedDesigns
 pub mod IndexedArmFacts
 pub mod IndexedFacts

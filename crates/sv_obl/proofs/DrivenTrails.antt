@@ -1,7 +1,8 @@
 -- A target by its number in the design, and the process that drives it, whose body is given with
 -- its earlier reads wanted where it has some.
 use Rattle.std.proofs.Common.{◌≡◌, ℕ, zero, suc, ◌+◌, ◌<◌, ◌≤◌, List, [], ◌∷◌, length, map, get_or}
-use Rattle.std.proofs.Common.{Vec, Global, Option, Some, None, refl, sym, ap, ap₂, subst, ◌∙◌, arith, lt-ltb}
+use Rattle.std.proofs.Common.{Vec, Global, Option, Some, None, option_map, refl, sym, ap, ap₂, subst}
+use Rattle.std.proofs.Common.{◌∙◌, arith, lt-ltb}
 use Rattle.std.specs.Prelude.{IsTrue, Contains}
 use Rattle.std.specs.Borrow.{Bor}
 use Rattle.std.specs.List.{AllZip}
@@ -19,7 +20,9 @@ use Rattle.sv_flat.specs.Views.{design_of, signal_form, process_form}
 use Rattle.sv_flat.specs.declared.designs.Flat.{Flat}
 use Rattle.sv_flat.specs.declared.designs.Process.{Process}
 use Rattle.sv_flat.specs.declared.signals.Signal.{Signal}
+use Rattle.sv_system.proofs.Lists.{Contains-nil, Contains-filter}
 use Rattle.sv_flat.proofs.AdmittedFacts.{body_is_sound}
+use Rattle.sv_flat.proofs.Members.{only}
 use Rattle.sv_design.specs.Designs.{IsDesign}
 use Rattle.sv_design.proofs.Sound.{few_bits}
 use Rattle.sv_obl.specs.declared.marked.Marked.{Marked}
@@ -32,16 +35,16 @@ use Rattle.sv_obl.specs.Alongs.{trail_obligation, trails_excess}
 use Rattle.sv_obl.specs.Answers.{excess_at}
 use Rattle.sv_obl.specs.Driven.{CanWalk, AreRoutes, AreTrails, ArePaths, how_many, HasPaths}
 use Rattle.sv_obl.specs.Driven.{IsDriven, ArePathsWalked, IsWalked}
-use Rattle.sv_obl.specs.MarkedBodies.{marked_statement, IsMarkedBody}
+use Rattle.sv_obl.specs.MarkedBodies.{marked_statement, IsMarkedBody, IsMarkedFor}
 use Rattle.sv_obl.specs.Trails.{TrailForm, open_trail, trails_before}
 use Rattle.sv_obl.specs.TrailViews.{trail_forms}
 use Rattle.sv_obl.specs.Wanted.{marked}
 use Rattle.sv_obl.proofs.MarkedWords.{walked_words}
-use Rattle.sv_obl.proofs.OneDriver.{one_driver_at}
+use Rattle.sv_obl.proofs.OneDriver.{no_driver, one_driver_at}
 use Rattle.sv_obl.proofs.TargetFacts.{length_mapped}
 use Rattle.sv_obl.proofs.TrailTargets.{trails_excess_same, trails_listed, trail_words_are}
 use Rattle.sv_obl.proofs.TrailTargets.{trail_names_are}
-use Rattle.sv_obl.proofs.Unmarked.{body_left}
+use Rattle.sv_obl.proofs.Unchanged.{marked_itself}
 
 marked_at : (signals : List SignalForm) (ps : List ProcessForm) (xs : List (Option Marked)) (k : ℕ)
     (p : ProcessForm) (x : Option Marked) → AllZip (IsMarkedBody signals) ps xs → k < length xs
@@ -82,6 +85,17 @@ module _ (design : FlatDesign) (s total : ℕ) (driven : Driven)
 
 -- ---- the process that drives the target
 
+-- where no process drives the target, none assigns it
+pub none_for : (flat : Flat) → IsDesign (design_of flat) → (s : ℕ) → s < length flat.signals.items
+    → driver_of (design_of flat) s ≡ None → IsMarkedFor (design_of flat) s None
+none_for flat is s known none q q_at own =
+    let design = design_of flat in
+    let is_known = lt-ltb s (length design.signals)
+    (subst (λ n. s < n) (sym (length_mapped signal_form flat.signals.items)) known) in
+    absurd (Contains-nil q (subst (λ ps. Contains ps q)
+    (no_driver design is.is_sound is.is_admitted s is_known none)
+    (Contains-filter (λ (y : ProcessForm). assigns y.body s) (processes_of design) q q_at own)))
+
 module _ (flat : Flat) (is : IsDesign (design_of flat)) (s : ℕ)
     (known : s < length flat.signals.items) (bodies : List (Option Marked))
     (all : AllZip (IsMarkedBody (design_of flat).signals) (processes_of (design_of flat)) bodies)
@@ -104,10 +118,21 @@ module _ (flat : Flat) (is : IsDesign (design_of flat)) (s : ℕ)
   has_marked x at =
       marked_at design.signals (processes_of design) bodies k p x all inside_marked there at
 
+  -- so it is for whatever process assigns the target
+  pub marked_for : (x : Option Marked) → x ≡ get_or bodies k x → (found : Option (Bor Marked))
+      → option_map (λ (b : Bor Marked). b.now) found ≡ x → IsMarkedFor design s found
+  marked_for x at found same q q_at own =
+      let alone = (one_driver_at design is.is_sound is.is_admitted s is_known k p driven).2
+      ∙ ap (λ y. y ∷ []) there in
+      let is_p = only p q (subst (λ ps. Contains ps q) alone
+      (Contains-filter (λ (y : ProcessForm). assigns y.body s) (processes_of design) q q_at own)) in
+      subst (λ y. IsMarkedBody design.signals y (option_map (λ (b : Bor Marked). b.now) found)) is_p
+      (subst (IsMarkedBody design.signals p) (sym same) (has_marked x at))
+
   -- where the process has no marked body, none of its reads is an earlier one
   pub unmarked : (x : Option Marked) → x ≡ get_or bodies k x → x ≡ None
       → marked design.signals (is_block p.kind) p.body no_bits ≡ p.body
-  unmarked x at none = body_left design.signals (is_block p.kind) p.body no_bits
+  unmarked x at none = marked_itself design.signals (is_block p.kind) p.body no_bits no_bits
       (subst (IsMarkedBody design.signals p) none (has_marked x at))
 
   module _ (x : Option Marked) (at : x ≡ get_or bodies k x) (body : Marked)

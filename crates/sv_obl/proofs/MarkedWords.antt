@@ -18,6 +18,7 @@ use Rattle.sv_obl.specs.declared.marked.Marked.{Marked}
 use Rattle.sv_obl.specs.MarkedBodies.{marked_statement, IsMarkedOf}
 use Rattle.sv_obl.specs.PutIn.{HasWords}
 use Rattle.sv_obl.specs.Wanted.{marked}
+use Rattle.sv_obl.proofs.SameWalks.{same_words}
 
 module _ (signals : List SignalForm) where
   -- marking leaves the pieces
@@ -79,9 +80,10 @@ module _ (signals : List SignalForm) where
               (statement_sound signals b) sound),
         )
 
-    -- so a body that goes as the marked one can be walked along
+    -- so a body of the same parts can be walked along
     pub walked_words : (in_block : Bool) (a : FlatStatement) (x : Marked)
         → IsMarkedOf (marked signals in_block a no_bits) x → IsTrue (statement_sound signals a)
         → HasWords (marked_statement x)
     walked_words in_block a x is sound =
-        (is.goes).words.1 (marked_words in_block a no_bits (sound_words a sound))
+        same_words (marked_statement x) (marked signals in_block a no_bits) is.parts
+        (marked_words in_block a no_bits (sound_words a sound))

@@ -1,5 +1,5 @@
 -- Bodies in which earlier reads are wanted, and the bodies of a design as the calls hold them.
-use Rattle.std.specs.Prelude.{◌≡◌, ℕ, ◌&&◌, [], ◌∷◌, List, map, Option, Some, None, option_map}
+use Rattle.std.specs.Prelude.{◌≡◌, ◌≤◌, ℕ, ◌&&◌, List, map, length, Option, Some, None, option_map}
 use Rattle.std.specs.Prelude.{Contains, IsTrue, IsFalse}
 use Rattle.std.specs.Borrow.{Bor}
 use Rattle.std.specs.BTreeSet.{BTreeSet, contains}
@@ -78,10 +78,14 @@ IsMarkedFor design s found =
 
 -- ---- designs
 
+-- the signals and then their copies are held, and each has a number of 32 bits
+pub record HasCopies (design : FlatDesign) (held : Bodies) : Type 0 where
+  pub few : length design.signals ≤ 2147483647
+  pub twice : signal_forms held.twice.items ≡ with_copies design.signals
+
 -- the bodies of the design's processes, indexed, and those with earlier reads with these wanted;
--- and the signals with their copies, where there is one of those
+-- and copies of the signals, where there is one of those
 pub record AreBodiesOf (design : FlatDesign) (held : Bodies) : Type 0 where
   pub indexed : AreIndexed (processes_of design) held.indexed.items
   pub marked : AllZip (IsMarkedBody design.signals) (processes_of design) held.marked.items
-  pub twice : (x : Marked) → Contains held.marked.items (Some x) →
-      signal_forms held.twice.items ≡ with_copies design.signals
+  pub copies : (x : Marked) → Contains held.marked.items (Some x) → HasCopies design held

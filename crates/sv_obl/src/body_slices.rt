@@ -1,6 +1,6 @@
 // What of a body matters to one target, so that a walk for it asks nothing twice.
 ghost use Rattle.std.specs.Prelude.{◌≡◌, ℕ, ◌-◌, ◌<◌, [], ◌++◌, map, length, is_some};
-ghost use Rattle.std.specs.Prelude.{IsTrue, IfOk, OnOk};
+ghost use Rattle.std.specs.Prelude.{IsTrue, IfSome, IfOk, OnOk};
 ghost use Rattle.std.specs.List.{list_any};
 ghost use Rattle.sv_flat.specs.Design.{FlatStatement, assign, branch};
 ghost use Rattle.sv_flat.specs.ByNumber.{signal_forms};
@@ -8,7 +8,7 @@ ghost use Rattle.sv_flat.specs.Views.{typed_tree, design_of};
 ghost use Rattle.sv_obl.specs.BodySlices.{sliced, SameParts, slice_statement, driven_body};
 ghost use Rattle.sv_obl.specs.SliceRoutes.{is_nothing, IsSliceOf, IsChain, AreSlicesOf, EndsIn};
 ghost use Rattle.sv_obl.specs.IndexedBodies.{looked_up, chosen, numbers_at};
-ghost use Rattle.sv_obl.specs.MarkedBodies.{AreBodiesOf, IsMarkedFor};
+ghost use Rattle.sv_obl.specs.MarkedBodies.{AreBodiesOf, IsMarkedFor, HasCopies};
 ghost use Rattle.sv_obl.specs.RouteViews.{piece_forms};
 ghost use Rattle.sv_obl.specs.Wanted.{with_copies};
 
@@ -341,7 +341,8 @@ impl<'a> Bodies<'a> {
     pub fn marked(&self, design: &Design, target: SigId) -> Option<&Marked<'a>>
         requires known { target.0 < length design.now.signals.items }
         requires bodies { AreBodiesOf (design_of design.now) self.now }
-        ensures { IsMarkedFor (design_of design.now) target.0 result }
+        ensures body { IsMarkedFor (design_of design.now) target.0 result }
+        ensures copies { IfSome result (λ body. HasCopies (design_of design.now) self.now) }
     {
         match design.driver(target) {
             Some(place) => self.marked[place].as_ref(),

@@ -44,6 +44,7 @@ mod frames;
 mod indexed;
 mod later;
 mod laws;
+mod levels;
 mod limits;
 mod list_lines;
 mod list_parts;

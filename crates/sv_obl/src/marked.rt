@@ -375,8 +375,9 @@ pub fn marked_bodies<'a>(
     requires bodies { All (λ (process : ProcessForm). IsTrue
         (statement_sound (signal_forms signals.now) process.body))
         (map process_form processes.now) }
-    ensures { IfOk result (λ bodies. AllZip (IsMarkedBody (signal_forms signals.now))
+    ensures bodies { IfOk result (λ bodies. AllZip (IsMarkedBody (signal_forms signals.now))
         (map process_form processes.now) bodies.items) }
+    ensures few { OnOk result (length signals.now ≤ 2147483647) }
 {
     if signals.len() > 2_147_483_647 {
         return Err(AllocError);

@@ -1,6 +1,6 @@
 -- The way down a chain of branches, and one statement after the other, in words of all followed
 -- signals.
-use Rattle.std.proofs.Common.{◌≡◌, ℕ, ◌+◌, ◌<◌, ◌≤◌, ◌++◌, ℤ, List, [], ◌∷◌, length, map, filter, refl}
+use Rattle.std.proofs.Common.{◌≡◌, ℕ, ◌+◌, ◌<◌, ◌++◌, ℤ, List, [], ◌∷◌, length, map, filter, refl}
 use Rattle.std.proofs.Common.{sym, ap, subst, ◌∙◌, arith}
 use Rattle.std.specs.Prelude.{Contains, IsTrue, IsFalse}
 use Rattle.sv_num.specs.declared.faults.Place.{Place}
@@ -18,13 +18,13 @@ use Rattle.sv_circuits.specs.Circuits.{IsWord}
 use Rattle.sv_circuits.proofs.WordKeeps.{literal_up}
 use Rattle.sv_encoding.specs.Expressions.{Words, is_true_bit}
 use Rattle.sv_encoding.specs.Bodies.{assigns_some, words_after}
-use Rattle.sv_encoding.specs.BothWays.{HaveBits}
 use Rattle.sv_blast.specs.declared.followed_arms.WordsArm.{WordsArm}
-use Rattle.sv_blast.specs.FollowedWords.{AllStand, PairsStand, ArmStands, ArmsStand, AreFit, pairs}
+use Rattle.sv_blast.specs.FollowedWords.{AllStand, PairsStand, ArmsStand, AreFit, pairs}
 use Rattle.sv_blast.specs.FollowedWords.{words_at, choices, choices_back}
 use Rattle.sv_blast.proofs.CopyChoices.{BackAt, arms_up, arms_with, back_grows, choices_grow}
 use Rattle.sv_blast.proofs.CopyChoices.{chosen_last, stand_up}
-use Rattle.sv_blast.proofs.FollowedSteps.{Apart, AllLong, branch_is, after_grows, after_long, passed}
+use Rattle.sv_blast.proofs.FollowedSteps.{Apart, branch_is, passed}
+use Rattle.sv_blast.proofs.WordTurns.{words_after_grow}
 
 -- what is to be made comes from the arms that are open and from what is left of the statement; the
 -- words are still those of before
@@ -37,23 +37,16 @@ pub record DownAt (signals : List SignalForm) (followed : List ℕ) (IsAtHand : 
   pub stand : AllStand signals IsAtHand now.variables ws
   pub begins : Begins old now
 
-module _ (signals : List SignalForm) (followed : List ℕ) (bits : HaveBits (with_copies signals))
-    (IsAtHand : ℕ → Type 0) (copies : (s : ℕ) → Contains followed s → IsAtHand (copy_of signals s))
+module _ (signals : List SignalForm) (followed : List ℕ) (IsAtHand : ℕ → Type 0)
+    (copies : (s : ℕ) → Contains followed s → IsAtHand (copy_of signals s))
     where
-  pub long_words : (n : ℕ) (ws : Words) → AllStand signals IsAtHand n ws →
-      AllLong signals followed bits IsAtHand copies ws
-  long_words n ws stand t at = (stand t at).1
-
   -- what takes too many variables in the first of two statements
-  pub first_full : (x y : FlatStatement) → AreFit signals followed IsAtHand (after x y) → (n : ℕ)
-      (ws : Words) → AllStand signals IsAtHand n ws → (f : Formula) (most : ℕ) →
+  pub first_full : (x y : FlatStatement) (ws : Words) (f : Formula) (most : ℕ) →
       most < (words_after signals followed x ws f).0.variables →
       most < (words_after signals followed (after x y) ws f).0.variables
-  first_full x y fit n ws stand f most high =
+  first_full x y ws f most high =
       let one = words_after signals followed x ws f in
-      let long = after_long signals followed bits IsAtHand copies x fit.0 ws
-      (long_words n ws stand) f in
-      let grows = after_grows signals followed bits IsAtHand copies y fit.1 one.1 long one.0 in
+      let grows = words_after_grow signals followed y one.1 one.0 in
       omega (arith, high, grows)
 
   -- ---- a chain of branches
@@ -127,8 +120,7 @@ module _ (signals : List SignalForm) (followed : List ℕ) (bits : HaveBits (wit
 
       one_full : (most : ℕ) → most < one.0.variables → most < whole.0.variables
       one_full most high =
-          let second = after_grows signals followed bits IsAtHand copies y down.fit.1.1 ws
-          (long_words now.variables ws down.stand) one.0 in
+          let second = words_after_grow signals followed y ws one.0 in
           let here = choices_grow bit.1 (words_at one.1 (map (copy_of signals) assigned)) two.1
           two.0 in
           let back = back_grows arms chosen in
@@ -137,8 +129,7 @@ module _ (signals : List SignalForm) (followed : List ℕ) (bits : HaveBits (wit
 
       pub condition_full : (most : ℕ) → most < bit.0.variables → most < whole.0.variables
       condition_full most high =
-          let first = after_grows signals followed bits IsAtHand copies x down.fit.1.0 ws
-          (long_words now.variables ws down.stand) bit.0 in
+          let first = words_after_grow signals followed x ws bit.0 in
           one_full most (omega (arith, high, first))
 
       module _ (mid : Formula) (literal : ℤ)

@@ -1,41 +1,39 @@
 -- The word of a signal whose process has an earlier read: from the words of what is read for it, by
 -- the body with such reads wanted.
-use Rattle.std.proofs.Common.{◌≡◌, ℕ, zero, suc, ◌<◌, ◌≤◌, ◌&&◌, ◌||◌, ◌==◌, ◌⊎◌, inl, inr, ⊎_elim}
+use Rattle.std.proofs.Common.{◌≡◌, ℕ, ◌<◌, ◌≤◌, ◌&&◌, ◌||◌, ◌==◌, ◌⊎◌, inl, inr, ⊎_elim}
 use Rattle.std.proofs.Common.{Bool, true, false, cond, List, ◌++◌, length, replicate, refl, sym, ap}
-use Rattle.std.proofs.Common.{ap₂, subst, ◌∙◌, arith, ltb-true, Bor, Some}
+use Rattle.std.proofs.Common.{ap₂, subst, ◌∙◌, arith, ltb-true}
 use Rattle.std.specs.Prelude.{Contains, IsTrue, IsFalse}
 use Rattle.std.specs.List.{list_all}
-use Rattle.std.proofs.lemmas.Bool.{false≢true, eqb-true, leb-true, lt-ltb}
+use Rattle.std.proofs.lemmas.Bool.{false≢true, eqb-true, lt-ltb}
 use Rattle.std.proofs.lemmas.List.{length-replicate}
 use Rattle.std.proofs.Common.{length-append}
 use Rattle.sv_system.proofs.Lists.{Contains-map}
 use Rattle.sv_flat.specs.Design.{SignalForm, TypedTree, typed, PieceForm, FlatStatement, nothing, after}
 use Rattle.sv_flat.specs.Design.{assign, branch, ProcessKind, continuous, port_in, port_out}
 use Rattle.sv_flat.specs.Design.{combinational, clocked, release, ProcessForm, FlatDesign}
-use Rattle.sv_flat.specs.Values.{signal_width, expression_width}
+use Rattle.sv_flat.specs.Values.{signal_width}
 use Rattle.sv_flat.specs.Soundness.{is_signal, piece_fits, well_formed, statement_sound}
 use Rattle.sv_flat.specs.Assigned.{assigns, can_assign, always_assigns}
 use Rattle.sv_flat.specs.Readings.{ReadForm, reads, BitSet, either, no_bits, Reading, readings_of}
 use Rattle.sv_flat.specs.Readings.{readings, is_followed}
-use Rattle.sv_flat.specs.Processes.{is_clocked, is_block, is_register, drivers}
+use Rattle.sv_flat.specs.Processes.{is_clocked, is_block}
 use Rattle.sv_flat.specs.Clocks.{processes_of}
-use Rattle.sv_flat.specs.Reads.{followed, is_combinational, is_read_for, reads_for, process_readings}
+use Rattle.sv_flat.specs.Reads.{followed, is_read_for, reads_for, process_readings}
 use Rattle.sv_flat.specs.Reads.{is_earlier}
 use Rattle.sv_flat.proofs.Members.{Contains-left, Contains-right}
 use Rattle.sv_flat.proofs.LeastSets.{from_some, either_way, in_those, those_below, those_pass}
 use Rattle.sv_flat.proofs.Depths.{first_of, second_of}
 use Rattle.sv_flat.proofs.ReadSignals.{reads_signals}
-use Rattle.sv_flat.proofs.AdmittedFacts.{body_is_sound, assigned_is_signal, some_width}
+use Rattle.sv_flat.proofs.AdmittedFacts.{body_is_sound}
 use Rattle.sv_flat.proofs.BlockFacts.{follows_itself, follows_earlier, settled_is_read}
 use Rattle.sv_design.specs.Designs.{IsDesign}
 use Rattle.sv_obl.specs.BodySlices.{SameParts}
 use Rattle.sv_obl.specs.Exchange.{name}
-use Rattle.sv_obl.specs.declared.marked.Marked.{Marked}
-use Rattle.sv_obl.specs.MarkedBodies.{IsMarkedFor, IsMarkedBody, marked_statement}
 use Rattle.sv_obl.specs.Wanted.{with_copies, copy_of, is_copy, original, mark, marked_tree, marked}
 use Rattle.sv_obl.proofs.PathLists.{cond_true, cond_false}
-use Rattle.sv_obl.proofs.PutFacts.{width_settled, width_copy, width_original, copy_is_copy}
-use Rattle.sv_obl.proofs.PutFacts.{original_of_copy, signal_is_settled, settled_is_signal}
+use Rattle.sv_obl.proofs.PutFacts.{width_settled, width_copy, copy_is_copy}
+use Rattle.sv_obl.proofs.PutFacts.{original_of_copy, signal_is_settled}
 use Rattle.sv_obl.proofs.TreeFacts.{exchanged_names}
 use Rattle.sv_gates.specs.Formulas.{Formula}
 use Rattle.sv_gates.specs.Gates.{false_literal}
@@ -45,16 +43,13 @@ use Rattle.sv_circuits.specs.Words.{Word}
 use Rattle.sv_circuits.proofs.BitPieces.{false_is}
 use Rattle.sv_circuits.proofs.WordKeeps.{word_same}
 use Rattle.sv_encoding.specs.Expressions.{Words}
-use Rattle.sv_encoding.specs.Bodies.{words_after, starting_words, driven_word, word_by_first}
-use Rattle.sv_encoding.specs.Bodies.{settled_word}
-use Rattle.sv_encoding.specs.BothWays.{HaveBits, IsWordOf}
-use Rattle.sv_encoding.specs.Sizes.{process_size, size_of_first, signal_size, statement_size}
+use Rattle.sv_encoding.specs.Bodies.{words_after, starting_words, driven_word}
+use Rattle.sv_encoding.specs.Sizes.{process_size, statement_size}
 use Rattle.sv_encoding_laws.proofs.Renamed.{AllFit, IsFit as Fits, formed_instead}
 use Rattle.sv_blast.specs.WordTables.{StandForReads}
 use Rattle.sv_blast.specs.FollowedWords.{AllStand, IsFit, AreFit}
 use Rattle.sv_blast.proofs.FollowedNames.{Agree, after_same}
 use Rattle.sv_blast.proofs.FollowedParts.{same_fit, same_words, same_size}
-use Rattle.sv_blast.proofs.SliceWords.{HasDriver, driver}
 
 -- no block is clocked
 block_is_unclocked : (k : ProcessKind) → IsTrue (is_block k) → IsFalse (is_clocked k)
@@ -74,19 +69,6 @@ module _ (design : FlatDesign) (is : IsDesign design) where
 
   long : length both ≡ length signals + length signals
   long = length-append signals signals
-
-  pub have_bits : HaveBits (with_copies design.signals)
-  have_bits t inside = ⊎_elim
-      (λ copy. subst (λ k. 0 < k) (sym (width_original signals t copy))
-      (some_width design is.is_sound is.is_admitted (original signals t)
-      (lt-ltb (original signals t) (length signals)
-      (let low = ltb-true t (length both) inside in
-      let high = leb-true (length signals) t copy in
-      omega (arith, low, high, long)))))
-      (λ plain. let low = settled_is_signal signals t plain in
-      subst (λ k. 0 < k) (sym (width_settled signals t low))
-      (some_width design is.is_sound is.is_admitted t (lt-ltb t (length signals) low)))
-      (either_way (is_copy signals t))
 
   module _ (p : ProcessForm) (s : ℕ) (at : Contains (processes_of design) p)
       (own : IsTrue (assigns p.body s)) where

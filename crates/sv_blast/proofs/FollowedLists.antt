@@ -7,7 +7,7 @@ use Rattle.std.specs.BTreeSet.{BTreeSet, contains, IsOrdered}
 use Rattle.std.specs.List.{AllByRecursion, list_any, range_with_len}
 use Rattle.std.specs.List.Sorted.{IsStrictlySortedBy}
 use Rattle.std.specs.Ordering.{is_lt}
-use Rattle.std.proofs.lemmas.Bool.{false≢true, eqb-true, eq-eqb, or_left, or_right}
+use Rattle.std.proofs.lemmas.Bool.{false≢true, eqb-true, eq-eqb, or_left}
 use Rattle.std.proofs.lemmas.Cmp.{nat_cmp_total}
 use Rattle.std.proofs.lemmas.Map.Lookups.{exact_unsigned}
 use Rattle.std.proofs.lemmas.Map.Views.{btree_set_contains_iff}
@@ -24,7 +24,7 @@ use Rattle.sv_design.specs.Marks.{is_marked, followed_in}
 use Rattle.sv_design.proofs.BitFacts.{same_answer}
 use Rattle.sv_design.proofs.Differing.{filter_same}
 use Rattle.sv_design.proofs.ReaderFacts.{marked_within}
-use Rattle.sv_obl.proofs.PathLists.{cond_true, cond_false}
+use Rattle.sv_obl.proofs.PathLists.{cond_false}
 use Rattle.sv_encoding.specs.Bodies.{assigns_some}
 use Rattle.sv_blast.proofs.FollowedSteps.{none_pass}
 

@@ -1,7 +1,7 @@
 -- The words of all followed signals hang on the words of the names that are at hand alone.
-use Rattle.std.proofs.Common.{◌≡◌, ℕ, ◌<◌, ◌||◌, ◌==◌, ℤ, Bool, true, false, cond, List, [], ◌∷◌, length}
-use Rattle.std.proofs.Common.{fold, drop, filter, refl, sym, ap, ap₂, subst, ◌∙◌}
-use Rattle.std.specs.Prelude.{Contains, IsTrue}
+use Rattle.std.proofs.Common.{◌≡◌, ℕ, ◌==◌, ℤ, Bool, true, false, cond, List, [], ◌∷◌, length}
+use Rattle.std.proofs.Common.{fold, drop, filter, refl, ap, ap₂, subst}
+use Rattle.std.specs.Prelude.{Contains}
 use Rattle.std.proofs.lemmas.Bool.{eq-eqb}
 use Rattle.sv_system.proofs.Lists.{Contains-head, Contains-later}
 use Rattle.sv_flat.specs.Design.{SignalForm, TypedTree, PieceForm, FlatStatement, nothing, after}

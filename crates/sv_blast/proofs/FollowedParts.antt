@@ -1,19 +1,19 @@
 -- What statements with the same parts have in common, however their sequences are grouped: the words
 -- that they make of all followed signals, how many gates these take, and what they need.
-use Rattle.std.proofs.Common.{◌≡◌, ℕ, ◌+◌, ◌||◌, ℤ, Bool, true, false, cond, List, [], ◌∷◌, length}
+use Rattle.std.proofs.Common.{◌≡◌, ℕ, ◌+◌, ◌||◌, Bool, true, false, cond, List}
 use Rattle.std.proofs.Common.{filter, refl, sym, ap, ap₂, subst, ◌∙◌, arith}
 use Rattle.std.specs.Prelude.{IsTrue}
 use Rattle.std.specs.List.{list_any}
 use mathlib.Core.Path.{fun_ext}
 use Rattle.sv_num.specs.declared.faults.Place.{Place}
-use Rattle.sv_flat.specs.Design.{SignalForm, TypedTree, PieceForm, FlatStatement, nothing, after}
+use Rattle.sv_flat.specs.Design.{SignalForm, TypedTree, FlatStatement, nothing, after}
 use Rattle.sv_flat.specs.Design.{assign, branch}
 use Rattle.sv_flat.specs.Assigned.{assigns}
 use Rattle.sv_obl.specs.BodySlices.{in_sequence, SameParts}
 use Rattle.sv_obl.specs.Wanted.{with_copies}
 use Rattle.sv_gates.specs.Formulas.{Formula}
-use Rattle.sv_encoding.specs.Expressions.{Words, is_true_bit}
-use Rattle.sv_encoding.specs.Bodies.{WordsMaker, assigns_some, branch_words, words_after}
+use Rattle.sv_encoding.specs.Expressions.{Words}
+use Rattle.sv_encoding.specs.Bodies.{WordsMaker, branch_words, words_after}
 use Rattle.sv_encoding.specs.Sizes.{statement_size, truth_size, widths_of}
 use Rattle.sv_blast.specs.FollowedWords.{AreFit, IsFit}
 

@@ -1,24 +1,22 @@
--- The words of all followed signals, statement by statement: what a statement leaves, what it keeps,
--- and that no formula shrinks.
-use Rattle.std.proofs.Common.{◌≡◌, ℕ, ◌+◌, ◌<◌, ◌≤◌, ◌||◌, ◌==◌, ℤ, Bool, true, false, cond, List}
-use Rattle.std.proofs.Common.{[], ◌∷◌, length, map, fold, drop, filter, refl, sym, ap, subst, ◌∙◌}
+-- The words of all followed signals, statement by statement: what a statement leaves, what a branch
+-- comes to, and that the words of pieces stand.
+use Rattle.std.proofs.Common.{◌≡◌, ℕ, ◌+◌, ◌<◌, ◌≤◌, ◌==◌, ℤ, Bool, true, false, cond, List}
+use Rattle.std.proofs.Common.{[], ◌∷◌, map, fold, drop, filter, refl, sym, ap, subst, ◌∙◌}
 use Rattle.std.proofs.Common.{⊎_elim, arith}
 use Rattle.std.specs.Prelude.{Contains, IsTrue, IsFalse}
 use Rattle.std.specs.List.{list_any, list_all, range_with_len}
-use Rattle.std.proofs.lemmas.Bool.{false≢true, eqb-true, eq-eqb, or_left, or_right}
+use Rattle.std.proofs.lemmas.Bool.{false≢true, eq-eqb, or_left, or_right}
 use mathlib.Core.Path.{fun_ext}
 use Rattle.sv_num.specs.declared.faults.Place.{Place}
 use Rattle.sv_system.proofs.Lists.{Contains-head, Contains-later, Contains-nil, Contains-cases}
 use Rattle.sv_system.proofs.Lists.{Contains-filter}
 use Rattle.sv_flat.specs.Design.{SignalForm, TypedTree, PieceForm, FlatStatement, nothing, after}
 use Rattle.sv_flat.specs.Design.{assign, branch}
-use Rattle.sv_flat.specs.Values.{signal_width}
 use Rattle.sv_flat.specs.Soundness.{piece_fits}
 use Rattle.sv_flat.specs.Assigned.{assigns}
-use Rattle.sv_flat.specs.Readings.{ReadForm, reads}
 use Rattle.sv_flat.specs.Sets.{holds}
-use Rattle.sv_flat.proofs.Depths.{first_of, second_of, from_all}
-use Rattle.sv_flat.proofs.LeastSets.{either_way, some_from, from_some, holds-from_Contains}
+use Rattle.sv_flat.proofs.Depths.{first_of, second_of}
+use Rattle.sv_flat.proofs.LeastSets.{some_from, from_some}
 use Rattle.sv_flat.proofs.LeastSets.{Contains-from_holds, Contains-from_filter}
 use Rattle.sv_flat.proofs.SameRuns.{none_found, piece_lies_inside}
 use Rattle.sv_obl.specs.Wanted.{with_copies, copy_of}
@@ -33,11 +31,7 @@ use Rattle.sv_circuits.proofs.PartValues.{replaced_is, replaced_length}
 use Rattle.sv_encoding.specs.Expressions.{Words, expression_word, is_true_bit}
 use Rattle.sv_encoding.specs.Bodies.{with_word, assigns_some, with_piece_word, assigned_words}
 use Rattle.sv_encoding.specs.Bodies.{chosen_words, branch_words, words_after}
-use Rattle.sv_encoding.specs.BothWays.{HaveBits}
-use Rattle.sv_encoding_laws.proofs.BodyWords.{ExpressionFits, BodyFits}
-use Rattle.sv_encoding_laws.proofs.BodyCounts.{body_grows}
-use Rattle.sv_encoding_laws.proofs.NamedValues.{named_from_reads}
-use Rattle.sv_blast.specs.FollowedWords.{AllStand, IsFit, AreFit, words_at, choices}
+use Rattle.sv_blast.specs.FollowedWords.{AllStand, words_at, choices}
 use Rattle.sv_blast.proofs.CopyChoices.{put_other, stand_put}
 
 -- ---- lists
@@ -264,7 +258,7 @@ module _ (signals : List SignalForm) (followed : List ℕ) where
       none s (Contains-filter (assigns whole) followed s s_at
       (or_right (assigns x s) (assigns y s) own)) e) ws one.0)
 
-  module _ (bits : HaveBits (with_copies signals)) (IsAtHand : ℕ → Type 0)
+  module _ (IsAtHand : ℕ → Type 0)
       (copies : (s : ℕ) → Contains followed s → IsAtHand (copy_of signals s)) where
     -- ---- pieces
 
@@ -303,47 +297,3 @@ module _ (signals : List SignalForm) (followed : List ℕ) where
           pieces_stand pieces (second_of here later fit)
           (with_piece_word signals followed right ws p)
           (piece_stands p (first_of here later fit) ws stand)
-
-    -- ---- how a formula grows
-
-    abbrev held_copies : (s : ℕ) → IsTrue (holds followed s) → IsAtHand (copy_of signals s)
-    held_copies s held = copies s (Contains-from_holds followed s held)
-
-    expression_fits : (e : TypedTree) → IsFit signals IsAtHand e →
-        ExpressionFits signals bits followed IsAtHand held_copies e
-    expression_fits e fit = record {
-      formed = fit.0;
-      named = named_from_reads both IsAtHand e (λ r r_at. fit.1 r.signal
-          (some_from (λ (q : ReadForm). q.signal == r.signal) (reads both e) r r_at
-          (eq-eqb r.signal r.signal refl)));
-    }
-
-    fits : (b : FlatStatement) → AreFit signals followed IsAtHand b →
-        BodyFits signals bits followed IsAtHand held_copies b
-    fits nothing fit = tt
-    fits (after x y) fit = (fits x fit.0, fits y fit.1)
-    fits (assign pieces place blocking right) fit = λ some.
-        let here = fit some in (
-          expression_fits right here.0,
-          λ p at held. piece_lies_inside signals right p
-              (from_all (piece_fits signals right) pieces p here.1 at),
-        )
-    fits (branch place condition x y) fit =
-        ((λ some. expression_fits condition (fit.0 some)), (fits x fit.1.0, fits y fit.1.1))
-
-    -- the words of names that are at hand have their lengths
-    abbrev pub AllLong : Words → Type 0
-    AllLong ws = (t : ℕ) → IsAtHand t → length (ws t) ≡ signal_width (with_copies signals) t
-
-    pub after_long : (b : FlatStatement) → AreFit signals followed IsAtHand b → (ws : Words) →
-        AllLong ws → (f : Formula) → AllLong (words_after signals followed b ws f).1
-    after_long b fit ws long f =
-        (body_grows signals bits followed IsAtHand held_copies b (fits b fit) ws long f).0
-
-    pub after_grows : (b : FlatStatement) → AreFit signals followed IsAtHand b → (ws : Words) →
-        AllLong ws → (f : Formula) →
-        f.variables ≤ (words_after signals followed b ws f).0.variables
-    after_grows b fit ws long f =
-        let count =
-        (body_grows signals bits followed IsAtHand held_copies b (fits b fit) ws long f).1 in
-        omega (arith, count)

@@ -15,7 +15,6 @@ use Rattle.sv_gates.specs.Gates.{mux_gate}
 use Rattle.sv_circuits.specs.Circuits.{IsWord}
 use Rattle.sv_circuits.specs.Words.{Word, bitwise_word}
 use Rattle.sv_encoding.specs.Bodies.{WordsMaker, assigns_some, with_word}
-use Rattle.sv_encoding.specs.BothWays.{HaveBits}
 use Rattle.sv_encoding.specs.Expressions.{Words}
 use Rattle.sv_blast.specs.WordTables.{StandsOf}
 use Rattle.sv_blast.specs.declared.followed.Followed.{Followed}
@@ -65,12 +64,11 @@ IsAtHand self t =
     Contains (numbers self.reads.now) t
     ⊎ ((s : ℕ) × Contains (follows_in self) s × (copy_of (forms_in self) s ≡ t))
 
--- the table has an entry for each signal, of which there are few, each with bits; the other list
--- has their copies too
+-- the table has an entry for each signal, of which there are few; the other list has their copies
+-- too
 pub record IsFollowed (self : Followed) : Type 0 where
   pub size : length self.follows.now ≡ length self.signals.now
   pub few : length self.signals.now ≤ 2147483647
-  pub bits : HaveBits (with_copies (forms_in self))
   pub twice : signal_forms self.twice.now ≡ with_copies (forms_in self)
 
 -- ---- branches that are open

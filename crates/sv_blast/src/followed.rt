@@ -18,6 +18,7 @@ ghost use Rattle.sv_flat.specs.Views.{design_of, piece_form, typed_tree};
 ghost use Rattle.sv_design.specs.Marks.{is_marked};
 ghost use Rattle.sv_design.specs.Numbers.{numbers};
 ghost use Rattle.sv_obl.specs.MarkedBodies.{marked_statement, TellsTargets, IsMarkedFor};
+ghost use Rattle.sv_obl.specs.MarkedBodies.{HasCopies};
 ghost use Rattle.sv_obl.specs.Wanted.{with_copies, copy_of};
 ghost use Rattle.sv_gates.specs.Extending.{Begins};
 ghost use Rattle.sv_gates.specs.Formulas.{IsLiteral, most_variables};
@@ -42,7 +43,7 @@ use sv_circuits::{chosen, falsity, filled, replaced};
 use sv_design::Design;
 use sv_flat::{FExpr, Piece, SigId, Signal};
 use sv_gates::{GateFault, Gates, Literal};
-use sv_obl::{Marked, know_design};
+use sv_obl::{Bodies, Marked, know_design};
 
 /// What words are made for: the signals, alone and with their copies behind them, since a wanted
 /// name is that of a copy; those that are read for the target, and those that it follows.
@@ -56,17 +57,16 @@ pub struct Followed<'a> {
 }
 
 impl<'a> Followed<'a> {
-    /// For a target that follows these signals; the second list has the copies of all signals too.
+    /// For a target that follows these signals.
     pub fn new(
         alloc: Global,
         design: &'a Design,
-        twice: &'a [Signal],
+        bodies: &'a Bodies,
         follows: &'a [bool],
         target: SigId,
     ) -> Followed<'a>
         requires known { target.0 < length design.now.signals.items }
-        requires few { length design.now.signals.items ≤ 2147483647 }
-        requires twice { signal_forms twice.now ≡ with_copies (design_of design.now).signals }
+        requires copies { HasCopies (design_of design.now) bodies.now }
         requires size { length follows.now ≡ length design.now.signals.items }
         ensures held { IsFollowed result }
         ensures signals { result.signals.now ≡ design.now.signals.items }
@@ -76,7 +76,7 @@ impl<'a> Followed<'a> {
         Followed {
             alloc,
             signals: design.signals(),
-            twice,
+            twice: &bodies.twice,
             reads: design.reads_for(target),
             follows,
         }
@@ -438,7 +438,7 @@ pub fn followed_word(
     alloc: Global,
     gates: &mut Gates,
     design: &Design,
-    twice: &[Signal],
+    bodies: &Bodies,
     body: &Marked,
     words: &WordTable,
     target: SigId,
@@ -446,8 +446,7 @@ pub fn followed_word(
     requires driven { IsTrue (is_register (design_of design.now) target.0
         || is_combinational (design_of design.now) target.0) }
     requires body { IsMarkedFor (design_of design.now) target.0 (Some body) }
-    requires few { length design.now.signals.items ≤ 2147483647 }
-    requires twice { signal_forms twice.now ≡ with_copies (design_of design.now).signals }
+    requires copies { HasCopies (design_of design.now) bodies.now }
     requires words { StandForReads (design_of design.now) gates.old.variables (words_of words.now)
         target.0 }
     ensures made { IfOk result (λ word. settled_word (design_of design.now) (words_of words.now)
@@ -462,7 +461,7 @@ pub fn followed_word(
     let _some = gates.variables();
     know_design(design);
     let follows = design.follows(alloc, target)?;
-    let followed = Followed::new(alloc, design, twice, &follows, target);
+    let followed = Followed::new(alloc, design, bodies, &follows, target);
     let mut own = followed.read_words(words)?;
     followed.clear_copies(gates, &mut own)?;
     followed.after(body, gates, &mut own)?;

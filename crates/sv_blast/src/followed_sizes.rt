@@ -10,6 +10,7 @@ ghost use Rattle.sv_flat.specs.Design.{PieceForm};
 ghost use Rattle.sv_flat.specs.Views.{design_of, piece_form, typed_tree};
 ghost use Rattle.sv_design.specs.Marks.{is_marked};
 ghost use Rattle.sv_obl.specs.MarkedBodies.{marked_statement, TellsTargets, IsMarkedFor};
+ghost use Rattle.sv_obl.specs.MarkedBodies.{HasCopies};
 ghost use Rattle.sv_obl.specs.Wanted.{with_copies};
 ghost use Rattle.sv_encoding.specs.Sizes.{expression_size, signal_size, statement_size, truth_size};
 ghost use Rattle.sv_encoding.specs.Sizes.{widths_of};
@@ -22,8 +23,8 @@ use crate::sizes_of_operators::sum;
 use std::alloc::{AllocError, Global};
 use std::collections::BTreeSet;
 use sv_design::Design;
-use sv_flat::{FExpr, Piece, SigId, Signal};
-use sv_obl::Marked;
+use sv_flat::{FExpr, Piece, SigId};
+use sv_obl::{Bodies, Marked};
 
 impl Followed<'_> {
     // The choices after a branch that assigns these signals: one for each bit of a followed one.
@@ -123,18 +124,17 @@ impl Followed<'_> {
 pub fn followed_size(
     alloc: Global,
     design: &Design,
-    twice: &[Signal],
+    bodies: &Bodies,
     body: &Marked,
     target: SigId,
 ) -> Result<u32, AllocError>
     requires known { target.0 < length design.now.signals.items }
     requires body { IsMarkedFor (design_of design.now) target.0 (Some body) }
-    requires few { length design.now.signals.items ≤ 2147483647 }
-    requires twice { signal_forms twice.now ≡ with_copies (design_of design.now).signals }
+    requires copies { HasCopies (design_of design.now) bodies.now }
     ensures { IfOk result (λ size. size ≡
         min (signal_size (design_of design.now) target.0) 4194305) }
 {
     let follows = design.follows(alloc, target)?;
-    let followed = Followed::new(alloc, design, twice, &follows, target);
+    let followed = Followed::new(alloc, design, bodies, &follows, target);
     Ok(followed.size(body))
 }

@@ -21,6 +21,6 @@ frames_size-requires-clause-next c =
 
 pub size_with-requires-clause-frames : goal.size_with-requires-clause-frames
 size_with-requires-clause-frames c =
-    c.in_ok-frames.ensures
+    c.frames_size-frames.ensures
     ∙ ap₂ (λ cone later. min (frames_size (design_of c.args.design.now) cone later) 4194305)
     c.requires.now c.requires.next

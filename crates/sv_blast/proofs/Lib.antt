@@ -13,6 +13,7 @@ pub mod FlowSteps
 pub mod FollowedArms
 pub mod FollowedBodies
 pub mod FollowedLists
+pub mod FollowedLoops
 pub mod FollowedNames
 pub mod FollowedParts
 pub mod FollowedSteps

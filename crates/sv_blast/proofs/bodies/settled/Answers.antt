@@ -46,7 +46,7 @@ after_slice-requires-clause-ready c =
     subst (λ signals. AreReady (signal_forms signals) n words body)
     (sym c.signals-signals.ensures.signals)
     (slice_names (design_of c.args.design.now) c.signals-signals.ensures.design c.args.target.0
-    c.requires.driven (unmarked c.marked.ensures c.in_default.is) n words c.requires.words body
+    c.requires.driven (unmarked c.marked.ensures.body c.in_default.is) n words c.requires.words body
     c.in_ok-slice.ensures)
 
 pub returns-clause-made : goal.returns-clause-made
@@ -60,7 +60,7 @@ returns-clause-made c =
     let whole : settled_word (design_of c.args.design.now) words s f
     ≡ target_word (signal_forms signals) words s body start f =
     settled_by_slice (design_of c.args.design.now) c.signals-signals.ensures.design s
-    c.requires.driven (unmarked c.marked.ensures c.in_default.is) words f body c.in_ok-slice.ensures
+    c.requires.driven (unmarked c.marked.ensures.body c.in_default.is) words f body c.in_ok-slice.ensures
     ∙ ap (λ w. target_word (signal_forms c.args.design.now.signals.items) words s body w f)
     (sym c.in_ok-word.ensures.made)
     ∙ ap (λ xs. target_word (signal_forms xs) words s body start f)
@@ -83,7 +83,7 @@ returns-clause-full c =
     let whole : settled_word (design_of c.args.design.now) words s f
     ≡ target_word (signal_forms signals) words s body start f =
     settled_by_slice (design_of c.args.design.now) c.signals-signals.ensures.design s
-    c.requires.driven (unmarked c.marked.ensures c.in_default.is) words f body c.in_ok-slice.ensures
+    c.requires.driven (unmarked c.marked.ensures.body c.in_default.is) words f body c.in_ok-slice.ensures
     ∙ ap (λ w. target_word (signal_forms c.args.design.now.signals.items) words s body w f)
     (sym c.in_ok-word.ensures.made)
     ∙ ap (λ xs. target_word (signal_forms xs) words s body start f)

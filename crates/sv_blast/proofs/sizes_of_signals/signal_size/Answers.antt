@@ -22,4 +22,4 @@ returns c =
     (c.width_of.ensures ∙ ap (λ ss. signal_width (signal_forms ss) s) signals)
     ∙ slice_takes design is.is_sound is.is_admitted s
     (known_signal c.args.design.now s c.requires.known)
-    (subst (IsMarkedFor design s) c.in_default.is c.marked.ensures) slice c.in_ok-slice.ensures)
+    (subst (IsMarkedFor design s) c.in_default.is c.marked.ensures.body) slice c.in_ok-slice.ensures)

@@ -70,19 +70,6 @@ driven_walked design s total None is = tt
 driven_walked design s total (Some driven) is =
     paths_walked design s driven.process.now driven.paths is.are
 
-module _ (design : FlatDesign) (s total : ℕ) (driven : Driven)
-    (is : HasPaths design s total driven) where
-  pub as_routes : (routes : Vec Route Global) → driven.paths ≡ Routes routes
-      → AreRoutes design s driven.process.now routes.items
-  as_routes routes same = subst (ArePaths design s driven.process.now) same is.are
-
-  pub as_trails : (body : Bor Marked) (trails : Vec Trail Global) → driven.paths ≡ Trails body trails
-      → AreTrails design s driven.process.now body.now trails.items
-  as_trails body trails same = subst (ArePaths design s driven.process.now) same is.are
-
-  pub few_paths : (paths : Paths) → driven.paths ≡ paths → total + how_many paths ≤ 65536
-  few_paths paths same = subst (λ p. total + how_many p ≤ 65536) same is.few
-
 -- ---- the process that drives the target
 
 -- where no process drives the target, none assigns it

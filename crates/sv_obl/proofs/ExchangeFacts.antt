@@ -21,28 +21,6 @@ use Rattle.sv_obl.specs.PutIn.{put_for, is_put_for, value_put, AreInWords}
 use Rattle.sv_obl.specs.RouteViews.{piece_forms}
 use Rattle.sv_obl.specs.Wanted.{is_copy, original, piece_value, with_piece_put, put_value}
 
--- ---- one piece
-
-module _ (signals : List SignalForm) (right : TypedTree) (s : ℕ) (old : TypedTree)
-    (piece : PieceForm) where
-  abbrev mended : TypedTree
-  mended = typed (signal_width signals s) (signal_of signals s).signed
-      (mend s old piece.high piece.low (piece_value right piece))
-
-  abbrev pieced : Bool → Bool → TypedTree
-  pieced own whole = cond (not own) old (cond whole (piece_value right piece) mended)
-
-  pub other_piece : (piece.signal == s) ≡ false → old ≡ with_piece_put signals right s old piece
-  other_piece none = sym (ap (λ b. pieced b (is_whole signals piece)) none)
-
-  pub whole_piece : (piece.signal == s) ≡ true → is_whole signals piece ≡ true
-      → piece_value right piece ≡ with_piece_put signals right s old piece
-  whole_piece own whole = sym (ap₂ pieced own whole)
-
-  pub part_piece : (piece.signal == s) ≡ true → is_whole signals piece ≡ false
-      → mended ≡ with_piece_put signals right s old piece
-  part_piece own part = sym (ap₂ pieced own part)
-
 abbrev IsInWord : PieceForm → Type 0
 IsInWord p = (p.low ≤ p.high) × (p.high < 64) × (p.from < 64)
 

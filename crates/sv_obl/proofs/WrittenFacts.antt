@@ -278,14 +278,6 @@ module _ (design : FlatDesign) where
       ≡ obligations [] design
   before_all = refl
 
-  -- and as many
-  pub all_many : (total : ℕ) (queries : List Query)
-      → AreCounted design (length design.signals) total → map obligation_of queries ≡ selectors
-      → total + length queries ≡ length (obligations [] design)
-  all_many total queries so are =
-      ap₂ (λ a b. a + b) so.count (sym (length_mapped obligation_of queries) ∙ ap length are)
-      ∙ sym (length-append (obligations_before design (length design.signals)) selectors)
-
   -- where selectors pass no limit after the targets, the design passes none
   pub all_counted : (total : ℕ) → AreCounted design (length design.signals) total
       → first_excess design total [] ≡ excess design
@@ -355,19 +347,6 @@ module _ (design : FlatDesign) where
     where
       turned : (n k : ℕ) → n + 1 + k ≡ n + k + 1
       turned n k = omega arith
-
-  -- those of selectors are left after all targets
-  pub selectors_left : (total : ℕ) (text : List ℕ)
-      → AreCounted design (length design.signals) total
-      → text ≡ lines_from design.signals (total + 1) selectors
-      → text ≡ lines_left design (length design.signals)
-  selectors_left total text so written =
-      let n = length design.signals in
-      written
-      ∙ ap (λ k. lines_from design.signals (k + 1) selectors) so.count
-      ∙ ap (λ k. lines_from design.signals (length (obligations_before design n) + 1)
-      (flat_map (target_obligations [] design) (range_with_len n k) ++ selectors))
-      (nothing_left n)
 
 -- ---- limits
 

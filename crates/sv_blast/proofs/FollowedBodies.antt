@@ -47,7 +47,7 @@ use Rattle.sv_encoding.specs.Bodies.{words_after, starting_words, driven_word}
 use Rattle.sv_encoding.specs.Sizes.{process_size, statement_size}
 use Rattle.sv_encoding_laws.proofs.Renamed.{AllFit, IsFit as Fits, formed_instead}
 use Rattle.sv_blast.specs.WordTables.{StandForReads}
-use Rattle.sv_blast.specs.FollowedWords.{AllStand, IsFit, AreFit}
+use Rattle.sv_blast.specs.FollowedWords.{AllStand, IsFit, AreFit, AtHand}
 use Rattle.sv_blast.proofs.FollowedNames.{Agree, after_same}
 use Rattle.sv_blast.proofs.FollowedParts.{same_fit, same_words, same_size}
 
@@ -75,13 +75,10 @@ module _ (design : FlatDesign) (is : IsDesign design) where
     abbrev targets : List ℕ
     targets = followed design p s
 
-    -- what is read for the signal, and copies of what it follows
-    abbrev pub AtHand : ℕ → Type 0
-    AtHand t =
-        Contains (reads_for design s) t
-        ⊎ ((u : ℕ) × Contains (followed design p s) u × (copy_of design.signals u ≡ t))
+    abbrev Hand : ℕ → Type 0
+    Hand = AtHand design.signals (reads_for design s) (followed design p s)
 
-    pub copies : (u : ℕ) → Contains (followed design p s) u → AtHand (copy_of design.signals u)
+    copies : (u : ℕ) → Contains (followed design p s) u → Hand (copy_of design.signals u)
     copies u inside = inr (u, inside, refl)
 
     in_both : (t : ℕ) → t < length signals → IsTrue (is_signal both t)
@@ -116,15 +113,15 @@ module _ (design : FlatDesign) (is : IsDesign design) where
     tree_fits : (e : TypedTree) (serves : ℕ → Bool) (early follows : BitSet) →
         IsTrue (well_formed signals e) → (u : ℕ) → Contains targets u → IsTrue (serves u) →
         ReadsCount (readings_of signals e serves early follows) →
-        IsFit signals AtHand (marked_tree signals (is_block p.kind) follows e)
+        IsFit signals Hand (marked_tree signals (is_block p.kind) follows e)
     tree_fits e serves early follows formed u u_at served count = (
-      formed_instead signals both (mark signals (is_block p.kind) follows) AtHand same e formed all,
+      formed_instead signals both (mark signals (is_block p.kind) follows) Hand same e formed all,
       λ t named.
           let found = from_some (λ (r : ReadForm). r.signal == t)
           (reads both (marked_tree signals (is_block p.kind) follows e)) named in
           let from = exchanged_names signals both (mark signals (is_block p.kind) follows) e t
           (found.0, found.1, eqb-true (found.0).signal t found.2) in
-          subst AtHand from.2 (all from.0 from.1).1.1,
+          subst Hand from.2 (all from.0 from.1).1.1,
     )
       where
         same : (t : ℕ) → IsTrue (is_signal signals t) →
@@ -133,7 +130,7 @@ module _ (design : FlatDesign) (is : IsDesign design) where
             let low = ltb-true t (length signals) known in
             (in_both t low, width_settled signals t low)
 
-        all : AllFit signals both (mark signals (is_block p.kind) follows) AtHand same
+        all : AllFit signals both (mark signals (is_block p.kind) follows) Hand same
             (reads signals e)
         all r r_at =
             let reading : Reading = record {
@@ -151,7 +148,7 @@ module _ (design : FlatDesign) (is : IsDesign design) where
             by : (c : Bool) → r.signal < length signals →
                 (IsFalse c × IsTrue (is_read_for design s r.signal))
                 ⊎ (IsTrue c × Contains targets r.signal) →
-                Fits signals both (mark signals (is_block p.kind) follows) AtHand same r.signal
+                Fits signals both (mark signals (is_block p.kind) follows) Hand same r.signal
                 (name (cond c (copy_of signals r.signal) r.signal))
             by true low (inl late) = absurd (false≢true (sym late.0))
             by true low (inr earlier) = (
@@ -187,7 +184,7 @@ module _ (design : FlatDesign) (is : IsDesign design) where
 
     marked_fits : (b : FlatStatement) (early later : BitSet) → IsTrue (statement_sound signals b) →
         ReadsCount (readings signals b early later) →
-        AreFit signals targets AtHand (marked signals (is_block p.kind) b later)
+        AreFit signals targets Hand (marked signals (is_block p.kind) b later)
     marked_fits nothing early later right count = tt
     marked_fits (after first second) early later right count =
         let late = either (can_assign second) later in
@@ -242,7 +239,7 @@ module _ (design : FlatDesign) (is : IsDesign design) where
     abbrev marked_body : FlatStatement
     marked_body = marked signals (is_block p.kind) p.body no_bits
 
-    pub body_fits : AreFit design.signals (followed design p s) AtHand
+    body_fits : AreFit design.signals (followed design p s) Hand
         (marked design.signals (is_block p.kind) p.body no_bits)
     body_fits =
         marked_fits p.body no_bits no_bits (body_is_sound design is.is_sound is.is_admitted p at)
@@ -259,7 +256,8 @@ module _ (design : FlatDesign) (is : IsDesign design) where
       known t inside = those_below (length signals) (is_read_for design s) t inside
 
       pub own_stand : (n : ℕ) → 1 ≤ n → StandForReads design n words s →
-          AllStand design.signals AtHand n own_words
+          AllStand design.signals
+          (AtHand design.signals (reads_for design s) (followed design p s)) n own_words
       own_stand n some has t (inl inside) =
           let there = has t (those_pass (length signals) (is_read_for design s) t inside) in (
             subst (IsWord n) (sym (same t inside)) there.0,
@@ -277,7 +275,7 @@ module _ (design : FlatDesign) (is : IsDesign design) where
       abbrev begun : Words
       begun = starting_words signals (is_clocked p.kind) words
 
-      agrees : Agree signals targets AtHand copies begun own_words
+      agrees : Agree signals targets Hand copies begun own_words
       agrees t (inl inside) =
           cond_false (is_copy signals t)
           (cond (is_clocked p.kind) (words (original signals t))
@@ -302,7 +300,7 @@ module _ (design : FlatDesign) (is : IsDesign design) where
           ≡ (let made = words_after design.signals (followed design p s) b own_words f in
           (made.0, made.1 (copy_of design.signals s)))
       driven_followed b parts f =
-          let begins = after_same signals targets AtHand copies marked_body body_fits begun own_words
+          let begins = after_same signals targets Hand copies marked_body body_fits begun own_words
           agrees f in
           ap₂ (λ (g : Formula) (w : Word). (g, w)) begins.0
           (begins.1 (copy_of signals s)
@@ -314,8 +312,9 @@ module _ (design : FlatDesign) (is : IsDesign design) where
 
     module _ (b : FlatStatement)
         (parts : SameParts b (marked design.signals (is_block p.kind) p.body no_bits)) where
-      pub parts_fit : AreFit design.signals (followed design p s) AtHand b
-      parts_fit = same_fit signals targets AtHand b marked_body parts body_fits
+      pub parts_fit : AreFit design.signals (followed design p s)
+          (AtHand design.signals (reads_for design s) (followed design p s)) b
+      parts_fit = same_fit signals targets Hand b marked_body parts body_fits
 
       pub parts_size : process_size design s p ≡ statement_size design.signals (followed design p s) b
       parts_size = sym (same_size signals targets b marked_body parts)

@@ -26,7 +26,7 @@ use Rattle.sv_design.proofs.Differing.{filter_same}
 use Rattle.sv_design.proofs.ReaderFacts.{marked_within}
 use Rattle.sv_obl.proofs.PathLists.{cond_false}
 use Rattle.sv_encoding.specs.Bodies.{assigns_some}
-use Rattle.sv_blast.proofs.FollowedSteps.{none_pass}
+use Rattle.sv_blast.proofs.FollowedSteps.{none_pass, range_above}
 
 -- ---- ascending lists
 
@@ -51,13 +51,6 @@ filter_none : (test : ℕ → Bool) (xs : List ℕ) → ((x : ℕ) → Contains 
 filter_none test xs none = none_pass test xs (none_found (list_any test xs) (λ some.
     let found = from_some test xs some in
     false≢true (sym (none found.0 found.1) ∙ found.2)))
-
-range_above : (a n u : ℕ) → Contains (range_with_len a n) u → a ≤ u
-range_above a zero u at = absurd (Contains-nil u at)
-range_above a (suc n) u at = ⊎_elim
-    (λ e. omega (arith, e))
-    (λ later. let above = range_above (a + 1) n u later in omega (arith, above))
-    (Contains-cases a (range_with_len (a + 1) n) u at)
 
 and_none : (a b : Bool) → IsFalse b → IsFalse (a && b)
 and_none true b none = none

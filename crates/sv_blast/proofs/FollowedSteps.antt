@@ -1,6 +1,6 @@
 -- The words of all followed signals, statement by statement: what a statement leaves, what a branch
 -- comes to, and that the words of pieces stand.
-use Rattle.std.proofs.Common.{◌≡◌, ℕ, ◌+◌, ◌<◌, ◌≤◌, ◌==◌, ℤ, Bool, true, false, cond, List}
+use Rattle.std.proofs.Common.{◌≡◌, ℕ, zero, suc, ◌+◌, ◌<◌, ◌≤◌, ◌==◌, ℤ, Bool, true, false, cond, List}
 use Rattle.std.proofs.Common.{[], ◌∷◌, map, fold, drop, filter, refl, sym, ap, subst, ◌∙◌}
 use Rattle.std.proofs.Common.{⊎_elim, arith}
 use Rattle.std.specs.Prelude.{Contains, IsTrue, IsFalse}
@@ -67,7 +67,7 @@ apart_from test (t ∷ ts) apart = by (test t)
     )
     by false = apart_from test ts apart.1
 
-range_above : (a n u : ℕ) → Contains (range_with_len a n) u → a ≤ u
+pub range_above : (a n u : ℕ) → Contains (range_with_len a n) u → a ≤ u
 range_above a zero u at = absurd (Contains-nil u at)
 range_above a (suc n) u at = ⊎_elim
     (λ e. omega (arith, e))

@@ -17,6 +17,7 @@ pub mod FollowedLoops
 pub mod FollowedNames
 pub mod FollowedParts
 pub mod FollowedSteps
+pub mod FollowedTargets
 pub mod FrameSteps
 pub mod FramedSteps
 pub mod Growing

@@ -58,11 +58,13 @@ forms_in self = signal_forms self.signals.now
 abbrev pub follows_in : Followed → List ℕ
 follows_in self = followed_in self.follows.now
 
--- what is read for the target, and copies of what it follows
+-- what is read for a target, and copies of what it follows
+abbrev pub AtHand : List SignalForm → (reads followed : List ℕ) → ℕ → Type 0
+AtHand signals reads followed t =
+    Contains reads t ⊎ ((s : ℕ) × Contains followed s × (copy_of signals s ≡ t))
+
 abbrev pub IsAtHand : Followed → ℕ → Type 0
-IsAtHand self t =
-    Contains (numbers self.reads.now) t
-    ⊎ ((s : ℕ) × Contains (follows_in self) s × (copy_of (forms_in self) s ≡ t))
+IsAtHand self = AtHand (forms_in self) (numbers self.reads.now) (follows_in self)
 
 -- the table has an entry for each signal, of which there are few; the other list has their copies
 -- too

@@ -1,12 +1,14 @@
 // How many gates the word takes that a process with an earlier read gives a signal, up to one over
 // the most variables.
-ghost use Rattle.std.specs.Prelude.{◌≡◌, ◌+◌, ◌<◌, ◌≤◌, min, length, map, filter, Some, IfOk};
+ghost use Rattle.std.specs.Prelude.{◌≡◌, ◌+◌, ◌<◌, ◌≤◌, min, length, map, filter, Some, is_some};
+ghost use Rattle.std.specs.Prelude.{IfOk, IsTrue};
 ghost use Rattle.std.specs.Prelude.{if◌then◌else◌};
 ghost use Rattle.std.specs.BTreeSet.{IsOrdered};
 ghost use Rattle.std.specs.List.{list_any};
 ghost use Rattle.std.specs.Ordering.{nat_cmp};
 ghost use Rattle.sv_flat.specs.ByNumber.{signal_forms};
 ghost use Rattle.sv_flat.specs.Design.{PieceForm};
+ghost use Rattle.sv_flat.specs.SignalLists.{driver_of};
 ghost use Rattle.sv_flat.specs.Views.{design_of, piece_form, typed_tree};
 ghost use Rattle.sv_design.specs.Marks.{is_marked};
 ghost use Rattle.sv_obl.specs.MarkedBodies.{marked_statement, TellsTargets, IsMarkedFor};
@@ -129,6 +131,7 @@ pub fn followed_size(
     target: SigId,
 ) -> Result<u32, AllocError>
     requires known { target.0 < length design.now.signals.items }
+    requires driven { IsTrue (is_some (driver_of (design_of design.now) target.0)) }
     requires body { IsMarkedFor (design_of design.now) target.0 (Some body) }
     requires copies { HasCopies (design_of design.now) bodies.now }
     ensures { IfOk result (λ size. size ≡

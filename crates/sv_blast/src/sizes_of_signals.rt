@@ -50,7 +50,8 @@ fn slice_size(signals: &[Signal], width: u8, slice: &BodySlice) -> u32
     }
 }
 
-// The gates of the word that its process gives a signal. An error says that memory ran out.
+// The gates of the word that its process gives a signal, and none where no process assigns it. An
+// error says that memory ran out.
 fn signal_size(
     alloc: Global,
     design: &Design,
@@ -63,6 +64,9 @@ fn signal_size(
         min (signal_size (design_of design.now) signal.0) 4194305) }
 {
     let signals = design.signals();
+    if design.driver(signal).is_none() {
+        return Ok(0);
+    }
     if let Some(body) = bodies.marked(design, signal) {
         return followed_size(alloc, design, bodies, body, signal);
     }

@@ -146,7 +146,8 @@ impl<'a> Followed<'a> {
         let from = usize::from(piece.from).min(right.len());
         let (high, low) = (usize::from(piece.high), usize::from(piece.low));
         let word = replaced(self.alloc, high, low, words.word(copy), &right[from..])?;
-        words.put(self.alloc, copy, word)
+        words.put(self.alloc, copy, word)?;
+        Ok(())
     }
 
     // Puts all pieces of a right side, in textual order.
@@ -194,7 +195,8 @@ impl<'a> Followed<'a> {
     {
         let _some = gates.variables();
         let value = expression(self.alloc, gates, self.twice, words, right)?;
-        Ok(self.put_pieces(words, pieces, &value)?)
+        self.put_pieces(words, pieces, &value)?;
+        Ok(())
     }
 
     // ---- choices
@@ -332,10 +334,10 @@ impl<'a> Followed<'a> {
             ..
         } = rest
         {
-            let copies = self.copies_of(targets)?;
-            if copies.is_empty() {
+            if !self.follows_some(targets) {
                 return self.choose_back(gates, words, arms);
             }
+            let copies = self.copies_of(targets)?;
             let condition = is_true(self.alloc, gates, self.twice, words, cond)?;
             let first = self.first_arm(yes, gates, words, &copies)?;
             arms.push(WordsArm {

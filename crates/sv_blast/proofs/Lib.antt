@@ -16,6 +16,7 @@ pub mod FollowedLists
 pub mod FollowedLoops
 pub mod FollowedNames
 pub mod FollowedParts
+pub mod FollowedSizes
 pub mod FollowedSteps
 pub mod FollowedTargets
 pub mod FrameSteps

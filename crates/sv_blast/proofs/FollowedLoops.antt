@@ -170,15 +170,22 @@ pub widths_more : (signals : List SignalForm) (test : ℕ → Bool) (whole total
     (rest : List ℕ) → WidthsAt signals test whole total (x ∷ rest) → IsTrue (test x) →
     next ≡ min (total + signal_width signals x) 4194305 → WidthsAt signals test whole next rest
 widths_more signals test whole total next x rest so_far passes is =
-    let here = ap (widths_of signals)
-    (cond_true (test x) (x ∷ filter test rest) (filter test rest) passes) in
-    let more = mapped_more (signal_width signals) x (filter test rest) in
-    (omega (arith, so_far.0, here, more, is), omega (arith, is))
+    let here : min (total + widths_of signals (x ∷ filter test rest)) 4194305 ≡ min whole 4194305 =
+    sym (ap (λ ys. min (total + widths_of signals ys) 4194305)
+    (cond_true (test x) (x ∷ filter test rest) (filter test rest) passes))
+    ∙ so_far.0 in
+    let more : widths_of signals (x ∷ filter test rest)
+    ≡ signal_width signals x + widths_of signals (filter test rest) =
+    mapped_more (signal_width signals) x (filter test rest) in
+    (omega (arith, here, more, is), omega (arith, is))
 
 pub widths_none : (signals : List SignalForm) (test : ℕ → Bool) (whole total x : ℕ)
     (rest : List ℕ) → WidthsAt signals test whole total (x ∷ rest) → IsFalse (test x) →
     WidthsAt signals test whole total rest
 widths_none signals test whole total x rest so_far none =
-    let here = ap (widths_of signals)
-    (cond_false (test x) (x ∷ filter test rest) (filter test rest) none) in
-    (omega (arith, so_far.0, here), so_far.1)
+    (
+      sym (ap (λ ys. min (total + widths_of signals ys) 4194305)
+          (cond_false (test x) (x ∷ filter test rest) (filter test rest) none))
+          ∙ so_far.0,
+      so_far.1,
+    )

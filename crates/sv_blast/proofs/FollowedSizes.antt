@@ -1,6 +1,6 @@
 -- How many gates the words of all followed signals take, statement by statement.
 use Rattle.std.proofs.Common.{◌≡◌, ℕ, ◌+◌, ◌≤◌, List, filter, min, refl}
-use Rattle.std.proofs.Common.{arith}
+use Rattle.std.proofs.Common.{sym, ap, ◌∙◌, arith}
 use Rattle.std.specs.Prelude.{IsTrue, IsFalse}
 use Rattle.std.proofs.lemmas.Bool.{or_left, or_right}
 use Rattle.sv_num.specs.declared.faults.Place.{Place}
@@ -49,7 +49,8 @@ module _ (signals : List SignalForm) (followed : List ℕ) where
       SizeAt whole total (after x y) → first ≡ min (statement_size signals followed x) 4194305 →
       next ≡ min (total + first) 4194305 → SizeAt whole next y
   size_of_chain whole total next first x y at one is =
-      (omega (arith, at.0, one, is), omega (arith, is))
+      let here : min (total + (size x + size y)) 4194305 ≡ min whole 4194305 = at.0 in
+      (omega (arith, here, one, is), omega (arith, is))
 
   pub size_of_branch : (whole total next more arm : ℕ) (place : Place) (condition : TypedTree)
       (x y : FlatStatement) → SizeAt whole total (branch place condition x y) →
@@ -59,7 +60,10 @@ module _ (signals : List SignalForm) (followed : List ℕ) where
       + widths_of signals (filter (assigns (branch place condition x y)) followed)) 4194305 →
       next ≡ min (total + more) 4194305 → SizeAt whole next y
   size_of_branch whole total next more arm place condition x y at some one is added =
-      let here = cond_true (assigns_some followed (branch place condition x y))
-      (truth_size (with_copies signals) condition + size x + size y
-      + widths_of signals (filter (assigns (branch place condition x y)) followed)) 0 some in
-      (omega (arith, at.0, here, one, is, added), omega (arith, added))
+      let assigned = filter (assigns (branch place condition x y)) followed in
+      let parts = truth_size (with_copies signals) condition + size x + size y
+      + widths_of signals assigned in
+      let here : min (total + parts) 4194305 ≡ min whole 4194305 =
+      sym (ap (λ k. min (total + k) 4194305)
+      (cond_true (assigns_some followed (branch place condition x y)) parts 0 some)) ∙ at.0 in
+      (omega (arith, here, one, is, added), omega (arith, added))

@@ -34,7 +34,7 @@ ghost use Rattle.sv_blast.specs.WordTables.{words_of, StandForReads};
 
 use crate::arms::copied;
 use crate::expressions::{expression, is_true};
-use crate::followed_arms::{CopyWord, WordsArm, put_words, words_at};
+use crate::followed_arms::{CopyWord, WordsArm, push_arm, put_words, words_at};
 use crate::marks::has_mark;
 use crate::tables::WordTable;
 use std::alloc::{AllocError, Global};
@@ -340,10 +340,11 @@ impl<'a> Followed<'a> {
             let copies = self.copies_of(targets)?;
             let condition = is_true(self.alloc, gates, self.twice, words, cond)?;
             let first = self.first_arm(yes, gates, words, &copies)?;
-            arms.push(WordsArm {
+            let arm = WordsArm {
                 condition,
                 words: first,
-            })?;
+            };
+            push_arm(&mut arms, arm)?;
             rest = no;
         }
         self.after_plain(rest, gates, words)?;

@@ -1,5 +1,5 @@
 // Words of copies of signals that are set aside, as a branch does while its other arm is made.
-ghost use Rattle.std.specs.Prelude.{◌≡◌, IfOk, OnOk};
+ghost use Rattle.std.specs.Prelude.{◌≡◌, ◌++◌, ◌∷◌, [], IfOk, OnOk};
 ghost use Rattle.sv_design.specs.Numbers.{numbers};
 ghost use Rattle.sv_blast.specs.FollowedWords.{pairs, words_at, with_words};
 ghost use Rattle.sv_blast.specs.WordTables.{words_of};
@@ -23,6 +23,14 @@ pub struct CopyWord {
 pub struct WordsArm {
     pub condition: Literal,
     pub words: Vec<CopyWord>,
+}
+
+/// Puts one more arm at the end.
+pub fn push_arm(arms: &mut Vec<WordsArm>, arm: WordsArm) -> Result<(), AllocError>
+    ensures { OnOk result (arms.new.items ≡ arms.old.items ++ arm ∷ []) }
+{
+    arms.push(arm)?;
+    Ok(())
 }
 
 /// The words of some copies.

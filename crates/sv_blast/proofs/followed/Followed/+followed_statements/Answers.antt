@@ -394,7 +394,7 @@ after-loop-rest-preserved t c =
     c.in_ok-condition.ensures.within c.in_ok-condition.ensures.begins c.in_ok-first.ensures.begins in
     (
       subst (λ vs. DownAt forms follows at_hand whole c.args.gates.now later vs y ws)
-          (sym c.in_ok-push.ensures.items) opened,
+          (sym c.in_ok-push_arm.ensures) opened,
       tells.1.1,
       search (rules, the_lemmas),
     )

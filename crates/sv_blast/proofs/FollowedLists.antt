@@ -76,25 +76,33 @@ module _ (test : ℕ → Bool) where
   sorted_is [] a (suc n) sorted from below =
       sym (filter_none (among []) (range_with_len a (suc n)) (λ k at. and_none (test k) false refl))
   sorted_is (k ∷ ks) a (suc n) sorted from below = ⊎_elim
-      (λ same. here (eqb-true k a same))
-      (λ other. later (λ e. false≢true (sym other ∙ eq-eqb k a e)))
+      (λ same. let e = eqb-true k a same in
+      here e (sorted_is ks (a + 1) n sorted.1
+      (λ y at. let high = after_k y at in omega (arith, high, e))
+      (λ y at passes. let high = below y (Contains-later k ks y at) passes in
+      omega (arith, high))))
+      (λ other. let low = from k (Contains-head k ks) in
+      let differ : k ≡ a → ⊥ = (λ e. false≢true (sym other ∙ eq-eqb k a e)) in
+      let above : a < k = omega (arith, low, differ) in
+      later above (sorted_is (k ∷ ks) (a + 1) n sorted
+      (λ y at. ⊎_elim
+      (λ e. omega (arith, above, e))
+      (λ behind. let high = after_k y behind in omega (arith, above, high))
+      (Contains-cases k ks y at))
+      (λ y at passes. let high = below y at passes in omega (arith, high))))
       (either_way (k == a))
     where
-      rest : List ℕ
-      rest = range_with_len (a + 1) n
-
       after_k : (y : ℕ) → Contains ks y → k < y
       after_k y at = later_are k ks sorted.0 y at
 
-      here : k ≡ a → filter test (k ∷ ks) ≡ filter (among (k ∷ ks)) (a ∷ range_with_len (a + 1) n)
-      here e =
-          let more = filter (among (k ∷ ks)) (range_with_len (a + 1) n) in
+      more : List ℕ
+      more = filter (among (k ∷ ks)) (range_with_len (a + 1) n)
+
+      here : k ≡ a → filter test ks ≡ filter (among ks) (range_with_len (a + 1) n) →
+          filter test (k ∷ ks) ≡ filter (among (k ∷ ks)) (a ∷ range_with_len (a + 1) n)
+      here e rest =
           ap₂ (λ x xs. cond (test x) (x ∷ xs) xs) e
-          (sorted_is ks (a + 1) n sorted.1
-          (λ y at. let high = after_k y at in omega (arith, high, e))
-          (λ y at passes. let high = below y (Contains-later k ks y at) passes in
-          omega (arith, high))
-          ∙ filter_same (among ks) (among (k ∷ ks)) (range_with_len (a + 1) n) (λ y at.
+          (rest ∙ filter_same (among ks) (among (k ∷ ks)) (range_with_len (a + 1) n) (λ y at.
           let high = range_above (a + 1) n y at in
           ap (λ c. test y && (c || holds ks y))
           (sym (none_found (k == y) (λ found.
@@ -103,18 +111,11 @@ module _ (test : ℕ → Bool) where
           (sym (and_some (test a) (holds (k ∷ ks) a)
           (or_left (k == a) (holds ks a) (eq-eqb k a e))))
 
-      later : (k ≡ a → ⊥) →
+      later : a < k →
+          filter test (k ∷ ks) ≡ filter (among (k ∷ ks)) (range_with_len (a + 1) n) →
           filter test (k ∷ ks) ≡ filter (among (k ∷ ks)) (a ∷ range_with_len (a + 1) n)
-      later differ =
-          let more = filter (among (k ∷ ks)) (range_with_len (a + 1) n) in
-          let low = from k (Contains-head k ks) in
-          let above : a < k = omega (arith, low, differ) in
-          sorted_is (k ∷ ks) (a + 1) n sorted
-          (λ y at. ⊎_elim
-          (λ e. omega (arith, above, e))
-          (λ behind. let high = after_k y behind in omega (arith, above, high))
-          (Contains-cases k ks y at))
-          (λ y at passes. let high = below y at passes in omega (arith, high))
+      later above rest =
+          rest
           ∙ sym (cond_false (among (k ∷ ks) a) (a ∷ more) more
           (and_none (test a) (holds (k ∷ ks) a) (none_found (holds (k ∷ ks) a) (λ held. ⊎_elim
           (λ e. absurd (omega (arith, above, e)))
@@ -157,7 +158,7 @@ module _ (table : List Bool) where
     assigned_is ordered =
         sorted_is (is_marked table) targets.keys 0 (length table) ordered
         (λ k at. omega arith)
-        (λ k at marked. marked_within table k marked)
+        (λ k at marked. let low = marked_within table k marked in omega (arith, low))
         ∙ ap (λ (test : ℕ → Bool). filter (λ t. is_marked table t && test t)
         (range_with_len 0 (length table)))
         (fun_ext (λ s. sym (set_holds targets s) ∙ tells s))

@@ -58,14 +58,12 @@ Apart (t ∷ ts) = ((u : ℕ) → Contains ts u → u ≡ t → ⊥) × Apart ts
 
 apart_from : (test : ℕ → Bool) (ts : List ℕ) → Apart ts → Apart (filter test ts)
 apart_from test [] apart = tt
-apart_from test (t ∷ ts) apart = by (test t)
+apart_from test (t ∷ ts) apart = by (test t) (apart_from test ts apart.1)
   where
-    by : (c : Bool) → Apart (cond c (t ∷ filter test ts) (filter test ts))
-    by true = (
-      λ u at e. apart.0 u (Contains-from_filter test ts u at).1 e,
-      apart_from test ts apart.1,
-    )
-    by false = apart_from test ts apart.1
+    by : (c : Bool) → Apart (filter test ts) →
+        Apart (cond c (t ∷ filter test ts) (filter test ts))
+    by true rest = ((λ u at e. apart.0 u (Contains-from_filter test ts u at).1 e), rest)
+    by false rest = rest
 
 pub range_above : (a n u : ℕ) → Contains (range_with_len a n) u → a ≤ u
 range_above a zero u at = absurd (Contains-nil u at)
@@ -141,7 +139,7 @@ module _ (signals : List SignalForm) (followed : List ℕ) where
       word : Formula × Word
       word = expression_word both ws right f
 
-      by : (c : Bool) → (cond c (
+      by : (c : Bool) → (cond {A = Formula × Words} c (
         word.0,
         fold (with_piece_word signals followed word.1) ws pieces,
       ) (f, ws)).1 t ≡ ws t
@@ -166,7 +164,8 @@ module _ (signals : List SignalForm) (followed : List ℕ) where
       two = words_after signals followed y ws one.0
 
       by : (c : Bool) →
-          (cond c (chosen_words signals bit.1 one.1 two.1 assigned ws two.0) (f, ws)).1 t ≡ ws t
+          (cond {A = Formula × Words} c
+          (chosen_words signals bit.1 one.1 two.1 assigned ws two.0) (f, ws)).1 t ≡ ws t
       by true = chosen_leave bit.1 one.1 two.1 t assigned ws two.0 (λ s at.
           let found = Contains-from_filter (assigns (branch place condition x y)) followed s at in
           left s found.1 found.0)

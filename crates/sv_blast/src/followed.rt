@@ -3,7 +3,7 @@
 // its signal has so far.
 ghost use Rattle.std.specs.Prelude.{◌≡◌, ℕ, ◌<◌, ◌≤◌, ◌||◌, ◌∷◌, [], All, IsTrue, IsFalse};
 ghost use Rattle.std.specs.Prelude.{Contains, IfOk, OnOk, IsErrOf, Some, length, map, fold, filter};
-ghost use Rattle.std.specs.Prelude.{replicate};
+ghost use Rattle.std.specs.Prelude.{drop, replicate};
 ghost use Rattle.std.specs.BTreeSet.{IsOrdered};
 ghost use Rattle.std.specs.List.{list_any, list_all};
 ghost use Rattle.std.specs.Ordering.{nat_cmp};
@@ -23,6 +23,7 @@ ghost use Rattle.sv_obl.specs.Wanted.{with_copies, copy_of};
 ghost use Rattle.sv_gates.specs.Extending.{Begins};
 ghost use Rattle.sv_gates.specs.Formulas.{IsLiteral, most_variables};
 ghost use Rattle.sv_gates.specs.Gates.{false_literal};
+ghost use Rattle.sv_circuits.specs.Words.{replaced_word};
 ghost use Rattle.sv_encoding.specs.Bodies.{assigned_words, settled_word, with_piece_word};
 ghost use Rattle.sv_encoding.specs.Bodies.{words_after};
 ghost use Rattle.sv_encoding.specs.BothWays.{IsWordOf};
@@ -127,6 +128,27 @@ impl<'a> Followed<'a> {
 
     // ---- assignments
 
+    // The word that a followed signal has after a piece of a right side.
+    fn replaced_word(
+        &self,
+        words: &WordTable,
+        piece: &Piece,
+        right: &[Literal],
+    ) -> Result<Vec<Literal>, AllocError>
+        requires held { IsFollowed self.now }
+        requires follows { IsTrue (is_marked self.now.follows.now piece.now.signal.0) }
+        requires piece { piece.now.low ≤ piece.now.high }
+        ensures { IfOk result (λ word. word.items
+            ≡ replaced_word piece.now.high piece.now.low
+            (words_of words.now (copy_of (forms_in self.now) piece.now.signal.0))
+            (drop piece.now.from right.now)) }
+    {
+        let from = usize::from(piece.from).min(right.len());
+        let (high, low) = (usize::from(piece.high), usize::from(piece.low));
+        let word = words.word(self.copy_of(piece.signal));
+        replaced(self.alloc, high, low, word, &right[from..])
+    }
+
     // Puts a piece of a right side into the word of its signal, where that is followed.
     fn put_piece(
         &self,
@@ -142,11 +164,8 @@ impl<'a> Followed<'a> {
         if !has_mark(self.follows, piece.signal) {
             return Ok(());
         }
-        let copy = self.copy_of(piece.signal);
-        let from = usize::from(piece.from).min(right.len());
-        let (high, low) = (usize::from(piece.high), usize::from(piece.low));
-        let word = replaced(self.alloc, high, low, words.word(copy), &right[from..])?;
-        words.put(self.alloc, copy, word)?;
+        let word = self.replaced_word(words, piece, right)?;
+        words.put(self.alloc, self.copy_of(piece.signal), word)?;
         Ok(())
     }
 

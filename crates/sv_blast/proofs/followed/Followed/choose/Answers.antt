@@ -23,9 +23,13 @@ chosen-requires-clause-a c =
     let x : ℕ × Word = (first.copy.0, first.word.items) in
     let left = pairs (drop i items) in
     let rest = pairs (drop (i + 1) items) in
+    let here = c.deref-first-items.result.now in
+    let same : here ≡ items = c.deref-first-items.ensures.value in
     let turn : left ≡ x ∷ rest =
-    ap pairs (drop_more items i first c.loop-first-test.true
-    ∙ ap (λ z. z ∷ drop (i + 1) items) (sym c.first-item.is)) in
+    ap (λ ys. pairs (drop i ys)) (sym same)
+    ∙ ap pairs (drop_more here i first c.loop-first-test.true
+    ∙ ap (λ z. z ∷ drop (i + 1) here) (sym c.first-item.is))
+    ∙ ap (λ ys. x ∷ pairs (drop (i + 1) ys)) same in
     let now = c.loop-first.gates in
     let ws = words_of c.loop-first.words in
     let condition = c.args.arm.now.condition in
@@ -40,9 +44,13 @@ chosen-requires-clause-b c =
     let x : ℕ × Word = (first.copy.0, first.word.items) in
     let left = pairs (drop i items) in
     let rest = pairs (drop (i + 1) items) in
+    let here = c.deref-first-items.result.now in
+    let same : here ≡ items = c.deref-first-items.ensures.value in
     let turn : left ≡ x ∷ rest =
-    ap pairs (drop_more items i first c.loop-first-test.true
-    ∙ ap (λ z. z ∷ drop (i + 1) items) (sym c.first-item.is)) in
+    ap (λ ys. pairs (drop i ys)) (sym same)
+    ∙ ap pairs (drop_more here i first c.loop-first-test.true
+    ∙ ap (λ z. z ∷ drop (i + 1) here) (sym c.first-item.is))
+    ∙ ap (λ ys. x ∷ pairs (drop (i + 1) ys)) same in
     let now = c.loop-first.gates in
     let ws = words_of c.loop-first.words in
     let condition = c.args.arm.now.condition in
@@ -57,9 +65,13 @@ returns-in_err-word-clause-full c =
     let x : ℕ × Word = (first.copy.0, first.word.items) in
     let left = pairs (drop i items) in
     let rest = pairs (drop (i + 1) items) in
+    let here = c.deref-first-items.result.now in
+    let same : here ≡ items = c.deref-first-items.ensures.value in
     let turn : left ≡ x ∷ rest =
-    ap pairs (drop_more items i first c.loop-first-test.true
-    ∙ ap (λ z. z ∷ drop (i + 1) items) (sym c.first-item.is)) in
+    ap (λ ys. pairs (drop i ys)) (sym same)
+    ∙ ap pairs (drop_more here i first c.loop-first-test.true
+    ∙ ap (λ z. z ∷ drop (i + 1) here) (sym c.first-item.is))
+    ∙ ap (λ ys. x ∷ pairs (drop (i + 1) ys)) same in
     let now = c.loop-first.gates in
     let ws = words_of c.loop-first.words in
     let condition = c.args.arm.now.condition in
@@ -78,9 +90,13 @@ loop-first-preserved c =
     let x : ℕ × Word = (first.copy.0, first.word.items) in
     let left = pairs (drop i items) in
     let rest = pairs (drop (i + 1) items) in
+    let here = c.deref-first-items.result.now in
+    let same : here ≡ items = c.deref-first-items.ensures.value in
     let turn : left ≡ x ∷ rest =
-    ap pairs (drop_more items i first c.loop-first-test.true
-    ∙ ap (λ z. z ∷ drop (i + 1) items) (sym c.first-item.is)) in
+    ap (λ ys. pairs (drop i ys)) (sym same)
+    ∙ ap pairs (drop_more here i first c.loop-first-test.true
+    ∙ ap (λ z. z ∷ drop (i + 1) here) (sym c.first-item.is))
+    ∙ ap (λ ys. x ∷ pairs (drop (i + 1) ys)) same in
     let now = c.loop-first.gates in
     let ws = words_of c.loop-first.words in
     let condition = c.args.arm.now.condition in

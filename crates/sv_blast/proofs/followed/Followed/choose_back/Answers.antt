@@ -12,8 +12,8 @@ choose-requires-clause-arm c =
     let split = c.pop.ensures.items ∙ ap (λ o. left ++ option_to_list o) c.in-Some.is in
     (last_stands _ _ _ _ _ _ left c.in-Some.arm _ c.arms.invariant split).1
 
-pub returns-in_err-clause-full : goal.returns-in_err-clause-full
-returns-in_err-clause-full c =
+pub returns-in_err-choose-clause-full : goal.returns-in_err-choose-clause-full
+returns-in_err-choose-clause-full c =
     let left = c.pop.new.self.items in
     let split = c.pop.ensures.items ∙ ap (λ o. left ++ option_to_list o) c.in-Some.is in
     let same : IsErrOf c.from_residual.result Full → IsErrOf c.choose.result Full = search rules in

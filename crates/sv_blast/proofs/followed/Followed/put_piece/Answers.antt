@@ -1,4 +1,4 @@
-use Rattle.std.proofs.Common.{drop, sym, ap₂, ◌∙◌, rules}
+use Rattle.std.proofs.Common.{drop, sym, ap₂, ◌∙◌}
 use Rattle.sv_flat.specs.Sets.{holds}
 use Rattle.sv_obl.specs.Wanted.{copy_of}
 use Rattle.sv_obl.proofs.PathLists.{cond_true, cond_false}
@@ -30,5 +30,5 @@ returns c =
     let new = replaced_word piece.high piece.low (ws copy) (drop piece.from c.args.right.now) in
     cond_true (holds (follows_in self) s) (with_word copy new ws) ws
     (holds_marked self.follows.now s ∙ sym c.has_mark.ensures ∙ c.if-not-has_mark.false)
-    ∙ ap₂ (λ k w. with_word k w ws) (sym c.copy_of-copy.ensures) (search rules)
+    ∙ ap₂ (λ k w. with_word k w ws) (sym c.copy_of.ensures) (sym c.in_ok-word.ensures)
     ∙ sym c.in_ok-put.ensures

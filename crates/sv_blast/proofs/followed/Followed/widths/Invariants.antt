@@ -4,7 +4,7 @@ use Rattle.sv_design.specs.Marks.{is_marked}
 use Rattle.sv_encoding.specs.Sizes.{widths_of}
 use Rattle.sv_blast.specs.FollowedWords.{forms_in}
 use Rattle.sv_blast.proofs.FollowedLoops.{WidthsAt}
-use Rattle.sv_blast.proofs.followed_sizes.Followed.widths.Given as goal
+use Rattle.sv_blast.proofs.followed.Followed.widths.Given as goal
 
 abbrev pub invariant-loop-target : goal.invariant-loop-target
 invariant-loop-target l =

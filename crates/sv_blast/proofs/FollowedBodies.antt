@@ -1,6 +1,6 @@
 -- The word of a signal whose process has an earlier read: from the words of what is read for it, by
 -- the body with such reads wanted.
-use Rattle.std.proofs.Common.{◌≡◌, ℕ, ◌<◌, ◌≤◌, ◌&&◌, ◌||◌, ◌==◌, ◌⊎◌, inl, inr, ⊎_elim}
+use Rattle.std.proofs.Common.{◌≡◌, ℕ, ◌+◌, ◌<◌, ◌≤◌, ◌&&◌, ◌||◌, ◌==◌, ◌⊎◌, inl, inr, ⊎_elim}
 use Rattle.std.proofs.Common.{Bool, true, false, cond, List, ◌++◌, length, replicate, refl, sym, ap}
 use Rattle.std.proofs.Common.{ap₂, subst, ◌∙◌, arith, ltb-true}
 use Rattle.std.specs.Prelude.{Contains, IsTrue, IsFalse}

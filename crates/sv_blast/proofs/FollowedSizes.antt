@@ -67,3 +67,14 @@ module _ (signals : List SignalForm) (followed : List ℕ) where
       sym (ap (λ k. min (total + k) 4194305)
       (cond_true (assigns_some followed (branch place condition x y)) parts 0 some)) ∙ at.0 in
       (omega (arith, here, one, is, added), omega (arith, added))
+
+  -- nothing is left
+  pub size_done : (whole total : ℕ) → SizeAt whole total nothing → total ≡ min whole 4194305
+  size_done whole total at =
+      let here : min (total + 0) 4194305 ≡ min whole 4194305 = at.0 in omega (arith, here, at.1)
+
+  -- the last part
+  pub size_last : (whole total last result : ℕ) (rest : FlatStatement) → SizeAt whole total rest →
+      last ≡ min (statement_size signals followed rest) 4194305 →
+      result ≡ min (total + last) 4194305 → result ≡ min whole 4194305
+  size_last whole total last result rest at one is = omega (arith, at.0, one, is)

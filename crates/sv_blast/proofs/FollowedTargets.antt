@@ -1,9 +1,10 @@
 -- The word of a signal whose process has an earlier read, as the calls make it: over the signals that
 -- they hold, from a table of their own.
 use Rattle.std.proofs.Common.{◌≡◌, ℕ, ◌<◌, ◌≤◌, ◌||◌, List, [], ◌∷◌, length, replicate, sym, ap, subst}
-use Rattle.std.proofs.Common.{◌∙◌, Bor, Some}
+use Rattle.std.proofs.Common.{◌∙◌, refl, Bor, Option, Some, None, is_some}
 use Rattle.std.specs.Prelude.{Contains, IsTrue}
-use Rattle.sv_flat.specs.Design.{ProcessForm, SignalForm, FlatDesign}
+use Rattle.std.proofs.lemmas.Bool.{false≢true}
+use Rattle.sv_flat.specs.Design.{ProcessForm, SignalForm, FlatDesign, continuous, nothing}
 use Rattle.sv_flat.specs.Values.{signal_width}
 use Rattle.sv_flat.specs.Soundness.{is_signal}
 use Rattle.sv_flat.specs.Assigned.{assigns}
@@ -20,7 +21,7 @@ use Rattle.sv_design.specs.Numbers.{numbers}
 use Rattle.sv_obl.specs.declared.marked.Marked.{Marked}
 use Rattle.sv_obl.specs.MarkedBodies.{IsMarkedFor, IsMarkedOf, marked_statement}
 use Rattle.sv_obl.specs.Wanted.{copy_of, marked}
-use Rattle.sv_obl.proofs.OneDriver.{no_process, one_driver_at}
+use Rattle.sv_obl.proofs.OneDriver.{one_driver_at}
 use Rattle.sv_gates.specs.Formulas.{Formula}
 use Rattle.sv_gates.specs.Gates.{false_literal}
 use Rattle.sv_encoding.specs.Bodies.{settled_word, word_by_first, words_after}
@@ -75,11 +76,23 @@ module _ (design : FlatDesign) (is : IsDesign design) (s : ℕ) (x : Bor Marked)
       let by = driver design is s driven in by_process by.process by.at by.own by.alone
 
   -- a signal with a driver
-  pub found_target : IsTrue (is_signal design.signals s) → (k : ℕ) → driver_of design s ≡ Some k →
+  pub found_target : IsTrue (is_signal design.signals s) → IsTrue (is_some (driver_of design s)) →
       IsTarget design s x.now self
-  found_target known k found =
-      let by = one_driver_at design is.is_sound is.is_admitted s known k no_process found in
-      by_process _ by.0 by.1 by.2
+  found_target known some = by (driver_of design s) refl some
+    where
+      no_process : ProcessForm
+      no_process = record {
+        kind = continuous;
+        place = record { line = 0; column = 0 };
+        body = nothing;
+      }
+
+      by : (place : Option ℕ) → driver_of design s ≡ place → IsTrue (is_some place) →
+          IsTarget design s x.now self
+      by None is_none h = absurd (false≢true h)
+      by (Some k) found h =
+          let one = one_driver_at design is.is_sound is.is_admitted s known k no_process found in
+          by_process _ one.0 one.1 one.2
 
 module _ (design : FlatDesign) (s : ℕ) (x : Marked) (self : Followed)
     (target : IsTarget design s x self) where

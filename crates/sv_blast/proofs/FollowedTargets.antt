@@ -105,12 +105,16 @@ module _ (design : FlatDesign) (s : ℕ) (x : Marked) (self : Followed)
       (subst (λ reads. P design.signals reads (follows_in self)) (sym target.reads)
       (subst (P design.signals (reads_for design s)) (sym target.follows) h))
 
+  -- it follows itself
+  pub target_inside : Contains (follows_in self) s
+  target_inside =
+      subst (λ ts. Contains ts s) (sym target.follows)
+      (follows_itself design (target.is).is_sound (target.is).is_admitted target.process target.at s
+      target.own)
+
   pub target_followed : IsTrue (is_marked self.follows.now s)
   target_followed =
-      those_pass (length self.follows.now) (is_marked self.follows.now) s
-      (subst (λ ts. Contains ts s) (sym target.follows)
-      (follows_itself design (target.is).is_sound (target.is).is_admitted target.process target.at s
-      target.own))
+      those_pass (length self.follows.now) (is_marked self.follows.now) s target_inside
 
   pub target_fit : AreFit (forms_in self) (follows_in self) (IsAtHand self) (marked_statement x)
   target_fit = to_self (λ signals reads followed.

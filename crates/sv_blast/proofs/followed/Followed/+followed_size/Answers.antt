@@ -92,7 +92,7 @@ parts-preserved t c =
       subst (λ z. SizeAt forms follows whole c.sum-total-in-Branch.result (marked_statement z))
           (sym c.deref-rest-in-Branch.ensures) left,
       (
-        subst TellsTargets (sym c.deref-rest-in-Branch.ensures) tells.1.1,
+        subst TellsTargets (sym c.deref-rest-in-Branch.ensures) tells.2,
         search (rules, the_lemmas),
       ),
     )

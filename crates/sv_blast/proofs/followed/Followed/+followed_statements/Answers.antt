@@ -18,7 +18,8 @@ use Rattle.sv_gates.specs.Formulas.{Formula, most_variables}
 use Rattle.sv_gates.proofs.ExtendingLaws.{begins_trans}
 use Rattle.sv_encoding.specs.Bodies.{assigns_some, assigned_words, words_after}
 use Rattle.sv_encoding.specs.Expressions.{Words, is_true_bit}
-use Rattle.sv_blast.specs.FollowedWords.{forms_in, follows_in, IsAtHand, AreFit, with_words}
+use Rattle.sv_blast.specs.FollowedWords.{forms_in, follows_in, IsAtHand, AreFit, AllStand}
+use Rattle.sv_blast.specs.FollowedWords.{with_words, words_at}
 use Rattle.sv_blast.specs.WordTables.{words_of}
 use Rattle.sv_blast.specs.declared.followed_arms.WordsArm.{WordsArm}
 use Rattle.sv_blast.proofs.CopyChoices.{put_back, stand_up}
@@ -49,9 +50,9 @@ first_arm-returns-clause-back t c =
 
 -- ---- statements that are no branch
 
-pub after_plain-returns-then-not-has_piece-in-Assign-clause-made :
-    goal.after_plain-returns-then-not-has_piece-in-Assign-clause-made
-after_plain-returns-then-not-has_piece-in-Assign-clause-made t c =
+pub after_plain-returns-then-not-has_piece-clause-made :
+    goal.after_plain-returns-then-not-has_piece-clause-made
+after_plain-returns-then-not-has_piece-clause-made t c =
     let self = c.args.self.now in
     let stmt = marked_statement c.args.stmt.now in
     let pieces = map piece_form c.in-Assign.pieces.now in
@@ -64,9 +65,9 @@ after_plain-returns-then-not-has_piece-in-Assign-clause-made t c =
     ∙ sym c.has_piece.ensures ∙ c.if-not-has_piece.true)
     (words_of c.args.words.now) c.args.gates.now
 
-pub after_plain-returns-then-not-follows_some-in-Chain-clause-made :
-    goal.after_plain-returns-then-not-follows_some-in-Chain-clause-made
-after_plain-returns-then-not-follows_some-in-Chain-clause-made t c =
+pub after_plain-returns-then-not-follows_some-clause-made :
+    goal.after_plain-returns-then-not-follows_some-clause-made
+after_plain-returns-then-not-follows_some-clause-made t c =
     let self = c.args.self.now in
     let stmt = marked_statement c.args.stmt.now in
     let x = marked_statement c.in-Chain.first.value in
@@ -79,8 +80,8 @@ after_plain-returns-then-not-follows_some-in-Chain-clause-made t c =
     ∙ sym c.follows_some.ensures ∙ c.if-not-follows_some.true)
     (words_of c.args.words.now) c.args.gates.now
 
-pub after_plain-after_assignment-requires-in-Assign : goal.after_plain-after_assignment-requires-in-Assign
-after_plain-after_assignment-requires-in-Assign t c =
+pub after_plain-after_assignment-requires : goal.after_plain-after_assignment-requires
+after_plain-after_assignment-requires t c =
     let self = c.args.self.now in
     let pieces = map piece_form c.in-Assign.pieces.now in
     let right = typed_tree c.in-Assign.right in
@@ -97,8 +98,9 @@ after_plain-after_assignment-requires-in-Assign t c =
       stand = c.requires.stand;
     }
 
-pub after_plain-returns-in-Assign : goal.after_plain-returns-in-Assign
-after_plain-returns-in-Assign t c =
+pub after_plain-returns-else-not-has_piece-clause-made :
+    goal.after_plain-returns-else-not-has_piece-clause-made
+after_plain-returns-else-not-has_piece-clause-made t c =
     let self = c.args.self.now in
     let pieces = map piece_form c.in-Assign.pieces.now in
     let right = typed_tree c.in-Assign.right in
@@ -114,15 +116,29 @@ after_plain-returns-in-Assign t c =
     ∙ cond_true (assigns_some (follows_in self) assigned) made (f, ws)
     (sym (some_piece self.follows.now pieces c.in-Assign.place c.in-Assign.blocking right)
     ∙ sym c.has_piece.ensures ∙ c.if-not-has_piece.false) in
-    record {
-      made = subst (λ (z : Formula × Words).
-          OnOk c.after_assignment.result (z ≡ (new.gates, words_of new.words))) (sym is)
-          c.after_assignment.ensures.made;
-      stand = c.after_assignment.ensures.stand;
-      begins = c.after_assignment.ensures.begins;
-      full = λ e. subst (λ (z : Formula × Words). most_variables < z.0.variables) (sym is)
-          (c.after_assignment.ensures.full e);
-    }
+    subst (λ (z : Formula × Words).
+    OnOk c.after_assignment.result (z ≡ (new.gates, words_of new.words))) (sym is)
+    c.after_assignment.ensures.made
+
+pub after_plain-returns-else-not-has_piece-clause-full :
+    goal.after_plain-returns-else-not-has_piece-clause-full
+after_plain-returns-else-not-has_piece-clause-full t c =
+    let self = c.args.self.now in
+    let pieces = map piece_form c.in-Assign.pieces.now in
+    let right = typed_tree c.in-Assign.right in
+    let ws = words_of c.args.words.now in
+    let f = c.args.gates.now in
+    let made = assigned_words (forms_in self) (follows_in self) pieces right ws f in
+    let assigned = assign pieces c.in-Assign.place c.in-Assign.blocking right in
+    let is : words_after (forms_in self) (follows_in self) (marked_statement c.args.stmt.now) ws f
+    ≡ made =
+    ap (λ b. words_after (forms_in self) (follows_in self) b ws f)
+    (ap marked_statement c.in-Assign.is)
+    ∙ cond_true (assigns_some (follows_in self) assigned) made (f, ws)
+    (sym (some_piece self.follows.now pieces c.in-Assign.place c.in-Assign.blocking right)
+    ∙ sym c.has_piece.ensures ∙ c.if-not-has_piece.false) in
+    λ e. subst (λ (z : Formula × Words). most_variables < z.0.variables) (sym is)
+    (c.after_assignment.ensures.full e)
 
 pub after_plain-after-requires-in-Chain : goal.after_plain-after-requires-in-Chain
 after_plain-after-requires-in-Chain t c =
@@ -132,10 +148,12 @@ after_plain-after-requires-in-Chain t c =
     c.requires.fit in
     let tells = subst TellsTargets c.in-Chain.is c.requires.tells in (
       search (rules, the_lemmas),
-      c.requires.held,
-      tells.1.1,
-      fit.1,
-      c.in_ok-after.ensures.stand,
+      record {
+        held = c.requires.held;
+        tells = tells.2;
+        fit = fit.1;
+        stand = c.in_ok-after.ensures.stand;
+      },
     )
 
 pub after_plain-returns-in_err-after-in-Chain-clause-full :
@@ -157,8 +175,8 @@ after_plain-returns-in_err-after-in-Chain-clause-full t c =
 
 -- ---- the way down a chain of branches
 
-pub after-choose_back-requires-in-Branch : goal.after-choose_back-requires-in-Branch
-after-choose_back-requires-in-Branch t c =
+pub after-choose_back-requires : goal.after-choose_back-requires
+after-choose_back-requires t c =
     let self = c.args.self.now in
     let forms = forms_in self in
     let follows = follows_in self in
@@ -183,8 +201,9 @@ after-choose_back-requires-in-Branch t c =
     parts down none in
     record { arms = back.arms_stand; stand = back.stand; }
 
-pub after-returns-then-not-follows_some-in-Branch : goal.after-returns-then-not-follows_some-in-Branch
-after-returns-then-not-follows_some-in-Branch t c =
+pub after-returns-then-not-follows_some-clause-made :
+    goal.after-returns-then-not-follows_some-clause-made
+after-returns-then-not-follows_some-clause-made t c =
     let self = c.args.self.now in
     let forms = forms_in self in
     let follows = follows_in self in
@@ -208,18 +227,39 @@ after-returns-then-not-follows_some-in-Branch t c =
     let back = rest_passed forms follows at_hand (self_copies self) whole c.args.gates.now now arms ws
     parts down none in
     let new = c.choose_back.new in
-    record {
-      made = subst (λ (z : Formula × Words).
-          OnOk c.choose_back.result (z ≡ (new.gates, words_of new.words))) (sym back.made)
-          c.choose_back.ensures.made;
-      stand = c.choose_back.ensures.stand;
-      begins = begins_trans c.args.gates.now now new.gates back.begins c.choose_back.ensures.begins;
-      full = λ e. subst (λ (z : Formula × Words). most_variables < z.0.variables) (sym back.made)
-          (c.choose_back.ensures.full e);
-    }
+    subst (λ (z : Formula × Words). OnOk c.choose_back.result (z ≡ (new.gates, words_of new.words)))
+    (sym back.made) c.choose_back.ensures.made
 
-pub after-is_true-requires-in-Branch : goal.after-is_true-requires-in-Branch
-after-is_true-requires-in-Branch t c =
+pub after-returns-then-not-follows_some-clause-full :
+    goal.after-returns-then-not-follows_some-clause-full
+after-returns-then-not-follows_some-clause-full t c =
+    let self = c.args.self.now in
+    let forms = forms_in self in
+    let follows = follows_in self in
+    let at_hand = IsAtHand self in
+    let ws = words_of c.loop-rest.words in
+    let now = c.loop-rest.gates in
+    let arms = c.loop-rest.arms.items in
+    let whole = words_after forms follows (marked_statement c.args.stmt.now)
+    (words_of c.args.words.now) c.args.gates.now in
+    let x = marked_statement c.in-Branch.yes.value in
+    let y = marked_statement c.in-Branch.no.value in
+    let cond = typed_tree c.in-Branch.cond in
+    let parts = branch c.in-Branch.place cond x y in
+    let is : marked_statement c.loop-rest.rest.now ≡ parts = ap marked_statement c.in-Branch.is in
+    let tells = subst TellsTargets c.in-Branch.is c.loop-rest.invariant.1.0 in
+    let down = subst (λ r. DownAt forms follows at_hand whole c.args.gates.now now arms r ws) is
+    c.loop-rest.invariant.0 in
+    let none : IsFalse (assigns_some follows parts) =
+    sym (some_assigned self.follows.now c.in-Branch.targets parts tells.0)
+    ∙ sym c.follows_some.ensures ∙ c.if-not-follows_some.true in
+    let back = rest_passed forms follows at_hand (self_copies self) whole c.args.gates.now now arms ws
+    parts down none in
+    λ e. subst (λ (z : Formula × Words). most_variables < z.0.variables) (sym back.made)
+    (c.choose_back.ensures.full e)
+
+pub after-is_true-requires : goal.after-is_true-requires
+after-is_true-requires t c =
     let self = c.args.self.now in
     let forms = forms_in self in
     let follows = follows_in self in
@@ -274,8 +314,8 @@ after-returns-in_err-condition-clause-full t c =
     (subst (λ (ss : List SignalForm). most_variables < (is_true_bit ss ws cond now).0.variables)
     c.requires.held.twice (c.is_true.ensures.full (same e)))
 
-pub after-first_arm-requires-in-Branch : goal.after-first_arm-requires-in-Branch
-after-first_arm-requires-in-Branch t c =
+pub after-first_arm-requires : goal.after-first_arm-requires
+after-first_arm-requires t c =
     let self = c.args.self.now in
     let forms = forms_in self in
     let follows = follows_in self in
@@ -303,16 +343,21 @@ after-first_arm-requires-in-Branch t c =
     c.in_ok-copies.ensures.copies
     ∙ ap (map (copy_of forms))
     (assigned_is self.follows.now c.in-Branch.targets parts tells.0 c.in_ok-copies.ensures.ordered) in
+    let there = c.deref.ensures in
+    let listed : numbers c.deref-2.result.now ≡ copies = ap numbers c.deref-2.ensures.value in
     (
       search (rules, the_lemmas),
-      c.requires.held,
-      tells.1.0,
-      down.fit.1.0,
-      stand_up forms at_hand now.variables mid.variables ws c.in_ok-condition.ensures.begins.grows
-          down.stand,
-      λ s s_at own. subst (λ ts. Contains ts (copy_of forms s)) (sym named)
-          (Contains-map (copy_of forms) (filter (assigns parts) follows) s
-          (Contains-filter (assigns parts) follows s s_at (or_left (assigns x s) (assigns y s) own))),
+      record {
+        held = c.requires.held;
+        tells = subst TellsTargets (sym there) tells.1;
+        fit = subst (λ z. AreFit forms follows at_hand (marked_statement z)) (sym there) down.fit.1.0;
+        stand = stand_up forms at_hand now.variables mid.variables ws
+            c.in_ok-condition.ensures.begins.grows down.stand;
+        copies = λ s s_at own. subst (λ ts. Contains ts (copy_of forms s)) (sym (listed ∙ named))
+            (Contains-map (copy_of forms) (filter (assigns parts) follows) s
+            (Contains-filter (assigns parts) follows s s_at (or_left (assigns x s) (assigns y s)
+            (subst (λ z. IsTrue (assigns (marked_statement z) s)) there own))));
+      },
     )
 
 pub after-returns-in_err-first-clause-full : goal.after-returns-in_err-first-clause-full
@@ -351,7 +396,9 @@ after-returns-in_err-first-clause-full t c =
     search rules in
     λ e. arm_full forms follows at_hand (self_copies self) whole c.args.gates.now now arms ws
     (self_apart self) c.in-Branch.place cond x y some down mid literal bit_is most_variables
-    (c.first_arm.ensures.full (same e))
+    (subst (λ z. most_variables
+    < (words_after forms follows (marked_statement z) ws mid).0.variables) c.deref.ensures
+    (c.first_arm.ensures.full (same e)))
 
 pub after-loop-rest-preserved : goal.after-loop-rest-preserved
 after-loop-rest-preserved t c =
@@ -387,16 +434,30 @@ after-loop-rest-preserved t c =
     (assigned_is self.follows.now c.in-Branch.targets parts tells.0 c.in_ok-copies.ensures.ordered) in
     let later = c.first_arm.new.gates in
     let arm : WordsArm = record { condition = literal; words = c.in_ok-first.first } in
+    let there = c.deref.ensures in
+    let listed : numbers c.deref-2.result.now ≡ copies = ap numbers c.deref-2.ensures.value in
     let opened : DownAt forms follows at_hand whole c.args.gates.now later (arms ++ arm ∷ []) y ws =
     branch_opened forms follows at_hand (self_copies self) whole c.args.gates.now now arms ws
-    (self_apart self) c.in-Branch.place cond x y some down mid literal bit_is later arm copies named
-    refl c.in_ok-first.ensures.gates c.in_ok-first.ensures.words c.in_ok-first.ensures.stand
+    (self_apart self) c.in-Branch.place cond x y some down mid literal bit_is later arm
+    (numbers c.deref-2.result.now) (listed ∙ named) refl
+    (c.in_ok-first.ensures.gates
+    ∙ ap (λ z. (words_after forms follows (marked_statement z) ws mid).0) there)
+    (c.in_ok-first.ensures.words
+    ∙ ap (λ z. words_at (words_after forms follows (marked_statement z) ws mid).1
+    (numbers c.deref-2.result.now)) there)
+    (subst (λ z. AllStand forms at_hand later.variables
+    (words_after forms follows (marked_statement z) ws mid).1) there c.in_ok-first.ensures.stand)
     c.in_ok-condition.ensures.within c.in_ok-condition.ensures.begins c.in_ok-first.ensures.begins in
+    let back : words_of c.first_arm.new.words ≡ ws = c.in_ok-first.ensures.back in
     (
-      subst (λ vs. DownAt forms follows at_hand whole c.args.gates.now later vs y ws)
-          (sym c.in_ok-push_arm.ensures) opened,
-      tells.1.1,
-      search (rules, the_lemmas),
+      subst (λ vs. DownAt forms follows at_hand whole c.args.gates.now later vs
+          (marked_statement c.deref-rest.result.now) (words_of c.first_arm.new.words))
+          (sym c.in_ok-push_arm.ensures)
+          (subst (λ z. DownAt forms follows at_hand whole c.args.gates.now later (arms ++ arm ∷ [])
+          (marked_statement z) (words_of c.first_arm.new.words)) (sym c.deref-rest.ensures)
+          (subst (λ vs. DownAt forms follows at_hand whole c.args.gates.now later (arms ++ arm ∷ [])
+          y vs) (sym back) opened)),
+      (subst TellsTargets (sym c.deref-rest.ensures) tells.2, search (rules, the_lemmas)),
     )
 
 -- ---- behind the last branch
@@ -424,8 +485,8 @@ after-returns-in_err-after_plain t c =
           (c.after_plain.ensures.full (same e));
     }
 
-pub after-choose_back-requires : goal.after-choose_back-requires
-after-choose_back-requires t c =
+pub after-choose_back-requires-2 : goal.after-choose_back-requires-2
+after-choose_back-requires-2 t c =
     let self = c.args.self.now in
     let forms = forms_in self in
     let follows = follows_in self in
@@ -456,14 +517,14 @@ after-returns t c =
     (marked_statement c.loop-rest.rest.now) c.loop-rest.invariant.0 c.after_plain.new.gates
     (words_of c.after_plain.new.words) c.in_ok-after_plain.ensures.made
     c.in_ok-after_plain.ensures.begins c.in_ok-after_plain.ensures.stand in
-    let new = c.choose_back.new in
+    let new = c.choose_back-2.new in
     record {
       made = subst (λ (z : Formula × Words).
-          OnOk c.choose_back.result (z ≡ (new.gates, words_of new.words))) (sym back.made)
-          c.choose_back.ensures.made;
-      stand = c.choose_back.ensures.stand;
+          OnOk c.choose_back-2.result (z ≡ (new.gates, words_of new.words))) (sym back.made)
+          c.choose_back-2.ensures.made;
+      stand = c.choose_back-2.ensures.stand;
       begins = begins_trans c.args.gates.now c.after_plain.new.gates new.gates back.begins
-          c.choose_back.ensures.begins;
+          c.choose_back-2.ensures.begins;
       full = λ e. subst (λ (z : Formula × Words). most_variables < z.0.variables) (sym back.made)
-          (c.choose_back.ensures.full e);
+          (c.choose_back-2.ensures.full e);
     }

@@ -73,7 +73,7 @@ returns-in_err-value-clause-full c =
     let ws = words_of c.args.words.now in
     let right = typed_tree c.args.right.now in
     let f = c.args.gates.now in
-    let same : IsErrOf c.from_residual-in_err-value.result Full → IsErrOf c.expression.result Full =
+    let same : IsErrOf c.from_residual.result Full → IsErrOf c.expression.result Full =
     search rules in
     λ e. subst (λ (ss : List SignalForm). most_variables < (expression_word ss ws right f).0.variables)
     c.requires.held.twice (c.expression.ensures.full (same e))

@@ -43,6 +43,7 @@ pub mod SettledWords
 pub mod SignalLabels
 pub mod SignalTurns
 pub mod SizeSums
+pub mod SizeTables
 pub mod SliceWords
 pub mod Standing
 pub mod StepFacts

@@ -114,7 +114,7 @@ returns-in_err-after-clause-full c =
     let made = target_made design s body self target words (words_of c.in_ok-own.own) own
     c.in_ok-own.ensures (λ t low. c.in_ok-clear_copies.ensures.others t (subst (λ n. t < n) many low))
     c.in_ok-clear_copies.ensures.copies c.args.gates.now in
-    let same : IsErrOf c.from_residual.result Full → IsErrOf c.after.result Full = search rules in
+    let same : IsErrOf c.from_residual-in_err-after.result Full → IsErrOf c.after.result Full = search rules in
     λ e. subst (λ (z : Formula × Word). most_variables < z.0.variables) (sym made)
     (c.after.ensures.full (same e))
 

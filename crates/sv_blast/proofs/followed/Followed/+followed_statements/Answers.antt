@@ -146,14 +146,20 @@ after_plain-after-requires-in-Chain t c =
     let whole = ap marked_statement c.in-Chain.is in
     let fit = subst (AreFit (forms_in self) (follows_in self) (IsAtHand self)) whole
     c.requires.fit in
-    let tells = subst TellsTargets c.in-Chain.is c.requires.tells in (
+    let tells = subst TellsTargets c.in-Chain.is c.requires.tells in
+    let there = c.deref-in-Chain.ensures in (
       search (rules, the_lemmas),
-      record {
-        held = c.requires.held;
-        tells = tells.2;
-        fit = fit.1;
-        stand = c.in_ok-after.ensures.stand;
-      },
+      (
+        c.requires.held,
+        (
+          subst TellsTargets (sym there) tells.2,
+          (
+            subst (λ z. AreFit (forms_in self) (follows_in self) (IsAtHand self) (marked_statement z))
+                (sym there) fit.1,
+            c.in_ok-after-in-Chain.ensures.stand,
+          ),
+        ),
+      ),
     )
 
 pub after_plain-returns-in_err-after-in-Chain-clause-full :
@@ -344,20 +350,27 @@ after-first_arm-requires t c =
     ∙ ap (map (copy_of forms))
     (assigned_is self.follows.now c.in-Branch.targets parts tells.0 c.in_ok-copies.ensures.ordered) in
     let there = c.deref.ensures in
-    let listed : numbers c.deref-2.result.now ≡ copies = ap numbers c.deref-2.ensures.value in
+    let listed : numbers c.deref-in-Branch.result.now ≡ copies = ap numbers c.deref-in-Branch.ensures.value in
     (
       search (rules, the_lemmas),
-      record {
-        held = c.requires.held;
-        tells = subst TellsTargets (sym there) tells.1;
-        fit = subst (λ z. AreFit forms follows at_hand (marked_statement z)) (sym there) down.fit.1.0;
-        stand = stand_up forms at_hand now.variables mid.variables ws
-            c.in_ok-condition.ensures.begins.grows down.stand;
-        copies = λ s s_at own. subst (λ ts. Contains ts (copy_of forms s)) (sym (listed ∙ named))
-            (Contains-map (copy_of forms) (filter (assigns parts) follows) s
-            (Contains-filter (assigns parts) follows s s_at (or_left (assigns x s) (assigns y s)
-            (subst (λ z. IsTrue (assigns (marked_statement z) s)) there own))));
-      },
+      (
+        c.requires.held,
+        (
+          subst TellsTargets (sym there) tells.1,
+          (
+            subst (λ z. AreFit forms follows at_hand (marked_statement z)) (sym there) down.fit.1.0,
+            (
+              stand_up forms at_hand now.variables mid.variables ws
+                  c.in_ok-condition.ensures.begins.grows down.stand,
+              λ s s_at own. subst (λ ts. Contains ts (copy_of forms s)) (sym (listed ∙ named))
+                  (Contains-map (copy_of forms) (filter (assigns parts) follows) s
+                  (Contains-filter (assigns parts) follows s s_at
+                  (or_left (assigns x s) (assigns y s)
+                  (subst (λ z. IsTrue (assigns (marked_statement z) s)) there own)))),
+            ),
+          ),
+        ),
+      ),
     )
 
 pub after-returns-in_err-first-clause-full : goal.after-returns-in_err-first-clause-full
@@ -435,16 +448,16 @@ after-loop-rest-preserved t c =
     let later = c.first_arm.new.gates in
     let arm : WordsArm = record { condition = literal; words = c.in_ok-first.first } in
     let there = c.deref.ensures in
-    let listed : numbers c.deref-2.result.now ≡ copies = ap numbers c.deref-2.ensures.value in
+    let listed : numbers c.deref-in-Branch.result.now ≡ copies = ap numbers c.deref-in-Branch.ensures.value in
     let opened : DownAt forms follows at_hand whole c.args.gates.now later (arms ++ arm ∷ []) y ws =
     branch_opened forms follows at_hand (self_copies self) whole c.args.gates.now now arms ws
     (self_apart self) c.in-Branch.place cond x y some down mid literal bit_is later arm
-    (numbers c.deref-2.result.now) (listed ∙ named) refl
+    (numbers c.deref-in-Branch.result.now) (listed ∙ named) refl
     (c.in_ok-first.ensures.gates
     ∙ ap (λ z. (words_after forms follows (marked_statement z) ws mid).0) there)
     (c.in_ok-first.ensures.words
     ∙ ap (λ z. words_at (words_after forms follows (marked_statement z) ws mid).1
-    (numbers c.deref-2.result.now)) there)
+    (numbers c.deref-in-Branch.result.now)) there)
     (subst (λ z. AllStand forms at_hand later.variables
     (words_after forms follows (marked_statement z) ws mid).1) there c.in_ok-first.ensures.stand)
     c.in_ok-condition.ensures.within c.in_ok-condition.ensures.begins c.in_ok-first.ensures.begins in

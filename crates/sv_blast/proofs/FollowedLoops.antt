@@ -182,10 +182,9 @@ widths_more signals test whole total next x rest so_far passes is =
 pub widths_none : (signals : List SignalForm) (test : ℕ → Bool) (whole total x : ℕ)
     (rest : List ℕ) → WidthsAt signals test whole total (x ∷ rest) → IsFalse (test x) →
     WidthsAt signals test whole total rest
-widths_none signals test whole total x rest so_far none =
-    (
-      sym (ap (λ ys. min (total + widths_of signals ys) 4194305)
-          (cond_false (test x) (x ∷ filter test rest) (filter test rest) none))
-          ∙ so_far.0,
-      so_far.1,
-    )
+widths_none signals test whole total x rest so_far none = (
+  sym (ap (λ ys. min (total + widths_of signals ys) 4194305)
+      (cond_false (test x) (x ∷ filter test rest) (filter test rest) none))
+      ∙ so_far.0,
+  so_far.1,
+)

@@ -1,6 +1,6 @@
 -- The sizes of all signals' words, in a table.
-use Rattle.std.proofs.Common.{◌≡◌, ℕ, ◌+◌, ◌<◌, List, [], ◌∷◌, ◌++◌, length, map, min, refl, sym, ap}
-use Rattle.std.proofs.Common.{subst, ◌∙◌}
+use Rattle.std.proofs.Common.{◌≡◌, ℕ, ◌+◌, ◌<◌, List, [], ◌∷◌, ◌++◌, length, map, min, sym, ap}
+use Rattle.std.proofs.Common.{subst, ◌∙◌, arith}
 use Rattle.std.specs.Prelude.{slice_index_or}
 use Rattle.std.specs.List.{range_with_len}
 use Rattle.std.proofs.lemmas.List.FromFn.{length-map-range_with_len, get_or-map-range_with_len}
@@ -33,7 +33,7 @@ module _ (flat : Flat) where
   size_there sizes s are known =
       ap (λ xs. slice_index_or xs s 0) are
       ∙ get_or-map-range_with_len (told_size design) 0 (length design.signals) s s 0
-      (known_signal flat s known) refl
+      (known_signal flat s known) (omega arith)
 
   -- the sizes of the signals below a number
   abbrev pub SizesBelow : (number : ℕ) → List ℕ → Type 0
@@ -45,7 +45,7 @@ module _ (flat : Flat) where
   sizes_more number size sizes more so_far pushed told =
       pushed ∙ ap (λ xs. xs ++ size ∷ []) so_far
       ∙ ap (λ k. map (told_size design) (range_with_len 0 number) ++ k ∷ []) told
-      ∙ sym (map-range_with_len_more (told_size design) 0 number number refl)
+      ∙ sym (map-range_with_len_more (told_size design) 0 number number (omega arith))
 
   pub sizes_all : (number : ℕ) (sizes : List ℕ) → SizesBelow number sizes →
       number ≡ length flat.signals.items → AreSizes (design_of flat) sizes

@@ -81,14 +81,7 @@ impl<'a, 'b> Coder<'a, 'b> {
             < (encoding (design_of design.now) (obligation_of query.now)).variables }
     {
         let before = self.made.take();
-        let made = encoded(
-            self.alloc,
-            design,
-            self.bodies,
-            &self.sizes,
-            before,
-            query,
-        )?;
+        let made = encoded(self.alloc, design, self.bodies, &self.sizes, before, query)?;
         self.made = Some(made);
         Ok(())
     }

@@ -284,12 +284,7 @@ impl<'a, 'b, 'c, 'd> Encoder<'a, 'b, 'c, 'd> {
         know_design(self.design);
         match kept {
             Some(made) => made.size,
-            None => frames_size(
-                self.design,
-                self.sizes,
-                &self.now_cone,
-                &self.next_cone,
-            ),
+            None => frames_size(self.design, self.sizes, &self.now_cone, &self.next_cone),
         }
     }
 

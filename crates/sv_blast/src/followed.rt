@@ -98,7 +98,9 @@ impl<'a> Followed<'a> {
     pub fn follows_some(&self, targets: &BTreeSet<u32>) -> bool
         ensures { result ≡ list_any (is_marked self.now.follows.now) targets.now.keys }
     {
-        targets.iter().any(|target| has_mark(self.follows, SigId(*target)))
+        targets
+            .iter()
+            .any(|target| has_mark(self.follows, SigId(*target)))
     }
 
     /// Whether one of some pieces is of a followed signal.
@@ -106,7 +108,9 @@ impl<'a> Followed<'a> {
         ensures { result ≡ list_any (λ (piece : PieceForm).
             is_marked self.now.follows.now piece.signal) (map piece_form pieces.now) }
     {
-        pieces.iter().any(|piece| has_mark(self.follows, piece.signal))
+        pieces
+            .iter()
+            .any(|piece| has_mark(self.follows, piece.signal))
     }
 
     // The copies of the followed ones among some signals, in order.
@@ -427,7 +431,11 @@ impl<'a> Followed<'a> {
     {
         let mut own = WordTable::new(self.alloc);
         for signal in self.reads {
-            own.put(self.alloc, *signal, copied(self.alloc, words.word(*signal))?)?;
+            own.put(
+                self.alloc,
+                *signal,
+                copied(self.alloc, words.word(*signal))?,
+            )?;
         }
         Ok(own)
     }

@@ -53,10 +53,7 @@ impl Followed<'_> {
             (filter (is_marked self.now.follows.now) targets.now.keys)) 4194305 }
         ensures ordered { IsOrdered nat_cmp targets.now }
     {
-        sum(
-            sum(truth_size(self.twice, cond), arm),
-            self.widths(targets),
-        )
+        sum(sum(truth_size(self.twice, cond), arm), self.widths(targets))
     }
 
     // An assignment: its right side, where it assigns a followed signal.

@@ -76,11 +76,7 @@ fn signal_size(
 
 /// The gates of the words that processes give the signals of a design, in signal order. An error
 /// says that memory ran out.
-pub fn signal_sizes(
-    alloc: Global,
-    design: &Design,
-    bodies: &Bodies,
-) -> Result<Vec<u32>, AllocError>
+pub fn signal_sizes(alloc: Global, design: &Design, bodies: &Bodies) -> Result<Vec<u32>, AllocError>
     requires bodies { AreBodiesOf (design_of design.now) bodies.now }
     ensures { IfOk result (λ sizes. AreSizes (design_of design.now) sizes.items) }
 {

@@ -87,8 +87,7 @@ parts-preserved t c =
     ∙ ap (λ ts. min (truth_size (with_copies forms) cond + c.size-arm.result
     + widths_of forms ts) 4194305)
     (assigned_is self.follows.now c.in-Branch.targets here tells.0 c.branch_size.ensures.ordered))
-    c.sum-total-in-Branch.ensures in
-    (
+    c.sum-total-in-Branch.ensures in (
       subst (λ z. SizeAt forms follows whole c.sum-total-in-Branch.result (marked_statement z))
           (sym c.deref-rest-in-Branch.ensures) left,
       (

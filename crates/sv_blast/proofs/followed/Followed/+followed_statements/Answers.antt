@@ -205,7 +205,7 @@ after-choose_back-requires t c =
     ∙ sym c.follows_some.ensures ∙ c.if-not-follows_some.true in
     let back = rest_passed forms follows at_hand (self_copies self) whole c.args.gates.now now arms ws
     parts down none in
-    record { arms = back.arms_stand; stand = back.stand; }
+    record { arms = back.arms_stand; stand = back.stand }
 
 pub after-returns-then-not-follows_some-clause-made :
     goal.after-returns-then-not-follows_some-clause-made
@@ -289,7 +289,7 @@ after-is_true-requires t c =
     let ready = expression_ready forms follows at_hand (self_copies self)
     (signal_forms self.twice.now) c.requires.held.twice cond (down.fit.0 some) now.variables ws
     down.stand in
-    record { formed = ready.0; words = ready.1; }
+    record { formed = ready.0; words = ready.1 }
 
 pub after-returns-in_err-condition-clause-full : goal.after-returns-in_err-condition-clause-full
 after-returns-in_err-condition-clause-full t c =
@@ -350,8 +350,7 @@ after-first_arm-requires t c =
     ∙ ap (map (copy_of forms))
     (assigned_is self.follows.now c.in-Branch.targets parts tells.0 c.in_ok-copies.ensures.ordered) in
     let there = c.deref.ensures in
-    let listed : numbers c.deref-in-Branch.result.now ≡ copies = ap numbers c.deref-in-Branch.ensures.value in
-    (
+    let listed : numbers c.deref-in-Branch.result.now ≡ copies = ap numbers c.deref-in-Branch.ensures.value in (
       search (rules, the_lemmas),
       (
         c.requires.held,
@@ -461,8 +460,7 @@ after-loop-rest-preserved t c =
     (subst (λ z. AllStand forms at_hand later.variables
     (words_after forms follows (marked_statement z) ws mid).1) there c.in_ok-first.ensures.stand)
     c.in_ok-condition.ensures.within c.in_ok-condition.ensures.begins c.in_ok-first.ensures.begins in
-    let back : words_of c.first_arm.new.words ≡ ws = c.in_ok-first.ensures.back in
-    (
+    let back : words_of c.first_arm.new.words ≡ ws = c.in_ok-first.ensures.back in (
       subst (λ vs. DownAt forms follows at_hand whole c.args.gates.now later vs
           (marked_statement c.deref-rest.result.now) (words_of c.first_arm.new.words))
           (sym c.in_ok-push_arm.ensures)
@@ -513,7 +511,7 @@ after-choose_back-requires-2 t c =
     (marked_statement c.loop-rest.rest.now) c.loop-rest.invariant.0 c.after_plain.new.gates
     (words_of c.after_plain.new.words) c.in_ok-after_plain.ensures.made
     c.in_ok-after_plain.ensures.begins c.in_ok-after_plain.ensures.stand in
-    record { arms = back.arms_stand; stand = back.stand; }
+    record { arms = back.arms_stand; stand = back.stand }
 
 pub after-returns : goal.after-returns
 after-returns t c =

@@ -23,7 +23,7 @@ expression-requires c =
     let ready = expression_ready (forms_in self) (follows_in self) (IsAtHand self) (self_copies self)
     (signal_forms self.twice.now) c.requires.held.twice (typed_tree c.args.right.now)
     c.requires.right c.args.gates.now.variables (words_of c.args.words.now) c.requires.stand in
-    record { formed = ready.0; words = ready.1; }
+    record { formed = ready.0; words = ready.1 }
 
 pub put_pieces-requires-clause-pieces : goal.put_pieces-requires-clause-pieces
 put_pieces-requires-clause-pieces c =
@@ -59,8 +59,12 @@ returns-clause-stand c =
     let n = c.expression.new.gates.variables in
     let pieces = map piece_form c.args.pieces.now in
     let grows = c.in_ok-value.ensures.begins.grows in
-    let some : 1 ≤ n = omega (arith, c.variables-some.ensures.some, c.variables-some.ensures.value,
-    grows) in
+    let some : 1 ≤ n = omega (
+      arith,
+      c.variables-some.ensures.some,
+      c.variables-some.ensures.value,
+      grows,
+    ) in
     subst (AllStand forms hand n)
     (ap (λ (w : Word). fold (with_piece_word forms follows w) ws pieces) (sym c.deref.ensures.value)
     ∙ c.in_ok-put_pieces.ensures)

@@ -32,7 +32,7 @@ loop-number-preserved c =
     let n = c.loop-number.number in
     let now = words_of c.loop-number.words in
     elim c.if-has_mark.branch [
-      then-has_mark+in_ok-word+in_ok-put w ↦
+      | then-has_mark+in_ok-word+in_ok-put w ↦
           let width = signal_width forms n in
           let wide : w.from-width.result ≡ width = search (rules, width_here) in
           let word_is : w.in_ok-word.word.items ≡ replicate width false_literal =
@@ -45,7 +45,7 @@ loop-number-preserved c =
           word_is
           (w.in_ok-put.ensures
           ∙ ap (λ k. with_word k w.in_ok-word.word.items now) w.copy_of.ensures))
-    | else-has_mark w ↦
+      | else-has_mark w ↦
           subst (λ ws. ClearAt forms follows old (n + 1) (words_of ws)) (sym w.words-is)
           (clear_same forms follows old n now c.loop-number.invariant (λ inside.
           false≢true (sym (sym c.has_mark.ensures ∙ w.if-has_mark.false)

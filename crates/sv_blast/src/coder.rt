@@ -22,9 +22,9 @@ use sv_design::Design;
 use sv_obl::{Bodies, Query};
 
 /// Encodes obligations of a design one after the other, over its bodies and the sizes of its
-/// signals, and keeps the last encoding. Where the next obligation hangs on the same signals in both
-/// cycles, only what comes behind their words is made anew, and of that only what comes behind equal
-/// first facts and conditions.
+/// signals, and keeps the last encoding. Where the next obligation hangs on the same signals in
+/// both cycles, only what comes behind their words is made anew, and of that only what comes behind
+/// equal first facts and conditions.
 #[derive(Drop)]
 pub struct Coder<'a, 'b> {
     alloc: Global,
@@ -53,8 +53,9 @@ impl<'a, 'b> Coder<'a, 'b> {
         })
     }
 
-    /// Tells of an obligation's encoding, without a clause of it, that it is small enough to be made.
-    /// `TooLarge` says that it has more than 4,194,304 variables; `OutOfMemory` that memory ran out.
+    /// Tells of an obligation's encoding, without a clause of it, that it is small enough to be
+    /// made. `TooLarge` says that it has more than 4,194,304 variables; `OutOfMemory` that memory
+    /// ran out.
     pub fn check_size(&self, design: &Design, query: &Query) -> Result<(), BlastFault>
         requires coder { IsCoder (design_of design.now) self.now }
         requires query { IsQueryOf (design_of design.now) (obligation_of query.now) }

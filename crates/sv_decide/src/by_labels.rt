@@ -13,8 +13,9 @@ use sv_design::Design;
 use sv_obl::{Query, know_design};
 
 /// Whether labels alone show that an obligation is valid, told without a clause: then its encoding
-/// has a refutation of one step, by its first clause and its last one. `TooLarge` says that labels would show
-/// it, and that the encoding has more than 4,194,304 variables; `OutOfMemory` that memory ran out.
+/// has a refutation of one step, by its first clause and its last one. `TooLarge` says that labels
+/// would show it, and that the encoding has more than 4,194,304 variables; `OutOfMemory` that
+/// memory ran out.
 ///
 /// `false` says only that `decide` has to tell.
 pub fn is_valid_by_labels(

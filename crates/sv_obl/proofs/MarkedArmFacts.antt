@@ -12,6 +12,7 @@ use Rattle.sv_flat.specs.Views.{typed_tree}
 use Rattle.sv_obl.specs.declared.later.Bits.{Bits}
 use Rattle.sv_obl.specs.declared.marked.Marked.{Marked}
 use Rattle.sv_obl.specs.declared.marked.MarkedArm.{MarkedArm}
+use Rattle.sv_obl.specs.BodySlices.{in_sequence}
 use Rattle.sv_obl.specs.Later.{in_bits}
 use Rattle.sv_obl.specs.Marked.{IsBranch, IsMarking}
 use Rattle.sv_obl.specs.MarkedBodies.{marked_statement}

@@ -76,7 +76,7 @@ module _ (signals : List SignalForm)
   n = length signals
 
   -- over the signals and their copies, with values held for signals alone
-  abbrev Formed : TypedTree → Type 0
+  abbrev pub Formed : TypedTree → Type 0
   Formed e = IsTrue (held_below n e) × IsTrue (well_formed both e)
 
   twice : length both ≡ n + n
@@ -113,7 +113,7 @@ module _ (signals : List SignalForm)
             (known_both (n + s) (omega arith), width_copy signals s)
         by_test false s h = same_signal s h
 
-    marked_formed : (e : TypedTree) → IsTrue (well_formed signals e)
+    pub marked_formed : (e : TypedTree) → IsTrue (well_formed signals e)
         → Formed (marked_tree signals in_block follows e)
     marked_formed e formed =
         let held = well_held signals e formed in (

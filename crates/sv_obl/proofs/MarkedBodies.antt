@@ -26,7 +26,7 @@ nothing_later = search (rules, the_lemmas)
 
 module _ (signals : List SignalForm) (process : ProcessForm) where
   pub not_marked : is_block process.kind ≡ false → IsMarkedBody signals process None
-  not_marked is r at = ap (λ b. b && is_followed signals r) is
+  not_marked is = λ r at. ap (λ b. b && is_followed signals r) is
 
   module _ (x : Marked) (block : is_block process.kind ≡ true)
       (is : IsMarkedOf (marked_as signals true process.body (in_scope Nothing)) x) (n : ℕ)

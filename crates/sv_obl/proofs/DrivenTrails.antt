@@ -1,7 +1,7 @@
 -- A target by its number in the design, and the process that drives it, whose body is given with
 -- its earlier reads wanted where it has some.
-use Rattle.std.proofs.Common.{◌≡◌, ℕ, zero, suc, ◌+◌, ◌<◌, ◌≤◌, List, [], ◌∷◌, length, map, get_or}
-use Rattle.std.proofs.Common.{Vec, Global, Option, Some, None, refl, sym, ap, ap₂, subst}
+use Rattle.std.proofs.Common.{◌≡◌, ℕ, zero, suc, ◌<◌, List, [], ◌∷◌, length, map, get_or}
+use Rattle.std.proofs.Common.{Option, Some, None, sym, ap, ap₂, subst}
 use Rattle.std.proofs.Common.{◌∙◌, arith, lt-ltb}
 use Rattle.std.specs.Prelude.{IsTrue, Contains, IfSome, option_copied}
 use Rattle.std.specs.Borrow.{Bor}
@@ -28,14 +28,13 @@ use Rattle.sv_design.specs.Designs.{IsDesign}
 use Rattle.sv_design.proofs.Sound.{few_bits}
 use Rattle.sv_obl.specs.declared.body_slices.Bodies.{Bodies}
 use Rattle.sv_obl.specs.declared.marked.Marked.{Marked}
-use Rattle.sv_obl.specs.declared.routes.Route.{Route}
 use Rattle.sv_obl.specs.declared.targets.Driven.{Driven}
 use Rattle.sv_obl.specs.declared.targets.Paths.{Paths}
 use Rattle.sv_obl.specs.declared.targets.Paths.TheVariants.{Routes, Trails}
 use Rattle.sv_obl.specs.declared.trails.Trail.{Trail}
 use Rattle.sv_obl.specs.Alongs.{trail_obligation, trails_excess}
 use Rattle.sv_obl.specs.Answers.{excess_at}
-use Rattle.sv_obl.specs.Driven.{CanWalk, AreRoutes, AreTrails, ArePaths, how_many, HasPaths}
+use Rattle.sv_obl.specs.Driven.{CanWalk, AreTrails, ArePaths}
 use Rattle.sv_obl.specs.Driven.{IsDriven, ArePathsWalked, IsWalked}
 use Rattle.sv_obl.specs.MarkedBodies.{marked_statement, IsMarkedBody, IsMarkedFor, HasCopies}
 use Rattle.sv_obl.specs.MarkedBodies.{AreBodiesOf}

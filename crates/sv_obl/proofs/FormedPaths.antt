@@ -3,7 +3,7 @@
 use Rattle.std.proofs.Common.{◌≡◌, ℕ, ◌+◌, ◌-◌, ◌^◌, ◌<◌, ◌≤◌, Bool, true, false, cond, ◌&&◌, ◌==◌, not}
 use Rattle.std.proofs.Common.{nat_lt, nat_le, ltb-true, leb-true, lt-ltb, List, [], ◌∷◌, ◌++◌, length}
 use Rattle.std.proofs.Common.{map, fold, ⊎_elim, refl, sym, ap, ap₂, subst, ◌∙◌, arith, length-append}
-use Rattle.std.specs.Prelude.{Contains, IsTrue, IsFalse}
+use Rattle.std.specs.Prelude.{Contains, IsTrue}
 use Rattle.std.specs.List.{list_any, list_all}
 use Rattle.std.proofs.lemmas.Bool.{eqb-true, le-leb}
 use Rattle.std.proofs.lemmas.Nat.{pow_pos}
@@ -11,13 +11,13 @@ use Rattle.sv_num.specs.declared.faults.Place.{Place}
 use Rattle.sv_num.specs.Parts.{span_of}
 use Rattle.sv_system.proofs.Lists.{Contains-nil, Contains-cases, Contains-from_map}
 use Rattle.sv_flat.specs.Assigned.{can_assign}
-use Rattle.sv_flat.specs.Design.{SignalForm, TypedTree, typed, constant, read, choice, mend, slice}
+use Rattle.sv_flat.specs.Design.{SignalForm, TypedTree, typed, constant, choice, mend, slice}
 use Rattle.sv_flat.specs.Design.{PieceForm, FlatStatement, nothing, after, assign, branch}
 use Rattle.sv_flat.specs.Readings.{ReadForm, BitSet, either, some_bit_read}
 use Rattle.sv_flat.specs.Soundness.{is_one_to, is_signal, is_part_of, has_type, well_formed}
 use Rattle.sv_flat.specs.Soundness.{node_well_formed, piece_fits, is_whole, statement_sound}
 use Rattle.sv_flat.specs.Values.{signal_of, signal_width, expression_width}
-use Rattle.sv_flat.proofs.Depths.{first_of, second_of, from_all}
+use Rattle.sv_flat.proofs.Depths.{first_of, second_of}
 use Rattle.sv_flat.proofs.Members.{Contains-either, only}
 use Rattle.sv_flat.proofs.ReadSignals.{reads_signals}
 use Rattle.sv_obl.specs.Exchange.{name, content}
@@ -26,7 +26,7 @@ use Rattle.sv_obl.specs.Paths.{name_itself, ways_taken, with_way, is_taken, open
 use Rattle.sv_obl.specs.Wanted.{with_copies, copy_of, is_copy, original, mark, marked_tree, marked}
 use Rattle.sv_obl.specs.Wanted.{wanted_name, piece_value, with_piece_put, put_value, pieces_put}
 use Rattle.sv_obl.specs.Wanted.{put_in, close, closed_tree}
-use Rattle.sv_obl.proofs.FormedExchange.{Holds, Fits, exchanged_formed}
+use Rattle.sv_obl.proofs.FormedExchange.{Fits, exchanged_formed}
 use Rattle.sv_obl.proofs.PathLists.{both_true, from_cond, from_flat_map}
 use Rattle.sv_obl.proofs.PathRuns.{step_of, whole_way}
 use Rattle.sv_obl.proofs.PutFacts.{width_settled, width_copy, width_original, settled_is_signal}

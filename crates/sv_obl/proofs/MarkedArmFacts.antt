@@ -1,9 +1,8 @@
 -- Chains of branches that are marked, arm by arm.
-use Rattle.std.proofs.Common.{◌≡◌, ℕ, Bool, true, ◌||◌, List, [], ◌∷◌, ◌++◌, refl, sym, ap, ap₂, subst}
+use Rattle.std.proofs.Common.{◌≡◌, ℕ, true, ◌||◌, List, [], ◌∷◌, ◌++◌, refl, sym, ap, ap₂, subst}
 use Rattle.std.proofs.Common.{◌∙◌}
 use Rattle.std.proofs.lemmas.Bool.{and_parts}
 use Rattle.std.specs.Prelude.{IsTrue}
-use Rattle.sv_num.specs.declared.faults.Place.{Place}
 use Rattle.sv_flat.specs.Assigned.{can_assign}
 use Rattle.sv_flat.specs.Design.{SignalForm, TypedTree, FlatStatement, branch}
 use Rattle.sv_flat.specs.Readings.{BitSet, either}

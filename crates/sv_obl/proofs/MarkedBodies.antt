@@ -1,7 +1,7 @@
 -- Bodies of processes, marked one after the other.
 use Rattle.std.proofs.Common.{◌≡◌, ℕ, ◌+◌, ◌<◌, Bool, false, ◌&&◌, List, [], ◌∷◌}
-use Rattle.std.proofs.Common.{◌++◌, length, map, take, get_or, Option, Some, None, refl, sym, ap, ap₂}
-use Rattle.std.proofs.Common.{subst, ◌∙◌, arith, rules, true, add-one}
+use Rattle.std.proofs.Common.{◌++◌, length, map, take, get_or, Option, Some, None, sym, ap}
+use Rattle.std.proofs.Common.{subst, ◌∙◌, rules, true, add-one}
 use Rattle.std.specs.List.{AllZip}
 use Rattle.std.proofs.Math.Seq.{take-suc}
 use Rattle.std.proofs.lemmas.List.{map-append}

@@ -1,7 +1,7 @@
 -- Private: how the code goes. Paths through a body with earlier reads, where several names are
 -- wanted at once: of conditions and of the result stands here what is asked of them later, and no
 -- expression. Which paths a target has stands in `Paths`.
-use Rattle.std.specs.Prelude.{ℕ, ◌+◌, ◌-◌, ◌*◌, min, Bool, true, false, ◌==◌, ◌&&◌, ◌||◌, nat_lt}
+use Rattle.std.specs.Prelude.{ℕ, ◌+◌, ◌-◌, min, Bool, true, false, ◌==◌, ◌&&◌, nat_lt}
 use Rattle.std.specs.Prelude.{if◌then◌else◌, List, [], ◌∷◌, ◌++◌, length, map, filter, flat_map}
 use Rattle.std.specs.Prelude.{fold}
 use Rattle.std.specs.Prelude.{slice_get, Option, Some, None, is_none, is_some, option_map}

@@ -1,4 +1,4 @@
-use Rattle.std.proofs.Common.{◌<◌, length, get_or, sym, subst, ◌∙◌}
+use Rattle.std.proofs.Common.{◌<◌, get_or, sym, subst, ◌∙◌}
 use Rattle.sv_flat.specs.Clocks.{processes_of}
 use Rattle.sv_flat.specs.Views.{design_of}
 use Rattle.sv_obl.proofs.DrivenTrails.{inside_marked, marked_for, none_for, held_copies}

@@ -137,10 +137,10 @@ module _ (signals : List SignalForm)
     piece_formed : (p : PieceForm) → IsInside signals right p → IsPiece p (piece_value right p)
     piece_formed p inside = by_test (p.from == 0) refl
       where
-        abbrev span : ℕ
+        span : ℕ
         span = span_of p.high p.low
 
-        abbrev cut : TypedTree
+        cut : TypedTree
         cut = typed span false (slice right (p.from + p.high - p.low) p.from)
 
         -- the signal has at most 64 bits
@@ -223,7 +223,7 @@ module _ (signals : List SignalForm)
           inside : IsInside signals right p
           inside = inside_of signals right p fits
 
-          abbrev value : TypedTree
+          value : TypedTree
           value = piece_value right p
 
           by_test : (c whole : Bool) → (p.signal == s) ≡ c
@@ -267,10 +267,10 @@ module _ (signals : List SignalForm)
           by_test (is_copy signals r.signal)
           (list_any (λ (p : PieceForm). p.signal == original signals r.signal) pieces) refl
         where
-          abbrev s : ℕ
+          s : ℕ
           s = original signals r.signal
 
-          abbrev value : TypedTree
+          value : TypedTree
           value = put_value signals pieces right s r.place
 
           by_test : (c d : Bool) → is_copy signals r.signal ≡ c
@@ -307,10 +307,10 @@ module _ (signals : List SignalForm)
         → Fits both signals r.signal (close signals is_register r)
     close_fits r known = by_test (is_copy signals r.signal) is_register refl
       where
-        abbrev s : ℕ
+        s : ℕ
         s = original signals r.signal
 
-        abbrev zero_value : TypedTree
+        zero_value : TypedTree
         zero_value = typed (signal_width signals s) (signal_of signals s).signed (constant 0)
 
         by_test : (copied register : Bool) → is_copy signals r.signal ≡ copied

@@ -4,7 +4,7 @@ use Rattle.std.proofs.Common.{◌∙◌}
 use Rattle.std.proofs.lemmas.Bool.{and_parts}
 use Rattle.std.specs.Prelude.{IsTrue}
 use Rattle.sv_flat.specs.Assigned.{can_assign}
-use Rattle.sv_flat.specs.Design.{SignalForm, TypedTree, FlatStatement, branch}
+use Rattle.sv_flat.specs.Design.{SignalForm, TypedTree, FlatStatement, nothing, branch}
 use Rattle.sv_flat.specs.Readings.{BitSet, either}
 use Rattle.sv_flat.specs.Soundness.{well_formed, statement_sound}
 use Rattle.sv_flat.specs.Views.{typed_tree}

@@ -148,9 +148,9 @@ module _ (signals : List SignalForm) (s : ℕ) where
       same_arm place condition (alone x) (alone y) x y (branch_assigns place condition x y)
       (λ u. walk_in_sequence x nothing u) (λ u. walk_in_sequence y nothing u) (walk b w)
 
-  pub same_walk : (a b : FlatStatement) → SameParts a b → (w : WayForm)
+  pub same_along : (a b : FlatStatement) → SameParts a b → (w : WayForm)
       → along signals s a w ≡ along signals s b w
-  same_walk a b same w =
+  same_along a b same w =
       sym (walk_in_sequence a nothing w)
       ∙ ap (λ (c : FlatStatement). walk c w) same
       ∙ walk_in_sequence b nothing w

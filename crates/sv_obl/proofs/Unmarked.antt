@@ -67,7 +67,7 @@ module _ (signals : List SignalForm) (in_block : Bool) where
   pub none_earlier : (a : FlatStatement) (early later : BitSet)
       → IsFalse (has_copy count (marked signals in_block a later))
       → NoneEarlier signals in_block (readings signals a early later)
-  none_earlier nothing early later none r at = absurd (Contains-nil r at)
+  none_earlier nothing early later none = λ r at. absurd (Contains-nil r at)
   none_earlier (after a b) early later none =
       let late = either (can_assign b) later in
       let mid = either (always_assigns a) early in

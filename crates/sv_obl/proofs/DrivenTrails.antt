@@ -1,11 +1,12 @@
 -- A target by its number in the design, and the process that drives it, whose body is given with
 -- its earlier reads wanted where it has some.
-use Rattle.std.proofs.Common.{◌≡◌, ℕ, zero, suc, ◌+◌, ◌<◌, ◌≤◌, List, [], ◌∷◌, length, map, get_or}
-use Rattle.std.proofs.Common.{Vec, Global, Option, Some, None, option_map, refl, sym, ap, ap₂, subst}
+use Rattle.std.proofs.Common.{◌≡◌, ℕ, zero, suc, ◌<◌, List, [], ◌∷◌, length, map, get_or}
+use Rattle.std.proofs.Common.{Option, Some, None, sym, ap, ap₂, subst}
 use Rattle.std.proofs.Common.{◌∙◌, arith, lt-ltb}
-use Rattle.std.specs.Prelude.{IsTrue, Contains}
+use Rattle.std.specs.Prelude.{IsTrue, Contains, IfSome, option_copied}
 use Rattle.std.specs.Borrow.{Bor}
 use Rattle.std.specs.List.{AllZip}
+use Rattle.std.proofs.lemmas.List.Elements.{Contains-get_or}
 use Rattle.std.proofs.lemmas.List.Quantifiers.{position-Some}
 use Rattle.std.proofs.lemmas.Slice.Zip.{AllZip-long}
 use Rattle.sv_flat.specs.Assigned.{assigns}
@@ -25,17 +26,18 @@ use Rattle.sv_flat.proofs.AdmittedFacts.{body_is_sound}
 use Rattle.sv_flat.proofs.Members.{only}
 use Rattle.sv_design.specs.Designs.{IsDesign}
 use Rattle.sv_design.proofs.Sound.{few_bits}
+use Rattle.sv_obl.specs.declared.body_slices.Bodies.{Bodies}
 use Rattle.sv_obl.specs.declared.marked.Marked.{Marked}
-use Rattle.sv_obl.specs.declared.routes.Route.{Route}
 use Rattle.sv_obl.specs.declared.targets.Driven.{Driven}
 use Rattle.sv_obl.specs.declared.targets.Paths.{Paths}
 use Rattle.sv_obl.specs.declared.targets.Paths.TheVariants.{Routes, Trails}
 use Rattle.sv_obl.specs.declared.trails.Trail.{Trail}
 use Rattle.sv_obl.specs.Alongs.{trail_obligation, trails_excess}
 use Rattle.sv_obl.specs.Answers.{excess_at}
-use Rattle.sv_obl.specs.Driven.{CanWalk, AreRoutes, AreTrails, ArePaths, how_many, HasPaths}
+use Rattle.sv_obl.specs.Driven.{CanWalk, AreTrails, ArePaths}
 use Rattle.sv_obl.specs.Driven.{IsDriven, ArePathsWalked, IsWalked}
-use Rattle.sv_obl.specs.MarkedBodies.{marked_statement, IsMarkedBody, IsMarkedFor}
+use Rattle.sv_obl.specs.MarkedBodies.{marked_statement, IsMarkedBody, IsMarkedFor, HasCopies}
+use Rattle.sv_obl.specs.MarkedBodies.{AreBodiesOf}
 use Rattle.sv_obl.specs.Trails.{TrailForm, open_trail, trails_before}
 use Rattle.sv_obl.specs.TrailViews.{trail_forms}
 use Rattle.sv_obl.specs.Wanted.{marked}
@@ -69,6 +71,16 @@ pub driven_walked : (design : FlatDesign) (s total : ℕ) (found : Option Driven
 driven_walked design s total None is = tt
 driven_walked design s total (Some driven) is =
     paths_walked design s driven.process.now driven.paths is.are
+
+-- where a marked body is held, copies of the signals are
+pub held_copies : (design : FlatDesign) (held : Bodies) → AreBodiesOf design held → (k : ℕ)
+    → k < length held.marked.items → (x : Option Marked) → x ≡ get_or held.marked.items k x
+    → (found : Option (Bor Marked)) → option_copied found ≡ x
+    → IfSome found (λ body. HasCopies design held)
+held_copies design held are k inside x at None same = tt
+held_copies design held are k inside x at (Some body) same =
+    are.copies body.now (subst (Contains held.marked.items) (sym at ∙ sym same)
+    (Contains-get_or held.marked.items k x inside))
 
 -- ---- the process that drives the target
 
@@ -107,13 +119,13 @@ module _ (flat : Flat) (is : IsDesign (design_of flat)) (s : ℕ)
 
   -- so it is for whatever process assigns the target
   pub marked_for : (x : Option Marked) → x ≡ get_or bodies k x → (found : Option (Bor Marked))
-      → option_map (λ (b : Bor Marked). b.now) found ≡ x → IsMarkedFor design s found
+      → option_copied found ≡ x → IsMarkedFor design s found
   marked_for x at found same q q_at own =
       let alone = (one_driver_at design is.is_sound is.is_admitted s is_known k p driven).2
       ∙ ap (λ y. y ∷ []) there in
       let is_p = only p q (subst (λ ps. Contains ps q) alone
       (Contains-filter (λ (y : ProcessForm). assigns y.body s) (processes_of design) q q_at own)) in
-      subst (λ y. IsMarkedBody design.signals y (option_map (λ (b : Bor Marked). b.now) found)) is_p
+      subst (λ y. IsMarkedBody design.signals y (option_copied found)) is_p
       (subst (IsMarkedBody design.signals p) (sym same) (has_marked x at))
 
   -- where the process has no marked body, none of its reads is an earlier one

@@ -3,7 +3,7 @@
 use Rattle.std.proofs.Common.{◌≡◌, ℕ, ◌+◌, ◌-◌, ◌^◌, ◌<◌, ◌≤◌, Bool, true, false, cond, ◌&&◌, ◌==◌, not}
 use Rattle.std.proofs.Common.{nat_lt, nat_le, ltb-true, leb-true, lt-ltb, List, [], ◌∷◌, ◌++◌, length}
 use Rattle.std.proofs.Common.{map, fold, ⊎_elim, refl, sym, ap, ap₂, subst, ◌∙◌, arith, length-append}
-use Rattle.std.specs.Prelude.{Contains, IsTrue, IsFalse}
+use Rattle.std.specs.Prelude.{Contains, IsTrue}
 use Rattle.std.specs.List.{list_any, list_all}
 use Rattle.std.proofs.lemmas.Bool.{eqb-true, le-leb}
 use Rattle.std.proofs.lemmas.Nat.{pow_pos}
@@ -11,13 +11,13 @@ use Rattle.sv_num.specs.declared.faults.Place.{Place}
 use Rattle.sv_num.specs.Parts.{span_of}
 use Rattle.sv_system.proofs.Lists.{Contains-nil, Contains-cases, Contains-from_map}
 use Rattle.sv_flat.specs.Assigned.{can_assign}
-use Rattle.sv_flat.specs.Design.{SignalForm, TypedTree, typed, constant, read, choice, mend, slice}
+use Rattle.sv_flat.specs.Design.{SignalForm, TypedTree, typed, constant, choice, mend, slice}
 use Rattle.sv_flat.specs.Design.{PieceForm, FlatStatement, nothing, after, assign, branch}
 use Rattle.sv_flat.specs.Readings.{ReadForm, BitSet, either, some_bit_read}
 use Rattle.sv_flat.specs.Soundness.{is_one_to, is_signal, is_part_of, has_type, well_formed}
 use Rattle.sv_flat.specs.Soundness.{node_well_formed, piece_fits, is_whole, statement_sound}
 use Rattle.sv_flat.specs.Values.{signal_of, signal_width, expression_width}
-use Rattle.sv_flat.proofs.Depths.{first_of, second_of, from_all}
+use Rattle.sv_flat.proofs.Depths.{first_of, second_of}
 use Rattle.sv_flat.proofs.Members.{Contains-either, only}
 use Rattle.sv_flat.proofs.ReadSignals.{reads_signals}
 use Rattle.sv_obl.specs.Exchange.{name, content}
@@ -26,7 +26,7 @@ use Rattle.sv_obl.specs.Paths.{name_itself, ways_taken, with_way, is_taken, open
 use Rattle.sv_obl.specs.Wanted.{with_copies, copy_of, is_copy, original, mark, marked_tree, marked}
 use Rattle.sv_obl.specs.Wanted.{wanted_name, piece_value, with_piece_put, put_value, pieces_put}
 use Rattle.sv_obl.specs.Wanted.{put_in, close, closed_tree}
-use Rattle.sv_obl.proofs.FormedExchange.{Holds, Fits, exchanged_formed}
+use Rattle.sv_obl.proofs.FormedExchange.{Fits, exchanged_formed}
 use Rattle.sv_obl.proofs.PathLists.{both_true, from_cond, from_flat_map}
 use Rattle.sv_obl.proofs.PathRuns.{step_of, whole_way}
 use Rattle.sv_obl.proofs.PutFacts.{width_settled, width_copy, width_original, settled_is_signal}
@@ -76,7 +76,7 @@ module _ (signals : List SignalForm)
   n = length signals
 
   -- over the signals and their copies, with values held for signals alone
-  abbrev Formed : TypedTree → Type 0
+  abbrev pub Formed : TypedTree → Type 0
   Formed e = IsTrue (held_below n e) × IsTrue (well_formed both e)
 
   twice : length both ≡ n + n
@@ -113,7 +113,7 @@ module _ (signals : List SignalForm)
             (known_both (n + s) (omega arith), width_copy signals s)
         by_test false s h = same_signal s h
 
-    marked_formed : (e : TypedTree) → IsTrue (well_formed signals e)
+    pub marked_formed : (e : TypedTree) → IsTrue (well_formed signals e)
         → Formed (marked_tree signals in_block follows e)
     marked_formed e formed =
         let held = well_held signals e formed in (
@@ -137,10 +137,10 @@ module _ (signals : List SignalForm)
     piece_formed : (p : PieceForm) → IsInside signals right p → IsPiece p (piece_value right p)
     piece_formed p inside = by_test (p.from == 0) refl
       where
-        abbrev span : ℕ
+        span : ℕ
         span = span_of p.high p.low
 
-        abbrev cut : TypedTree
+        cut : TypedTree
         cut = typed span false (slice right (p.from + p.high - p.low) p.from)
 
         -- the signal has at most 64 bits
@@ -223,7 +223,7 @@ module _ (signals : List SignalForm)
           inside : IsInside signals right p
           inside = inside_of signals right p fits
 
-          abbrev value : TypedTree
+          value : TypedTree
           value = piece_value right p
 
           by_test : (c whole : Bool) → (p.signal == s) ≡ c
@@ -267,10 +267,10 @@ module _ (signals : List SignalForm)
           by_test (is_copy signals r.signal)
           (list_any (λ (p : PieceForm). p.signal == original signals r.signal) pieces) refl
         where
-          abbrev s : ℕ
+          s : ℕ
           s = original signals r.signal
 
-          abbrev value : TypedTree
+          value : TypedTree
           value = put_value signals pieces right s r.place
 
           by_test : (c d : Bool) → is_copy signals r.signal ≡ c
@@ -307,10 +307,10 @@ module _ (signals : List SignalForm)
         → Fits both signals r.signal (close signals is_register r)
     close_fits r known = by_test (is_copy signals r.signal) is_register refl
       where
-        abbrev s : ℕ
+        s : ℕ
         s = original signals r.signal
 
-        abbrev zero_value : TypedTree
+        zero_value : TypedTree
         zero_value = typed (signal_width signals s) (signal_of signals s).signed (constant 0)
 
         by_test : (copied register : Bool) → is_copy signals r.signal ≡ copied

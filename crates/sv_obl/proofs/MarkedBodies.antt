@@ -1,7 +1,7 @@
 -- Bodies of processes, marked one after the other.
 use Rattle.std.proofs.Common.{◌≡◌, ℕ, ◌+◌, ◌<◌, Bool, false, ◌&&◌, List, [], ◌∷◌}
-use Rattle.std.proofs.Common.{◌++◌, length, map, take, get_or, Option, Some, None, refl, sym, ap, ap₂}
-use Rattle.std.proofs.Common.{subst, ◌∙◌, arith, rules, true, add-one}
+use Rattle.std.proofs.Common.{◌++◌, length, map, take, get_or, Option, Some, None, sym, ap}
+use Rattle.std.proofs.Common.{subst, ◌∙◌, rules, true, add-one}
 use Rattle.std.specs.List.{AllZip}
 use Rattle.std.proofs.Math.Seq.{take-suc}
 use Rattle.std.proofs.lemmas.List.{map-append}
@@ -26,7 +26,7 @@ nothing_later = search (rules, the_lemmas)
 
 module _ (signals : List SignalForm) (process : ProcessForm) where
   pub not_marked : is_block process.kind ≡ false → IsMarkedBody signals process None
-  not_marked is r at = ap (λ b. b && is_followed signals r) is
+  not_marked is = λ r at. ap (λ b. b && is_followed signals r) is
 
   module _ (x : Marked) (block : is_block process.kind ≡ true)
       (is : IsMarkedOf (marked_as signals true process.body (in_scope Nothing)) x) (n : ℕ)

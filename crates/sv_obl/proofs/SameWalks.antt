@@ -1,7 +1,6 @@
 -- Statements of the same parts name copies alike, have bits of a word alike, and are walked alike.
-use Rattle.std.proofs.Common.{◌≡◌, ℕ, Bool, true, false, cond, ◌||◌, List, [], ◌∷◌, ◌++◌, map}
+use Rattle.std.proofs.Common.{◌≡◌, ℕ, true, false, cond, ◌||◌, List, [], ◌∷◌, ◌++◌, map}
 use Rattle.std.proofs.Common.{flat_map, length, refl, sym, ap, ap₂, subst, ◌∙◌, append-nil}
-use Rattle.std.specs.List.{list_any}
 use Rattle.sv_num.specs.declared.faults.Place.{Place}
 use Rattle.sv_flat.specs.Assigned.{assigns}
 use Rattle.sv_flat.specs.Design.{SignalForm, TypedTree, FlatStatement, nothing, after, assign, branch}
@@ -149,9 +148,9 @@ module _ (signals : List SignalForm) (s : ℕ) where
       same_arm place condition (alone x) (alone y) x y (branch_assigns place condition x y)
       (λ u. walk_in_sequence x nothing u) (λ u. walk_in_sequence y nothing u) (walk b w)
 
-  pub same_walk : (a b : FlatStatement) → SameParts a b → (w : WayForm)
+  pub same_along : (a b : FlatStatement) → SameParts a b → (w : WayForm)
       → along signals s a w ≡ along signals s b w
-  same_walk a b same w =
+  same_along a b same w =
       sym (walk_in_sequence a nothing w)
       ∙ ap (λ (c : FlatStatement). walk c w) same
       ∙ walk_in_sequence b nothing w

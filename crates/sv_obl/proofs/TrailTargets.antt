@@ -29,7 +29,7 @@ use Rattle.sv_obl.specs.Trails.{TrailForm, open_trail, trails_before}
 use Rattle.sv_obl.specs.Wanted.{closed_tree, marked}
 use Rattle.sv_obl.specs.Written.{mark_word}
 use Rattle.sv_obl.proofs.OneDriver.{one_driver_at}
-use Rattle.sv_obl.proofs.SameWalks.{same_trails, same_walk}
+use Rattle.sv_obl.proofs.SameWalks.{same_trails, same_along}
 use Rattle.sv_obl.proofs.TrailDesigns.{marked_pieces, marked_signals}
 use Rattle.sv_obl.proofs.TrailObligations.{target_is, target_large, target_count, target_marks}
 use Rattle.sv_obl.proofs.TrailObligations.{target_names}
@@ -74,7 +74,8 @@ module _ (design : FlatDesign) (is_sound : IsTrue (sound design)) (admitted : Is
   walks_are : (t : TrailForm)
       → along design.signals s (marked_statement x) (open_way s t.choices)
       ≡ along design.signals s body (open_way s t.choices)
-  walks_are t = same_walk design.signals s (marked_statement x) body is.parts (open_way s t.choices)
+  walks_are t =
+      same_along design.signals s (marked_statement x) body is.parts (open_way s t.choices)
 
   -- the limits by the number of paths and whether one is large
   abbrev excess_of : (total count : ℕ) → Bool → Option Excess

@@ -1,5 +1,5 @@
 -- A body in which no name is that of a copy once its earlier reads are marked has none.
-use Rattle.std.proofs.Common.{◌≡◌, ℕ, ◌+◌, Bool, true, false, cond, ◌&&◌, ◌||◌, nat_le, List, []}
+use Rattle.std.proofs.Common.{ℕ, ◌+◌, Bool, true, false, cond, ◌&&◌, ◌||◌, nat_le, List, []}
 use Rattle.std.proofs.Common.{◌∷◌, ◌++◌, length, ⊎_elim, refl, sym, ap, subst, ◌∙◌, arith}
 use Rattle.std.specs.Prelude.{Contains, IsFalse}
 use Rattle.std.specs.List.{list_any}
@@ -67,7 +67,7 @@ module _ (signals : List SignalForm) (in_block : Bool) where
   pub none_earlier : (a : FlatStatement) (early later : BitSet)
       → IsFalse (has_copy count (marked signals in_block a later))
       → NoneEarlier signals in_block (readings signals a early later)
-  none_earlier nothing early later none r at = absurd (Contains-nil r at)
+  none_earlier nothing early later none = λ r at. absurd (Contains-nil r at)
   none_earlier (after a b) early later none =
       let late = either (can_assign b) later in
       let mid = either (always_assigns a) early in

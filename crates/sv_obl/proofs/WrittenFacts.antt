@@ -1,7 +1,7 @@
 -- Lines of obligations, one after the other.
 use Rattle.std.proofs.Common.{◌≡◌, ℕ, zero, suc, ◌+◌, ◌-◌, ◌<◌, ◌≤◌, List, [], ◌∷◌, ◌++◌, length}
 use Rattle.std.proofs.Common.{map, flat_map, take, get_or, All, Some, None, Result, Ok, Err}
-use Rattle.std.proofs.Common.{refl, sym, ap, ap₂, subst, ◌∙◌, arith, append_assoc, append-nil}
+use Rattle.std.proofs.Common.{refl, sym, ap, subst, ◌∙◌, arith, append_assoc, append-nil}
 use Rattle.std.proofs.Common.{length-append, IsErrAnd, Bool, true, false, cond, nat_lt, ltb-false}
 use Rattle.std.specs.Prelude.{IfErr}
 use Rattle.std.specs.List.{range_with_len, list_any}
@@ -13,7 +13,6 @@ use Rattle.sv_flat.specs.Sets.{holds, those}
 use Rattle.sv_flat.proofs.LeastSets.{those_below}
 use Rattle.sv_obl.specs.declared.faults.OblFault.{OblFault}
 use Rattle.sv_obl.specs.declared.list_texts.Lines.{Lines}
-use Rattle.sv_obl.specs.declared.queries.Query.{Query}
 use Rattle.sv_obl.specs.declared.routes.Route.{Route}
 use Rattle.sv_obl.specs.declared.trails.Trail.{Trail}
 use Rattle.sv_obl.specs.Answers.{Told, excess_at}
@@ -35,7 +34,7 @@ use Rattle.sv_obl.specs.Routes.{RouteForm, names_on, route_obligation, is_large,
 use Rattle.sv_obl.specs.RouteViews.{route_form, route_forms}
 use Rattle.sv_obl.specs.Trails.{TrailForm}
 use Rattle.sv_obl.specs.TrailViews.{trail_form, trail_forms}
-use Rattle.sv_obl.specs.Views.{obligation_of, IsAmong}
+use Rattle.sv_obl.specs.Views.{IsAmong}
 use Rattle.sv_obl.specs.ListParts.{obligations_before, obligations_from, lines_left, AreCounted}
 use Rattle.sv_obl.specs.Written.{Writes}
 use Rattle.sv_obl.proofs.DesignQueryFacts.{query_among}

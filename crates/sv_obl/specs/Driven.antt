@@ -2,7 +2,7 @@
 -- that drives it; which obligations a target has stands in `Obligations`.
 use Rattle.std.specs.Prelude.{◌≡◌, ℕ, ◌+◌, ◌<◌, ◌≤◌, List, [], length, map, reverse, All, Contains}
 use Rattle.std.specs.Prelude.{Option, Some, None}
-use Rattle.sv_flat.specs.Design.{ProcessForm, FlatDesign}
+use Rattle.sv_flat.specs.Design.{FlatDesign}
 use Rattle.sv_flat.specs.Processes.{is_clocked}
 use Rattle.sv_flat.specs.Views.{process_form}
 use Rattle.sv_flat.specs.declared.designs.Process.{Process}

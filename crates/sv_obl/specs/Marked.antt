@@ -1,6 +1,6 @@
--- Private: how the code goes. Statements in which earlier reads are wanted, as they are made part by
--- part.
-use Rattle.std.specs.Prelude.{◌≡◌, ℕ, Bool, false, ◌||◌, nat_le, List, [], ◌∷◌, map}
+-- Private: how the code goes. Statements in which earlier reads are wanted, as they are made part
+-- by part.
+use Rattle.std.specs.Prelude.{◌≡◌, ℕ, Bool, true, false, ◌||◌, nat_le, List, [], ◌∷◌, map}
 use Rattle.std.specs.List.{list_any}
 use Rattle.sv_num.specs.declared.faults.Place.{Place}
 use Rattle.sv_flat.specs.Assigned.{can_assign}

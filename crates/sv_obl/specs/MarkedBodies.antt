@@ -1,5 +1,6 @@
 -- Bodies in which earlier reads are wanted, and the bodies of a design as the calls hold them.
-use Rattle.std.specs.Prelude.{◌≡◌, ◌≤◌, ℕ, ◌&&◌, List, map, length, Option, Some, None, option_map}
+use Rattle.std.specs.Prelude.{◌≡◌, ◌≤◌, ℕ, ◌&&◌, List, map, length, Option, Some, None}
+use Rattle.std.specs.Prelude.{option_copied}
 use Rattle.std.specs.Prelude.{Contains, IsTrue, IsFalse}
 use Rattle.std.specs.Borrow.{Bor}
 use Rattle.std.specs.BTreeSet.{BTreeSet, contains}
@@ -74,7 +75,7 @@ abbrev pub IsMarkedFor : FlatDesign → (target : ℕ) → Option (Bor Marked) �
 IsMarkedFor design s found =
     (process : ProcessForm) → Contains (processes_of design) process
     → IsTrue (assigns process.body s)
-    → IsMarkedBody design.signals process (option_map (λ (x : Bor Marked). x.now) found)
+    → IsMarkedBody design.signals process (option_copied found)
 
 -- ---- designs
 

@@ -1,10 +1,10 @@
 // Values put into an expression for the names that are wanted in it.
-ghost use Rattle.std.specs.Prelude.{◌≡◌, ◌≤◌, ◌<◌, ◌+◌, ℕ, length, map, IfOk};
+ghost use Rattle.std.specs.Prelude.{◌≡◌, ◌≤◌, ◌<◌, ◌+◌, length, map, IfOk};
 ghost use Rattle.sv_flat.specs.ByNumber.{signal_forms};
 ghost use Rattle.sv_flat.specs.Design.{typed};
 ghost use Rattle.sv_flat.specs.Readings.{ReadForm};
 ghost use Rattle.sv_flat.specs.Values.{signal_of, signal_width};
-ghost use Rattle.sv_flat.specs.Views.{typed_tree, typed_trees, node_tree, piece_form, parts_of};
+ghost use Rattle.sv_flat.specs.Views.{typed_tree, typed_trees, node_tree, piece_form};
 ghost use Rattle.sv_obl.specs.Exchange.{exchanged, exchanged_node, for_whole, for_bit, for_part};
 ghost use Rattle.sv_obl.specs.PutIn.{put_for, is_put_for, value_put, found_for, AreInWords};
 ghost use Rattle.sv_obl.specs.PutIn.{CanBePut};

@@ -1,12 +1,11 @@
 // Bodies with earlier reads, in which those are wanted, and each part tells what it assigns.
-ghost use Rattle.std.specs.Prelude.{◌≡◌, ◌≤◌, ◌<◌, ◌-◌, ℕ, max, true, [], ◌∷◌, ◌++◌, map, fold};
+ghost use Rattle.std.specs.Prelude.{◌≡◌, ◌≤◌, ◌<◌, ◌-◌, max, true, [], ◌++◌, map, fold};
 ghost use Rattle.std.specs.Prelude.{length, All, Option, IsTrue, IsFalse, IfOk, OnOk};
 ghost use Rattle.std.specs.BTreeSet.{insert_key};
 ghost use Rattle.std.specs.List.{AllZip};
 ghost use Rattle.std.specs.Ordering.{nat_cmp};
 ghost use Rattle.sv_flat.specs.ByNumber.{signal_forms, is_branch, AreWords};
 ghost use Rattle.sv_flat.specs.Design.{FlatStatement, ProcessForm};
-ghost use Rattle.sv_flat.specs.Readings.{no_bits};
 ghost use Rattle.sv_flat.specs.Soundness.{statement_sound};
 ghost use Rattle.sv_flat.specs.Views.{typed_tree, flat_statement, flat_statements, chain_of};
 ghost use Rattle.sv_flat.specs.Processes.{is_block};

@@ -1,6 +1,4 @@
 use Rattle.std.proofs.Common.{ℕ, false, refl, sym, ap, subst, ◌∙◌}
-use Rattle.std.specs.BTreeSet.{contains}
-use Rattle.std.specs.Ordering.{nat_cmp}
 use Rattle.sv_flat.specs.Assigned.{assigns}
 use Rattle.sv_flat.specs.Design.{nothing}
 use Rattle.sv_obl.specs.MarkedBodies.{marked_statement, TellsTargets}

@@ -1,11 +1,11 @@
-use Rattle.std.proofs.Common.{List, map, All, refl, sym, subst, ◌∙◌, ap}
+use Rattle.std.proofs.Common.{◌≤◌, List, length, map, All, refl, sym, ap, subst, ◌∙◌}
 use Rattle.std.specs.Prelude.{IsTrue, is_some}
 use Rattle.std.specs.List.{AllZip}
 use Rattle.sv_flat.specs.ByNumber.{signal_forms, AreWords}
 use Rattle.sv_flat.specs.Clocks.{processes_of}
 use Rattle.sv_flat.specs.Design.{ProcessForm}
 use Rattle.sv_flat.specs.Soundness.{statement_sound}
-use Rattle.sv_flat.specs.Views.{design_of, process_form}
+use Rattle.sv_flat.specs.Views.{design_of, signal_form, process_form}
 use Rattle.sv_flat.specs.declared.signals.Signal.{Signal}
 use Rattle.sv_flat.proofs.AdmittedFacts.{body_is_sound}
 use Rattle.sv_flat.proofs.LeastSets.{some_from}
@@ -14,6 +14,7 @@ use Rattle.sv_design.proofs.Sound.{few_bits}
 use Rattle.sv_obl.specs.IndexedBodies.{AreIndexed}
 use Rattle.sv_obl.specs.MarkedBodies.{IsMarkedBody}
 use Rattle.sv_obl.specs.Wanted.{with_copies}
+use Rattle.sv_obl.proofs.TargetFacts.{length_mapped}
 use Rattle.sv_obl.proofs.body_slices.Bodies.new.Goals as goal
 
 pub marked_bodies-requires-clause-words : goal.marked_bodies-requires-clause-words
@@ -48,9 +49,17 @@ returns c =
           c.processes-processes.ensures.processes
           (subst (λ (signals : List Signal). AllZip (IsMarkedBody (signal_forms signals))
           (map process_form c.processes-processes.result.now) c.in_ok-marked.marked.items)
-          c.signals-signals.ensures.signals c.in_ok-marked.ensures);
-      twice = λ x at.
-          c.in_ok-twice.ensures (some_from is_some c.in_ok-marked.marked.items _ at refl)
-          ∙ ap (λ (signals : List Signal). with_copies (signal_forms signals))
-          c.signals-signals.ensures.signals;
+          c.signals-signals.ensures.signals c.in_ok-marked.ensures.bodies);
+      copies = λ x at.
+          record {
+            few =
+                subst (λ n. n ≤ 2147483647)
+                (ap (λ (signals : List Signal). length signals) c.signals-signals.ensures.signals
+                ∙ sym (length_mapped signal_form c.args.design.now.signals.items))
+                c.in_ok-marked.ensures.few;
+            twice =
+                c.in_ok-twice.ensures (some_from is_some c.in_ok-marked.marked.items _ at refl)
+                ∙ ap (λ (signals : List Signal). with_copies (signal_forms signals))
+                c.signals-signals.ensures.signals;
+          };
     }

@@ -18,11 +18,7 @@ use sv_obl::{Query, know_design};
 /// memory ran out.
 ///
 /// `false` says only that `decide` has to tell.
-pub fn is_valid_by_labels(
-    design: &Design,
-    coder: &Coder,
-    query: &Query,
-) -> Result<bool, BlastFault>
+pub fn is_valid_by_labels(design: &Design, coder: &Coder, query: &Query) -> Result<bool, BlastFault>
     requires coder { IsCoder (design_of design.now) coder.now }
     requires query { IsQueryOf (design_of design.now) (obligation_of query.now) }
     ensures by_labels { IfOk result (λ valid. let o = obligation_of query.now in

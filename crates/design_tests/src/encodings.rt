@@ -220,7 +220,7 @@ fn are_as_alone(alloc: Global, design: &Design, numbers: &[usize]) -> Result<boo
     let queries = obligations(alloc, design)?;
     let queries = queries.as_slice();
     let bodies = Bodies::new(alloc, design)?;
-    let mut coder = Coder::new(alloc, &bodies);
+    let mut coder = Coder::new(alloc, design, &bodies)?;
     'numbers: for number in numbers {
         let number = *number;
         if number >= queries.len() {

@@ -108,7 +108,7 @@ fn check_queries(
         return Err(AcceptFault::Count);
     }
     let bodies = Bodies::new(alloc, design)?;
-    let mut coder = Coder::new(alloc, &bodies);
+    let mut coder = Coder::new(alloc, design, &bodies)?;
     'queries: for (i, query) in queries.iter().enumerate() {
         match check_query(alloc, design, &mut coder, query, &logs[i]) {
             Ok(()) => {}

@@ -280,7 +280,7 @@ module _ (signals : List SignalForm) (words : Words) (s : ℕ) where
 
 module _ (design : FlatDesign) (is_sound : IsTrue (sound design)) (admitted : IsAdmitted design)
     (p : ProcessForm) (s : ℕ) (at : Contains (processes_of design) p)
-    (own : IsTrue (assigns p.body s)) (all_settled : AllSettled design p) where
+    (own : IsTrue (assigns p.body s)) (all_settled : AllSettled design.signals p) where
   abbrev signals : List SignalForm
   signals = design.signals
 

@@ -6,9 +6,19 @@ pub mod ConeStarts
 pub mod ConeSums
 pub mod ConstantForms
 pub mod ConstantIndexes
+pub mod CopyChoices
 pub mod DecodedBits
 pub mod DecodedLists
 pub mod FlowSteps
+pub mod FollowedArms
+pub mod FollowedBodies
+pub mod FollowedLists
+pub mod FollowedLoops
+pub mod FollowedNames
+pub mod FollowedParts
+pub mod FollowedSizes
+pub mod FollowedSteps
+pub mod FollowedTargets
 pub mod FrameSteps
 pub mod FramedSteps
 pub mod Growing
@@ -33,6 +43,7 @@ pub mod SettledWords
 pub mod SignalLabels
 pub mod SignalTurns
 pub mod SizeSums
+pub mod SizeTables
 pub mod SliceWords
 pub mod Standing
 pub mod StepFacts

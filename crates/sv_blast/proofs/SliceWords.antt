@@ -234,7 +234,7 @@ module _ (design : FlatDesign) (is_sound : IsTrue (sound design)) (admitted : Is
       )
       by false none x y = tt
 
-  pub body_ready : AllSettled design p → AreReady design.signals n words (sliced s p.body)
+  pub body_ready : AllSettled design.signals p → AreReady design.signals n words (sliced s p.body)
   body_ready all_settled =
       slice_ready p.body no_bits no_bits (body_is_sound design is_sound admitted p at)
       (λ r r_at served.
@@ -303,7 +303,7 @@ module _ (design : FlatDesign) (is : IsDesign design) (s : ℕ)
   body_there body same =
       subst (λ ps. SameParts body (sliced s (first_body ps))) driver.alone same
 
-  unmarked_is_settled : IsMarkedFor design s None → AllSettled design driver.process
+  unmarked_is_settled : IsMarkedFor design s None → AllSettled design.signals driver.process
   unmarked_is_settled unmarked = unmarked driver.process driver.at driver.own
 
   -- its word is the one that its slice makes, where its process has no earlier read

@@ -151,7 +151,7 @@ least_alone (suc m) brings s low has only =
 module _ (design : FlatDesign) (is_sound : IsTrue (sound design)) (admitted : IsAdmitted design)
     (s : ℕ) (known : s < length design.signals) where
   module _ (p : ProcessForm) (at : Contains (processes_of design) p)
-      (own : IsTrue (assigns p.body s)) (all_settled : AllSettled design p) where
+      (own : IsTrue (assigns p.body s)) (all_settled : AllSettled design.signals p) where
     -- no value is an earlier one, so the signal alone is followed
     only_itself : (u : ℕ) → IsTrue (holds (followed design p s) u) → u ≡ s
     only_itself u held =

@@ -86,7 +86,7 @@ either_grows : {A : Type 0} (c : Bool) (old : Formula) (first : Formula × A) (w
 either_grows true old first words up = up
 either_grows false old first words up = omega arith
 
-words_after_grow : (signals : List SignalForm) (followed : List ℕ) (body : FlatStatement)
+pub words_after_grow : (signals : List SignalForm) (followed : List ℕ) (body : FlatStatement)
     (words : Words) → Grows (words_after signals followed body words)
 words_after_grow signals followed nothing words old = omega arith
 words_after_grow signals followed (after first second) words old =

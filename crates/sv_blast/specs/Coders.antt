@@ -3,6 +3,7 @@ use Rattle.std.specs.Prelude.{[], Option, Some, None, IfSome}
 use Rattle.sv_flat.specs.Design.{FlatDesign}
 use Rattle.sv_obl.specs.MarkedBodies.{AreBodiesOf}
 use Rattle.sv_encoding.specs.Encoding.{Encoding}
+use Rattle.sv_blast.specs.ConeSizes.{AreSizes}
 use Rattle.sv_blast.specs.Framed.{encoding_made, IsFramed}
 use Rattle.sv_blast.specs.declared.coder.Coder.{Coder}
 use Rattle.sv_blast.specs.declared.framed.Framed.{Framed}
@@ -16,8 +17,9 @@ last_encoding None = record { variables = 0; bits = []; clauses = [] }
 abbrev pub encoding_in : Coder → Encoding
 encoding_in coder = last_encoding coder.made
 
--- a coder of a design, whose bodies are indexed; what was made last begins with the frames of its
--- cones
+-- a coder of a design, with its bodies and the sizes of its signals; what was made last begins with
+-- the frames of its cones
 pub record IsCoder (design : FlatDesign) (coder : Coder) : Type 0 where
   pub bodies : AreBodiesOf design coder.bodies.now
+  pub sizes : AreSizes design coder.sizes.items
   pub made : IfSome coder.made (IsFramed design)

@@ -1,9 +1,14 @@
 -- Private: how the code goes. What the signals of a cone take, each by itself.
-use Rattle.std.specs.Prelude.{ℕ, ◌||◌, if◌then◌else◌, List, map, sum}
+use Rattle.std.specs.Prelude.{◌≡◌, ℕ, ◌||◌, if◌then◌else◌, List, map, min, sum}
 use Rattle.sv_flat.specs.Design.{FlatDesign}
-use Rattle.sv_flat.specs.Processes.{is_top_input, is_register}
+use Rattle.sv_flat.specs.Processes.{is_top_input, is_register, signal_numbers}
 use Rattle.sv_flat.specs.Values.{signal_width}
 use Rattle.sv_encoding.specs.Sizes.{signal_size}
+
+-- the gates of all signals, each up to one over the most variables
+abbrev pub AreSizes : FlatDesign → List ℕ → Type 0
+AreSizes design sizes =
+    sizes ≡ map (λ s. min (signal_size design s) 4194305) (signal_numbers design)
 
 -- in this cycle: a variable for each bit of an input or register, and the gates of any other signal
 abbrev pub now_size : FlatDesign → ℕ → ℕ

@@ -1,12 +1,12 @@
 // The encodings of a design's obligations, one after the other.
-ghost use Rattle.std.specs.Prelude.{◌≡◌, ◌<◌, ◌≤◌, map, OnOk, IsErrOf};
-ghost use Rattle.sv_flat.specs.Design.{FlatDesign};
+ghost use Rattle.std.specs.Prelude.{◌≡◌, ◌<◌, ◌≤◌, map, IfOk, OnOk, IsErrOf};
 ghost use Rattle.sv_flat.specs.Views.{design_of};
 ghost use Rattle.sv_gates.specs.Formulas.{most_variables};
 ghost use Rattle.sv_obl.specs.DesignQueries.{IsQueryOf};
 ghost use Rattle.sv_obl.specs.MarkedBodies.{AreBodiesOf};
 ghost use Rattle.sv_obl.specs.Views.{obligation_of};
 ghost use Rattle.sv_encoding.specs.BothWays.{IsWhole};
+ghost use Rattle.sv_encoding.specs.Deciding.{Fits, IsTooLarge};
 ghost use Rattle.sv_encoding.specs.Encoding.{encoding};
 ghost use Rattle.sv_blast.specs.Coded.{place_form};
 ghost use Rattle.sv_blast.specs.Coders.{IsCoder, encoding_in};
@@ -14,41 +14,56 @@ ghost use Rattle.sv_blast.specs.Coders.{IsCoder, encoding_in};
 use crate::coded::{BitPlace, BlastFault};
 use crate::encoding::encoded;
 use crate::framed::Framed;
-use std::alloc::Global;
+use crate::sizes_of_signals::signal_sizes;
+use crate::without_clauses::check_size;
+use std::alloc::{AllocError, Global};
 use sv_clause::Clause;
 use sv_design::Design;
 use sv_obl::{Bodies, Query};
 
-/// Encodes obligations of a design one after the other, over its bodies, and keeps the last
-/// encoding. Where the next obligation hangs on the same signals in both cycles, only what comes
-/// behind their words is made anew, and of that only what comes behind equal first facts and
-/// conditions.
+/// Encodes obligations of a design one after the other, over its bodies and the sizes of its
+/// signals, and keeps the last encoding. Where the next obligation hangs on the same signals in
+/// both cycles, only what comes behind their words is made anew, and of that only what comes behind
+/// equal first facts and conditions.
 #[derive(Drop)]
 pub struct Coder<'a, 'b> {
     alloc: Global,
     bodies: &'a Bodies<'b>,
+    sizes: Vec<u32>,
     made: Option<Framed>,
 }
 
 impl<'a, 'b> Coder<'a, 'b> {
-    /// One that has encoded nothing yet; of each design whose bodies these are.
-    pub fn new(alloc: Global, bodies: &'a Bodies<'b>) -> Coder<'a, 'b>
-        ensures { (design : FlatDesign) →
-            AreBodiesOf design bodies.now → IsCoder design result }
+    /// One that has encoded nothing yet, of the design whose bodies these are. An error says that
+    /// memory ran out.
+    pub fn new(
+        alloc: Global,
+        design: &Design,
+        bodies: &'a Bodies<'b>,
+    ) -> Result<Coder<'a, 'b>, AllocError>
+        requires bodies { AreBodiesOf (design_of design.now) bodies.now }
+        ensures { IfOk result (IsCoder (design_of design.now)) }
     {
-        Coder {
+        let sizes = signal_sizes(alloc, design, bodies)?;
+        Ok(Coder {
             alloc,
             bodies,
+            sizes,
             made: None,
-        }
+        })
     }
 
-    /// The bodies of the design.
-    pub fn bodies(&self) -> &'a Bodies<'b>
-        ensures { (design : FlatDesign) → IsCoder design self.now →
-            AreBodiesOf design result.now }
+    /// Tells of an obligation's encoding, without a clause of it, that it is small enough to be
+    /// made. `TooLarge` says that it has more than 4,194,304 variables; `OutOfMemory` that memory
+    /// ran out.
+    pub fn check_size(&self, design: &Design, query: &Query) -> Result<(), BlastFault>
+        requires coder { IsCoder (design_of design.now) self.now }
+        requires query { IsQueryOf (design_of design.now) (obligation_of query.now) }
+        ensures fits { OnOk result (Fits (design_of design.now) (obligation_of query.now)) }
+        ensures large { IsErrOf result BlastFault.TooLarge →
+            IsTooLarge (design_of design.now) (obligation_of query.now) }
     {
-        self.bodies
+        check_size(self.alloc, design, &self.sizes, query)
     }
 
     /// Makes the encoding of an obligation of the coder's design, as `encode` does: `TooLarge` says
@@ -67,7 +82,7 @@ impl<'a, 'b> Coder<'a, 'b> {
             < (encoding (design_of design.now) (obligation_of query.now)).variables }
     {
         let before = self.made.take();
-        let made = encoded(self.alloc, design, self.bodies, before, query)?;
+        let made = encoded(self.alloc, design, self.bodies, &self.sizes, before, query)?;
         self.made = Some(made);
         Ok(())
     }

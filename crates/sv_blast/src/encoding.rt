@@ -12,6 +12,7 @@ ghost use Rattle.sv_encoding.specs.BothWays.{IsWhole};
 ghost use Rattle.sv_encoding.specs.Cones.{now_cone, next_cone, conditions_of};
 ghost use Rattle.sv_encoding.specs.Encoding.{given_in, inputs_in, bit_places, encoding};
 ghost use Rattle.sv_blast.specs.Coded.{place_form, encoding_of};
+ghost use Rattle.sv_blast.specs.ConeSizes.{AreSizes};
 ghost use Rattle.sv_blast.specs.Encoders.{design_in, obligation_in, IsEncoder};
 ghost use Rattle.sv_blast.specs.Framed.{encoding_made, frames_size, IsFramed, HasFramesOf};
 ghost use Rattle.sv_blast.specs.Framed.{IsBegun, trees_of};
@@ -28,6 +29,7 @@ use crate::goals::{target_label, violation};
 use crate::labels::signal_labels;
 use crate::places::add_places;
 use crate::sizes::{frames_size, size_with};
+use crate::sizes_of_signals::signal_sizes;
 use crate::tables::WordTable;
 use crate::truths::{add, asked, literals, same_truths};
 use crate::units::add_units;
@@ -40,13 +42,14 @@ use sv_obl::{Bodies, Query, know_design};
 // The most clauses of a gate.
 const CLAUSES_OF_GATE: usize = 4;
 
-// What makes the encoding of an obligation of a design: the design's bodies, and the signals on
-// whose values in this cycle and in the next one the obligation hangs.
+// What makes the encoding of an obligation of a design: the design's bodies, the sizes of its
+// signals, and the signals on whose values in this cycle and in the next one the obligation hangs.
 #[derive(Drop)]
 struct Encoder<'a, 'b, 'c, 'd> {
     alloc: Global,
     design: &'a Design,
     bodies: &'b Bodies<'d>,
+    sizes: &'b [u32],
     query: &'c Query,
     now_cone: Vec<SigId>,
     next_cone: Vec<SigId>,
@@ -58,10 +61,12 @@ impl<'a, 'b, 'c, 'd> Encoder<'a, 'b, 'c, 'd> {
         alloc: Global,
         design: &'a Design,
         bodies: &'b Bodies<'d>,
+        sizes: &'b [u32],
         query: &'c Query,
     ) -> Result<Encoder<'a, 'b, 'c, 'd>, AllocError>
         requires query { IsQueryOf (design_of design.now) (obligation_of query.now) }
         requires bodies { AreBodiesOf (design_of design.now) bodies.now }
+        requires sizes { AreSizes (design_of design.now) sizes.now }
         ensures encoder { IfOk result IsEncoder }
         ensures design { IfOk result (λ encoder. design_in encoder ≡ design_of design.now) }
         ensures query { IfOk result (λ encoder. obligation_in encoder ≡ obligation_of query.now) }
@@ -72,6 +77,7 @@ impl<'a, 'b, 'c, 'd> Encoder<'a, 'b, 'c, 'd> {
             alloc,
             design,
             bodies,
+            sizes,
             query,
             now_cone,
             next_cone,
@@ -268,23 +274,17 @@ impl<'a, 'b, 'c, 'd> Encoder<'a, 'b, 'c, 'd> {
     }
 
     // How many variables the frames have; one over the most where there are more.
-    fn frames_size(&self, kept: &Option<Framed>) -> Result<u32, AllocError>
+    fn frames_size(&self, kept: &Option<Framed>) -> u32
         requires encoder { IsEncoder self.now }
         requires kept { IfSome kept.now (IsBegun self.now) }
-        ensures { IfOk result (λ size. size ≡ min (frames_size (design_in self.now)
+        ensures { result ≡ min (frames_size (design_in self.now)
             (now_cone (design_in self.now) (obligation_in self.now))
-            (next_cone (design_in self.now) (obligation_in self.now))) 4194305) }
+            (next_cone (design_in self.now) (obligation_in self.now))) 4194305 }
     {
         know_design(self.design);
         match kept {
-            Some(made) => Ok(made.size),
-            None => frames_size(
-                self.alloc,
-                self.design,
-                self.bodies,
-                &self.now_cone,
-                &self.next_cone,
-            ),
+            Some(made) => made.size,
+            None => frames_size(self.design, self.sizes, &self.now_cone, &self.next_cone),
         }
     }
 
@@ -395,19 +395,22 @@ impl<'a, 'b, 'c, 'd> Encoder<'a, 'b, 'c, 'd> {
     }
 }
 
-/// The encoding of an obligation of a design, over its bodies. Of what was made before, the frames
-/// are kept where they are the same, and the first facts and conditions as far as they are.
+/// The encoding of an obligation of a design, over its bodies and the sizes of its signals. Of what
+/// was made before, the frames are kept where they are the same, and the first facts and conditions
+/// as far as they are.
 /// `TooLarge` says that it has more than 4,194,304 variables, which is found before any of it is
 /// made; `OutOfMemory` that memory ran out.
 pub fn encoded(
     alloc: Global,
     design: &Design,
     bodies: &Bodies,
+    sizes: &[u32],
     before: Option<Framed>,
     query: &Query,
 ) -> Result<Framed, BlastFault>
     requires query { IsQueryOf (design_of design.now) (obligation_of query.now) }
     requires bodies { AreBodiesOf (design_of design.now) bodies.now }
+    requires sizes { AreSizes (design_of design.now) sizes.now }
     requires before { IfSome before (IsFramed (design_of design.now)) }
     ensures framed { IfOk result (IsFramed (design_of design.now)) }
     ensures coded { IfOk result (λ made. encoding_made made
@@ -419,9 +422,9 @@ pub fn encoded(
         < (encoding (design_of design.now) (obligation_of query.now)).variables }
 {
     know_design(design);
-    let encoder = Encoder::new(alloc, design, bodies, query)?;
+    let encoder = Encoder::new(alloc, design, bodies, sizes, query)?;
     let kept = encoder.kept(before);
-    let size = encoder.frames_size(&kept)?;
+    let size = encoder.frames_size(&kept);
     let variables = size_with(design, query, size);
     if variables > MOST_VARIABLES {
         return Err(BlastFault::TooLarge);
@@ -447,7 +450,8 @@ pub fn encode(alloc: Global, design: &Design, query: &Query) -> Result<Coded, Bl
         < (encoding (design_of design.now) (obligation_of query.now)).variables }
 {
     let bodies = Bodies::new(alloc, design)?;
-    let made = encoded(alloc, design, &bodies, None, query)?;
+    let sizes = signal_sizes(alloc, design, &bodies)?;
+    let made = encoded(alloc, design, &bodies, &sizes, None, query)?;
     let Framed { gates, bits, .. } = made;
     let (variables, clauses) = gates.finish();
     Ok(Coded {

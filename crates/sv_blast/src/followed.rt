@@ -1,40 +1,42 @@
 // The word that a process with an earlier read gives a signal. Of all signals that the signal
 // follows the words are made together, statement by statement: an earlier read has the word that
 // its signal has so far.
-ghost use Rattle.std.specs.Prelude.{◌≡◌, ◌<◌, ◌≤◌, ◌||◌, ◌∷◌, [], ℕ, All, IsTrue, IsFalse};
+ghost use Rattle.std.specs.Prelude.{◌≡◌, ℕ, ◌<◌, ◌≤◌, ◌||◌, ◌∷◌, [], All, IsTrue, IsFalse};
 ghost use Rattle.std.specs.Prelude.{Contains, IfOk, OnOk, IsErrOf, Some, length, map, fold, filter};
-ghost use Rattle.std.specs.Prelude.{min, replicate};
-ghost use Rattle.std.specs.List.{list_all, list_any};
+ghost use Rattle.std.specs.Prelude.{drop, replicate};
+ghost use Rattle.std.specs.BTreeSet.{IsOrdered};
+ghost use Rattle.std.specs.List.{list_any, list_all};
+ghost use Rattle.std.specs.Ordering.{nat_cmp};
 ghost use Rattle.sv_flat.specs.Assigned.{assigns};
-ghost use Rattle.sv_flat.specs.ByNumber.{is_branch};
+ghost use Rattle.sv_flat.specs.ByNumber.{signal_forms, is_branch};
 ghost use Rattle.sv_flat.specs.Design.{PieceForm};
 ghost use Rattle.sv_flat.specs.Processes.{is_register};
-ghost use Rattle.sv_flat.specs.Reads.{is_combinational, is_read_for};
+ghost use Rattle.sv_flat.specs.Reads.{is_combinational, reads_for};
 ghost use Rattle.sv_flat.specs.Soundness.{piece_fits};
 ghost use Rattle.sv_flat.specs.Values.{signal_width};
 ghost use Rattle.sv_flat.specs.Views.{design_of, piece_form, typed_tree};
 ghost use Rattle.sv_design.specs.Marks.{is_marked};
 ghost use Rattle.sv_design.specs.Numbers.{numbers};
-ghost use Rattle.sv_obl.specs.Marked.{marked_statement, TellsTargets};
-ghost use Rattle.sv_obl.specs.MarkedBodies.{AreBodiesOf, IsMarkedFor};
+ghost use Rattle.sv_obl.specs.MarkedBodies.{marked_statement, TellsTargets, IsMarkedFor};
+ghost use Rattle.sv_obl.specs.MarkedBodies.{HasCopies};
 ghost use Rattle.sv_obl.specs.Wanted.{with_copies, copy_of};
 ghost use Rattle.sv_gates.specs.Extending.{Begins};
 ghost use Rattle.sv_gates.specs.Formulas.{IsLiteral, most_variables};
 ghost use Rattle.sv_gates.specs.Gates.{false_literal};
-ghost use Rattle.sv_encoding.specs.Bodies.{assigned_words};
-ghost use Rattle.sv_encoding.specs.Bodies.{settled_word, with_piece_word, words_after};
+ghost use Rattle.sv_circuits.specs.Words.{replaced_word};
+ghost use Rattle.sv_encoding.specs.Bodies.{assigned_words, settled_word, with_piece_word};
+ghost use Rattle.sv_encoding.specs.Bodies.{words_after};
 ghost use Rattle.sv_encoding.specs.BothWays.{IsWordOf};
-ghost use Rattle.sv_encoding.specs.Sizes.{signal_size, statement_size, widths_of};
-ghost use Rattle.sv_blast.specs.FollowedWords.{forms_in, follows_in, IsFollowed, CopiesStand};
-ghost use Rattle.sv_blast.specs.FollowedWords.{AreReadyFor, words_at, with_words, words_back};
-ghost use Rattle.sv_blast.specs.FollowedWords.{AllWordsStandAt};
-ghost use Rattle.sv_blast.specs.TargetWords.{IsReady};
+ghost use Rattle.sv_encoding.specs.Expressions.{is_true_bit};
+ghost use Rattle.sv_blast.specs.FollowedWords.{forms_in, follows_in, IsFollowed, IsAtHand};
+ghost use Rattle.sv_blast.specs.FollowedWords.{AllStand, IsFit, AreFit, ArmStands, ArmsStand};
+ghost use Rattle.sv_blast.specs.FollowedWords.{pairs, words_at, choices, choices_back};
 ghost use Rattle.sv_blast.specs.WordTables.{words_of, StandForReads};
 
 use crate::arms::copied;
 use crate::expressions::{expression, is_true};
-use crate::sizes_of_expressions::{expression_size, truth_size, width_of};
-use crate::sizes_of_operators::sum;
+use crate::followed_arms::{CopyWord, WordsArm, push_arm, put_words, words_at};
+use crate::marks::has_mark;
 use crate::tables::WordTable;
 use std::alloc::{AllocError, Global};
 use std::collections::BTreeSet;
@@ -42,65 +44,113 @@ use sv_circuits::{chosen, falsity, filled, replaced};
 use sv_design::Design;
 use sv_flat::{FExpr, Piece, SigId, Signal};
 use sv_gates::{GateFault, Gates, Literal};
-use sv_obl::{Bodies, Marked};
+use sv_obl::{Bodies, Marked, know_design};
 
-/// A branch of which the first arm is made: whether it is taken, the followed signals that the
-/// branch assigns, and their words after that arm.
-#[derive(Drop)]
-pub struct WordsArm {
-    pub condition: Literal,
-    pub assigned: Vec<SigId>,
-    pub words: Vec<Vec<Literal>>,
-}
-
-/// What words are made for: the signals that a target follows. Those of a design stand there alone,
-/// and then with their copies behind them; a wanted name is that of a copy.
+/// What words are made for: the signals, alone and with their copies behind them, since a wanted
+/// name is that of a copy; those that are read for the target, and those that it follows.
 #[derive(Clone, Copy)]
 pub struct Followed<'a> {
     pub alloc: Global,
     pub signals: &'a [Signal],
     pub twice: &'a [Signal],
+    pub reads: &'a [SigId],
     pub follows: &'a [bool],
 }
 
-impl Followed<'_> {
-    fn has(&self, signal: SigId) -> bool
-        ensures { result ≡ is_marked self.now.follows.now signal.0 }
+impl<'a> Followed<'a> {
+    /// For a target that follows these signals.
+    pub fn new(
+        alloc: Global,
+        design: &'a Design,
+        bodies: &'a Bodies,
+        follows: &'a [bool],
+        target: SigId,
+    ) -> Followed<'a>
+        requires known { target.0 < length design.now.signals.items }
+        requires copies { HasCopies (design_of design.now) bodies.now }
+        requires size { length follows.now ≡ length design.now.signals.items }
+        ensures held { IsFollowed result }
+        ensures signals { result.signals.now ≡ design.now.signals.items }
+        ensures reads { numbers result.reads.now ≡ reads_for (design_of design.now) target.0 }
+        ensures follows { result.follows.now ≡ follows.now }
     {
-        match self.follows.get(signal.0 as usize) {
-            Some(follows) => *follows,
-            None => false,
+        Followed {
+            alloc,
+            signals: design.signals(),
+            twice: &bodies.twice,
+            reads: design.reads_for(target),
+            follows,
         }
     }
 
+    // ---- signals and their copies
+
+    // The copy of a followed signal.
     fn copy_of(&self, signal: SigId) -> SigId
-        requires few { length self.now.signals.now ≤ 2147483647 }
-        requires known { signal.0 < length self.now.signals.now }
+        requires held { IsFollowed self.now }
+        requires follows { IsTrue (is_marked self.now.follows.now signal.0) }
         ensures { result.0 ≡ copy_of (forms_in self.now) signal.0 }
     {
         SigId(self.signals.len() as u32 + signal.0)
     }
 
-    // The followed ones among some signals, in order.
-    fn among(&self, targets: &BTreeSet<u32>) -> Result<Vec<SigId>, AllocError>
-        ensures { IfOk result (λ list.
-            numbers list.items ≡ filter (is_marked self.now.follows.now) targets.now.keys) }
+    /// Whether one of some signals is followed.
+    pub fn follows_some(&self, targets: &BTreeSet<u32>) -> bool
+        ensures { result ≡ list_any (is_marked self.now.follows.now) targets.now.keys }
     {
-        let mut list = Vec::new(self.alloc);
-        for target in targets {
-            if self.has(SigId(*target)) {
-                list.push(SigId(*target))?;
-            }
-        }
-        Ok(list)
+        targets
+            .iter()
+            .any(|target| has_mark(self.follows, SigId(*target)))
     }
 
-    // Whether one of some pieces is of a followed signal.
-    fn has_piece(&self, pieces: &[Piece]) -> bool
+    /// Whether one of some pieces is of a followed signal.
+    pub fn has_piece(&self, pieces: &[Piece]) -> bool
         ensures { result ≡ list_any (λ (piece : PieceForm).
             is_marked self.now.follows.now piece.signal) (map piece_form pieces.now) }
     {
-        pieces.iter().any(|piece| self.has(piece.signal))
+        pieces
+            .iter()
+            .any(|piece| has_mark(self.follows, piece.signal))
+    }
+
+    // The copies of the followed ones among some signals, in order.
+    fn copies_of(&self, targets: &BTreeSet<u32>) -> Result<Vec<SigId>, AllocError>
+        requires held { IsFollowed self.now }
+        ensures copies { IfOk result (λ copies. numbers copies.items
+            ≡ map (copy_of (forms_in self.now))
+            (filter (is_marked self.now.follows.now) targets.now.keys)) }
+        ensures ordered { OnOk result (IsOrdered nat_cmp targets.now) }
+    {
+        let mut copies = Vec::new(self.alloc);
+        for target in targets {
+            if has_mark(self.follows, SigId(*target)) {
+                copies.push(self.copy_of(SigId(*target)))?;
+            }
+        }
+        Ok(copies)
+    }
+
+    // ---- assignments
+
+    // The word that a followed signal has after a piece of a right side.
+    fn replaced_word(
+        &self,
+        words: &WordTable,
+        piece: &Piece,
+        right: &[Literal],
+    ) -> Result<Vec<Literal>, AllocError>
+        requires held { IsFollowed self.now }
+        requires follows { IsTrue (is_marked self.now.follows.now piece.now.signal.0) }
+        requires piece { piece.now.low ≤ piece.now.high }
+        ensures { IfOk result (λ word. word.items
+            ≡ replaced_word piece.now.high piece.now.low
+            (words_of words.now (copy_of (forms_in self.now) piece.now.signal.0))
+            (drop piece.now.from right.now)) }
+    {
+        let from = usize::from(piece.from).min(right.len());
+        let (high, low) = (usize::from(piece.high), usize::from(piece.low));
+        let word = words.word(self.copy_of(piece.signal));
+        replaced(self.alloc, high, low, word, &right[from..])
     }
 
     // Puts a piece of a right side into the word of its signal, where that is followed.
@@ -111,18 +161,16 @@ impl Followed<'_> {
         right: &[Literal],
     ) -> Result<(), AllocError>
         requires held { IsFollowed self.now }
-        requires { piece.now.low ≤ piece.now.high }
-        ensures { OnOk result (words_of words.new ≡ with_piece_word (forms_in self.now)
-            (follows_in self.now) right.now (words_of words.old) (piece_form piece.now)) }
+        requires piece { piece.now.low ≤ piece.now.high }
+        ensures { OnOk result (with_piece_word (forms_in self.now) (follows_in self.now)
+            right.now (words_of words.old) (piece_form piece.now) ≡ words_of words.new) }
     {
-        if !self.has(piece.signal) {
+        if !has_mark(self.follows, piece.signal) {
             return Ok(());
         }
-        let copy = self.copy_of(piece.signal);
-        let from = usize::from(piece.from).min(right.len());
-        let (high, low) = (usize::from(piece.high), usize::from(piece.low));
-        let word = replaced(self.alloc, high, low, words.word(copy), &right[from..])?;
-        words.put(self.alloc, copy, word)
+        let word = self.replaced_word(words, piece, right)?;
+        words.put(self.alloc, self.copy_of(piece.signal), word)?;
+        Ok(())
     }
 
     // Puts all pieces of a right side, in textual order.
@@ -134,8 +182,8 @@ impl Followed<'_> {
     ) -> Result<(), AllocError>
         requires held { IsFollowed self.now }
         requires pieces { All (λ piece. piece.low ≤ piece.high) pieces.now }
-        ensures { OnOk result (words_of words.new ≡ fold (with_piece_word (forms_in self.now)
-            (follows_in self.now) right.now) (words_of words.old) (map piece_form pieces.now)) }
+        ensures { OnOk result (fold (with_piece_word (forms_in self.now) (follows_in self.now)
+            right.now) (words_of words.old) (map piece_form pieces.now) ≡ words_of words.new) }
     {
         for piece in pieces {
             self.put_piece(words, piece, right)?;
@@ -152,17 +200,15 @@ impl Followed<'_> {
         right: &FExpr,
     ) -> Result<(), GateFault>
         requires held { IsFollowed self.now }
-        requires ready { IsReady (with_copies (forms_in self.now)) gates.old.variables
-            (words_of words.old) (typed_tree right.now) }
-        requires inside { IsTrue (list_all
-            (piece_fits (with_copies (forms_in self.now)) (typed_tree right.now))
+        requires right { IsFit (forms_in self.now) (IsAtHand self.now) (typed_tree right.now) }
+        requires inside { IsTrue (list_all (piece_fits (forms_in self.now) (typed_tree right.now))
             (map piece_form pieces.now)) }
-        requires copies { CopiesStand (forms_in self.now) (follows_in self.now)
-            gates.old.variables (words_of words.old) }
+        requires stand { AllStand (forms_in self.now) (IsAtHand self.now) gates.old.variables
+            (words_of words.old) }
         ensures made { OnOk result (assigned_words (forms_in self.now) (follows_in self.now)
             (map piece_form pieces.now) (typed_tree right.now) (words_of words.old) gates.old
             ≡ (gates.new, words_of words.new)) }
-        ensures copies { OnOk result (CopiesStand (forms_in self.now) (follows_in self.now)
+        ensures stand { OnOk result (AllStand (forms_in self.now) (IsAtHand self.now)
             gates.new.variables (words_of words.new)) }
         ensures begins { Begins gates.old gates.new }
         ensures full { IsErrOf result GateFault.Full → most_variables
@@ -170,72 +216,39 @@ impl Followed<'_> {
             (map piece_form pieces.now) (typed_tree right.now) (words_of words.old)
             gates.old).0).variables }
     {
+        let _some = gates.variables();
         let value = expression(self.alloc, gates, self.twice, words, right)?;
         self.put_pieces(words, pieces, &value)?;
         Ok(())
     }
 
-    // The words that some followed signals have.
-    fn words_at(
-        &self,
-        words: &WordTable,
-        signals: &[SigId],
-    ) -> Result<Vec<Vec<Literal>>, AllocError>
-        requires held { IsFollowed self.now }
-        requires known { All (λ s. s < length self.now.signals.now) (numbers signals.now) }
-        ensures { IfOk result (λ found. map (λ w. w.items) found.items
-            ≡ words_at (forms_in self.now) (words_of words.now) (numbers signals.now)) }
-    {
-        let mut found = Vec::with_capacity(self.alloc, signals.len())?;
-        for signal in signals {
-            found.push(copied(self.alloc, words.word(self.copy_of(*signal)))?)?;
-        }
-        Ok(found)
-    }
+    // ---- choices
 
-    // Gives some followed signals other words.
-    fn put_words(
-        &self,
-        words: &mut WordTable,
-        signals: &[SigId],
-        others: Vec<Vec<Literal>>,
-    ) -> Result<(), AllocError>
-        requires held { IsFollowed self.now }
-        requires known { All (λ s. s < length self.now.signals.now) (numbers signals.now) }
-        ensures { OnOk result (words_of words.new ≡ with_words (forms_in self.now)
-            (numbers signals.now) (map (λ w. w.items) others.items) (words_of words.old)) }
-    {
-        for (signal, word) in signals.iter().zip(others.into_iter()) {
-            words.put(self.alloc, self.copy_of(*signal), word)?;
-        }
-        Ok(())
-    }
-
-    // From the words after the second arm of a branch: of each signal that the branch assigns that
-    // after the first arm where its condition holds, else what is there.
+    // From the words after the second arm of a branch: of what it assigns the words after the first
+    // arm where its condition holds, else those that are there.
     fn choose(
         &self,
         gates: &mut Gates,
         words: &mut WordTable,
         arm: &WordsArm,
     ) -> Result<(), GateFault>
-        requires held { IsFollowed self.now }
-        requires arm { AllWordsStandAt (forms_in self.now) gates.old.variables (arm.now ∷ []) }
-        requires copies { CopiesStand (forms_in self.now) (follows_in self.now)
-            gates.old.variables (words_of words.old) }
-        ensures made { OnOk result (words_back (forms_in self.now) (arm.now ∷ [])
-            (gates.old, words_of words.old) ≡ (gates.new, words_of words.new)) }
-        ensures copies { OnOk result (CopiesStand (forms_in self.now) (follows_in self.now)
+        requires arm { ArmStands (forms_in self.now) (IsAtHand self.now) gates.old.variables
+            arm.now }
+        requires stand { AllStand (forms_in self.now) (IsAtHand self.now) gates.old.variables
+            (words_of words.old) }
+        ensures made { OnOk result (choices arm.now.condition (pairs arm.now.words.items)
+            (words_of words.old) gates.old ≡ (gates.new, words_of words.new)) }
+        ensures stand { OnOk result (AllStand (forms_in self.now) (IsAtHand self.now)
             gates.new.variables (words_of words.new)) }
         ensures begins { Begins gates.old gates.new }
         ensures full { IsErrOf result GateFault.Full → most_variables
-            < ((words_back (forms_in self.now) (arm.now ∷ [])
-            (gates.old, words_of words.old)).0).variables }
+            < ((choices arm.now.condition (pairs arm.now.words.items) (words_of words.old)
+            gates.old).0).variables }
     {
-        for (signal, first) in arm.assigned.iter().zip(arm.words.iter()) {
-            let copy = self.copy_of(*signal);
-            let word = chosen(self.alloc, gates, arm.condition, first, words.word(copy))?;
-            words.put(self.alloc, copy, word)?;
+        for first in &arm.words {
+            let second = words.word(first.copy);
+            let word = chosen(self.alloc, gates, arm.condition, &first.word, second)?;
+            words.put(self.alloc, first.copy, word)?;
         }
         Ok(())
     }
@@ -247,18 +260,17 @@ impl Followed<'_> {
         words: &mut WordTable,
         arms: Vec<WordsArm>,
     ) -> Result<(), GateFault>
-        requires held { IsFollowed self.now }
-        requires arms { AllWordsStandAt (forms_in self.now) gates.old.variables arms.items }
-        requires copies { CopiesStand (forms_in self.now) (follows_in self.now)
-            gates.old.variables (words_of words.old) }
-        ensures made { OnOk result (words_back (forms_in self.now) arms.items
-            (gates.old, words_of words.old) ≡ (gates.new, words_of words.new)) }
-        ensures copies { OnOk result (CopiesStand (forms_in self.now) (follows_in self.now)
+        requires arms { ArmsStand (forms_in self.now) (IsAtHand self.now) gates.old.variables
+            arms.items }
+        requires stand { AllStand (forms_in self.now) (IsAtHand self.now) gates.old.variables
+            (words_of words.old) }
+        ensures made { OnOk result (choices_back arms.items (gates.old, words_of words.old)
+            ≡ (gates.new, words_of words.new)) }
+        ensures stand { OnOk result (AllStand (forms_in self.now) (IsAtHand self.now)
             gates.new.variables (words_of words.new)) }
         ensures begins { Begins gates.old gates.new }
         ensures full { IsErrOf result GateFault.Full → most_variables
-            < ((words_back (forms_in self.now) arms.items
-            (gates.old, words_of words.old)).0).variables }
+            < ((choices_back arms.items (gates.old, words_of words.old)).0).variables }
     {
         let mut arms = arms;
         'arms: while let Some(arm) = arms.pop() {
@@ -267,59 +279,53 @@ impl Followed<'_> {
         Ok(())
     }
 
-    // The first arm of a branch that assigns these followed signals. Behind it they have the words
-    // again that they have before the branch, from where the second arm begins.
+    // ---- statements
+
+    // The words of some copies after the first arm of a branch that assigns no others. Then they
+    // have the words again from which the second arm begins.
     #[cycle(followed_statements)]
     fn first_arm(
         &self,
-        condition: Literal,
-        assigned: Vec<SigId>,
         yes: &Marked,
         gates: &mut Gates,
         words: &mut WordTable,
-    ) -> Result<WordsArm, GateFault>
+        copies: &[SigId],
+    ) -> Result<Vec<CopyWord>, GateFault>
         requires held { IsFollowed self.now }
-        requires known { All (λ s. s < length self.now.signals.now) (numbers assigned.items) }
-        requires all { (s : ℕ) → Contains (follows_in self.now) s
-            → IsTrue (assigns (marked_statement yes.now) s)
-            → Contains (numbers assigned.items) s }
-        requires condition { IsLiteral gates.old.variables condition }
         requires tells { TellsTargets yes.now }
-        requires ready { AreReadyFor (forms_in self.now) (follows_in self.now)
-            gates.old.variables (words_of words.old) (marked_statement yes.now) }
-        requires copies { CopiesStand (forms_in self.now) (follows_in self.now)
-            gates.old.variables (words_of words.old) }
-        ensures made { IfOk result (λ arm.
-            let after = words_after (forms_in self.now) (follows_in self.now)
-            (marked_statement yes.now) (words_of words.old) gates.old in
-            (gates.new ≡ after.0) × (arm.condition ≡ condition)
-            × (numbers arm.assigned.items ≡ numbers assigned.items)
-            × (map (λ w. w.items) arm.words.items
-            ≡ words_at (forms_in self.now) after.1 (numbers assigned.items))) }
+        requires fit { AreFit (forms_in self.now) (follows_in self.now) (IsAtHand self.now)
+            (marked_statement yes.now) }
+        requires stand { AllStand (forms_in self.now) (IsAtHand self.now) gates.old.variables
+            (words_of words.old) }
+        requires copies { (s : ℕ) → Contains (follows_in self.now) s
+            → IsTrue (assigns (marked_statement yes.now) s)
+            → Contains (numbers copies.now) (copy_of (forms_in self.now) s) }
+        ensures gates { OnOk result (gates.new ≡ (words_after (forms_in self.now)
+            (follows_in self.now) (marked_statement yes.now) (words_of words.old) gates.old).0) }
+        ensures words { IfOk result (λ found. pairs found.items
+            ≡ words_at (words_after (forms_in self.now) (follows_in self.now)
+            (marked_statement yes.now) (words_of words.old) gates.old).1 (numbers copies.now)) }
+        ensures stand { OnOk result (AllStand (forms_in self.now) (IsAtHand self.now)
+            gates.new.variables (words_after (forms_in self.now) (follows_in self.now)
+            (marked_statement yes.now) (words_of words.old) gates.old).1) }
         ensures back { OnOk result (words_of words.new ≡ words_of words.old) }
-        ensures stand { IfOk result (λ arm.
-            AllWordsStandAt (forms_in self.now) gates.new.variables (arm ∷ [])) }
         ensures begins { Begins gates.old gates.new }
         ensures full { IsErrOf result GateFault.Full → most_variables
-            < ((words_after (forms_in self.now) (follows_in self.now)
-            (marked_statement yes.now) (words_of words.old) gates.old).0).variables }
+            < ((words_after (forms_in self.now) (follows_in self.now) (marked_statement yes.now)
+            (words_of words.old) gates.old).0).variables }
     {
-        let before = self.words_at(words, &assigned)?;
+        let before = words_at(self.alloc, words, copies)?;
         self.after(yes, gates, words)?;
-        let after = self.words_at(words, &assigned)?;
-        self.put_words(words, &assigned, before)?;
-        Ok(WordsArm {
-            condition,
-            assigned,
-            words: after,
-        })
+        let after = words_at(self.alloc, words, copies)?;
+        put_words(self.alloc, words, before)?;
+        Ok(after)
     }
 
-    /// The words after a statement. What assigns no followed signal is passed over. The first arms
-    /// of a chain of branches are made on the way down and the choices on the way back, so no call
-    /// goes down here: a `case` may have many arms.
+    // The words after a statement. What assigns no followed signal is passed over. The first arms
+    // of a chain of branches are made on the way down and the choices on the way back, so no call
+    // goes down here: a `case` may have many arms.
     #[cycle(followed_statements)]
-    pub fn after(
+    fn after(
         &self,
         stmt: &Marked,
         gates: &mut Gates,
@@ -327,19 +333,19 @@ impl Followed<'_> {
     ) -> Result<(), GateFault>
         requires held { IsFollowed self.now }
         requires tells { TellsTargets stmt.now }
-        requires ready { AreReadyFor (forms_in self.now) (follows_in self.now)
-            gates.old.variables (words_of words.old) (marked_statement stmt.now) }
-        requires copies { CopiesStand (forms_in self.now) (follows_in self.now)
-            gates.old.variables (words_of words.old) }
+        requires fit { AreFit (forms_in self.now) (follows_in self.now) (IsAtHand self.now)
+            (marked_statement stmt.now) }
+        requires stand { AllStand (forms_in self.now) (IsAtHand self.now) gates.old.variables
+            (words_of words.old) }
         ensures made { OnOk result (words_after (forms_in self.now) (follows_in self.now)
             (marked_statement stmt.now) (words_of words.old) gates.old
             ≡ (gates.new, words_of words.new)) }
-        ensures copies { OnOk result (CopiesStand (forms_in self.now) (follows_in self.now)
+        ensures stand { OnOk result (AllStand (forms_in self.now) (IsAtHand self.now)
             gates.new.variables (words_of words.new)) }
         ensures begins { Begins gates.old gates.new }
         ensures full { IsErrOf result GateFault.Full → most_variables
-            < ((words_after (forms_in self.now) (follows_in self.now)
-            (marked_statement stmt.now) (words_of words.old) gates.old).0).variables }
+            < ((words_after (forms_in self.now) (follows_in self.now) (marked_statement stmt.now)
+            (words_of words.old) gates.old).0).variables }
     {
         let mut arms = Vec::new(self.alloc);
         let mut rest = stmt;
@@ -351,12 +357,17 @@ impl Followed<'_> {
             ..
         } = rest
         {
-            let assigned = self.among(targets)?;
-            if assigned.is_empty() {
+            if !self.follows_some(targets) {
                 return self.choose_back(gates, words, arms);
             }
+            let copies = self.copies_of(targets)?;
             let condition = is_true(self.alloc, gates, self.twice, words, cond)?;
-            arms.push(self.first_arm(condition, assigned, yes, gates, words)?)?;
+            let first = self.first_arm(yes, gates, words, &copies)?;
+            let arm = WordsArm {
+                condition,
+                words: first,
+            };
+            push_arm(&mut arms, arm)?;
             rest = no;
         }
         self.after_plain(rest, gates, words)?;
@@ -374,35 +385,34 @@ impl Followed<'_> {
         requires plain { IsFalse (is_branch (marked_statement stmt.now)) }
         requires held { IsFollowed self.now }
         requires tells { TellsTargets stmt.now }
-        requires ready { AreReadyFor (forms_in self.now) (follows_in self.now)
-            gates.old.variables (words_of words.old) (marked_statement stmt.now) }
-        requires copies { CopiesStand (forms_in self.now) (follows_in self.now)
-            gates.old.variables (words_of words.old) }
+        requires fit { AreFit (forms_in self.now) (follows_in self.now) (IsAtHand self.now)
+            (marked_statement stmt.now) }
+        requires stand { AllStand (forms_in self.now) (IsAtHand self.now) gates.old.variables
+            (words_of words.old) }
         ensures made { OnOk result (words_after (forms_in self.now) (follows_in self.now)
             (marked_statement stmt.now) (words_of words.old) gates.old
             ≡ (gates.new, words_of words.new)) }
-        ensures copies { OnOk result (CopiesStand (forms_in self.now) (follows_in self.now)
+        ensures stand { OnOk result (AllStand (forms_in self.now) (IsAtHand self.now)
             gates.new.variables (words_of words.new)) }
         ensures begins { Begins gates.old gates.new }
         ensures full { IsErrOf result GateFault.Full → most_variables
-            < ((words_after (forms_in self.now) (follows_in self.now)
-            (marked_statement stmt.now) (words_of words.old) gates.old).0).variables }
+            < ((words_after (forms_in self.now) (follows_in self.now) (marked_statement stmt.now)
+            (words_of words.old) gates.old).0).variables }
     {
         match stmt {
             Marked::Nothing => Ok(()),
             Marked::Assign { pieces, right, .. } => {
-                if self.has_piece(*pieces) {
-                    self.after_assignment(gates, words, *pieces, right)
-                } else {
-                    Ok(())
+                if !self.has_piece(*pieces) {
+                    return Ok(());
                 }
+                self.after_assignment(gates, words, *pieces, right)
             }
             Marked::Chain {
                 targets,
                 first,
                 second,
             } => {
-                if self.among(targets)?.is_empty() {
+                if !self.follows_some(targets) {
                     return Ok(());
                 }
                 self.after(first, gates, words)?;
@@ -412,118 +422,43 @@ impl Followed<'_> {
         }
     }
 
-    // How many gates the choices after a branch take that assigns these signals.
-    fn widths(&self, targets: &BTreeSet<u32>) -> u32
-        requires { IsFollowed self.now }
-        ensures { result ≡ min (widths_of (forms_in self.now)
-            (filter (is_marked self.now.follows.now) targets.now.keys)) 4194305 }
+    // ---- where the process begins
+
+    // A table with the words of what is read for the target.
+    fn read_words(&self, words: &WordTable) -> Result<WordTable, AllocError>
+        ensures { IfOk result (λ own. (t : ℕ) → Contains (numbers self.now.reads.now) t
+            → words_of own t ≡ words_of words.now t) }
     {
-        let mut total = 0;
-        for target in targets {
-            if self.has(SigId(*target)) {
-                let width = width_of(self.signals, SigId(*target));
-                total = sum(total, u32::from(width));
-            }
+        let mut own = WordTable::new(self.alloc);
+        for signal in self.reads {
+            own.put(
+                self.alloc,
+                *signal,
+                copied(self.alloc, words.word(*signal))?,
+            )?;
         }
-        total
+        Ok(own)
     }
 
-    /// How many gates the words after a statement take, up to one over the most variables. No call
-    /// goes down a chain of branches.
-    #[cycle(followed_sizes)]
-    pub fn size(&self, stmt: &Marked) -> u32
+    // Gives the copy of each followed signal false bits, as an `always @*` begins.
+    fn clear_copies(&self, gates: &Gates, words: &mut WordTable) -> Result<(), AllocError>
         requires held { IsFollowed self.now }
-        requires tells { TellsTargets stmt.now }
-        ensures { result ≡ min (statement_size (forms_in self.now) (follows_in self.now)
-            (marked_statement stmt.now)) 4194305 }
+        ensures copies { OnOk result ((s : ℕ) → Contains (follows_in self.now) s
+            → words_of words.new (copy_of (forms_in self.now) s)
+            ≡ replicate (signal_width (forms_in self.now) s) false_literal) }
+        ensures others { OnOk result ((t : ℕ) → t < length self.now.signals.now
+            → words_of words.new t ≡ words_of words.old t) }
     {
-        let mut total = 0;
-        let mut rest = stmt;
-        'parts: loop {
-            match rest {
-                Marked::Nothing => return total,
-                Marked::Assign { pieces, right, .. } => {
-                    if self.has_piece(*pieces) {
-                        total = sum(total, expression_size(self.twice, right));
-                    }
-                    return total;
-                }
-                Marked::Chain {
-                    targets,
-                    first,
-                    second,
-                } => {
-                    if self.widths(targets) == 0 {
-                        return total;
-                    }
-                    total = sum(total, self.size(first));
-                    rest = second;
-                }
-                Marked::Branch {
-                    targets,
-                    cond,
-                    yes,
-                    no,
-                    ..
-                } => {
-                    let widths = self.widths(targets);
-                    if widths == 0 {
-                        return total;
-                    }
-                    let arm = sum(truth_size(self.twice, cond), self.size(yes));
-                    total = sum(total, sum(arm, widths));
-                    rest = no;
-                }
+        for number in 0..self.signals.len() {
+            let signal = SigId(number as u32);
+            if has_mark(self.follows, signal) {
+                let width = usize::from(self.signals[number].width);
+                let word = filled(self.alloc, falsity(gates), width, &[])?;
+                words.put(self.alloc, self.copy_of(signal), word)?;
             }
         }
+        Ok(())
     }
-}
-
-// Gives each signal that is read for a target its word of another table.
-fn copy_reads(
-    alloc: Global,
-    design: &Design,
-    words: &WordTable,
-    target: SigId,
-    own: &mut WordTable,
-) -> Result<(), AllocError>
-    requires known { target.0 < length design.now.signals.items }
-    ensures same { OnOk result ((s : ℕ) → IsTrue (is_read_for (design_of design.now) target.0 s)
-        → words_of own.new s ≡ words_of words.now s) }
-    ensures others { OnOk result ((s : ℕ)
-        → IsFalse (is_read_for (design_of design.now) target.0 s)
-        → words_of own.new s ≡ words_of own.old s) }
-{
-    for signal in design.reads_for(target) {
-        own.put(alloc, *signal, copied(alloc, words.word(*signal))?)?;
-    }
-    Ok(())
-}
-
-// Gives the copy of each followed signal false bits, as an `always @*` begins.
-fn clear_copies(
-    alloc: Global,
-    gates: &Gates,
-    followed: &Followed,
-    own: &mut WordTable,
-) -> Result<(), AllocError>
-    requires held { IsFollowed followed.now }
-    ensures stand { OnOk result (CopiesStand (forms_in followed.now) (follows_in followed.now)
-        gates.now.variables (words_of own.new)) }
-    ensures cleared { OnOk result ((s : ℕ) → Contains (follows_in followed.now) s
-        → words_of own.new (copy_of (forms_in followed.now) s)
-        ≡ replicate (signal_width (forms_in followed.now) s) false_literal) }
-    ensures others { OnOk result ((s : ℕ) → s < length followed.now.signals.now
-        → words_of own.new s ≡ words_of own.old s) }
-{
-    for (number, signal) in followed.signals.iter().enumerate() {
-        let signal_id = SigId(number as u32);
-        if followed.has(signal_id) {
-            let word = filled(alloc, falsity(gates), usize::from(signal.width), &[])?;
-            own.put(alloc, followed.copy_of(signal_id), word)?;
-        }
-    }
-    Ok(())
 }
 
 /// The word of a combinational signal from the words of what is read for it, where its process has
@@ -540,8 +475,8 @@ pub fn followed_word(
 ) -> Result<Vec<Literal>, GateFault>
     requires driven { IsTrue (is_register (design_of design.now) target.0
         || is_combinational (design_of design.now) target.0) }
-    requires bodies { AreBodiesOf (design_of design.now) bodies.now }
     requires body { IsMarkedFor (design_of design.now) target.0 (Some body) }
+    requires copies { HasCopies (design_of design.now) bodies.now }
     requires words { StandForReads (design_of design.now) gates.old.variables (words_of words.now)
         target.0 }
     ensures made { IfOk result (λ word. settled_word (design_of design.now) (words_of words.now)
@@ -553,41 +488,12 @@ pub fn followed_word(
         < ((settled_word (design_of design.now) (words_of words.now) target.0
         gates.old).0).variables }
 {
+    let _some = gates.variables();
+    know_design(design);
     let follows = design.follows(alloc, target)?;
-    let followed = Followed {
-        alloc,
-        signals: design.signals(),
-        twice: &bodies.twice,
-        follows: &follows,
-    };
-    let mut own = WordTable::new(alloc);
-    copy_reads(alloc, design, words, target, &mut own)?;
-    clear_copies(alloc, gates, &followed, &mut own)?;
+    let followed = Followed::new(alloc, design, bodies, &follows, target);
+    let mut own = followed.read_words(words)?;
+    followed.clear_copies(gates, &mut own)?;
     followed.after(body, gates, &mut own)?;
     Ok(copied(alloc, own.word(followed.copy_of(target)))?)
-}
-
-/// How many gates that word takes, up to one over the most variables. An error says that memory
-/// ran out.
-pub fn followed_size(
-    alloc: Global,
-    design: &Design,
-    bodies: &Bodies,
-    body: &Marked,
-    target: SigId,
-) -> Result<u32, AllocError>
-    requires known { target.0 < length design.now.signals.items }
-    requires bodies { AreBodiesOf (design_of design.now) bodies.now }
-    requires body { IsMarkedFor (design_of design.now) target.0 (Some body) }
-    ensures { IfOk result (λ size. size ≡
-        min (signal_size (design_of design.now) target.0) 4194305) }
-{
-    let follows = design.follows(alloc, target)?;
-    let followed = Followed {
-        alloc,
-        signals: design.signals(),
-        twice: &bodies.twice,
-        follows: &follows,
-    };
-    Ok(followed.size(body))
 }

@@ -3,13 +3,13 @@
 //!
 //! Takes a design and a query that is one of its obligations. `encode` gives exactly the encoding
 //! that `sv_encoding` defines, or `TooLarge` exactly where that has more than 4,194,304 variables;
-//! the size is told before a clause is made, by `check_size` alone. A `Coder` does so for one
-//! obligation after the other, and keeps what two of them begin with: the frames of equal cones,
-//! and behind them equal first facts and conditions. `labels_decide` tells by the labels whether
-//! the first clause and the last one would refute each other. `decode` gives the registers and
-//! inputs that values of the variables spell, and 0 where a bit has no place; `decode_places` does
-//! so by the places alone, as a coder has them. `problem_line` and `clause_lines` give the text of
-//! clauses, some at a time.
+//! the size is told before a clause is made. A `Coder` does so for one obligation after the other,
+//! and keeps how large each signal's word is and what two encodings begin with: the frames of equal
+//! cones, and behind them equal first facts and conditions; its `check_size` tells the size alone.
+//! `labels_decide` tells by the labels whether the first clause and the last one would refute each
+//! other. `decode` gives the registers and inputs that values of the variables spell, and 0 where a
+//! bit has no place; `decode_places` does so by the places alone, as a coder has them.
+//! `problem_line` and `clause_lines` give the text of clauses, some at a time.
 //!
 //! `specs/Coded.antt` is the plain form of an encoding, `Coders.antt` says which one a coder holds,
 //! `Decoded.antt` what `decode` asks for and gives. All other files there are private: they say how
@@ -27,6 +27,8 @@ mod decoding;
 mod encoding;
 mod expressions;
 mod followed;
+mod followed_arms;
+mod followed_sizes;
 mod framed;
 mod frames;
 mod goals;
@@ -50,4 +52,4 @@ pub use coded::{BitPlace, BlastFault, Coded};
 pub use coder::Coder;
 pub use decoding::{decode, decode_places};
 pub use encoding::encode;
-pub use without_clauses::{check_size, labels_decide};
+pub use without_clauses::labels_decide;

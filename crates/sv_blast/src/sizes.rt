@@ -1,27 +1,24 @@
 // How many variables an encoding has, told before any of it is made; as far as one over the most
 // that there may be.
-ghost use Rattle.std.specs.Prelude.{◌≡◌, ◌+◌, ◌<◌, ◌||◌, min, sum, map, length, All, IfOk};
+ghost use Rattle.std.specs.Prelude.{◌≡◌, ◌+◌, ◌<◌, ◌||◌, min, sum, map, length, All};
 ghost use Rattle.sv_flat.specs.ByNumber.{signal_forms};
 ghost use Rattle.sv_flat.specs.Processes.{is_clocked, is_top_input, is_register};
 ghost use Rattle.sv_flat.specs.Views.{design_of, process_kind};
 ghost use Rattle.sv_design.specs.Numbers.{numbers};
 ghost use Rattle.sv_obl.specs.DesignQueries.{IsQueryOf};
-ghost use Rattle.sv_obl.specs.MarkedBodies.{AreBodiesOf};
 ghost use Rattle.sv_obl.specs.Views.{obligation_of};
 ghost use Rattle.sv_encoding.specs.Cones.{now_cone, next_cone, conditions_of};
 ghost use Rattle.sv_encoding.specs.Sizes.{encoding_size, label_size, label_of_signal, stays_size};
 ghost use Rattle.sv_encoding.specs.Sizes.{target_size, violation_size, truth_size};
-ghost use Rattle.sv_blast.specs.ConeSizes.{now_size, next_size, now_sizes, next_sizes};
+ghost use Rattle.sv_blast.specs.ConeSizes.{AreSizes, now_size, next_size, now_sizes, next_sizes};
 ghost use Rattle.sv_blast.specs.Framed.{frames_size};
 
 use crate::sizes_of_expressions::{conditions_size, truth_size, truths_size, width_of};
 use crate::sizes_of_labels::{label_size, labels_size, stays_size};
 use crate::sizes_of_operators::sum;
-use crate::sizes_of_signals::signal_size;
-use std::alloc::{AllocError, Global};
 use sv_design::Design;
 use sv_flat::{ProcKind, SigId, SigKind, Signal};
-use sv_obl::{Bodies, Goal, Query, know_design};
+use sv_obl::{Goal, Query, know_design};
 
 // ---- cones
 
@@ -52,95 +49,69 @@ fn is_given(design: &Design, signal: SigId) -> bool
 }
 
 // What a signal takes in this cycle: a variable for each bit where it is given, else its gates.
-fn now_size(
-    alloc: Global,
-    design: &Design,
-    bodies: &Bodies,
-    signal: SigId,
-) -> Result<u32, AllocError>
+fn now_size(design: &Design, sizes: &[u32], signal: SigId) -> u32
     requires known { signal.0 < length design.now.signals.items }
-    requires bodies { AreBodiesOf (design_of design.now) bodies.now }
-    ensures { IfOk result (λ size. size ≡ min (now_size (design_of design.now) signal.0) 4194305) }
+    requires sizes { AreSizes (design_of design.now) sizes.now }
+    ensures { result ≡ min (now_size (design_of design.now) signal.0) 4194305 }
 {
     if is_given(design, signal) {
-        return Ok(u32::from(width_of(design.signals(), signal)));
+        u32::from(width_of(design.signals(), signal))
+    } else {
+        sizes[signal.0 as usize]
     }
-    signal_size(alloc, design, bodies, signal)
 }
 
 // What a signal takes in the next cycle: a variable for each bit of an input, else its gates.
-fn next_size(
-    alloc: Global,
-    design: &Design,
-    bodies: &Bodies,
-    signal: SigId,
-) -> Result<u32, AllocError>
+fn next_size(design: &Design, sizes: &[u32], signal: SigId) -> u32
     requires known { signal.0 < length design.now.signals.items }
-    requires bodies { AreBodiesOf (design_of design.now) bodies.now }
-    ensures { IfOk result (λ size. size ≡ min (next_size (design_of design.now) signal.0) 4194305) }
+    requires sizes { AreSizes (design_of design.now) sizes.now }
+    ensures { result ≡ min (next_size (design_of design.now) signal.0) 4194305 }
 {
     if is_top_input(design, signal) {
-        return Ok(u32::from(width_of(design.signals(), signal)));
+        u32::from(width_of(design.signals(), signal))
+    } else {
+        sizes[signal.0 as usize]
     }
-    signal_size(alloc, design, bodies, signal)
 }
 
 // What this cycle's cone takes.
-fn now_sizes(
-    alloc: Global,
-    design: &Design,
-    bodies: &Bodies,
-    cone: &[SigId],
-) -> Result<u32, AllocError>
+fn now_sizes(design: &Design, sizes: &[u32], cone: &[SigId]) -> u32
     requires known { All (λ s. s < length design.now.signals.items) (numbers cone.now) }
-    requires bodies { AreBodiesOf (design_of design.now) bodies.now }
-    ensures { IfOk result (λ size. size ≡
-        min (now_sizes (design_of design.now) (numbers cone.now)) 4194305) }
+    requires sizes { AreSizes (design_of design.now) sizes.now }
+    ensures { result ≡ min (now_sizes (design_of design.now) (numbers cone.now)) 4194305 }
 {
     let mut total = 0;
     for signal in cone {
-        total = sum(total, now_size(alloc, design, bodies, *signal)?);
+        total = sum(total, now_size(design, sizes, *signal));
     }
-    Ok(total)
+    total
 }
 
 // What the next cycle's cone takes.
-fn next_sizes(
-    alloc: Global,
-    design: &Design,
-    bodies: &Bodies,
-    cone: &[SigId],
-) -> Result<u32, AllocError>
+fn next_sizes(design: &Design, sizes: &[u32], cone: &[SigId]) -> u32
     requires known { All (λ s. s < length design.now.signals.items) (numbers cone.now) }
-    requires bodies { AreBodiesOf (design_of design.now) bodies.now }
-    ensures { IfOk result (λ size. size ≡
-        min (next_sizes (design_of design.now) (numbers cone.now)) 4194305) }
+    requires sizes { AreSizes (design_of design.now) sizes.now }
+    ensures { result ≡ min (next_sizes (design_of design.now) (numbers cone.now)) 4194305 }
 {
     let mut total = 0;
     for signal in cone {
-        total = sum(total, next_size(alloc, design, bodies, *signal)?);
+        total = sum(total, next_size(design, sizes, *signal));
     }
-    Ok(total)
+    total
 }
 
-/// What the frames of two cones take, and variable 1; 4,194,305 where that is more than 4,194,304.
-/// An error says that memory ran out.
-pub fn frames_size(
-    alloc: Global,
-    design: &Design,
-    bodies: &Bodies,
-    now: &[SigId],
-    next: &[SigId],
-) -> Result<u32, AllocError>
-    requires bodies { AreBodiesOf (design_of design.now) bodies.now }
+/// What the frames of two cones take, and variable 1, by the sizes of the design's signals;
+/// 4,194,305 where that is more than 4,194,304.
+pub fn frames_size(design: &Design, sizes: &[u32], now: &[SigId], next: &[SigId]) -> u32
+    requires sizes { AreSizes (design_of design.now) sizes.now }
     requires now { All (λ s. s < length design.now.signals.items) (numbers now.now) }
     requires next { All (λ s. s < length design.now.signals.items) (numbers next.now) }
-    ensures { IfOk result (λ size. size ≡
-        min (frames_size (design_of design.now) (numbers now.now) (numbers next.now)) 4194305) }
+    ensures { result ≡
+        min (frames_size (design_of design.now) (numbers now.now) (numbers next.now)) 4194305 }
 {
-    let here = now_sizes(alloc, design, bodies, now)?;
-    let later = next_sizes(alloc, design, bodies, next)?;
-    Ok(sum(sum(1, here), later))
+    let here = now_sizes(design, sizes, now);
+    let later = next_sizes(design, sizes, next);
+    sum(sum(1, here), later)
 }
 
 // ---- obligations
@@ -202,24 +173,23 @@ pub fn size_with(design: &Design, query: &Query, frames: u32) -> u32
     sum(frames, sum(sum(conditions, labels), goal))
 }
 
-/// The number of an encoding's variables, by the obligation's cones in this cycle and the next one;
-/// 4,194,305 where there are more than 4,194,304. An error says that memory ran out.
+/// The number of an encoding's variables, by the sizes of the design's signals and the obligation's
+/// cones in this cycle and the next one; 4,194,305 where there are more than 4,194,304.
 pub fn encoding_size(
-    alloc: Global,
     design: &Design,
-    bodies: &Bodies,
+    sizes: &[u32],
     query: &Query,
     now: &[SigId],
     next: &[SigId],
-) -> Result<u32, AllocError>
-    requires bodies { AreBodiesOf (design_of design.now) bodies.now }
+) -> u32
+    requires sizes { AreSizes (design_of design.now) sizes.now }
     requires query { IsQueryOf (design_of design.now) (obligation_of query.now) }
     requires now { numbers now.now ≡ now_cone (design_of design.now) (obligation_of query.now) }
     requires next { numbers next.now ≡ next_cone (design_of design.now) (obligation_of query.now) }
-    ensures { IfOk result (λ size. size ≡
-        min (encoding_size (design_of design.now) (obligation_of query.now)) 4194305) }
+    ensures { result ≡
+        min (encoding_size (design_of design.now) (obligation_of query.now)) 4194305 }
 {
     know_design(design);
-    let frames = frames_size(alloc, design, bodies, now, next)?;
-    Ok(size_with(design, query, frames))
+    let frames = frames_size(design, sizes, now, next);
+    size_with(design, query, frames)
 }

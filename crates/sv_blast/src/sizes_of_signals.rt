@@ -5,9 +5,10 @@ ghost use Rattle.sv_flat.specs.Views.{design_of, typed_tree};
 ghost use Rattle.sv_obl.specs.BodySlices.{slice_statement};
 ghost use Rattle.sv_obl.specs.MarkedBodies.{AreBodiesOf};
 ghost use Rattle.sv_encoding.specs.Sizes.{signal_size, truth_size};
+ghost use Rattle.sv_blast.specs.ConeSizes.{AreSizes};
 ghost use Rattle.sv_blast.specs.SliceSizes.{slice_size};
 
-use crate::followed::followed_size;
+use crate::followed_sizes::followed_size;
 use crate::sizes_of_expressions::{expression_size, truth_size, width_of};
 use crate::sizes_of_operators::sum;
 use std::alloc::{AllocError, Global};
@@ -49,8 +50,9 @@ fn slice_size(signals: &[Signal], width: u8, slice: &BodySlice) -> u32
     }
 }
 
-/// The gates of the word that its process gives a signal. An error says that memory ran out.
-pub fn signal_size(
+// The gates of the word that its process gives a signal, and none where no process assigns it. An
+// error says that memory ran out.
+fn signal_size(
     alloc: Global,
     design: &Design,
     bodies: &Bodies,
@@ -62,9 +64,26 @@ pub fn signal_size(
         min (signal_size (design_of design.now) signal.0) 4194305) }
 {
     let signals = design.signals();
+    if design.driver(signal).is_none() {
+        return Ok(0);
+    }
     if let Some(body) = bodies.marked(design, signal) {
         return followed_size(alloc, design, bodies, body, signal);
     }
     let slice = bodies.slice(alloc, design, signal)?;
     Ok(slice_size(signals, width_of(signals, signal), &slice))
+}
+
+/// The gates of the words that processes give the signals of a design, in signal order. An error
+/// says that memory ran out.
+pub fn signal_sizes(alloc: Global, design: &Design, bodies: &Bodies) -> Result<Vec<u32>, AllocError>
+    requires bodies { AreBodiesOf (design_of design.now) bodies.now }
+    ensures { IfOk result (λ sizes. AreSizes (design_of design.now) sizes.items) }
+{
+    let count = design.signals().len();
+    let mut sizes = Vec::with_capacity(alloc, count)?;
+    for number in 0..count {
+        sizes.push(signal_size(alloc, design, bodies, SigId(number as u32))?)?;
+    }
+    Ok(sizes)
 }

@@ -4,11 +4,11 @@ ghost use Rattle.std.specs.Prelude.{◌≡◌, ◌<◌, ◌==◌, length, All, I
 ghost use Rattle.sv_flat.specs.Views.{design_of};
 ghost use Rattle.sv_design.specs.Numbers.{numbers};
 ghost use Rattle.sv_obl.specs.DesignQueries.{IsQueryOf};
-ghost use Rattle.sv_obl.specs.MarkedBodies.{AreBodiesOf};
 ghost use Rattle.sv_obl.specs.Views.{obligation_of};
 ghost use Rattle.sv_encoding.specs.BothWays.{always_goes};
 ghost use Rattle.sv_encoding.specs.Deciding.{Fits, IsTooLarge};
 ghost use Rattle.sv_encoding.specs.Sizes.{stays_size};
+ghost use Rattle.sv_blast.specs.ConeSizes.{AreSizes};
 
 use crate::coded::BlastFault;
 use crate::cones::{next_cone, now_cone};
@@ -18,7 +18,7 @@ use std::alloc::Global;
 use sv_design::Design;
 use sv_flat::SigId;
 use sv_gates::MOST_VARIABLES;
-use sv_obl::{Bodies, Goal, Query, know_design};
+use sv_obl::{Goal, Query, know_design};
 
 // Whether no point of a read's label fails to flow to a point of the target's.
 fn none_stays(design: &Design, reads: &[SigId], target: SigId) -> bool
@@ -44,16 +44,17 @@ pub fn labels_decide(design: &Design, query: &Query) -> bool
     }
 }
 
-/// Tells of an obligation's encoding, without a clause of it, that it is small enough to be made.
+/// Tells of an obligation's encoding, without a clause of it and by the sizes of the design's
+/// signals, that it is small enough to be made.
 /// `TooLarge` says that it has more than 4,194,304 variables; `OutOfMemory` that memory ran out.
 pub fn check_size(
     alloc: Global,
     design: &Design,
-    bodies: &Bodies,
+    sizes: &[u32],
     query: &Query,
 ) -> Result<(), BlastFault>
     requires query { IsQueryOf (design_of design.now) (obligation_of query.now) }
-    requires bodies { AreBodiesOf (design_of design.now) bodies.now }
+    requires sizes { AreSizes (design_of design.now) sizes.now }
     ensures fits { OnOk result (Fits (design_of design.now) (obligation_of query.now)) }
     ensures large { IsErrOf result BlastFault.TooLarge →
         IsTooLarge (design_of design.now) (obligation_of query.now) }
@@ -61,7 +62,7 @@ pub fn check_size(
     know_design(design);
     let next = next_cone(alloc, design, query)?;
     let now = now_cone(alloc, design, query, &next)?;
-    let size = encoding_size(alloc, design, bodies, query, &now, &next)?;
+    let size = encoding_size(design, sizes, query, &now, &next);
     if size > MOST_VARIABLES {
         return Err(BlastFault::TooLarge);
     }

@@ -2,29 +2,24 @@
 ghost use Rattle.std.specs.Prelude.{◌≡◌, IsTrue, IfOk, IsErrOf};
 ghost use Rattle.sv_flat.specs.Views.{design_of};
 ghost use Rattle.sv_obl.specs.DesignQueries.{IsQueryOf};
-ghost use Rattle.sv_obl.specs.MarkedBodies.{AreBodiesOf};
 ghost use Rattle.sv_obl.specs.Views.{obligation_of};
 ghost use Rattle.sv_encoding.specs.BothWays.{always_goes};
 ghost use Rattle.sv_encoding.specs.Deciding.{IsTooLarge};
+ghost use Rattle.sv_blast.specs.Coders.{IsCoder};
 ghost use Rattle.sv_decide.specs.Decisions.{IsProvedWithin};
 
-use std::alloc::Global;
-use sv_blast::{BlastFault, check_size, labels_decide};
+use sv_blast::{BlastFault, Coder, labels_decide};
 use sv_design::Design;
-use sv_obl::{Bodies, Query, know_design};
+use sv_obl::{Query, know_design};
 
 /// Whether labels alone show that an obligation is valid, told without a clause: then its encoding
-/// has a refutation of one step, by its first clause and its last one. `TooLarge` says that labels would show
-/// it, and that the encoding has more than 4,194,304 variables; `OutOfMemory` that memory ran out.
+/// has a refutation of one step, by its first clause and its last one. `TooLarge` says that labels
+/// would show it, and that the encoding has more than 4,194,304 variables; `OutOfMemory` that
+/// memory ran out.
 ///
 /// `false` says only that `decide` has to tell.
-pub fn is_valid_by_labels(
-    alloc: Global,
-    design: &Design,
-    bodies: &Bodies,
-    query: &Query,
-) -> Result<bool, BlastFault>
-    requires bodies { AreBodiesOf (design_of design.now) bodies.now }
+pub fn is_valid_by_labels(design: &Design, coder: &Coder, query: &Query) -> Result<bool, BlastFault>
+    requires coder { IsCoder (design_of design.now) coder.now }
     requires query { IsQueryOf (design_of design.now) (obligation_of query.now) }
     ensures by_labels { IfOk result (λ valid. let o = obligation_of query.now in
         valid ≡ always_goes (design_of design.now) o.reads o.goal) }
@@ -37,6 +32,6 @@ pub fn is_valid_by_labels(
     if !labels_decide(design, query) {
         return Ok(false);
     }
-    check_size(alloc, design, bodies, query)?;
+    coder.check_size(design, query)?;
     Ok(true)
 }

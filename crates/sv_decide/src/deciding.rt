@@ -68,7 +68,7 @@ pub fn decide(
         IfOk result IsNotSpent }
 {
     let bodies = Bodies::new(alloc, design)?;
-    let mut coder = Coder::new(alloc, &bodies);
+    let mut coder = Coder::new(alloc, design, &bodies)?;
     decide_by(alloc, design, &mut coder, query, budget)
 }
 

@@ -105,7 +105,7 @@ fn decide_all(alloc: Global, design: &Design, budget: u32, keeps: bool) -> Resul
     let mut progress = Progress::new(alloc, keeps);
     let bodies = Bodies::new(alloc, design)?;
     let mut listing = Listing::new(alloc, design)?;
-    let mut coder = Coder::new(alloc, &bodies);
+    let mut coder = Coder::new(alloc, design, &bodies)?;
     decide_targets(
         alloc,
         design,
@@ -200,7 +200,7 @@ fn decide_next(
     if progress.wants_log() {
         return decide_by_clauses(alloc, design, coder, budget, query, progress);
     }
-    match is_valid_by_labels(alloc, design, coder.bodies(), &query) {
+    match is_valid_by_labels(design, coder, &query) {
         Ok(true) => {
             progress.add_valid();
             Ok(())

@@ -123,7 +123,7 @@ fn verify_all(alloc: Global, design: &Design, logs: &[Log]) -> Result<(), Flaw>
     ensures flaw { IfErr result (IsFlaw (design_of design.now) (plain_logs logs.now)) }
 {
     let bodies = Bodies::new(alloc, design)?;
-    let mut coder = Coder::new(alloc, &bodies);
+    let mut coder = Coder::new(alloc, design, &bodies)?;
     let mut listing = Listing::new(alloc, design)?;
     verify_targets(alloc, design, &mut coder, logs, &mut listing)?;
     let queries = selector_part(alloc, design, &listing)?;

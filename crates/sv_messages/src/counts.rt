@@ -1,9 +1,8 @@
 // How many paths lead to a signal, how much is put into one of them, and how many obligations a
 // design has, where they exceed a limit: each part of a body is counted once.
 ghost use Rattle.std.specs.Prelude.{◌≡◌, ◌<◌, length};
-ghost use Rattle.sv_flat.specs.Clocks.{processes_of};
 ghost use Rattle.sv_flat.specs.Views.{design_of};
-ghost use Rattle.sv_obl.specs.IndexedBodies.{AreIndexed};
+ghost use Rattle.sv_obl.specs.MarkedBodies.{AreBodiesOf};
 
 use std::alloc::{AllocError, Global};
 use sv_design::Design;
@@ -214,29 +213,33 @@ fn paths_in(slice: &BodySlice, signals: &[Signal], target: SigId) -> Paths {
     with_slice(slice, signals, target, end).all()
 }
 
-// The paths to a target, from its slice of the body that drives it; none where no body does.
+// The paths to a target, from its slice of the body that drives it; none where no body does. They
+// are not known where the body has an earlier read, for which its other parts are taken too.
 fn paths_by(
     alloc: Global,
     design: &Design,
     bodies: &Bodies,
     target: SigId,
-) -> Result<Paths, AllocError>
+) -> Result<Option<Paths>, AllocError>
     requires known { target.0 < length design.now.signals.items }
-    requires bodies { AreIndexed (processes_of (design_of design.now)) bodies.now.bodies.items }
+    requires bodies { AreBodiesOf (design_of design.now) bodies.now }
 {
     if design.driver(target).is_none() {
-        return Ok(NONE);
+        return Ok(Some(NONE));
+    }
+    if bodies.marked(design, target).is_some() {
+        return Ok(None);
     }
     let slice = bodies.slice(alloc, design, target)?;
-    Ok(paths_in(&slice, design.signals(), target))
+    Ok(Some(paths_in(&slice, design.signals(), target)))
 }
 
-/// The paths to the signal of a name.
+/// The paths to the signal of a name, where they are known.
 pub fn paths_to(alloc: Global, design: &Design, name: &[u8]) -> Result<Option<Paths>, AllocError> {
     let bodies = Bodies::new(alloc, design)?;
     for s in 0..number_of(design) {
         if is_named(design, s, name) {
-            return Ok(Some(paths_by(alloc, design, &bodies, SigId(s))?));
+            return paths_by(alloc, design, &bodies, SigId(s));
         }
     }
     Ok(None)
@@ -256,19 +259,21 @@ fn is_named(design: &Design, s: u32, name: &[u8]) -> bool {
     }
 }
 
-/// How many obligations a design has: its paths, and those selectors of labels that may tell
-/// something.
-pub fn obligations_of(alloc: Global, design: &Design) -> Result<u64, AllocError> {
+/// How many obligations a design has, where all its paths are known: these, and those selectors of
+/// labels that may tell something.
+pub fn obligations_of(alloc: Global, design: &Design) -> Result<Option<u64>, AllocError> {
     let bodies = Bodies::new(alloc, design)?;
     let mut count = 0u64;
     for s in 0..number_of(design) {
-        let paths = paths_by(alloc, design, &bodies, SigId(s))?;
+        let Some(paths) = paths_by(alloc, design, &bodies, SigId(s))? else {
+            return Ok(None);
+        };
         count = sum(count, paths.count);
     }
     for signal in design.signals() {
         count = sum(count, selectors_of(design, &signal.label));
     }
-    Ok(count)
+    Ok(Some(count))
 }
 
 // How many obligations the selectors of a label have.

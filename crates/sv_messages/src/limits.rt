@@ -107,14 +107,22 @@ pub fn nodes(alloc: Global, case: &Case) -> Result<Said, AllocError> {
     Ok(Said { place, words })
 }
 
+// How many obligations the design has, where that is known.
+fn count_of(alloc: Global, case: &Case) -> Result<Option<u64>, AllocError> {
+    match case.origin.design(alloc) {
+        Some(design) => obligations_of(alloc, &design),
+        None => Ok(None),
+    }
+}
+
 /// Of too many obligations.
 pub fn obligations(alloc: Global, case: &Case) -> Result<Said, AllocError> {
     let file = file_name(alloc, case.origin.file)?;
     let mend = "split blocks that have many paths; a module that `--top MODULE` checks alone \
                 tells nothing of the whole";
-    let words = match case.origin.design(alloc) {
-        Some(design) => {
-            let count = grouped(alloc, obligations_of(alloc, &design)?)?;
+    let words = match count_of(alloc, case)? {
+        Some(count) => {
+            let count = grouped(alloc, count)?;
             format!(in alloc;
                 "{file}: the design has {count} obligations, and 65,536 there may be: {mend}"
             )?

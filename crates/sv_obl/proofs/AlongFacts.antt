@@ -2,7 +2,7 @@
 -- an arm and an assignment that are taken make of it.
 use Rattle.std.proofs.Common.{◌≡◌, ℕ, zero, suc, ◌+◌, ◌<◌, ◌≤◌, Bool, true, false, cond, ◌||◌}
 use Rattle.std.proofs.Common.{List, [], ◌∷◌, ◌++◌, length, map, reverse, get_or, drop}
-use Rattle.std.proofs.Common.{Option, Some, None, refl, sym, ap, ap₂, ◌∙◌, arith, add-one, append_assoc}
+use Rattle.std.proofs.Common.{Some, None, refl, sym, ap, ap₂, ◌∙◌, arith, add-one, append_assoc}
 use Rattle.std.specs.List.{list_any}
 use Rattle.std.proofs.lemmas.Bool.{false≢true}
 use Rattle.std.proofs.lemmas.List.{drop_all, map-append, reverse-append}
@@ -153,28 +153,7 @@ module _ (way made : WayForm) (arm : Bool) (is : made ≡ on_arm way)
         turned true = refl
         turned false = refl
 
-    pub first_arm : arm ≡ true → with_step count (step true) (along signals s a made)
-        ≡ along signals s (branch place c a b) way
-    first_arm so =
-        ap (λ t. with_step count (step t) (along signals s a made)) (sym so)
-        ∙ taken_arm a (ap (λ t. cond t a b) so)
-
-    pub second_arm : arm ≡ false → with_step count (step false) (along signals s b made)
-        ≡ along signals s (branch place c a b) way
-    second_arm so =
-        ap (λ t. with_step count (step t) (along signals s b made)) (sym so)
-        ∙ taken_arm b (ap (λ t. cond t a b) so)
-
 -- ---- an assignment
-
--- a statement that is taken
-pub taken_assign : (signals : List SignalForm) (s : ℕ) (pieces : List PieceForm) (place : Place)
-    (blocking : Bool) (right : TypedTree) (way : WayForm)
-    → takes (assign pieces place blocking right) way.trail ≡ true
-    → along_assign signals s pieces right way
-    ≡ along signals s (assign pieces place blocking right) way
-taken_assign signals s pieces place blocking right way taken =
-    sym (ap (λ b. cond b (along_assign signals s pieces right way) way) taken)
 
 -- its right side is put in for all names but the result's own, and then for that
 module _ (signals : List SignalForm) (s : ℕ) (pieces : List PieceForm) (right : TypedTree)

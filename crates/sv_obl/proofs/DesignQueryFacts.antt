@@ -1,58 +1,49 @@
 -- Every obligation of an admitted design is one of the design's.
 use Rattle.std.proofs.Common.{◌≡◌, ℕ, zero, suc, ◌+◌, ◌<◌, ◌≤◌, Bool, true, false, cond, ◌&&◌, ◌==◌}
-use Rattle.std.proofs.Common.{not, ltb-true, List, [], ◌∷◌, ◌++◌, length, map, filter, flat_map}
-use Rattle.std.proofs.Common.{reverse, ⊎_elim, refl, sym, ap, subst, ◌∙◌, arith}
+use Rattle.std.proofs.Common.{not, ltb-true, List, [], ◌∷◌, length, map, filter, flat_map}
+use Rattle.std.proofs.Common.{⊎_elim, refl, subst, arith}
 use Rattle.std.proofs.Common.{Option, Some, None, lt-ltb}
 use Rattle.std.specs.Prelude.{Contains, All, IsTrue}
 use Rattle.std.specs.List.{range_with_len, list_any}
 use Rattle.std.proofs.lemmas.Bool.{or_left, eqb-true}
-use Rattle.std.proofs.lemmas.List.{reverse-append}
 use Rattle.std.proofs.lemmas.List.Elements.{All-nil, All-cons}
 use Rattle.sv_num.specs.declared.faults.Place.{Place}
-use Rattle.sv_system.proofs.Lists.{Contains-nil, Contains-head, Contains-later, Contains-cases}
+use Rattle.sv_system.proofs.Lists.{Contains-nil, Contains-cases}
 use Rattle.sv_system.proofs.Lists.{Contains-from_map, Contains-filter}
-use Rattle.sv_flat.specs.Design.{SignalForm, TypedTree, typed, choice, PieceForm, ProcessForm}
-use Rattle.sv_flat.specs.Design.{FlatStatement, nothing, after, assign, branch, FlatDesign}
+use Rattle.sv_flat.specs.Design.{SignalForm, ProcessForm}
+use Rattle.sv_flat.specs.Design.{FlatDesign}
 use Rattle.sv_flat.specs.Values.{signal_of}
-use Rattle.sv_flat.specs.Soundness.{is_one_to, has_type, node_well_formed, well_formed, piece_fits}
-use Rattle.sv_flat.specs.Soundness.{statement_sound, is_signal, sound}
-use Rattle.std.specs.List.{list_all}
+use Rattle.sv_flat.specs.Soundness.{well_formed}
+use Rattle.sv_flat.specs.Soundness.{is_signal, sound}
 use Rattle.sv_flat.specs.Assigned.{assigns}
 use Rattle.sv_flat.specs.Readings.{ReadForm, reads, names_signal, no_bits}
 use Rattle.sv_flat.specs.Processes.{is_block, is_clocked, is_register, signal_numbers, drivers}
 use Rattle.sv_flat.specs.SignalLists.{system_signals}
 use Rattle.sv_flat.specs.Clocks.{is_clock, processes_of}
 use Rattle.sv_flat.specs.Admission.{IsAdmitted}
-use Rattle.sv_flat.proofs.BlockFacts.{is_settled}
 use Rattle.sv_flat.proofs.Members.{Contains-either}
-use Rattle.sv_flat.proofs.Depths.{first_of, second_of}
 use Rattle.sv_flat.proofs.LeastSets.{from_some, some_from, in_those, those_below}
 use Rattle.sv_flat.proofs.LeastSets.{Contains-from_filter}
 use Rattle.sv_flat.proofs.ReadSignals.{reads_signals}
 use Rattle.sv_flat.proofs.AdmittedFacts.{and_true, is_process, body_is_sound, assigns_no_clock}
 use Rattle.sv_flat.proofs.AdmittedFacts.{targets_are_combinational}
+use Rattle.sv_design.proofs.Sound.{width_is_sound}
 use Rattle.sv_obl.specs.declared.frames.Frame.{Frame}
 use Rattle.sv_obl.specs.declared.frames.Frame.TheVariants.{Now, Next}
-use Rattle.sv_obl.specs.Paths.{StepForm, Path, path_names, open_path, before, closed, paths}
+use Rattle.sv_obl.specs.Paths.{StepForm, Path, path_names, paths}
 use Rattle.sv_obl.specs.Obligations.{GoalForm, flow, holds, selector, Obligation, frame_of}
 use Rattle.sv_flat.specs.Selectors.{selectors_of}
 use Rattle.sv_obl.specs.Obligations.{place_of, path_obligation, target_obligations}
 use Rattle.sv_flat.specs.Selectors.{always_flows}
 use Rattle.sv_obl.specs.Obligations.{selector_obligation, selector_obligations}
 use Rattle.sv_obl.specs.Obligations.{obligations}
-use Rattle.sv_obl.specs.Routes.{RouteForm, open_route, behind, is_all, with_put, with_ways, with_right}
-use Rattle.sv_obl.specs.Routes.{routes_before}
 use Rattle.sv_obl.specs.Views.{IsGoalAmong, IsAmong}
-use Rattle.sv_obl.specs.Wanted.{marked}
 use Rattle.sv_obl.specs.DesignQueries.{Ascends, IsExpressionOf, IsStepOf, IsTargetIn}
 use Rattle.sv_obl.specs.DesignQueries.{IsGoalOf, IsQueryOf, HasPlace, IsPlaced}
-use Rattle.sv_flat.proofs.Members.{only, contained_all, all_contained}
+use Rattle.sv_flat.proofs.Members.{contained_all, all_contained}
+use Rattle.sv_obl.proofs.FormedPaths.{closed_steps_formed}
 use Rattle.sv_obl.proofs.PathLists.{from_flat_map}
-use Rattle.sv_obl.proofs.PathRuns.{step_of}
-use Rattle.sv_obl.proofs.RoutePaths.{Matches, AllMatch}
-use Rattle.sv_obl.proofs.RouteObligations.{steps_same, paths_are, all_match}
 use Rattle.sv_flat.proofs.SelectorFacts.{selector_is_seen, selected_is_seen}
-use Rattle.sv_obl.proofs.Unchanged.{marked_itself}
 use Rattle.sv_obl.proofs.TargetReads.{reads_of, Origin, origin, inside, in_system, read_is_seen}
 
 -- ---- lists
@@ -81,138 +72,6 @@ range_ascends test a (suc n) = by_test (test a) (range_ascends test (a + 1) n)
     by_test true ascends = (above, ascends)
     by_test false ascends = ascends
 
--- an element of a list the other way round is one of the list
-from_reversed : {X : Type 0} (xs : List X) (y : X) → Contains (reverse xs) y → Contains xs y
-from_reversed [] y at = absurd (Contains-nil y at)
-from_reversed (x ∷ xs) y at = ⊎_elim
-    (λ l. Contains-later x xs y (from_reversed xs y l))
-    (λ r. subst (Contains (x ∷ xs)) (only x y r) (Contains-head x xs))
-    (Contains-either (reverse xs) (x ∷ []) y
-    (subst (λ zs. Contains zs y) (reverse-append (x ∷ []) xs) at))
-
--- ---- conditions
-
-module _ (signals : List SignalForm) where
-  abbrev StepsFormed : List StepForm → Type 0
-  StepsFormed steps =
-      (step : StepForm) → Contains steps step → IsTrue (well_formed signals step.condition)
-
-  no_steps : StepsFormed []
-  no_steps step at = absurd (Contains-nil step at)
-
-  one_more : (steps : List StepForm) (last : StepForm) → StepsFormed steps
-      → IsTrue (well_formed signals last.condition) → StepsFormed (steps ++ last ∷ [])
-  one_more steps last each formed step at = ⊎_elim
-      (λ l. each step l)
-      (λ r. subst (λ (y : StepForm). IsTrue (well_formed signals y.condition))
-      (only last step r) formed)
-      (Contains-either steps (last ∷ []) step at)
-
-  abbrev RoutesFormed : List RouteForm → Type 0
-  RoutesFormed routes = (r : RouteForm) → Contains routes r → StepsFormed r.steps
-
-  alone : (r : RouteForm) → StepsFormed r.steps → RoutesFormed (r ∷ [])
-  alone r formed other at =
-      subst (λ (y : RouteForm). StepsFormed y.steps) (only r other at) formed
-
-  both : (xs ys : List RouteForm) → RoutesFormed xs → RoutesFormed ys → RoutesFormed (xs ++ ys)
-  both xs ys one two r at = ⊎_elim (one r) (two r) (Contains-either xs ys r at)
-
-  behind_each : (step : StepForm) (xs : List RouteForm)
-      → IsTrue (well_formed signals step.condition)
-      → RoutesFormed xs → RoutesFormed (map (behind step) xs)
-  behind_each step xs formed each r at =
-      let from = Contains-from_map (behind step) xs r at in
-      subst (λ (y : RouteForm). StepsFormed y.steps) from.2
-      (one_more (from.0).steps step (each from.0 from.1) formed)
-
-  either : (c : Bool) (xs ys : List RouteForm) → RoutesFormed xs → RoutesFormed ys →
-      RoutesFormed (cond c xs ys)
-  either true xs ys one two = one
-  either false xs ys one two = two
-
-  module _ (s : ℕ) where
-    ways_formed : (pieces : List PieceForm) (right : TypedTree) (route : RouteForm)
-        → IsTrue (well_formed signals right) → StepsFormed route.steps
-        → RoutesFormed (with_ways signals s pieces right route)
-    ways_formed pieces (typed w signed (choice p c a b)) route h formed =
-        let types = has_type w signed a && has_type w signed b in
-        let node = second_of (is_one_to 64 w) (node_well_formed signals w signed (choice p c a b))
-        h in
-        let front = first_of (types && well_formed signals c && well_formed signals a)
-        (well_formed signals b) node in
-        let formed_c = second_of types (well_formed signals c)
-        (first_of (types && well_formed signals c) (well_formed signals a) front) in
-        let formed_a = second_of (types && well_formed signals c) (well_formed signals a) front in
-        let formed_b = second_of (types && well_formed signals c && well_formed signals a)
-        (well_formed signals b) node in
-        both (map (behind (step_of p c true)) (with_ways signals s pieces a route))
-        (map (behind (step_of p c false)) (with_ways signals s pieces b route))
-        (behind_each (step_of p c true) (with_ways signals s pieces a route) formed_c
-        (ways_formed pieces a route formed_a formed))
-        (behind_each (step_of p c false) (with_ways signals s pieces b route) formed_c
-        (ways_formed pieces b route formed_b formed))
-    ways_formed pieces right route h formed =
-        alone (with_put signals s pieces right route) formed
-
-    pub routes_formed : (statement : FlatStatement) (route : RouteForm)
-        → IsTrue (statement_sound signals statement) → StepsFormed route.steps
-        → RoutesFormed (routes_before signals s statement route)
-    routes_formed nothing route h formed = alone route formed
-    routes_formed (after first second) route h formed = λ r at.
-        let from = from_flat_map (routes_before signals s first)
-        (routes_before signals s second route) r at in
-        routes_formed first from.0
-        (first_of (statement_sound signals first) (statement_sound signals second) h)
-        (routes_formed second route
-        (second_of (statement_sound signals first) (statement_sound signals second) h) formed
-        from.0 from.1)
-        r from.2
-    routes_formed (assign pieces place blocking right) route h formed =
-        let formed_right =
-        first_of (well_formed signals right) (list_all (piece_fits signals right) pieces) h in
-        either (assigns (assign pieces place blocking right) s && route.wants)
-        (with_right signals s pieces right route) (route ∷ [])
-        (either (is_all signals s pieces route) (with_ways signals s pieces right route)
-        (with_put signals s pieces right route ∷ [])
-        (ways_formed pieces right route formed_right formed)
-        (alone (with_put signals s pieces right route) formed))
-        (alone route formed)
-    routes_formed (branch place condition first second) route h formed =
-        let front = first_of (well_formed signals condition && statement_sound signals first)
-        (statement_sound signals second) h in
-        let formed_condition =
-        first_of (well_formed signals condition) (statement_sound signals first) front in
-        let met = routes_before signals s first route in
-        let unmet = routes_before signals s second route in
-        either (assigns (branch place condition first second) s && route.wants)
-        (map (behind (step_of place condition true)) met
-        ++ map (behind (step_of place condition false)) unmet)
-        (route ∷ [])
-        (both (map (behind (step_of place condition true)) met)
-        (map (behind (step_of place condition false)) unmet)
-        (behind_each (step_of place condition true) met formed_condition
-        (routes_formed first route
-        (second_of (well_formed signals condition) (statement_sound signals first) front) formed))
-        (behind_each (step_of place condition false) unmet formed_condition
-        (routes_formed second route
-        (second_of (well_formed signals condition && statement_sound signals first)
-        (statement_sound signals second) h) formed)))
-        (alone route formed)
-
-module _ (signals : List SignalForm) (s : ℕ) (inside : s < length signals) where
-  -- a path is what one of the routes stands for
-  its_route : (ps : List Path) (rs : List RouteForm) → AllMatch signals s inside ps rs → (p : Path)
-      → Contains ps p → (r : RouteForm) × Contains rs r × Matches signals s inside p r
-  its_route [] rs all p at = absurd (Contains-nil p at)
-  its_route (q ∷ ps) [] all p at = elim all [ ]
-  its_route (q ∷ ps) (r ∷ rs) all p at = ⊎_elim
-      (λ is. (r, Contains-head r rs, subst (λ (y : Path). Matches signals s inside y r) is all.0))
-      (λ later.
-      let found = its_route ps rs all.1 p later in
-      (found.0, Contains-later r rs found.0 found.1, found.2))
-      (Contains-cases q ps p at)
-
 -- ---- designs
 
 module _ (design : FlatDesign) (is_sound : IsTrue (sound design))
@@ -234,26 +93,11 @@ module _ (design : FlatDesign) (is_sound : IsTrue (sound design))
     from : Origin design is_sound admitted p s at assigned q
     from = origin design is_sound admitted p s at assigned q q_at
 
-    -- no read is an earlier one, since rule 606 refuses such a body
-    unmarked : marked signals (is_block p.kind) p.body no_bits ≡ p.body
-    unmarked = marked_itself signals (is_block p.kind) p.body no_bits no_bits
-        (λ r r_at. is_settled design is_sound admitted p at r r_at)
-
     steps_formed : (step : StepForm) → Contains q.steps step →
         IsTrue (well_formed signals step.condition)
-    steps_formed step step_at =
-        let made = Contains-from_map (closed signals (is_clocked p.kind))
-        (before signals s p.body (open_path signals s)) q
-        (subst (λ ps. Contains ps q)
-        (paths_are design p s below is_sound admitted at unmarked) q_at) in
-        let route = its_route signals s below (before signals s p.body (open_path signals s))
-        (routes_before signals s p.body open_route)
-        (all_match design p s below is_sound admitted at) made.0 made.1 in
-        let steps = ap (λ (x : Path). x.steps) (sym made.2)
-        ∙ steps_same signals s below (is_clocked p.kind) made.0 route.0 route.2 in
-        routes_formed signals s p.body open_route (body_is_sound design is_sound admitted p at)
-        (no_steps signals) route.0 route.1 step
-        (from_reversed (route.0).steps step (subst (λ ss. Contains ss step) steps step_at))
+    steps_formed =
+        closed_steps_formed signals (width_is_sound design is_sound) s (is_block p.kind)
+        (is_clocked p.kind) p.body no_bits q (body_is_sound design is_sound admitted p at) q_at
 
     read_seen : (t : ℕ) → Contains (reads_of design q) t → Contains (system_signals design) t
     read_seen t t_at = read_is_seen design is_sound admitted p s at assigned q from t t_at

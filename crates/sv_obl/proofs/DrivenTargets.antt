@@ -1,13 +1,13 @@
 -- A target by its number in the design, and the process that drives it, whose body is given in
 -- indexed.
-use Rattle.std.proofs.Common.{◌≡◌, ℕ, zero, suc, ◌+◌, ◌<◌, ◌≤◌, List, [], ◌∷◌, length, map, get_or}
-use Rattle.std.proofs.Common.{All, refl}
+use Rattle.std.proofs.Common.{◌≡◌, ℕ, ◌<◌, ◌≤◌, List, [], length, map, get_or}
+use Rattle.std.proofs.Common.{All}
 use Rattle.std.proofs.Common.{Option, Some, None, Result, Ok, Err, IsErrAnd, sym, ap, ap₂, subst}
 use Rattle.std.proofs.Common.{◌∙◌, lt-ltb}
 use Rattle.std.specs.Prelude.{IsTrue, Contains}
 use Rattle.sv_flat.specs.ByNumber.{signal_forms}
 use Rattle.sv_flat.specs.Clocks.{processes_of}
-use Rattle.sv_flat.specs.Design.{ProcessForm, continuous, FlatStatement, nothing, FlatDesign}
+use Rattle.sv_flat.specs.Design.{ProcessForm, FlatStatement, nothing, FlatDesign}
 use Rattle.sv_flat.specs.Processes.{is_block, is_clocked}
 use Rattle.sv_flat.specs.Readings.{no_bits}
 use Rattle.sv_flat.specs.SignalLists.{driver_of}
@@ -34,7 +34,7 @@ use Rattle.sv_obl.specs.IndexedBodies.{looked_up, IsIndexed, AreIndexed}
 use Rattle.sv_obl.specs.RouteViews.{route_forms}
 use Rattle.sv_obl.specs.Wanted.{marked}
 use Rattle.sv_obl.proofs.IndexedFacts.{indexed_of_driver, inside_bodies, same_routes}
-use Rattle.sv_obl.proofs.OneDriver.{no_driver, one_driver_at}
+use Rattle.sv_obl.proofs.OneDriver.{no_process, found_again, no_driver, one_driver_at}
 use Rattle.sv_obl.proofs.TargetFacts.{length_mapped, none_listed, none_passed}
 use Rattle.sv_obl.proofs.TargetFacts.{excess_same, listed_same, names_within}
 
@@ -124,24 +124,11 @@ module _ (flat : Flat) (is : IsDesign (design_of flat)) (s : ℕ)
 
   module _ (bodies : List Indexed) (all : AreIndexed (processes_of design) bodies) (k : ℕ)
       (driven : driver_of design s ≡ Some k) where
-    abbrev some_process : ProcessForm
-    some_process = record {
-      kind = continuous;
-      place = record { line = 0; column = 0 };
-      body = nothing;
-    }
-
     abbrev process : ProcessForm
-    process = get_or (processes_of design) k some_process
+    process = get_or (processes_of design) k no_process
 
     there : get_or (processes_of design) k process ≡ process
-    there = found_again (processes_of design) k some_process
-      where
-        found_again : (ps : List ProcessForm) (i : ℕ) (d : ProcessForm)
-            → get_or ps i (get_or ps i d) ≡ get_or ps i d
-        found_again [] i d = refl
-        found_again (p ∷ ps) zero d = refl
-        found_again (p ∷ ps) (suc i) d = found_again ps i d
+    there = found_again (processes_of design) k no_process
 
     pub has_body : k < length bodies
     has_body = inside_bodies design s k process bodies all driven

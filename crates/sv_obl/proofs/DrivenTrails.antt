@@ -1,10 +1,12 @@
 -- A target by its number in the design, and the process that drives it, whose body is given with
 -- its earlier reads wanted where it has some.
-use Rattle.std.proofs.Common.{◌≡◌, ℕ, zero, suc, ◌+◌, ◌<◌, ◌≤◌, List, [], ◌∷◌, length, map, get_or}
-use Rattle.std.proofs.Common.{Vec, Global, Option, Some, None, refl, sym, ap, ap₂, subst, ◌∙◌, arith, lt-ltb}
-use Rattle.std.specs.Prelude.{IsTrue, Contains}
+use Rattle.std.proofs.Common.{◌≡◌, ℕ, zero, suc, ◌<◌, List, [], ◌∷◌, length, map, get_or}
+use Rattle.std.proofs.Common.{Option, Some, None, sym, ap, ap₂, subst}
+use Rattle.std.proofs.Common.{◌∙◌, arith, lt-ltb}
+use Rattle.std.specs.Prelude.{IsTrue, Contains, IfSome, option_copied}
 use Rattle.std.specs.Borrow.{Bor}
 use Rattle.std.specs.List.{AllZip}
+use Rattle.std.proofs.lemmas.List.Elements.{Contains-get_or}
 use Rattle.std.proofs.lemmas.List.Quantifiers.{position-Some}
 use Rattle.std.proofs.lemmas.Slice.Zip.{AllZip-long}
 use Rattle.sv_flat.specs.Assigned.{assigns}
@@ -19,38 +21,41 @@ use Rattle.sv_flat.specs.Views.{design_of, signal_form, process_form}
 use Rattle.sv_flat.specs.declared.designs.Flat.{Flat}
 use Rattle.sv_flat.specs.declared.designs.Process.{Process}
 use Rattle.sv_flat.specs.declared.signals.Signal.{Signal}
+use Rattle.sv_system.proofs.Lists.{Contains-nil, Contains-filter}
 use Rattle.sv_flat.proofs.AdmittedFacts.{body_is_sound}
+use Rattle.sv_flat.proofs.Members.{only}
 use Rattle.sv_design.specs.Designs.{IsDesign}
 use Rattle.sv_design.proofs.Sound.{few_bits}
+use Rattle.sv_obl.specs.declared.body_slices.Bodies.{Bodies}
 use Rattle.sv_obl.specs.declared.marked.Marked.{Marked}
-use Rattle.sv_obl.specs.declared.routes.Route.{Route}
 use Rattle.sv_obl.specs.declared.targets.Driven.{Driven}
 use Rattle.sv_obl.specs.declared.targets.Paths.{Paths}
 use Rattle.sv_obl.specs.declared.targets.Paths.TheVariants.{Routes, Trails}
 use Rattle.sv_obl.specs.declared.trails.Trail.{Trail}
 use Rattle.sv_obl.specs.Alongs.{trail_obligation, trails_excess}
 use Rattle.sv_obl.specs.Answers.{excess_at}
-use Rattle.sv_obl.specs.Driven.{CanWalk, AreRoutes, AreTrails, ArePaths, how_many, HasPaths}
+use Rattle.sv_obl.specs.Driven.{CanWalk, AreTrails, ArePaths}
 use Rattle.sv_obl.specs.Driven.{IsDriven, ArePathsWalked, IsWalked}
-use Rattle.sv_obl.specs.Marked.{marked_statement, HasMarked}
+use Rattle.sv_obl.specs.MarkedBodies.{marked_statement, IsMarkedBody, IsMarkedFor, HasCopies}
+use Rattle.sv_obl.specs.MarkedBodies.{AreBodiesOf}
 use Rattle.sv_obl.specs.Trails.{TrailForm, open_trail, trails_before}
 use Rattle.sv_obl.specs.TrailViews.{trail_forms}
 use Rattle.sv_obl.specs.Wanted.{marked}
 use Rattle.sv_obl.proofs.MarkedWords.{walked_words}
-use Rattle.sv_obl.proofs.OneDriver.{one_driver_at}
+use Rattle.sv_obl.proofs.OneDriver.{no_driver, one_driver_at}
 use Rattle.sv_obl.proofs.TargetFacts.{length_mapped}
 use Rattle.sv_obl.proofs.TrailTargets.{trails_excess_same, trails_listed, trail_words_are}
 use Rattle.sv_obl.proofs.TrailTargets.{trail_names_are}
-use Rattle.sv_obl.proofs.Unmarked.{body_left}
+use Rattle.sv_obl.proofs.Unchanged.{marked_itself}
 
 marked_at : (signals : List SignalForm) (ps : List ProcessForm) (xs : List (Option Marked)) (k : ℕ)
-    (p : ProcessForm) (x : Option Marked) → AllZip (HasMarked signals) ps xs → k < length xs
-    → get_or ps k p ≡ p → x ≡ get_or xs k x → HasMarked signals p x
+    (p : ProcessForm) (x : Option Marked) → AllZip (IsMarkedBody signals) ps xs → k < length xs
+    → get_or ps k p ≡ p → x ≡ get_or xs k x → IsMarkedBody signals p x
 marked_at signals [] [] k p x all inside there is = absurd (omega arith)
 marked_at signals [] (y ∷ xs) k p x all inside there is = absurd all
 marked_at signals (q ∷ ps) [] k p x all inside there is = absurd all
 marked_at signals (q ∷ ps) (y ∷ xs) zero p x all inside there is =
-    subst (λ z. HasMarked signals p z) (sym is) (subst (λ z. HasMarked signals z y) there all.0)
+    subst (λ z. IsMarkedBody signals p z) (sym is) (subst (λ z. IsMarkedBody signals z y) there all.0)
 marked_at signals (q ∷ ps) (y ∷ xs) (suc k) p x all inside there is =
     marked_at signals ps xs k p x all.1 (omega arith) there is
 
@@ -67,24 +72,32 @@ driven_walked design s total None is = tt
 driven_walked design s total (Some driven) is =
     paths_walked design s driven.process.now driven.paths is.are
 
-module _ (design : FlatDesign) (s total : ℕ) (driven : Driven)
-    (is : HasPaths design s total driven) where
-  pub as_routes : (routes : Vec Route Global) → driven.paths ≡ Routes routes
-      → AreRoutes design s driven.process.now routes.items
-  as_routes routes same = subst (ArePaths design s driven.process.now) same is.are
-
-  pub as_trails : (body : Bor Marked) (trails : Vec Trail Global) → driven.paths ≡ Trails body trails
-      → AreTrails design s driven.process.now body.now trails.items
-  as_trails body trails same = subst (ArePaths design s driven.process.now) same is.are
-
-  pub few_paths : (paths : Paths) → driven.paths ≡ paths → total + how_many paths ≤ 65536
-  few_paths paths same = subst (λ p. total + how_many p ≤ 65536) same is.few
+-- where a marked body is held, copies of the signals are
+pub held_copies : (design : FlatDesign) (held : Bodies) → AreBodiesOf design held → (k : ℕ)
+    → k < length held.marked.items → (x : Option Marked) → x ≡ get_or held.marked.items k x
+    → (found : Option (Bor Marked)) → option_copied found ≡ x
+    → IfSome found (λ body. HasCopies design held)
+held_copies design held are k inside x at None same = tt
+held_copies design held are k inside x at (Some body) same =
+    are.copies body.now (subst (Contains held.marked.items) (sym at ∙ sym same)
+    (Contains-get_or held.marked.items k x inside))
 
 -- ---- the process that drives the target
 
+-- where no process drives the target, none assigns it
+pub none_for : (flat : Flat) → IsDesign (design_of flat) → (s : ℕ) → s < length flat.signals.items
+    → driver_of (design_of flat) s ≡ None → IsMarkedFor (design_of flat) s None
+none_for flat is s known none q q_at own =
+    let design = design_of flat in
+    let is_known = lt-ltb s (length design.signals)
+    (subst (λ n. s < n) (sym (length_mapped signal_form flat.signals.items)) known) in
+    absurd (Contains-nil q (subst (λ ps. Contains ps q)
+    (no_driver design is.is_sound is.is_admitted s is_known none)
+    (Contains-filter (λ (y : ProcessForm). assigns y.body s) (processes_of design) q q_at own)))
+
 module _ (flat : Flat) (is : IsDesign (design_of flat)) (s : ℕ)
     (known : s < length flat.signals.items) (bodies : List (Option Marked))
-    (all : AllZip (HasMarked (design_of flat).signals) (processes_of (design_of flat)) bodies)
+    (all : AllZip (IsMarkedBody (design_of flat).signals) (processes_of (design_of flat)) bodies)
     (k : ℕ) (driven : driver_of (design_of flat) s ≡ Some k) (p : ProcessForm)
     (there : get_or (processes_of (design_of flat)) k p ≡ p) where
   abbrev design : FlatDesign
@@ -97,23 +110,34 @@ module _ (flat : Flat) (is : IsDesign (design_of flat)) (s : ℕ)
   pub inside_marked : k < length bodies
   inside_marked =
       subst (λ n. k < n)
-      (sym (AllZip-long (HasMarked design.signals) (processes_of design) bodies all))
+      (sym (AllZip-long (IsMarkedBody design.signals) (processes_of design) bodies all))
       (position-Some (λ (q : ProcessForm). assigns q.body s) (processes_of design) k p driven).0
 
-  has_marked : (x : Option Marked) → x ≡ get_or bodies k x → HasMarked design.signals p x
+  has_marked : (x : Option Marked) → x ≡ get_or bodies k x → IsMarkedBody design.signals p x
   has_marked x at =
       marked_at design.signals (processes_of design) bodies k p x all inside_marked there at
+
+  -- so it is for whatever process assigns the target
+  pub marked_for : (x : Option Marked) → x ≡ get_or bodies k x → (found : Option (Bor Marked))
+      → option_copied found ≡ x → IsMarkedFor design s found
+  marked_for x at found same q q_at own =
+      let alone = (one_driver_at design is.is_sound is.is_admitted s is_known k p driven).2
+      ∙ ap (λ y. y ∷ []) there in
+      let is_p = only p q (subst (λ ps. Contains ps q) alone
+      (Contains-filter (λ (y : ProcessForm). assigns y.body s) (processes_of design) q q_at own)) in
+      subst (λ y. IsMarkedBody design.signals y (option_copied found)) is_p
+      (subst (IsMarkedBody design.signals p) (sym same) (has_marked x at))
 
   -- where the process has no marked body, none of its reads is an earlier one
   pub unmarked : (x : Option Marked) → x ≡ get_or bodies k x → x ≡ None
       → marked design.signals (is_block p.kind) p.body no_bits ≡ p.body
-  unmarked x at none = body_left design.signals (is_block p.kind) p.body no_bits
-      (subst (HasMarked design.signals p) none (has_marked x at))
+  unmarked x at none = marked_itself design.signals (is_block p.kind) p.body no_bits no_bits
+      (subst (IsMarkedBody design.signals p) none (has_marked x at))
 
   module _ (x : Option Marked) (at : x ≡ get_or bodies k x) (body : Marked)
       (is_body : x ≡ Some body) where
-    has_body : HasMarked design.signals p (Some body)
-    has_body = subst (HasMarked design.signals p) is_body (has_marked x at)
+    has_body : IsMarkedBody design.signals p (Some body)
+    has_body = subst (IsMarkedBody design.signals p) is_body (has_marked x at)
 
     is_process : Contains (processes_of design) p
     is_process = subst (Contains (processes_of design)) there

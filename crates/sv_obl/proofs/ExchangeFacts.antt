@@ -7,9 +7,8 @@ use Rattle.std.proofs.lemmas.List.{length-map}
 use Rattle.std.proofs.lemmas.List.Elements.{All-head, All-tail}
 use Rattle.sv_num.specs.declared.faults.Place.{Place}
 use Rattle.sv_flat.specs.ByNumber.{signal_forms}
-use Rattle.sv_flat.specs.Design.{SignalForm, PieceForm, TypedTree, typed, constant, mend}
+use Rattle.sv_flat.specs.Design.{SignalForm, PieceForm, TypedTree, typed, constant}
 use Rattle.sv_flat.specs.Readings.{ReadForm, bit_read, whole_read, indexed_read, is_constant}
-use Rattle.sv_flat.specs.Soundness.{is_whole}
 use Rattle.sv_flat.specs.Values.{signal_of, signal_width, number_of}
 use Rattle.sv_flat.specs.Views.{signal_form, piece_form, typed_tree}
 use Rattle.sv_flat.specs.declared.signals.Signal.{Signal}
@@ -19,29 +18,7 @@ use Rattle.sv_obl.specs.declared.exchange.Put.TheVariants.{Pieces, Zero}
 use Rattle.sv_obl.specs.Exchange.{Instead, name, content}
 use Rattle.sv_obl.specs.PutIn.{put_for, is_put_for, value_put, AreInWords}
 use Rattle.sv_obl.specs.RouteViews.{piece_forms}
-use Rattle.sv_obl.specs.Wanted.{is_copy, original, piece_value, with_piece_put, put_value}
-
--- ---- one piece
-
-module _ (signals : List SignalForm) (right : TypedTree) (s : ℕ) (old : TypedTree)
-    (piece : PieceForm) where
-  abbrev mended : TypedTree
-  mended = typed (signal_width signals s) (signal_of signals s).signed
-      (mend s old piece.high piece.low (piece_value right piece))
-
-  abbrev pieced : Bool → Bool → TypedTree
-  pieced own whole = cond (not own) old (cond whole (piece_value right piece) mended)
-
-  pub other_piece : (piece.signal == s) ≡ false → old ≡ with_piece_put signals right s old piece
-  other_piece none = sym (ap (λ b. pieced b (is_whole signals piece)) none)
-
-  pub whole_piece : (piece.signal == s) ≡ true → is_whole signals piece ≡ true
-      → piece_value right piece ≡ with_piece_put signals right s old piece
-  whole_piece own whole = sym (ap₂ pieced own whole)
-
-  pub part_piece : (piece.signal == s) ≡ true → is_whole signals piece ≡ false
-      → mended ≡ with_piece_put signals right s old piece
-  part_piece own part = sym (ap₂ pieced own part)
+use Rattle.sv_obl.specs.Wanted.{is_copy, original, put_value}
 
 abbrev IsInWord : PieceForm → Type 0
 IsInWord p = (p.low ≤ p.high) × (p.high < 64) × (p.from < 64)

@@ -1,10 +1,9 @@
 -- Bits around a statement, and what a name is there.
-use Rattle.std.proofs.Common.{◌≡◌, ℕ, Bool, true, false, ◌||◌, List, cond, sym, ap, ap₂, subst, ◌∙◌}
-use Rattle.std.proofs.Common.{refl, rules, Bor}
+use Rattle.std.proofs.Common.{◌≡◌, ℕ, ◌||◌, List, ap, ap₂, ◌∙◌}
+use Rattle.std.proofs.Common.{rules, Bor}
 use Rattle.std.specs.List.{list_any}
 use mathlib.Core.Path.{fun_ext}
-use Rattle.sv_flat.specs.Assigned.{has_bit, can_assign}
-use Rattle.sv_flat.specs.Design.{FlatStatement}
+use Rattle.sv_flat.specs.Assigned.{has_bit}
 use Rattle.sv_flat.specs.Readings.{BitSet, either}
 use Rattle.sv_flat.specs.declared.statements.Piece.{Piece}
 use Rattle.sv_design.proofs.EntryFacts.{nothing_in}

@@ -6,6 +6,8 @@ pub mod DrivenTargets
 pub mod DrivenTrails
 pub mod ExchangeFacts
 pub mod FalsifyExamples
+pub mod FormedExchange
+pub mod FormedPaths
 pub mod GuardedDesigns
 pub mod IndexedArmFacts
 pub mod IndexedFacts
@@ -23,7 +25,6 @@ pub mod MarkedValues
 pub mod MarkedWords
 pub mod MarkingFacts
 pub mod NameFacts
-pub mod NoCopies
 pub mod NumberSets
 pub mod OnTheWay
 pub mod OneDriver
@@ -40,6 +41,7 @@ pub mod RouteFacts
 pub mod RouteNames
 pub mod RouteObligations
 pub mod RoutePaths
+pub mod SameWalks
 pub mod SliceChains
 pub mod SliceFacts
 pub mod StatementFacts

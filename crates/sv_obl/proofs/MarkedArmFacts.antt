@@ -1,22 +1,23 @@
 -- Chains of branches that are marked, arm by arm.
-use Rattle.std.proofs.Common.{◌≡◌, ℕ, Bool, true, ◌||◌, List, [], ◌∷◌, ◌++◌, refl, sym, ap, ap₂, subst}
+use Rattle.std.proofs.Common.{◌≡◌, ℕ, true, ◌||◌, List, [], ◌∷◌, ◌++◌, refl, sym, ap, ap₂, subst}
 use Rattle.std.proofs.Common.{◌∙◌}
 use Rattle.std.proofs.lemmas.Bool.{and_parts}
 use Rattle.std.specs.Prelude.{IsTrue}
-use Rattle.sv_num.specs.declared.faults.Place.{Place}
 use Rattle.sv_flat.specs.Assigned.{can_assign}
-use Rattle.sv_flat.specs.Design.{SignalForm, TypedTree, FlatStatement, branch}
+use Rattle.sv_flat.specs.Design.{SignalForm, TypedTree, FlatStatement, nothing, branch}
 use Rattle.sv_flat.specs.Readings.{BitSet, either}
 use Rattle.sv_flat.specs.Soundness.{well_formed, statement_sound}
 use Rattle.sv_flat.specs.Views.{typed_tree}
 use Rattle.sv_obl.specs.declared.later.Bits.{Bits}
 use Rattle.sv_obl.specs.declared.marked.Marked.{Marked}
 use Rattle.sv_obl.specs.declared.marked.MarkedArm.{MarkedArm}
+use Rattle.sv_obl.specs.BodySlices.{in_sequence}
 use Rattle.sv_obl.specs.Later.{in_bits}
-use Rattle.sv_obl.specs.Marked.{marked_statement, GoesAs, IsBranch, IsMarking}
+use Rattle.sv_obl.specs.Marked.{IsBranch, IsMarking}
+use Rattle.sv_obl.specs.MarkedBodies.{marked_statement}
 use Rattle.sv_obl.specs.MarkedArms.{IsArm, AreArms, AreConditions}
 use Rattle.sv_obl.specs.Wanted.{marked as marked_as, marked_tree}
-use Rattle.sv_obl.proofs.MarkedFacts.{or_turned, goes_branch}
+use Rattle.sv_obl.proofs.MarkedFacts.{or_turned, parts_branch}
 
 -- the arms so far, and what is left, which is the second arm of the last one
 pub record OpenArms (signals : List SignalForm) (later : BitSet) (whole rest : FlatStatement)
@@ -108,13 +109,13 @@ module _ (signals : List SignalForm) (later : BitSet) where
       subst (λ z. IsMarking signals later z x all) (sym is.is_branch)
       (record {
         is_marked = record {
-          goes = subst (λ z. GoesAs z (marked_as signals true statement later))
-              (sym (made_branch.statement_is ∙ ap (λ e. branch arm.place e
-              (marked_statement arm.yes) (marked_statement rest)) cond_is))
-              (goes_branch arm.place tree (marked_statement arm.yes)
+          parts = ap (λ (z : FlatStatement). in_sequence z nothing)
+              (made_branch.statement_is ∙ ap (λ e. branch arm.place e
+              (marked_statement arm.yes) (marked_statement rest)) cond_is)
+              ∙ parts_branch arm.place tree (marked_statement arm.yes)
               (marked_as signals true is.first later) (marked_statement rest)
-              (marked_as signals true second later) is.is_known.is_marked.goes
-              known.is_marked.goes);
+              (marked_as signals true second later) is.is_known.is_marked.parts
+              known.is_marked.parts;
           tells = made_branch.tells is.is_known.is_marked.tells known.is_marked.tells;
         };
         has_bits = has_bits;

@@ -1,37 +1,23 @@
 -- Bodies of processes, marked one after the other.
-use Rattle.std.proofs.Common.{◌≡◌, ℕ, ◌+◌, ◌<◌, Bool, false, List, [], ◌∷◌}
-use Rattle.std.proofs.Common.{◌++◌, length, map, take, get_or, Option, Some, None, refl, sym, ap, ap₂}
-use Rattle.std.proofs.Common.{subst, ◌∙◌, arith, rules, true, add-one}
-use Rattle.std.specs.Prelude.{IsTrue, IsFalse}
+use Rattle.std.proofs.Common.{◌≡◌, ℕ, ◌+◌, ◌<◌, Bool, false, ◌&&◌, List, [], ◌∷◌}
+use Rattle.std.proofs.Common.{◌++◌, length, map, take, get_or, Option, Some, None, sym, ap}
+use Rattle.std.proofs.Common.{subst, ◌∙◌, rules, true, add-one}
 use Rattle.std.specs.List.{AllZip}
 use Rattle.std.proofs.Math.Seq.{take-suc}
 use Rattle.std.proofs.lemmas.List.{map-append}
 use Rattle.sv_flat.specs.declared.designs.Process.{Process}
 use Rattle.sv_flat.specs.Design.{SignalForm, FlatStatement, ProcessForm}
 use Rattle.sv_flat.specs.Processes.{is_block}
-use Rattle.sv_flat.specs.Readings.{no_bits}
-use Rattle.sv_flat.specs.Soundness.{statement_sound}
+use Rattle.sv_flat.specs.Readings.{no_bits, is_followed}
 use Rattle.sv_flat.specs.Views.{process_form}
 use Rattle.sv_obl.specs.declared.marked.Marked.{Marked}
 use Rattle.sv_obl.specs.declared.later.Scope.{Nothing, the_lemmas}
 use Rattle.sv_obl.specs.Later.{in_scope}
-use Rattle.sv_obl.specs.Marked.{marked_statement, has_copy, IsMarkedOf, HasMarked}
+use Rattle.sv_obl.specs.Marked.{has_copy}
+use Rattle.sv_obl.specs.MarkedBodies.{marked_statement, IsMarkedOf, IsMarkedBody}
 use Rattle.sv_obl.specs.Wanted.{marked as marked_as}
-use Rattle.sv_obl.proofs.NoCopies.{no_copies}
-use Rattle.sv_obl.proofs.Unchanged.{marked_itself}
-
-module _ (signals : List SignalForm) where
-  abbrev count : ℕ
-  count = length signals
-
-  -- a body that is no block's is marked as it is
-  pub none_marked : (in_block : Bool) (body : FlatStatement) → in_block ≡ false
-      → IsTrue (statement_sound signals body)
-      → IsFalse (has_copy count (marked_as signals in_block body no_bits))
-  none_marked in_block body is h =
-      ap (λ b. has_copy count (marked_as signals b body no_bits)) is
-      ∙ ap (has_copy count) (marked_itself signals false body no_bits no_bits (λ r at. refl))
-      ∙ no_copies signals body h
+use Rattle.sv_obl.proofs.SameWalks.{same_copies}
+use Rattle.sv_obl.proofs.Unmarked.{none_earlier}
 
 -- ---- one process
 
@@ -39,32 +25,29 @@ nothing_later : in_scope Nothing ≡ no_bits
 nothing_later = search (rules, the_lemmas)
 
 module _ (signals : List SignalForm) (process : ProcessForm) where
-  abbrev in_it : FlatStatement
-  in_it = marked_as signals (is_block process.kind) process.body no_bits
-
-  pub not_marked : is_block process.kind ≡ false
-      → IsTrue (statement_sound signals process.body) → HasMarked signals process None
-  not_marked is sound = none_marked signals (is_block process.kind) process.body is sound
+  pub not_marked : is_block process.kind ≡ false → IsMarkedBody signals process None
+  not_marked is = λ r at. ap (λ b. b && is_followed signals r) is
 
   module _ (x : Marked) (block : is_block process.kind ≡ true)
       (is : IsMarkedOf (marked_as signals true process.body (in_scope Nothing)) x) (n : ℕ)
       (many : n ≡ length signals) (found : Bool)
       (tells : found ≡ has_copy n (marked_statement x)) where
+    abbrev in_it : FlatStatement
+    in_it = marked_as signals (is_block process.kind) process.body no_bits
+
     is_it : IsMarkedOf in_it x
     is_it = subst (λ b. IsMarkedOf (marked_as signals b process.body no_bits) x) (sym block)
         (subst (λ l. IsMarkedOf (marked_as signals true process.body l) x) nothing_later is)
 
-    copies_are : found ≡ has_copy (length signals) in_it
-    copies_are =
-        tells
-        ∙ ap (λ k. has_copy k (marked_statement x)) many
-        ∙ (is_it.goes).copies (length signals)
+    pub is_marked : IsMarkedBody signals process (Some x)
+    is_marked = (is_it, block)
 
-    pub some_marked : found ≡ true → HasMarked signals process (Some x)
-    some_marked so = (is_it, sym copies_are ∙ so)
-
-    pub none_found : found ≡ false → HasMarked signals process None
-    none_found so = sym copies_are ∙ so
+    pub none_found : found ≡ false → IsMarkedBody signals process None
+    none_found so =
+        none_earlier signals (is_block process.kind) process.body no_bits no_bits
+        (sym (same_copies (length signals) (marked_statement x) in_it is_it.parts)
+        ∙ sym (tells ∙ ap (λ k. has_copy k (marked_statement x)) many)
+        ∙ so)
 
 -- ---- processes
 
@@ -77,13 +60,13 @@ one_more same (z ∷ xs) (w ∷ ys) x y all one = (all.0, one_more same xs ys x 
 
 pub next_body : (signals : List SignalForm) (ps : List Process) (i : ℕ) (p : Process)
     (old new : List (Option Marked)) (x : Option Marked) → i < length ps → p ≡ get_or ps i p
-    → AllZip (HasMarked signals) (map process_form (take i ps)) old
-    → HasMarked signals (process_form p) x → new ≡ old ++ x ∷ []
-    → AllZip (HasMarked signals) (map process_form (take (i + 1) ps)) new
+    → AllZip (IsMarkedBody signals) (map process_form (take i ps)) old
+    → IsMarkedBody signals (process_form p) x → new ≡ old ++ x ∷ []
+    → AllZip (IsMarkedBody signals) (map process_form (take (i + 1) ps)) new
 next_body signals ps i p old new x inside is so made items =
-    subst (AllZip (HasMarked signals) (map process_form (take (i + 1) ps))) (sym items)
-    (subst (λ fs. AllZip (HasMarked signals) fs (old ++ x ∷ [])) (sym forms)
-    (one_more (HasMarked signals) (map process_form (take i ps)) old (process_form p) x so made))
+    subst (AllZip (IsMarkedBody signals) (map process_form (take (i + 1) ps))) (sym items)
+    (subst (λ fs. AllZip (IsMarkedBody signals) fs (old ++ x ∷ [])) (sym forms)
+    (one_more (IsMarkedBody signals) (map process_form (take i ps)) old (process_form p) x so made))
   where
     forms : map process_form (take (i + 1) ps)
         ≡ map process_form (take i ps) ++ process_form p ∷ []

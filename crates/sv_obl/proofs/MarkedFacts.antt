@@ -1,8 +1,7 @@
--- Statements in which earlier reads are wanted: how they go, and what they tell.
-use Rattle.std.proofs.Common.{◌≡◌, ℕ, Bool, true, false, cond, ◌||◌, ◌==◌, List, [], ◌∷◌, ◌++◌, map}
-use Rattle.std.proofs.Common.{flat_map, fold, nat_cmp, refl, sym, ap, ap₂, subst, ◌∙◌, append-nil}
-use Rattle.std.proofs.Common.{Option, Some, None, option_to_list, length}
-use Rattle.std.specs.Prelude.{IsTrue, Contains, ◌↔◌}
+-- Statements in which earlier reads are wanted: their parts, and what they tell.
+use Rattle.std.proofs.Common.{◌≡◌, ℕ, Bool, true, false, ◌||◌, ◌==◌, List, [], ◌∷◌, ◌++◌, map}
+use Rattle.std.proofs.Common.{fold, nat_cmp, refl, sym, ap, ap₂, subst, ◌∙◌, append-nil}
+use Rattle.std.proofs.Common.{Option, Some, None, option_to_list}
 use Rattle.std.specs.BTreeSet.{BTreeSet, insert_key, contains}
 use Rattle.std.specs.List.{list_any}
 use Rattle.std.proofs.lemmas.List.Folds.{list_any-append}
@@ -20,27 +19,14 @@ use Rattle.sv_design.proofs.BitFacts.{same_answer}
 use Rattle.sv_obl.specs.declared.later.Bits.{Bits}
 use Rattle.sv_obl.specs.declared.marked.Marked.{Marked}
 use Rattle.sv_obl.specs.declared.marked.Marked as marked
-use Rattle.sv_obl.specs.Alongs.{along, next_arm, on_arm, with_step}
+use Rattle.sv_obl.specs.BodySlices.{in_sequence, SameParts}
 use Rattle.sv_obl.specs.Later.{in_bits, HasBits}
-use Rattle.sv_obl.specs.Marked.{marked_statement, targets_in, AreTargets, TellsTargets, IsChain}
-use Rattle.sv_obl.specs.Marked.{IsBranch, names_copy, has_copy, GoesAs, IsMarkedOf, IsMarking}
-use Rattle.sv_obl.specs.Marked.{stacked, AllTell, EndsIn}
-use Rattle.sv_obl.specs.Paths.{StepForm}
-use Rattle.sv_obl.specs.PutIn.{HasWords}
+use Rattle.sv_obl.specs.Marked.{targets_in, IsChain, IsBranch, IsMarking, stacked, AllTell, EndsIn}
+use Rattle.sv_obl.specs.MarkedBodies.{marked_statement, AreTargets, TellsTargets}
 use Rattle.sv_obl.specs.RouteViews.{piece_forms}
-use Rattle.sv_obl.specs.Trails.{TrailForm, trails_before, takes, wanted_signals, chosen}
-use Rattle.sv_obl.specs.Trails.{marked_by}
 use Rattle.sv_obl.specs.Wanted.{marked as marked_as, marked_tree}
 use Rattle.sv_obl.proofs.NumberSets.{put_held}
-use Rattle.sv_obl.proofs.PathLists.{flat_flat, flat_alike, flat_itself}
-
-or_three : (a b c : Bool) → ((a || b) || c) ≡ (a || (b || c))
-or_three true b c = refl
-or_three false b c = refl
-
-or_none : (a : Bool) → (a || false) ≡ a
-or_none true = refl
-or_none false = refl
+use Rattle.sv_obl.proofs.SliceFacts.{or_none, same_before}
 
 pub or_turned : (a b : Bool) → (a || b) ≡ (b || a)
 or_turned true true = refl
@@ -48,131 +34,18 @@ or_turned true false = refl
 or_turned false true = refl
 or_turned false false = refl
 
--- ---- how statements go
+-- ---- the parts of statements
 
-pub goes_itself : (a : FlatStatement) → GoesAs a a
-goes_itself a =
-    record {
-      assigned = λ s. refl;
-      copies = λ n. refl;
-      words = ((λ h. h), (λ h. h));
-      trails = λ signals s trail. refl;
-      walks = λ signals s way. refl;
-    }
+pub parts_after : (a b c d : FlatStatement) → SameParts a b → SameParts c d
+    → SameParts (after a c) (after b d)
+parts_after a b c d x y =
+    ap (in_sequence a) y ∙ same_before a b x (in_sequence d nothing)
 
-pub goes_back : (a b : FlatStatement) → GoesAs a b → GoesAs b a
-goes_back a b x = record {
-  assigned = λ s. sym (x.assigned s);
-  copies = λ n. sym (x.copies n);
-  words = (x.words.1, x.words.0);
-  trails = λ signals s trail. sym (x.trails signals s trail);
-  walks = λ signals s way. sym (x.walks signals s way);
-}
-
-pub goes_on : (a b c : FlatStatement) → GoesAs a b → GoesAs b c → GoesAs a c
-goes_on a b c x y = record {
-  assigned = λ s. x.assigned s ∙ y.assigned s;
-  copies = λ n. x.copies n ∙ y.copies n;
-  words = ((λ h. y.words.0 (x.words.0 h)), (λ h. x.words.1 (y.words.1 h)));
-  trails = λ signals s trail. x.trails signals s trail ∙ y.trails signals s trail;
-  walks = λ signals s way. x.walks signals s way ∙ y.walks signals s way;
-}
-
-both_words : (a b c d : FlatStatement) → GoesAs a b → GoesAs c d
-    → (HasWords a × HasWords c) ↔ (HasWords b × HasWords d)
-both_words a b c d x y =
-    ((λ h. (x.words.0 h.0, y.words.0 h.1)), (λ h. (x.words.1 h.0, y.words.1 h.1)))
-
-pub goes_after : (a b c d : FlatStatement) → GoesAs a b → GoesAs c d → GoesAs (after a c) (after b d)
-goes_after a b c d x y = record {
-  assigned = λ s. ap₂ (λ m n. m || n) (x.assigned s) (y.assigned s);
-  copies = λ k. ap₂ (λ m n. m || n) (x.copies k) (y.copies k);
-  words = both_words a b c d x y;
-  trails = λ signals s trail.
-      flat_alike (trails_before signals s a) (trails_before signals s b)
-      (λ u. x.trails signals s u) (trails_before signals s c trail)
-      ∙ ap (flat_map (trails_before signals s b)) (y.trails signals s trail);
-  walks = λ signals s way.
-      x.walks signals s (along signals s c way)
-      ∙ ap (along signals s b) (y.walks signals s way);
-}
-
-any_alike : (f g : ℕ → Bool) → ((t : ℕ) → f t ≡ g t) → (ts : List ℕ) → list_any f ts ≡ list_any g ts
-any_alike f g same [] = refl
-any_alike f g same (t ∷ ts) = ap₂ (λ m n. m || n) (same t) (any_alike f g same ts)
-
-module _ (place : Place) (condition : TypedTree) where
-  pub goes_branch : (a b c d : FlatStatement) → GoesAs a b → GoesAs c d
-      → GoesAs (branch place condition a c) (branch place condition b d)
-  goes_branch a b c d x y = record {
-    assigned = assigned;
-    copies = λ k. ap₂ (λ m n. names_copy k condition || m || n) (x.copies k) (y.copies k);
-    words = both_words a b c d x y;
-    trails = λ signals s trail.
-        let one = marked_by (length signals) (record { truth = true; place = place }) condition in
-        let two = marked_by (length signals) (record { truth = false; place = place }) condition in
-        let all = map one (trails_before signals s a (chosen true trail))
-        ++ map two (trails_before signals s c (chosen false trail)) in
-        ap (λ t. cond t all (trail ∷ []))
-        (any_alike (assigns (branch place condition a c)) (assigns (branch place condition b d))
-        assigned (wanted_signals trail))
-        ∙ ap₂ (λ ms ns. cond (takes (branch place condition b d) trail) (map one ms ++ map two ns)
-        (trail ∷ []))
-        (x.trails signals s (chosen true trail)) (y.trails signals s (chosen false trail));
-    walks = λ signals s way.
-        let truth = next_arm way.arms in
-        let step : StepForm = record { place = place; condition = condition; truth = truth } in
-        let one = along signals s a (on_arm way) in
-        let two = along signals s c (on_arm way) in
-        ap (λ t. cond t (with_step (length signals) step (cond truth one two)) way)
-        (any_alike (assigns (branch place condition a c)) (assigns (branch place condition b d))
-        assigned (wanted_signals way.trail))
-        ∙ ap₂ (λ m n. cond (takes (branch place condition b d) way.trail)
-        (with_step (length signals) step (cond truth m n)) way)
-        (x.walks signals s (on_arm way)) (y.walks signals s (on_arm way));
-  }
-    where
-      assigned : (s : ℕ) → assigns (branch place condition a c) s ≡
-          assigns (branch place condition b d) s
-      assigned s = ap₂ (λ m n. m || n) (x.assigned s) (y.assigned s)
-
-pub goes_three : (a b c : FlatStatement) → GoesAs (after (after a b) c) (after a (after b c))
-goes_three a b c = record {
-  assigned = λ s. or_three (assigns a s) (assigns b s) (assigns c s);
-  copies = λ k. or_three (has_copy k a) (has_copy k b) (has_copy k c);
-  words = (
-    (λ h. let front = h.0 in (front.0, (front.1, h.1))),
-    (λ h. let rest = h.1 in ((h.0, rest.0), rest.1)),
-  );
-  trails = λ signals s trail.
-      flat_alike (trails_before signals s (after a b))
-      (λ t. flat_map (trails_before signals s a) (trails_before signals s b t)) (λ t. refl)
-      (trails_before signals s c trail)
-      ∙ sym (flat_flat (trails_before signals s b) (trails_before signals s a)
-      (trails_before signals s c trail));
-  walks = λ signals s way. refl;
-}
-
-pub nothing_first : (a : FlatStatement) → GoesAs (after nothing a) a
-nothing_first a = record {
-  assigned = λ s. refl;
-  copies = λ k. refl;
-  words = ((λ h. h.1), (λ h. (tt, h)));
-  trails = λ signals s trail.
-      flat_alike (trails_before signals s nothing) (λ t. t ∷ []) (λ t. refl)
-      (trails_before signals s a trail)
-      ∙ flat_itself (trails_before signals s a trail);
-  walks = λ signals s way. refl;
-}
-
-pub nothing_last : (a : FlatStatement) → GoesAs (after a nothing) a
-nothing_last a = record {
-  assigned = λ s. or_none (assigns a s);
-  copies = λ k. or_none (has_copy k a);
-  words = ((λ h. h.0), (λ h. (h, tt)));
-  trails = λ signals s trail. append-nil (trails_before signals s a trail);
-  walks = λ signals s way. refl;
-}
+pub parts_branch : (place : Place) (condition : TypedTree) (a b c d : FlatStatement)
+    → SameParts a b → SameParts c d
+    → SameParts (branch place condition a c) (branch place condition b d)
+parts_branch place condition a b c d x y =
+    ap₂ (λ (u v : FlatStatement). after (branch place condition u v) nothing) x y
 
 -- ---- what statements tell
 
@@ -248,23 +121,12 @@ module _ (first second a b : Marked) (targets : BTreeSet ℕ)
 -- ---- one after the other
 
 one_after : (xs : List Marked) (x : Marked) → EndsIn (xs ++ x ∷ []) xs x
-one_after [] x = record {
-  goes = goes_on (after nothing (marked_statement x)) (marked_statement x)
-      (after (marked_statement x) nothing)
-      (nothing_first (marked_statement x))
-      (goes_back (after (marked_statement x) nothing) (marked_statement x)
-      (nothing_last (marked_statement x)));
-  tells = λ h. (tt, h.0);
-}
+one_after [] x = record { parts = refl; tells = λ h. (tt, h.0) }
 one_after (y ∷ xs) x =
     let rest = one_after xs x in
     record {
-      goes = goes_on (after (stacked (xs ++ x ∷ [])) (marked_statement y))
-          (after (after (marked_statement x) (stacked xs)) (marked_statement y))
-          (after (marked_statement x) (after (stacked xs) (marked_statement y)))
-          (goes_after (stacked (xs ++ x ∷ [])) (after (marked_statement x) (stacked xs))
-          (marked_statement y) (marked_statement y) rest.goes (goes_itself (marked_statement y)))
-          (goes_three (marked_statement x) (stacked xs) (marked_statement y));
+      parts = parts_after (stacked (xs ++ x ∷ [])) (after (marked_statement x) (stacked xs))
+          (marked_statement y) (marked_statement y) rest.parts refl;
       tells = λ h. let inner = rest.tells h.1 in ((h.0, inner.0), inner.1);
     }
 
@@ -279,31 +141,18 @@ pub none_popped : (old new : List Marked) (result : Option Marked)
 none_popped old new result items is =
     subst (λ all. EndsIn all new marked.Nothing)
     (sym (items ∙ ap (λ r. new ++ option_to_list r) is ∙ append-nil new))
-    (record {
-      goes = goes_back (after nothing (stacked new)) (stacked new) (nothing_first (stacked new));
-      tells = λ h. (h, tt);
-    })
+    (record { parts = refl; tells = λ h. (h, tt) })
 
 -- the last of some and those before them, taken as one
 pub two_ends : (all middle front : List Marked) (first second whole : Marked)
     → EndsIn all middle first → EndsIn middle front second → IsChain first second whole
     → EndsIn all front whole
 two_ends all middle front first second whole one two chain = record {
-  goes = goes_on (stacked all) (after (marked_statement first) (stacked middle))
-      (after (marked_statement whole) (stacked front)) one.goes
-      (goes_on (after (marked_statement first) (stacked middle))
-      (after (marked_statement first) (after (marked_statement second) (stacked front)))
-      (after (marked_statement whole) (stacked front))
-      (goes_after (marked_statement first) (marked_statement first) (stacked middle)
-      (after (marked_statement second) (stacked front)) (goes_itself (marked_statement first))
-      two.goes)
-      (subst (λ z. GoesAs
-      (after (marked_statement first) (after (marked_statement second) (stacked front)))
-      (after z (stacked front))) (sym chain.statement_is)
-      (goes_back
-      (after (after (marked_statement first) (marked_statement second)) (stacked front))
-      (after (marked_statement first) (after (marked_statement second) (stacked front)))
-      (goes_three (marked_statement first) (marked_statement second) (stacked front)))));
+  parts = one.parts
+      ∙ parts_after (marked_statement first) (marked_statement first) (stacked middle)
+      (after (marked_statement second) (stacked front)) refl two.parts
+      ∙ ap (λ (z : FlatStatement). in_sequence (after z (stacked front)) nothing)
+      (sym chain.statement_is);
   tells = λ h.
       let m = one.tells h in
       let f = two.tells m.0 in
@@ -315,7 +164,7 @@ two_ends all middle front first second whole one two chain = record {
 -- some statements of a block are marked, from the last back
 pub record BlockAt (signals : List SignalForm) (later : BitSet) (parts : List Marked)
     (statement : FlatStatement) (set : Bits) : Type 0 where
-  pub goes : GoesAs (stacked parts) (marked_as signals true statement later)
+  pub same : SameParts (stacked parts) (marked_as signals true statement later)
   pub tells : AllTell parts
   pub has_bits : HasBits set (can_assign statement)
 
@@ -328,9 +177,8 @@ module _ (signals : List SignalForm) (later : BitSet) where
       → parts ≡ [] → statement ≡ nothing → ((s b : ℕ) → in_bits none s b ≡ false)
       → BlockAt signals later parts statement none
   block_begin parts statement none empty is no_bits = record {
-    goes = subst (λ xs. GoesAs (stacked xs) (marked_as signals true statement later)) (sym empty)
-        (subst (λ z. GoesAs nothing (marked_as signals true z later)) (sym is)
-        (goes_itself nothing));
+    same = ap (λ xs. in_sequence (stacked xs) nothing) empty
+        ∙ sym (ap (λ (z : FlatStatement). in_sequence (marked_as signals true z later) nothing) is);
     tells = subst AllTell (sym empty) tt;
     has_bits = λ s b. no_bits s b ∙ sym (ap (λ z. can_assign z s b) is);
   }
@@ -344,17 +192,15 @@ module _ (signals : List SignalForm) (later : BitSet) where
       → ((s b : ℕ) → in_bits all s b ≡ (in_bits here s b || in_bits bits s b))
       → BlockAt signals later parts rest here → BlockAt signals later more whole all
   block_more parts more x inside whole first rest here bits all made is around one gains so = record {
-    goes = subst (λ xs. GoesAs (stacked xs) (marked_as signals true whole later)) (sym made)
-        (subst (λ z. GoesAs (stacked (parts ++ x ∷ [])) (marked_as signals true z later)) (sym is)
-        (goes_on (stacked (parts ++ x ∷ [])) (after (marked_statement x) (stacked parts))
-        (marked_as signals true (after first rest) later)
-        (one_after parts x).goes
-        (goes_after (marked_statement x)
+    same = ap (λ xs. in_sequence (stacked xs) nothing) made
+        ∙ (one_after parts x).parts
+        ∙ parts_after (marked_statement x)
         (marked_as signals true first (either (can_assign rest) later)) (stacked parts)
         (marked_as signals true rest later)
-        (subst (λ z. GoesAs (marked_statement x) (marked_as signals true first z)) around
-        one.is_marked.goes)
-        so.goes)));
+        (subst (λ z. SameParts (marked_statement x) (marked_as signals true first z)) around
+        one.is_marked.parts)
+        so.same
+        ∙ sym (ap (λ (z : FlatStatement). in_sequence (marked_as signals true z later) nothing) is);
     tells = subst AllTell (sym made) (tells_more parts x so.tells one.is_marked.tells);
     has_bits = λ s b.
         gains s b ∙ ap₂ (λ m n. m || n) (so.has_bits s b) (one.has_bits s b)
@@ -368,15 +214,9 @@ module _ (signals : List SignalForm) (later : BitSet) where
       → BlockAt signals later parts statement set → IsMarking signals later statement whole set
   block_end parts left whole statement set none ends so = record {
     is_marked = record {
-      goes = goes_on (marked_statement whole) (stacked parts)
-          (marked_as signals true statement later)
-          (goes_back (stacked parts) (marked_statement whole)
-          (goes_on (stacked parts) (after (marked_statement whole) nothing)
-          (marked_statement whole)
-          (subst (λ xs. GoesAs (stacked parts) (after (marked_statement whole) (stacked xs))) none
-          ends.goes)
-          (nothing_last (marked_statement whole))))
-          so.goes;
+      parts = sym (ends.parts
+          ∙ ap (λ xs. in_sequence (after (marked_statement whole) (stacked xs)) nothing) none)
+          ∙ so.same;
       tells = (ends.tells so.tells).1;
     };
     has_bits = so.has_bits;
@@ -397,11 +237,9 @@ module _ (signals : List SignalForm) (later : BitSet) where
       subst (λ z. IsMarking signals later z x set) (sym is)
       (record {
         is_marked = record {
-          goes = subst (λ z. GoesAs z
-              (marked_as signals true (assign pieces place blocking right) later))
-              (sym (goes ∙ ap (assign pieces place blocking)
-              (made_is ∙ ap (λ b. marked_tree signals true b right) around)))
-              (goes_itself (marked_as signals true (assign pieces place blocking right) later));
+          parts = ap (λ (z : FlatStatement). in_sequence z nothing)
+              (goes ∙ ap (assign pieces place blocking)
+              (made_is ∙ ap (λ b. marked_tree signals true b right) around));
           tells = tells;
         };
         has_bits = bits;

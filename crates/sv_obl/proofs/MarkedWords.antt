@@ -1,6 +1,6 @@
 -- The pieces of a sound body have bits of a word, and so have those of a body in which earlier
 -- reads are wanted.
-use Rattle.std.proofs.Common.{◌≡◌, ℕ, ◌+◌, ◌-◌, ◌<◌, ◌≤◌, Bool, ◌&&◌, nat_le, nat_lt, List, length}
+use Rattle.std.proofs.Common.{◌+◌, ◌-◌, ◌<◌, ◌≤◌, Bool, ◌&&◌, nat_le, nat_lt, List, length}
 use Rattle.std.proofs.Common.{arith, leb-true, ltb-true}
 use Rattle.std.specs.Prelude.{IsTrue}
 use Rattle.std.specs.List.{list_all}
@@ -15,9 +15,10 @@ use Rattle.sv_flat.specs.Values.{signal_width}
 use Rattle.sv_flat.proofs.Depths.{first_of, second_of, from_all}
 use Rattle.sv_flat.proofs.Members.{contained_all}
 use Rattle.sv_obl.specs.declared.marked.Marked.{Marked}
-use Rattle.sv_obl.specs.Marked.{marked_statement, IsMarkedOf}
+use Rattle.sv_obl.specs.MarkedBodies.{marked_statement, IsMarkedOf}
 use Rattle.sv_obl.specs.PutIn.{HasWords}
 use Rattle.sv_obl.specs.Wanted.{marked}
+use Rattle.sv_obl.proofs.SameWalks.{same_words}
 
 module _ (signals : List SignalForm) where
   -- marking leaves the pieces
@@ -79,9 +80,10 @@ module _ (signals : List SignalForm) where
               (statement_sound signals b) sound),
         )
 
-    -- so a body that goes as the marked one can be walked along
+    -- so a body of the same parts can be walked along
     pub walked_words : (in_block : Bool) (a : FlatStatement) (x : Marked)
         → IsMarkedOf (marked signals in_block a no_bits) x → IsTrue (statement_sound signals a)
         → HasWords (marked_statement x)
     walked_words in_block a x is sound =
-        (is.goes).words.1 (marked_words in_block a no_bits (sound_words a sound))
+        same_words (marked_statement x) (marked signals in_block a no_bits) is.parts
+        (marked_words in_block a no_bits (sound_words a sound))

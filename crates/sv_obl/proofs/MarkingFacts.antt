@@ -9,7 +9,7 @@ use Rattle.sv_flat.specs.declared.signals.Signal.{Signal}
 use Rattle.sv_flat.specs.declared.expressions.FExpr.{FExpr}
 use Rattle.sv_flat.specs.declared.expressions.FNode.TheBlock.{hidden-the_row-FExpr-0}
 use Rattle.sv_flat.specs.Design.{SignalForm, TypedTree, more_parts}
-use Rattle.sv_flat.specs.Readings.{ReadForm, BitSet, some_bit_read}
+use Rattle.sv_flat.specs.Readings.{ReadForm, BitSet}
 use Rattle.sv_flat.specs.Values.{signal_of, signal_width}
 use Rattle.sv_flat.specs.Views.{signal_form, typed_trees, parts_of, row_parts}
 use Rattle.sv_flat.proofs.Rows.{row_parts-hidden}

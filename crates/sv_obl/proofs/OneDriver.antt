@@ -8,7 +8,7 @@ use Rattle.std.specs.Prelude.{Contains, IsTrue, IsFalse}
 use Rattle.std.specs.List.{position_or_len}
 use Rattle.std.proofs.lemmas.List.Elements.{Contains-get_or}
 use Rattle.std.proofs.lemmas.List.Quantifiers.{position-Some}
-use Rattle.sv_flat.specs.Design.{ProcessForm, FlatDesign}
+use Rattle.sv_flat.specs.Design.{nothing, continuous, ProcessForm, FlatDesign}
 use Rattle.sv_flat.specs.Assigned.{assigns}
 use Rattle.sv_flat.specs.Admission.{IsAdmitted}
 use Rattle.sv_flat.specs.Soundness.{sound, is_signal}
@@ -17,6 +17,20 @@ use Rattle.sv_flat.specs.Processes.{drivers, is_top_input}
 use Rattle.sv_flat.specs.SignalLists.{driver_of}
 use Rattle.sv_flat.proofs.AdmittedFacts.{extra_at}
 use Rattle.sv_obl.proofs.PathLists.{cond_true, cond_false}
+
+-- what a read past the end of processes gives
+abbrev pub no_process : ProcessForm
+no_process = record {
+  kind = continuous;
+  place = record { line = 0; column = 0 };
+  body = nothing;
+}
+
+pub found_again : (ps : List ProcessForm) (i : ℕ) (d : ProcessForm)
+    → get_or ps i (get_or ps i d) ≡ get_or ps i d
+found_again [] i d = refl
+found_again (p ∷ ps) zero d = refl
+found_again (p ∷ ps) (suc i) d = found_again ps i d
 
 module _ {X : Type 0} (test : X → Bool) where
   -- what passes begins with the first that does

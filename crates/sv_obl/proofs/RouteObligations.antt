@@ -125,7 +125,7 @@ module _ (signals : List SignalForm) (s : ℕ) (inside : s < length signals)
     steps_left = steps_stay signals s (closed_tree signals is_register) p.steps
         (λ step at. close_leaves signals s is_register step.condition (same.conditions step at))
 
-    pub steps_same : q.steps ≡ reverse r.steps
+    steps_same : q.steps ≡ reverse r.steps
     steps_same = steps_left ∙ same.steps
 
     result_names : names_in signals q.result ≡ held r.wants ++ same.names.rest
@@ -290,7 +290,7 @@ module _ (design : FlatDesign) (p : ProcessForm) (s : ℕ) (inside : s < length 
     abbrev pub target_routes : List RouteForm
     target_routes = routes_before signals s p.body open_route
 
-    pub all_match : AllMatch signals s inside (before signals s p.body (open_path signals s))
+    all_match : AllMatch signals s inside (before signals s p.body (open_path signals s))
         target_routes
     all_match = before_match signals s inside p.body (body_is_sound design is_sound admitted p at)
         (open_path signals s) open_route (open_matches signals s inside)
@@ -302,7 +302,7 @@ module _ (design : FlatDesign) (p : ProcessForm) (s : ℕ) (inside : s < length 
     -- ---- where no read is an earlier one
 
     module _ (unmarked : marked signals (is_block p.kind) p.body no_bits ≡ p.body) where
-      pub paths_are : paths signals s p.kind p.body
+      paths_are : paths signals s p.kind p.body
           ≡ map close_path (before signals s p.body (open_path signals s))
       paths_are =
           ap (λ body. map close_path (before signals s body (open_path signals s))) unmarked

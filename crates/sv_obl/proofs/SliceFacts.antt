@@ -14,11 +14,11 @@ use Rattle.sv_obl.proofs.PathLists.{cond_false, flat_flat, flat_alike, flat_itse
 
 -- ---- sequences
 
-or_of : (a b c : Bool) → ((a || b) || c) ≡ (a || (b || c))
+pub or_of : (a b c : Bool) → ((a || b) || c) ≡ (a || (b || c))
 or_of true b c = refl
 or_of false b c = refl
 
-or_none : (b : Bool) → (b || false) ≡ b
+pub or_none : (b : Bool) → (b || false) ≡ b
 or_none true = refl
 or_none false = refl
 

@@ -1,10 +1,10 @@
 -- Trails only grow more on the walk, so it may end as soon as they are too many; and what does not
 -- take a statement stays.
 use Rattle.std.proofs.Common.{◌≡◌, ℕ, ◌+◌, ◌<◌, ◌≤◌, Bool, true, false, cond, ◌||◌}
-use Rattle.std.proofs.Common.{List, [], ◌∷◌, ◌++◌, length, map, flat_map, get_or, take, drop}
+use Rattle.std.proofs.Common.{List, [], ◌∷◌, ◌++◌, length, map, flat_map, get_or, take}
 use Rattle.std.proofs.Common.{Ok, Err}
 use Rattle.std.proofs.Common.{Result, Option, Some, None, IsErrAnd, refl, sym, ap, ap₂, subst, ◌∙◌}
-use Rattle.std.proofs.Common.{arith, length-append, append_assoc}
+use Rattle.std.proofs.Common.{arith, length-append}
 use Rattle.std.specs.Global.{Vec}
 use Rattle.std.specs.List.{list_any}
 use Rattle.std.proofs.lemmas.Bool.{false≢true}
@@ -211,17 +211,6 @@ fails_early forms more trails later e (Err y) less same h =
     subst (λ x. AddsTrails more later (Err x)) (sym same)
     (ends_early forms more trails later e less h)
 
--- where the first of two arms gives too many, both do
-pub branch_longer : (old given first second whole : List TrailForm) → given ≡ first
-    → first ++ second ≡ whole → length (old ++ given) ≤ length (old ++ whole)
-branch_longer old given first second whole same is =
-    let one = length-append old given in
-    let two = length-append old whole in
-    let three : length whole ≡ length first + length second =
-    ap length (sym is) ∙ length-append first second in
-    let four : length given ≡ length first = ap length same in
-    omega arith
-
 -- where an arm gives too many, they are as many behind its condition
 pub arm_fails : (f : TrailForm → TrailForm) (old given arm : List TrailForm)
     (trails later : Vec Trail) (e : WalkFault) (result : Result Unit WalkFault) → given ≡ arm
@@ -234,24 +223,6 @@ arm_fails f old given arm trails later e result same is h =
     let four : length given ≡ length arm = ap length same in
     fails_early (old ++ given) (old ++ map f arm) trails later e result (omega arith) is h
 
-take_front : (xs ys : List TrailForm) → take (length xs) (xs ++ ys) ≡ xs
-take_front [] ys = refl
-take_front (x ∷ xs) ys = ap (λ zs. x ∷ zs) (take_front xs ys)
-
-drop_front : (xs ys : List TrailForm) → drop (length xs) (xs ++ ys) ≡ ys
-drop_front [] ys = refl
-drop_front (x ∷ xs) ys = drop_front xs ys
-
--- those of an arm stand behind its condition
-pub arm_done : (f : TrailForm → TrailForm) (old given arm between new : List TrailForm) (start : ℕ)
-    → start ≡ length old → between ≡ old ++ given → given ≡ arm
-    → new ≡ take start between ++ map f (drop start between) → new ≡ old ++ map f arm
-arm_done f old given arm between new start at adds same is =
-    is
-    ∙ ap₂ (λ n zs. take n zs ++ map f (drop n zs)) at adds
-    ∙ ap₂ (λ xs ys. xs ++ map f ys) (take_front old given) (drop_front old given)
-    ∙ ap (λ ys. old ++ map f ys) same
-
 -- those before an arm are no more than those with it
 pub start_inside : (old given : List TrailForm) (trails : List Trail) (start : ℕ)
     → start ≡ length old → trail_forms trails ≡ old ++ given → start ≤ length trails
@@ -260,34 +231,6 @@ start_inside old given trails start at adds =
     let two = length-map trails trail_form in
     let three : length (trail_forms trails) ≡ length (old ++ given) = ap length adds in
     omega arith
-
--- a branch that is taken has the trails of its arms
-pub branch_taken : (signals : List SignalForm) (s : ℕ) (place : Place) (condition : TypedTree)
-    (first second whole : FlatStatement) (trail copied : TrailForm) → copied ≡ trail
-    → whole ≡ branch place condition first second → takes whole trail ≡ true
-    → map (marked_by (length signals) (record { truth = true; place = place }) condition)
-    (trails_before signals s first (chosen true copied))
-    ++ map (marked_by (length signals) (record { truth = false; place = place }) condition)
-    (trails_before signals s second (chosen false trail))
-    ≡ trails_before signals s whole trail
-branch_taken signals s place condition first second whole trail copied same is taken =
-    let arm : Bool → FlatStatement → TrailForm → List TrailForm = λ truth body t.
-    map (marked_by (length signals) (record { truth = truth; place = place }) condition)
-    (trails_before signals s body (chosen truth t)) in
-    ap (λ t. arm true first t ++ arm false second trail) same
-    ∙ if_taken (takes (branch place condition first second) trail)
-    (arm true first trail ++ arm false second trail) (trail ∷ [])
-    (subst (λ a. takes a trail ≡ true) is taken)
-    ∙ ap (λ a. trails_before signals s a trail) (sym is)
-
--- where the first of two arms was added, the second adds both
-pub arms_done : (old first second whole between : List TrailForm) (trails : Vec Trail)
-    (result : Result Unit WalkFault) → between ≡ old ++ first → first ++ second ≡ whole
-    → AddsTrails (between ++ second) trails result → AddsTrails (old ++ whole) trails result
-arms_done old first second whole between trails result adds is h =
-    subst (λ ts. AddsTrails ts trails result)
-    (ap (λ ts. ts ++ second) adds ∙ append_assoc old first second
-    ∙ ap (λ ts. old ++ ts) is) h
 
 pub one_too_many : (trails : List Trail) (trail : TrailForm) → 4096 ≤ length trails
     → 4096 < length (trail_forms trails ++ trail ∷ [])

@@ -1,61 +1,43 @@
 -- A target by its number in the design, and the trails through the body of the process that drives
 -- it.
-use Rattle.std.proofs.Common.{◌≡◌, ℕ, ◌+◌, ◌<◌, Bool, true, false, cond, ◌||◌, nat_le, nat_lt, List}
-use Rattle.std.proofs.Common.{◌&&◌, reverse, All}
+use Rattle.std.proofs.Common.{◌≡◌, ℕ, ◌+◌, ◌<◌, Bool, true, false, cond, nat_lt, List}
+use Rattle.std.proofs.Common.{reverse, All}
 use Rattle.std.proofs.Common.{[], ◌∷◌, length, map, flat_map, get_or, Option, Some, None, refl, sym, ap}
 use Rattle.std.proofs.Common.{ap₂, subst, ◌∙◌, append-nil}
 use Rattle.std.specs.Prelude.{Contains, IsTrue}
-use Rattle.std.specs.List.{list_any, list_all}
+use Rattle.std.specs.List.{list_any}
 use Rattle.std.proofs.lemmas.Bool.{false≢true}
 use Rattle.sv_system.proofs.Lists.{map_map}
 use Rattle.sv_flat.specs.Admission.{IsAdmitted}
 use Rattle.sv_flat.specs.Clocks.{processes_of}
-use Rattle.sv_flat.specs.Design.{SignalForm, TypedTree, FlatStatement, nothing, after, assign, branch}
+use Rattle.sv_flat.specs.Design.{FlatStatement}
 use Rattle.sv_flat.specs.Design.{ProcessForm, ProcessKind, combinational, FlatDesign}
 use Rattle.sv_flat.specs.Processes.{is_clocked, is_block, drivers}
 use Rattle.sv_flat.specs.Readings.{no_bits}
 use Rattle.sv_flat.specs.SignalLists.{driver_of}
-use Rattle.sv_flat.specs.Soundness.{sound, is_signal, well_formed, statement_sound, piece_fits}
-use Rattle.sv_flat.proofs.AdmittedFacts.{body_is_sound}
-use Rattle.sv_flat.proofs.Depths.{first_of, second_of}
-use Rattle.sv_flat.proofs.LeastSets.{from_some}
+use Rattle.sv_flat.specs.Soundness.{sound, is_signal}
 use Rattle.sv_obl.specs.declared.marked.Marked.{Marked}
-use Rattle.sv_obl.specs.Alongs.{WayForm, open_way, trail_obligation}
+use Rattle.sv_obl.specs.Alongs.{WayForm, open_way, along, trail_obligation}
 use Rattle.sv_obl.specs.Alongs.{conditions_along, trails_excess}
 use Rattle.sv_obl.specs.Answers.{excess_at}
 use Rattle.sv_obl.specs.ListLines.{step_word}
 use Rattle.sv_obl.specs.Limits.{Excess, many_paths, large_path, many_obligations, target_paths}
-use Rattle.sv_obl.specs.Marked.{marked_statement, IsMarkedOf, names_copy, has_copy}
+use Rattle.sv_obl.specs.MarkedBodies.{marked_statement, IsMarkedOf}
 use Rattle.sv_obl.specs.Obligations.{flow, is_link, frame_of, path_obligation, target_obligations}
 use Rattle.sv_obl.specs.Paths.{Path, step_with, paths}
-use Rattle.sv_obl.specs.Routes.{names_in}
 use Rattle.sv_obl.specs.Trails.{TrailForm, open_trail, trails_before}
-use Rattle.sv_obl.specs.Wanted.{with_copies, closed_tree, marked}
+use Rattle.sv_obl.specs.Wanted.{closed_tree, marked}
 use Rattle.sv_obl.specs.Written.{mark_word}
-use Rattle.sv_obl.proofs.NoCopies.{no_copies}
 use Rattle.sv_obl.proofs.OneDriver.{one_driver_at}
-use Rattle.sv_obl.proofs.PutAlone.{well_formed_settled, settled_names}
-use Rattle.sv_obl.proofs.RouteNames.{names_alike}
+use Rattle.sv_obl.proofs.SameWalks.{same_trails, same_along}
 use Rattle.sv_obl.proofs.TrailDesigns.{marked_pieces, marked_signals}
 use Rattle.sv_obl.proofs.TrailObligations.{target_is, target_large, target_count, target_marks}
 use Rattle.sv_obl.proofs.TrailObligations.{target_names}
 use Rattle.sv_obl.proofs.TrailTells.{mark_of}
-use Rattle.sv_obl.proofs.Unchanged.{marked_itself}
 
--- ---- copies
-
-module _ (signals : List SignalForm) where
-  -- where a copy is named the process is an `always @*`
-  copied_block : (kind : ProcessKind) (body : FlatStatement)
-      → IsTrue (statement_sound signals body)
-      → IsTrue (has_copy (length signals) (marked signals (is_block kind) body no_bits))
-      → is_clocked kind ≡ false
-  copied_block combinational body sound copied = refl
-  copied_block kind body sound copied = absurd (false≢true
-      (sym (no_copies signals body sound)
-      ∙ ap (has_copy (length signals))
-      (sym (marked_itself signals false body no_bits no_bits (λ r at. refl)))
-      ∙ copied))
+unclocked_block : (kind : ProcessKind) → is_block kind ≡ true → is_clocked kind ≡ false
+unclocked_block combinational is = refl
+unclocked_block kind is = absurd (false≢true is)
 
 -- ---- one target
 
@@ -63,9 +45,8 @@ module _ (design : FlatDesign) (is_sound : IsTrue (sound design)) (admitted : Is
     (s : ℕ) (known : IsTrue (is_signal design.signals s)) (k : ℕ) (p : ProcessForm)
     (driven : driver_of design s ≡ Some k) (there : get_or (processes_of design) k p ≡ p)
     (x : Marked)
-    (goes : IsMarkedOf (marked design.signals (is_block p.kind) p.body no_bits) x)
-    (copied : IsTrue (has_copy (length design.signals)
-    (marked design.signals (is_block p.kind) p.body no_bits))) where
+    (is : IsMarkedOf (marked design.signals (is_block p.kind) p.body no_bits) x)
+    (block : is_block p.kind ≡ true) where
   abbrev body : FlatStatement
   body = marked design.signals (is_block p.kind) p.body no_bits
 
@@ -85,11 +66,16 @@ module _ (design : FlatDesign) (is_sound : IsTrue (sound design)) (admitted : Is
       ∙ append-nil (paths design.signals s p.kind p.body)
 
   unclocked : is_clocked p.kind ≡ false
-  unclocked = copied_block design.signals p.kind p.body
-      (body_is_sound design is_sound admitted p at) copied
+  unclocked = unclocked_block p.kind block
 
-  same_trails : trails ≡ trails_before design.signals s body (open_trail s)
-  same_trails = goes.goes.trails design.signals s (open_trail s)
+  trails_are : trails ≡ trails_before design.signals s body (open_trail s)
+  trails_are = same_trails design.signals s (marked_statement x) body is.parts (open_trail s)
+
+  walks_are : (t : TrailForm)
+      → along design.signals s (marked_statement x) (open_way s t.choices)
+      ≡ along design.signals s body (open_way s t.choices)
+  walks_are t =
+      same_along design.signals s (marked_statement x) body is.parts (open_way s t.choices)
 
   -- the limits by the number of paths and whether one is large
   abbrev excess_of : (total count : ℕ) → Bool → Option Excess
@@ -100,7 +86,7 @@ module _ (design : FlatDesign) (is_sound : IsTrue (sound design)) (admitted : Is
 
   pub trails_excess_same : (total : ℕ) → trails_excess s total trails ≡ excess_at design total s
   trails_excess_same total =
-      ap (trails_excess s total) same_trails
+      ap (trails_excess s total) trails_are
       ∙ sym (
       ap (λ found. excess_of total (length found) (list_any (λ (path : Path).
       nat_lt 65536 path.nodes) found)) paths_are
@@ -119,7 +105,7 @@ module _ (design : FlatDesign) (is_sound : IsTrue (sound design)) (admitted : Is
     right = cond (is_link p.kind) (Some p.place) t.place;
     reads = t.names.settled;
     goal = flow s (frame_of p.kind);
-  }) (goes.goes.walks design.signals s (open_way s t.choices))
+  }) (walks_are t)
 
   all_walks : (ts : List TrailForm)
       → map (trail_obligation design.signals p s (marked_statement x)) ts
@@ -130,7 +116,7 @@ module _ (design : FlatDesign) (is_sound : IsTrue (sound design)) (admitted : Is
   pub trails_listed : map (trail_obligation design.signals p s (marked_statement x)) trails
       ≡ target_obligations [] design s
   trails_listed =
-      ap (map (trail_obligation design.signals p s (marked_statement x))) same_trails
+      ap (map (trail_obligation design.signals p s (marked_statement x))) trails_are
       ∙ all_walks (trails_before design.signals s body (open_trail s))
       ∙ sym (
       ap (flat_map (λ (q : ProcessForm).
@@ -146,16 +132,16 @@ module _ (design : FlatDesign) (is_sound : IsTrue (sound design)) (admitted : Is
   trail_words_are t among =
       ap (λ (way : WayForm). map step_word
       (reverse (map (step_with (closed_tree design.signals false)) way.steps)))
-      (goes.goes.walks design.signals s (open_way s t.choices))
+      (walks_are t)
       ∙ sym (map_map mark_word mark_of (conditions_along design.signals s body t))
       ∙ ap (map mark_word)
       (target_marks design p s unclocked (marked_pieces design is_sound admitted p at)
       (marked_signals design is_sound admitted p at) t
-      (subst (λ ts. Contains ts t) same_trails among))
+      (subst (λ ts. Contains ts t) trails_are among))
 
   pub trail_names_are : (t : TrailForm) → Contains trails t →
       All (λ i. i < length design.signals) t.names.settled
   trail_names_are t among =
       target_names design p s unclocked (marked_pieces design is_sound admitted p at)
       (marked_signals design is_sound admitted p at) t
-      (subst (λ ts. Contains ts t) same_trails among)
+      (subst (λ ts. Contains ts t) trails_are among)

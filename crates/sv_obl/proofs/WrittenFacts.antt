@@ -1,7 +1,7 @@
 -- Lines of obligations, one after the other.
 use Rattle.std.proofs.Common.{◌≡◌, ℕ, zero, suc, ◌+◌, ◌-◌, ◌<◌, ◌≤◌, List, [], ◌∷◌, ◌++◌, length}
 use Rattle.std.proofs.Common.{map, flat_map, take, get_or, All, Some, None, Result, Ok, Err}
-use Rattle.std.proofs.Common.{refl, sym, ap, ap₂, subst, ◌∙◌, arith, append_assoc, append-nil}
+use Rattle.std.proofs.Common.{refl, sym, ap, subst, ◌∙◌, arith, append_assoc, append-nil}
 use Rattle.std.proofs.Common.{length-append, IsErrAnd, Bool, true, false, cond, nat_lt, ltb-false}
 use Rattle.std.specs.Prelude.{IfErr}
 use Rattle.std.specs.List.{range_with_len, list_any}
@@ -13,7 +13,6 @@ use Rattle.sv_flat.specs.Sets.{holds, those}
 use Rattle.sv_flat.proofs.LeastSets.{those_below}
 use Rattle.sv_obl.specs.declared.faults.OblFault.{OblFault}
 use Rattle.sv_obl.specs.declared.list_texts.Lines.{Lines}
-use Rattle.sv_obl.specs.declared.queries.Query.{Query}
 use Rattle.sv_obl.specs.declared.routes.Route.{Route}
 use Rattle.sv_obl.specs.declared.trails.Trail.{Trail}
 use Rattle.sv_obl.specs.Answers.{Told, excess_at}
@@ -29,13 +28,13 @@ use Rattle.sv_obl.specs.Limits.{Excess, many_paths, large_path, many_obligations
 use Rattle.sv_obl.specs.Limits.{first_excess, excess, target_paths}
 use Rattle.sv_obl.specs.ListLines.{list_line, lines_from, list_text}
 use Rattle.sv_obl.specs.Obligations.{Obligation, target_obligations, selector_obligations}
-use Rattle.sv_obl.specs.Marked.{marked_statement}
+use Rattle.sv_obl.specs.MarkedBodies.{marked_statement}
 use Rattle.sv_obl.specs.Obligations.{obligations}
 use Rattle.sv_obl.specs.Routes.{RouteForm, names_on, route_obligation, is_large, target_excess}
 use Rattle.sv_obl.specs.RouteViews.{route_form, route_forms}
 use Rattle.sv_obl.specs.Trails.{TrailForm}
 use Rattle.sv_obl.specs.TrailViews.{trail_form, trail_forms}
-use Rattle.sv_obl.specs.Views.{obligation_of, IsAmong}
+use Rattle.sv_obl.specs.Views.{IsAmong}
 use Rattle.sv_obl.specs.ListParts.{obligations_before, obligations_from, lines_left, AreCounted}
 use Rattle.sv_obl.specs.Written.{Writes}
 use Rattle.sv_obl.proofs.DesignQueryFacts.{query_among}
@@ -278,14 +277,6 @@ module _ (design : FlatDesign) where
       ≡ obligations [] design
   before_all = refl
 
-  -- and as many
-  pub all_many : (total : ℕ) (queries : List Query)
-      → AreCounted design (length design.signals) total → map obligation_of queries ≡ selectors
-      → total + length queries ≡ length (obligations [] design)
-  all_many total queries so are =
-      ap₂ (λ a b. a + b) so.count (sym (length_mapped obligation_of queries) ∙ ap length are)
-      ∙ sym (length-append (obligations_before design (length design.signals)) selectors)
-
   -- where selectors pass no limit after the targets, the design passes none
   pub all_counted : (total : ℕ) → AreCounted design (length design.signals) total
       → first_excess design total [] ≡ excess design
@@ -355,19 +346,6 @@ module _ (design : FlatDesign) where
     where
       turned : (n k : ℕ) → n + 1 + k ≡ n + k + 1
       turned n k = omega arith
-
-  -- those of selectors are left after all targets
-  pub selectors_left : (total : ℕ) (text : List ℕ)
-      → AreCounted design (length design.signals) total
-      → text ≡ lines_from design.signals (total + 1) selectors
-      → text ≡ lines_left design (length design.signals)
-  selectors_left total text so written =
-      let n = length design.signals in
-      written
-      ∙ ap (λ k. lines_from design.signals (k + 1) selectors) so.count
-      ∙ ap (λ k. lines_from design.signals (length (obligations_before design n) + 1)
-      (flat_map (target_obligations [] design) (range_with_len n k) ++ selectors))
-      (nothing_left n)
 
 -- ---- limits
 

@@ -2,8 +2,7 @@
 -- that drives it; which obligations a target has stands in `Obligations`.
 use Rattle.std.specs.Prelude.{◌≡◌, ℕ, ◌+◌, ◌<◌, ◌≤◌, List, [], length, map, reverse, All, Contains}
 use Rattle.std.specs.Prelude.{Option, Some, None}
-use Rattle.std.specs.List.{AllZip}
-use Rattle.sv_flat.specs.Design.{ProcessForm, FlatDesign}
+use Rattle.sv_flat.specs.Design.{FlatDesign}
 use Rattle.sv_flat.specs.Processes.{is_clocked}
 use Rattle.sv_flat.specs.Views.{process_form}
 use Rattle.sv_flat.specs.declared.designs.Process.{Process}
@@ -12,12 +11,10 @@ use Rattle.sv_obl.specs.declared.routes.Route.{Route}
 use Rattle.sv_obl.specs.declared.targets.Driven.{Driven}
 use Rattle.sv_obl.specs.declared.targets.Paths.{Paths}
 use Rattle.sv_obl.specs.declared.targets.Paths.TheVariants.{Routes, Trails}
-use Rattle.sv_obl.specs.declared.targets.Walked.{Walked}
 use Rattle.sv_obl.specs.declared.trails.Trail.{Trail}
 use Rattle.sv_obl.specs.Alongs.{conditions_along, trail_obligation}
-use Rattle.sv_obl.specs.IndexedBodies.{AreIndexed}
 use Rattle.sv_obl.specs.ListLines.{step_word}
-use Rattle.sv_obl.specs.Marked.{marked_statement, TellsTargets, HasMarked}
+use Rattle.sv_obl.specs.MarkedBodies.{marked_statement, TellsTargets}
 use Rattle.sv_obl.specs.Obligations.{target_obligations}
 use Rattle.sv_obl.specs.PutIn.{HasWords}
 use Rattle.sv_obl.specs.Routes.{RouteForm, route_obligation, names_on}
@@ -82,9 +79,3 @@ ArePathsWalked (Trails body trails) = CanWalk body.now
 abbrev pub IsWalked : Option Driven → Type 0
 IsWalked None = Unit {0}
 IsWalked (Some driven) = ArePathsWalked driven.paths
-
--- the bodies of the design's processes, indexed, and where earlier reads are wanted
-pub record AreWalked (design : FlatDesign) (processes : List ProcessForm) (bodies : Walked) :
-    Type 0 where
-  pub indexed : AreIndexed processes bodies.indexed.items
-  pub marked : AllZip (HasMarked design.signals) processes bodies.marked.items

@@ -1,6 +1,6 @@
 -- Bodies in which each part tells what it assigns, so that what does not assign a target is passed
 -- over at once: what is looked up in one for a target, and of which body it is.
-use Rattle.std.specs.Prelude.{◌≡◌, ℕ, if◌then◌else◌, List, [], ◌∷◌, map, get_or, Option, Some, None}
+use Rattle.std.specs.Prelude.{ℕ, if◌then◌else◌, List, [], ◌∷◌, map, get_or, Option, Some, None}
 use Rattle.std.specs.BTreeMap.{BTreeMap, get}
 use Rattle.std.specs.BTreeSet.{contains}
 use Rattle.std.specs.Global.{Vec}

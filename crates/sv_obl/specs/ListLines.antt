@@ -8,7 +8,7 @@ use Rattle.sv_obl.specs.Asked.{asked}
 use Rattle.sv_obl.specs.declared.frames.Frame.{Frame}
 use Rattle.sv_obl.specs.declared.frames.Frame.TheVariants.{Now, Next}
 use Rattle.sv_obl.specs.Paths.{StepForm}
-use Rattle.sv_obl.specs.Obligations.{GoalForm, flow, holds, selector, Obligation, obligations}
+use Rattle.sv_obl.specs.Obligations.{GoalForm, flow, holds, selector, Obligation}
 use Rattle.sv_texts.specs.Texts.{place_text}
 
 -- each word with a blank before it

@@ -2,13 +2,12 @@
 -- selectors; and what `secv list` prints of them.
 use Rattle.std.specs.Prelude.{◌≡◌, ◌≤◌, ℕ, ◌+◌, ◌-◌, List, ◌++◌, [], length, flat_map}
 use Rattle.std.specs.List.{range_with_len}
-use Rattle.sv_flat.specs.Clocks.{processes_of}
 use Rattle.sv_flat.specs.Design.{FlatDesign}
 use Rattle.sv_flat.specs.Processes.{signal_numbers}
 use Rattle.sv_obl.specs.declared.list_parts.Listing.{Listing}
-use Rattle.sv_obl.specs.Driven.{AreWalked}
 use Rattle.sv_obl.specs.Limits.{first_excess, excess}
 use Rattle.sv_obl.specs.ListLines.{lines_from}
+use Rattle.sv_obl.specs.MarkedBodies.{AreBodiesOf}
 use Rattle.sv_obl.specs.Obligations.{Obligation, target_obligations, selector_obligations}
 
 -- the obligations of the targets before this one
@@ -38,5 +37,5 @@ pub record AreCounted (design : FlatDesign) (target total : ℕ) : Type 0 where
 
 -- this target comes next
 pub record IsAt (design : FlatDesign) (target : ℕ) (listing : Listing) : Type 0 where
-  pub bodies : AreWalked design (processes_of design) listing.bodies
+  pub bodies : AreBodiesOf design listing.bodies
   pub counted : AreCounted design target listing.count

@@ -1,6 +1,6 @@
 -- Private: how the code goes. The plain forms of trails as they are walked, and of the bodies that
 -- they go through.
-use Rattle.std.specs.Prelude.{ℕ, ◌≡◌, ◌<◌, ◌≤◌, List, map, length, Result, Ok, Err}
+use Rattle.std.specs.Prelude.{◌≡◌, ◌<◌, ◌≤◌, List, map, length, Result, Ok, Err}
 use Rattle.std.specs.Global.{Vec}
 use Rattle.sv_obl.specs.declared.faults.WalkFault.{WalkFault}
 use Rattle.sv_obl.specs.declared.faults.WalkFault.TheVariants.{TooMany, OutOfMemory}

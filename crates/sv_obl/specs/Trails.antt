@@ -1,8 +1,9 @@
 -- Private: how the code goes. Paths through a body with earlier reads, where several names are
 -- wanted at once: of conditions and of the result stands here what is asked of them later, and no
 -- expression. Which paths a target has stands in `Paths`.
-use Rattle.std.specs.Prelude.{ℕ, ◌+◌, ◌-◌, ◌*◌, min, Bool, true, false, ◌==◌, ◌&&◌, ◌||◌, nat_lt}
-use Rattle.std.specs.Prelude.{if◌then◌else◌, List, [], ◌∷◌, ◌++◌, length, map, filter, flat_map, fold}
+use Rattle.std.specs.Prelude.{ℕ, ◌+◌, ◌-◌, min, Bool, true, false, ◌==◌, ◌&&◌, nat_lt}
+use Rattle.std.specs.Prelude.{if◌then◌else◌, List, [], ◌∷◌, ◌++◌, length, map, filter, flat_map}
+use Rattle.std.specs.Prelude.{fold}
 use Rattle.std.specs.Prelude.{slice_get, Option, Some, None, is_none, is_some, option_map}
 use Rattle.std.specs.Prelude.{option_to_list, unwrap_or}
 use Rattle.std.specs.BTreeMap.{insert_entry, is_at}
@@ -157,7 +158,8 @@ with_right_put signals s pieces right trail =
       place = later_place (first_place s pieces) trail.place;
     }
 
--- the first of the pieces that is the whole of the result's own name: from which bit of the value on
+-- the first of the pieces that is the whole of the result's own name: from which bit of the value
+-- on
 abbrev pub whole_from : List SignalForm → Option ℕ → List PieceForm → Option ℕ
 whole_from signals None pieces = None
 whole_from signals (Some t) pieces =

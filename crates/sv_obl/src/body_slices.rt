@@ -1,5 +1,6 @@
 // What of a body matters to one target, so that a walk for it asks nothing twice.
-ghost use Rattle.std.specs.Prelude.{◌≡◌, ℕ, ◌-◌, ◌<◌, [], ◌++◌, map, length, is_some, IfOk, OnOk};
+ghost use Rattle.std.specs.Prelude.{◌≡◌, ℕ, ◌-◌, ◌<◌, [], ◌++◌, map, length, is_some};
+ghost use Rattle.std.specs.Prelude.{IsTrue, IfSome, IfOk, OnOk};
 ghost use Rattle.std.specs.List.{list_any};
 ghost use Rattle.sv_flat.specs.Design.{FlatStatement, assign, branch};
 ghost use Rattle.sv_flat.specs.ByNumber.{signal_forms};
@@ -7,7 +8,7 @@ ghost use Rattle.sv_flat.specs.Views.{typed_tree, design_of};
 ghost use Rattle.sv_obl.specs.BodySlices.{sliced, SameParts, slice_statement, driven_body};
 ghost use Rattle.sv_obl.specs.SliceRoutes.{is_nothing, IsSliceOf, IsChain, AreSlicesOf, EndsIn};
 ghost use Rattle.sv_obl.specs.IndexedBodies.{looked_up, chosen, numbers_at};
-ghost use Rattle.sv_obl.specs.MarkedBodies.{AreBodiesOf, IsMarkedFor};
+ghost use Rattle.sv_obl.specs.MarkedBodies.{AreBodiesOf, IsMarkedFor, HasCopies};
 ghost use Rattle.sv_obl.specs.RouteViews.{piece_forms};
 ghost use Rattle.sv_obl.specs.Wanted.{with_copies};
 
@@ -245,7 +246,7 @@ fn part_slices<'a>(
 /// with an earlier read with such reads wanted.
 #[derive(Drop)]
 pub struct Bodies<'a> {
-    pub bodies: Vec<Indexed<'a>>,
+    pub indexed: Vec<Indexed<'a>>,
     pub marked: Vec<Option<Marked<'a>>>,
     /// The signals and then their copies, where a body has an earlier read, else none.
     pub twice: Vec<Signal>,
@@ -284,21 +285,33 @@ fn has_marked(marked: &[Option<Marked>]) -> bool
     marked.iter().any(|body| body.is_some())
 }
 
+// The signals and then their copies where some body has an earlier read, else none.
+fn copies_for(
+    alloc: Global,
+    signals: &[Signal],
+    marked: &[Option<Marked>],
+) -> Result<Vec<Signal>, AllocError>
+    ensures { IfOk result (λ twice. IsTrue (list_any is_some marked.now) →
+        signal_forms twice.items ≡ with_copies (signal_forms signals.now)) }
+{
+    if has_marked(marked) {
+        return with_copies(alloc, signals);
+    }
+    Ok(Vec::new(alloc))
+}
+
 impl<'a> Bodies<'a> {
     /// Those of a design; an error where memory runs out.
     pub fn new(alloc: Global, design: &'a Design) -> Result<Bodies<'a>, AllocError>
         ensures { IfOk result (AreBodiesOf (design_of design.now)) }
     {
         let signals = design.signals();
-        let bodies = indexed_bodies(alloc, design.processes())?;
-        let marked = marked_bodies(alloc, signals, design.processes())?;
-        let twice = if has_marked(&marked) {
-            with_copies(alloc, signals)?
-        } else {
-            Vec::new(alloc)
-        };
+        let processes = design.processes();
+        let indexed = indexed_bodies(alloc, processes)?;
+        let marked = marked_bodies(alloc, signals, processes)?;
+        let twice = copies_for(alloc, signals, &marked)?;
         Ok(Bodies {
-            bodies,
+            indexed,
             marked,
             twice,
         })
@@ -318,7 +331,7 @@ impl<'a> Bodies<'a> {
             (sliced target.0 (driven_body (design_of design.now) target.0))) }
     {
         match design.driver(target) {
-            Some(place) => slice_for(&self.bodies[place], alloc, target),
+            Some(place) => slice_for(&self.indexed[place], alloc, target),
             None => Ok(BodySlice::Nothing),
         }
     }
@@ -328,7 +341,8 @@ impl<'a> Bodies<'a> {
     pub fn marked(&self, design: &Design, target: SigId) -> Option<&Marked<'a>>
         requires known { target.0 < length design.now.signals.items }
         requires bodies { AreBodiesOf (design_of design.now) self.now }
-        ensures { IsMarkedFor (design_of design.now) target.0 result }
+        ensures body { IsMarkedFor (design_of design.now) target.0 result }
+        ensures copies { IfSome result (λ body. HasCopies (design_of design.now) self.now) }
     {
         match design.driver(target) {
             Some(place) => self.marked[place].as_ref(),

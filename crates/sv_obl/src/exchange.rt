@@ -1,16 +1,17 @@
 // Values put into an expression for the names that are wanted in it.
-ghost use Rattle.std.specs.Prelude.{◌≡◌, ◌≤◌, ◌<◌, ◌+◌, ℕ, length, map, IfOk};
+ghost use Rattle.std.specs.Prelude.{◌≡◌, ◌≤◌, ◌<◌, ◌+◌, length, map, IfOk};
 ghost use Rattle.sv_flat.specs.ByNumber.{signal_forms};
 ghost use Rattle.sv_flat.specs.Design.{typed};
 ghost use Rattle.sv_flat.specs.Readings.{ReadForm};
 ghost use Rattle.sv_flat.specs.Values.{signal_of, signal_width};
-ghost use Rattle.sv_flat.specs.Views.{typed_tree, typed_trees, node_tree, piece_form, parts_of};
+ghost use Rattle.sv_flat.specs.Views.{typed_tree, typed_trees, node_tree, piece_form};
 ghost use Rattle.sv_obl.specs.Exchange.{exchanged, exchanged_node, for_whole, for_bit, for_part};
 ghost use Rattle.sv_obl.specs.PutIn.{put_for, is_put_for, value_put, found_for, AreInWords};
 ghost use Rattle.sv_obl.specs.PutIn.{CanBePut};
 ghost use Rattle.sv_obl.specs.RouteViews.{piece_forms};
 ghost use Rattle.sv_obl.specs.Wanted.{with_copies, piece_value, with_piece_put, put_value};
 
+use crate::levels::is_within;
 use crate::pieces::{is_signed, is_some_of, is_whole, width_of};
 use std::alloc::{AllocError, Global};
 use sv_flat::{FExpr, FNode, Piece, SigId, Signal};
@@ -213,9 +214,31 @@ fn for_part(found: Option<Content>, name: SigId, place: Place, high: u8, low: u8
     }
 }
 
-/// The expression with what is put into it, in place.
+// The most levels that an expression nests once something is put into it: what walks through it
+// goes as deep as it nests, so one that nests deeper is answered as want of memory.
+const MOST_LEVELS: u32 = 4096;
+
+/// The expression with what is put into it, in place; an error where it nests too deep then, or
+/// memory runs out.
+pub fn with_put(
+    expr: FExpr,
+    alloc: Global,
+    signals: &[Signal],
+    put: Put,
+) -> Result<FExpr, AllocError>
+    requires few { length signals.now < 4294967296 }
+    requires put { CanBePut put }
+    ensures { IfOk result (λ made. typed_tree made ≡ exchanged
+        (with_copies (signal_forms signals.now)) (put_for (signal_forms signals.now) put.entry)
+        (typed_tree expr)) }
+{
+    let made = exchanged(expr, alloc, signals, put)?;
+    if is_within(&made, MOST_LEVELS) { Ok(made) } else { Err(AllocError) }
+}
+
+// The expression with what is put into it, in place.
 #[cycle(exchanged)]
-pub fn exchanged(
+fn exchanged(
     expr: FExpr,
     alloc: Global,
     signals: &[Signal],

@@ -19,7 +19,7 @@
 //! of `secv list`, with no more in memory than the paths of one target and what is made of them.
 //! `Bodies` gives what of a body matters to one target, its slice (`BodySlices.antt`), and a body
 //! with its earlier reads wanted, where it has some (`MarkedBodies.antt`); for that it holds the
-//! bodies as `Listing` does (`IndexedBodies.antt`).
+//! bodies indexed too (`IndexedBodies.antt`). `Listing` walks through the same.
 //!
 //! Inside, `Routes.antt` tells paths as they are where no read is an earlier one,
 //! `IndexedStatements.antt` how a body is indexed, `IndexedArms.antt` how a chain of branches is,
@@ -28,11 +28,12 @@
 //! those seven are private: they say how the code goes; the meaning stands in the files before.
 //!
 //! A body with earlier reads is walked in a second way: `Later.antt` and `Marked.antt` say how it
-//! is marked, `MarkedArms.antt` how a chain of branches is, and `PutIn.antt` what is put into an
-//! expression; `Trails.antt` tells its paths, of which no expression is kept, `TrailViews.antt`
-//! ties them to what is walked and `TrailLines.antt` to their lines; `Alongs.antt` tells how one path is
-//! walked once more along the arms that it took, where its conditions are asked for, and
-//! `AlongViews.antt` ties that to what is walked. These nine are private too.
+//! is marked part by part, `MarkedArms.antt` how a chain of branches is, and `PutIn.antt` what is
+//! put into an expression; `Trails.antt` tells its paths, of which no expression is kept,
+//! `TrailViews.antt` ties them to what is walked and `TrailLines.antt` to their lines;
+//! `Alongs.antt` tells how one path is walked once more along the arms that it took, where its
+//! conditions are asked for, and `AlongViews.antt` ties that to what is walked. These nine are
+//! private too.
 #![tactic(auto)]
 
 mod body_slices;
@@ -43,6 +44,7 @@ mod frames;
 mod indexed;
 mod later;
 mod laws;
+mod levels;
 mod limits;
 mod list_lines;
 mod list_parts;

@@ -13,24 +13,23 @@ ghost use Rattle.sv_obl.specs.ListParts.{IsAt, AreCounted, lines_left};
 ghost use Rattle.sv_obl.specs.Obligations.{target_obligations, selector_obligations};
 ghost use Rattle.sv_obl.specs.Views.{obligation_of};
 
+use crate::body_slices::Bodies;
 use crate::faults::{MOST_OBLIGATIONS, OblFault};
-use crate::indexed::indexed_bodies;
 use crate::list_texts::{Lines, push_paths, push_queries};
-use crate::marked::marked_bodies;
 use crate::queries::Query;
 use crate::selectors::all_selectors;
-use crate::targets::{Driven, Walked, driven_paths, queries_of};
+use crate::targets::{Driven, driven_paths, queries_of};
 use std::alloc::{AllocError, Global};
 use sv_design::Design;
 use sv_flat::SigId;
 
 /// The obligations of a design in parts: those of one target after the other, in signal order, and
 /// then those of selectors; as values, or as `secv list` prints them. It holds the bodies of the
-/// processes as they are walked, and how many obligations the targets so far have. A part is to be
-/// let go before the next is made, so that no more than one stands in memory.
+/// processes, and how many obligations the targets so far have. A part is to be let go before the
+/// next is made, so that no more than one stands in memory.
 #[derive(Drop)]
 pub struct Listing<'a> {
-    pub bodies: Walked<'a>,
+    pub bodies: Bodies<'a>,
     pub count: u32,
 }
 
@@ -48,13 +47,8 @@ impl<'a> Listing<'a> {
         ensures at { IfOk result (IsAt (design_of design.now) 0) }
         ensures all { lines_left (design_of design.now) 0 ≡ list_text (design_of design.now) }
     {
-        let processes = design.processes();
-        let indexed = indexed_bodies(alloc, processes)?;
-        let marked = marked_bodies(alloc, design.signals(), processes)?;
-        Ok(Listing {
-            bodies: Walked { indexed, marked },
-            count: 0,
-        })
+        let bodies = Bodies::new(alloc, design)?;
+        Ok(Listing { bodies, count: 0 })
     }
 
     // What comes next. The listing stays where it is.

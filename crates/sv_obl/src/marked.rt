@@ -1,21 +1,21 @@
 // Bodies with earlier reads, in which those are wanted, and each part tells what it assigns.
-ghost use Rattle.std.specs.Prelude.{◌≡◌, ◌≤◌, ◌<◌, ◌-◌, ℕ, max, true, [], ◌∷◌, ◌++◌, map, fold};
+ghost use Rattle.std.specs.Prelude.{◌≡◌, ◌≤◌, ◌<◌, ◌-◌, max, true, [], ◌++◌, map, fold};
 ghost use Rattle.std.specs.Prelude.{length, All, Option, IsTrue, IsFalse, IfOk, OnOk};
 ghost use Rattle.std.specs.BTreeSet.{insert_key};
 ghost use Rattle.std.specs.List.{AllZip};
 ghost use Rattle.std.specs.Ordering.{nat_cmp};
 ghost use Rattle.sv_flat.specs.ByNumber.{signal_forms, is_branch, AreWords};
 ghost use Rattle.sv_flat.specs.Design.{FlatStatement, ProcessForm};
-ghost use Rattle.sv_flat.specs.Readings.{no_bits};
 ghost use Rattle.sv_flat.specs.Soundness.{statement_sound};
 ghost use Rattle.sv_flat.specs.Views.{typed_tree, flat_statement, flat_statements, chain_of};
 ghost use Rattle.sv_flat.specs.Processes.{is_block};
 ghost use Rattle.sv_flat.specs.Views.{process_form, process_kind};
 ghost use Rattle.sv_design.specs.ReadForms.{AreZeros};
 ghost use Rattle.sv_obl.specs.Later.{in_scope};
-ghost use Rattle.sv_obl.specs.Marked.{marked_statement, targets_in, IsChain, IsBranch};
-ghost use Rattle.sv_obl.specs.Marked.{names_copy, has_copy, IsMarking, EndsIn, HasMarked};
+ghost use Rattle.sv_obl.specs.Marked.{targets_in, IsChain, IsBranch, names_copy, has_copy};
+ghost use Rattle.sv_obl.specs.Marked.{IsMarking, EndsIn};
 ghost use Rattle.sv_obl.specs.MarkedArms.{AreArms, AreConditions};
+ghost use Rattle.sv_obl.specs.MarkedBodies.{marked_statement, IsMarkedBody};
 
 use crate::indexed::{push_pieces, push_set};
 use crate::later::{Bits, Scope};
@@ -353,7 +353,7 @@ fn marked_body<'a>(
     requires zeros { AreZeros (length signals.now) zeros.now }
     requires body { IsTrue
         (statement_sound (signal_forms signals.now) (flat_statement process.now.body)) }
-    ensures { IfOk result (HasMarked (signal_forms signals.now) (process_form process.now)) }
+    ensures { IfOk result (IsMarkedBody (signal_forms signals.now) (process_form process.now)) }
 {
     if !is_block(process.kind) {
         return Ok(None);
@@ -374,8 +374,9 @@ pub fn marked_bodies<'a>(
     requires bodies { All (λ (process : ProcessForm). IsTrue
         (statement_sound (signal_forms signals.now) process.body))
         (map process_form processes.now) }
-    ensures { IfOk result (λ bodies. AllZip (HasMarked (signal_forms signals.now))
+    ensures bodies { IfOk result (λ bodies. AllZip (IsMarkedBody (signal_forms signals.now))
         (map process_form processes.now) bodies.items) }
+    ensures few { OnOk result (length signals.now ≤ 2147483647) }
 {
     if signals.len() > 2_147_483_647 {
         return Err(AllocError);

@@ -3,24 +3,23 @@ ghost use Rattle.std.specs.Prelude.{◌≡◌, ℕ, ◌<◌, ◌≤◌, [], ◌+
 ghost use Rattle.std.specs.Prelude.{OnOk};
 ghost use Rattle.sv_flat.specs.ByNumber.{signal_forms};
 ghost use Rattle.sv_flat.specs.Processes.{is_clocked};
-ghost use Rattle.sv_flat.specs.Clocks.{processes_of};
 ghost use Rattle.sv_flat.specs.Design.{FlatDesign};
 ghost use Rattle.sv_flat.specs.Views.{process_form, process_kind, design_of};
 ghost use Rattle.sv_design.specs.Designs.{IsDesign};
 ghost use Rattle.sv_obl.specs.Answers.{Answers, excess_at};
 ghost use Rattle.sv_obl.specs.Alongs.{trail_obligation, trails_excess};
-ghost use Rattle.sv_obl.specs.Driven.{how_many, CanWalk, IsDriven, IsWalked, AreWalked};
-ghost use Rattle.sv_obl.specs.Marked.{marked_statement, TellsTargets};
+ghost use Rattle.sv_obl.specs.Driven.{how_many, CanWalk, IsDriven, IsWalked};
+ghost use Rattle.sv_obl.specs.MarkedBodies.{marked_statement, TellsTargets, AreBodiesOf};
 ghost use Rattle.sv_obl.specs.Trails.{open_trail, trails_before};
 ghost use Rattle.sv_obl.specs.TrailViews.{trail_forms};
 ghost use Rattle.sv_obl.specs.Obligations.{target_obligations};
 ghost use Rattle.sv_obl.specs.Routes.{RouteForm, open_route, routes_before, names_on};
 ghost use Rattle.sv_obl.specs.Routes.{route_obligation, target_excess};
-ghost use Rattle.sv_obl.specs.IndexedBodies.{looked_up, AreIndexed};
+ghost use Rattle.sv_obl.specs.IndexedBodies.{looked_up};
 ghost use Rattle.sv_obl.specs.RouteViews.{route_forms, Finds};
 ghost use Rattle.sv_obl.specs.Views.{obligation_of};
 
-use crate::body_slices::slice_for;
+use crate::body_slices::{Bodies, slice_for};
 use crate::faults::{MOST_OBLIGATIONS, OblFault, WalkFault};
 use crate::indexed::Indexed;
 use crate::marked::Marked;
@@ -69,14 +68,6 @@ impl<'m, 'a> Paths<'m, 'a> {
 pub struct Driven<'d, 'm, 'a> {
     pub process: &'d Process,
     pub paths: Paths<'m, 'a>,
-}
-
-/// The bodies of processes, as they are walked: indexed, and those with earlier reads with these
-/// wanted.
-#[derive(Drop)]
-pub struct Walked<'a> {
-    pub indexed: Vec<Indexed<'a>>,
-    pub marked: Vec<Option<Marked<'a>>>,
 }
 
 // The paths of the target through the process, where they are few enough.
@@ -157,17 +148,16 @@ fn trails_within(
 }
 
 /// The target's paths through the process that drives it, if one does, where they keep all limits
-/// after so many obligations. The bodies of the processes are given as they are walked.
+/// after so many obligations, given the bodies of the processes.
 pub fn driven_paths<'d, 'm, 'a>(
     alloc: Global,
     design: &'d Design,
-    bodies: &'m Walked<'a>,
+    bodies: &'m Bodies<'a>,
     target: SigId,
     total: usize,
 ) -> Result<Option<Driven<'d, 'm, 'a>>, OblFault>
     requires known { target.0 < length design.now.signals.items }
-    requires bodies { AreWalked (design_of design.now) (processes_of (design_of design.now))
-        bodies.now }
+    requires bodies { AreBodiesOf (design_of design.now) bodies.now }
     requires few { total ≤ 65536 }
     ensures excess { Answers (excess_at (design_of design.now) total target.0) result }
     ensures driven { IfOk result (IsDriven (design_of design.now) target.0 total) }

@@ -8,7 +8,7 @@ ghost use Rattle.sv_obl.specs.Alongs.{along_assign, along};
 ghost use Rattle.sv_obl.specs.Alongs.{conditions_along, trail_obligation};
 ghost use Rattle.sv_obl.specs.AlongViews.{way_form};
 ghost use Rattle.sv_obl.specs.Exchange.{exchanged as exchanged_tree};
-ghost use Rattle.sv_obl.specs.Marked.{marked_statement, TellsTargets};
+ghost use Rattle.sv_obl.specs.MarkedBodies.{marked_statement, TellsTargets};
 ghost use Rattle.sv_obl.specs.Paths.{step_with};
 ghost use Rattle.sv_obl.specs.PutIn.{put_for, CanBePut, AreInWords, HasWords};
 ghost use Rattle.sv_obl.specs.RouteViews.{piece_forms};
@@ -16,7 +16,7 @@ ghost use Rattle.sv_obl.specs.TrailViews.{trail_form};
 ghost use Rattle.sv_obl.specs.Views.{step_form, obligation_of};
 ghost use Rattle.sv_obl.specs.Wanted.{with_copies};
 
-use crate::exchange::{Put, exchanged};
+use crate::exchange::{Put, with_put};
 use crate::list_lines::Mark;
 use crate::marked::Marked;
 use crate::path_queries::{frame_of, place_of};
@@ -79,7 +79,7 @@ impl<'c> Making<'c> {
     }
 }
 
-// The conditions with what is put into each.
+// The conditions with what is put into each; an error where one nests too deep then.
 fn put_in_steps(
     alloc: Global,
     signals: &[Signal],
@@ -96,7 +96,7 @@ fn put_in_steps(
     for step in steps {
         made.push(Step {
             place: step.place,
-            cond: exchanged(step.cond, alloc, signals, put)?,
+            cond: with_put(step.cond, alloc, signals, put)?,
             truth: step.truth,
         })?;
     }

@@ -3,7 +3,7 @@ ghost use Rattle.std.specs.Prelude.{◌≡◌, ◌<◌, ◌≤◌, ◌^◌, ◌�
 ghost use Rattle.std.specs.Prelude.{drop, None, OnOk};
 ghost use Rattle.sv_flat.specs.ByNumber.{signal_forms};
 ghost use Rattle.sv_flat.specs.Views.{typed_tree};
-ghost use Rattle.sv_obl.specs.Marked.{marked_statement, TellsTargets};
+ghost use Rattle.sv_obl.specs.MarkedBodies.{marked_statement, TellsTargets};
 ghost use Rattle.sv_obl.specs.RouteViews.{piece_forms};
 ghost use Rattle.sv_obl.specs.Trails.{open_trail, takes, chosen, marked_by, with_own_ways};
 ghost use Rattle.sv_obl.specs.Trails.{with_own_put, with_assign, trails_before};

@@ -5,7 +5,7 @@ ghost use Rattle.std.specs.List.{list_any};
 ghost use Rattle.std.specs.BTreeSet.{contains};
 ghost use Rattle.std.specs.Ordering.{nat_cmp};
 ghost use Rattle.sv_flat.specs.ByNumber.{signal_forms};
-ghost use Rattle.sv_flat.specs.Views.{typed_tree, piece_form};
+ghost use Rattle.sv_flat.specs.Views.{typed_tree};
 ghost use Rattle.sv_flat.specs.Design.{PieceForm};
 ghost use Rattle.sv_obl.specs.RouteViews.{piece_forms};
 ghost use Rattle.sv_obl.specs.Trails.{open_trail, chosen, marked_by, own_pieces, own_times};

@@ -7,7 +7,7 @@ use Rattle.sv_accept.proofs.Accepted.{asked_here, few_here, accepted_more, numbe
 use Rattle.sv_accept.proofs.logs.check_queries.Goals as goal
 
 pub queries-init : goal.queries-init
-queries-init c = (tt, c.new-coder.ensures (design_of c.args.design.now) c.in_ok-bodies.ensures)
+queries-init c = (tt, c.in_ok-coder.ensures)
 
 pub check_query-requires-clause-query : goal.check_query-requires-clause-query
 check_query-requires-clause-query c =

@@ -1,6 +1,4 @@
-use Rattle.std.proofs.Common.{◌≡◌, ℕ, ◌<◌, Option, None, Bor, sym, ap, subst, ◌∙◌}
-use Rattle.sv_flat.specs.Design.{FlatDesign}
-use Rattle.sv_obl.specs.declared.marked.Marked.{Marked}
+use Rattle.std.proofs.Common.{◌≡◌, ◌<◌, sym, ap, subst, ◌∙◌}
 use Rattle.sv_obl.specs.MarkedBodies.{IsMarkedFor}
 use Rattle.sv_flat.specs.ByNumber.{signal_forms}
 use Rattle.sv_flat.specs.Views.{design_of, signal_form}
@@ -14,11 +12,6 @@ use Rattle.sv_blast.specs.WordTables.{words_of}
 use Rattle.sv_blast.specs.TargetWords.{target_word, AreReady}
 use Rattle.sv_blast.proofs.SliceWords.{known, settled_by_slice, slice_names}
 use Rattle.sv_blast.proofs.bodies.settled.Goals as goal
-
--- where no marked body was found
-unmarked : {design : FlatDesign} {s : ℕ} {found : Option (Bor Marked)} → IsMarkedFor design s found
-    → found ≡ None → IsMarkedFor design s None
-unmarked {design} {s} is none = subst (IsMarkedFor design s) none is
 
 pub marked-requires-clause-known : goal.marked-requires-clause-known
 marked-requires-clause-known c =
@@ -46,7 +39,8 @@ after_slice-requires-clause-ready c =
     subst (λ signals. AreReady (signal_forms signals) n words body)
     (sym c.signals-signals.ensures.signals)
     (slice_names (design_of c.args.design.now) c.signals-signals.ensures.design c.args.target.0
-    c.requires.driven (unmarked c.marked.ensures c.in_default.is) n words c.requires.words body
+    c.requires.driven (subst (IsMarkedFor (design_of c.args.design.now) c.args.target.0)
+    c.in_default.is c.marked.ensures.body) n words c.requires.words body
     c.in_ok-slice.ensures)
 
 pub returns-clause-made : goal.returns-clause-made
@@ -60,7 +54,8 @@ returns-clause-made c =
     let whole : settled_word (design_of c.args.design.now) words s f
     ≡ target_word (signal_forms signals) words s body start f =
     settled_by_slice (design_of c.args.design.now) c.signals-signals.ensures.design s
-    c.requires.driven (unmarked c.marked.ensures c.in_default.is) words f body c.in_ok-slice.ensures
+    c.requires.driven (subst (IsMarkedFor (design_of c.args.design.now) c.args.target.0)
+    c.in_default.is c.marked.ensures.body) words f body c.in_ok-slice.ensures
     ∙ ap (λ w. target_word (signal_forms c.args.design.now.signals.items) words s body w f)
     (sym c.in_ok-word.ensures.made)
     ∙ ap (λ xs. target_word (signal_forms xs) words s body start f)
@@ -83,7 +78,8 @@ returns-clause-full c =
     let whole : settled_word (design_of c.args.design.now) words s f
     ≡ target_word (signal_forms signals) words s body start f =
     settled_by_slice (design_of c.args.design.now) c.signals-signals.ensures.design s
-    c.requires.driven (unmarked c.marked.ensures c.in_default.is) words f body c.in_ok-slice.ensures
+    c.requires.driven (subst (IsMarkedFor (design_of c.args.design.now) c.args.target.0)
+    c.in_default.is c.marked.ensures.body) words f body c.in_ok-slice.ensures
     ∙ ap (λ w. target_word (signal_forms c.args.design.now.signals.items) words s body w f)
     (sym c.in_ok-word.ensures.made)
     ∙ ap (λ xs. target_word (signal_forms xs) words s body start f)

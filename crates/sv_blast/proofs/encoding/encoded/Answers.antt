@@ -23,7 +23,7 @@ kept-kept-requires-clause-framed c =
 
 pub size_with-variables-requires-clause-frames : goal.size_with-variables-requires-clause-frames
 size_with-variables-requires-clause-frames c =
-    c.in_ok-size.ensures
+    c.frames_size-size.ensures
     ∙ ap₂ (λ (d : FlatDesign) (o : Obligation).
     min (frames_size d (now_cone d o) (next_cone d o)) 4194305)
     c.in_ok-encoder.ensures.design c.in_ok-encoder.ensures.query

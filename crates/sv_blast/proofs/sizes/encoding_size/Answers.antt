@@ -5,15 +5,15 @@ use Rattle.sv_blast.specs.Framed.{frames_size}
 use Rattle.sv_blast.proofs.QuerySignals.{now_known, next_known}
 use Rattle.sv_blast.proofs.sizes.encoding_size.Goals as goal
 
-pub frames_size-requires-clause-now : goal.frames_size-requires-clause-now
-frames_size-requires-clause-now c =
+pub frames_size-frames-requires-clause-now : goal.frames_size-frames-requires-clause-now
+frames_size-frames-requires-clause-now c =
     let flat = c.args.design.now in
     let is = c.know_design.ensures.checked in
     subst (All (λ s. s < length flat.signals.items)) (sym c.requires.now)
     (now_known flat is.is_sound is.admitted (obligation_of c.args.query.now) c.requires.query)
 
-pub frames_size-requires-clause-next : goal.frames_size-requires-clause-next
-frames_size-requires-clause-next c =
+pub frames_size-frames-requires-clause-next : goal.frames_size-frames-requires-clause-next
+frames_size-frames-requires-clause-next c =
     let flat = c.args.design.now in
     let is = c.know_design.ensures.checked in
     subst (All (λ s. s < length flat.signals.items)) (sym c.requires.next)
@@ -21,6 +21,6 @@ frames_size-requires-clause-next c =
 
 pub size_with-requires-clause-frames : goal.size_with-requires-clause-frames
 size_with-requires-clause-frames c =
-    c.in_ok-frames.ensures
+    c.frames_size-frames.ensures
     ∙ ap₂ (λ cone later. min (frames_size (design_of c.args.design.now) cone later) 4194305)
     c.requires.now c.requires.next

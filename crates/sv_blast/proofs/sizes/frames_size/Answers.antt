@@ -9,6 +9,6 @@ pub returns : goal.returns
 returns c =
     let design = design_of c.args.design.now in
     capped_frames (now_sizes design (numbers c.args.now.now))
-    (next_sizes design (numbers c.args.next.now)) c.in_ok-here.here c.in_ok-later.later
-    c.sum-2.result c.in_ok-here.ensures c.in_ok-later.ensures
-    (c.sum-2.ensures ∙ ap (λ m. min (m + c.in_ok-later.later) 4194305) c.sum.ensures)
+    (next_sizes design (numbers c.args.next.now)) c.now_sizes-here.result
+    c.next_sizes-later.result c.sum-2.result c.now_sizes-here.ensures c.next_sizes-later.ensures
+    (c.sum-2.ensures ∙ ap (λ m. min (m + c.next_sizes-later.result) 4194305) c.sum.ensures)

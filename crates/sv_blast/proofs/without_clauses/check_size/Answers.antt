@@ -12,11 +12,11 @@ returns-then-size-gt-MOST_VARIABLES-clause-large c =
     let exact = size_is_exact (design_of c.args.design.now) (obligation_of c.args.query.now)
     c.know_design.ensures.checked c.requires.query in
     λ e. subst (λ z. most_variables < z) (sym exact)
-    (passes c.in_ok-size.size _ c.in_ok-size.ensures c.if-size-gt-MOST_VARIABLES.true)
+    (passes c.encoding_size-size.result _ c.encoding_size-size.ensures c.if-size-gt-MOST_VARIABLES.true)
 
 pub returns-clause-fits : goal.returns-clause-fits
 returns-clause-fits c =
     let exact = size_is_exact (design_of c.args.design.now) (obligation_of c.args.query.now)
     c.know_design.ensures.checked c.requires.query in
     subst (λ z. z ≤ most_variables) (sym exact)
-    (capped_few c.in_ok-size.size _ c.in_ok-size.ensures c.if-size-gt-MOST_VARIABLES.false)
+    (capped_few c.encoding_size-size.result _ c.encoding_size-size.ensures c.if-size-gt-MOST_VARIABLES.false)

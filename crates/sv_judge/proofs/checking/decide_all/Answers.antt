@@ -3,10 +3,6 @@ use Rattle.sv_flat.specs.Views.{design_of}
 use Rattle.sv_judge.specs.Walking.{AreNext}
 use Rattle.sv_judge.proofs.checking.decide_all.Goals as goal
 
-pub decide_targets-requires-clause-coder : goal.decide_targets-requires-clause-coder
-decide_targets-requires-clause-coder c =
-    c.new-coder.ensures (design_of c.args.design.now) c.in_ok-bodies.ensures
-
 pub decide_targets-requires-clause-same : goal.decide_targets-requires-clause-same
 decide_targets-requires-clause-same c =
     c.new-progress.ensures.count ∙ sym c.in_ok-listing.ensures.at.counted.count

@@ -5,10 +5,6 @@ use Rattle.sv_obl.specs.Views.{obligation_of}
 use Rattle.sv_judge.proofs.ProgressFacts.{valid_done}
 use Rattle.sv_judge.proofs.checking.decide_next.Goals as goal
 
-pub is_valid_by_labels-requires-clause-bodies : goal.is_valid_by_labels-requires-clause-bodies
-is_valid_by_labels-requires-clause-bodies c =
-    c.bodies.ensures (design_of c.args.design.now) c.requires.coder
-
 pub returns-in-Ok-true-clause-done : goal.returns-in-Ok-true-clause-done
 returns-in-Ok-true-clause-done c =
     valid_done (design_of c.args.design.now) c.args.budget (obligation_of c.args.query)

@@ -7,10 +7,6 @@ use Rattle.sv_judge.specs.Certified.{EarlierAreShown}
 use Rattle.sv_judge.specs.Walking.{AreNext}
 use Rattle.sv_judge.proofs.verifying.verify_all.Goals as goal
 
-pub verify_targets-requires-clause-coder : goal.verify_targets-requires-clause-coder
-verify_targets-requires-clause-coder c =
-    c.new-coder.ensures (design_of c.args.design.now) c.in_ok-bodies.ensures
-
 pub verify_part-requires-clause-next : goal.verify_part-requires-clause-next
 verify_part-requires-clause-next c =
     subst (AreNext (design_of c.args.design.now) c.verify_targets.new.listing.count)

@@ -1,4 +1,4 @@
-use Rattle.std.proofs.Common.{◌≡◌, true, sym, ap, ◌∙◌, rules}
+use Rattle.std.proofs.Common.{true, sym, ap, ◌∙◌, rules}
 use Rattle.sv_flat.specs.ByNumber.{signal_forms}
 use Rattle.sv_flat.specs.declared.expressions.FNode.{the_lemmas}
 use Rattle.sv_flat.specs.Design.{join, replication}

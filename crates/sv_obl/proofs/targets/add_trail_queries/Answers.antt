@@ -2,7 +2,7 @@ use Rattle.std.proofs.Common.{◌++◌, map}
 use Rattle.sv_flat.specs.ByNumber.{signal_forms}
 use Rattle.sv_flat.specs.Views.{process_form}
 use Rattle.sv_obl.specs.Alongs.{trail_obligation}
-use Rattle.sv_obl.specs.Marked.{marked_statement}
+use Rattle.sv_obl.specs.MarkedBodies.{marked_statement}
 use Rattle.sv_obl.specs.TrailViews.{trail_form, trail_forms}
 use Rattle.sv_obl.specs.Views.{obligation_of}
 use Rattle.sv_obl.proofs.TargetFacts.{next_query}

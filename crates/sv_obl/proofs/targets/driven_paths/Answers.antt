@@ -4,7 +4,7 @@ use Rattle.sv_flat.specs.Clocks.{processes_of}
 use Rattle.sv_flat.specs.Views.{design_of, process_form}
 use Rattle.sv_obl.specs.Answers.{Told}
 use Rattle.sv_obl.specs.IndexedBodies.{looked_up}
-use Rattle.sv_obl.specs.Marked.{marked_statement}
+use Rattle.sv_obl.specs.MarkedBodies.{marked_statement}
 use Rattle.sv_obl.specs.Routes.{open_route, routes_before}
 use Rattle.sv_obl.specs.Trails.{open_trail, trails_before}
 use Rattle.sv_obl.proofs.DrivenTargets.{undriven_passed, undriven_listed, driven_excess, are_routes}

@@ -1,7 +1,7 @@
 use Rattle.std.proofs.Common.{sym, ◌∙◌}
 use Rattle.sv_flat.specs.ByNumber.{signal_forms}
 use Rattle.sv_obl.specs.AlongViews.{way_form}
-use Rattle.sv_obl.specs.Marked.{marked_statement}
+use Rattle.sv_obl.specs.MarkedBodies.{marked_statement}
 use Rattle.sv_obl.proofs.AlongFacts.{along_stays}
 use Rattle.sv_obl.proofs.trail_queries.+along.Goals as goal
 

@@ -16,4 +16,4 @@ loop-step-preserved c =
     record { place = step.place; condition = e; truth = step.truth } in
     put_next (step_with (exchanged (with_copies forms) (put_for forms c.args.put)))
     c.loop-step.made.items c.push.new.self.items c.loop-step.yielded _ step
-    c.in_ok-push.ensures.items (ap form c.in_ok-exchanged.ensures) c.loop-step.invariant
+    c.in_ok-push.ensures.items (ap form c.in_ok-with_put.ensures) c.loop-step.invariant

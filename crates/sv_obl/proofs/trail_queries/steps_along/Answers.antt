@@ -3,7 +3,7 @@ use Rattle.sv_flat.specs.ByNumber.{signal_forms}
 use Rattle.sv_obl.specs.declared.queries.Step.{Step}
 use Rattle.sv_obl.specs.Alongs.{WayForm, along, open_way, conditions_along}
 use Rattle.sv_obl.specs.AlongViews.{way_form}
-use Rattle.sv_obl.specs.Marked.{marked_statement}
+use Rattle.sv_obl.specs.MarkedBodies.{marked_statement}
 use Rattle.sv_obl.specs.Paths.{step_with}
 use Rattle.sv_obl.specs.TrailViews.{trail_form}
 use Rattle.sv_obl.specs.Views.{step_form}

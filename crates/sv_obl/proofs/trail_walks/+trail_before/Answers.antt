@@ -7,7 +7,7 @@ use Rattle.sv_flat.specs.ByNumber.{signal_forms}
 use Rattle.sv_flat.specs.Design.{after}
 use Rattle.sv_flat.specs.Views.{typed_tree}
 use Rattle.sv_obl.specs.declared.list_lines.Mark.{Mark}
-use Rattle.sv_obl.specs.Marked.{marked_statement}
+use Rattle.sv_obl.specs.MarkedBodies.{marked_statement}
 use Rattle.sv_obl.specs.RouteViews.{piece_forms}
 use Rattle.sv_obl.specs.Trails.{TrailForm, takes, chosen, marked_by, with_assign, trails_before}
 use Rattle.sv_obl.specs.TrailViews.{trail_form, trail_forms, AddsTrails}

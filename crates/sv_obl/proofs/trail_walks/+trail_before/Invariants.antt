@@ -1,6 +1,6 @@
 use Rattle.std.proofs.Common.{◌≡◌, ◌≤◌, ◌++◌, length, flat_map}
 use Rattle.sv_flat.specs.ByNumber.{signal_forms}
-use Rattle.sv_obl.specs.Marked.{marked_statement}
+use Rattle.sv_obl.specs.MarkedBodies.{marked_statement}
 use Rattle.sv_obl.specs.Trails.{trails_before}
 use Rattle.sv_obl.specs.TrailViews.{trail_forms}
 use Rattle.sv_obl.proofs.trail_walks.+trail_before.Given as goal

@@ -1,9 +1,7 @@
 use Rattle.std.proofs.Common.{ℕ, false, refl, sym, ap, subst, ◌∙◌}
-use Rattle.std.specs.BTreeSet.{contains}
-use Rattle.std.specs.Ordering.{nat_cmp}
 use Rattle.sv_flat.specs.Assigned.{assigns}
 use Rattle.sv_flat.specs.Design.{nothing}
-use Rattle.sv_obl.specs.Marked.{marked_statement, TellsTargets}
+use Rattle.sv_obl.specs.MarkedBodies.{marked_statement, TellsTargets}
 use Rattle.sv_obl.specs.Trails.{wanted_signals, takes}
 use Rattle.sv_obl.specs.TrailViews.{trail_form}
 use Rattle.sv_obl.proofs.NameFacts.{any_alike, any_none}

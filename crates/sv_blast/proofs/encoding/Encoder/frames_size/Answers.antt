@@ -14,7 +14,7 @@ frames_size-requires c =
     let is = c.know_design.ensures.checked in
     let query = c.requires.encoder.query in
     record {
-      bodies = c.requires.encoder.bodies;
+      sizes = c.requires.encoder.sizes;
       now = subst (All (λ s. s < length flat.signals.items))
           (sym (ap numbers c.deref.ensures.value ∙ c.requires.encoder.now))
           (now_known flat is.is_sound is.admitted o query);
@@ -31,8 +31,7 @@ returns-in-Some c =
 pub returns-in-None : goal.returns-in-None
 returns-in-None c =
     let design = design_in c.args.self.now in
-    subst (λ n. IfOk c.frames_size.result (λ size. size ≡ min n 4194305))
-    (ap₂ (frames_size design)
-    (ap numbers c.deref.ensures.value ∙ c.requires.encoder.now)
-    (ap numbers c.deref-in-None.ensures.value ∙ c.requires.encoder.next))
     c.frames_size.ensures
+    ∙ ap₂ (λ cone later. min (frames_size design cone later) 4194305)
+    (ap numbers c.deref.ensures.value ∙ c.requires.encoder.now)
+    (ap numbers c.deref-in-None.ensures.value ∙ c.requires.encoder.next)

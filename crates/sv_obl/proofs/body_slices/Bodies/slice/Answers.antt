@@ -9,9 +9,9 @@ use Rattle.sv_obl.proofs.body_slices.Bodies.slice.Goals as goal
 
 pub index-requires : goal.index-requires
 index-requires c =
-    subst (λ n. c.in-Some.place < n) (sym c.args.self.now.bodies.ok.0)
+    subst (λ n. c.in-Some.place < n) (sym c.args.self.now.indexed.ok.0)
     (has_body c.args.design.now c.driver.ensures.design c.args.target.0 c.requires.known
-    c.args.self.now.bodies.items c.requires.bodies.indexed c.in-Some.place
+    c.args.self.now.indexed.items c.requires.bodies.indexed c.in-Some.place
     (sym c.driver.ensures.driver ∙ c.in-Some.is))
 
 pub returns-in-Some : goal.returns-in-Some
@@ -19,7 +19,7 @@ returns-in-Some c =
     let flat = c.args.design.now in
     let is = c.driver.ensures.design in
     let s = c.args.target.0 in
-    let bodies = c.args.self.now.bodies.items in
+    let bodies = c.args.self.now.indexed.items in
     let k = c.in-Some.place in
     let driven = sym c.driver.ensures.driver ∙ c.in-Some.is in
     let x = c.index.result.now in

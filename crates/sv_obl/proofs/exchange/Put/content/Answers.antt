@@ -1,8 +1,7 @@
-use Rattle.std.proofs.Common.{◌≡◌, ◌-◌, ◌<◌, ◌≤◌, length, sym, ap, subst, ◌∙◌, arith}
+use Rattle.std.proofs.Common.{◌≡◌, ◌-◌, ◌<◌, ◌≤◌, length, sym, ap, ◌∙◌, arith}
 use Rattle.sv_flat.specs.ByNumber.{signal_forms}
-use Rattle.sv_flat.specs.Design.{TypedTree}
 use Rattle.sv_flat.specs.Views.{typed_tree}
-use Rattle.sv_obl.specs.Exchange.{Instead, name, content}
+use Rattle.sv_obl.specs.Exchange.{name, content}
 use Rattle.sv_obl.specs.PutIn.{value_put}
 use Rattle.sv_obl.proofs.ExchangeFacts.{stays_settled, stays_wanted, is_put}
 use Rattle.sv_obl.proofs.exchange.Put.content.Goals as goal

@@ -1,54 +1,9 @@
-use Rattle.std.proofs.Common.{List, map, All, sym, subst}
-use Rattle.std.specs.Prelude.{IsTrue}
-use Rattle.std.specs.List.{AllZip}
-use Rattle.sv_flat.specs.ByNumber.{signal_forms, AreWords}
-use Rattle.sv_flat.specs.Clocks.{processes_of}
-use Rattle.sv_flat.specs.Design.{ProcessForm}
-use Rattle.sv_flat.specs.Soundness.{statement_sound}
-use Rattle.sv_flat.specs.Views.{design_of, process_form}
-use Rattle.sv_flat.specs.declared.signals.Signal.{Signal}
-use Rattle.sv_flat.proofs.AdmittedFacts.{body_is_sound}
-use Rattle.sv_flat.proofs.Members.{contained_all}
-use Rattle.sv_design.proofs.Sound.{few_bits}
-use Rattle.sv_obl.specs.IndexedBodies.{AreIndexed}
-use Rattle.sv_obl.specs.Marked.{HasMarked}
+use Rattle.sv_flat.specs.Views.{design_of}
 use Rattle.sv_obl.proofs.WrittenFacts.{none_counted}
 use Rattle.sv_obl.proofs.list_parts.Listing.new.Goals as goal
 
-pub marked_bodies-requires-clause-words : goal.marked_bodies-requires-clause-words
-marked_bodies-requires-clause-words c =
-    subst (λ (signals : List Signal). AreWords (signal_forms signals))
-    (sym c.signals.ensures.signals)
-    (few_bits (design_of c.args.design.now) c.signals.ensures.design.is_sound)
-
-pub marked_bodies-requires-clause-bodies : goal.marked_bodies-requires-clause-bodies
-marked_bodies-requires-clause-bodies c =
-    let design = design_of c.args.design.now in
-    let d = c.signals.ensures.design in
-    subst (λ (signals : List Signal). All (λ (process : ProcessForm).
-    IsTrue (statement_sound (signal_forms signals) process.body))
-    (map process_form c.processes-processes.result.now)) (sym c.signals.ensures.signals)
-    (subst (All (λ (process : ProcessForm).
-    IsTrue (statement_sound design.signals process.body))) (sym c.processes-processes.ensures.processes)
-    (contained_all (λ (process : ProcessForm).
-    IsTrue (statement_sound design.signals process.body)) (processes_of design)
-    (λ p at. body_is_sound design d.is_sound d.is_admitted p at)))
-
 pub returns-clause-at : goal.returns-clause-at
-returns-clause-at c =
-    let design = design_of c.args.design.now in
-    record {
-      bodies = record {
-        indexed =
-            subst (λ (ps : List ProcessForm). AreIndexed ps c.in_ok-indexed.indexed.items)
-            c.processes-processes.ensures.processes c.in_ok-indexed.ensures;
-        marked =
-            subst (λ (ps : List ProcessForm).
-            AllZip (HasMarked design.signals) ps c.in_ok-marked.marked.items)
-            c.processes-processes.ensures.processes
-            (subst (λ (signals : List Signal). AllZip (HasMarked (signal_forms signals))
-            (map process_form c.processes-processes.result.now) c.in_ok-marked.marked.items)
-            c.signals.ensures.signals c.in_ok-marked.ensures);
-      };
-      counted = none_counted design;
-    }
+returns-clause-at c = record {
+  bodies = c.in_ok-bodies.ensures;
+  counted = none_counted (design_of c.args.design.now);
+}

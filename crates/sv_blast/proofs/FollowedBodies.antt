@@ -1,0 +1,320 @@
+-- The word of a signal whose process has an earlier read: from the words of what is read for it, by
+-- the body with such reads wanted.
+use Rattle.std.proofs.Common.{◌≡◌, ℕ, ◌+◌, ◌<◌, ◌≤◌, ◌&&◌, ◌||◌, ◌==◌, ◌⊎◌, inl, inr, ⊎_elim}
+use Rattle.std.proofs.Common.{Bool, true, false, cond, List, ◌++◌, length, replicate, refl, sym, ap}
+use Rattle.std.proofs.Common.{ap₂, subst, ◌∙◌, arith, ltb-true}
+use Rattle.std.specs.Prelude.{Contains, IsTrue, IsFalse}
+use Rattle.std.specs.List.{list_all}
+use Rattle.std.proofs.lemmas.Bool.{false≢true, eqb-true, lt-ltb}
+use Rattle.std.proofs.lemmas.List.{length-replicate}
+use Rattle.std.proofs.Common.{length-append}
+use Rattle.sv_system.proofs.Lists.{Contains-map}
+use Rattle.sv_flat.specs.Design.{SignalForm, TypedTree, typed, PieceForm, FlatStatement, nothing, after}
+use Rattle.sv_flat.specs.Design.{assign, branch, ProcessKind, continuous, port_in, port_out}
+use Rattle.sv_flat.specs.Design.{combinational, clocked, release, ProcessForm, FlatDesign}
+use Rattle.sv_flat.specs.Values.{signal_width}
+use Rattle.sv_flat.specs.Soundness.{is_signal, piece_fits, well_formed, statement_sound}
+use Rattle.sv_flat.specs.Assigned.{assigns, can_assign, always_assigns}
+use Rattle.sv_flat.specs.Readings.{ReadForm, reads, BitSet, either, no_bits, Reading, readings_of}
+use Rattle.sv_flat.specs.Readings.{readings, is_followed}
+use Rattle.sv_flat.specs.Processes.{is_clocked, is_block}
+use Rattle.sv_flat.specs.Clocks.{processes_of}
+use Rattle.sv_flat.specs.Reads.{followed, is_read_for, reads_for, process_readings}
+use Rattle.sv_flat.specs.Reads.{is_earlier}
+use Rattle.sv_flat.proofs.Members.{Contains-left, Contains-right}
+use Rattle.sv_flat.proofs.LeastSets.{from_some, either_way, in_those, those_below, those_pass}
+use Rattle.sv_flat.proofs.Depths.{first_of, second_of}
+use Rattle.sv_flat.proofs.ReadSignals.{reads_signals}
+use Rattle.sv_flat.proofs.AdmittedFacts.{body_is_sound}
+use Rattle.sv_flat.proofs.BlockFacts.{follows_itself, follows_earlier, settled_is_read}
+use Rattle.sv_design.specs.Designs.{IsDesign}
+use Rattle.sv_obl.specs.BodySlices.{SameParts}
+use Rattle.sv_obl.specs.Exchange.{name}
+use Rattle.sv_obl.specs.Wanted.{with_copies, copy_of, is_copy, original, mark, marked_tree, marked}
+use Rattle.sv_obl.proofs.PathLists.{cond_true, cond_false}
+use Rattle.sv_obl.proofs.PutFacts.{width_settled, width_copy, copy_is_copy}
+use Rattle.sv_obl.proofs.PutFacts.{original_of_copy, signal_is_settled}
+use Rattle.sv_obl.proofs.TreeFacts.{exchanged_names}
+use Rattle.sv_gates.specs.Formulas.{Formula}
+use Rattle.sv_gates.specs.Gates.{false_literal}
+use Rattle.sv_gates.proofs.GateLaws.{literal_more}
+use Rattle.sv_circuits.specs.Circuits.{IsWord}
+use Rattle.sv_circuits.specs.Words.{Word}
+use Rattle.sv_circuits.proofs.BitPieces.{false_is}
+use Rattle.sv_circuits.proofs.WordKeeps.{word_same}
+use Rattle.sv_encoding.specs.Expressions.{Words}
+use Rattle.sv_encoding.specs.Bodies.{words_after, starting_words, driven_word}
+use Rattle.sv_encoding.specs.Sizes.{process_size, statement_size}
+use Rattle.sv_encoding_laws.proofs.Renamed.{AllFit, IsFit as Fits, formed_instead}
+use Rattle.sv_blast.specs.WordTables.{StandForReads}
+use Rattle.sv_blast.specs.FollowedWords.{AllStand, IsFit, AreFit, AtHand}
+use Rattle.sv_blast.proofs.FollowedNames.{Agree, after_same}
+use Rattle.sv_blast.proofs.FollowedParts.{same_fit, same_words, same_size}
+
+-- no block is clocked
+block_is_unclocked : (k : ProcessKind) → IsTrue (is_block k) → IsFalse (is_clocked k)
+block_is_unclocked combinational h = refl
+block_is_unclocked continuous h = absurd (false≢true h)
+block_is_unclocked port_in h = absurd (false≢true h)
+block_is_unclocked port_out h = absurd (false≢true h)
+block_is_unclocked (clocked clock) h = absurd (false≢true h)
+block_is_unclocked (release point) h = absurd (false≢true h)
+
+module _ (design : FlatDesign) (is : IsDesign design) where
+  abbrev signals : List SignalForm
+  signals = design.signals
+
+  abbrev both : List SignalForm
+  both = with_copies design.signals
+
+  long : length both ≡ length signals + length signals
+  long = length-append signals signals
+
+  module _ (p : ProcessForm) (s : ℕ) (at : Contains (processes_of design) p)
+      (own : IsTrue (assigns p.body s)) where
+    abbrev targets : List ℕ
+    targets = followed design p s
+
+    abbrev Hand : ℕ → Type 0
+    Hand = AtHand design.signals (reads_for design s) (followed design p s)
+
+    copies : (u : ℕ) → Contains (followed design p s) u → Hand (copy_of design.signals u)
+    copies u inside = inr (u, inside, refl)
+
+    in_both : (t : ℕ) → t < length signals → IsTrue (is_signal both t)
+    in_both t low = lt-ltb t (length both) (omega (arith, low, long))
+
+    copy_in_both : (t : ℕ) → t < length signals → IsTrue (is_signal both (copy_of signals t))
+    copy_in_both t low = lt-ltb (copy_of signals t) (length both) (omega (arith, low, long))
+
+    -- ---- the marked body
+
+    -- what is read for a target is settled and read for the signal, or is an earlier value of
+    -- another target
+    abbrev ReadsCount : List Reading → Type 0
+    ReadsCount rs =
+        (r : Reading) → Contains rs r → (u : ℕ) → Contains targets u → IsTrue (r.serves u) →
+        (IsFalse (is_block p.kind && is_followed signals r)
+        × IsTrue (is_read_for design s r.name.signal))
+        ⊎ (IsTrue (is_block p.kind && is_followed signals r) × Contains targets r.name.signal)
+
+    body_counts : ReadsCount (process_readings design p)
+    body_counts r r_at u u_at served = ⊎_elim
+        (λ earlier. inr (
+          earlier,
+          follows_earlier design is.is_sound is.is_admitted p at s own u u_at r r_at served earlier,
+        ))
+        (λ late. inl (
+          late,
+          settled_is_read design is.is_sound is.is_admitted p at s own u u_at r r_at served late,
+        ))
+        (either_way (is_earlier design p r))
+
+    tree_fits : (e : TypedTree) (serves : ℕ → Bool) (early follows : BitSet) →
+        IsTrue (well_formed signals e) → (u : ℕ) → Contains targets u → IsTrue (serves u) →
+        ReadsCount (readings_of signals e serves early follows) →
+        IsFit signals Hand (marked_tree signals (is_block p.kind) follows e)
+    tree_fits e serves early follows formed u u_at served count = (
+      formed_instead signals both (mark signals (is_block p.kind) follows) Hand same e formed all,
+      λ t named.
+          let found = from_some (λ (r : ReadForm). r.signal == t)
+          (reads both (marked_tree signals (is_block p.kind) follows e)) named in
+          let from = exchanged_names signals both (mark signals (is_block p.kind) follows) e t
+          (found.0, found.1, eqb-true (found.0).signal t found.2) in
+          subst Hand from.2 (all from.0 from.1).1.1,
+    )
+      where
+        same : (t : ℕ) → IsTrue (is_signal signals t) →
+            IsTrue (is_signal both t) × (signal_width both t ≡ signal_width signals t)
+        same t known =
+            let low = ltb-true t (length signals) known in
+            (in_both t low, width_settled signals t low)
+
+        all : AllFit signals both (mark signals (is_block p.kind) follows) Hand same
+            (reads signals e)
+        all r r_at =
+            let reading : Reading = record {
+              name = r;
+              serves = serves;
+              assigned = early;
+              follows = follows;
+            } in
+            let low = ltb-true r.signal (length signals) (reads_signals signals e formed r r_at) in
+            by (is_block p.kind && is_followed signals reading) low
+            (count reading (Contains-map (λ (x : ReadForm).
+            record { name = x; serves = serves; assigned = early; follows = follows })
+            (reads signals e) r r_at) u u_at served)
+          where
+            by : (c : Bool) → r.signal < length signals →
+                (IsFalse c × IsTrue (is_read_for design s r.signal))
+                ⊎ (IsTrue c × Contains targets r.signal) →
+                Fits signals both (mark signals (is_block p.kind) follows) Hand same r.signal
+                (name (cond c (copy_of signals r.signal) r.signal))
+            by true low (inl late) = absurd (false≢true (sym late.0))
+            by true low (inr earlier) = (
+              copy_in_both r.signal low,
+              (width_copy signals r.signal, copies r.signal earlier.1),
+            )
+            by false low (inl late) = (
+              in_both r.signal low,
+              (
+                width_settled signals r.signal low,
+                inl (in_those (length signals) (is_read_for design s) r.signal low late.1),
+              ),
+            )
+            by false low (inr earlier) = absurd (false≢true earlier.0)
+
+    -- marks change no target
+    marked_targets : (b : FlatStatement) (later : BitSet) (t : ℕ) →
+        assigns (marked signals (is_block p.kind) b later) t ≡ assigns b t
+    marked_targets nothing later t = refl
+    marked_targets (after first second) later t =
+        ap₂ (λ a b. a || b) (marked_targets first (either (can_assign second) later) t)
+        (marked_targets second later t)
+    marked_targets (assign pieces place blocking right) later t = refl
+    marked_targets (branch place condition first second) later t =
+        ap₂ (λ a b. a || b) (marked_targets first later t) (marked_targets second later t)
+
+    -- nor the length of a right side
+    pieces_fit : (e : TypedTree) (follows : BitSet) (pieces : List PieceForm) →
+        IsTrue (list_all (piece_fits signals e) pieces) →
+        IsTrue (list_all (piece_fits signals (marked_tree signals (is_block p.kind) follows e))
+        pieces)
+    pieces_fit (typed width signed node) follows pieces fit = fit
+
+    marked_fits : (b : FlatStatement) (early later : BitSet) → IsTrue (statement_sound signals b) →
+        ReadsCount (readings signals b early later) →
+        AreFit signals targets Hand (marked signals (is_block p.kind) b later)
+    marked_fits nothing early later right count = tt
+    marked_fits (after first second) early later right count =
+        let late = either (can_assign second) later in
+        let mid = either (always_assigns first) early in (
+          marked_fits first early late
+              (first_of (statement_sound signals first) (statement_sound signals second) right)
+              (λ r r_at. count r (Contains-left (readings signals first early late)
+              (readings signals second mid later) r r_at)),
+          marked_fits second mid later
+              (second_of (statement_sound signals first) (statement_sound signals second) right)
+              (λ r r_at. count r (Contains-right (readings signals first early late)
+              (readings signals second mid later) r r_at)),
+        )
+    marked_fits (assign pieces place blocking e) early later right count =
+        let whole = assign pieces place blocking e in
+        let follows = either (can_assign whole) later in
+        (λ some. let by = from_some (assigns whole) targets some in (
+          tree_fits e (assigns whole) early follows
+              (first_of (well_formed signals e) (list_all (piece_fits signals e) pieces) right)
+              by.0 by.1 by.2 count,
+          pieces_fit e follows pieces
+              (second_of (well_formed signals e) (list_all (piece_fits signals e) pieces) right),
+        ))
+    marked_fits (branch place condition first second) early later right count =
+        let whole = branch place condition first second in
+        let follows = either (can_assign whole) later in
+        let here = readings_of signals condition (assigns whole) early follows in
+        let in_first = readings signals first early later in
+        let in_second = readings signals second early later in
+        let front = first_of (well_formed signals condition && statement_sound signals first)
+        (statement_sound signals second) right in (
+          (λ some.
+              let by = from_some (assigns (marked signals (is_block p.kind) whole later)) targets
+              some in
+              tree_fits condition (assigns whole) early follows
+              (first_of (well_formed signals condition) (statement_sound signals first) front)
+              by.0 by.1 (sym (marked_targets whole later by.0) ∙ by.2)
+              (λ r r_at. count r (Contains-left (here ++ in_first) in_second r
+              (Contains-left here in_first r r_at)))),
+          (
+            marked_fits first early later
+                (second_of (well_formed signals condition) (statement_sound signals first) front)
+                (λ r r_at. count r (Contains-left (here ++ in_first) in_second r
+                (Contains-right here in_first r r_at))),
+            marked_fits second early later
+                (second_of (well_formed signals condition && statement_sound signals first)
+                (statement_sound signals second) right)
+                (λ r r_at. count r (Contains-right (here ++ in_first) in_second r r_at)),
+          ),
+        )
+
+    abbrev marked_body : FlatStatement
+    marked_body = marked signals (is_block p.kind) p.body no_bits
+
+    body_fits : AreFit design.signals (followed design p s) Hand
+        (marked design.signals (is_block p.kind) p.body no_bits)
+    body_fits =
+        marked_fits p.body no_bits no_bits (body_is_sound design is.is_sound is.is_admitted p at)
+        body_counts
+
+    -- ---- where the process begins
+
+    module _ (block : IsTrue (is_block p.kind)) (words own_words : Words)
+        (same : (t : ℕ) → Contains (reads_for design s) t → own_words t ≡ words t)
+        (clear : (u : ℕ) → Contains (followed design p s) u →
+        own_words (copy_of design.signals u)
+        ≡ replicate (signal_width design.signals u) false_literal) where
+      known : (t : ℕ) → Contains (reads_for design s) t → t < length signals
+      known t inside = those_below (length signals) (is_read_for design s) t inside
+
+      pub own_stand : (n : ℕ) → 1 ≤ n → StandForReads design n words s →
+          AllStand design.signals
+          (AtHand design.signals (reads_for design s) (followed design p s)) n own_words
+      own_stand n some has t (inl inside) =
+          let there = has t (those_pass (length signals) (is_read_for design s) t inside) in (
+            subst (IsWord n) (sym (same t inside)) there.0,
+            ap length (same t inside) ∙ there.1 ∙ sym (width_settled signals t (known t inside)),
+          )
+      own_stand n some has t (inr (u, inside, e)) =
+          let width = signal_width signals u in
+          subst (λ k. IsWord n (own_words k) × (length (own_words k) ≡ signal_width both k)) e (
+            subst (IsWord n) (sym (clear u inside))
+                (word_same n width false_literal (literal_more 1 n false_literal some false_is)),
+            ap length (clear u inside) ∙ length-replicate width false_literal
+                ∙ sym (width_copy signals u),
+          )
+
+      abbrev begun : Words
+      begun = starting_words signals (is_clocked p.kind) words
+
+      agrees : Agree signals targets Hand copies begun own_words
+      agrees t (inl inside) =
+          cond_false (is_copy signals t)
+          (cond (is_clocked p.kind) (words (original signals t))
+          (replicate (signal_width signals (original signals t)) false_literal)) (words t)
+          (signal_is_settled signals t (known t inside))
+          ∙ sym (same t inside)
+      agrees t (inr (u, inside, e)) =
+          subst (λ k. begun k ≡ own_words k) e
+          (cond_true (is_copy signals (copy_of signals u))
+          (cond (is_clocked p.kind) (words (original signals (copy_of signals u)))
+          (replicate (signal_width signals (original signals (copy_of signals u))) false_literal))
+          (words (copy_of signals u)) (copy_is_copy signals u)
+          ∙ cond_false (is_clocked p.kind) (words (original signals (copy_of signals u)))
+          (replicate (signal_width signals (original signals (copy_of signals u))) false_literal)
+          (block_is_unclocked p.kind block)
+          ∙ ap (λ k. replicate (signal_width signals k) false_literal) (original_of_copy signals u)
+          ∙ sym (clear u inside))
+
+      pub driven_followed : (b : FlatStatement) → SameParts b
+          (marked design.signals (is_block p.kind) p.body no_bits) → (f : Formula) →
+          driven_word design s p words f
+          ≡ (let made = words_after design.signals (followed design p s) b own_words f in
+          (made.0, made.1 (copy_of design.signals s)))
+      driven_followed b parts f =
+          let begins = after_same signals targets Hand copies marked_body body_fits begun own_words
+          agrees f in
+          ap₂ (λ (g : Formula) (w : Word). (g, w)) begins.0
+          (begins.1 (copy_of signals s)
+          (copies s (follows_itself design is.is_sound is.is_admitted p at s own)))
+          ∙ ap (λ (z : Formula × Words). (z.0, z.1 (copy_of signals s)))
+          (sym (same_words signals targets b marked_body parts own_words f))
+
+    -- ---- what a body of the same parts needs and takes
+
+    module _ (b : FlatStatement)
+        (parts : SameParts b (marked design.signals (is_block p.kind) p.body no_bits)) where
+      pub parts_fit : AreFit design.signals (followed design p s)
+          (AtHand design.signals (reads_for design s) (followed design p s)) b
+      parts_fit = same_fit signals targets Hand b marked_body parts body_fits
+
+      pub parts_size : process_size design s p ≡ statement_size design.signals (followed design p s) b
+      parts_size = sym (same_size signals targets b marked_body parts)

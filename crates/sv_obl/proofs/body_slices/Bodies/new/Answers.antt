@@ -1,6 +1,6 @@
 use Rattle.std.proofs.Common.{◌≤◌, List, length, map, All, refl, sym, ap, subst, ◌∙◌}
 use Rattle.std.specs.Prelude.{IsTrue, is_some}
-use Rattle.std.specs.List.{AllZip}
+use Rattle.std.specs.List.{AllZip, list_any}
 use Rattle.sv_flat.specs.ByNumber.{signal_forms, AreWords}
 use Rattle.sv_flat.specs.Clocks.{processes_of}
 use Rattle.sv_flat.specs.Design.{ProcessForm}
@@ -58,7 +58,9 @@ returns c =
                 ∙ sym (length_mapped signal_form c.args.design.now.signals.items))
                 c.in_ok-marked.ensures.few;
             twice =
-                c.in_ok-twice.ensures (some_from is_some c.in_ok-marked.marked.items _ at refl)
+                c.in_ok-twice.ensures
+                (subst (λ held. IsTrue (list_any is_some held)) (sym c.deref.ensures.value)
+                (some_from is_some c.in_ok-marked.marked.items _ at refl))
                 ∙ ap (λ (signals : List Signal). with_copies (signal_forms signals))
                 c.signals-signals.ensures.signals;
           };

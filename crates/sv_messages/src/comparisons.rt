@@ -1,9 +1,9 @@
 // What is said of two runs that differ.
-use crate::origins::Origin;
-use crate::rows::{file_name, grouped, shown, shown_word};
+use crate::designs::admitted_design;
 use std::alloc::{AllocError, Global};
 use sv_design::Design;
 use sv_flat::{SigId, Signal};
+use sv_hints::{Origin, file_name, grouped, shown, shown_word};
 use sv_lattice::Label;
 use sv_words::Command;
 
@@ -43,7 +43,7 @@ pub fn unlike_given(
     cycle: u64,
     signal: SigId,
 ) -> Result<String, AllocError> {
-    let Some(design) = origin.design(alloc) else {
+    let Some(design) = admitted_design(alloc, origin) else {
         return Ok(String::new(alloc));
     };
     let Some(found) = design.signals().get(signal.0 as usize) else {
@@ -83,7 +83,7 @@ pub fn leak(
     cycle: u64,
     signal: SigId,
 ) -> Result<String, AllocError> {
-    let Some(design) = origin.design(alloc) else {
+    let Some(design) = admitted_design(alloc, origin) else {
         return Ok(String::new(alloc));
     };
     let Some(found) = design.signals().get(signal.0 as usize) else {

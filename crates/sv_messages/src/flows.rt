@@ -5,13 +5,13 @@ ghost use Rattle.sv_flat.specs.Views.{design_of};
 ghost use Rattle.sv_obl.specs.ListParts.{IsAt};
 ghost use Rattle.sv_obl.specs.Valuations.{FitsDesign};
 
-use crate::origins::Origin;
-use crate::rows::shown;
-use crate::said::{Case, Said};
+use crate::designs::admitted_design;
+use crate::said::Said;
 use crate::uses::named_at;
 use std::alloc::{AllocError, Global};
 use sv_design::Design;
 use sv_flat::SigId;
+use sv_hints::{Case, Origin, shown};
 use sv_lattice::Point;
 use sv_num::Place;
 use sv_obl::{Frame, Goal, Listing, Query, Valuation};
@@ -97,7 +97,7 @@ pub fn place_of_number(alloc: Global, case: &Case, digits: &[u8]) -> Option<Plac
 }
 
 fn place_of_obligation(alloc: Global, origin: &Origin, number: u32) -> Option<Place> {
-    let design = origin.design(alloc)?;
+    let design = admitted_design(alloc, origin)?;
     let query = query_of(alloc, &design, number)?;
     place_of(&design, &query)
 }
@@ -216,7 +216,7 @@ pub fn flow(
     number: u32,
     v: &Valuation,
 ) -> Result<Said, AllocError> {
-    if let Some(design) = origin.design(alloc) {
+    if let Some(design) = admitted_design(alloc, origin) {
         if let Some(query) = query_of(alloc, &design, number) {
             return flow_of(alloc, &design, number, &query, v);
         }

@@ -1,11 +1,11 @@
 // What is said of limits.
 use crate::counts::{Paths, obligations_of, paths_to};
-use crate::origins::{first_unbuilt, place_of};
-use crate::rows::{Row, file_name, grouped, shown, shown_word};
-use crate::said::{Case, Said, owned};
+use crate::designs::admitted_design;
+use crate::said::Said;
 use std::alloc::{AllocError, Global};
 use sv_ast::Item;
 use sv_design::Design;
+use sv_hints::{Case, Row, file_name, first_unbuilt, grouped, owned, place_of, shown, shown_word};
 use sv_num::Place;
 use sv_obl::check_limits;
 use sv_words::Command;
@@ -57,7 +57,7 @@ fn declared_at(design: &Design, name: &[u8]) -> Option<Place> {
 
 // Where the signal that is named is declared, and the paths to it.
 fn signal_of(alloc: Global, case: &Case) -> Result<(Option<Place>, Option<Paths>), AllocError> {
-    match case.origin.design(alloc) {
+    match admitted_design(alloc, &case.origin) {
         Some(design) => {
             let paths = paths_to(alloc, &design, case.name())?;
             Ok((declared_at(&design, case.name()), paths))
@@ -112,7 +112,7 @@ pub fn obligations(alloc: Global, case: &Case) -> Result<Said, AllocError> {
     let file = file_name(alloc, case.origin.file)?;
     let mend = "split blocks that have many paths; a module that `--top MODULE` checks alone \
                 tells nothing of the whole";
-    let words = match case.origin.design(alloc) {
+    let words = match admitted_design(alloc, &case.origin) {
         Some(design) => {
             let count = grouped(alloc, obligations_of(alloc, &design)?)?;
             format!(in alloc;
@@ -135,8 +135,8 @@ pub fn stimulus_size(alloc: Global) -> Result<Said, AllocError> {
 }
 
 /// Of a number of lanes that is not taken.
-pub fn lanes(alloc: Global, case: &Case) -> Result<Said, AllocError> {
-    let words = match case.command {
+pub fn lanes(alloc: Global, command: &Command) -> Result<Said, AllocError> {
+    let words = match command {
         Command::Gen { lanes, .. } => {
             format!(in alloc; "a sample has 1 to 200 lanes, and not {lanes}")?
         }
@@ -146,13 +146,13 @@ pub fn lanes(alloc: Global, case: &Case) -> Result<Said, AllocError> {
 }
 
 /// Of a number that no obligation has.
-pub fn no_obligation(alloc: Global, case: &Case) -> Result<Said, AllocError> {
+pub fn no_obligation(alloc: Global, command: &Command, case: &Case) -> Result<Said, AllocError> {
     let file = file_name(alloc, case.origin.file)?;
-    let number = match case.command {
+    let number = match command {
         Command::Cnf { number, .. } => *number,
         _ => 0,
     };
-    let count = match case.origin.design(alloc) {
+    let count = match admitted_design(alloc, &case.origin) {
         Some(design) => check_limits(alloc, &design).ok(),
         None => None,
     };
@@ -170,29 +170,39 @@ pub fn no_obligation(alloc: Global, case: &Case) -> Result<Said, AllocError> {
     Ok(Said::nowhere(words))
 }
 
-/// Of a level that is no point.
-pub fn level(alloc: Global, case: &Case) -> Result<Said, AllocError> {
-    let file = file_name(alloc, case.origin.file)?;
-    let asked = match case.command {
+// The level that a command names.
+fn asked_level(command: &Command) -> &str {
+    match command {
         Command::Sim {
             level: Some(level),
             ..
         } => level.as_str(),
         Command::Compare { level, .. } => level.as_str(),
         _ => "",
-    };
-    let asked = shown_word(alloc, asked)?;
-    let mut row = Row::of_points(alloc);
-    if let Some(design) = case.origin.design(alloc) {
-        for point in design.points() {
-            row.add(point.bytes(), "")?;
-        }
     }
-    let points = row.finish()?;
-    let words = format!(in alloc;
-        "{file}: there is no point `{asked}`, which `--level` names; the \
-        points are {points}"
+}
+
+// The points of a design, in a row.
+fn points_of(alloc: Global, design: &Design) -> Result<String, AllocError> {
+    let mut row = Row::of_points(alloc);
+    for point in design.points() {
+        row.add(point.bytes(), "")?;
+    }
+    row.finish()
+}
+
+/// Of a level that is no point, with the points that there are, where the design is at hand.
+pub fn level(alloc: Global, command: &Command, case: &Case) -> Result<Said, AllocError> {
+    let file = file_name(alloc, case.origin.file)?;
+    let asked = shown_word(alloc, asked_level(command))?;
+    let mut words = format!(in alloc;
+        "{file}: there is no point `{asked}`, which `--level` names"
     )?;
+    if let Some(design) = admitted_design(alloc, &case.origin) {
+        words.push_str("; the points are ")?;
+        let points = points_of(alloc, &design)?;
+        words.push_str(points.as_str())?;
+    }
     Ok(Said::nowhere(words))
 }
 
@@ -210,8 +220,8 @@ pub fn encoding(alloc: Global, case: &Case) -> Result<Said, AllocError> {
 }
 
 /// Of a certificate that is too large.
-pub fn proof_size(alloc: Global, case: &Case) -> Result<Said, AllocError> {
-    let name = match case.command {
+pub fn proof_size(alloc: Global, command: &Command, case: &Case) -> Result<Said, AllocError> {
+    let name = match command {
         Command::Verify { proof, .. } => proof.as_str(),
         _ => case.origin.file,
     };
@@ -224,8 +234,8 @@ pub fn proof_size(alloc: Global, case: &Case) -> Result<Said, AllocError> {
 }
 
 /// Of a stimulus file that is too large.
-pub fn stimulus_file(alloc: Global, case: &Case) -> Result<Said, AllocError> {
-    let name = match case.command {
+pub fn stimulus_file(alloc: Global, command: &Command, case: &Case) -> Result<Said, AllocError> {
+    let name = match command {
         Command::Compare { a, .. } if case.name() == b"A".as_slice() => a.as_str(),
         Command::Compare { b, .. } => b.as_str(),
         _ => case.origin.file,

@@ -1,10 +1,9 @@
 // What is said of wrong lines of stimuli and certificates.
-use crate::origins::Origin;
-use crate::rows::{Row, file_name, shown, shown_bytes};
-use crate::said::owned;
+use crate::designs::admitted_design;
 use std::alloc::{AllocError, Global};
 use sv_design::Design;
 use sv_flat::{SigId, Signal};
+use sv_hints::{Origin, Row, file_name, owned, shown, shown_bytes};
 use sv_report::StimSource;
 use sv_trace::StimKind;
 use sv_words::Command;
@@ -83,7 +82,7 @@ pub fn stimulus(
     let (source, line, kind) = wrong;
     let before = line_words(alloc, command, source, line)?;
     let found = given.stimulus(source, line);
-    let wanted = match origin.design(alloc) {
+    let wanted = match admitted_design(alloc, origin) {
         Some(design) => wanted(alloc, &design, kind, found)?,
         None => owned(alloc, "this line of the stimulus is wrong")?,
     };

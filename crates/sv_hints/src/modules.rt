@@ -1,7 +1,7 @@
 // What is said of modules and instances.
 use crate::origins::{item_at, module_at};
 use crate::rows::{Row, shown, shown_word};
-use crate::said::{Case, owned};
+use crate::cases::{Case, owned};
 use std::alloc::{AllocError, Global};
 use sv_ast::{Item, Module, Text};
 

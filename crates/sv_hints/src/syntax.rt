@@ -6,7 +6,7 @@ use crate::contexts::{
 use crate::forms::grammar_form;
 use crate::mistakes::{by_words, foreign, in_block, in_nothing, may_end, ranged};
 use crate::rows::shown;
-use crate::said::{Case, owned};
+use crate::cases::{Case, owned};
 use std::alloc::{AllocError, Global};
 use sv_num::Place;
 use sv_token::{Token, TokenKind, WordKind};

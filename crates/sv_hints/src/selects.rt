@@ -3,7 +3,7 @@ use crate::constants::{Constants, place_of};
 use crate::contexts::{bytes_at, is_bound, last_open, spot_at};
 use crate::origins::{item_at, module_at};
 use crate::rows::{grouped, shown};
-use crate::said::{Case, owned};
+use crate::cases::{Case, owned};
 use std::alloc::{AllocError, Global};
 use sv_ast::{Arm, Expr, Instance, Item, Links, Module, Select, Span, Stmt, Target};
 use sv_num::Place;

@@ -53,7 +53,7 @@ fn in_block(
             );
         }
     }
-    match is_blocking_at(alloc, case) {
+    match is_blocking_at(alloc, case)? {
         Some(true) if is_clocked => {
             return format!(in alloc;
                 "`{name}` is assigned by `=` at a clock edge: write `<=`, by \

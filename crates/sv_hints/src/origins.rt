@@ -1,7 +1,7 @@
 // What a refusal is of: a text, with its tokens and its tree.
-use std::alloc::Global;
+use std::alloc::{AllocError, Global};
 use sv_ast::{Item, Module, Text};
-use sv_num::Place;
+use sv_num::{Fault, Place};
 use sv_parse::read_text;
 use sv_token::{Token, lex};
 
@@ -18,14 +18,16 @@ pub struct Origin<'a> {
 }
 
 impl<'a> Origin<'a> {
-    /// The tokens of the text; none where it has none.
-    pub(crate) fn tokens(&self, alloc: Global) -> Vec<Token> {
+    /// The tokens of the text; none where it has none. It fails where memory runs out, since a
+    /// text without tokens is told of otherwise.
+    pub(crate) fn tokens(&self, alloc: Global) -> Result<Vec<Token>, AllocError> {
         if self.text.len() > LARGEST_FILE {
-            return Vec::new(alloc);
+            return Ok(Vec::new(alloc));
         }
         match lex(alloc, self.text) {
-            Ok(tokens) => tokens,
-            Err(_) => Vec::new(alloc),
+            Ok(tokens) => Ok(tokens),
+            Err(Fault::OutOfMemory) => Err(AllocError),
+            Err(Fault::Rule(_)) => Ok(Vec::new(alloc)),
         }
     }
 

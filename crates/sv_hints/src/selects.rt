@@ -269,7 +269,7 @@ fn wrong_part(
 
 /// Of a signal where a constant is wanted.
 pub fn not_constant(alloc: Global, case: &Case) -> Result<String, AllocError> {
-    let tokens = case.origin.tokens(alloc);
+    let tokens = case.origin.tokens(alloc)?;
     let spot = spot_at(case.origin.text, &tokens, case.place);
     let words = match bytes_at(spot.text, spot.front, last_open(spot.text, spot.front)) {
         b"case" => "an item of a `case` is a constant, and this is a signal: ask it by `if`",

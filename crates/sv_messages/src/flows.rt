@@ -285,6 +285,35 @@ fn frame_words(query: &Query) -> &'static str {
     }
 }
 
+// The names of a target and of what it learns from, and of their labels, as they are shown.
+#[derive(Drop)]
+struct LeakNames {
+    target: String,
+    read: String,
+    from: String,
+    to: String,
+}
+
+impl LeakNames {
+    fn of(
+        alloc: Global,
+        design: &Design,
+        target: SigId,
+        leak: Leak,
+    ) -> Result<LeakNames, AllocError> {
+        let target = signal_name(alloc, design, target)?;
+        let read = signal_name(alloc, design, leak.read)?;
+        let from = point_name(alloc, design, leak.from)?;
+        let to = point_name(alloc, design, leak.to)?;
+        Ok(LeakNames {
+            target,
+            read,
+            from,
+            to,
+        })
+    }
+}
+
 // How a target learns from a read.
 fn leak_words(
     alloc: Global,
@@ -294,34 +323,52 @@ fn leak_words(
     target: SigId,
     leak: Leak,
 ) -> Result<String, AllocError> {
-    let name = signal_name(alloc, design, target)?;
-    let read = signal_name(alloc, design, leak.read)?;
-    let from = point_name(alloc, design, leak.from)?;
-    let to = point_name(alloc, design, leak.to)?;
-    let by = condition_words(alloc, query, leak.read)?;
-    let at = "at the printed values";
+    let names = LeakNames::of(alloc, design, target, leak)?;
     match &query.goal {
-        Goal::Selector { .. } => format!(in alloc;
-            "obligation {number}: the label of `{name}` tells \
-            `{read}`, which picks it: {at} `{read}` is at `{from}`, and `{name}` at `{to}`; pick a \
-            label by a signal that all may see who see `{name}`"
-        ),
+        Goal::Selector { .. } => picked_words(alloc, number, &names),
         Goal::Flow {
             frame: Frame::Next,
             ..
         } if query.right.is_none() && leak.read.0 == target.0 => {
-            format!(in alloc;
-                "obligation {number}: the register `{name}` keeps its value on this \
-                path, and its label falls: {at} it is at `{from}`, and at `{to}` in the next \
-                cycle; clear it where its label falls"
-            )
+            kept_words(alloc, number, &names)
         }
-        _ => {
-            let of = frame_words(query);
-            format!(in alloc;
-                "obligation {number}: `{name}` learns from `{read}`{by}: {at} `{read}` is at \
-                `{from}`, and `{name}` at `{to}`{of}"
-            )
-        }
+        _ => learnt_words(alloc, number, query, leak.read, &names),
     }
+}
+
+// That a label tells what picks it.
+fn picked_words(alloc: Global, number: u32, names: &LeakNames) -> Result<String, AllocError> {
+    let LeakNames { target: name, read, from, to } = names;
+    format!(in alloc;
+        "obligation {number}: the label of `{name}` tells `{read}`, which picks it: at the printed \
+        values `{read}` is at `{from}`, and `{name}` at `{to}`; pick a label by a signal that all \
+        may see who see `{name}`"
+    )
+}
+
+// That a register keeps its value while its label falls.
+fn kept_words(alloc: Global, number: u32, names: &LeakNames) -> Result<String, AllocError> {
+    let LeakNames { target: name, from, to, .. } = names;
+    format!(in alloc;
+        "obligation {number}: the register `{name}` keeps its value on this path, and its label \
+        falls: at the printed values it is at `{from}`, and at `{to}` in the next cycle; clear it \
+        where its label falls"
+    )
+}
+
+// That a target learns from another signal.
+fn learnt_words(
+    alloc: Global,
+    number: u32,
+    query: &Query,
+    signal: SigId,
+    names: &LeakNames,
+) -> Result<String, AllocError> {
+    let LeakNames { target: name, read, from, to } = names;
+    let of = frame_words(query);
+    let by = condition_words(alloc, query, signal)?;
+    format!(in alloc;
+        "obligation {number}: `{name}` learns from `{read}`{by}: at the printed values `{read}` is \
+        at `{from}`, and `{name}` at `{to}`{of}"
+    )
 }

@@ -5,7 +5,7 @@ use crate::said::Said;
 use std::alloc::{AllocError, Global};
 use sv_ast::Item;
 use sv_design::Design;
-use sv_hints::{Case, Row, file_name, first_unbuilt, grouped, owned, place_of, shown, shown_word};
+use sv_hints::{Case, Origin, Row, file_name, first_unbuilt, grouped, owned, place_of, shown, shown_word};
 use sv_num::Place;
 use sv_obl::check_limits;
 use sv_words::Command;
@@ -107,22 +107,25 @@ pub fn nodes(alloc: Global, case: &Case) -> Result<Said, AllocError> {
     Ok(Said { place, words })
 }
 
-/// Of too many obligations.
-pub fn obligations(alloc: Global, case: &Case) -> Result<Said, AllocError> {
-    let file = file_name(alloc, case.origin.file)?;
-    let mend = "split blocks that have many paths; a module that `--top MODULE` checks alone \
-                tells nothing of the whole";
-    let words = match admitted_design(alloc, &case.origin) {
+// How many obligations a design has, in words.
+fn count_words(alloc: Global, origin: &Origin) -> Result<String, AllocError> {
+    match admitted_design(alloc, origin) {
         Some(design) => {
             let count = grouped(alloc, obligations_of(alloc, &design)?)?;
-            format!(in alloc;
-                "{file}: the design has {count} obligations, and 65,536 there may be: {mend}"
-            )?
+            format!(in alloc; "{count} obligations, and 65,536 there may be")
         }
-        None => format!(in alloc;
-            "{file}: the design has over 65,536 obligations, which are the most: {mend}"
-        )?,
-    };
+        None => owned(alloc, "over 65,536 obligations, which are the most"),
+    }
+}
+
+/// Of too many obligations.
+pub fn obligations(alloc: Global, case: &Case) -> Result<Said, AllocError> {
+    let count = count_words(alloc, &case.origin)?;
+    let file = file_name(alloc, case.origin.file)?;
+    let words = format!(in alloc;
+        "{file}: the design has {count}: split blocks that have many paths; a module that `--top \
+        MODULE` checks alone tells nothing of the whole"
+    )?;
     Ok(Said::nowhere(words))
 }
 
@@ -145,17 +148,29 @@ pub fn lanes(alloc: Global, command: &Command) -> Result<Said, AllocError> {
     Ok(Said::nowhere(words))
 }
 
-/// Of a number that no obligation has.
-pub fn no_obligation(alloc: Global, command: &Command, case: &Case) -> Result<Said, AllocError> {
-    let file = file_name(alloc, case.origin.file)?;
-    let number = match command {
+// The number of an obligation that a command names.
+fn asked_number(command: &Command) -> u32 {
+    match command {
         Command::Cnf { number, .. } => *number,
         _ => 0,
-    };
-    let count = match admitted_design(alloc, &case.origin) {
-        Some(design) => check_limits(alloc, &design).ok(),
-        None => None,
-    };
+    }
+}
+
+// How many obligations a design has, where they exceed no limit.
+fn count_of(alloc: Global, origin: &Origin) -> Option<u32> {
+    let design = admitted_design(alloc, origin)?;
+    check_limits(alloc, &design).ok()
+}
+
+/// Of a number that no obligation has.
+pub fn no_obligation(
+    alloc: Global,
+    command: &Command,
+    case: &Case,
+) -> Result<Said, AllocError> {
+    let number = asked_number(command);
+    let count = count_of(alloc, &case.origin);
+    let file = file_name(alloc, case.origin.file)?;
     let words = match count {
         Some(0) => format!(in alloc; "{file}: the design has no obligation")?,
         Some(1) => format!(in alloc;

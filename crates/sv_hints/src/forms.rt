@@ -31,10 +31,7 @@ const LEXICAL: [Hint; 10] = [
         b"case-equality",
         "`===` and `!==` are left out, since no signal is x or z: write `==` or `!=`",
     ),
-    (
-        b"power",
-        "`**` is left out: write the value, or shift a 1",
-    ),
+    (b"power", "`**` is left out: write the value, or shift a 1"),
     (
         b"indexed-part",
         "`+:` and `-:` are left out: where it is read, shift the signal into a wire, and take the \
@@ -148,10 +145,7 @@ const WORDS: [Hint; 32] = [
     (b"realtime", TYPE),
     (b"time", TYPE),
     (b"event", NAMED_EVENT),
-    (
-        b"macromodule",
-        "`macromodule` is left out: write `module`",
-    ),
+    (b"macromodule", "`macromodule` is left out: write `module`"),
     (b"or", ONE_EDGE),
     (
         b"negedge",

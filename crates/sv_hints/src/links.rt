@@ -1,10 +1,10 @@
 // What is said of links and overrides of an instance.
+use crate::cases::Case;
 use crate::constants::place_of;
 use crate::instances::{instance_of, master_of, own_name};
 use crate::names::{Declared, first_declaration};
 use crate::origins::{is_up_to, item_at, module_at};
 use crate::rows::{Row, shown};
-use crate::cases::Case;
 use std::alloc::{AllocError, Global};
 use sv_ast::{DeclKind, Expr, Instance, Item, Links, Module, Overrides, Text};
 use sv_num::Place;

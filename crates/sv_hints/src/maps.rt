@@ -1,6 +1,6 @@
 // What is said of lattices and label maps.
-use crate::rows::{Row, shown};
 use crate::cases::{Case, owned};
+use crate::rows::{Row, shown};
 use std::alloc::{AllocError, Global};
 use sv_ast::{Expr, MapText, Span, Text};
 use sv_num::{Name, Place};

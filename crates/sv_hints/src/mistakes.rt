@@ -38,10 +38,7 @@ pub fn foreign(spot: Spot, here: &Token) -> Option<&'static str> {
 
 // Words of SystemVerilog.
 const FOREIGN: [Hint; 16] = [
-    (
-        b"logic",
-        "`logic` is left out: declare a `wire` or a `reg`",
-    ),
+    (b"logic", "`logic` is left out: declare a `wire` or a `reg`"),
     (b"always_comb", "write `always @*`"),
     (b"always_ff", "write `always @(posedge clk)`"),
     (b"always_latch", SYSTEM_VERILOG),

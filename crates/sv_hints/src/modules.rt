@@ -1,7 +1,7 @@
 // What is said of modules and instances.
+use crate::cases::{Case, owned};
 use crate::origins::{item_at, module_at};
 use crate::rows::{Row, shown, shown_word};
-use crate::cases::{Case, owned};
 use std::alloc::{AllocError, Global};
 use sv_ast::{Item, Module, Text};
 
@@ -18,9 +18,7 @@ pub fn no_top(alloc: Global, case: &Case) -> Result<String, AllocError> {
 fn no_such_top(alloc: Global, text: &Text, top: &str) -> Result<String, AllocError> {
     let modules = all_modules(alloc, text)?;
     let top = shown_word(alloc, top)?;
-    format!(in alloc;
-        "there is no module `{top}`, which `--top` names; the modules are {modules}"
-    )
+    format!(in alloc; "there is no module `{top}`, which `--top` names; the modules are {modules}")
 }
 
 // The modules of a text, in a row.

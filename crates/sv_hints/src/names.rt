@@ -1,10 +1,10 @@
 // What is said of names: unknown ones, those declared twice, and labels.
+use crate::cases::{Case, owned};
 use crate::constants::Constants;
 use crate::contexts::{Use, is_in_value, spot_at, use_at};
 use crate::maps::{counts_of, points_of};
 use crate::origins::{Origin, is_up_to, module_at};
 use crate::rows::{Row, shown};
-use crate::cases::{Case, owned};
 use std::alloc::{AllocError, Global};
 use sv_ast::{Decl, Item, LabelText, MapText, Module, Text};
 use sv_num::Place;

@@ -1,9 +1,9 @@
 // What is said of bits and parts that lie outside of their signals, of ranges, and of lengths.
+use crate::cases::{Case, owned};
 use crate::constants::{Constants, place_of};
 use crate::contexts::{bytes_at, is_bound, last_open, spot_at};
 use crate::origins::{item_at, module_at};
 use crate::rows::{grouped, shown};
-use crate::cases::{Case, owned};
 use std::alloc::{AllocError, Global};
 use sv_ast::{Arm, Expr, Instance, Item, Links, Module, Select, Span, Stmt, Target};
 use sv_num::Place;

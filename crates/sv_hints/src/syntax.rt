@@ -1,4 +1,5 @@
 // What is said of rules on tokens and on the grammar.
+use crate::cases::{Case, owned};
 use crate::contexts::{
     Spot, are_before_event, are_before_form, are_declaring, bytes_at, bytes_of, hold_module,
     is_type_word, last_open, opens_label, opens_list, opens_selectors, spot_at,
@@ -6,7 +7,6 @@ use crate::contexts::{
 use crate::forms::grammar_form;
 use crate::mistakes::{by_words, foreign, in_block, in_nothing, may_end, ranged};
 use crate::rows::shown;
-use crate::cases::{Case, owned};
 use crate::tables::is_among;
 use std::alloc::{AllocError, Global};
 use sv_num::Place;

@@ -338,7 +338,12 @@ fn leak_words(
 
 // That a label tells what picks it.
 fn picked_words(alloc: Global, number: u32, names: &LeakNames) -> Result<String, AllocError> {
-    let LeakNames { target: name, read, from, to } = names;
+    let LeakNames {
+        target: name,
+        read,
+        from,
+        to,
+    } = names;
     format!(in alloc;
         "obligation {number}: the label of `{name}` tells `{read}`, which picks it: at the printed \
         values `{read}` is at `{from}`, and `{name}` at `{to}`; pick a label by a signal that all \
@@ -348,7 +353,12 @@ fn picked_words(alloc: Global, number: u32, names: &LeakNames) -> Result<String,
 
 // That a register keeps its value while its label falls.
 fn kept_words(alloc: Global, number: u32, names: &LeakNames) -> Result<String, AllocError> {
-    let LeakNames { target: name, from, to, .. } = names;
+    let LeakNames {
+        target: name,
+        from,
+        to,
+        ..
+    } = names;
     format!(in alloc;
         "obligation {number}: the register `{name}` keeps its value on this path, and its label \
         falls: at the printed values it is at `{from}`, and at `{to}` in the next cycle; clear it \
@@ -364,7 +374,12 @@ fn learnt_words(
     signal: SigId,
     names: &LeakNames,
 ) -> Result<String, AllocError> {
-    let LeakNames { target: name, read, from, to } = names;
+    let LeakNames {
+        target: name,
+        read,
+        from,
+        to,
+    } = names;
     let of = frame_words(query);
     let by = condition_words(alloc, query, signal)?;
     format!(in alloc;

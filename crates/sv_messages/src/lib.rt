@@ -27,4 +27,3 @@ mod uses;
 pub use messages::{message, spent_message};
 pub use std::alloc::AllocError as OutOfMemory;
 pub use stimuli::Given;
-pub use sv_hints::{Origin, file_name};

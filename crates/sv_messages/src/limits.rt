@@ -5,7 +5,9 @@ use crate::said::Said;
 use std::alloc::{AllocError, Global};
 use sv_ast::Item;
 use sv_design::Design;
-use sv_hints::{Case, Origin, Row, file_name, first_unbuilt, grouped, owned, place_of, shown, shown_word};
+use sv_hints::{
+    Case, Origin, Row, file_name, first_unbuilt, grouped, owned, place_of, shown, shown_word,
+};
 use sv_num::Place;
 use sv_obl::check_limits;
 use sv_words::Command;
@@ -163,11 +165,7 @@ fn count_of(alloc: Global, origin: &Origin) -> Option<u32> {
 }
 
 /// Of a number that no obligation has.
-pub fn no_obligation(
-    alloc: Global,
-    command: &Command,
-    case: &Case,
-) -> Result<Said, AllocError> {
+pub fn no_obligation(alloc: Global, command: &Command, case: &Case) -> Result<Said, AllocError> {
     let number = asked_number(command);
     let count = count_of(alloc, &case.origin);
     let file = file_name(alloc, case.origin.file)?;

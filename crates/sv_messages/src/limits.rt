@@ -204,18 +204,25 @@ fn points_of(alloc: Global, design: &Design) -> Result<String, AllocError> {
     row.finish()
 }
 
-/// Of a level that is no point, with the points that there are, where the design is at hand.
+// Which points there are, in words; nothing where the design is not at hand.
+fn point_words(alloc: Global, origin: &Origin) -> Result<String, AllocError> {
+    match admitted_design(alloc, origin) {
+        Some(design) => {
+            let points = points_of(alloc, &design)?;
+            format!(in alloc; "; the points are {points}")
+        }
+        None => Ok(String::new(alloc)),
+    }
+}
+
+/// Of a level that is no point.
 pub fn level(alloc: Global, command: &Command, case: &Case) -> Result<Said, AllocError> {
+    let points = point_words(alloc, &case.origin)?;
     let file = file_name(alloc, case.origin.file)?;
     let asked = shown_word(alloc, asked_level(command))?;
-    let mut words = format!(in alloc;
-        "{file}: there is no point `{asked}`, which `--level` names"
+    let words = format!(in alloc;
+        "{file}: there is no point `{asked}`, which `--level` names{points}"
     )?;
-    if let Some(design) = admitted_design(alloc, &case.origin) {
-        words.push_str("; the points are ")?;
-        let points = points_of(alloc, &design)?;
-        words.push_str(points.as_str())?;
-    }
     Ok(Said::nowhere(words))
 }
 

@@ -138,10 +138,7 @@ fn clock_fault(
         return format!(in alloc; "the clock `{name}` has {width} bits, and a clock has 1");
     }
     if signal.kind == SigKind::Input && linked_to(flat, number).is_none() {
-        let at = instance_words(alloc, case)?;
-        return format!(in alloc;
-            "the clock `{name}`{at} is linked to no whole signal: link it to the clock around it"
-        );
+        return not_linked(alloc, case, name);
     }
     if let Some(top) = top_of(flat, number) {
         if let Some(other) = other_clock(flat, top, number) {
@@ -154,6 +151,24 @@ fn clock_fault(
             is public; take its label away"
         );
     }
+    used_otherwise(alloc, flat, number, name)
+}
+
+// Of a clock of an instance that no whole signal is linked to, in words.
+fn not_linked(alloc: Global, case: &Case, name: &str) -> Result<String, AllocError> {
+    let at = instance_words(alloc, case)?;
+    format!(in alloc;
+        "the clock `{name}`{at} is linked to no whole signal: link it to the clock around it"
+    )
+}
+
+// Of a clock that is used as no clock is.
+fn used_otherwise(
+    alloc: Global,
+    flat: &Flat,
+    number: usize,
+    name: &str,
+) -> Result<String, AllocError> {
     let linked = linked_words(alloc, flat, number)?;
     let used = used(alloc, flat, number)?;
     format!(in alloc;

@@ -97,9 +97,11 @@ pub fn place_of_number(alloc: Global, case: &Case, digits: &[u8]) -> Option<Plac
 }
 
 fn place_of_obligation(alloc: Global, origin: &Origin, number: u32) -> Option<Place> {
-    let design = admitted_design(alloc, origin)?;
-    let query = query_of(alloc, &design, number)?;
-    place_of(&design, &query)
+    place_in(alloc, &admitted_design(alloc, origin)?, number)
+}
+
+fn place_in(alloc: Global, design: &Design, number: u32) -> Option<Place> {
+    place_of(design, &query_of(alloc, design, number)?)
 }
 
 /// Of an obligation on which the budget was spent.
@@ -216,13 +218,23 @@ pub fn flow(
     number: u32,
     v: &Valuation,
 ) -> Result<Said, AllocError> {
-    if let Some(design) = admitted_design(alloc, origin) {
-        if let Some(query) = query_of(alloc, &design, number) {
-            return flow_of(alloc, &design, number, &query, v);
-        }
+    match admitted_design(alloc, origin) {
+        Some(design) => flow_in(alloc, &design, number, v),
+        None => Ok(Said::nowhere(failed_words(alloc, number)?)),
     }
-    let words = format!(in alloc; "obligation {number} fails at the printed values")?;
-    Ok(Said::nowhere(words))
+}
+
+// That an obligation fails.
+fn failed_words(alloc: Global, number: u32) -> Result<String, AllocError> {
+    format!(in alloc; "obligation {number} fails at the printed values")
+}
+
+// Of the obligation of a number of a design.
+fn flow_in(alloc: Global, design: &Design, number: u32, v: &Valuation) -> Result<Said, AllocError> {
+    match query_of(alloc, design, number) {
+        Some(query) => flow_of(alloc, design, number, &query, v),
+        None => Ok(Said::nowhere(failed_words(alloc, number)?)),
+    }
 }
 
 // Of this obligation of a design.
@@ -240,7 +252,7 @@ fn flow_of(
         }),
         _ => Ok(Said {
             place: place_of(design, query),
-            words: format!(in alloc; "obligation {number} fails at the printed values")?,
+            words: failed_words(alloc, number)?,
         }),
     }
 }

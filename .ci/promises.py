@@ -23,14 +23,23 @@ GROUPS = {
     "obligations": ("Obligations, their clauses and proofs",
                     ["sv_obl", "sv_clause", "sv_gates", "sv_circuits", "sv_encoding", "sv_encoding_laws", "sv_blast", "sv_proof", "sv_solve", "sv_decide",
                      "sv_accept", "sv_judge"]),
-    "program": ("Verdicts, words, samples and the top call", ["sv_texts", "sv_report", "sv_words", "sv_gen", "sv_cli", "sv_messages"]),
+    "program": ("Verdicts, words, samples and the top call", ["sv_texts", "sv_report", "sv_words", "sv_gen", "sv_cli", "sv_hints", "sv_messages"]),
 }
 # Types whose variants are the ways in which a call can end.
 ANSWERS = {"Outcome", "Checked", "Verified", "Decided", "Solved", "Compared", "Ending"}
+# The calls that say something to a person, or find its cause; behind the name stands what is open besides what it gives.
+NONE, LINES, SELF = "when it answers None", "what it leaves in lines", "what it leaves in self"
+TOLD = {
+    "sv_hints": [("instance_words",), ("Case::name",), ("owned",), ("push_excerpt", LINES), ("port_link", NONE), ("Origin::tree", NONE),
+                 ("first_unbuilt", NONE), ("place_of",), ("shown",), ("grouped",), ("file_name",), ("shown_bytes",), ("shown_word",), ("Row::new",),
+                 ("Row::of_points",), ("Row::add", SELF), ("Row::finish",), ("words_of",)],
+    "sv_messages": [("message",), ("spent_message",)],
+}
 # What no clause says, and why that stands.
 OPEN = {
     ("sv_words", "help_text", "what it gives"): "the text is that of `clap`, and is only tested",
-    **{("sv_messages", name, "what it gives"): "what a person is told is only tested" for name in ("file_name", "message", "spent_message")},
+    **{(crate, name, what): "what a person is told is only tested" for crate, names in TOLD.items() for name, *more in names
+       for what in ("what it gives", *more)},
 }
 HANDLES = re.compile(r"\b(Abort|Wait|Threads|Net|Processes)\b")
 MEMORY = {"OutOfMemory", "AllocError", "AllocFailed"}

@@ -2,7 +2,8 @@
 use std::alloc::Global;
 use std::io::{self, Stderr};
 use sv_cli::{Broken, Outcome, UsageKind};
-use sv_messages::{Given, Origin, OutOfMemory, file_name, message, spent_message};
+use sv_hints::{Origin, file_name};
+use sv_messages::{Given, OutOfMemory, message, spent_message};
 use sv_words::{Command, read_words};
 
 const MEMORY: &str = "secv: memory ran out";

@@ -1,25 +1,20 @@
 // What is said of clocks that are not as a clock is to be.
-use crate::constants::place_of;
-use crate::drivers::instance_words;
-use crate::instances::{instance_of, master_of, own_name};
-use crate::rows::shown;
-use crate::said::{Case, Said};
+use crate::designs::flat_design;
+use crate::said::Said;
 use crate::uses::{driven_at, link_in, read_at, signal_named};
 use std::alloc::{AllocError, Global};
-use sv_ast::{Links, Text};
 use sv_flat::{Flat, ProcKind, SigId, SigKind, Signal};
+use sv_hints::{Case, PortLink, instance_words, port_link, shown};
 use sv_lattice::Label;
 use sv_num::Place;
 
 /// Of a clock that is not as a clock is to be. Of one that no whole signal is linked to, the place
 /// is that of the link.
 pub fn clock(alloc: Global, case: &Case) -> Result<Said, AllocError> {
-    if let Some(flat) = case.origin.flat(alloc) {
+    if let Some(flat) = flat_design(alloc, &case.origin) {
         if is_unlinked(&flat, case.name()) {
-            if let Some(text) = case.origin.tree(alloc) {
-                if let Some(link) = port_link(&text, case.origin.top, case.name()) {
-                    return unlinked(alloc, case, link);
-                }
+            if let Some(link) = port_link(alloc, case) {
+                return unlinked(alloc, case, link);
             }
         }
     }
@@ -36,38 +31,6 @@ fn is_unlinked(flat: &Flat, name: &[u8]) -> bool {
             signal.kind == SigKind::Input && signal.width == 1 && linked_to(flat, number).is_none()
         }
         None => false,
-    }
-}
-
-// How an instance links a port: to an expression, to nothing, or not at all.
-#[derive(Clone, Copy)]
-enum PortLink {
-    Expr(Place),
-    Nothing(Place),
-    Missing(Place),
-}
-
-// The link of the port that is the signal of a name.
-fn port_link(text: &Text, top: Option<&str>, name: &[u8]) -> Option<PortLink> {
-    let instance = instance_of(text, top, name)?;
-    let port = own_name(name);
-    let missing = PortLink::Missing(instance.name_place);
-    match &instance.links {
-        Links::Named(links) => match links.iter().find(|link| link.0.bytes() == port) {
-            Some(link) => match &link.2 {
-                Some(expr) => Some(PortLink::Expr(place_of(expr))),
-                None => Some(PortLink::Nothing(link.1)),
-            },
-            None => Some(missing),
-        },
-        Links::Ordered(links) => {
-            let ports = &master_of(text, instance)?.ports;
-            let at = ports.iter().position(|found| found.name.bytes() == port)?;
-            match links.get(at) {
-                Some(expr) => Some(PortLink::Expr(place_of(expr))),
-                None => Some(missing),
-            }
-        }
     }
 }
 
@@ -104,7 +67,7 @@ fn unlinked(alloc: Global, case: &Case, link: PortLink) -> Result<Said, AllocErr
 // What is wrong with a clock, in words.
 fn clock_words(alloc: Global, case: &Case) -> Result<String, AllocError> {
     let name = shown(alloc, case.name())?;
-    if let Some(flat) = case.origin.flat(alloc) {
+    if let Some(flat) = flat_design(alloc, &case.origin) {
         if let Some(number) = signal_named(&flat, case.name()) {
             if let Some(signal) = flat.signals.get(number) {
                 return clock_fault(alloc, case, &flat, number, signal, name.as_str());
@@ -175,10 +138,7 @@ fn clock_fault(
         return format!(in alloc; "the clock `{name}` has {width} bits, and a clock has 1");
     }
     if signal.kind == SigKind::Input && linked_to(flat, number).is_none() {
-        let at = instance_words(alloc, case)?;
-        return format!(in alloc;
-            "the clock `{name}`{at} is linked to no whole signal: link it to the clock around it"
-        );
+        return not_linked(alloc, case, name);
     }
     if let Some(top) = top_of(flat, number) {
         if let Some(other) = other_clock(flat, top, number) {
@@ -191,6 +151,24 @@ fn clock_fault(
             is public; take its label away"
         );
     }
+    used_otherwise(alloc, flat, number, name)
+}
+
+// Of a clock of an instance that no whole signal is linked to, in words.
+fn not_linked(alloc: Global, case: &Case, name: &str) -> Result<String, AllocError> {
+    let at = instance_words(alloc, case)?;
+    format!(in alloc;
+        "the clock `{name}`{at} is linked to no whole signal: link it to the clock around it"
+    )
+}
+
+// Of a clock that is used as no clock is.
+fn used_otherwise(
+    alloc: Global,
+    flat: &Flat,
+    number: usize,
+    name: &str,
+) -> Result<String, AllocError> {
     let linked = linked_words(alloc, flat, number)?;
     let used = used(alloc, flat, number)?;
     format!(in alloc;

@@ -1,9 +1,9 @@
 // What is said of two runs that differ.
-use crate::origins::Origin;
-use crate::rows::{file_name, grouped, shown, shown_word};
+use crate::designs::admitted_design;
 use std::alloc::{AllocError, Global};
 use sv_design::Design;
 use sv_flat::{SigId, Signal};
+use sv_hints::{Origin, file_name, grouped, shown, shown_word};
 use sv_lattice::Label;
 use sv_words::Command;
 
@@ -43,23 +43,40 @@ pub fn unlike_given(
     cycle: u64,
     signal: SigId,
 ) -> Result<String, AllocError> {
-    let Some(design) = origin.design(alloc) else {
+    let Some(design) = admitted_design(alloc, origin) else {
         return Ok(String::new(alloc));
     };
-    let Some(found) = design.signals().get(signal.0 as usize) else {
-        return Ok(String::new(alloc));
-    };
+    match design.signals().get(signal.0 as usize) {
+        Some(found) if is_register(&design, signal) => unlike_start(alloc, command, found),
+        Some(found) => unlike_input(alloc, command, cycle, found),
+        None => Ok(String::new(alloc)),
+    }
+}
+
+// Of a register that starts differently.
+fn unlike_start(alloc: Global, command: &Command, found: &Signal) -> Result<String, AllocError> {
+    let label = with_label(found);
     let level = level_of(alloc, command)?;
     let stimuli = stimuli_of(alloc, command)?;
     let name = shown(alloc, found.name.bytes())?;
+    format!(in alloc;
+        "secv: `{level}` sees the register `{name}` start differently in {stimuli}, which tells \
+        nothing of the design: a register starts at 0 or by a line `start {name} VALUE`; give it \
+        the same value in both{label}\n"
+    )
+}
+
+// Of an input that is given differently in a cycle.
+fn unlike_input(
+    alloc: Global,
+    command: &Command,
+    cycle: u64,
+    found: &Signal,
+) -> Result<String, AllocError> {
     let label = with_label(found);
-    if is_register(&design, signal) {
-        return format!(in alloc;
-            "secv: `{level}` sees the register `{name}` start differently in {stimuli}, which \
-            tells nothing of the design: a register starts at 0 or by a line `start {name} VALUE`; \
-            give it the same value in both{label}\n"
-        );
-    }
+    let level = level_of(alloc, command)?;
+    let stimuli = stimuli_of(alloc, command)?;
+    let name = shown(alloc, found.name.bytes())?;
     let cycle = grouped(alloc, cycle)?;
     format!(in alloc;
         "secv: in cycle {cycle} `{level}` sees the input `{name}` differently in {stimuli}, which \
@@ -83,12 +100,22 @@ pub fn leak(
     cycle: u64,
     signal: SigId,
 ) -> Result<String, AllocError> {
-    let Some(design) = origin.design(alloc) else {
-        return Ok(String::new(alloc));
-    };
-    let Some(found) = design.signals().get(signal.0 as usize) else {
-        return Ok(String::new(alloc));
-    };
+    match admitted_design(alloc, origin) {
+        Some(design) => match design.signals().get(signal.0 as usize) {
+            Some(found) => leak_at(alloc, command, cycle, found),
+            None => Ok(String::new(alloc)),
+        },
+        None => Ok(String::new(alloc)),
+    }
+}
+
+// Of a signal that looks different in a cycle.
+fn leak_at(
+    alloc: Global,
+    command: &Command,
+    cycle: u64,
+    found: &Signal,
+) -> Result<String, AllocError> {
     let level = level_of(alloc, command)?;
     let name = shown(alloc, found.name.bytes())?;
     let cycle = grouped(alloc, cycle)?;

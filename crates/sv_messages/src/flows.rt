@@ -5,13 +5,13 @@ ghost use Rattle.sv_flat.specs.Views.{design_of};
 ghost use Rattle.sv_obl.specs.ListParts.{IsAt};
 ghost use Rattle.sv_obl.specs.Valuations.{FitsDesign};
 
-use crate::origins::Origin;
-use crate::rows::shown;
-use crate::said::{Case, Said};
+use crate::designs::admitted_design;
+use crate::said::Said;
 use crate::uses::named_at;
 use std::alloc::{AllocError, Global};
 use sv_design::Design;
 use sv_flat::SigId;
+use sv_hints::{Case, Origin, shown};
 use sv_lattice::Point;
 use sv_num::Place;
 use sv_obl::{Frame, Goal, Listing, Query, Valuation};
@@ -97,9 +97,11 @@ pub fn place_of_number(alloc: Global, case: &Case, digits: &[u8]) -> Option<Plac
 }
 
 fn place_of_obligation(alloc: Global, origin: &Origin, number: u32) -> Option<Place> {
-    let design = origin.design(alloc)?;
-    let query = query_of(alloc, &design, number)?;
-    place_of(&design, &query)
+    place_in(alloc, &admitted_design(alloc, origin)?, number)
+}
+
+fn place_in(alloc: Global, design: &Design, number: u32) -> Option<Place> {
+    place_of(design, &query_of(alloc, design, number)?)
 }
 
 /// Of an obligation on which the budget was spent.
@@ -216,13 +218,23 @@ pub fn flow(
     number: u32,
     v: &Valuation,
 ) -> Result<Said, AllocError> {
-    if let Some(design) = origin.design(alloc) {
-        if let Some(query) = query_of(alloc, &design, number) {
-            return flow_of(alloc, &design, number, &query, v);
-        }
+    match admitted_design(alloc, origin) {
+        Some(design) => flow_in(alloc, &design, number, v),
+        None => Ok(Said::nowhere(failed_words(alloc, number)?)),
     }
-    let words = format!(in alloc; "obligation {number} fails at the printed values")?;
-    Ok(Said::nowhere(words))
+}
+
+// That an obligation fails.
+fn failed_words(alloc: Global, number: u32) -> Result<String, AllocError> {
+    format!(in alloc; "obligation {number} fails at the printed values")
+}
+
+// Of the obligation of a number of a design.
+fn flow_in(alloc: Global, design: &Design, number: u32, v: &Valuation) -> Result<Said, AllocError> {
+    match query_of(alloc, design, number) {
+        Some(query) => flow_of(alloc, design, number, &query, v),
+        None => Ok(Said::nowhere(failed_words(alloc, number)?)),
+    }
 }
 
 // Of this obligation of a design.
@@ -240,7 +252,7 @@ fn flow_of(
         }),
         _ => Ok(Said {
             place: place_of(design, query),
-            words: format!(in alloc; "obligation {number} fails at the printed values")?,
+            words: failed_words(alloc, number)?,
         }),
     }
 }
@@ -285,6 +297,35 @@ fn frame_words(query: &Query) -> &'static str {
     }
 }
 
+// The names of a target and of what it learns from, and of their labels, as they are shown.
+#[derive(Drop)]
+struct LeakNames {
+    target: String,
+    read: String,
+    from: String,
+    to: String,
+}
+
+impl LeakNames {
+    fn of(
+        alloc: Global,
+        design: &Design,
+        target: SigId,
+        leak: Leak,
+    ) -> Result<LeakNames, AllocError> {
+        let target = signal_name(alloc, design, target)?;
+        let read = signal_name(alloc, design, leak.read)?;
+        let from = point_name(alloc, design, leak.from)?;
+        let to = point_name(alloc, design, leak.to)?;
+        Ok(LeakNames {
+            target,
+            read,
+            from,
+            to,
+        })
+    }
+}
+
 // How a target learns from a read.
 fn leak_words(
     alloc: Global,
@@ -294,34 +335,67 @@ fn leak_words(
     target: SigId,
     leak: Leak,
 ) -> Result<String, AllocError> {
-    let name = signal_name(alloc, design, target)?;
-    let read = signal_name(alloc, design, leak.read)?;
-    let from = point_name(alloc, design, leak.from)?;
-    let to = point_name(alloc, design, leak.to)?;
-    let by = condition_words(alloc, query, leak.read)?;
-    let at = "at the printed values";
+    let names = LeakNames::of(alloc, design, target, leak)?;
     match &query.goal {
-        Goal::Selector { .. } => format!(in alloc;
-            "obligation {number}: the label of `{name}` tells \
-            `{read}`, which picks it: {at} `{read}` is at `{from}`, and `{name}` at `{to}`; pick a \
-            label by a signal that all may see who see `{name}`"
-        ),
+        Goal::Selector { .. } => picked_words(alloc, number, &names),
         Goal::Flow {
             frame: Frame::Next,
             ..
         } if query.right.is_none() && leak.read.0 == target.0 => {
-            format!(in alloc;
-                "obligation {number}: the register `{name}` keeps its value on this \
-                path, and its label falls: {at} it is at `{from}`, and at `{to}` in the next \
-                cycle; clear it where its label falls"
-            )
+            kept_words(alloc, number, &names)
         }
-        _ => {
-            let of = frame_words(query);
-            format!(in alloc;
-                "obligation {number}: `{name}` learns from `{read}`{by}: {at} `{read}` is at \
-                `{from}`, and `{name}` at `{to}`{of}"
-            )
-        }
+        _ => learnt_words(alloc, number, query, leak.read, &names),
     }
+}
+
+// That a label tells what picks it.
+fn picked_words(alloc: Global, number: u32, names: &LeakNames) -> Result<String, AllocError> {
+    let LeakNames {
+        target: name,
+        read,
+        from,
+        to,
+    } = names;
+    format!(in alloc;
+        "obligation {number}: the label of `{name}` tells `{read}`, which picks it: at the printed \
+        values `{read}` is at `{from}`, and `{name}` at `{to}`; pick a label by a signal that all \
+        may see who see `{name}`"
+    )
+}
+
+// That a register keeps its value while its label falls.
+fn kept_words(alloc: Global, number: u32, names: &LeakNames) -> Result<String, AllocError> {
+    let LeakNames {
+        target: name,
+        from,
+        to,
+        ..
+    } = names;
+    format!(in alloc;
+        "obligation {number}: the register `{name}` keeps its value on this path, and its label \
+        falls: at the printed values it is at `{from}`, and at `{to}` in the next cycle; clear it \
+        where its label falls"
+    )
+}
+
+// That a target learns from another signal.
+fn learnt_words(
+    alloc: Global,
+    number: u32,
+    query: &Query,
+    signal: SigId,
+    names: &LeakNames,
+) -> Result<String, AllocError> {
+    let LeakNames {
+        target: name,
+        read,
+        from,
+        to,
+    } = names;
+    let of = frame_words(query);
+    let by = condition_words(alloc, query, signal)?;
+    format!(in alloc;
+        "obligation {number}: `{name}` learns from `{read}`{by}: at the printed values `{read}` is \
+        at `{from}`, and `{name}` at `{to}`{of}"
+    )
 }

@@ -3,7 +3,8 @@
 //! Takes what a command was asked, the text that it read, what else it was given, and why the
 //! answer was no (`Broken` of `sv_report`). [`message`] gives a line that says what is wrong and,
 //! where there is a usual one, the mend; where the refusal has a place the line begins with it, and
-//! below stand the line of the text and a caret.
+//! below stand the line of the text and a caret. What is said of a text by its tokens and its tree
+//! alone comes from `sv_hints`.
 //!
 //! A message is nothing proved: a cause is found anew in the text, by the calls of the layers
 //! below, and where it is not found the message says less. Promised is that a message ends safely
@@ -13,32 +14,16 @@
 
 mod clocks;
 mod comparisons;
-mod constants;
-mod contexts;
 mod counts;
+mod designs;
 mod drivers;
-mod excerpts;
 mod flows;
-mod forms;
-mod instances;
 mod limits;
-mod links;
-mod maps;
 mod messages;
-mod mistakes;
-mod modules;
-mod names;
-mod numerals;
-mod origins;
-mod rows;
 mod said;
-mod selects;
 mod stimuli;
-mod syntax;
 mod uses;
 
 pub use messages::{message, spent_message};
-pub use origins::Origin;
-pub use rows::file_name;
 pub use std::alloc::AllocError as OutOfMemory;
 pub use stimuli::Given;

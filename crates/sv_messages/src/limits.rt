@@ -1,11 +1,13 @@
 // What is said of limits.
 use crate::counts::{Paths, obligations_of, paths_to};
-use crate::origins::{first_unbuilt, place_of};
-use crate::rows::{Row, file_name, grouped, shown, shown_word};
-use crate::said::{Case, Said, owned};
+use crate::designs::admitted_design;
+use crate::said::Said;
 use std::alloc::{AllocError, Global};
 use sv_ast::Item;
 use sv_design::Design;
+use sv_hints::{
+    Case, Origin, Row, file_name, first_unbuilt, grouped, owned, place_of, shown, shown_word,
+};
 use sv_num::Place;
 use sv_obl::check_limits;
 use sv_words::Command;
@@ -57,7 +59,7 @@ fn declared_at(design: &Design, name: &[u8]) -> Option<Place> {
 
 // Where the signal that is named is declared, and the paths to it.
 fn signal_of(alloc: Global, case: &Case) -> Result<(Option<Place>, Option<Paths>), AllocError> {
-    match case.origin.design(alloc) {
+    match admitted_design(alloc, &case.origin) {
         Some(design) => {
             let paths = paths_to(alloc, &design, case.name())?;
             Ok((declared_at(&design, case.name()), paths))
@@ -108,29 +110,32 @@ pub fn nodes(alloc: Global, case: &Case) -> Result<Said, AllocError> {
 }
 
 // How many obligations the design has, where that is known.
-fn count_of(alloc: Global, case: &Case) -> Result<Option<u64>, AllocError> {
-    match case.origin.design(alloc) {
+fn count_of(alloc: Global, origin: &Origin) -> Result<Option<u64>, AllocError> {
+    match admitted_design(alloc, origin) {
         Some(design) => obligations_of(alloc, &design),
         None => Ok(None),
     }
 }
 
-/// Of too many obligations.
-pub fn obligations(alloc: Global, case: &Case) -> Result<Said, AllocError> {
-    let file = file_name(alloc, case.origin.file)?;
-    let mend = "split blocks that have many paths; a module that `--top MODULE` checks alone \
-                tells nothing of the whole";
-    let words = match count_of(alloc, case)? {
+// How many obligations the design has, in words.
+fn count_words(alloc: Global, origin: &Origin) -> Result<String, AllocError> {
+    match count_of(alloc, origin)? {
         Some(count) => {
             let count = grouped(alloc, count)?;
-            format!(in alloc;
-                "{file}: the design has {count} obligations, and 65,536 there may be: {mend}"
-            )?
+            format!(in alloc; "{count} obligations, and 65,536 there may be")
         }
-        None => format!(in alloc;
-            "{file}: the design has over 65,536 obligations, which are the most: {mend}"
-        )?,
-    };
+        None => owned(alloc, "over 65,536 obligations, which are the most"),
+    }
+}
+
+/// Of too many obligations.
+pub fn obligations(alloc: Global, case: &Case) -> Result<Said, AllocError> {
+    let count = count_words(alloc, &case.origin)?;
+    let file = file_name(alloc, case.origin.file)?;
+    let words = format!(in alloc;
+        "{file}: the design has {count}: split blocks that have many paths; a module that `--top \
+        MODULE` checks alone tells nothing of the whole"
+    )?;
     Ok(Said::nowhere(words))
 }
 
@@ -143,8 +148,8 @@ pub fn stimulus_size(alloc: Global) -> Result<Said, AllocError> {
 }
 
 /// Of a number of lanes that is not taken.
-pub fn lanes(alloc: Global, case: &Case) -> Result<Said, AllocError> {
-    let words = match case.command {
+pub fn lanes(alloc: Global, command: &Command) -> Result<Said, AllocError> {
+    let words = match command {
         Command::Gen { lanes, .. } => {
             format!(in alloc; "a sample has 1 to 200 lanes, and not {lanes}")?
         }
@@ -153,17 +158,25 @@ pub fn lanes(alloc: Global, case: &Case) -> Result<Said, AllocError> {
     Ok(Said::nowhere(words))
 }
 
-/// Of a number that no obligation has.
-pub fn no_obligation(alloc: Global, case: &Case) -> Result<Said, AllocError> {
-    let file = file_name(alloc, case.origin.file)?;
-    let number = match case.command {
+// The number of an obligation that a command names.
+fn asked_number(command: &Command) -> u32 {
+    match command {
         Command::Cnf { number, .. } => *number,
         _ => 0,
-    };
-    let count = match case.origin.design(alloc) {
-        Some(design) => check_limits(alloc, &design).ok(),
-        None => None,
-    };
+    }
+}
+
+// How many obligations a design has, where they exceed no limit.
+fn count_of(alloc: Global, origin: &Origin) -> Option<u32> {
+    let design = admitted_design(alloc, origin)?;
+    check_limits(alloc, &design).ok()
+}
+
+/// Of a number that no obligation has.
+pub fn no_obligation(alloc: Global, command: &Command, case: &Case) -> Result<Said, AllocError> {
+    let number = asked_number(command);
+    let count = count_of(alloc, &case.origin);
+    let file = file_name(alloc, case.origin.file)?;
     let words = match count {
         Some(0) => format!(in alloc; "{file}: the design has no obligation")?,
         Some(1) => format!(in alloc;
@@ -178,28 +191,45 @@ pub fn no_obligation(alloc: Global, case: &Case) -> Result<Said, AllocError> {
     Ok(Said::nowhere(words))
 }
 
-/// Of a level that is no point.
-pub fn level(alloc: Global, case: &Case) -> Result<Said, AllocError> {
-    let file = file_name(alloc, case.origin.file)?;
-    let asked = match case.command {
+// The level that a command names.
+fn asked_level(command: &Command) -> &str {
+    match command {
         Command::Sim {
             level: Some(level),
             ..
         } => level.as_str(),
         Command::Compare { level, .. } => level.as_str(),
         _ => "",
-    };
-    let asked = shown_word(alloc, asked)?;
-    let mut row = Row::of_points(alloc);
-    if let Some(design) = case.origin.design(alloc) {
-        for point in design.points() {
-            row.add(point.bytes(), "")?;
-        }
     }
-    let points = row.finish()?;
+}
+
+// The points of a design, in a row.
+fn points_of(alloc: Global, design: &Design) -> Result<String, AllocError> {
+    let mut row = Row::of_points(alloc);
+    for point in design.points() {
+        row.add(point.bytes(), "")?;
+    }
+    row.finish()
+}
+
+// Which points there are, in words; nothing where the design is not at hand.
+fn point_words(alloc: Global, origin: &Origin) -> Result<String, AllocError> {
+    match admitted_design(alloc, origin) {
+        Some(design) => {
+            let points = points_of(alloc, &design)?;
+            format!(in alloc; "; the points are {points}")
+        }
+        None => Ok(String::new(alloc)),
+    }
+}
+
+/// Of a level that is no point.
+pub fn level(alloc: Global, command: &Command, case: &Case) -> Result<Said, AllocError> {
+    let points = point_words(alloc, &case.origin)?;
+    let file = file_name(alloc, case.origin.file)?;
+    let asked = shown_word(alloc, asked_level(command))?;
     let words = format!(in alloc;
-        "{file}: there is no point `{asked}`, which `--level` names; the \
-        points are {points}"
+        "{file}: there is no point `{asked}`, which `--level` names{points}"
     )?;
     Ok(Said::nowhere(words))
 }
@@ -218,8 +248,8 @@ pub fn encoding(alloc: Global, case: &Case) -> Result<Said, AllocError> {
 }
 
 /// Of a certificate that is too large.
-pub fn proof_size(alloc: Global, case: &Case) -> Result<Said, AllocError> {
-    let name = match case.command {
+pub fn proof_size(alloc: Global, command: &Command, case: &Case) -> Result<Said, AllocError> {
+    let name = match command {
         Command::Verify { proof, .. } => proof.as_str(),
         _ => case.origin.file,
     };
@@ -232,8 +262,8 @@ pub fn proof_size(alloc: Global, case: &Case) -> Result<Said, AllocError> {
 }
 
 /// Of a stimulus file that is too large.
-pub fn stimulus_file(alloc: Global, case: &Case) -> Result<Said, AllocError> {
-    let name = match case.command {
+pub fn stimulus_file(alloc: Global, command: &Command, case: &Case) -> Result<Said, AllocError> {
+    let name = match command {
         Command::Compare { a, .. } if case.name() == b"A".as_slice() => a.as_str(),
         Command::Compare { b, .. } => b.as_str(),
         _ => case.origin.file,

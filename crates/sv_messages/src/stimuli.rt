@@ -1,10 +1,9 @@
 // What is said of wrong lines of stimuli and certificates.
-use crate::origins::Origin;
-use crate::rows::{Row, file_name, shown, shown_bytes};
-use crate::said::owned;
+use crate::designs::admitted_design;
 use std::alloc::{AllocError, Global};
 use sv_design::Design;
 use sv_flat::{SigId, Signal};
+use sv_hints::{Origin, Row, file_name, owned, shown, shown_bytes};
 use sv_report::StimSource;
 use sv_trace::StimKind;
 use sv_words::Command;
@@ -81,15 +80,24 @@ pub fn stimulus(
     wrong: (StimSource, u64, StimKind),
 ) -> Result<String, AllocError> {
     let (source, line, kind) = wrong;
+    let wanted = wanted_of(alloc, origin, kind, given.stimulus(source, line))?;
     let before = line_words(alloc, command, source, line)?;
-    let found = given.stimulus(source, line);
-    let wanted = match origin.design(alloc) {
-        Some(design) => wanted(alloc, &design, kind, found)?,
-        None => owned(alloc, "this line of the stimulus is wrong")?,
-    };
     match source {
         StimSource::Input => format!(in alloc; "secv: {before}: {wanted}\n"),
         _ => format!(in alloc; "{before}: {wanted}\n"),
+    }
+}
+
+// What is wanted in place of a line, where the design is at hand.
+fn wanted_of(
+    alloc: Global,
+    origin: &Origin,
+    kind: StimKind,
+    found: Option<&[u8]>,
+) -> Result<String, AllocError> {
+    match admitted_design(alloc, origin) {
+        Some(design) => wanted(alloc, &design, kind, found),
+        None => owned(alloc, "this line of the stimulus is wrong"),
     }
 }
 
@@ -235,11 +243,8 @@ fn wrong_start(alloc: Global, design: &Design, line: &[u8]) -> Result<String, Al
 
 // Of a line of a cycle: the first input that has no value of its own, or values too many.
 fn wrong_cycle(alloc: Global, design: &Design, line: &[u8]) -> Result<String, AllocError> {
-    let header = header_of(alloc, design)?;
     if line.is_empty() {
-        return format!(in alloc;
-            "this line is empty: each has a value for each name of `{header}`"
-        );
+        return empty_line(alloc, design);
     }
     let mut rest = Some(line);
     for input in design.inputs() {
@@ -247,12 +252,7 @@ fn wrong_cycle(alloc: Global, design: &Design, line: &[u8]) -> Result<String, Al
             continue;
         };
         let Some(text) = rest else {
-            let name = shown(alloc, signal.name.bytes())?;
-            let bits = bits(alloc, signal.width)?;
-            return format!(in alloc;
-                "a value of the input `{name}`, of {bits}, is missing: each line has a value for \
-                each name of `{header}`"
-            );
+            return missing_value(alloc, design, signal);
         };
         let (word, behind) = cut_blank(text);
         if !is_value(word, signal.width) {
@@ -262,11 +262,34 @@ fn wrong_cycle(alloc: Global, design: &Design, line: &[u8]) -> Result<String, Al
     }
     match rest {
         Some([]) => owned(alloc, "a blank too many stands at the end of this line"),
-        _ => format!(in alloc;
-            "this line has more values than there are inputs: each has a value for each name of \
-            `{header}`"
-        ),
+        _ => many_values(alloc, design),
     }
+}
+
+// Of an empty line of a cycle.
+fn empty_line(alloc: Global, design: &Design) -> Result<String, AllocError> {
+    let header = header_of(alloc, design)?;
+    format!(in alloc; "this line is empty: each has a value for each name of `{header}`")
+}
+
+// Of a line of a cycle that ends before the value of an input.
+fn missing_value(alloc: Global, design: &Design, signal: &Signal) -> Result<String, AllocError> {
+    let header = header_of(alloc, design)?;
+    let name = shown(alloc, signal.name.bytes())?;
+    let bits = bits(alloc, signal.width)?;
+    format!(in alloc;
+        "a value of the input `{name}`, of {bits}, is missing: each line has a value for each name \
+        of `{header}`"
+    )
+}
+
+// Of a line of a cycle with values too many.
+fn many_values(alloc: Global, design: &Design) -> Result<String, AllocError> {
+    let header = header_of(alloc, design)?;
+    format!(in alloc;
+        "this line has more values than there are inputs: each has a value for each name of \
+        `{header}`"
+    )
 }
 
 // Of a word that is no value of an input.

@@ -1,10 +1,10 @@
 // What is said of names: unknown ones, those declared twice, and labels.
+use crate::cases::{Case, owned};
 use crate::constants::Constants;
 use crate::contexts::{Use, is_in_value, spot_at, use_at};
 use crate::maps::{counts_of, points_of};
 use crate::origins::{Origin, is_up_to, module_at};
 use crate::rows::{Row, shown};
-use crate::said::{Case, owned};
 use std::alloc::{AllocError, Global};
 use sv_ast::{Decl, Item, LabelText, MapText, Module, Text};
 use sv_num::Place;
@@ -97,46 +97,68 @@ fn twice_a_module(alloc: Global, text: &Text, case: &Case) -> Result<String, All
 
 /// Of a name that stands for nothing here.
 pub fn unknown_name(alloc: Global, case: &Case) -> Result<String, AllocError> {
-    let name = shown(alloc, case.name())?;
-    let Some(text) = case.origin.tree(alloc) else {
-        return format!(in alloc; "no signal or parameter `{name}` is in reach here");
-    };
-    let Some(module) = module_at(&text, case.place) else {
-        return format!(in alloc; "no signal or parameter `{name}` is in reach here");
-    };
-    match first_declaration(module, case.name()) {
-        Some(Declared::Parameter(place)) if is_up_to(place, case.place) => {
-            if is_in_value(
-                case.origin.text,
-                &case.origin.tokens(alloc),
-                place,
-                case.place,
-            ) {
-                return format!(in alloc;
-                    "the parameter `{name}` is used in its own value: write a number there, or \
-                    a parameter that is declared before"
-                );
-            }
-            format!(in alloc; "`{name}` is a parameter, and a signal is wanted here")
-        }
-        Some(Declared::Parameter(Place { line, column })) => {
-            format!(in alloc;
-                "the parameter `{name}` is declared later, at {line}:{column}: declare \
-                it before it is used"
-            )
-        }
-        Some(Declared::Other(_)) => {
-            format!(in alloc; "`{name}` is an instance, and a signal is wanted here")
-        }
-        _ => {
-            let around = shown(alloc, module.name.bytes())?;
-            let declaration = declaration_at(alloc, &case.origin, case.place, name.as_str())?;
-            format!(in alloc;
-                "there is no signal or parameter `{name}` in module `{around}`: declare \
-                it, as in {declaration}"
-            )
+    if let Some(text) = case.origin.tree(alloc) {
+        if let Some(module) = module_at(&text, case.place) {
+            return unknown_in(alloc, case, module);
         }
     }
+    let name = shown(alloc, case.name())?;
+    format!(in alloc; "no signal or parameter `{name}` is in reach here")
+}
+
+// Of a name that stands for nothing here, in a module.
+fn unknown_in(alloc: Global, case: &Case, module: &Module) -> Result<String, AllocError> {
+    match first_declaration(module, case.name()) {
+        Some(Declared::Parameter(place)) if is_up_to(place, case.place) => {
+            earlier_parameter(alloc, case, place)
+        }
+        Some(Declared::Parameter(place)) => later_parameter(alloc, case, place),
+        Some(Declared::Other(_)) => {
+            let name = shown(alloc, case.name())?;
+            format!(in alloc; "`{name}` is an instance, and a signal is wanted here")
+        }
+        _ => undeclared(alloc, case, module),
+    }
+}
+
+// Of a parameter that is declared before, where it cannot stand.
+fn earlier_parameter(alloc: Global, case: &Case, place: Place) -> Result<String, AllocError> {
+    let is_own = is_own_value(alloc, case, place)?;
+    let name = shown(alloc, case.name())?;
+    if is_own {
+        format!(in alloc;
+            "the parameter `{name}` is used in its own value: write a number there, or a parameter \
+            that is declared before"
+        )
+    } else {
+        format!(in alloc; "`{name}` is a parameter, and a signal is wanted here")
+    }
+}
+
+// Whether a name stands in the value of the parameter at a place.
+fn is_own_value(alloc: Global, case: &Case, parameter: Place) -> Result<bool, AllocError> {
+    let tokens = case.origin.tokens(alloc)?;
+    Ok(is_in_value(case.origin.text, &tokens, parameter, case.place))
+}
+
+// Of a parameter that is declared at a later place.
+fn later_parameter(alloc: Global, case: &Case, place: Place) -> Result<String, AllocError> {
+    let Place { line, column } = place;
+    let name = shown(alloc, case.name())?;
+    format!(in alloc;
+        "the parameter `{name}` is declared later, at {line}:{column}: declare it before it is used"
+    )
+}
+
+// Of a name that a module does not declare.
+fn undeclared(alloc: Global, case: &Case, module: &Module) -> Result<String, AllocError> {
+    let name = shown(alloc, case.name())?;
+    let around = shown(alloc, module.name.bytes())?;
+    let declaration = declaration_at(alloc, &case.origin, case.place, name.as_str())?;
+    format!(in alloc;
+        "there is no signal or parameter `{name}` in module `{around}`: declare it, as in \
+        {declaration}"
+    )
 }
 
 // A declaration of a name that makes it fit where it is used.
@@ -146,7 +168,7 @@ fn declaration_at(
     place: Place,
     name: &str,
 ) -> Result<String, AllocError> {
-    let tokens = origin.tokens(alloc);
+    let tokens = origin.tokens(alloc)?;
     match use_at(spot_at(origin.text, &tokens, place)) {
         Use::Clock => format!(in alloc; "`input {name}`"),
         Use::Bound => format!(in alloc; "`parameter {name} = 8;`"),

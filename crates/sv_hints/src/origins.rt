@@ -1,13 +1,7 @@
-// What a refusal is of: a text, and what the layers below make of it.
-ghost use Rattle.std.specs.Prelude.{◌<◌, ◌^◌, length, IfSome, IsTrue};
-ghost use Rattle.sv_ast.specs.declared.modules.LatticeText.{LatticeText};
-
-use std::alloc::Global;
+// What a refusal is of: a text, with its tokens and its tree.
+use std::alloc::{AllocError, Global};
 use sv_ast::{Item, Module, Text};
-use sv_design::Design;
-use sv_elab::elaborate;
-use sv_flat::{Flat, sound};
-use sv_num::Place;
+use sv_num::{Fault, Place};
 use sv_parse::read_text;
 use sv_token::{Token, lex};
 
@@ -24,68 +18,25 @@ pub struct Origin<'a> {
 }
 
 impl<'a> Origin<'a> {
-    /// The tokens of the text; none where it has none.
-    pub(crate) fn tokens(&self, alloc: Global) -> Vec<Token> {
+    /// The tokens of the text; none where it has none. It fails where memory runs out, since a
+    /// text without tokens is told of otherwise.
+    pub(crate) fn tokens(&self, alloc: Global) -> Result<Vec<Token>, AllocError> {
         if self.text.len() > LARGEST_FILE {
-            return Vec::new(alloc);
+            return Ok(Vec::new(alloc));
         }
         match lex(alloc, self.text) {
-            Ok(tokens) => tokens,
-            Err(_) => Vec::new(alloc),
+            Ok(tokens) => Ok(tokens),
+            Err(Fault::OutOfMemory) => Err(AllocError),
+            Err(Fault::Rule(_)) => Ok(Vec::new(alloc)),
         }
     }
 
     /// The tree of the text, where it has one.
-    pub(crate) fn tree(&self, alloc: Global) -> Option<Text> {
+    pub fn tree(&self, alloc: Global) -> Option<Text> {
         if self.text.len() > LARGEST_FILE {
             return None;
         }
         read_text(alloc, self.text).ok()
-    }
-
-    /// The flat design of the text, where it stands for one.
-    pub(crate) fn flat(&self, alloc: Global) -> Option<Flat> {
-        let text = self.tree(alloc)?;
-        if first_unbuilt(&text).is_some() {
-            return None;
-        }
-        flat_of(alloc, &text, self.top)
-    }
-
-    /// The admitted design of the text, where it stands for one.
-    pub(crate) fn design(&self, alloc: Global) -> Option<Design> {
-        let flat = self.flat(alloc)?;
-        if !sound(&flat) {
-            return None;
-        }
-        match Design::admit(alloc, flat) {
-            Ok(design) => Some(design),
-            Err(_) => None,
-        }
-    }
-}
-
-// Whether the text has fewer pairs of points and label maps than elaboration can count.
-fn has_few(text: &Text) -> bool
-    ensures pairs { IsTrue result → IfSome text.now.lattice (λ (l : LatticeText).
-        length l.pairs.items < 2 ^ 32) }
-    ensures maps { IsTrue result → length text.now.maps.items < 2 ^ 32 }
-{
-    let few_pairs = match &text.lattice {
-        Some(lattice) => lattice.pairs.len() < 0x1_0000_0000,
-        None => true,
-    };
-    few_pairs && text.maps.len() < 0x1_0000_0000
-}
-
-// The flat design of a tree.
-fn flat_of(alloc: Global, text: &Text, top: Option<&str>) -> Option<Flat> {
-    if !text.is_shaped() || !has_few(text) {
-        return None;
-    }
-    match elaborate(alloc, text, top) {
-        Ok(flat) => Some(flat),
-        Err(_) => None,
     }
 }
 

@@ -1,7 +1,7 @@
 // What is said of numbers that cannot be.
+use crate::cases::{Case, owned};
 use crate::excerpts::line_of;
 use crate::rows::{grouped, shown};
-use crate::said::{Case, owned};
 use std::alloc::{AllocError, Global};
 
 const BAD_NUMBER: &str =

@@ -1,9 +1,9 @@
 // What is said of bits and parts that lie outside of their signals, of ranges, and of lengths.
+use crate::cases::{Case, owned};
 use crate::constants::{Constants, place_of};
 use crate::contexts::{bytes_at, is_bound, last_open, spot_at};
 use crate::origins::{item_at, module_at};
 use crate::rows::{grouped, shown};
-use crate::said::{Case, owned};
 use std::alloc::{AllocError, Global};
 use sv_ast::{Arm, Expr, Instance, Item, Links, Module, Select, Span, Stmt, Target};
 use sv_num::Place;
@@ -269,7 +269,7 @@ fn wrong_part(
 
 /// Of a signal where a constant is wanted.
 pub fn not_constant(alloc: Global, case: &Case) -> Result<String, AllocError> {
-    let tokens = case.origin.tokens(alloc);
+    let tokens = case.origin.tokens(alloc)?;
     let spot = spot_at(case.origin.text, &tokens, case.place);
     let words = match bytes_at(spot.text, spot.front, last_open(spot.text, spot.front)) {
         b"case" => "an item of a `case` is a constant, and this is a signal: ask it by `if`",

@@ -1,6 +1,6 @@
 // What is said of lattices and label maps.
+use crate::cases::{Case, owned};
 use crate::rows::{Row, shown};
-use crate::said::{Case, owned};
 use std::alloc::{AllocError, Global};
 use sv_ast::{Expr, MapText, Span, Text};
 use sv_num::{Name, Place};

@@ -1,45 +1,70 @@
 // What is said of modules and instances.
+use crate::cases::{Case, owned};
 use crate::origins::{item_at, module_at};
 use crate::rows::{Row, shown, shown_word};
-use crate::said::{Case, owned};
 use std::alloc::{AllocError, Global};
 use sv_ast::{Item, Module, Text};
 
 /// Of a text without a top.
 pub fn no_top(alloc: Global, case: &Case) -> Result<String, AllocError> {
-    let Some(text) = case.origin.tree(alloc) else {
-        return owned(alloc, "there is no top: name it by `--top MODULE`");
-    };
-    if let Some(top) = case.origin.top {
-        let mut row = Row::new(alloc);
-        for module in &text.modules {
-            row.add(module.name.bytes(), "")?;
-        }
-        let modules = row.finish()?;
-        let top = shown_word(alloc, top)?;
-        return format!(in alloc;
-            "there is no module `{top}`, which `--top` names; the modules are \
-            {modules}"
-        );
+    match (case.origin.tree(alloc), case.origin.top) {
+        (Some(text), Some(top)) => no_such_top(alloc, &text, top),
+        (Some(text), None) => no_one_top(alloc, &text),
+        (None, _) => owned(alloc, "there is no top: name it by `--top MODULE`"),
     }
+}
+
+// Of a top that is asked for and is no module.
+fn no_such_top(alloc: Global, text: &Text, top: &str) -> Result<String, AllocError> {
+    let modules = all_modules(alloc, text)?;
+    let top = shown_word(alloc, top)?;
+    format!(in alloc; "there is no module `{top}`, which `--top` names; the modules are {modules}")
+}
+
+// The modules of a text, in a row.
+fn all_modules(alloc: Global, text: &Text) -> Result<String, AllocError> {
     let mut row = Row::new(alloc);
-    let mut count = 0u64;
     for module in &text.modules {
-        if !is_instanced(&text, module.name.bytes()) {
-            row.add(module.name.bytes(), "")?;
-            count = count.saturating_add(1);
-        }
+        row.add(module.name.bytes(), "")?;
     }
+    row.finish()
+}
+
+// Of a text of which no module, or more than one, stands in no other one.
+fn no_one_top(alloc: Global, text: &Text) -> Result<String, AllocError> {
+    let count = count_of_tops(text);
     if count == 0 {
         return owned(
             alloc,
             "there is no top, since each module stands in some module: name it by `--top MODULE`",
         );
     }
-    let tops = row.finish()?;
+    let tops = all_tops(alloc, text)?;
     format!(in alloc;
         "{count} modules stand in no other one: {tops}; name the top by `--top MODULE`"
     )
+}
+
+// How many modules stand in no other one.
+fn count_of_tops(text: &Text) -> u64 {
+    let mut count = 0u64;
+    for module in &text.modules {
+        if !is_instanced(text, module.name.bytes()) {
+            count = count.saturating_add(1);
+        }
+    }
+    count
+}
+
+// The modules that stand in no other one, in a row.
+fn all_tops(alloc: Global, text: &Text) -> Result<String, AllocError> {
+    let mut row = Row::new(alloc);
+    for module in &text.modules {
+        if !is_instanced(text, module.name.bytes()) {
+            row.add(module.name.bytes(), "")?;
+        }
+    }
+    row.finish()
 }
 
 /// Whether some module has an instance of this one.

@@ -1,9 +1,10 @@
 // What is said of links and overrides of an instance.
-use crate::instances::master_of;
+use crate::cases::Case;
+use crate::constants::place_of;
+use crate::instances::{instance_of, master_of, own_name};
 use crate::names::{Declared, first_declaration};
 use crate::origins::{is_up_to, item_at, module_at};
 use crate::rows::{Row, shown};
-use crate::said::Case;
 use std::alloc::{AllocError, Global};
 use sv_ast::{DeclKind, Expr, Instance, Item, Links, Module, Overrides, Text};
 use sv_num::Place;
@@ -247,5 +248,42 @@ fn earlier_value(overrides: &Overrides, case: &Case) -> Option<Place> {
         Some(first.1)
     } else {
         None
+    }
+}
+
+/// How an instance links a port: to an expression, to nothing, or not at all.
+#[derive(Clone, Copy)]
+pub enum PortLink {
+    Expr(Place),
+    Nothing(Place),
+    Missing(Place),
+}
+
+/// The link of the port that is the signal of a case, where it is one.
+pub fn port_link(alloc: Global, case: &Case) -> Option<PortLink> {
+    link_to(&case.origin.tree(alloc)?, case.origin.top, case.name())
+}
+
+// The link of the port that is the signal of a name.
+fn link_to(text: &Text, top: Option<&str>, name: &[u8]) -> Option<PortLink> {
+    let instance = instance_of(text, top, name)?;
+    let port = own_name(name);
+    let missing = PortLink::Missing(instance.name_place);
+    match &instance.links {
+        Links::Named(links) => match links.iter().find(|link| link.0.bytes() == port) {
+            Some(link) => match &link.2 {
+                Some(expr) => Some(PortLink::Expr(place_of(expr))),
+                None => Some(PortLink::Nothing(link.1)),
+            },
+            None => Some(missing),
+        },
+        Links::Ordered(links) => {
+            let ports = &master_of(text, instance)?.ports;
+            let at = ports.iter().position(|found| found.name.bytes() == port)?;
+            match links.get(at) {
+                Some(expr) => Some(PortLink::Expr(place_of(expr))),
+                None => Some(missing),
+            }
+        }
     }
 }

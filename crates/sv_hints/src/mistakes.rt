@@ -3,6 +3,7 @@ use crate::contexts::{
     Spot, are_before_form, bytes_at, bytes_of, hold_module, is_parameter_word, is_type_word,
     last_open,
 };
+use crate::tables::{Hint, PairHint, hint_on, hint_on_pair};
 use sv_token::{Token, TokenKind, WordKind};
 
 const SYSTEM_VERILOG: &str = "this is SystemVerilog, and Verilog of 2005 is read";
@@ -17,7 +18,7 @@ const ARM: &str = "an arm has one statement: several stand in `begin` and `end`"
 pub fn foreign(spot: Spot, here: &Token) -> Option<&'static str> {
     let (name, front) = spot.front.split_last()?;
     if matches!(name.kind, TokenKind::Name) && begins_item(spot, front) {
-        if let Some(hint) = foreign_word(bytes_of(spot.text, name)) {
+        if let Some(hint) = hint_on(bytes_of(spot.text, name), &FOREIGN) {
             return Some(hint);
         }
         if is_assignment(spot, here, front) {
@@ -29,34 +30,31 @@ pub fn foreign(spot: Spot, here: &Token) -> Option<&'static str> {
     }
     let (word, front) = front.split_last()?;
     if begins_item(spot, front) {
-        foreign_word(bytes_of(spot.text, word))
+        hint_on(bytes_of(spot.text, word), &FOREIGN)
     } else {
         None
     }
 }
 
-// Of a word of SystemVerilog.
-fn foreign_word(word: &[u8]) -> Option<&'static str> {
-    match word {
-        b"logic" => Some("`logic` is left out: declare a `wire` or a `reg`"),
-        b"always_comb" => Some("write `always @*`"),
-        b"always_ff" => Some("write `always @(posedge clk)`"),
-        b"always_latch"
-        | b"assert"
-        | b"bit"
-        | b"byte"
-        | b"enum"
-        | b"import"
-        | b"int"
-        | b"interface"
-        | b"package"
-        | b"priority"
-        | b"struct"
-        | b"typedef"
-        | b"unique" => { Some(SYSTEM_VERILOG) }
-        _ => None,
-    }
-}
+// Words of SystemVerilog.
+const FOREIGN: [Hint; 16] = [
+    (b"logic", "`logic` is left out: declare a `wire` or a `reg`"),
+    (b"always_comb", "write `always @*`"),
+    (b"always_ff", "write `always @(posedge clk)`"),
+    (b"always_latch", SYSTEM_VERILOG),
+    (b"assert", SYSTEM_VERILOG),
+    (b"bit", SYSTEM_VERILOG),
+    (b"byte", SYSTEM_VERILOG),
+    (b"enum", SYSTEM_VERILOG),
+    (b"import", SYSTEM_VERILOG),
+    (b"int", SYSTEM_VERILOG),
+    (b"interface", SYSTEM_VERILOG),
+    (b"package", SYSTEM_VERILOG),
+    (b"priority", SYSTEM_VERILOG),
+    (b"struct", SYSTEM_VERILOG),
+    (b"typedef", SYSTEM_VERILOG),
+    (b"unique", SYSTEM_VERILOG),
+];
 
 // Whether an item or a declaration begins, or its type goes on, behind these tokens.
 fn begins_item(spot: Spot, front: &[Token]) -> bool {
@@ -75,22 +73,44 @@ fn is_assignment(spot: Spot, here: &Token, front: &[Token]) -> bool {
         && last_open(spot.text, front).is_none()
 }
 
+const NO_COMMA: &str = "take the `,` away";
+
+const NO_SEMICOLON: &str = "take the `;` away";
+
+const NAMED_LINK: &str = "link each port, as in `.a(b)`";
+
+const ASSIGN: &str = "an `assign` takes `=`";
+
+// Of two tokens side by side.
+const BESIDE: [PairHint; 7] = [
+    (b",", b")", NO_COMMA),
+    (b",", b"}", NO_COMMA),
+    (b",", b";", NO_COMMA),
+    (b";", b";", NO_SEMICOLON),
+    (b"end", b";", NO_SEMICOLON),
+    (b"endcase", b";", NO_SEMICOLON),
+    (b"endmodule", b";", NO_SEMICOLON),
+];
+
+// Of two tokens with one between.
+const APART: [PairHint; 4] = [
+    (b".", b",", NAMED_LINK),
+    (b".", b")", NAMED_LINK),
+    (b"assign", b"<=", ASSIGN),
+    (b"assign", b"==", ASSIGN),
+];
+
 /// Of a token and the two before it.
 pub fn by_words(spot: Spot, here: &Token, before: &Token) -> Option<&'static str> {
     let word = bytes_of(spot.text, here);
-    match bytes_of(spot.text, before) {
-        b"," if matches!(word, b")" | b"}" | b";") => return Some("take the `,` away"),
-        b";" | b"end" | b"endcase" | b"endmodule" if word == b";".as_slice() => {
-            return Some("take the `;` away");
-        }
-        b"if" | b"case" => return Some("what it asks stands in `(` and `)`"),
-        _ => {}
+    if let Some(hint) = hint_on_pair(bytes_of(spot.text, before), word, &BESIDE) {
+        return Some(hint);
     }
-    match bytes_at(spot.text, spot.front, spot.front.len().checked_sub(2)) {
-        b"." if matches!(word, b"," | b")") => Some("link each port, as in `.a(b)`"),
-        b"assign" if matches!(word, b"<=" | b"==") => Some("an `assign` takes `=`"),
-        _ => None,
+    if let TokenKind::Word(WordKind::If | WordKind::Case) = before.kind {
+        return Some("what it asks stands in `(` and `)`");
     }
+    let earlier = bytes_at(spot.text, spot.front, spot.front.len().checked_sub(2));
+    hint_on_pair(earlier, word, &APART)
 }
 
 /// Of a token where no bracket, `begin` or `case` is open.
@@ -142,7 +162,7 @@ fn is_second(spot: Spot, here: &Token) -> bool {
 pub fn ranged(spot: Spot) -> Option<&'static str> {
     let (before, front) = spot.front.split_last()?;
     if begins_item(spot, front) {
-        foreign_word(bytes_of(spot.text, before))
+        hint_on(bytes_of(spot.text, before), &FOREIGN)
     } else {
         None
     }

@@ -1,4 +1,5 @@
 // Where a token stands: what is before it, and what is open there.
+use crate::tables::is_among;
 use sv_num::Place;
 use sv_token::{Token, TokenKind, WordKind};
 
@@ -53,11 +54,18 @@ enum Nesting {
     Neither,
 }
 
+// What opens a form, and what shuts it.
+const OPENING: [&[u8]; 5] = [b"(", b"[", b"{", b"begin", b"case"];
+
+const SHUTTING: [&[u8]; 5] = [b")", b"]", b"}", b"end", b"endcase"];
+
 fn nesting_of(bytes: &[u8]) -> Nesting {
-    match bytes {
-        b"(" | b"[" | b"{" | b"begin" | b"case" => Nesting::Opens,
-        b")" | b"]" | b"}" | b"end" | b"endcase" => Nesting::Shuts,
-        _ => Nesting::Neither,
+    if is_among(bytes, &OPENING) {
+        Nesting::Opens
+    } else if is_among(bytes, &SHUTTING) {
+        Nesting::Shuts
+    } else {
+        Nesting::Neither
     }
 }
 
@@ -184,24 +192,28 @@ pub fn hold_module(tokens: &[Token]) -> bool {
     tokens.iter().any(|token| matches!(token.kind, TokenKind::Word(WordKind::Module)))
 }
 
+// Behind what an item or a statement may begin.
+const BEFORE_FORM: [&[u8]; 11] = [
+    b";",
+    b")",
+    b":",
+    b"*",
+    b"begin",
+    b"end",
+    b"endcase",
+    b"else",
+    b"endmodule",
+    b"endlattice",
+    b"endlabelmap",
+];
+
 /// Whether the tokens are before an item or a statement, where a form may begin.
 pub fn are_before_form(text: &[u8], tokens: &[Token]) -> bool {
-    let Some(last) = tokens.last() else {
-        return true;
-    };
-    match bytes_of(text, last) {
-        b";"
-        | b")"
-        | b":"
-        | b"*"
-        | b"begin"
-        | b"end"
-        | b"endcase"
-        | b"else"
-        | b"endmodule"
-        | b"endlattice"
-        | b"endlabelmap" => true,
-        _ => are_before_block(text, tokens),
+    match tokens.last() {
+        Some(last) => {
+            is_among(bytes_of(text, last), &BEFORE_FORM) || are_before_block(text, tokens)
+        }
+        None => true,
     }
 }
 

@@ -1,4 +1,5 @@
 // What is said of rules on tokens and on the grammar.
+use crate::cases::{Case, owned};
 use crate::contexts::{
     Spot, are_before_event, are_before_form, are_declaring, bytes_at, bytes_of, hold_module,
     is_type_word, last_open, opens_label, opens_list, opens_selectors, spot_at,
@@ -6,7 +7,7 @@ use crate::contexts::{
 use crate::forms::grammar_form;
 use crate::mistakes::{by_words, foreign, in_block, in_nothing, may_end, ranged};
 use crate::rows::shown;
-use crate::said::{Case, owned};
+use crate::tables::is_among;
 use std::alloc::{AllocError, Global};
 use sv_num::Place;
 use sv_token::{Token, TokenKind, WordKind};
@@ -63,7 +64,7 @@ fn byte_at(text: &[u8], place: Place) -> Option<u8> {
 
 /// Of a token that no text goes on with.
 pub fn unexpected(alloc: Global, case: &Case) -> Result<String, AllocError> {
-    let tokens = case.origin.tokens(alloc);
+    let tokens = case.origin.tokens(alloc)?;
     let spot = spot_at(case.origin.text, &tokens, case.place);
     match (spot.here, spot.front.last()) {
         (Some(here), Some(before)) => unexpected_behind(alloc, spot, here, before),
@@ -328,7 +329,7 @@ fn wanted_in(spot: Spot, number: usize) -> &'static str {
 
 /// Of a form of the grammar that is left out.
 pub fn left_out(alloc: Global, case: &Case) -> Result<String, AllocError> {
-    let tokens = case.origin.tokens(alloc);
+    let tokens = case.origin.tokens(alloc)?;
     let spot = spot_at(case.origin.text, &tokens, case.place);
     let word = case.name();
     match ranged(spot) {
@@ -345,36 +346,45 @@ pub fn left_out(alloc: Global, case: &Case) -> Result<String, AllocError> {
     owned(alloc, grammar_form(word))
 }
 
+// The reserved words of types that are left out.
+const TYPES: [&[u8]; 18] = [
+    b"integer",
+    b"real",
+    b"realtime",
+    b"time",
+    b"tri",
+    b"tri0",
+    b"tri1",
+    b"triand",
+    b"trior",
+    b"trireg",
+    b"wand",
+    b"wor",
+    b"supply0",
+    b"supply1",
+    b"uwire",
+    b"unsigned",
+    b"vectored",
+    b"scalared",
+];
+
 // Whether a reserved word stands at a spot where a name is wanted.
 fn is_name(spot: Spot, word: &[u8]) -> bool {
     let Some(here) = spot.here else {
         return false;
     };
-    if bytes_of(spot.text, here) != word || are_before_form(spot.text, spot.front) {
-        return false;
-    }
+    bytes_of(spot.text, here) == word
+        && !are_before_form(spot.text, spot.front)
+        && !is_form(spot, word)
+}
+
+// Whether a reserved word begins a form that is left out at a spot where no item or statement
+// begins.
+fn is_form(spot: Spot, word: &[u8]) -> bool {
     match word {
-        b"inout" => !is_before_port(spot),
-        b"or" | b"negedge" | b"edge" => !are_before_event(spot.text, spot.front),
-        b"integer"
-        | b"real"
-        | b"realtime"
-        | b"time"
-        | b"tri"
-        | b"tri0"
-        | b"tri1"
-        | b"triand"
-        | b"trior"
-        | b"trireg"
-        | b"wand"
-        | b"wor"
-        | b"supply0"
-        | b"supply1"
-        | b"uwire"
-        | b"unsigned"
-        | b"vectored"
-        | b"scalared" => !is_type(spot),
-        _ => true,
+        b"inout" => is_before_port(spot),
+        b"or" | b"negedge" | b"edge" => are_before_event(spot.text, spot.front),
+        _ => is_among(word, &TYPES) && is_type(spot),
     }
 }
 
@@ -405,7 +415,7 @@ fn is_type(spot: Spot) -> bool {
 
 /// Of an expression or a `case` that is too long.
 pub fn too_long(alloc: Global, case: &Case) -> Result<String, AllocError> {
-    let tokens = case.origin.tokens(alloc);
+    let tokens = case.origin.tokens(alloc)?;
     let spot = spot_at(case.origin.text, &tokens, case.place);
     let last = match spot.front.last() {
         Some(before) => bytes_of(case.origin.text, before),
@@ -426,14 +436,19 @@ pub fn too_long(alloc: Global, case: &Case) -> Result<String, AllocError> {
 }
 
 /// The sign of the assignment whose target stands at a place: true for `=`, false for `<=`.
-pub fn is_blocking_at(alloc: Global, case: &Case) -> Option<bool> {
-    let tokens = case.origin.tokens(alloc);
+pub fn is_blocking_at(alloc: Global, case: &Case) -> Result<Option<bool>, AllocError> {
+    let tokens = case.origin.tokens(alloc)?;
+    Ok(sign_behind(case.origin.text, &tokens, case.place))
+}
+
+// The sign of the assignment whose target stands at a place of some tokens.
+fn sign_behind(text: &[u8], tokens: &[Token], place: Place) -> Option<bool> {
     let mut depth = 0i64;
     let mut inside = false;
-    for token in &tokens {
-        inside = inside || token.place == case.place;
+    for token in tokens {
+        inside = inside || token.place == place;
         if inside {
-            match bytes_of(case.origin.text, token) {
+            match bytes_of(text, token) {
                 b"[" | b"{" | b"(" => depth = depth.saturating_add(1),
                 b"]" | b"}" | b")" => depth = depth.saturating_sub(1),
                 b"=" if depth <= 0 => return Some(true),

@@ -1,22 +1,16 @@
 -- Searches from what is read to what it is read for.
-use Rattle.std.proofs.Common.{◌≡◌, ℕ, ◌+◌, ◌<◌, ◌≤◌, Bool, false, nat_lt, ltb-true}
-use Rattle.std.proofs.Common.{ltb-false, List, [], ◌∷◌, ◌++◌, length, get_or, Vec, Global}
-use Rattle.std.proofs.Common.{◌⊎◌, inl, inr, ⊎_elim, refl, sym, ap, subst, ◌∙◌, arith}
+use Rattle.std.proofs.Common.{◌≡◌, ℕ, ◌+◌, ◌<◌, Bool, false}
+use Rattle.std.proofs.Common.{List, [], ◌∷◌, ◌++◌, length, get_or}
+use Rattle.std.proofs.Common.{◌⊎◌, ⊎_elim, refl, sym, ap, subst, ◌∙◌, arith}
 use Rattle.std.specs.Prelude.{IsTrue, IsFalse, Contains}
 use Rattle.std.specs.List.{list_any}
 use Rattle.std.proofs.lemmas.Bool.{false≢true}
-use Rattle.std.proofs.lemmas.List.{length_push, get_or_push, get_or_append_left, get_or_past}
-use Rattle.std.proofs.Math.ListN.{length-map}
+use Rattle.std.proofs.lemmas.List.{length_push, get_or_push, get_or_append_left}
 use Rattle.sv_system.proofs.Lists.{Contains-head, Contains-nil, Contains-cases}
-use Rattle.sv_flat.specs.Sets.{holds, those, least_set}
-use Rattle.sv_flat.specs.declared.signals.SigId.{SigId}
-use Rattle.sv_flat.proofs.LeastSets.{either_way, some_from, from_some, holds-from_Contains}
-use Rattle.sv_flat.proofs.LeastSets.{Contains-from_holds, in_those, those_below, those_pass}
-use Rattle.sv_flat.proofs.LeastSets.{least_set_has, least_set_closed, least_set_least}
-use Rattle.sv_design.specs.declared.graphs.Graph.{Graph}
+use Rattle.sv_flat.specs.Sets.{least_set}
+use Rattle.sv_flat.proofs.LeastSets.{some_from, from_some}
+use Rattle.sv_flat.proofs.LeastSets.{least_set_has, least_set_least}
 use Rattle.sv_design.specs.Feeds.{feeds_through}
-use Rattle.sv_design.specs.Graphs.{size, row, rows_of, has_edge, IsWhole}
-use Rattle.sv_design.specs.Numbers.{numbers}
 use Rattle.sv_design.proofs.BitFacts.{same_answer}
 use Rattle.sv_design.proofs.SearchFacts.{below_or_at}
 

@@ -1,6 +1,6 @@
 -- The table of the signals that a target follows.
-use Rattle.std.proofs.Common.{◌≡◌, ℕ, ◌||◌, zero, suc, ◌<◌, Bool, true, List, [], ◌∷◌, length, refl, sym}
-use Rattle.std.proofs.Common.{ap, subst, ◌∙◌, arith, Vec, Global}
+use Rattle.std.proofs.Common.{◌≡◌, ℕ, ◌||◌, zero, suc, ◌<◌, Bool, true, List, [], ◌∷◌, length, sym}
+use Rattle.std.proofs.Common.{subst, ◌∙◌, arith, Vec, Global}
 use Rattle.std.specs.Prelude.{Contains, IsTrue, IfOk, Result}
 use Rattle.std.specs.List.{list_any, range_with_len}
 use Rattle.sv_flat.specs.Assigned.{assigns}
@@ -12,7 +12,7 @@ use Rattle.sv_flat.proofs.LeastSets.{those_pass, in_those, Contains-from_holds, 
 use Rattle.sv_design.specs.declared.graphs.Graph.{Graph}
 use Rattle.sv_design.specs.Designs.{IsDesign}
 use Rattle.sv_design.specs.Feeds.{AreWants, feeds_in}
-use Rattle.sv_design.specs.Graphs.{size, has_edge}
+use Rattle.sv_design.specs.Graphs.{size}
 use Rattle.sv_design.specs.Marks.{IsTable, is_marked, followed_in}
 use Rattle.sv_design.specs.Searches.{Brings}
 use Rattle.sv_design.proofs.BitFacts.{same_answer}

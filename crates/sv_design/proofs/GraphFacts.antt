@@ -2,25 +2,22 @@
 use Rattle.std.proofs.Common.{◌≡◌, ⊎_elim, ℕ, zero, suc, ◌-◌, ◌<◌, Bool, true, false}
 use Rattle.std.proofs.Common.{cond, not, ◌&&◌, ◌||◌, Option, Some, None, Vec, Global, ◌==◌, List}
 use Rattle.std.proofs.Common.{[], ◌∷◌, ◌++◌, length, map, get_or, set, refl, sym, ap, subst, ◌∙◌}
-use Rattle.std.proofs.Common.{arith, get_or-set_same, get_or-set_other, nat_lt, ltb-true, ltb-false}
-use Rattle.std.proofs.Common.{lt-ltb}
+use Rattle.std.proofs.Common.{arith, get_or-set_same, get_or-set_other}
 use Rattle.std.specs.Prelude.{IsTrue, IsFalse, Contains, slice_get, option_map, filter}
-use Rattle.std.specs.List.{AllByRecursion, list_any, range_with_len}
+use Rattle.std.specs.List.{AllByRecursion, range_with_len}
 use Rattle.std.proofs.lemmas.Bool.{false≢true, eqb-true, eq-eqb, or_left}
-use Rattle.std.proofs.lemmas.List.{length_push, get_or_past}
+use Rattle.std.proofs.lemmas.List.{length_push}
 use Rattle.std.proofs.lemmas.List.{append-nil, map-set, get_or-map, length-map}
 use Rattle.sv_flat.proofs.LeastSets.{either_way, holds-from_Contains, Contains-from_holds}
 use Rattle.sv_flat.proofs.LeastSets.{in_those, those_below, those_pass}
-use Rattle.sv_flat.proofs.AdmittedFacts.{negated_false}
-use Rattle.sv_flat.proofs.SameRuns.{or_none_left, or_none_right}
 use Rattle.sv_system.proofs.Lists.{Contains-head, Contains-later}
 use Rattle.sv_flat.specs.Sets.{holds}
 use Rattle.sv_flat.specs.declared.signals.SigId.{SigId}
 use Rattle.sv_design.specs.Numbers.{numbers}
 use Rattle.sv_design.specs.declared.graphs.Graph.{Graph}
-use Rattle.sv_design.specs.Graphs.{row, rows_of, size, has_edge, AddsEdge, AddsOnce, GainsEdges}
+use Rattle.sv_design.specs.Graphs.{row, size, has_edge, AddsEdge, AddsOnce}
 use Rattle.sv_design.specs.Graphs.{IsWhole}
-use Rattle.sv_design.specs.Graphs.{IsTurned, ends_in, is_last}
+use Rattle.sv_design.specs.Graphs.{ends_in, is_last}
 use Rattle.sv_design.proofs.MarkFacts.{any_append, or_no, or_yes, or_three}
 use Rattle.sv_design.proofs.BitFacts.{same_answer}
 

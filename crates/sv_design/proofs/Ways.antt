@@ -2,7 +2,6 @@
 use Rattle.std.proofs.Common.{◌≡◌, ℕ, ◌+◌, ◌<◌, Bool, ◌&&◌, ◌||◌, [], ◌∷◌, ◌⊎◌, inl, inr, ⊎_elim}
 use Rattle.std.proofs.Common.{sym, subst, ◌∙◌, arith}
 use Rattle.std.specs.Prelude.{IsTrue, Contains}
-use Rattle.std.specs.List.{list_any}
 use Rattle.std.proofs.lemmas.Bool.{or_left, or_right, and_parts, and_from}
 use Rattle.sv_system.proofs.Lists.{Contains-head}
 use Rattle.sv_flat.proofs.LeastSets.{or_cases, some_from, from_some, least_set_has}

@@ -1,7 +1,7 @@
 // Graphs over signals, by bits: an edge that is added again takes no more room, and what leads on
 // from a signal is added to a row a word at a time.
-ghost use Rattle.std.specs.Prelude.{◌≡◌, ◌<◌, ◌≤◌, ◌/◌, ◌^◌, ◌==◌, ◌||◌, ◌&&◌, not, ℕ, Bool, false};
-ghost use Rattle.std.specs.Prelude.{List, length, filter, replicate, IsTrue, IsFalse, OnOk, IfOk};
+ghost use Rattle.std.specs.Prelude.{◌≡◌, ◌<◌, ◌≤◌, ◌/◌, ◌^◌, ◌==◌, ◌&&◌, not, ℕ, Bool, false};
+ghost use Rattle.std.specs.Prelude.{length, filter, replicate, IsFalse, OnOk, IfOk};
 ghost use Rattle.std.specs.List.{list_any, range_with_len};
 ghost use Rattle.sv_design.specs.BitGraphs.{in_row, words, IsRow, HasRoom, GainsBits, size, has_edge};
 ghost use Rattle.sv_design.specs.BitGraphs.{IsOver, GainsEdges, IsTurned, Shortens};

@@ -1,7 +1,7 @@
 // Graphs over signals.
-ghost use Rattle.std.specs.Prelude.{◌≡◌, ◌<◌, ◌≤◌, ◌^◌, ◌∷◌, ◌++◌, [], ◌==◌, ℕ, List, Bool, length};
-ghost use Rattle.std.specs.Prelude.{Contains, IsFalse, OnOk, IfOk, if◌then◌else◌};
-ghost use Rattle.sv_design.specs.Graphs.{size, row, has_edge, AddsEdge, AddsOnce, AddsSources};
+ghost use Rattle.std.specs.Prelude.{◌≡◌, ◌<◌, ◌^◌, [], ◌==◌, ℕ};
+ghost use Rattle.std.specs.Prelude.{Contains, OnOk, IfOk};
+ghost use Rattle.sv_design.specs.Graphs.{size, row, AddsEdge, AddsOnce, AddsSources};
 ghost use Rattle.sv_design.specs.Graphs.{IsWhole, IsTurned, ends_in};
 ghost use Rattle.sv_design.specs.Numbers.{numbers};
 

@@ -233,17 +233,16 @@ pub fn with_put(
         (typed_tree expr)) }
 {
     let made = exchanged(expr, alloc, signals, put)?;
-    if is_within(&made, MOST_LEVELS) { Ok(made) } else { Err(AllocError) }
+    if is_within(&made, MOST_LEVELS) {
+        Ok(made)
+    } else {
+        Err(AllocError)
+    }
 }
 
 // The expression with what is put into it, in place.
 #[cycle(exchanged)]
-fn exchanged(
-    expr: FExpr,
-    alloc: Global,
-    signals: &[Signal],
-    put: Put,
-) -> Result<FExpr, AllocError>
+fn exchanged(expr: FExpr, alloc: Global, signals: &[Signal], put: Put) -> Result<FExpr, AllocError>
     requires few { length signals.now < 4294967296 }
     requires put { CanBePut put }
     ensures { IfOk result (λ made. typed_tree made ≡ exchanged

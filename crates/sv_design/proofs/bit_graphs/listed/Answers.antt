@@ -1,4 +1,4 @@
-use Rattle.std.proofs.Common.{◌++◌, ◌∷◌, [], cond, ap, ap₂, sym, ◌∙◌}
+use Rattle.std.proofs.Common.{◌++◌, ◌∷◌, [], cond, ap₂, sym, ◌∙◌}
 use Rattle.sv_design.specs.BitGraphs.{in_row}
 use Rattle.sv_design.proofs.DriverFacts.{filter_more}
 use Rattle.sv_design.proofs.bit_graphs.listed.Goals as goal

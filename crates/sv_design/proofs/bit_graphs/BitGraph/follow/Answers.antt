@@ -1,4 +1,4 @@
-use Rattle.std.proofs.Common.{◌≡◌, ℕ, Bool, ◌<◌, ◌&&◌, ◌||◌, sym, ap, subst, ◌∙◌, arith}
+use Rattle.std.proofs.Common.{◌≡◌, ◌<◌, ◌&&◌, ◌||◌, sym, ap, subst, ◌∙◌, arith}
 use Rattle.sv_design.specs.BitGraphs.{in_row, IsRow, size, row, has_edge, IsOver}
 use Rattle.sv_design.proofs.BitRows.{row_at}
 use Rattle.sv_design.proofs.Ways.{Follows, follow_begins, follow_more, follow_ends}

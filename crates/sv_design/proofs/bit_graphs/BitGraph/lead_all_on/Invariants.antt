@@ -1,4 +1,3 @@
-use Rattle.std.proofs.Common.{◌&&◌}
 use Rattle.sv_design.specs.BitGraphs.{in_row, size, has_edge, IsOver}
 use Rattle.sv_design.proofs.BitRows.{LedSoFar}
 use Rattle.sv_design.proofs.bit_graphs.BitGraph.lead_all_on.Given as goal

@@ -1,4 +1,4 @@
-use Rattle.std.proofs.Common.{◌≡◌, ◌<◌, ◌&&◌, ◌||◌, sym, ap, subst, ◌∙◌}
+use Rattle.std.proofs.Common.{◌<◌, ◌&&◌, ◌||◌, sym, ap, subst, ◌∙◌}
 use Rattle.sv_design.specs.BitGraphs.{in_row, IsRow, size, row, has_edge, IsOver}
 use Rattle.sv_design.proofs.BitRows.{row_at, edge_inside}
 use Rattle.sv_design.proofs.Ways.{ways_begin, ways_more}

@@ -1,8 +1,7 @@
 -- Words that a loop makes signal by signal: what is to be made, and what is left of it.
 use Rattle.std.proofs.Common.{◌≡◌, ℕ, ◌≤◌, ◌<◌, Bool, true, false, cond, ℤ, List, [], ◌∷◌, refl, sym}
 use Rattle.std.proofs.Common.{ap, ◌∙◌, subst, arith, filter}
-use Rattle.sv_num.specs.declared.faults.Place.{Place}
-use Rattle.sv_flat.specs.Design.{SignalForm, TypedTree, PieceForm, FlatStatement, nothing, after}
+use Rattle.sv_flat.specs.Design.{SignalForm, FlatStatement, nothing, after}
 use Rattle.sv_flat.specs.Design.{assign, branch, ProcessForm, FlatDesign}
 use Rattle.sv_flat.specs.Assigned.{assigns}
 use Rattle.sv_flat.specs.Clocks.{processes_of}
@@ -19,7 +18,7 @@ use Rattle.sv_encoding.specs.Bodies.{with_word, assigns_some, assigned_words, ch
 use Rattle.sv_encoding.specs.Bodies.{branch_words, words_after, starting_words, word_by_first}
 use Rattle.sv_encoding.specs.Bodies.{settled_word}
 use Rattle.sv_encoding.specs.Encoding.{words_made}
-use Rattle.sv_encoding.specs.Expressions.{Words, expression_word, is_true_bit}
+use Rattle.sv_encoding.specs.Expressions.{Words, is_true_bit}
 use Rattle.sv_blast.proofs.Growing.{Grows, expression_grows, is_true_grows, chosen_grows}
 
 -- ---- turns

@@ -1,14 +1,14 @@
 // The word that a process with an earlier read gives a signal. Of all signals that the signal
 // follows the words are made together, statement by statement: an earlier read has the word that
 // its signal has so far.
-ghost use Rattle.std.specs.Prelude.{◌≡◌, ℕ, ◌<◌, ◌≤◌, ◌||◌, ◌∷◌, [], All, IsTrue, IsFalse};
+ghost use Rattle.std.specs.Prelude.{◌≡◌, ℕ, ◌<◌, ◌≤◌, ◌||◌, [], All, IsTrue, IsFalse};
 ghost use Rattle.std.specs.Prelude.{Contains, IfOk, OnOk, IsErrOf, Some, length, map, fold, filter};
 ghost use Rattle.std.specs.Prelude.{drop, replicate};
 ghost use Rattle.std.specs.BTreeSet.{IsOrdered};
 ghost use Rattle.std.specs.List.{list_any, list_all};
 ghost use Rattle.std.specs.Ordering.{nat_cmp};
 ghost use Rattle.sv_flat.specs.Assigned.{assigns};
-ghost use Rattle.sv_flat.specs.ByNumber.{signal_forms, is_branch};
+ghost use Rattle.sv_flat.specs.ByNumber.{is_branch};
 ghost use Rattle.sv_flat.specs.Design.{PieceForm};
 ghost use Rattle.sv_flat.specs.Processes.{is_register};
 ghost use Rattle.sv_flat.specs.Reads.{is_combinational, reads_for};
@@ -19,15 +19,14 @@ ghost use Rattle.sv_design.specs.Marks.{is_marked};
 ghost use Rattle.sv_design.specs.Numbers.{numbers};
 ghost use Rattle.sv_obl.specs.MarkedBodies.{marked_statement, TellsTargets, IsMarkedFor};
 ghost use Rattle.sv_obl.specs.MarkedBodies.{HasCopies};
-ghost use Rattle.sv_obl.specs.Wanted.{with_copies, copy_of};
+ghost use Rattle.sv_obl.specs.Wanted.{copy_of};
 ghost use Rattle.sv_gates.specs.Extending.{Begins};
-ghost use Rattle.sv_gates.specs.Formulas.{IsLiteral, most_variables};
+ghost use Rattle.sv_gates.specs.Formulas.{most_variables};
 ghost use Rattle.sv_gates.specs.Gates.{false_literal};
 ghost use Rattle.sv_circuits.specs.Words.{replaced_word};
 ghost use Rattle.sv_encoding.specs.Bodies.{assigned_words, settled_word, with_piece_word};
 ghost use Rattle.sv_encoding.specs.Bodies.{words_after};
 ghost use Rattle.sv_encoding.specs.BothWays.{IsWordOf};
-ghost use Rattle.sv_encoding.specs.Expressions.{is_true_bit};
 ghost use Rattle.sv_blast.specs.FollowedWords.{forms_in, follows_in, IsFollowed, IsAtHand};
 ghost use Rattle.sv_blast.specs.FollowedWords.{AllStand, IsFit, AreFit, ArmStands, ArmsStand};
 ghost use Rattle.sv_blast.specs.FollowedWords.{pairs, words_at, choices, choices_back};

@@ -1,5 +1,5 @@
 // The words of a cycle's signals.
-ghost use Rattle.std.specs.Prelude.{◌≡◌, ℕ, ◌<◌, ◌≤◌, OnOk, IsErrOf, IsTrue, All, Contains, length};
+ghost use Rattle.std.specs.Prelude.{◌≡◌, ℕ, ◌<◌, OnOk, IsErrOf, IsTrue, All, Contains, length};
 ghost use Rattle.sv_flat.specs.Processes.{is_register};
 ghost use Rattle.sv_flat.specs.Reads.{is_read_for};
 ghost use Rattle.sv_flat.specs.Views.{design_of};

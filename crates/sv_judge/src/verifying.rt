@@ -4,7 +4,6 @@ ghost use Rattle.sv_flat.specs.Views.{design_of};
 ghost use Rattle.sv_obl.specs.Asked.{asked};
 ghost use Rattle.sv_obl.specs.Limits.{excess};
 ghost use Rattle.sv_obl.specs.ListParts.{IsAt};
-ghost use Rattle.sv_obl.specs.Obligations.{obligations};
 ghost use Rattle.sv_blast.specs.Coders.{IsCoder};
 ghost use Rattle.sv_proof.specs.Certificate.{AreLogs, plain_logs, proof_lines, proof_text};
 ghost use Rattle.sv_judge.specs.Answers.{WhereVerified, WhereFault, WhereLarge};

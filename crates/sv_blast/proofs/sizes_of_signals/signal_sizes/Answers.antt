@@ -1,5 +1,4 @@
-use Rattle.std.proofs.Common.{length, ap, ◌∙◌, arith}
-use Rattle.sv_blast.proofs.SizeTables.{sizes_more, sizes_all}
+use Rattle.sv_blast.proofs.SizeTables.{sizes_more}
 use Rattle.sv_blast.proofs.sizes_of_signals.signal_sizes.Goals as goal
 
 pub loop-number-preserved : goal.loop-number-preserved

@@ -1,5 +1,4 @@
-use Rattle.std.proofs.Common.{◌≡◌, ◌∙◌, ◌<◌, min, length, ap, ap₂, sym, subst, All}
-use Rattle.std.specs.Prelude.{IfOk}
+use Rattle.std.proofs.Common.{◌∙◌, ◌<◌, min, length, ap, ap₂, sym, subst, All}
 use Rattle.sv_design.specs.Numbers.{numbers}
 use Rattle.sv_blast.specs.Encoders.{design_in, obligation_in}
 use Rattle.sv_blast.specs.Framed.{frames_size, IsBegun}

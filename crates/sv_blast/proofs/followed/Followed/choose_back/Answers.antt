@@ -1,4 +1,4 @@
-use Rattle.std.proofs.Common.{◌<◌, ◌++◌, ap, ◌∙◌, rules}
+use Rattle.std.proofs.Common.{◌++◌, ap, ◌∙◌, rules}
 use Rattle.std.specs.Prelude.{option_to_list}
 use Rattle.std.specs.Result.{IsErrOf}
 use Rattle.sv_gates.specs.declared.gates.GateFault.TheVariants.{Full}

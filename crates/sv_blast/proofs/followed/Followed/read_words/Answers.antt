@@ -1,4 +1,4 @@
-use Rattle.std.proofs.Common.{◌+◌, drop, get_or, inl, sym, ap, ◌∙◌}
+use Rattle.std.proofs.Common.{◌+◌, drop, get_or, inl, ap, ◌∙◌}
 use Rattle.sv_design.specs.Numbers.{numbers}
 use Rattle.sv_encoding.specs.Bodies.{with_word}
 use Rattle.sv_blast.specs.WordTables.{words_of}

@@ -110,7 +110,7 @@ pub fn nodes(alloc: Global, case: &Case) -> Result<Said, AllocError> {
 }
 
 // How many obligations the design has, where that is known.
-fn count_of(alloc: Global, origin: &Origin) -> Result<Option<u64>, AllocError> {
+fn known_count(alloc: Global, origin: &Origin) -> Result<Option<u64>, AllocError> {
     match admitted_design(alloc, origin) {
         Some(design) => obligations_of(alloc, &design),
         None => Ok(None),
@@ -119,7 +119,7 @@ fn count_of(alloc: Global, origin: &Origin) -> Result<Option<u64>, AllocError> {
 
 // How many obligations the design has, in words.
 fn count_words(alloc: Global, origin: &Origin) -> Result<String, AllocError> {
-    match count_of(alloc, origin)? {
+    match known_count(alloc, origin)? {
         Some(count) => {
             let count = grouped(alloc, count)?;
             format!(in alloc; "{count} obligations, and 65,536 there may be")

@@ -1,4 +1,4 @@
-"""Damage: what a damaged design, stimulus or certificate is answered, worked out beside the program; tools/damage and .ci/hostile.py try it.
+"""Damage: what a damaged design, stimulus or certificate is answered, worked out beside the program; tools/damage and tests/hostile.py try it.
 
 Each byte in turn becomes another one, or is removed or doubled. Of a certificate the answer is worked out here, from docs/formats.md and the clauses that
 `cnf` prints; of a stimulus its first wrong line, how many cycles stand before it, and the lines of those that come before the damage. Of a design the answer

@@ -396,7 +396,7 @@ def page(title, crates, wrong, met):
     return "\n".join(lines).rstrip("\n") + "\n", count
 
 
-HEAD = """Made from the contracts by `.ci/promises.py --write`; [README.md](README.md) says how to read it."""
+HEAD = """Made from the contracts by `tools/promises.py --write`; [README.md](README.md) says how to read it."""
 
 
 def written(path):
@@ -423,7 +423,7 @@ def main():
             with open(path, "w", encoding="utf-8") as file:
                 file.write(made)
         if written(path) != made:
-            wrong.append(f"docs/promises/{name}.md is another one: python3 .ci/promises.py --write puts it right")
+            wrong.append(f"docs/promises/{name}.md is another one: python3 tools/promises.py --write puts it right")
         if len(made.encode()) > MOST_BYTES:
             wrong.append(f"docs/promises/{name}.md has {len(made.encode())} bytes: it is to be cut")
     wrong += [f"{crate}: {title}: a clause says {what} now" for crate, title, what in sorted(OPEN.keys() - met)]

@@ -12,7 +12,7 @@ from functools import cache
 
 TOP = os.path.dirname(os.path.dirname(os.path.abspath(__file__)))
 PAGE = os.path.join(TOP, "docs", "reading.md")
-BEGIN, END = "<!-- reading list: made by .ci/reading.py --write -->", "<!-- end of the reading list -->"
+BEGIN, END = "<!-- reading list: made by tools/reading.py --write -->", "<!-- end of the reading list -->"
 
 # What is read, from which function of which file, by which of its clauses (None: by all).
 READINGS = [
@@ -278,7 +278,7 @@ def main():
             with open(PAGE, "w", encoding="utf-8") as file:
                 file.write(made)
         elif made != page:
-            wrong.append("the reading list in docs/reading.md is another one: python3 .ci/reading.py --write puts it right")
+            wrong.append("the reading list in docs/reading.md is another one: python3 tools/reading.py --write puts it right")
     if "--list" in sys.argv[1:]:
         print(table)
     for line in wrong:

@@ -48,7 +48,7 @@ def room(char):
 
 
 def explained(path, place, text, said):
-    """What is to be said of a refusal with a place. The words behind that are taken from what was said: `.ci/messages.py` has them."""
+    """What is to be said of a refusal with a place. The words behind that are taken from what was said: `tests/messages.py` has them."""
     words = said.partition("\n")[0].removeprefix(f"{path}:{place}: ")
     return f"{path}:{place}: {words}\n{excerpt(text, place)}"
 

@@ -75,8 +75,6 @@ class Checkout:
         self.write("crates.txt", "# crates, lowest first\nlow: thiserror\nother: low\nsv_cli: low\nsecv: low sv_cli\n")
         shutil.copy(os.path.join(TOP, "secv"), self.top)
         shutil.copytree(os.path.join(TOP, "tools"), os.path.join(self.top, "tools"))
-        os.mkdir(os.path.join(self.top, ".ci"))
-        shutil.copy(os.path.join(TOP, ".ci", "release.py"), os.path.join(self.top, ".ci"))
         os.mkdir(self.kit)
         self.of_kit("rattle-kit")
         with open(os.path.join(self.kit, "rt"), "w", encoding="ascii") as file:
@@ -464,11 +462,11 @@ def looks(at):
     renew = "run tools/release, commit release/, and run .ci/run again\n"
 
     def look(what, passes, fails):
-        out, _, status = at.run(tool=".ci/release.py")
+        out, _, status = at.run(tool="tools/release.py")
         wanted = (f"{passes} passed, {fails} failed", not fails or f"release/ has to be renewed: {renew}" in out, 1 if fails else 0)
         compare(f"the look at {what}", (out.splitlines()[-1], not fails or f"release/ has to be renewed: {renew}" in out, status), wanted)
 
-    compare("the look at no release/", at.run(tool=".ci/release.py"), (f"there is no release/ of the program: {renew}0 passed, 1 failed\n", "", 1))
+    compare("the look at no release/", at.run(tool="tools/release.py"), (f"there is no release/ of the program: {renew}0 passed, 1 failed\n", "", 1))
     release(at)
     gate(at)
     look("one of the same", 6, 0)

@@ -1,6 +1,6 @@
 #!/usr/bin/env python3
 """Checks each rule of elaboration and of admission through ./secv by other texts than those of docs/language.md, those of admission at
-bits, parts, joins and instances, and where the lines for a person point to (`.ci/messages.py` has their words). In a text `@@` marks the place that is
+bits, parts, joins and instances, and where the lines for a person point to (`tests/messages.py` has their words). In a text `@@` marks the place that is
 told, and `~~` one that a person is shown in its stead; what has no mark is told at 1:1. Texts that break none of them nearly do, and are accepted. The last line is 'N passed, M failed'.
 """
 import os

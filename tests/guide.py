@@ -255,7 +255,7 @@ def pages(_):
         prose = re.sub(r"^```.*?^```$", "", text, flags=re.M | re.S)
         lines = [line for line in prose.splitlines() if len(line) > MOST_COLUMNS and not line.startswith("|")]
         compare(f"its lines are short: {page}", lines, [])
-        for name in sorted(set(re.findall(r"`((?:docs|examples|bench|tools|crates|sv_\w+|\.ci)/[\w./-]+\.[a-z0-9]+)`", text))):
+        for name in sorted(set(re.findall(r"`((?:docs|examples|bench|tests|tools|crates|sv_\w+)/[\w./-]+\.[a-z0-9]+)`", text))):
             compare(f"{page}: {name} is there", any(os.path.exists(os.path.join(TOP, folder, name)) for folder in (".", "crates")), True)
         for name in sorted(set(re.findall(r"\]\(([^()#:]+)\)", prose))):
             compare(f"{page}: {name} is there", os.path.exists(os.path.join(TOP, os.path.dirname(page), name)), True)

@@ -12,7 +12,7 @@ import re
 import shutil
 import subprocess
 
-from harness import MOST_SECONDS, TOP, compare, finish, leave_out, put, run
+from harness import MOST_SECONDS, TOP, compare, finish, leave_out, put, run, told
 
 DESIGN = "dma.v"  # that of the five steps
 MOST_BYTES, MOST_COLUMNS = 20000, 120
@@ -230,9 +230,9 @@ def editors(folder):
     compare("the parts of the matcher", [pattern[part] for part in ("file", "line", "column", "message")], [1, 2, 3, 4])
     for name in ("text.v", "a b.v"):
         put(folder, name, "module m;\n  initial ;\nendmodule\n")
-        line = subprocess.run([os.path.join(TOP, "secv"), "check", name], cwd=folder, stdout=subprocess.DEVNULL, stderr=subprocess.PIPE, check=False).stderr
+        line = told(folder, ["check", name])[1]
         for form in (vim, pattern["regexp"]):
-            found = [re.fullmatch(form, shown) for shown in line.decode().splitlines()]
+            found = [re.fullmatch(form, shown) for shown in line.splitlines()]
             compare(f"{form} in {line}", [match and match.groups() for match in found], [(name, "2", "3", INITIAL), None, None])
 
 

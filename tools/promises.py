@@ -10,7 +10,12 @@ import re
 import sys
 from functools import cache
 
-from reading import TOP, cited, crate_order, file_of, spec_path
+sys.dont_write_bytecode = True
+TOP = os.path.dirname(os.path.dirname(os.path.abspath(__file__)))
+sys.path.insert(0, os.path.join(TOP, "tests"))
+
+from harness import end_look
+from reading import cited, crate_order, file_of, spec_path
 
 PAGES = os.path.join(TOP, "docs", "promises")
 MOST_BYTES = 20000
@@ -427,10 +432,7 @@ def main():
         if len(made.encode()) > MOST_BYTES:
             wrong.append(f"docs/promises/{name}.md has {len(made.encode())} bytes: it is to be cut")
     wrong += [f"{crate}: {title}: a clause says {what} now" for crate, title, what in sorted(OPEN.keys() - met)]
-    for line in wrong:
-        print(line)
-    print(f"{passed} passed, {len(wrong)} failed")
-    sys.exit(1 if wrong else 0)
+    end_look(passed, wrong)
 
 
 if __name__ == "__main__":

@@ -26,7 +26,9 @@ def compare(what, got, wanted):
 
 def judge(what, good, seen):
     """Counts whether a run is as it is to be, and shows what was seen where it is not."""
-    compare(what if good else f"{what}: {seen!r}"[:500], good, True)
+    COUNTS["passed" if good else "failed"] += 1
+    if not good:
+        print(f"{what}: {seen!r}"[:600])
 
 
 def leave_out(what, why):

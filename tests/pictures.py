@@ -1,5 +1,5 @@
 #!/usr/bin/env python3
-"""Tries tools/wave and tools/flows. A VCD that is made of a run is read back by a reader of its own, written from IEEE 1364-2005, clause 18, and gives the
+"""Tries tools/wave, tools/flows and bench/plot.py. A VCD that is made of a run is read back by a reader of its own, written from IEEE 1364-2005, clause 18, and gives the
 trace again, with hierarchy and widths; so do two runs in one, with their marker. Traces that are wrong are refused, at their lines. A graph has the edges that
 `./secv list` tells, and labels, shapes and colours that were worked by hand. The picture of docs/guide/ has the nodes and edges of its graph; where Graphviz is
 installed, it is drawn anew, else that is told as not run.. The last line is 'N passed, M failed'.
@@ -523,5 +523,19 @@ def drawn_one(folder):
         leave_out(f"{design} is drawn anew", "Graphviz is not installed")
 
 
+def plots(folder):
+    """bench/plot.py draws what is kept of `check` by verdict.sh: a dot for each run, and a row for each case."""
+    kept = [line.split("\t") for line in stored("bench", "results", "runs.tsv").splitlines()]
+    compare("a run has five parts", {len(row) for row in kept}, {5})
+    values = [(case, float(re.search(r"\bcheck=(\S+)", figures)[1])) for _, _, script, case, figures in kept if script == "verdict"]
+    svg, _, status = tool(folder, [os.path.join(TOP, "bench", "plot.py"), "verdict", "check"])
+    compare("plot.py draws", status, 0)
+    drawing = ElementTree.fromstring(svg)
+    titles = [dot[0].text.partition(" on ")[0] for dot in drawing.iter("{http://www.w3.org/2000/svg}circle")]
+    compare("a dot a run", sorted(map(float, titles)), sorted(value for _, value in values))
+    labels = {label.text for label in drawing.iter("{http://www.w3.org/2000/svg}text")}
+    compare("a row a case", {case for case, _ in values} - labels, set())
+
+
 if __name__ == "__main__":
-    finish([waves, pairs, untold, wrong, flows, no_flows, documented_ones, drawn_one])
+    finish([waves, pairs, untold, wrong, flows, no_flows, documented_ones, drawn_one, plots])

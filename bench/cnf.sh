@@ -16,8 +16,10 @@ top=$(CDPATH='' cd -- "$(dirname -- "$0")/.." && pwd -P)
 work=$(mktemp -d)
 trap 'rm -rf "$work"' EXIT
 program=${SECV:-$("$top/secv" --path)}
-python3 - "$program" "$work" <<'PY'
+PYTHONPATH="$top/bench" python3 - "$program" "$work" <<'PY'
 import os, re, shutil, subprocess, sys, time
+
+from results import note
 
 secv, work = sys.argv[1], sys.argv[2]
 HEAD = "module m(output reg y, input [63:0] a, input [63:0] b, input {H} h);\n"
@@ -110,6 +112,7 @@ for name, make in (("products", products), ("signals", signals), ("case", arms))
             held = max(held, (memory - base) / clauses)
         shown = f"{grew:6.2f}" if before else "     -"
         print(f"{name:10} {'1/' + str(part):>4} {variables:10} {clauses:10} {count / 1e6:7.1f} {took:8.3f} {variables / took:11.0f} {clauses / took:11.0f} {memory / 1e6:10.1f} {shown}", flush=True)
+        note("cnf", f"{name} 1/{part}", variables=variables, clauses=clauses, printed=f"{count / 1e6:.1f}", seconds=f"{took:.3f}", MB=f"{memory / 1e6:.1f}")
         before = took
 print(f"greatest ratio of the last two times: {ratio:.2f}")
 print(f"least clauses a second at the whole size: {speed:.0f}")

@@ -14,8 +14,10 @@ top=$(CDPATH='' cd -- "$(dirname -- "$0")/.." && pwd -P)
 work=$(mktemp -d)
 trap 'rm -rf "$work"' EXIT
 program=${SECV:-$("$top/secv" --path)}
-python3 - "$program" "$top" "$work" <<'PY'
+PYTHONPATH="$top/bench" python3 - "$program" "$top" "$work" <<'PY'
 import collections, os, random, subprocess, sys
+
+from results import note
 
 secv, top, work = sys.argv[1:4]
 CYCLES = 1000000
@@ -83,9 +85,12 @@ for example in EXAMPLES:
     worst = max(worst, both.seconds / alone.seconds)
     print(f"{example.name:>18} {os.path.getsize(first):>9} {alone.seconds:>8.2f} {alone.memory:>7.1f} {both.seconds:>8.2f} {both.memory:>7.1f} "
           f"{both.seconds / alone.seconds:>6.2f}", flush=True)
+    note("compare", example.name, sim=f"{alone.seconds:.2f}", compare=f"{both.seconds:.2f}", MB=f"{both.memory:.1f}")
 print(f"most times the time of sim that compare takes: {worst:.2f} (asked: at most {MOST_RATIO})")
 sample = measured([secv, "gen", "200"])
 checked = measured([secv, "gen", "200", "--check"], wanted="accepted 2800 obligations\n")
 print(f"gen 200: {sample.seconds:.2f} s, {sample.memory:.1f} MB")
 print(f"gen 200 --check: {checked.seconds:.2f} s, {checked.memory:.1f} MB (asked: at most {MOST_MEGABYTES})")
+for case, told in (("gen 200", sample), ("gen 200 --check", checked)):
+    note("compare", case, seconds=f"{told.seconds:.2f}", MB=f"{told.memory:.1f}")
 PY

@@ -9,7 +9,12 @@ work=$(mktemp -d)
 trap 'rm -rf "$work"' EXIT
 git clone -q "$top" "$work/clone"
 cd "$work/clone"
-seconds() { awk -v from="$1" -v to="$(date +%s.%N)" 'BEGIN { printf "%.2f\n", to - from }'; }
+# Says how many seconds something took that began then, and keeps it.
+took() {
+    seconds=$(awk -v from="$2" -v to="$(date +%s.%N)" 'BEGIN { printf "%.2f\n", to - from }')
+    echo "$1: $seconds s"
+    printf '%s\tseconds=%s\n' "$1" "$seconds" | python3 "$top/bench/results.py" first
+}
 
 if ! [ -f release/ABOUT ]; then
     echo "first.sh: the last commit has no release/" >&2
@@ -24,10 +29,10 @@ for folder in $(echo "$PATH" | tr ':' ' '); do
 done
 began=$(date +%s.%N)
 PATH=$work/tools ./secv check examples/multiplier_leak.v >"$work/answer" || [ $? = 1 ]
-echo "first answer: $(seconds "$began") s"
+took "first answer" "$began"
 began=$(date +%s.%N)
 ./secv check examples/multiplier_leak.v >"$work/answer" || [ $? = 1 ]
-echo "second answer: $(seconds "$began") s"
+took "second answer" "$began"
 [ "${1:-}" = --build ] || exit 0
 
 kit=$(dirname -- "$(dirname -- "$(readlink -f -- "$(command -v rt)")")")
@@ -39,7 +44,7 @@ fi
 began=$(date +%s.%N)
 status=0
 PATH=$work/kit/rattle/bin:$PATH ./secv --build 2>"$work/said" || status=$?
-echo "built and proved: $(seconds "$began") s"
+took "built and proved" "$began"
 for crate in crates/*/out/rlib/stamp; do
     [ -f "$crate" ] && echo "$(stat -c %Y "$crate") $crate"
 done | sort -n | awk -F '[ /]' -v from="$began" '{ printf "%6.0f %s\n", $1 - from, $3 }'

@@ -15,8 +15,10 @@ top=$(CDPATH='' cd -- "$(dirname -- "$0")/.." && pwd -P)
 work=$(mktemp -d)
 trap 'rm -rf "$work"' EXIT
 program=$("$top/secv" --path)
-python3 - "$program" "$work" <<'PY'
+PYTHONPATH="$top/bench" python3 - "$program" "$work" <<'PY'
 import os, random, re, shutil, subprocess, sys, time
+
+from results import note
 
 secv, work = sys.argv[1], sys.argv[2]
 LIMIT = 1048576
@@ -163,6 +165,7 @@ for mixture in (expressions, statements, declarations, instances, hierarchies):
         seconds, memory = run([secv, "sim", file], (0, 1))
         ratio = "" if before is None else f"{seconds / before:.2f}"
         print(f"{size:>10} {seconds:>9.4f} {memory:>7.1f} {ratio:>6}")
+        note("front", f"{mixture.__name__} 1/{part}", seconds=f"{seconds:.4f}", MB=f"{memory:.1f}")
         last = None if before is None else seconds / before
         before = seconds
     worst = max(worst, last)

@@ -14,8 +14,10 @@ top=$(CDPATH='' cd -- "$(dirname -- "$0")/.." && pwd -P)
 work=$(mktemp -d)
 trap 'rm -rf "$work"' EXIT
 program=${SECV:-$("$top/secv" --path)}
-python3 - "$program" "$work" <<'PY'
+PYTHONPATH="$top/bench" python3 - "$program" "$work" <<'PY'
 import os, re, subprocess, sys, time
+
+from results import note
 
 secv, work = sys.argv[1], sys.argv[2]
 
@@ -110,6 +112,7 @@ for shape in (paths, assignments, targets, cases):
         last = 0 if before is None else seconds / before
         ratio = "" if before is None else f"{last:.2f}"
         print(f"{lines:>8} {size:>10} {seconds:>9.4f} {memory:>7.1f} {ratio:>6}")
+        note("list", f"{shape.__name__} 1/{part}", lines=lines, seconds=f"{seconds:.4f}", MB=f"{memory:.1f}")
         before, slowest, largest = seconds, max(slowest, seconds), max(largest, memory)
     ratios = max(ratios, last)
 print(f"ratio {ratios:.2f}, {slowest:.2f} s, {largest:.0f} MB")

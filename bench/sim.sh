@@ -20,8 +20,10 @@ top=$(CDPATH='' cd -- "$(dirname -- "$0")/.." && pwd -P)
 work=$(mktemp -d)
 trap 'rm -rf "$work"' EXIT
 program=${SECV:-$("$top/secv" --path)}
-python3 - "$program" "$work" <<'PY'
+PYTHONPATH="$top/bench" python3 - "$program" "$work" <<'PY'
 import collections, os, random, shutil, subprocess, sys
+
+from results import note
 
 secv, work = sys.argv[1], sys.argv[2]
 Told = collections.namedtuple("Told", "processor seconds memory")
@@ -192,11 +194,13 @@ for design in (inverters(), datapath(), hierarchy()):
     print(f"{'':>10} {'processor':>10} {'seconds':>9} {'MB':>7}")
     told = run(words, given)
     row("secv", told)
+    before = theirs
     for name, other in others:
         beside = run(other, given)
         row(name, beside, told)
         theirs += beside.processor * (name == "vvp")
     ours += told.processor
+    note("sim", design.name, processor=f"{told.processor:.2f}", seconds=f"{told.seconds:.2f}", MB=f"{told.memory:.1f}", vvp=f"{theirs - before:.2f}")
     if design.cycles == 1000000:
         grown = growth(design, file, told)
 print(f"memory of 1,000,000 cycles against that of 1,000: {grown:.3f}")

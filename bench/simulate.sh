@@ -12,8 +12,10 @@ trap 'rm -rf "$work"' EXIT
 cd "$top/crates/simulation_bench"
 mkdir -p out
 rt run <stdin >out/build.log 2>&1 || { cat out/build.log; exit 1; }
-python3 - "$top/crates/simulation_bench/out/simulation_bench" "$work" <<'PY'
+PYTHONPATH="$top/bench" python3 - "$top/crates/simulation_bench/out/simulation_bench" "$work" <<'PY'
 import os, shutil, subprocess, sys, time
+
+from results import note
 
 program, work = sys.argv[1], sys.argv[2]
 SIGNALS = 4096
@@ -97,6 +99,7 @@ def admissions():
             whole, _ = timed(["iverilog", "-t", "null", os.path.join(work, "design.v")])
             beside = f"{whole:10.3f}{times[2] / whole:8.3f}"
         print(f"{kind.__name__:<12}" + "".join(f"{it:9.4f}" for it in times) + f"{ratio:8.2f}" + beside)
+        note("simulate", f"admission of {kind.__name__}", seconds=f"{times[2]:.4f}")
     return worst
 
 
@@ -150,6 +153,7 @@ def running():
     print(f"\n{'4,096 signals':<14}{'cycles/s':>12}{'secv to it':>12}")
     for name, rate in rows:
         print(f"{name:<14}{rate:>12.0f}{ours / rate:>12.2f}")
+    note("simulate", f"{SIGNALS} signals", **{f"{name}_cycles_a_second": f"{rate:.0f}" for name, rate in rows})
     return next((ours / rate for name, rate in rows if name == "vvp"), None)
 
 

@@ -62,7 +62,7 @@ row() {
     done
     for bits in 4 5 6; do row multiplier "$bits"; done
     for bits in 8 16 32; do row adder "$bits"; done
-} | awk -F'[| ]' -v budget="$budget" '
+} | awk -F'[| ]' -v budget="$budget" -v keep="python3 '$top/bench/results.py' solve" '
     function ratio(a, b) { return b ? sprintf("%.2f", a / b) : "none" }
     BEGIN { printf "%-14s %8s %9s %9s %8s    minisat: %9s %9s %8s\n", "clauses", "answer", "conflicts", "seconds", "kB", "conflicts", "seconds", "kB" }
     {
@@ -71,6 +71,8 @@ row() {
         printf "%-14s %8s %9d %9.4f %8d", name, answer, conflicts, mine[1], mine[2]
         if (compared) printf "             %9d %9.4f %8d", part[6], other[1], other[2]
         print ""
+        printf "%s\tconflicts=%d seconds=%s kB=%d%s\n", name, conflicts, mine[1], mine[2],
+            compared ? sprintf(" minisat_conflicts=%d minisat=%s", part[6], other[1]) : "" | keep
         if (!compared) next
         if ((answer == "found" && part[5] != "SATISFIABLE") || (answer == "refuted" && part[5] != "UNSATISFIABLE"))
             wrong = wrong " " name ","

@@ -16,8 +16,10 @@ top=$(CDPATH='' cd -- "$(dirname -- "$0")/.." && pwd -P)
 work=$(mktemp -d)
 trap 'rm -rf "$work"' EXIT
 program=${SECV:-$("$top/secv" --path)}
-python3 - "$program" "$top" "$work" "${SECV+other}" <<'PY'
+PYTHONPATH="$top/bench" python3 - "$program" "$top" "$work" "${SECV+other}" <<'PY'
 import collections, datetime, os, re, shutil, subprocess, sys, textwrap
+
+from results import note
 
 secv, top, work, other = sys.argv[1:5]
 MOST_SOLVED, LONG, COLUMNS = 100, 5, 120
@@ -152,6 +154,13 @@ def line_of(row):
     return f"| {' | '.join(cells)} |"
 
 
+def noted(row):
+    """Keeps a row, in the digits of its line."""
+    told = [None if cell == "-" else cell.strip("`").replace(",", "") for cell in line_of(row).strip("| ").split(" | ")]
+    names = ("check", "proof", "verify", "MB", "bytes", *["minisat"] * has_minisat)
+    note("verdict", row.design.replace("`", ""), **dict(zip(names, told[3:])))
+
+
 def load():
     return f"{os.getloadavg()[0]:.1f}"
 
@@ -191,6 +200,7 @@ print("\n".join(HEAD), flush=True)
 for design, text in designs:
     rows.append(measured(design, text, design != CHAIN))
     print(line_of(rows[-1]), flush=True)
+    noted(rows[-1])
 text = page(rows, (began, load()))
 print(text[text.index("|\n\n") + 2:], end="")
 if not other:

@@ -5,6 +5,8 @@ import resource
 import subprocess
 import sys
 
+from results import note
+
 PROGRAM, FOLDER, TIMES = sys.argv[1], sys.argv[2], int(sys.argv[3])
 TOKENS = (128, 256, 512, 1024)
 TYPED = 200
@@ -82,6 +84,7 @@ def evaluate(name, tokens, rounds):
     own = int(run([PROGRAM, "evaluate", str(MORE * TIMES)], lines)[0].split()[1]) / (MORE * TIMES)
     beside = (whole - start) / rounds * 1e6
     print(f"{name:24} {len(tokens):6} {own:10.2f} {beside:10.2f} {own / beside:8.4f}", flush=True)
+    note("width", f"evaluating {name}", us=f"{own:.2f}", vvp=f"{beside:.2f}")
     return own / beside
 
 
@@ -138,6 +141,7 @@ def typing():
         growth = times[-1] / times[-2] / (sizes[-1] / sizes[-2]) * 2
         worst = max(worst, growth)
         print(f"{name:24} " + " ".join(f"{t:11.1f} us" for t in times) + f"   {growth:.2f}")
+        note("width", f"typing {name}", us=f"{times[-1]:.1f}")
     return worst
 
 

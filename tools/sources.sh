@@ -1,4 +1,4 @@
-# What the program secv is made from, for ./secv, tools/ and .ci/, which set `top` to the top of the checkout and read this.
+# What the program secv is made from, for ./secv, tools/ and .ci/run, which set `top` to the top of the checkout and read this.
 
 # The crates that the program stands on, lowest first, as crates.txt lists them.
 needed() {

@@ -5,11 +5,9 @@ Each wanted text is worked out here from docs/formats.md. The last line is 'N pa
 """
 import os
 import subprocess
-import sys
-import tempfile
 
-TOP = os.path.dirname(os.path.dirname(os.path.abspath(__file__)))
-SECV = os.path.join(TOP, "secv")
+from harness import SECV, call, compare, finish, limits, put
+
 MOST_LINE = 1048576
 MOST_BYTES = 1073741824
 MOST_SECONDS = 20
@@ -22,32 +20,18 @@ HEADER = b"inputs en d\n"
 FULL = b"secv: the output could not be written: No space left on device (os error 28)\n"
 CLOSED = b"secv: the output could not be written: Bad file descriptor (os error 9)\n"
 UNREAD = b"secv: the output could not be written: Broken pipe (os error 32)\n"
-passed = failed = 0
 
 
-def compare(what, got, wanted):
-    global passed, failed
-    if got == wanted:
-        passed += 1
-        return
-    failed += 1
-    print(f"{what}\n  wanted {wanted!r}"[:600] + f"\n  got    {got!r}"[:600])
-
-
-def run(folder, design, given, words=(), **streams):
+def simulate(folder, design, given, words=(), **streams):
     """What the program does on the stimulus, in little time and memory."""
-    path = os.path.join(folder, "text.v")
-    with open(path, "wb") as file:
-        file.write(design)
-    limit = f"ulimit -v {MOST_MEGABYTES * 1024}; exec \"$@\""
-    return subprocess.run(["sh", "-c", limit, "sh", SECV, "sim", path, *words], input=given, timeout=MOST_SECONDS, check=False,
-                          **{"stdout": subprocess.PIPE, "stderr": subprocess.PIPE, **streams})
+    put(folder, "text.v", design)
+    return call(folder, ["sim", "text.v", *words], given, limits(MOST_MEGABYTES), MOST_SECONDS, **streams)
 
 
 def ends(folder, what, design, given, trace, fault="", words=()):
     """Sees that the stimulus has this trace, and then is refused where a line and a kind are given."""
     wanted = trace + (f"refused stimulus input {fault}\n".encode() if fault else b"")
-    answer = run(folder, design, given, words)
+    answer = simulate(folder, design, given, words)
     compare(f"{what}: {given[:60]!r}", (answer.stdout, answer.returncode), (wanted, 1 if fault else 0))
 
 
@@ -131,16 +115,16 @@ def outputs(folder):
     for what, given, words, status in (("a trace", HEADER + b"1 3\n", (), 5), ("a refusal", b"start q 10\n", (), 5), ("rounds", HEADER, ("--order", "1"), 5),
                                        ("no level", HEADER, ("--level", "Q"), 5), ("many lines", many, (), 5), ("nothing", HEADER, (), 0)):
         with open("/dev/full", "wb") as full:
-            answer = run(folder, SUM, given, words, stdout=full)
+            answer = simulate(folder, SUM, given, words, stdout=full)
         compare(f"{what} to a full device", (answer.stderr, answer.returncode), (FULL if status else b"", status))
-        answer = run(folder, SUM, given, words, stdout=None, preexec_fn=lambda: os.close(1))
+        answer = simulate(folder, SUM, given, words, stdout=None, preexec_fn=lambda: os.close(1))
         compare(f"{what} to a closed output", (answer.stderr, answer.returncode), (CLOSED if status else b"", status))
         reading, writing = os.pipe()
         os.close(reading)
-        answer = run(folder, SUM, given, words, stdout=writing)
+        answer = simulate(folder, SUM, given, words, stdout=writing)
         os.close(writing)
         compare(f"{what} to a pipe that nobody reads", (answer.stderr, answer.returncode), (UNREAD if status else b"", status))
-    answer = run(folder, SUM, many)
+    answer = simulate(folder, SUM, many)
     lines = b"".join(b"%d en=1 d=1 q=%x\n" % (cycle, cycle % 16) for cycle in range(20000))
     compare("the same to an open output", (answer.stdout, answer.stderr, answer.returncode), (lines, b"", 0))
 
@@ -149,17 +133,16 @@ def most_bytes(folder):
     """A stimulus of as many bytes as may be, and one of a byte more: then the line with that byte, its line feed, is not read."""
     count = 4000
     names = [f"a{i}" for i in range(count)]
-    path, told = os.path.join(folder, "many.v"), os.path.join(folder, "told")
-    with open(path, "w", encoding="ascii") as file:
-        file.write("module m(" + "".join(f"input {{H}} {name}, " for name in names) + "output y); assign y = 1; endmodule\n")
+    told = os.path.join(folder, "told")
+    put(folder, "many.v", "module m(" + "".join(f"input {{H}} {name}, " for name in names) + "output y); assign y = 1; endmodule\n")
     header, line = f"inputs {' '.join(names)}\n".encode(), b" ".join([b"0" * 16] * count) + b"\n"
     lines, rest = divmod(MOST_BYTES - len(header), len(line))
     digits, more = divmod(rest - (count - 1), count)
     last = b" ".join(b"0" * (digits + (i < more)) for i in range(count))
-    limit = f"ulimit -v {MOST_MEGABYTES * 1024}; exec \"$@\""
+    bounded = ["sh", "-c", f'{limits(MOST_MEGABYTES)}; exec "$@"', "sh"]
     for end in (b"", b"\n"):
         with open(told, "wb") as out:
-            program = subprocess.Popen(["sh", "-c", limit, "sh", SECV, "sim", path, "--level", "L"], stdin=subprocess.PIPE, stdout=out)
+            program = subprocess.Popen([*bounded, SECV, "sim", "many.v", "--level", "L"], cwd=folder, stdin=subprocess.PIPE, stdout=out)
             try:
                 for piece in (header, *[line] * lines, last + end):
                     program.stdin.write(piece)
@@ -177,22 +160,13 @@ def most_bytes(folder):
 def inputs(folder):
     """A folder can be opened as the input, but not read."""
     folder_read = os.open(folder, os.O_RDONLY)
-    answer = run(folder, SUM, None, stdin=folder_read)
+    answer = simulate(folder, SUM, b"", stdin=folder_read)
     os.close(folder_read)
     compare("a folder as the input", (answer.stdout, answer.stderr, answer.returncode), (b"", b"secv: the input could not be read: Is a directory (os error 21)\n", 4))
     with open("/dev/null", "rb") as empty:
-        answer = run(folder, SUM, None, stdin=empty)
+        answer = simulate(folder, SUM, b"", stdin=empty)
     compare("an empty device as the input", (answer.stdout, answer.returncode), (b"refused stimulus input 1 header\n", 1))
 
 
-def main():
-    # the first run builds the program, which takes more than a run may
-    subprocess.run([SECV, "--path"], stdout=subprocess.DEVNULL, check=True)
-    with tempfile.TemporaryDirectory() as folder:
-        for group in (line_ends, long_lines, values, starts, headers, most_bytes, inputs, outputs):
-            group(folder)
-    print(f"{passed} passed, {failed} failed")
-    sys.exit(1 if failed else 0)
-
-
-main()
+if __name__ == "__main__":
+    finish([line_ends, long_lines, values, starts, headers, most_bytes, inputs, outputs])

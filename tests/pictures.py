@@ -1,8 +1,8 @@
 #!/usr/bin/env python3
-"""Tries tools/wave and tools/flows. A VCD that is made of a run is read back by a reader of its own, written from IEEE 1364-2005, clause 18, and gives the
+"""Tries tools/wave, tools/flows and bench/plot.py. A VCD that is made of a run is read back by a reader of its own, written from IEEE 1364-2005, clause 18, and gives the
 trace again, with hierarchy and widths; so do two runs in one, with their marker. Traces that are wrong are refused, at their lines. A graph has the edges that
 `./secv list` tells, and labels, shapes and colours that were worked by hand. The picture of docs/guide/ has the nodes and edges of its graph; where Graphviz is
-installed, it is drawn anew, else that is told as not run. The last line is 'N passed, M failed'.
+installed, it is drawn anew, else that is told as not run.. The last line is 'N passed, M failed'.
 """
 import colorsys
 import os
@@ -12,7 +12,7 @@ import subprocess
 import sys
 import xml.etree.ElementTree as ElementTree
 
-from harness import MOST_SECONDS, SECV, TOP, compare, documented, finish, leave_out, put, run
+from harness import MOST_SECONDS, SECV, TOP, call, compare, documented, finish, leave_out, put, run
 from comparisons import FOUR, HIDING_OUTPUT
 from outputs import COUNTERS, GATE, LISTS, TURN
 from verdicts import lanes
@@ -187,21 +187,22 @@ def trace_of(vcd, scope):
 
 def tool(folder, words, given="", stdout=subprocess.PIPE):
     """What one of the tools writes, what it says to a person, and its status."""
-    answer = subprocess.run([sys.executable, *words], cwd=folder, input=given.encode("latin-1"), stdout=stdout, stderr=subprocess.PIPE,
-                            timeout=MOST_SECONDS, check=False)
+    answer = call(folder, words, given.encode("latin-1"), program=sys.executable, stdout=stdout)
     return (answer.stdout or b"").decode("latin-1"), answer.stderr.decode("latin-1"), answer.returncode
 
 
 def simulated(folder, design, stimulus, words=""):
     """The trace of a design on a stimulus."""
     put(folder, "f", design)
-    answer = subprocess.run([SECV, "sim", "f", *words.split()], cwd=folder, input=stimulus.encode(), stdout=subprocess.PIPE, stderr=subprocess.DEVNULL,
-                            timeout=MOST_SECONDS, check=False)
-    return answer.stdout.decode()
+    return run(folder, f"sim f {words}", given=stimulus.encode())[0]
 
 
 def example(name):
-    with open(os.path.join(TOP, "examples", name), encoding="utf-8") as file:
+    return stored("examples", name)
+
+
+def stored(*path):
+    with open(os.path.join(TOP, *path), encoding="utf-8") as file:
         return file.read()
 
 
@@ -509,14 +510,12 @@ def to_be_drawn(dot):
 
 def drawn_one(folder):
     """The picture that the guide shows is that of the command beside it."""
-    with open(os.path.join(TOP, "docs", "guide", "refusals.md"), encoding="utf-8") as file:
-        text = file.read()
+    text = stored("docs", "guide", "refusals.md")
     design, picture = re.search(r"`tools/flows (\S+) \| dot -Tsvg >(\S+)`", text).groups()
     compare("the guide shows it", f"](../{os.path.relpath(picture, 'docs')})" in text, True)
     dot, _, status = tool(folder, [FLOWS, os.path.join(TOP, design)])
     compare(f"{design}: drawn", status, 0)
-    with open(os.path.join(TOP, picture), encoding="utf-8") as file:
-        compare(f"{picture} is that of {design}", drawn_in(file.read()), to_be_drawn(dot))
+    compare(f"{picture} is that of {design}", drawn_in(stored(picture)), to_be_drawn(dot))
     if shutil.which("dot"):
         svg = subprocess.run(["dot", "-Tsvg"], input=dot.encode(), stdout=subprocess.PIPE, timeout=MOST_SECONDS, check=False).stdout.decode()
         compare(f"{design}: drawn anew", drawn_in(svg), to_be_drawn(dot))
@@ -524,5 +523,19 @@ def drawn_one(folder):
         leave_out(f"{design} is drawn anew", "Graphviz is not installed")
 
 
+def plots(folder):
+    """bench/plot.py draws what is kept of `check` by verdict.sh: a dot for each run, and a row for each case."""
+    kept = [line.split("\t") for line in stored("bench", "results", "runs.tsv").splitlines()]
+    compare("a run has five parts", {len(row) for row in kept}, {5})
+    values = [(case, float(re.search(r"\bcheck=(\S+)", figures)[1])) for _, _, script, case, figures in kept if script == "verdict"]
+    svg, _, status = tool(folder, [os.path.join(TOP, "bench", "plot.py"), "verdict", "check"])
+    compare("plot.py draws", status, 0)
+    drawing = ElementTree.fromstring(svg)
+    titles = [dot[0].text.partition(" on ")[0] for dot in drawing.iter("{http://www.w3.org/2000/svg}circle")]
+    compare("a dot a run", sorted(map(float, titles)), sorted(value for _, value in values))
+    labels = {label.text for label in drawing.iter("{http://www.w3.org/2000/svg}text")}
+    compare("a row a case", {case for case, _ in values} - labels, set())
+
+
 if __name__ == "__main__":
-    finish([waves, pairs, untold, wrong, flows, no_flows, documented_ones, drawn_one])
+    finish([waves, pairs, untold, wrong, flows, no_flows, documented_ones, drawn_one, plots])

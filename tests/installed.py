@@ -6,29 +6,13 @@ import os
 import re
 import shutil
 import subprocess
-import sys
-import tempfile
 
-TOP = os.path.dirname(os.path.dirname(os.path.abspath(__file__)))
-SECV = os.path.join(TOP, "secv")
+from harness import SECV, TOP, compare, finish, leave_out, printed, program_here, put
+
 INSTALLED = ["bin/secv", "share/bash-completion/completions/secv", "share/fish/vendor_completions.d/secv.fish", "share/man/man1/secv.1",
              "share/zsh/site-functions/_secv"]
 # Asks a file of completions what stands behind these words, the last of which is begun.
 ASK = 'source "$1"; shift; COMP_WORDS=("$@"); COMP_CWORD=$(($# - 1)); _secv; printf "%s\\n" "${COMPREPLY[@]}"'
-passed = failed = 0
-
-
-def compare(what, got, wanted):
-    global passed, failed
-    if got == wanted:
-        passed += 1
-        return
-    failed += 1
-    print(f"{what}\n  wanted {wanted!r}\n  got    {got!r}")
-
-
-def run(*words, **more):
-    return subprocess.run(words, stdin=subprocess.DEVNULL, stdout=subprocess.PIPE, text=True, check=True, **more).stdout
 
 
 def read(*path):
@@ -40,8 +24,8 @@ class Help:
     """What the program itself says of its words."""
 
     def __init__(self):
-        text = run(SECV, "--help")
-        self.version = run(SECV, "--version").strip()
+        text = printed(SECV, "--help")
+        self.version = printed(SECV, "--version").strip()
         usage, _, ends = text.partition("usage:\n")[2].partition("\nexit status: ")
         # What a row does may stand on lines of its own.
         rows = re.findall(r"^  (secv(?: \S+)+)(?:  +|\n {10,})((?:.*\n {10,})*.*)$", usage, re.M)
@@ -52,7 +36,7 @@ class Help:
         # What each option of a command does, with the name of its value, which a flag has none of.
         self.options = {}
         for name in [word for word in self.words if not word.startswith("-")]:
-            rows = re.findall(r"^ +(--[a-z]+)(?: <([A-Z]+)>)? +(\S.*)$", run(SECV, name, "--help"), re.M)
+            rows = re.findall(r"^ +(--[a-z]+)(?: <([A-Z]+)>)? +(\S.*)$", printed(SECV, name, "--help"), re.M)
             self.options[name] = {option: (value, what) for option, value, what in rows}
         self.statuses = re.findall(r"([0-9]) ([a-z ,]+?)(?:, (?=[0-9])|$)", re.sub(r",?\s*\n\s*", ", ", ends.strip()))
 
@@ -63,34 +47,33 @@ class Help:
         return {option for option, (value, _) in self.options[name].items() if not value}
 
 
-def installs():
-    with tempfile.TemporaryDirectory() as folder:
-        for _ in range(2):
-            run(os.path.join(TOP, "tools", "install"), "a place", cwd=folder)
-        place = os.path.join(folder, "a place")
-        found = sorted(os.path.relpath(os.path.join(at, name), place) for at, _, names in os.walk(place) for name in names)
-        compare("what is installed", found, INSTALLED)
-        with open(os.path.join(place, "bin", "secv"), "rb") as file, open(run(SECV, "--path").strip(), "rb") as other:
-            compare("its program", file.read() == other.read(), True)
-        compare("it runs by itself", run(os.path.join(place, "bin", "secv"), "--version", cwd=folder, env={}), run(SECV, "--version"))
-        answer = subprocess.run([os.path.join(TOP, "tools", "install")], stderr=subprocess.PIPE, text=True, check=False)
-        compare("no PREFIX", (answer.stderr, answer.returncode), ("usage: tools/install PREFIX\n", 2))
+def installs(folder):
+    for _ in range(2):
+        printed(os.path.join(TOP, "tools", "install"), "a place", cwd=folder)
+    place = os.path.join(folder, "a place")
+    found = sorted(os.path.relpath(os.path.join(at, name), place) for at, _, names in os.walk(place) for name in names)
+    compare("what is installed", found, INSTALLED)
+    with open(os.path.join(place, "bin", "secv"), "rb") as file, open(program_here(), "rb") as other:
+        compare("its program", file.read() == other.read(), True)
+    compare("it runs by itself", printed(os.path.join(place, "bin", "secv"), "--version", cwd=folder, env={}), printed(SECV, "--version"))
+    answer = subprocess.run([os.path.join(TOP, "tools", "install")], stderr=subprocess.PIPE, text=True, check=False)
+    compare("no PREFIX", (answer.stderr, answer.returncode), ("usage: tools/install PREFIX\n", 2))
 
 
-def written():
+def written(folder):
     """What stands in share/ is what tools/completions writes."""
-    with tempfile.TemporaryDirectory() as folder:
-        run(os.path.join(TOP, "tools", "completions"), folder)
-        names = sorted(os.listdir(folder))
-        compare("the files of share/", sorted(os.listdir(os.path.join(TOP, "share"))), names)
-        for name in names:
-            with open(os.path.join(folder, name), encoding="utf-8") as file:
-                compare(f"share/{name} is what tools/completions writes", file.read() == read("share", name), True)
+    printed(os.path.join(TOP, "tools", "completions"), folder)
+    names = sorted(os.listdir(folder))
+    compare("the files of share/", sorted(os.listdir(os.path.join(TOP, "share"))), names)
+    for name in names:
+        with open(os.path.join(folder, name), encoding="utf-8") as file:
+            compare(f"share/{name} is what tools/completions writes", file.read() == read("share", name), True)
     answer = subprocess.run([os.path.join(TOP, "tools", "completions"), "a", "b"], stderr=subprocess.PIPE, text=True, check=False)
     compare("two folders", (answer.stderr, answer.returncode), ("usage: tools/completions [FOLDER]\n", 2))
 
 
-def page(told):
+def page(_):
+    told = Help()
     text = read("share", "secv.1").replace("\\-", "-")
     parts = dict(re.findall(r"^\.SH ([A-Z ]+)\n(.*?)(?=^\.SH|\Z)", text, re.M | re.S))
     compare("the page's version", re.search(r'^\.TH SECV 1 "" "(.*?)"', text)[1], told.version)
@@ -107,32 +90,33 @@ def page(told):
     compare("the page's statuses", re.findall(r"^\.TP\n\.B ([0-9])\n(.*)$", parts["EXIT STATUS"], re.M), told.statuses)
 
 
-def bash(told):
+def bash(folder):
     if not shutil.which("bash"):
+        leave_out("share/secv.bash", "bash is not installed")
         return
-    file = os.path.join(TOP, "share", "secv.bash")
-    with tempfile.TemporaryDirectory() as folder:
-        for name in ("a.v", "b.txt"):
-            open(os.path.join(folder, name), "w", encoding="ascii").close()
-        os.mkdir(os.path.join(folder, "sub"))
+    told, file = Help(), os.path.join(TOP, "share", "secv.bash")
+    for name in ("a.v", "b.txt"):
+        put(folder, name, "")
+    os.mkdir(os.path.join(folder, "sub"))
 
-        def behind(*words):
-            return sorted(run("bash", "-c", ASK, "bash", file, "secv", *words, cwd=folder).split())
+    def behind(*words):
+        return sorted(printed("bash", "-c", ASK, "bash", file, "secv", *words, cwd=folder).split())
 
-        compare("bash: the first word", behind(""), sorted(told.words))
-        for name, options in told.options.items():
-            compare(f"bash: {name} --", behind(name, "--"), sorted([*options, "--help"]))
-            compare(f"bash: {name} a.v --", behind(name, "a.v", "--"), sorted(options))
-            compare(f"bash: {name}", behind(name, ""), [] if name == "gen" else ["a.v", "sub/"])
-            for option in options:
-                wanted = ["a.v", "b.txt", "sub"] if option == "--proof" else ["a.v", "sub/"] if option == "--json" else []
-                compare(f"bash: {name} {option}", behind(name, option, ""), wanted)
-        for words in (("verify", "a.v"), ("compare", "a.v"), ("compare", "a.v", "b.txt")):
-            compare(f"bash: any file behind {words}", behind(*words, ""), ["a.v", "b.txt", "sub"])
-        compare("bash: no command", behind("other", "--"), [])
+    compare("bash: the first word", behind(""), sorted(told.words))
+    for name, options in told.options.items():
+        compare(f"bash: {name} --", behind(name, "--"), sorted([*options, "--help"]))
+        compare(f"bash: {name} a.v --", behind(name, "a.v", "--"), sorted(options))
+        compare(f"bash: {name}", behind(name, ""), [] if name == "gen" else ["a.v", "sub/"])
+        for option in options:
+            wanted = ["a.v", "b.txt", "sub"] if option == "--proof" else ["a.v", "sub/"] if option == "--json" else []
+            compare(f"bash: {name} {option}", behind(name, option, ""), wanted)
+    for words in (("verify", "a.v"), ("compare", "a.v"), ("compare", "a.v", "b.txt")):
+        compare(f"bash: any file behind {words}", behind(*words, ""), ["a.v", "b.txt", "sub"])
+    compare("bash: no command", behind("other", "--"), [])
 
 
-def zsh(told):
+def zsh(_):
+    told = Help()
     text = read("share", "secv.zsh")
     compare("zsh: the first word", dict(re.findall(r"^      '([a-z-]+):(.*)'$", text, re.M)), told.words)
     for name, value in re.findall(r"^  local (\w+)='(.*)'$", text, re.M):
@@ -143,10 +127,13 @@ def zsh(told):
     compare("zsh: flags", {name: {option for option, takes, _ in found if not takes} for name, found in rows.items()}, {name: told.flags(name) for name in told.options})
     compare("zsh: --help", [name for name, arm in arms.items() if "'(-)--help[" not in arm], [])
     if shutil.which("zsh"):
-        compare("zsh reads it", run("zsh", "-n", os.path.join(TOP, "share", "secv.zsh")), "")
+        compare("zsh reads it", printed("zsh", "-n", os.path.join(TOP, "share", "secv.zsh")), "")
+    else:
+        leave_out("zsh reads share/secv.zsh", "zsh is not installed")
 
 
-def fish(told):
+def fish(_):
+    told = Help()
     rows = re.findall(r"^complete -c secv -n (?:'.*?_from ([a-z ]+)'|__fish_use_subcommand)(?: -f -a| -l) (\S+)( -[rx])? -d '(.*)'$", read("share", "secv.fish"), re.M)
     first = {word if word in told.options else f"--{word}": what for names, word, _, what in rows if not names}
     compare("fish: the first word", first, told.words)
@@ -156,33 +143,21 @@ def fish(told):
             {name: told.flags(name) for name in told.options})
     compare("fish: --help", [names.split() for names, word, takes, _ in rows if names and not takes and word == "help"], [list(told.options)])
     if shutil.which("fish"):
-        compare("fish reads it", run("fish", "--no-execute", os.path.join(TOP, "share", "secv.fish")), "")
+        compare("fish reads it", printed("fish", "--no-execute", os.path.join(TOP, "share", "secv.fish")), "")
+    else:
+        leave_out("fish reads share/secv.fish", "fish is not installed")
 
 
-def texts_of_source():
+def texts_of_source(folder):
     """Where no program stands and none is released, the launcher prints the program's texts, from its source."""
-    with tempfile.TemporaryDirectory() as folder:
-        os.makedirs(os.path.join(folder, "crates", "secv"))
-        for name in ("secv", "crates.txt"):
-            shutil.copy(os.path.join(TOP, name), folder)
-        for name in ("tools", "crates/secv/src"):
-            shutil.copytree(os.path.join(TOP, name), os.path.join(folder, name))
-        for word in ("--help", "-h", "--version"):
-            compare(f"{word} of the source", run(os.path.join(folder, "secv"), word), run(SECV, word))
+    os.makedirs(os.path.join(folder, "crates", "secv"))
+    for name in ("secv", "crates.txt"):
+        shutil.copy(os.path.join(TOP, name), folder)
+    for name in ("tools", "crates/secv/src"):
+        shutil.copytree(os.path.join(TOP, name), os.path.join(folder, name))
+    for word in ("--help", "-h", "--version"):
+        compare(f"{word} of the source", printed(os.path.join(folder, "secv"), word), printed(SECV, word))
 
 
-def main():
-    run(SECV, "--path")
-    installs()
-    written()
-    told = Help()
-    page(told)
-    bash(told)
-    zsh(told)
-    fish(told)
-    texts_of_source()
-    print(f"{passed} passed, {failed} failed")
-    sys.exit(1 if failed else 0)
-
-
-main()
+if __name__ == "__main__":
+    finish([installs, written, page, bash, zsh, fish, texts_of_source])

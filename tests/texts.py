@@ -3,13 +3,8 @@
 byte, each form that is left out with its word, and texts of a megabyte of one thing. Each wanted line is worked out here from
 docs/language.md. The last line is 'N passed, M failed'.
 """
-import os
-import subprocess
-import sys
-import tempfile
+from harness import compare, finish, limits, put, run
 
-TOP = os.path.dirname(os.path.dirname(os.path.abspath(__file__)))
-SECV = os.path.join(TOP, "secv")
 LIMIT = 1048576
 MOST_SECONDS = 10
 MOST_MEGABYTES = 256
@@ -30,23 +25,13 @@ FORMS = [("module m(a, b); endmodule", 10, "header-names"), ("module m; (* full 
          ("module m; always @* @* ; endmodule", 21, "event-control"), ("module m; always @(a) ; endmodule", 20, "sensitivity-list"),
          ("module m; always @(posedge a, posedge b) ; endmodule", 29, "several-events"),
          ("module m(output y); assign y = a.b; endmodule", 33, "hierarchical-name")]
-passed = failed = 0
 
 
 def check(what, text, wanted, folder):
-    """The program's line for the text, and whether it is the wanted one, in little time, memory and stack."""
-    global passed, failed
-    path = os.path.join(folder, "text.v")
-    with open(path, "wb") as file:
-        file.write(text if isinstance(text, bytes) else text.encode())
-    limit = f"ulimit -S -s {LITTLE_STACK}; ulimit -v {MOST_MEGABYTES * 1024}; exec \"$@\""
-    answer = subprocess.run(["sh", "-c", limit, "sh", SECV, "check", path], stdin=subprocess.DEVNULL, stdout=subprocess.PIPE,
-                            stderr=subprocess.DEVNULL, timeout=MOST_SECONDS, check=False)
-    if (answer.stdout, answer.returncode) == ((wanted + "\n").encode(), 1 if wanted.startswith("refused ") else 0):
-        passed += 1
-    else:
-        failed += 1
-        print(f"{what}\n  wanted {wanted}\n  got    {answer.stdout!r}, status {answer.returncode}")
+    """Whether the program's line for the text is the wanted one, in little time, memory and stack."""
+    put(folder, "text.v", text)
+    answer = run(folder, "check text.v", bounds=limits(MOST_MEGABYTES, LITTLE_STACK), seconds=MOST_SECONDS)
+    compare(what, answer, (f"{wanted}\n", 1 if wanted.startswith("refused ") else 0))
 
 
 def levels(folder):
@@ -131,14 +116,5 @@ def megabytes(folder):
     check("one name", "a" * LIMIT, "refused 201 unexpected 1:1", folder)
 
 
-def main():
-    # the first run builds the program, which takes more than a run may
-    subprocess.run([SECV, "--path"], stdout=subprocess.DEVNULL, check=True)
-    with tempfile.TemporaryDirectory() as folder:
-        for group in (levels, lengths, one_byte, left_out, megabytes):
-            group(folder)
-    print(f"{passed} passed, {failed} failed")
-    sys.exit(1 if failed else 0)
-
-
-main()
+if __name__ == "__main__":
+    finish([levels, lengths, one_byte, left_out, megabytes])

@@ -5,7 +5,6 @@ number, streams that are closed, full or no longer read, files of every kind, an
 tried by tools/damage and tools/refuse-memory. The last line is 'N passed, M failed'.
 """
 import fcntl
-import functools
 import os
 import re
 import resource
@@ -16,8 +15,9 @@ import threading
 import time
 
 import damage
-from harness import MOST_SECONDS, SECV, compare, finish, put, status_of
-from outputs import COUNTER, GATE, STIMULUS, TURN
+import harness
+from harness import MOST_SECONDS, compare, finish, held, program_here, put, status_of
+from outputs import GATE, STIMULUS, TURN
 from verdicts import BY_HAND, LANES
 from worked import ROWS
 
@@ -50,19 +50,9 @@ STORERS = ["check f --proof ?", "check f --json --proof ?"]
 NOBODY = 65534
 
 
-@functools.cache
-def program():
-    """The program itself: the launcher would look at the sources at each run."""
-    return subprocess.run([SECV, "--path"], stdout=subprocess.PIPE, text=True, check=True).stdout.strip()
-
-
 def told(folder, words, given="", **more):
-    """What the program writes, what it says to a person, and its status."""
-    streams = {"stdout": subprocess.PIPE, "stderr": subprocess.PIPE, **more}
-    if "stdin" not in streams:
-        streams["input"] = given.encode()
-    answer = subprocess.run([program(), *(words.split() if isinstance(words, str) else words)], cwd=folder, timeout=MOST_SECONDS, check=False, **streams)
-    return (answer.stdout or b"").decode(), (answer.stderr or b"").decode(), answer.returncode
+    """What the program itself writes, without the launcher, what it says to a person, and its status."""
+    return harness.told(folder, words, given=given.encode(), program=program_here(), **more)
 
 
 def cut(folder):
@@ -82,7 +72,7 @@ def cut(folder):
 
 def damages(folder):
     """A small design, stimulus and certificate, damaged at each byte; tools/damage tries larger ones."""
-    place = damage.Place(folder, program())
+    place = damage.Place(folder, program_here())
     damage.designs(place, {"a gate": GATE})
     damage.stimuli(place, [row for row in damage.STIMULI if row[3] == STIMULUS])
     damage.certificates(place, [TURN])
@@ -104,14 +94,6 @@ def most_bytes(count):
     """Lets files have so many bytes, behind which a write fails, and does not end the program by a signal."""
     signal.signal(signal.SIGXFSZ, signal.SIG_IGN)
     resource.setrlimit(resource.RLIMIT_FSIZE, (count, count))
-
-
-def held(folder, name):
-    path = os.path.join(folder, name)
-    if not os.path.exists(path):
-        return None
-    with open(path, encoding="latin-1", newline="") as file:
-        return file.read()
 
 
 def limited(folder, row, count):
@@ -205,7 +187,7 @@ def files(folder):
 def denied(folder):
     """Files without leave to read or to write them, where the program is run by somebody who has none."""
     lay_out(folder)
-    tool = shutil.copy(program(), os.path.join(folder, "secv"))
+    tool = shutil.copy(program_here(), os.path.join(folder, "secv"))
     for name in (folder, tool):
         os.chmod(name, 0o755)
     someone = {"user": NOBODY} if os.geteuid() == 0 else {}
@@ -214,8 +196,8 @@ def denied(folder):
         os.chmod(folder, 0o555)
     for line, status, name in [*((line, 4, "mute") for line in READERS), *((line, 5, name) for line in STORERS for name in ("mute", "q"))]:
         words = [name if word == "?" else word for word in line.split()]
-        answer = subprocess.run([tool, *words], cwd=folder, input=b"", capture_output=True, timeout=MOST_SECONDS, check=False, **someone)
-        compare(f"{line}, ? is {name}, without leave", (answer.stdout.decode(), answer.stderr.decode(), answer.returncode), ("", f"secv: {name}: {DENIED}\n", status))
+        answer = harness.told(folder, words, program=tool, **someone)
+        compare(f"{line}, ? is {name}, without leave", answer, ("", f"secv: {name}: {DENIED}\n", status))
     os.chmod(folder, 0o755)
 
 
@@ -242,7 +224,7 @@ def pipes(folder):
     endless = subprocess.Popen(["sh", "-c", "exec yes >pipe"], cwd=folder, stderr=subprocess.DEVNULL)
     compare("a pipe without end", told(folder, "check pipe")[::2], ("refused 701 file-size\n", 1))
     compare("its writer is let go", endless.wait(MOST_SECONDS) != 0, True)
-    store = subprocess.Popen([program(), "check", "f", "--proof", "pipe"], cwd=folder, stdout=subprocess.PIPE)
+    store = subprocess.Popen([program_here(), "check", "f", "--proof", "pipe"], cwd=folder, stdout=subprocess.PIPE)
     with open(path, encoding="ascii") as pipe:
         stored = pipe.read()
     compare("NAME as a pipe", (stored.startswith("secv-proof 1\n"), stored.endswith("end\n"), store.communicate()[0], store.returncode), (True, True, b"accepted 2 obligations\n", 0))
@@ -278,7 +260,7 @@ def signals(folder):
     for number in (signal.SIGINT, signal.SIGTERM):
         for part in range(24):
             put(folder, "q", "old\n")
-            program_run = subprocess.Popen([program(), "check", "f", "--proof", "q"], cwd=folder, stdout=subprocess.PIPE, stderr=subprocess.PIPE)
+            program_run = subprocess.Popen([program_here(), "check", "f", "--proof", "q"], cwd=folder, stdout=subprocess.PIPE, stderr=subprocess.PIPE)
             time.sleep(took * part / 20)
             program_run.send_signal(number)
             answer, _ = program_run.communicate()
@@ -290,7 +272,7 @@ def signals(folder):
         with open(os.open(os.path.join(folder, "pipe"), os.O_RDONLY | os.O_NONBLOCK), "rb", buffering=0) as pipe:
             fcntl.fcntl(pipe, fcntl.F_SETPIPE_SZ, 4096)
             os.set_blocking(pipe.fileno(), True)
-            program_run = subprocess.Popen([program(), "check", "f", "--proof", "pipe"], cwd=folder, stdout=subprocess.PIPE)
+            program_run = subprocess.Popen([program_here(), "check", "f", "--proof", "pipe"], cwd=folder, stdout=subprocess.PIPE)
             first = b""
             while len(first) < 100:
                 first += pipe.read(100 - len(first))

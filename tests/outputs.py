@@ -3,17 +3,10 @@
 nearly do. Each row was worked by hand from docs/language.md, docs/semantics.md and docs/formats.md; the rounds of drawn orders were counted by a
 separate program. What `check` and `verify` decide of larger designs is compared in verdicts.py. The last line is 'N passed, M failed'.
 """
-import os
-import subprocess
-import sys
-import tempfile
+from harness import compare, finish, put, run
 
-TOP = os.path.dirname(os.path.dirname(os.path.abspath(__file__)))
-SECV = os.path.join(TOP, "secv")
 LIMIT = 1048576
-MOST_SECONDS = 60
 END = "endmodule\n"
-passed = failed = 0
 
 GATE = "module m(input a, input b, output y); assign y = a & b; endmodule\n"
 REGISTER = "module m(input clk, input {H} k, output reg {L} r); always @(posedge clk) r <= k; endmodule\n"
@@ -204,32 +197,12 @@ def status_of(words, wanted):
     return 2 if last.startswith("usage ") else 1 if "refused " in wanted else 0
 
 
-def compare(what, got, wanted):
-    global passed, failed
-    if got == wanted:
-        passed += 1
-    else:
-        failed += 1
-        print(f"{what}\n  wanted {wanted!r}"[:600] + f"\n  got    {got!r}"[:600])
-
-
-def run(folder, words, text, stimulus):
-    with open(os.path.join(folder, "f"), "w", encoding="latin-1", newline="") as file:
-        file.write(text)
-    answer = subprocess.run([SECV, *words.split()], cwd=folder, input=stimulus.encode(), stdout=subprocess.PIPE, stderr=subprocess.DEVNULL,
-                            timeout=MOST_SECONDS, check=False)
-    return answer.stdout.decode(), answer.returncode
-
-
-def main():
-    # the first run builds the program, which takes more than a run may
-    subprocess.run([SECV, "--path"], stdout=subprocess.DEVNULL, check=True)
-    with tempfile.TemporaryDirectory() as folder:
-        for words, text, stimulus, wanted in rows():
-            compare(f"secv {words}: {text[:80]!r} {stimulus!r}", run(folder, words, text, stimulus), (wanted, status_of(words, wanted)))
-    print(f"{passed} passed, {failed} failed")
-    sys.exit(1 if failed else 0)
+def answers(folder):
+    for words, text, stimulus, wanted in rows():
+        put(folder, "f", text)
+        answer = run(folder, words, given=stimulus.encode())
+        compare(f"secv {words}: {text[:80]!r} {stimulus!r}", answer, (wanted, status_of(words, wanted)))
 
 
 if __name__ == "__main__":
-    main()
+    finish([answers])

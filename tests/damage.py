@@ -1,4 +1,4 @@
-"""Damage: what a damaged design, stimulus or certificate is answered, worked out beside the program; tools/damage and .ci/hostile.py try it.
+"""Damage: what a damaged design, stimulus or certificate is answered, worked out beside the program; tools/damage and tests/hostile.py try it.
 
 Each byte in turn becomes another one, or is removed or doubled. Of a certificate the answer is worked out here, from docs/formats.md and the clauses that
 `cnf` prints; of a stimulus its first wrong line, how many cycles stand before it, and the lines of those that come before the damage. Of a design the answer
@@ -11,7 +11,7 @@ import re
 import resource
 import subprocess
 
-from harness import STATUS, TOP, compare
+from harness import STATUS, TOP, call, judge, put
 from outputs import COUNTER, COUNTERS, GATE, INVERTERS, REGISTER, TURN, WIRE
 from verdicts import BOTH, CLEARED, COMPLETE, MULTIPLIER, SUMS
 
@@ -40,10 +40,6 @@ BYTES = [b"\0", b"\n", b" ", b"(", b"a", b"9", b"\xff"]
 said = []
 
 
-def judge(what, good, seen):
-    compare(what if good else f"{what}: {seen!r}"[:500], good, True)
-
-
 def damaged(text):
     """Each damage to the text: the place of the byte, what was done, and the new text."""
     for at in range(len(text)):
@@ -62,20 +58,16 @@ class Place:
         self.folder, self.program = folder, program
 
     def put(self, name, text):
-        with open(os.path.join(self.folder, name), "wb") as file:
-            file.write(text if isinstance(text, bytes) else text.encode())
+        put(self.folder, name, text)
 
     def run(self, words, given=b""):
         """What is written, and the status, which is below 0 where it is that of a signal, or where the processor took longer than it may."""
         before = resource.getrusage(resource.RUSAGE_CHILDREN)
-        try:
-            answer = subprocess.run([self.program, *words.split()], cwd=self.folder, input=given, stdout=subprocess.PIPE, stderr=subprocess.DEVNULL,
-                                    timeout=MOST_WAIT, check=False)
-        except subprocess.TimeoutExpired:
-            return b"", -100
+        answer = call(self.folder, words, given, seconds=MOST_WAIT, program=self.program)
         after = resource.getrusage(resource.RUSAGE_CHILDREN)
         took = after.ru_utime + after.ru_stime - before.ru_utime - before.ru_stime
-        return answer.stdout, answer.returncode if took <= MOST_SECONDS else -100
+        in_time = answer.returncode is not None and took <= MOST_SECONDS
+        return answer.stdout, answer.returncode if in_time else -100
 
     def measured(self, words, name):
         """What is written, the status, the seconds of the processor and the megabytes, where the file is the input."""

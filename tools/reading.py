@@ -10,9 +10,14 @@ import re
 import sys
 from functools import cache
 
+sys.dont_write_bytecode = True
 TOP = os.path.dirname(os.path.dirname(os.path.abspath(__file__)))
+sys.path.insert(0, os.path.join(TOP, "tests"))
+
+from harness import end_look
+
 PAGE = os.path.join(TOP, "docs", "reading.md")
-BEGIN, END = "<!-- reading list: made by .ci/reading.py --write -->", "<!-- end of the reading list -->"
+BEGIN, END = "<!-- reading list: made by tools/reading.py --write -->", "<!-- end of the reading list -->"
 
 # What is read, from which function of which file, by which of its clauses (None: by all).
 READINGS = [
@@ -278,13 +283,10 @@ def main():
             with open(PAGE, "w", encoding="utf-8") as file:
                 file.write(made)
         elif made != page:
-            wrong.append("the reading list in docs/reading.md is another one: python3 .ci/reading.py --write puts it right")
+            wrong.append("the reading list in docs/reading.md is another one: python3 tools/reading.py --write puts it right")
     if "--list" in sys.argv[1:]:
         print(table)
-    for line in wrong:
-        print(line)
-    print(f"{passed} passed, {len(wrong)} failed")
-    sys.exit(1 if wrong else 0)
+    end_look(passed, wrong)
 
 
 if __name__ == "__main__":

@@ -10,7 +10,12 @@ import re
 import sys
 from functools import cache
 
-from reading import TOP, cited, crate_order, file_of, spec_path
+sys.dont_write_bytecode = True
+TOP = os.path.dirname(os.path.dirname(os.path.abspath(__file__)))
+sys.path.insert(0, os.path.join(TOP, "tests"))
+
+from harness import end_look
+from reading import cited, crate_order, file_of, spec_path
 
 PAGES = os.path.join(TOP, "docs", "promises")
 MOST_BYTES = 20000
@@ -396,7 +401,7 @@ def page(title, crates, wrong, met):
     return "\n".join(lines).rstrip("\n") + "\n", count
 
 
-HEAD = """Made from the contracts by `.ci/promises.py --write`; [README.md](README.md) says how to read it."""
+HEAD = """Made from the contracts by `tools/promises.py --write`; [README.md](README.md) says how to read it."""
 
 
 def written(path):
@@ -423,14 +428,11 @@ def main():
             with open(path, "w", encoding="utf-8") as file:
                 file.write(made)
         if written(path) != made:
-            wrong.append(f"docs/promises/{name}.md is another one: python3 .ci/promises.py --write puts it right")
+            wrong.append(f"docs/promises/{name}.md is another one: python3 tools/promises.py --write puts it right")
         if len(made.encode()) > MOST_BYTES:
             wrong.append(f"docs/promises/{name}.md has {len(made.encode())} bytes: it is to be cut")
     wrong += [f"{crate}: {title}: a clause says {what} now" for crate, title, what in sorted(OPEN.keys() - met)]
-    for line in wrong:
-        print(line)
-    print(f"{passed} passed, {len(wrong)} failed")
-    sys.exit(1 if wrong else 0)
+    end_look(passed, wrong)
 
 
 if __name__ == "__main__":

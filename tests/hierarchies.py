@@ -4,19 +4,15 @@ it, modules nested and chained, and a hierarchy whose whole size no machine coul
 a latch and without one; and encodings at the limit of variables, of the longest chain of `else`, and of as many labels as fit; all but two chains
 with 1 MB of stack. Each wanted line, with the number of obligations where nothing is broken, is worked out here from docs/language.md. The last line is 'N passed, M failed'.
 """
-import os
 import resource
 import subprocess
-import sys
-import tempfile
 
-TOP = os.path.dirname(os.path.dirname(os.path.abspath(__file__)))
-SECV = os.path.join(TOP, "secv")
+from harness import SECV, compare, finish, limits, put, run
+
 MOST_SECONDS = 10
 MOST_MEGABYTES = 256
 # Of a stack: less than most systems give a program, and what most give, which a chain of `else` through 64 levels of cases needs.
 LITTLE_STACK, STACK = 1024, 8192
-passed = failed = 0
 
 
 def processor_seconds():
@@ -30,25 +26,17 @@ def accepted(count):
 
 
 def check(what, text, wanted, folder, words=(), stack=LITTLE_STACK):
-    """The program's line for the text, and whether it is the wanted one, in little processor time and memory, with so many KB of stack."""
-    global passed, failed
-    path = os.path.join(folder, "text.v")
-    with open(path, "w", encoding="ascii") as file:
-        file.write(text)
-    limit = f"ulimit -S -s {stack}; ulimit -v {MOST_MEGABYTES * 1024}; exec \"$@\""
+    """Whether the program's line for the text is the wanted one, in little processor time and memory, with so many KB of stack."""
+    put(folder, "text.v", text)
     before = processor_seconds()
-    try:
-        answer = subprocess.run(["sh", "-c", limit, "sh", SECV, "check", path, *words], stdin=subprocess.DEVNULL, stdout=subprocess.PIPE,
-                                stderr=subprocess.DEVNULL, timeout=10 * MOST_SECONDS, check=False)
-        got = answer.stdout, answer.returncode
-    except subprocess.TimeoutExpired:
-        got = b"nothing so far", None
+    answer = run(folder, ["check", "text.v", *words], bounds=limits(MOST_MEGABYTES, stack), seconds=10 * MOST_SECONDS)
+    compare(what, (*answer, late(before)), (f"{wanted}\n", 1 if wanted.startswith("refused ") else 0, ""))
+
+
+def late(before):
+    """What is said of a run that began when so much of the processor was used, where it took more than it may."""
     took = processor_seconds() - before
-    if got == ((wanted + "\n").encode(), 1 if wanted.startswith("refused ") else 0) and took < MOST_SECONDS:
-        passed += 1
-    else:
-        failed += 1
-        print(f"{what}\n  wanted {wanted}\n  got    {got[0]!r}, status {got[1]}, after {took:.1f} s of the processor")
+    return "" if took < MOST_SECONDS else f"after {took:.1f} s of the processor"
 
 
 def signals(folder):
@@ -166,49 +154,33 @@ def statements(folder):
 
 
 def clauses(what, text, wanted, folder, number=1):
-    """The first line of an obligation's clauses, and whether it is the wanted one and as many lines follow as it tells, in little processor time. Returns
-    where the text stands."""
-    global passed, failed
-    path = os.path.join(folder, "text.v")
-    with open(path, "w", encoding="ascii") as file:
-        file.write(text)
+    """Whether the first line of an obligation's clauses is the wanted one and as many lines follow as it tells, in little processor time."""
+    path = put(folder, "text.v", text)
     before = processor_seconds()
     with subprocess.Popen([SECV, "cnf", path, str(number)], stdin=subprocess.DEVNULL, stdout=subprocess.PIPE, stderr=subprocess.DEVNULL) as program:
         first = program.stdout.readline().decode()
         rest = sum(piece.count(b"\n") for piece in iter(lambda: program.stdout.read(1 << 20), b""))
-    took = processor_seconds() - before
     told = int(first.split()[3]) if first.startswith("p cnf ") else 0
-    if first.startswith(wanted) and rest == told and program.returncode == (0 if told else 1) and took < MOST_SECONDS:
-        passed += 1
-    else:
-        failed += 1
-        print(f"{what}\n  wanted {wanted!r}\n  got    {first!r}, {rest} lines after it, status {program.returncode}, after {took:.1f} s of the processor")
-    return path
+    got = first[:len(wanted)], rest, program.returncode, late(before)
+    compare(f"{what}: {first!r}", got, (wanted, told, 0 if told else 1, ""))
 
 
 def encodings(folder):
     """The clauses of an obligation with 4,194,304 variables, and those of one with one more: 1 that is true, 64 bits of `a`, 22,240 gates for each
     of 188 products of 64 bits (64 * 65 / 2 for the rows, 5 * 64 for each of 63 sums), 64 for each of 204 words by `^`, one for each of 62 or 63
     bits by `^`, and one for the label of `h`, which does not flow to that of `y`."""
-    global passed, failed
     assert 1 + 64 + 188 * (64 * 65 // 2 + 63 * 5 * 64) + 204 * 64 + 62 + 1 == 4194304
     words = [f"  wire [63:0] p{i} = " + ("a" if i == 0 else f"p{i - 1} * p{i - 1}" if i <= 188 else f"p{i - 1} ^ a") + ";\n" for i in range(393)]
     for bits, wanted in ((62, "p cnf 4194304 "), (63, "refused 709 encoding 1\n")):
         lines = [f"  wire x{i} = " + ("p392[0]" if i == 0 else f"x{i - 1} ^ a[0]") + ";\n" for i in range(bits + 1)]
         text = ("module m(output reg y, input [63:0] a, input {H} h);\n" + "".join(words + lines) + f"  always @* if (x{bits}) y = h; else y = 0;\nendmodule\n")
-        path = clauses(f"{bits} bits by ^", text, wanted, folder)
+        clauses(f"{bits} bits by ^", text, wanted, folder)
     # `check` and `verify` make the clauses of no such obligation either: two of `y`, and one for each wire; the certificate is one by its text alone
-    proof = os.path.join(folder, "proof")
     count = 2 + len(words) + len(lines)
-    with open(proof, "w", encoding="ascii") as file:
-        file.write(f"secv-proof 1\nobligations {count}\n" + "".join(f"o {number} 1\n0 1 0\n" for number in range(1, count + 1)) + "end\n")
-    for asked in (["check", path], ["verify", path, proof]):
-        answer = subprocess.run([SECV, *asked], stdin=subprocess.DEVNULL, stdout=subprocess.PIPE, stderr=subprocess.DEVNULL, timeout=100, check=False)
-        if (answer.stdout, answer.returncode) == (b"refused 709 encoding 1\n", 1):
-            passed += 1
-        else:
-            failed += 1
-            print(f"{asked[0]} of too large an encoding\n  got    {answer.stdout!r}, status {answer.returncode}")
+    logs = "".join(f"o {number} 1\n0 1 0\n" for number in range(1, count + 1))
+    put(folder, "proof", f"secv-proof 1\nobligations {count}\n{logs}end\n")
+    for asked in ("check text.v", "verify text.v proof"):
+        compare(f"{asked} of too large an encoding", run(folder, asked, seconds=100), ("refused 709 encoding 1\n", 1))
 
 
 def nested_cases(sizes):
@@ -263,14 +235,5 @@ def reads(folder):
         check(what, reads_of(counts, "H"), "refused 709 encoding 1", folder)
 
 
-def main():
-    # the first run builds the program, which takes more than a run may
-    subprocess.run([SECV, "--path"], stdout=subprocess.DEVNULL, check=True)
-    with tempfile.TemporaryDirectory() as folder:
-        for group in (signals, instances, astronomical, labels, nest, statements, encodings, chains, reads):
-            group(folder)
-    print(f"{passed} passed, {failed} failed")
-    sys.exit(1 if failed else 0)
-
-
-main()
+if __name__ == "__main__":
+    finish([signals, instances, astronomical, labels, nest, statements, encodings, chains, reads])

@@ -8,7 +8,12 @@ import os
 import re
 import sys
 
+sys.dont_write_bytecode = True
 TOP = os.path.dirname(os.path.dirname(os.path.abspath(__file__)))
+sys.path.insert(0, os.path.join(TOP, "tests"))
+
+from harness import end_look
+
 SLOW = "must-fail-slow"
 MOST_TRIED = 30
 
@@ -146,11 +151,8 @@ def main():
         print(since(TOP, [it for it in known if it in slow], record))
     except ValueError as line:
         told.append(f"{SLOW}/record has a line that is none of a record: {line}")
-    for fault in filter(None, told):
-        print(fault)
-    failed = sum(it is not None for it in told)
-    print(f"{len(told) - failed} passed, {failed} failed")
-    sys.exit(1 if failed else 0)
+    faults = [it for it in told if it is not None]
+    end_look(len(told) - len(faults), faults)
 
 
 if __name__ == "__main__":

@@ -4,18 +4,17 @@ not, two first builds at once, a build that is stopped or fails, a kit or a tool
 the program of release/ is used and when not, and tools/release, which makes it. The last line is 'N passed, M failed'.
 """
 import gzip
+import hashlib
 import os
 import re
 import shutil
 import signal
 import subprocess
-import sys
-import tempfile
 import time
 
-TOP = os.path.dirname(os.path.dirname(os.path.abspath(__file__)))
+from harness import MOST_SECONDS, TOP, compare, end, in_folders, printed
+
 NOBODY = 65534
-MOST_SECONDS = 60
 BUILDING = "secv: building, once: every function is proved to meet its contract before the program is made, which takes up to an hour\n"
 STOPPED = "secv: the build was stopped; what it has proved is kept\n"
 RELEASED = "secv: this is the program of release/, made from commit {}; 'rt ci' or './secv --build' proves and builds it again\n"
@@ -51,22 +50,13 @@ note: src/lib.rt:9:16: it is not proved that the product fits its type; values a
 fn low::f: no proof: expected answers in ./proofs/f/Answers.antt
 help: write ./proofs/f/Answers.antt
 """
-passed = failed = 0
-
-
-def compare(what, got, wanted):
-    global passed, failed
-    if got == wanted:
-        passed += 1
-        return
-    failed += 1
-    print(f"{what}\n  wanted {wanted!r}\n  got    {got!r}")
 
 
 class Checkout:
     """A checkout of the launcher and four crates, of which the program stands on three, and the stand-in."""
 
     def __init__(self, folder):
+        os.chmod(folder, 0o755)
         self.top, self.kit = os.path.join(folder, "a checkout"), os.path.join(folder, "kit")
         for crate in ("low", "other", "sv_cli", "secv"):
             os.makedirs(os.path.join(self.top, "crates", crate, "src"))
@@ -74,9 +64,8 @@ class Checkout:
         self.write("crates/secv/src/main.rt", MAIN)
         self.write("crates.txt", "# crates, lowest first\nlow: thiserror\nother: low\nsv_cli: low\nsecv: low sv_cli\n")
         shutil.copy(os.path.join(TOP, "secv"), self.top)
-        shutil.copytree(os.path.join(TOP, "tools"), os.path.join(self.top, "tools"))
-        os.mkdir(os.path.join(self.top, ".ci"))
-        shutil.copy(os.path.join(TOP, ".ci", "release.py"), os.path.join(self.top, ".ci"))
+        for name in ("tools", "tests"):
+            shutil.copytree(os.path.join(TOP, name), os.path.join(self.top, name), ignore=shutil.ignore_patterns("__pycache__"))
         os.mkdir(self.kit)
         self.of_kit("rattle-kit")
         with open(os.path.join(self.kit, "rt"), "w", encoding="ascii") as file:
@@ -316,8 +305,7 @@ def not_writable(at):
 
 def git(at, *words):
     """What git prints in the checkout."""
-    words = ["git", "-c", "user.name=a", "-c", "user.email=a@b", *words]
-    return subprocess.run(words, cwd=at.top, stdout=subprocess.PIPE, stderr=subprocess.DEVNULL, text=True, check=True).stdout.strip()
+    return printed("git", "-c", "user.name=a", "-c", "user.email=a@b", *words, cwd=at.top, stderr=subprocess.DEVNULL).strip()
 
 
 def out_of(at, *name):
@@ -329,8 +317,7 @@ def gate(at):
     at.run("--build")
     at.calls()
     here = 'top=$1; . "$1/tools/sources.sh"; stamp_of "$(sum_of_sources)" "$(kit_here)" "$1/crates/secv/out/secv"'
-    told = subprocess.run(["sh", "-c", here, "sh", at.top], stdout=subprocess.PIPE, text=True, check=True,
-                          env={**os.environ, "KIT": at.kit, "PATH": f"{at.kit}:{os.environ['PATH']}"}).stdout
+    told = printed("sh", "-c", here, "sh", at.top, env={**os.environ, "KIT": at.kit, "PATH": f"{at.kit}:{os.environ['PATH']}"})
     at.write("crates/secv/out/passed", told)
 
 
@@ -410,7 +397,7 @@ def not_released(at):
     about = os.path.join(at.top, "release", "ABOUT")
     with open(about, encoding="ascii") as file:
         text = file.read()
-    other = subprocess.run(["sha256sum"], input=b"#!/nowhere/sh\n", stdout=subprocess.PIPE, check=True).stdout.split()[0].decode()
+    other = hashlib.sha256(b"#!/nowhere/sh\n").hexdigest()
     at.write("release/ABOUT", re.sub("(?m)^sha256: .*$", f"sha256: {other}", text))
     anew("a program that does not run here", ("made of one: a\n", NO_RUN + BUILDING, 3))
     said = f"{BUILDING}secv: built {out_of(at, 'secv')}; its bytes are NOT those of release/, which is of the same sources and the same kit\n"
@@ -464,11 +451,11 @@ def looks(at):
     renew = "run tools/release, commit release/, and run .ci/run again\n"
 
     def look(what, passes, fails):
-        out, _, status = at.run(tool=".ci/release.py")
+        out, _, status = at.run(tool="tools/release.py")
         wanted = (f"{passes} passed, {fails} failed", not fails or f"release/ has to be renewed: {renew}" in out, 1 if fails else 0)
         compare(f"the look at {what}", (out.splitlines()[-1], not fails or f"release/ has to be renewed: {renew}" in out, status), wanted)
 
-    compare("the look at no release/", at.run(tool=".ci/release.py"), (f"there is no release/ of the program: {renew}0 passed, 1 failed\n", "", 1))
+    compare("the look at no release/", at.run(tool="tools/release.py"), (f"there is no release/ of the program: {renew}0 passed, 1 failed\n", "", 1))
     release(at)
     gate(at)
     look("one of the same", 6, 0)
@@ -543,13 +530,11 @@ def main():
         if signal.getsignal(number) == signal.SIG_IGN:
             signal.signal(number, lambda *_: None)
     signal.pthread_sigmask(signal.SIG_SETMASK, [])
-    for group in (builds, replaced, at_once, stopped, fails, without_a_kit, without_a_tool, not_writable, released, not_released, makes_release, looks, texts,
-                  in_own_place):
-        with tempfile.TemporaryDirectory() as folder:
-            os.chmod(folder, 0o755)
-            group(Checkout(folder))
-    print(f"{passed} passed, {failed} failed")
-    sys.exit(1 if failed else 0)
+    groups = (builds, replaced, at_once, stopped, fails, without_a_kit, without_a_tool, not_writable, released, not_released, makes_release, looks, texts,
+              in_own_place)
+    in_folders(lambda folder, group=group: group(Checkout(folder)) for group in groups)
+    end()
 
 
-main()
+if __name__ == "__main__":
+    main()

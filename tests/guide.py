@@ -12,7 +12,7 @@ import re
 import shutil
 import subprocess
 
-from harness import MOST_SECONDS, TOP, compare, finish, leave_out, put, run
+from harness import MOST_SECONDS, TOP, compare, finish, leave_out, put, run, told
 
 DESIGN = "dma.v"  # that of the five steps
 MOST_BYTES, MOST_COLUMNS = 20000, 120
@@ -230,9 +230,9 @@ def editors(folder):
     compare("the parts of the matcher", [pattern[part] for part in ("file", "line", "column", "message")], [1, 2, 3, 4])
     for name in ("text.v", "a b.v"):
         put(folder, name, "module m;\n  initial ;\nendmodule\n")
-        line = subprocess.run([os.path.join(TOP, "secv"), "check", name], cwd=folder, stdout=subprocess.DEVNULL, stderr=subprocess.PIPE, check=False).stderr
+        line = told(folder, ["check", name])[1]
         for form in (vim, pattern["regexp"]):
-            found = [re.fullmatch(form, shown) for shown in line.decode().splitlines()]
+            found = [re.fullmatch(form, shown) for shown in line.splitlines()]
             compare(f"{form} in {line}", [match and match.groups() for match in found], [(name, "2", "3", INITIAL), None, None])
 
 
@@ -255,7 +255,7 @@ def pages(_):
         prose = re.sub(r"^```.*?^```$", "", text, flags=re.M | re.S)
         lines = [line for line in prose.splitlines() if len(line) > MOST_COLUMNS and not line.startswith("|")]
         compare(f"its lines are short: {page}", lines, [])
-        for name in sorted(set(re.findall(r"`((?:docs|examples|bench|tools|crates|sv_\w+|\.ci)/[\w./-]+\.[a-z0-9]+)`", text))):
+        for name in sorted(set(re.findall(r"`((?:docs|examples|bench|tests|tools|crates|sv_\w+)/[\w./-]+\.[a-z0-9]+)`", text))):
             compare(f"{page}: {name} is there", any(os.path.exists(os.path.join(TOP, folder, name)) for folder in (".", "crates")), True)
         for name in sorted(set(re.findall(r"\]\(([^()#:]+)\)", prose))):
             compare(f"{page}: {name} is there", os.path.exists(os.path.join(TOP, os.path.dirname(page), name)), True)

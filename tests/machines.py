@@ -1,7 +1,7 @@
 #!/usr/bin/env python3
 """Compares whole outputs and statuses of `./secv check --json` and `./secv gen`. Each object that is printed is held to docs/verdict.schema.json by a
 small validator here, which is tried on wrong objects first; its keys stand in byte order and no blank stands in it. The wanted objects are those of the
-verdicts that .ci/verdicts.py wants as texts, and others that were worked by hand from docs/formats.md; the sample is written out here. The last line is
+verdicts that tests/verdicts.py wants as texts, and others that were worked by hand from docs/formats.md; the sample is written out here. The last line is
 'N passed, M failed'.
 """
 import json

@@ -8,13 +8,9 @@ import itertools
 import os
 import re
 import subprocess
-import sys
-import tempfile
 
-from harness import explained
+from harness import SECV, STATUS, TOP, call, compare, documented, explained, finish, put
 
-TOP = os.path.dirname(os.path.dirname(os.path.abspath(__file__)))
-SECV = os.path.join(TOP, "secv")
 # Texts that break a rule on tokens or on the grammar, as docs/language.md shows them.
 SYNTAX = [(b"module m; \x80", b"refused 101 bad-byte 1:11\n"), (b"8'q1", b"refused 101 bad-byte 1:2\n"), (b"a $ b", b"refused 101 bad-byte 1:3\n"),
           (b"4294967296", b"refused 102 bad-number 1:1\n"), (b"12a", b"refused 102 bad-number 1:1\n"), (b"65'h0", b"refused 102 bad-number 1:1\n"),
@@ -188,99 +184,85 @@ LISTS = [("module m(output y); endmodule", [], "refused 604 undriven 1:17 y\n"),
          (SELECTED, [], "1 y now =4:10 reads d\n2 d now selector reads q\n"),
          (SELECTED.replace("{Dom(p)} q", "{H} q"), [], "1 y now =4:10 reads d\n2 d now selector reads q\n"),
          (SELECTED.replace("{Dom(p)} q", "q"), [], "1 y now =4:10 reads d\n")]
-STATUS = {"accepted": 0, "refused": 1, "differ": 1, "usage": 2, "unknown": 3}
 # Lines of values that are 0, one behind the other.
 ZEROS = re.compile(rb"(?:^(?:reg|in|next) \S+ 0\n)+", re.M)
-passed = failed = 0
 
 
-def run(words, stdout=subprocess.PIPE, before=None, given=b"", folder=TOP):
-    return subprocess.run([SECV, *words], cwd=folder, input=given, stdout=stdout, stderr=subprocess.PIPE, preexec_fn=before)
+def ended(answer):
+    """What was written, and the status."""
+    return answer.stdout, answer.returncode
 
 
-def compare(what, got, wanted):
-    global passed, failed
-    if got == wanted:
-        passed += 1
-        return
-    failed += 1
-    print(f"{what}\n  wanted {wanted!r}\n  got    {got!r}")
-
-
-def shown_of(path, answer, place=None):
+def shown_of(folder, name, answer, place=None):
     """What is to be said of what was printed of the text in a file; nothing of a list."""
     told = answer.stdout.decode().split()
     if told[:1] != ["refused"]:
         return ""
-    with open(path, "rb") as file:
-        return explained(path, place or told[3], file.read(), answer.stderr.decode())
+    return explained(name, place or told[3], read(folder, name), answer.stderr.decode())
 
 
 def status_of(text):
+    """The status that goes with what is written."""
     return STATUS.get(text.split(b" ")[0].strip().decode(), 0)
 
 
-def examples():
-    folder = os.path.join(TOP, "examples")
-    for name in sorted(os.listdir(folder)):
-        if name.endswith(".v"):
-            with open(os.path.join(folder, name[:-2] + ".out"), "rb") as file:
-                wanted = file.read()
-            answer = run(["check", os.path.join("examples", name)])
-            compare(f"secv check examples/{name}", (answer.stdout, answer.returncode), (wanted, status_of(wanted)))
-        elif name.endswith(".list"):
-            with open(os.path.join(folder, name), "rb") as file:
-                wanted = file.read()
-            answer = run(["list", os.path.join("examples", name[:-5] + ".v")])
-            compare(f"secv list examples/{name[:-5]}.v", (answer.stdout, answer.returncode), (wanted, 0))
+def read(*path):
+    with open(os.path.join(*path), "rb") as file:
+        return file.read()
 
 
-def shown_in_readme():
+def examples(_):
+    for name in sorted(os.listdir(os.path.join(TOP, "examples"))):
+        design, _, ending = name.rpartition(".")
+        if ending == "v":
+            wanted = read(TOP, "examples", f"{design}.out")
+            answer = call(TOP, ["check", f"examples/{name}"])
+            compare(f"secv check examples/{name}", ended(answer), (wanted, status_of(wanted)))
+        elif ending == "list":
+            answer = call(TOP, ["list", f"examples/{design}.v"])
+            compare(f"secv list examples/{design}.v", ended(answer), (read(TOP, "examples", name), 0))
+
+
+def shown_in_readme(folder):
     """The commands of README's console blocks: a line '$ ./secv WORDS', and the lines up to the next one or the block's end, which stand on standard output
-    and then on standard error; `...` stands for values that are 0. No other line begins with '$ ', and the table has the words of every command."""
-    with open(os.path.join(TOP, "README.md"), encoding="utf-8") as file:
-        text = file.read()
-    shown = 0
-    with tempfile.TemporaryDirectory() as here:
-        # where a certificate may be stored
-        os.symlink(os.path.join(TOP, "examples"), os.path.join(here, "examples"))
-        for block in re.findall(r"^```console\n(.*?)^```$", text, re.M | re.S):
-            for words, wanted in re.findall(r"^\$ \./secv ([^\n]*)\n((?:[^$\n][^\n]*\n)*)", block, re.M):
-                answer = run(words.split(), folder=here)
-                told = answer.stdout + answer.stderr
-                if "\n...\n" in wanted:
-                    told = ZEROS.sub(b"...\n", told)
-                compare(f"README: secv {words}", (told, answer.returncode), (wanted.encode(), status_of(wanted.encode())))
-                shown += 1
-        path = os.path.join(here, "text.v")
-        for design, rule in NOT_BUILT:
-            with open(path, "w", encoding="ascii") as file:
-                file.write(design)
-            compare(f"README tells of {design}", (run(["check", path]).stdout.startswith(f"refused {rule} ".encode()), f"`{rule}`" in text), (True, True))
-    compare("README shows commands, and all were run", (shown > 0, len(re.findall(r"^\$ ", text, re.M))), (True, shown))
+    and then on standard error; `...` stands for values that are 0. No other line begins with '$ '."""
+    text = read(TOP, "README.md").decode()
+    # where a certificate may be stored
+    os.symlink(os.path.join(TOP, "examples"), os.path.join(folder, "examples"))
+    blocks = re.findall(r"^```console\n(.*?)^```$", text, re.M | re.S)
+    commands = [shown for block in blocks for shown in re.findall(r"^\$ \./secv ([^\n]*)\n((?:[^$\n][^\n]*\n)*)", block, re.M)]
+    for words, wanted in commands:
+        answer = call(folder, words)
+        told = answer.stdout + answer.stderr
+        if "\n...\n" in wanted:
+            told = ZEROS.sub(b"...\n", told)
+        compare(f"README: secv {words}", (told, answer.returncode), (wanted.encode(), status_of(wanted.encode())))
+    compare("README shows commands, and all were run", (commands != [], len(re.findall(r"^\$ ", text, re.M))), (True, len(commands)))
+
+
+def told_in_readme(folder):
+    """What README says is not built, its table with the words of every command, its designs, and the kit that it names."""
+    text = read(TOP, "README.md").decode()
+    for design, rule in NOT_BUILT:
+        put(folder, "text.v", design)
+        told = call(folder, "check text.v").stdout
+        compare(f"README tells of {design}", (told.startswith(f"refused {rule} ".encode()), f"`{rule}`" in text), (True, True))
     table = set(re.findall(r"^\| `secv ([a-z]+) ([^`]*)` \|", text, re.M))
     compare("README has the words of each command", table, {(word, words.removesuffix(" [--top MODULE]")) for word, words in WORDS.items()})
-    folder = os.path.join(TOP, "examples")
-    designs = set()
-    for name in os.listdir(folder):
-        if name.endswith(".v"):
-            with open(os.path.join(folder, name), encoding="utf-8") as file:
-                designs.add(file.read())
+    designs = {read(TOP, "examples", name).decode() for name in os.listdir(os.path.join(TOP, "examples")) if name.endswith(".v")}
     for block in re.findall(r"^```verilog\n(.*?)^```$", text, re.M | re.S):
         compare(f"README shows a design of examples/, or lines of one: {block[:60]}", any(f"\n{block}" in f"\n{design}" for design in designs), True)
     kit = subprocess.run(["rt", "version"], stdout=subprocess.PIPE, check=False).stdout.decode().strip()
     compare("README names the kit", f"prints `{kit}`" in text.replace("\n", " "), True)
 
 
-def words_and_faults():
-    for word in ("--help", "-h"):
-        answer = run([word])
-        compare(word, (answer.stdout, answer.stderr, answer.returncode), (HELP, b"", 0))
-    version = run(["--version"])
-    compare("--version", (version.stdout, version.stderr, version.returncode), (b"secv 0.1.0\n", b"", 0))
-    for word, text in HELPS.items():
-        answer = run([word, "--help"])
-        compare(f"{word} --help", (answer.stdout, answer.stderr, answer.returncode), (text, b"", 0))
+def help_texts(folder):
+    for words, text in [("--help", HELP), ("-h", HELP), ("--version", b"secv 0.1.0\n"), *((f"{word} --help", text) for word, text in HELPS.items())]:
+        answer = call(folder, words)
+        compare(words, (*ended(answer), answer.stderr), (text, 0, b""))
+
+
+def wrong_words(folder):
     for words, kind, said in [([], "no-command", "no command is given" + USAGE),
                               (["chekc", "f"], "unknown-command", "there is no command chekc; `secv --help` shows all"),
                               (["a\x1b[2Jb\n"], "unknown-command", "there is no command a\\u{1b}[2Jb\\n; `secv --help` shows all"),
@@ -290,57 +272,68 @@ def words_and_faults():
                               (["-h", "-h"], "unknown-command", "there is no command -h; `secv --help` shows all"),
                               *((words, "words", f"`{words[0]}` does not take these words; usage: secv {words[0]} {WORDS[words[0]]} (`secv {words[0]} --help` says more)")
                                 for words in WRONG), ([b"\xff"], "words", "an argument is not UTF-8" + USAGE)]:
-        answer = run(words)
-        compare(f"words {words}", (answer.stdout, answer.returncode), (f"usage {kind}\n".encode(), 2))
+        answer = call(folder, words)
+        compare(f"words {words}", ended(answer), (f"usage {kind}\n".encode(), 2))
         compare(f"words {words} are explained", answer.stderr.decode(), f"secv: {said}\n")
-    with tempfile.TemporaryDirectory() as folder:
-        for name, path, cause in [("a missing file", os.path.join(folder, "none.v"), "No such file or directory (os error 2)"),
-                                  ("a directory", folder, "Is a directory (os error 21)")]:
-            for words in (["check", "?"], *COMPARED):
-                answer = run([path if word == "?" else word for word in words])
-                compare(f"{name}, {words}", (answer.stdout, answer.returncode), (b"", 4))
-                compare(f"{name} is explained, {words}", answer.stderr.decode(), f"secv: {path}: {cause}\n")
-        for name, escaped in [("no\nne.v", "no\\nne.v"), ("no\x1b[2Jne\r\x7f.v", "no\\u{1b}[2Jne\\r\\u{7f}.v")]:
-            for words in (["check", "?"], *COMPARED):
-                answer = run([os.path.join(folder, name) if word == "?" else word for word in words])
-                compare(f"a name with control characters is escaped, {words}", answer.stderr.decode(),
-                        f"secv: {folder}/{escaped}: No such file or directory (os error 2)\n")
-            with open(os.path.join(folder, name), "wb"):
-                pass
-            answer = run(["check", os.path.join(folder, name)])
-            compare("so it is of a broken rule", answer.stderr.decode(), f"{folder}/{escaped}:1:1: there is no module in this text\n")
-        other = os.path.join(folder, "other.v")
-        with open(other, "w", encoding="ascii") as file:
-            file.write("module m(input a, output y); invariant a; assign y = a; endmodule\n")
-        for words in (["check", other], ["verify", other, "none"], ["list", other], ["cnf", other, "1"], ["sim", other],
-                      ["compare", other, "none", "none", "--level", "L"]):
-            answer = run(words)
-            compare(f"an invariant, {words[0]}", (answer.stdout, answer.returncode), (b"refused 199 not-built 1:1\n", 1))
-            compare(f"it is explained, {words[0]}", answer.stderr.decode(), shown_of(other, answer, "1:40"))
-        for text, wanted in SYNTAX:
-            with open(other, "wb") as file:
-                file.write(text)
-            answer = run(["check", other])
-            compare(f"a text {text!r}", (answer.stdout, answer.returncode), (wanted, 1))
-            compare(f"it is explained, {text!r}", answer.stderr.decode(), shown_of(other, answer))
-    for words in (["check", "examples/and.v"], ["--help"], ["-h"]):
+
+
+def asked_of(path):
+    """The answers to words that name this file, each with its words."""
+    for words in (["check", "?"], *COMPARED):
+        yield words, call(TOP, [path if word == "?" else word for word in words])
+
+
+def wrong_files(folder):
+    for name, path, cause in [("a missing file", os.path.join(folder, "none.v"), "No such file or directory (os error 2)"),
+                              ("a directory", folder, "Is a directory (os error 21)")]:
+        for words, answer in asked_of(path):
+            compare(f"{name}, {words}", ended(answer), (b"", 4))
+            compare(f"{name} is explained, {words}", answer.stderr.decode(), f"secv: {path}: {cause}\n")
+
+
+def odd_names(folder):
+    """A name that would move a terminal's cursor is escaped, where there is no such file and where its text breaks a rule."""
+    for name, escaped in [("no\nne.v", "no\\nne.v"), ("no\x1b[2Jne\r\x7f.v", "no\\u{1b}[2Jne\\r\\u{7f}.v")]:
+        for words, answer in asked_of(os.path.join(folder, name)):
+            said = f"secv: {folder}/{escaped}: No such file or directory (os error 2)\n"
+            compare(f"a name with control characters is escaped, {words}", answer.stderr.decode(), said)
+        put(folder, name, "")
+        answer = call(folder, ["check", name])
+        compare("so it is of a broken rule", answer.stderr.decode(), f"{escaped}:1:1: there is no module in this text\n")
+
+
+def wrong_texts(folder):
+    put(folder, "text.v", "module m(input a, output y); invariant a; assign y = a; endmodule\n")
+    for words in ("check text.v", "verify text.v none", "list text.v", "cnf text.v 1", "sim text.v", "compare text.v none none --level L"):
+        answer = call(folder, words)
+        compare(f"an invariant, {words}", ended(answer), (b"refused 199 not-built 1:1\n", 1))
+        compare(f"it is explained, {words}", answer.stderr.decode(), shown_of(folder, "text.v", answer, "1:40"))
+    for text, wanted in SYNTAX:
+        put(folder, "text.v", text)
+        answer = call(folder, "check text.v")
+        compare(f"a text {text!r}", ended(answer), (wanted, 1))
+        compare(f"it is explained, {text!r}", answer.stderr.decode(), shown_of(folder, "text.v", answer))
+
+
+def failing_outputs(_):
+    for words in ("check examples/and.v", "--help", "-h"):
         with open("/dev/full", "wb") as full:
-            answer = run(words, stdout=full)
+            answer = call(TOP, words, stdout=full)
         compare(f"a full device, {words}", answer.returncode, 5)
         compare(f"a full device is explained, {words}", answer.stderr.decode(), FULL)
-        answer = run(words, stdout=None, before=lambda: os.close(1))
+        answer = call(TOP, words, stdout=None, preexec_fn=lambda: os.close(1))
         compare(f"a closed output, {words}", answer.returncode, 5)
         compare(f"a closed output is explained, {words}", answer.stderr.decode(), CLOSED)
+
+
+def failing_errors(_):
     for words, wanted in [(["check", "examples/leak.v"], (b"refused flow 1 y from k\nin k 0\n", 1)), (["check"], (b"usage words\n", 2)),
                           (["check", "examples/unknown_value.v"], (b"refused 104 unsupported 3:34 four-state\n", 1)),
                           (["check", "none.v"], (b"", 4)), ([b"\xff"], (b"usage words\n", 2)), (["sim", "examples/owner.v"], (b"refused stimulus input 1 header\n", 1))]:
-        answer = subprocess.run([SECV, *words], cwd=TOP, input=b"", stdout=subprocess.PIPE, stderr=None, preexec_fn=lambda: os.close(2))
-        compare(f"a closed standard error, {words}", (answer.stdout, answer.returncode), wanted)
+        compare(f"a closed standard error, {words}", ended(call(TOP, words, stderr=None, preexec_fn=lambda: os.close(2))), wanted)
         with open("/dev/full", "wb") as full:
-            answer = subprocess.run([SECV, *words], cwd=TOP, input=b"", stdout=subprocess.PIPE, stderr=full)
-            compare(f"a full standard error, {words}", (answer.stdout, answer.returncode), wanted)
-            answer = subprocess.run([SECV, *words], cwd=TOP, input=b"", stdout=full, stderr=full)
-            compare(f"both full, {words}", answer.returncode, 5 if wanted[0] else wanted[1])
+            compare(f"a full standard error, {words}", ended(call(TOP, words, stderr=full)), wanted)
+            compare(f"both full, {words}", call(TOP, words, stdout=full, stderr=full).returncode, 5 if wanted[0] else wanted[1])
 
 
 def compare_lines(what, answer, lines):
@@ -419,61 +412,60 @@ def lines_of_targets(text):
     return [f"{name} next{way} {how}" for name, ways in paths.items() for way, how in ways] + wires
 
 
-def lists():
-    with tempfile.TemporaryDirectory() as folder:
-        path = os.path.join(folder, "text.v")
-        for text, option, wanted in [*LISTS, (text_of_targets(17), [], "refused 703 obligations\n"),
-                                     (with_selector(text_of_targets(16)), [], "refused 703 obligations\n"), (nested("c ? 1 : 0"), [], "refused 702 paths y\n")]:
-            with open(path, "w", encoding="ascii") as file:
-                file.write(text)
-            answer = run(["list", *option, path])
-            compare(f"list {option} {text[:60]}", (answer.stdout.decode(), answer.returncode), (wanted, status_of(wanted.encode())))
-            if wanted.startswith("refused 199 "):
-                compare("it is explained", answer.stderr.decode(), shown_of(path, answer, "1:40"))
-            elif ":" in wanted or not status_of(wanted.encode()):
-                compare("it is explained", answer.stderr.decode(), shown_of(path, answer))
-        for what, text, lines_of, count in [("65,536 obligations", text_of_targets(16), lines_of_targets, 65536),
-                                            ("4,096 paths", MANY.replace("t[15] ? 1 : 0", "0"), lines_of_many, 4096),
-                                            ("4,096 paths of a case of cases", nested("c"), lines_of_nested, 4096)]:
-            with open(path, "w", encoding="ascii") as file:
-                file.write(text)
-            lines = lines_of(text)
-            compare(f"{what}, as many as may be", len(lines), count)
-            compare_lines(f"{what} are listed", run(["list", path]), lines)
-        with open("/dev/full", "wb") as full:
-            answer = run(["list", path], stdout=full)
-        compare("list to a full device", (answer.stderr.decode(), answer.returncode), (FULL, 5))
+def lists(folder):
+    for text, option, wanted in [*LISTS, (text_of_targets(17), [], "refused 703 obligations\n"),
+                                 (with_selector(text_of_targets(16)), [], "refused 703 obligations\n"), (nested("c ? 1 : 0"), [], "refused 702 paths y\n")]:
+        put(folder, "text.v", text)
+        answer = call(folder, ["list", *option, "text.v"])
+        compare(f"list {option} {text[:60]}", (answer.stdout.decode(), answer.returncode), (wanted, status_of(wanted.encode())))
+        if wanted.startswith("refused 199 "):
+            compare("it is explained", answer.stderr.decode(), shown_of(folder, "text.v", answer, "1:40"))
+        elif ":" in wanted or not status_of(wanted.encode()):
+            compare("it is explained", answer.stderr.decode(), shown_of(folder, "text.v", answer))
 
 
-def clauses():
-    """The example of docs/formats.md, what stands in the way of clauses, and a text of many pieces."""
-    with open(os.path.join(TOP, "docs", "formats.md"), encoding="utf-8") as file:
-        text = file.read()
+def long_lists(folder):
+    for what, text, lines_of, count in [("65,536 obligations", text_of_targets(16), lines_of_targets, 65536),
+                                        ("4,096 paths", MANY.replace("t[15] ? 1 : 0", "0"), lines_of_many, 4096),
+                                        ("4,096 paths of a case of cases", nested("c"), lines_of_nested, 4096)]:
+        put(folder, "text.v", text)
+        lines = lines_of(text)
+        compare(f"{what}, as many as may be", len(lines), count)
+        compare_lines(f"{what} are listed", call(folder, "list text.v"), lines)
+    is_told_to_be_full(folder, "list text.v")
+
+
+def is_told_to_be_full(folder, words, given=b""):
+    with open("/dev/full", "wb") as full:
+        answer = call(folder, words, given, stdout=full)
+    compare(f"{words} to a full device", (answer.stderr.decode(), answer.returncode), (FULL, 5))
+
+
+def clauses(folder):
+    """The example of docs/formats.md, and what stands in the way of clauses."""
+    text = read(TOP, "docs", "formats.md").decode()
     design = re.search(r"^```verilog\n(.*?)^```$", text, re.M | re.S)[1]
     shown = re.findall(r"^```\n(.*?)^```$", text.partition("\n# Clauses of an obligation\n")[2], re.M | re.S)[1]
-    with tempfile.TemporaryDirectory() as folder:
-        path = os.path.join(folder, "text.v")
-        for text, words, wanted in [(design, ["3"], shown), (design, ["--top=m", "1"], "p cnf 1 2\n1 0\n-1 0\n"), (design, ["--top", "n", "1"], "refused 310 no-top 1:1\n"),
-                                    *((design, [number], "refused 706 no-obligation\n") for number in ("0", "4", "4294967295")),
-                                    ("module m; endmodule", ["1"], "refused 706 no-obligation\n"), (SELECTED.replace("{Dom(p)} q", "{H} q"), ["3"], "refused 706 no-obligation\n"),
-                                    (MANY, ["0"], "refused 702 paths y\n"), (product_of(190), ["1"], "refused 709 encoding 1\n"),
-                                    (product_of(190), ["2"], "refused 709 encoding 2\n"), (product_of(190), ["3"], "refused 706 no-obligation\n")]:
-            with open(path, "w", encoding="ascii") as file:
-                file.write(text)
-            answer = run(["cnf", path, *words])
-            compare(f"cnf {words} {text[:60]}", (answer.stdout.decode(), answer.returncode), (wanted, status_of(wanted.encode())))
-            compare("a person is told why not", answer.stderr != b"", status_of(wanted.encode()) != 0)
-        with open(path, "w", encoding="ascii") as file:
-            file.write(product_of(2))
-        answer = run(["cnf", "--", path, "-0"])
-        compare("cnf of -0", (answer.stdout, answer.returncode), (b"refused 706 no-obligation\n", 1))
-        first, *lines = run(["cnf", path, "1"]).stdout.decode().split("\n")
-        # 64 bits, 22,240 gates of a product and 63 of its bits; three clauses for a conjunction, four for an exclusive or
-        compare("a text of many pieces", (first, len(lines), lines[0], lines[-2:]), (f"p cnf 22368 {len(lines) - 1}", 74977, "1 0", ["-1 0", ""]))
-        compare("its clauses are whole", [line for line in lines[:-1] if not re.fullmatch(r"(-?[1-9][0-9]* ){1,3}0", line)], [])
-        with open("/dev/full", "wb") as full:
-            answer = run(["cnf", path, "1"], stdout=full)
-        compare("cnf to a full device", (answer.stderr.decode(), answer.returncode), (FULL, 5))
+    for text, words, wanted in [(design, ["3"], shown), (design, ["--top=m", "1"], "p cnf 1 2\n1 0\n-1 0\n"), (design, ["--top", "n", "1"], "refused 310 no-top 1:1\n"),
+                                *((design, [number], "refused 706 no-obligation\n") for number in ("0", "4", "4294967295")),
+                                ("module m; endmodule", ["1"], "refused 706 no-obligation\n"), (SELECTED.replace("{Dom(p)} q", "{H} q"), ["3"], "refused 706 no-obligation\n"),
+                                (MANY, ["0"], "refused 702 paths y\n"), (product_of(190), ["1"], "refused 709 encoding 1\n"),
+                                (product_of(190), ["2"], "refused 709 encoding 2\n"), (product_of(190), ["3"], "refused 706 no-obligation\n")]:
+        put(folder, "text.v", text)
+        answer = call(folder, ["cnf", "text.v", *words])
+        compare(f"cnf {words} {text[:60]}", (answer.stdout.decode(), answer.returncode), (wanted, status_of(wanted.encode())))
+        compare("a person is told why not", answer.stderr != b"", status_of(wanted.encode()) != 0)
+
+
+def many_clauses(folder):
+    """Clauses that are written in many pieces."""
+    put(folder, "text.v", product_of(2))
+    compare("cnf of -0", ended(call(folder, "cnf -- text.v -0")), (b"refused 706 no-obligation\n", 1))
+    first, *lines = call(folder, "cnf text.v 1").stdout.decode().split("\n")
+    # 64 bits, 22,240 gates of a product and 63 of its bits; three clauses for a conjunction, four for an exclusive or
+    compare("a text of many pieces", (first, len(lines), lines[0], lines[-2:]), (f"p cnf 22368 {len(lines) - 1}", 74977, "1 0", ["-1 0", ""]))
+    compare("its clauses are whole", [line for line in lines[:-1] if not re.fullmatch(r"(-?[1-9][0-9]* ){1,3}0", line)], [])
+    is_told_to_be_full(folder, "cnf text.v 1")
 
 
 def product_of(factors):
@@ -481,79 +473,54 @@ def product_of(factors):
     return f"module m(input [63:0] a, output y);\n  assign y = {'*'.join(['a'] * factors)} ? a[0] : a[1];\nendmodule\n"
 
 
-def simulations():
+def simulations(folder):
     """The examples of docs/formats.md, what stops a simulation, and what a user sees of it line by line."""
-    with open(os.path.join(TOP, "docs", "formats.md"), encoding="utf-8") as file:
-        text = file.read().partition("\n# Stimulus and trace\n")[2].partition("\n# ")[0]
-    shown = re.findall(r"^```(?:verilog)?\n(.*?)^```$", text, re.M | re.S)
+    shown = re.findall(r"^```(?:verilog)?\n(.*?)^```$", documented("Stimulus and trace"), re.M | re.S)
     design, stimulus, trace, public, refused, inverters, turned, ordered = shown
     wrong = stimulus.replace("0 F", "0 10")
-    with tempfile.TemporaryDirectory() as folder:
-        path = os.path.join(folder, "text.v")
-        with open(path, "w", encoding="ascii") as file:
-            file.write(design)
-        for words, given, wanted, status in [([], stimulus, trace, 0), (["--level", "L"], stimulus, public, 0), (["--level=H", "--top=m"], stimulus, trace, 0),
-                                             (["--order", "7"], stimulus, trace + "rounds 3\n", 0), (["--order", "7"], "inputs en d\n", "rounds 0\n", 0),
-                                             ([], wrong, trace.split("\n")[0] + "\n" + refused, 1), (["--level", "Q"], wrong, "refused 707 level\n", 1),
-                                             ([], "start q 9\n", "refused stimulus input 2 header\n", 1), (["--top", "n"], wrong, "refused 310 no-top 1:1\n", 1)]:
-            answer = run(["sim", path, *words], given=given.encode())
-            compare(f"sim {words} {given!r}", (answer.stdout.decode(), answer.returncode), (wanted, status))
-            compare("a person is told why not", answer.stderr != b"", status != 0)
-        back = os.path.join(folder, "back.v")
-        with open(back, "w", encoding="ascii") as file:
-            file.write("module m(input a, output y); wire q; assign y = ~q; assign q = ~a; endmodule\n")
-        for number, rounds in (("0", "2"), ("1", "1")):
-            answer = run(["sim", back, "--order", number], given=b"inputs a\n0\n")
-            compare(f"order {number}", (answer.stdout.decode(), answer.returncode), (f"0 a=0 y=0 q=1\nrounds {rounds}\n", 0))
-        other = os.path.join(folder, "other.v")
-        with open(other, "w", encoding="ascii") as file:
-            file.write(inverters)
-        answer = run(["sim", other, "--order", "3"], given=turned.encode())
-        compare("sim of three inverters in an order", (answer.stdout, answer.stderr, answer.returncode), (ordered.encode(), b"", 0))
-        with open("/dev/full", "wb") as full:
-            answer = run(["sim", path], stdout=full, given=stimulus.encode())
-        compare("sim to a full device", (answer.stderr.decode(), answer.returncode), (FULL, 5))
-        answer = run(["sim", path], before=lambda: os.close(0))
-        compare("sim without an input", (answer.stdout, answer.stderr, answer.returncode), (b"", b"secv: the input could not be read: Bad file descriptor (os error 9)\n", 4))
-        program = subprocess.Popen([SECV, "sim", path], stdin=subprocess.PIPE, stdout=subprocess.PIPE)
-        program.stdin.write(b"inputs en d\n1 3\n")
-        program.stdin.flush()
-        compare("a cycle's line comes before the next one is read", program.stdout.readline(), b"0 en=1 d=3 q=0 s=0 n=1\n")
-        program.stdin.close()
-        compare("the end of the stimulus", (program.stdout.read(), program.wait()), (b"", 0))
+    put(folder, "text.v", design)
+    for words, given, wanted, status in [([], stimulus, trace, 0), (["--level", "L"], stimulus, public, 0), (["--level=H", "--top=m"], stimulus, trace, 0),
+                                         (["--order", "7"], stimulus, trace + "rounds 3\n", 0), (["--order", "7"], "inputs en d\n", "rounds 0\n", 0),
+                                         ([], wrong, trace.split("\n")[0] + "\n" + refused, 1), (["--level", "Q"], wrong, "refused 707 level\n", 1),
+                                         ([], "start q 9\n", "refused stimulus input 2 header\n", 1), (["--top", "n"], wrong, "refused 310 no-top 1:1\n", 1)]:
+        answer = call(folder, ["sim", "text.v", *words], given.encode())
+        compare(f"sim {words} {given!r}", (answer.stdout.decode(), answer.returncode), (wanted, status))
+        compare("a person is told why not", answer.stderr != b"", status != 0)
+    put(folder, "other.v", inverters)
+    answer = call(folder, "sim other.v --order 3", turned.encode())
+    compare("sim of three inverters in an order", (*ended(answer), answer.stderr), (ordered.encode(), 0, b""))
+    is_told_to_be_full(folder, "sim text.v", stimulus.encode())
+    answer = call(folder, "sim text.v", preexec_fn=lambda: os.close(0))
+    compare("sim without an input", (*ended(answer), answer.stderr), (b"", 4, b"secv: the input could not be read: Bad file descriptor (os error 9)\n"))
+    program = subprocess.Popen([SECV, "sim", "text.v"], cwd=folder, stdin=subprocess.PIPE, stdout=subprocess.PIPE)
+    program.stdin.write(b"inputs en d\n1 3\n")
+    program.stdin.flush()
+    compare("a cycle's line comes before the next one is read", program.stdout.readline(), b"0 en=1 d=3 q=0 s=0 n=1\n")
+    program.stdin.close()
+    compare("the end of the stimulus", (program.stdout.read(), program.wait()), (b"", 0))
 
 
-def rules(title, least):
-    """The texts of a table of rules in docs/language.md, each with what is printed for it."""
-    with open(os.path.join(TOP, "docs", "language.md"), encoding="utf-8") as file:
-        table = file.read().partition(f"## {title}")[2].partition("\n## ")[0]
-    rows = re.findall(r"^\|[^|]*\|[^|]*\| `([^`|]+)` \| (?:`([^`|]+)`)? ?\| `([^`|]+)` \|$", table, re.M)
-    compare(f"docs/language.md shows rules: {title}", len(rows) >= least, True)
-    with tempfile.TemporaryDirectory() as folder:
-        path = os.path.join(folder, "text.v")
+def orders(folder):
+    put(folder, "text.v", "module m(input a, output y); wire q; assign y = ~q; assign q = ~a; endmodule\n")
+    for number, rounds in ((0, 2), (1, 1)):
+        answer = call(folder, f"sim text.v --order {number}", b"inputs a\n0\n")
+        compare(f"order {number}", ended(answer), (f"0 a=0 y=0 q=1\nrounds {rounds}\n".encode(), 0))
+
+
+def rules(folder):
+    """The texts of the tables of rules in docs/language.md, each with what is printed for it."""
+    page = read(TOP, "docs", "language.md").decode()
+    for title, least in (("Elaboration", 25), ("Admission", 7)):
+        table = page.partition(f"## {title}")[2].partition("\n## ")[0]
+        rows = re.findall(r"^\|[^|]*\|[^|]*\| `([^`|]+)` \| (?:`([^`|]+)`)? ?\| `([^`|]+)` \|$", table, re.M)
+        compare(f"docs/language.md shows rules: {title}", len(rows) >= least, True)
         for text, option, wanted in rows:
-            with open(path, "w", encoding="utf-8") as file:
-                file.write(text)
-            answer = run(["check", *option.split(), path])
-            compare(f"language.md: {text} {option}", (answer.stdout, answer.returncode), (f"{wanted}\n".encode(), 1))
-            compare(f"it is explained, {text}", answer.stderr.decode(), shown_of(path, answer))
-
-
-def main():
-    ready = run(["--path"])
-    if ready.returncode:
-        sys.exit("secv could not be built:\n" + ready.stderr.decode(errors="replace"))
-    examples()
-    shown_in_readme()
-    words_and_faults()
-    lists()
-    clauses()
-    simulations()
-    rules("Elaboration", 25)
-    rules("Admission", 7)
-    print(f"{passed} passed, {failed} failed")
-    sys.exit(1 if failed else 0)
+            put(folder, "text.v", text.encode())
+            answer = call(folder, ["check", *option.split(), "text.v"])
+            compare(f"language.md: {text} {option}", ended(answer), (f"{wanted}\n".encode(), 1))
+            compare(f"it is explained, {text}", answer.stderr.decode(), shown_of(folder, "text.v", answer))
 
 
 if __name__ == "__main__":
-    main()
+    finish([examples, shown_in_readme, told_in_readme, help_texts, wrong_words, wrong_files, odd_names, wrong_texts, failing_outputs, failing_errors, lists,
+            long_lists, clauses, many_clauses, simulations, orders, rules])

@@ -9,7 +9,7 @@ import select
 import subprocess
 import time
 
-from harness import MOST_SECONDS, SECV, compare, excerpt, finish, put
+from harness import MOST_SECONDS, SECV, call, compare, excerpt, finish, put
 
 LANES = "labelmap Dom [1:0] 0: L; 1: L; default: H; endlabelmap\n"
 OWNER = """labelmap D [0:0] 0: L; default: H; endlabelmap
@@ -455,8 +455,8 @@ RUNS = [
 
 
 def said_of(folder, words, given=b""):
-    answer = subprocess.run([SECV, *words], cwd=folder, input=given, stdout=subprocess.DEVNULL, stderr=subprocess.PIPE, timeout=MOST_SECONDS, check=False)
-    return answer.stderr.decode()
+    """What is said to a person."""
+    return call(folder, words, given).stderr.decode()
 
 
 def texts(folder):
@@ -465,8 +465,7 @@ def texts(folder):
         before, _, behind = marked.partition("@@")
         text = before + behind
         place = f"{before.count(chr(10)) + 1}:{len(before.rpartition(chr(10))[2].encode()) + 1}"
-        with open(os.path.join(folder, "text.v"), "w", encoding="utf-8") as file:
-            file.write(text)
+        put(folder, "text.v", text.encode())
         shown = f":{place}: {said}\n{excerpt(text, place)}"
         compare(text[:300], said_of(folder, ["check", "text.v", *words.split()]), "text.v" + shown)
         compare(f"a pipe: {text[:300]}", said_of(folder, ["check", "/dev/stdin", *words.split()], text.encode()), "/dev/stdin" + shown)
@@ -502,8 +501,7 @@ def lines(folder):
                         ("module m;\n", "text.v:2:1: the text ends too early, behind `;`: is an `end`, `endcase` or `endmodule` missing?\n"),
                         (" " * 300 + "1" + " x" * 300, "text.v:1:301: a text does not begin with `1`: it begins with `module`, or with `lattice` or `labelmap`\n  "
                          + " " * 100 + "1" + " x" * 29 + "\n" + " " * 102 + "^\n")):
-        with open(os.path.join(folder, "text.v"), "w", encoding="utf-8", newline="") as file:
-            file.write(text)
+        put(folder, "text.v", text.encode())
         compare(repr(text[:300]), said_of(folder, ["check", "text.v"]), shown)
 
 

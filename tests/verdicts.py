@@ -6,24 +6,17 @@ falsifies an obligation, the values that are printed are tried here. The last li
 """
 import hashlib
 import os
-import subprocess
-import sys
-import tempfile
 
 from as_a_user import LARGE, MANY, text_of_targets
+from harness import compare, finish, held, put, put_zeros, run, status_of, told
 from outputs import COUNTERS, GATE, TURN
 
-TOP = os.path.dirname(os.path.dirname(os.path.abspath(__file__)))
-SECV = os.path.join(TOP, "secv")
-MOST_SECONDS = 60
 MOST_PROOF = 268435456
-STATUS = {"accepted": 0, "refused": 1, "usage": 2, "unknown": 3}
 END = "endmodule\n"
 DOM = "labelmap D [0:0] 0: L; default: H; endlabelmap\n"
 TWO = "labelmap T [0:0] [0:0] 0, 0: L; default: H; endlabelmap\n"
 FOUR = "lattice point P, Q, R, T; P <= Q; P <= R; Q <= T; R <= T; endlattice\n"
 MISSING, FOLDER = "No such file or directory (os error 2)", "Is a directory (os error 21)"
-passed = failed = 0
 
 TURNED_LEAK = TURN.replace("b : a", "a : b")
 HELD = (DOM + "module m(input clk, input nxt, input [7:0] {H} k, output reg owner, output reg [7:0] {D(owner)} r);\n"
@@ -275,39 +268,6 @@ STORED = [(TURN, 2), (CLEARED, 3), (COMPLETE, 4), (MULTIPLIER, 17), (COUNTERS, 8
           ("module m(output y); assign y = 1; endmodule", 1), (FOUR + "module m(input {Q} a, input {R} b, output {T} y); assign y = a & b; endmodule\n", 1)]
 
 
-def compare(what, got, wanted):
-    global passed, failed
-    if got == wanted:
-        passed += 1
-    else:
-        failed += 1
-        print(f"{what}\n  wanted {wanted!r}"[:600] + f"\n  got    {got!r}"[:600])
-
-
-def status_of(text):
-    return STATUS[text.split()[0]]
-
-
-def put(folder, name, text):
-    with open(os.path.join(folder, name), "w", encoding="latin-1", newline="") as file:
-        file.write(text)
-
-
-def held(folder, name):
-    """What the file holds, or None where there is none."""
-    path = os.path.join(folder, name)
-    if not os.path.exists(path):
-        return None
-    with open(path, encoding="latin-1", newline="") as file:
-        return file.read()
-
-
-def run(folder, words, stdout=subprocess.PIPE):
-    answer = subprocess.run([SECV, *words.split()], cwd=folder, stdin=subprocess.DEVNULL, stdout=stdout, stderr=subprocess.DEVNULL,
-                            timeout=MOST_SECONDS, check=False)
-    return (answer.stdout or b"").decode(), answer.returncode
-
-
 def checks(folder):
     for words, text, wanted in CHECKS:
         put(folder, "f", text)
@@ -394,13 +354,6 @@ def stored(folder):
         compare("what was there stays", held(folder, "r"), "old")
 
 
-def told(folder, words):
-    """What the program writes, what it says to a person, and its status."""
-    answer = subprocess.run([SECV, *words.split()], cwd=folder, stdin=subprocess.DEVNULL, stdout=subprocess.PIPE, stderr=subprocess.PIPE,
-                            timeout=MOST_SECONDS, check=False)
-    return answer.stdout.decode(), answer.stderr.decode(), answer.returncode
-
-
 def faults(folder):
     """Where a file cannot be read or stored nothing is written, the file is named, and each file stays as it was."""
     held_files = {"f": TURN, "p": BY_HAND, "A": "inputs turn a b\n0 1 0\n", "B": "inputs turn a b\n0 1 1\n"}
@@ -442,21 +395,10 @@ def sizes(folder):
     """A certificate of as many bytes as may be, and one of a byte more."""
     put(folder, "f", TURN)
     for more, wanted in ((0, "refused proof 1\n"), (1, "refused 710 proof-size\n")):
-        with open(os.path.join(folder, "p"), "wb") as file:
-            file.truncate(MOST_PROOF + more)
+        put_zeros(folder, "p", MOST_PROOF + more)
         compare(f"a certificate of {MOST_PROOF + more} bytes", run(folder, "verify f p"), (wanted, 1))
     os.remove(os.path.join(folder, "p"))
 
 
-def main():
-    # the first run builds the program, which takes more than a run may
-    subprocess.run([SECV, "--path"], stdout=subprocess.DEVNULL, check=True)
-    for group in (checks, answers, limits, falsified, certificates, stored, faults, names, sizes):
-        with tempfile.TemporaryDirectory() as folder:
-            group(folder)
-    print(f"{passed} passed, {failed} failed")
-    sys.exit(1 if failed else 0)
-
-
 if __name__ == "__main__":
-    main()
+    finish([checks, answers, limits, falsified, certificates, stored, faults, names, sizes])

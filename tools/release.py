@@ -9,24 +9,18 @@ import subprocess
 import sys
 import zlib
 
+sys.dont_write_bytecode = True
 TOP = os.path.dirname(os.path.dirname(os.path.abspath(__file__)))
+sys.path.insert(0, os.path.join(TOP, "tests"))
+
+from harness import COUNTS, compare, end, end_look, printed
+
 RENEW = "run tools/release, commit release/, and run .ci/run again"
-passed = failed = 0
-
-
-def compare(what, got, wanted):
-    global passed, failed
-    if got == wanted:
-        passed += 1
-        return
-    failed += 1
-    print(f"{what}\n  wanted {wanted!r}\n  got    {got!r}")
 
 
 def here(call):
     """What a call of tools/sources.sh prints."""
-    words = ["sh", "-c", f'top=$1; . "$top/tools/sources.sh"; {call}', "sh", TOP]
-    return subprocess.run(words, stdout=subprocess.PIPE, text=True, check=True).stdout.strip()
+    return printed("sh", "-c", f'top=$1; . "$top/tools/sources.sh"; {call}', "sh", TOP).strip()
 
 
 def git(*words):
@@ -63,8 +57,7 @@ def is_of_commit(commit):
 def main():
     text, program = read("release", "ABOUT"), read("release", "secv.gz")
     if text is None or program is None:
-        print(f"there is no release/ of the program: {RENEW}\n0 passed, 1 failed")
-        sys.exit(1)
+        end_look(0, [f"there is no release/ of the program: {RENEW}"])
     about = dict(line.split(": ", 1) for line in text.decode().splitlines() if ": " in line)
     built = sum_of(read("crates", "secv", "out", "secv"))
     compare("release/ is of the sources as they are", about.get("sources"), here("sum_of_sources"))
@@ -73,10 +66,10 @@ def main():
     compare("release/ABOUT names the bytes that the gate built", about.get("sha256"), built)
     compare("release/secv.gz holds them", sum_of(unpacked(program)), built)
     compare("the commit that release/ABOUT names has these sources", is_of_commit(about.get("commit", "")), True)
-    if failed:
+    if COUNTS["failed"]:
         print(f"release/ has to be renewed: {RENEW}")
-    print(f"{passed} passed, {failed} failed")
-    sys.exit(1 if failed else 0)
+    end()
 
 
-main()
+if __name__ == "__main__":
+    main()

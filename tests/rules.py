@@ -1,17 +1,10 @@
 #!/usr/bin/env python3
 """Checks each rule of elaboration and of admission through ./secv by other texts than those of docs/language.md, those of admission at
-bits, parts, joins and instances, and where the lines for a person point to (`.ci/messages.py` has their words). In a text `@@` marks the place that is
+bits, parts, joins and instances, and where the lines for a person point to (`tests/messages.py` has their words). In a text `@@` marks the place that is
 told, and `~~` one that a person is shown in its stead; what has no mark is told at 1:1. Texts that break none of them nearly do, and are accepted. The last line is 'N passed, M failed'.
 """
-import os
-import subprocess
-import sys
-import tempfile
+from harness import compare, explained, finish, put, told
 
-from harness import explained
-
-TOP = os.path.dirname(os.path.dirname(os.path.abspath(__file__)))
-SECV = os.path.join(TOP, "secv")
 NAMES = {199: "not-built", 301: "lattice-size", 302: "lattice-name", 303: "circle", 304: "no-join", 305: "no-meet", 306: "map-name", 307: "map-row",
          308: "map-hole", 310: "no-top", 311: "unknown-module", 312: "twice", 313: "port", 314: "recursive", 316: "parameter",
          401: "unknown-name", 402: "too-wide", 403: "bad-select", 404: "not-constant", 405: "zero-divisor", 406: "division",
@@ -122,25 +115,21 @@ WHOLE = [
     (6, S.replace("@@", "") + NEST + END),
     (6, S.replace("m(", "m(input clk, ").replace("@@always @*", "always @(posedge clk)") + NEST.replace("=", "<=").replace(" -1: y <= 4;", "") + END),
 ]
-passed = failed = 0
 
 
-def check(number, marked, words, names, folder):
-    """The program's line for the text and that for a person, and whether they are the wanted ones."""
+def check(folder, number, marked, words, names):
+    """Whether the program's line for the text and that for a person are the wanted ones."""
     before, mark, behind = marked.replace("~~", "").partition("@@")
     text = before + behind
     place = place_behind(before) if mark else "1:1"
     wanted = " ".join(["refused", str(number), NAMES[number], place, *names.split()])
-    path = os.path.join(folder, "text.v")
-    with open(path, "w", encoding="ascii") as file:
-        file.write(text)
-    answer = subprocess.run([SECV, "check", path, *words.split()], stdin=subprocess.DEVNULL, stdout=subprocess.PIPE,
-                            stderr=subprocess.PIPE, timeout=10, check=False)
+    put(folder, "text.v", text)
+    answer = told(folder, f"check text.v {words}")
     # what is not built is printed at 1:1, and shown to a person where it stands
     shown = f"1:{text.replace('invariant ', '@' * 10, 1).rfind('@') + 2}" if number == 199 else place
     front, mark, _ = marked.replace("@@", "").partition("~~")
-    said = answer.stderr.decode()
-    compare(f"{text!r} {words}", answer, wanted, explained(path, place_behind(front) if mark else shown, text, said), 1)
+    said = explained("text.v", place_behind(front) if mark else shown, text, answer[1])
+    compare(f"{text!r} {words}", answer, (f"{wanted}\n", said, 1))
 
 
 def place_behind(front):
@@ -148,36 +137,16 @@ def place_behind(front):
     return f"{front.count(chr(10)) + 1}:{len(front) - front.rfind(chr(10))}"
 
 
-def compare(what, answer, wanted, said, status):
-    """Whether the program printed the wanted line, and that one for a person."""
-    global passed, failed
-    if (answer.stdout, answer.stderr, answer.returncode) == ((wanted + "\n").encode(), said.encode(), status):
-        passed += 1
-    else:
-        failed += 1
-        print(f"{what}\n  wanted {wanted}, {said!r}\n  got    {answer.stdout!r}, {answer.stderr!r}, status {answer.returncode}")
+def broken(folder):
+    for row in TEXTS + ADMISSION:
+        check(folder, *row)
 
 
-def check_whole(count, text, folder):
-    """The program's line for a text that breaks no rule."""
-    path = os.path.join(folder, "text.v")
-    with open(path, "w", encoding="ascii") as file:
-        file.write(text)
-    answer = subprocess.run([SECV, "check", path], stdin=subprocess.DEVNULL, stdout=subprocess.PIPE, stderr=subprocess.PIPE, timeout=10, check=False)
-    compare(repr(text), answer, f"accepted {count} obligations", "", 0)
-
-
-def main():
-    # the first run builds the program, which takes more than a run may
-    subprocess.run([SECV, "--path"], stdout=subprocess.DEVNULL, check=True)
-    with tempfile.TemporaryDirectory() as folder:
-        for row in TEXTS + ADMISSION:
-            check(*row, folder)
-        for count, text in WHOLE:
-            check_whole(count, text, folder)
-    print(f"{passed} passed, {failed} failed")
-    sys.exit(1 if failed else 0)
+def whole(folder):
+    for count, text in WHOLE:
+        put(folder, "text.v", text)
+        compare(repr(text), told(folder, "check text.v"), (f"accepted {count} obligations\n", "", 0))
 
 
 if __name__ == "__main__":
-    main()
+    finish([broken, whole])

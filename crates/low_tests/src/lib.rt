@@ -1,5 +1,5 @@
 //! Tests of files and streams, and of copies of trees and flat designs. What the program calls of
-//! these layers on its way is tried through it (`.ci/`). The tests stand in a crate of their own,
+//! these layers on its way is tried through it (`tests/`). The tests stand in a crate of their own,
 //! since a crate with tests is proved twice.
 #![tactic(auto)]
 

@@ -25,6 +25,7 @@ pub mod MarkedValues
 pub mod MarkedWords
 pub mod MarkingFacts
 pub mod NameFacts
+pub mod NamesPut
 pub mod NumberSets
 pub mod OnTheWay
 pub mod OneDriver

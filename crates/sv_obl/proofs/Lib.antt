@@ -13,6 +13,7 @@ pub mod IndexedArmFacts
 pub mod IndexedFacts
 pub mod LaterFacts
 pub mod LatticeFacts
+pub mod LevelFacts
 pub mod LimitExamples
 pub mod ListExamples
 pub mod ListLineFacts

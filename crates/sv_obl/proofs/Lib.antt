@@ -13,6 +13,7 @@ pub mod IndexedArmFacts
 pub mod IndexedFacts
 pub mod LaterFacts
 pub mod LatticeFacts
+pub mod LevelFacts
 pub mod LimitExamples
 pub mod ListExamples
 pub mod ListLineFacts
@@ -25,6 +26,7 @@ pub mod MarkedValues
 pub mod MarkedWords
 pub mod MarkingFacts
 pub mod NameFacts
+pub mod NamesPut
 pub mod NumberSets
 pub mod OnTheWay
 pub mod OneDriver

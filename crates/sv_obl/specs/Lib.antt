@@ -10,6 +10,7 @@ pub mod IndexedArms
 pub mod IndexedBodies
 pub mod IndexedStatements
 pub mod Later
+pub mod Levels
 pub mod Limits
 pub mod ListLines
 pub mod ListParts

@@ -1,5 +1,6 @@
 -- Private: how the code goes. What is put into an expression, and what stands for a name then.
-use Rattle.std.specs.Prelude.{ℕ, ◌≤◌, ◌<◌, ◌==◌, Bool, true, false, List, Option, Some, None, All}
+use Rattle.std.specs.Prelude.{ℕ, ◌-◌, ◌≤◌, ◌<◌, ◌==◌, ◌&&◌, nat_le, Bool, true, false, List, []}
+use Rattle.std.specs.Prelude.{Option, Some, None, All}
 use Rattle.std.specs.List.{list_any}
 use Rattle.sv_num.specs.declared.faults.Place.{Place}
 use Rattle.sv_flat.specs.Design.{SignalForm, PieceForm, TypedTree, typed, constant, FlatStatement}
@@ -11,6 +12,7 @@ use Rattle.sv_obl.specs.declared.exchange.Content.{Content}
 use Rattle.sv_obl.specs.declared.exchange.Put.{Put}
 use Rattle.sv_obl.specs.declared.exchange.Put.TheVariants.{Pieces, Zero}
 use Rattle.sv_obl.specs.Exchange.{Instead, name, content}
+use Rattle.sv_obl.specs.Routes.{names_in}
 use Rattle.sv_obl.specs.RouteViews.{piece_forms}
 use Rattle.sv_obl.specs.Wanted.{pieces_put, put_value, close}
 
@@ -26,7 +28,15 @@ is_put_for (Pieces pieces right) s =
     list_any (λ (piece : PieceForm). piece.signal == s) (piece_forms pieces.now)
 is_put_for Zero s = true
 
--- what is put for it
+-- something is put for a name, where there are so many signals
+abbrev pub is_put_at : (count : ℕ) → Put → (name : ℕ) → Bool
+is_put_at count put t = nat_le count t && is_put_for put (t - count)
+
+-- something is put for some name in the expression
+abbrev pub names_put : (count : ℕ) → Put → TypedTree → Bool
+names_put count put e = list_any (is_put_at count put) (names_in [] e)
+
+-- what is put for the wanted name of a signal
 abbrev pub value_put : List SignalForm → Put → (signal : ℕ) → Place → TypedTree
 value_put signals (Pieces pieces right) s place =
     put_value signals (piece_forms pieces.now) (typed_tree right.now) s place

@@ -1,13 +1,15 @@
 // Values put into an expression for the names that are wanted in it.
-ghost use Rattle.std.specs.Prelude.{◌≡◌, ◌≤◌, ◌<◌, ◌+◌, length, map, IfOk};
+ghost use Rattle.std.specs.Prelude.{◌≡◌, ◌≤◌, ◌<◌, ◌+◌, [], length, map, IfOk};
+ghost use Rattle.std.specs.List.{list_any};
 ghost use Rattle.sv_flat.specs.ByNumber.{signal_forms};
 ghost use Rattle.sv_flat.specs.Design.{typed};
-ghost use Rattle.sv_flat.specs.Readings.{ReadForm};
+ghost use Rattle.sv_flat.specs.Readings.{ReadForm, parts_reads};
 ghost use Rattle.sv_flat.specs.Values.{signal_of, signal_width};
-ghost use Rattle.sv_flat.specs.Views.{typed_tree, typed_trees, node_tree, piece_form};
+ghost use Rattle.sv_flat.specs.Views.{typed_tree, typed_trees, node_tree, parts_of, piece_form};
 ghost use Rattle.sv_obl.specs.Exchange.{exchanged, exchanged_node, for_whole, for_bit, for_part};
 ghost use Rattle.sv_obl.specs.PutIn.{put_for, is_put_for, value_put, found_for, AreInWords};
-ghost use Rattle.sv_obl.specs.PutIn.{CanBePut};
+ghost use Rattle.sv_obl.specs.PutIn.{CanBePut, is_put_at, names_put};
+ghost use Rattle.sv_obl.specs.Routes.{signals_of_reads};
 ghost use Rattle.sv_obl.specs.RouteViews.{piece_forms};
 ghost use Rattle.sv_obl.specs.Wanted.{with_copies, piece_value, with_piece_put, put_value};
 
@@ -131,6 +133,13 @@ impl<'p> Put<'p> {
         }
     }
 
+    // Whether something is put for a name, where there are so many signals.
+    fn has_for(self, count: u32, name: SigId) -> bool
+        ensures { result ≡ is_put_at count self.entry name.0 }
+    {
+        name.0 >= count && self.has(SigId(name.0 - count))
+    }
+
     // What is put for the wanted name of a signal.
     fn value(
         self,
@@ -183,6 +192,50 @@ impl<'p> Put<'p> {
     }
 }
 
+// Whether something is put for some name in the expression, where there are so many signals.
+#[cycle(names_put)]
+fn names_put(expr: &FExpr, count: u32, put: Put) -> bool
+    ensures { result ≡ names_put count put.entry (typed_tree expr.now) }
+{
+    match &expr.node {
+        FNode::Number(_) => false,
+        FNode::Signal(name, _) => put.has_for(count, *name),
+        FNode::Bit(name, _, index) => put.has_for(count, *name) || names_put(index, count, put),
+        FNode::Part(name, _, _, _) => put.has_for(count, *name),
+        FNode::Unary(_, operand) => names_put(operand, count, put),
+        FNode::Binary(_, left, right) => {
+            names_put(left, count, put) || names_put(right, count, put)
+        }
+        FNode::Choice(_, cond, yes, no) => {
+            names_put(cond, count, put) || names_put(yes, count, put) || names_put(no, count, put)
+        }
+        FNode::Join(parts) => some_names_put(parts, count, put),
+        FNode::Repeat(_, parts) => some_names_put(parts, count, put),
+        FNode::Held(_, value) => names_put(value, count, put),
+        FNode::HeldBit(_, _, value, index) => {
+            names_put(value, count, put) || names_put(index, count, put)
+        }
+        FNode::HeldPart(_, _, value, _, _) => names_put(value, count, put),
+        FNode::Mend(_, old, _, _, piece) => {
+            names_put(old, count, put) || names_put(piece, count, put)
+        }
+        FNode::Slice(value, _, _) => names_put(value, count, put),
+    }
+}
+
+#[cycle(names_put)]
+fn some_names_put(exprs: &[FExpr], count: u32, put: Put) -> bool
+    ensures { result ≡ list_any (is_put_at count put.entry)
+        (signals_of_reads (parts_reads [] (parts_of (typed_trees exprs.now)))) }
+{
+    for expr in exprs {
+        if names_put(expr, count, put) {
+            return true;
+        }
+    }
+    false
+}
+
 // What stands for a whole name.
 fn for_whole(found: Option<Content>, name: SigId, place: Place) -> FNode
     ensures { node_tree result ≡ for_whole (found_for name.0 found) place }
@@ -218,8 +271,8 @@ fn for_part(found: Option<Content>, name: SigId, place: Place, high: u8, low: u8
 // goes as deep as it nests, so one that nests deeper is answered as want of memory.
 const MOST_LEVELS: u32 = 4096;
 
-/// The expression with what is put into it, in place; an error where it nests too deep then, or
-/// memory runs out.
+/// The expression with what is put into it; an error where it nests too deep then, or memory runs
+/// out. One that names nothing for which something is put stays as it is, after one look.
 pub fn with_put(
     expr: FExpr,
     alloc: Global,
@@ -232,6 +285,9 @@ pub fn with_put(
         (with_copies (signal_forms signals.now)) (put_for (signal_forms signals.now) put.entry)
         (typed_tree expr)) }
 {
+    if !names_put(&expr, signals.len() as u32, put) {
+        return Ok(expr);
+    }
     let made = exchanged(expr, alloc, signals, put)?;
     if is_within(&made, MOST_LEVELS) {
         Ok(made)
@@ -240,7 +296,7 @@ pub fn with_put(
     }
 }
 
-// The expression with what is put into it, in place.
+// The expression with what is put into it.
 #[cycle(exchanged)]
 fn exchanged(expr: FExpr, alloc: Global, signals: &[Signal], put: Put) -> Result<FExpr, AllocError>
     requires few { length signals.now < 4294967296 }

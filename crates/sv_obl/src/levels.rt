@@ -1,14 +1,24 @@
 // How deep expressions nest.
+ghost use Rattle.std.specs.Prelude.{◌≡◌, nat_le};
+ghost use Rattle.sv_flat.specs.Views.{typed_tree, typed_trees, node_tree, parts_of};
+ghost use Rattle.sv_obl.specs.Levels.{levels, levels_under, levels_of_parts};
+
 use sv_flat::{FExpr, FNode};
 
 /// Whether the expression nests so many levels at most. What is deeper is not walked.
 #[cycle(is_within)]
-pub fn is_within(expr: &FExpr, most: u32) -> bool {
+#[tactic(auto, using(crate::proofs::LevelFacts::deeper, crate::proofs::LevelFacts::none_within))]
+pub fn is_within(expr: &FExpr, most: u32) -> bool
+    ensures { result ≡ nat_le (levels (typed_tree expr.now)) most }
+{
     most > 0 && is_node_within(&expr.node, most - 1)
 }
 
 #[cycle(is_within)]
-fn is_node_within(node: &FNode, most: u32) -> bool {
+#[tactic(auto, using(crate::proofs::LevelFacts::both_within))]
+fn is_node_within(node: &FNode, most: u32) -> bool
+    ensures { result ≡ nat_le (levels_under (node_tree node.now)) most }
+{
     match node {
         FNode::Number(_) => true,
         FNode::Signal(_, _) => true,
@@ -30,7 +40,10 @@ fn is_node_within(node: &FNode, most: u32) -> bool {
 }
 
 #[cycle(is_within)]
-fn are_within(parts: &[FExpr], most: u32) -> bool {
+#[tactic(auto, using(crate::proofs::LevelFacts::both_within))]
+fn are_within(parts: &[FExpr], most: u32) -> bool
+    ensures { result ≡ nat_le (levels_of_parts (parts_of (typed_trees parts.now))) most }
+{
     for part in parts {
         if !is_within(part, most) {
             return false;

@@ -28,12 +28,12 @@
 //! those seven are private: they say how the code goes; the meaning stands in the files before.
 //!
 //! A body with earlier reads is walked in a second way: `Later.antt` and `Marked.antt` say how it
-//! is marked part by part, `MarkedArms.antt` how a chain of branches is, and `PutIn.antt` what is
-//! put into an expression; `Trails.antt` tells its paths, of which no expression is kept,
-//! `TrailViews.antt` ties them to what is walked and `TrailLines.antt` to their lines;
-//! `Alongs.antt` tells how one path is walked once more along the arms that it took, where its
-//! conditions are asked for, and `AlongViews.antt` ties that to what is walked. These nine are
-//! private too.
+//! is marked part by part, `MarkedArms.antt` how a chain of branches is, `PutIn.antt` what is put
+//! into an expression and `Levels.antt` how deep it nests; `Trails.antt` tells its paths, of which
+//! no expression is kept, `TrailViews.antt` ties them to what is walked and `TrailLines.antt` to
+//! their lines; `Alongs.antt` tells how one path is walked once more along the arms that it took,
+//! where its conditions are asked for, and `AlongViews.antt` ties that to what is walked. These ten
+//! are private too.
 #![tactic(auto)]
 
 mod body_slices;

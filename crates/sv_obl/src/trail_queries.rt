@@ -25,6 +25,7 @@ use crate::reads::signals_of;
 use crate::trail_walks::is_taken;
 use crate::trails::Trail;
 use std::alloc::{AllocError, Global};
+use std::mem;
 use sv_flat::{FExpr, FNode, Piece, Process, SigId, Signal};
 use sv_num::Place;
 
@@ -110,12 +111,11 @@ fn along_ways<'c>(
     alloc: Global,
     count: u32,
     from: u8,
-    made: Making<'c>,
-) -> Result<Making<'c>, AllocError>
-    ensures { IfOk result (λ way. way_form way
-        ≡ along_ways count from (typed_tree right.now) (way_form made.entry)) }
+    making: &mut Making<'c>,
+) -> Result<(), AllocError>
+    ensures { OnOk result (way_form making.new
+        ≡ along_ways count from (typed_tree right.now) (way_form making.old)) }
 {
-    let mut making = made;
     match &right.node {
         FNode::Choice(place, cond, yes, no) => {
             if making.choose() {
@@ -124,10 +124,7 @@ fn along_ways<'c>(
                 along_way(no, false, *place, cond, alloc, count, from, making)
             }
         }
-        _ => {
-            making.trail.put_value(alloc, count, from, right)?;
-            Ok(making)
-        }
+        _ => making.trail.put_value(alloc, count, from, right),
     }
 }
 
@@ -141,17 +138,16 @@ fn along_way<'c>(
     alloc: Global,
     count: u32,
     from: u8,
-    made: Making<'c>,
-) -> Result<Making<'c>, AllocError>
-    ensures { IfOk result (λ way. way_form way ≡ with_step count (record {
+    making: &mut Making<'c>,
+) -> Result<(), AllocError>
+    ensures { OnOk result (way_form making.new ≡ with_step count (record {
       place = place;
       condition = typed_tree cond.now;
       truth = truth;
-    }) (along_ways count from (typed_tree right.now) (way_form made.entry))) }
+    }) (along_ways count from (typed_tree right.now) (way_form making.old))) }
 {
-    let mut all = along_ways(right, alloc, count, from, made)?;
-    all.add(alloc, count, place, cond, truth)?;
-    Ok(all)
+    along_ways(right, alloc, count, from, making)?;
+    making.add(alloc, count, place, cond, truth)
 }
 
 // Takes an assignment that is wanted.
@@ -161,26 +157,22 @@ fn along_assign<'c>(
     target: SigId,
     pieces: &[Piece],
     right: &FExpr,
-    made: Making<'c>,
-) -> Result<Making<'c>, AllocError>
+    making: &mut Making<'c>,
+) -> Result<(), AllocError>
     requires known { target.0 < length signals.now }
     requires few { length signals.now < 4294967296 }
     requires words { AreInWords (piece_forms pieces.now) }
-    ensures { IfOk result (λ way. way_form way ≡ along_assign (signal_forms signals.now) target.0
-        (piece_forms pieces.now) (typed_tree right.now) (way_form made.entry)) }
+    ensures { OnOk result (way_form making.new ≡ along_assign (signal_forms signals.now) target.0
+        (piece_forms pieces.now) (typed_tree right.now) (way_form making.old)) }
 {
     let count = signals.len() as u32;
-    let mut trail = made.trail;
-    let times = trail.own_pieces(pieces);
-    let whole = trail.whole_from(signals, pieces);
-    trail.put_right(alloc, signals, target, pieces, right)?;
-    let steps = put_in_steps(alloc, signals, made.steps, Put::Pieces(pieces, right))?;
-    let making = Making {
-        trail,
-        steps,
-        choices: made.choices,
-        next: made.next,
-    };
+    let times = making.trail.own_pieces(pieces);
+    let whole = making.trail.whole_from(signals, pieces);
+    making
+        .trail
+        .put_right(alloc, signals, target, pieces, right)?;
+    let steps = mem::replace(&mut making.steps, Vec::new(alloc));
+    making.steps = put_in_steps(alloc, signals, steps, Put::Pieces(pieces, right))?;
     match whole {
         Some(from) => along_ways(right, alloc, count, from, making),
         None => along_rest(alloc, count, times, right, making),
@@ -193,17 +185,15 @@ fn along_rest<'c>(
     count: u32,
     times: u32,
     right: &FExpr,
-    made: Making<'c>,
-) -> Result<Making<'c>, AllocError>
-    ensures { IfOk result (λ way. way_form way
-        ≡ along_own count times None (typed_tree right.now) (way_form made.entry)) }
+    making: &mut Making<'c>,
+) -> Result<(), AllocError>
+    ensures { OnOk result (way_form making.new
+        ≡ along_own count times None (typed_tree right.now) (way_form making.old)) }
 {
-    let mut making = made;
     if times == 0 {
-        return Ok(making);
+        return Ok(());
     }
-    making.trail.put_parts(alloc, count, times, right)?;
-    Ok(making)
+    making.trail.put_parts(alloc, count, times, right)
 }
 
 // Takes a statement before the path.
@@ -213,26 +203,26 @@ fn along<'c>(
     alloc: Global,
     signals: &[Signal],
     target: SigId,
-    made: Making<'c>,
-) -> Result<Making<'c>, AllocError>
+    making: &mut Making<'c>,
+) -> Result<(), AllocError>
     requires known { target.0 < length signals.now }
     requires few { length signals.now < 4294967296 }
     requires tells { TellsTargets stmt.now }
     requires words { HasWords (marked_statement stmt.now) }
-    ensures { IfOk result (λ way. way_form way ≡ along (signal_forms signals.now) target.0
-        (marked_statement stmt.now) (way_form made.entry)) }
+    ensures { OnOk result (way_form making.new ≡ along (signal_forms signals.now) target.0
+        (marked_statement stmt.now) (way_form making.old)) }
 {
-    if !is_taken(stmt, &made.trail) {
-        return Ok(made);
+    if !is_taken(stmt, &making.trail) {
+        return Ok(());
     }
     match stmt {
-        Marked::Nothing => Ok(made),
+        Marked::Nothing => Ok(()),
         Marked::Assign { pieces, right, .. } => {
-            along_assign(alloc, signals, target, *pieces, right, made)
+            along_assign(alloc, signals, target, *pieces, right, making)
         }
         Marked::Chain { first, second, .. } => {
-            let between = along(second, alloc, signals, target, made)?;
-            along(first, alloc, signals, target, between)
+            along(second, alloc, signals, target, making)?;
+            along(first, alloc, signals, target, making)
         }
         Marked::Branch {
             place,
@@ -241,7 +231,6 @@ fn along<'c>(
             no,
             ..
         } => {
-            let mut making = made;
             if making.choose() {
                 along_arm(yes, true, *place, cond, alloc, signals, target, making)
             } else {
@@ -261,22 +250,21 @@ fn along_arm<'c>(
     alloc: Global,
     signals: &[Signal],
     target: SigId,
-    made: Making<'c>,
-) -> Result<Making<'c>, AllocError>
+    making: &mut Making<'c>,
+) -> Result<(), AllocError>
     requires known { target.0 < length signals.now }
     requires few { length signals.now < 4294967296 }
     requires tells { TellsTargets stmt.now }
     requires words { HasWords (marked_statement stmt.now) }
-    ensures { IfOk result (λ way. way_form way ≡ with_step (length signals.now) (record {
+    ensures { OnOk result (way_form making.new ≡ with_step (length signals.now) (record {
       place = place;
       condition = typed_tree cond.now;
       truth = truth;
     }) (along (signal_forms signals.now) target.0 (marked_statement stmt.now)
-        (way_form made.entry))) }
+        (way_form making.old))) }
 {
-    let mut all = along(stmt, alloc, signals, target, made)?;
-    all.add(alloc, signals.len() as u32, place, cond, truth)?;
-    Ok(all)
+    along(stmt, alloc, signals, target, making)?;
+    making.add(alloc, signals.len() as u32, place, cond, truth)
 }
 
 // The conditions in textual order.
@@ -306,14 +294,14 @@ fn steps_along(
     ensures { IfOk result (λ steps. map step_form steps.items ≡ conditions_along
         (signal_forms signals.now) target.0 (marked_statement body.now) (trail_form trail.now)) }
 {
-    let start = Making {
+    let mut making = Making {
         trail: Trail::open(alloc, target),
         steps: Vec::new(alloc),
         choices: trail.choices.as_slice(),
         next: 0,
     };
-    let made = along(body, alloc, signals, target, start)?;
-    let steps = put_in_steps(alloc, signals, made.steps, Put::Zero)?;
+    along(body, alloc, signals, target, &mut making)?;
+    let steps = put_in_steps(alloc, signals, making.steps, Put::Zero)?;
     turned(alloc, steps)
 }
 

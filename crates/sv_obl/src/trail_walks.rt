@@ -1,6 +1,6 @@
 // The walk through a body with earlier reads, from its last statement back.
 ghost use Rattle.std.specs.Prelude.{◌≡◌, ◌<◌, ◌≤◌, ◌^◌, ◌∷◌, [], ◌++◌, length, map, flat_map, take};
-ghost use Rattle.std.specs.Prelude.{drop, None, OnOk};
+ghost use Rattle.std.specs.Prelude.{drop, None, true, OnOk};
 ghost use Rattle.sv_flat.specs.ByNumber.{signal_forms};
 ghost use Rattle.sv_flat.specs.Views.{typed_tree};
 ghost use Rattle.sv_obl.specs.MarkedBodies.{marked_statement, TellsTargets};
@@ -14,6 +14,7 @@ use crate::list_lines::Mark;
 use crate::marked::Marked;
 use crate::trails::Trail;
 use std::alloc::{AllocError, Global};
+use std::mem;
 use sv_flat::{FExpr, FNode, Piece, SigId, Signal};
 use sv_num::Place;
 
@@ -29,6 +30,14 @@ fn add(trail: Trail, all: &mut Vec<Trail>) -> Result<(), WalkFault>
     }
     all.push(trail)?;
     Ok(())
+}
+
+// Takes a trail that was lent, and leaves one there that took nothing. What is lent takes no room
+// on the stack at each level of a walk.
+fn taken(alloc: Global, target: SigId, trail: &mut Trail) -> Trail
+    ensures { trail_form result ≡ trail_form trail.old }
+{
+    mem::replace(trail, Trail::open(alloc, target))
 }
 
 // Puts a condition before each of the trails from a place on.
@@ -180,23 +189,24 @@ fn before(
     alloc: Global,
     signals: &[Signal],
     target: SigId,
-    trail: Trail,
+    trail: &mut Trail,
     all: &mut Vec<Trail>,
 ) -> Result<(), WalkFault>
     requires known { target.0 < length signals.now }
     requires counted { length signals.now < 2 ^ 32 }
     requires tells { TellsTargets stmt.now }
     ensures adds { AddsTrails (trail_forms all.old.items ++ trails_before (signal_forms signals.now)
-        target.0 (marked_statement stmt.now) (trail_form trail)) all.new result }
+        target.0 (marked_statement stmt.now) (trail_form trail.old)) all.new result }
     ensures few { length all.old.items ≤ 4096 → OnOk result (length all.new.items ≤ 4096) }
 {
-    if !is_taken(stmt, &trail) {
-        return add(trail, all);
+    if !is_taken(stmt, trail) {
+        return add(taken(alloc, target, trail), all);
     }
     match stmt {
-        Marked::Nothing => add(trail, all),
+        Marked::Nothing => add(taken(alloc, target, trail), all),
         Marked::Assign { pieces, right, .. } => {
-            put_assign(alloc, signals, target, *pieces, right, trail, all)
+            let put = taken(alloc, target, trail);
+            put_assign(alloc, signals, target, *pieces, right, put, all)
         }
         Marked::Chain { first, second, .. } => {
             let mut between = Vec::new(alloc);
@@ -210,8 +220,7 @@ fn before(
             no,
             ..
         } => {
-            let copy = trail.copy(alloc)?;
-            before_arm(yes, true, *place, cond, alloc, signals, target, copy, all)?;
+            before_copied(yes, *place, cond, alloc, signals, target, trail, all)?;
             before_arm(no, false, *place, cond, alloc, signals, target, trail, all)
         }
     }
@@ -227,7 +236,7 @@ fn before_arm(
     alloc: Global,
     signals: &[Signal],
     target: SigId,
-    trail: Trail,
+    trail: &mut Trail,
     all: &mut Vec<Trail>,
 ) -> Result<(), WalkFault>
     requires known { target.0 < length signals.now }
@@ -237,13 +246,12 @@ fn before_arm(
         ++ map (marked_by (length (signal_forms signals.now))
         (record { truth = truth; place = place }) (typed_tree cond.now))
         (trails_before (signal_forms signals.now) target.0 (marked_statement stmt.now)
-        (chosen truth (trail_form trail)))) all.new result }
+        (chosen truth (trail_form trail.old)))) all.new result }
     ensures few { length all.old.items ≤ 4096 → OnOk result (length all.new.items ≤ 4096) }
 {
     let start = all.len();
-    let mut arm = trail;
-    arm.choose(truth)?;
-    before(stmt, alloc, signals, target, arm, all)?;
+    trail.choose(truth)?;
+    before(stmt, alloc, signals, target, trail, all)?;
     put_behind(
         alloc,
         all,
@@ -253,6 +261,34 @@ fn before_arm(
         cond,
     )?;
     Ok(())
+}
+
+// Adds those of the first arm of a branch, of a copy of the trail.
+#[cycle(trail_before)]
+fn before_copied(
+    stmt: &Marked,
+    place: Place,
+    cond: &FExpr,
+    alloc: Global,
+    signals: &[Signal],
+    target: SigId,
+    trail: &Trail,
+    all: &mut Vec<Trail>,
+) -> Result<(), WalkFault>
+    requires known { target.0 < length signals.now }
+    requires counted { length signals.now < 2 ^ 32 }
+    requires tells { TellsTargets stmt.now }
+    ensures adds { AddsTrails (trail_forms all.old.items
+        ++ map (marked_by (length (signal_forms signals.now))
+        (record { truth = true; place = place }) (typed_tree cond.now))
+        (trails_before (signal_forms signals.now) target.0 (marked_statement stmt.now)
+        (chosen true (trail_form trail.now)))) all.new result }
+    ensures few { length all.old.items ≤ 4096 → OnOk result (length all.new.items ≤ 4096) }
+{
+    let mut copy = trail.copy(alloc)?;
+    before_arm(
+        stmt, true, place, cond, alloc, signals, target, &mut copy, all,
+    )
 }
 
 // Adds those that some trails become.
@@ -274,7 +310,8 @@ fn before_each(
     ensures few { length all.old.items ≤ 4096 → OnOk result (length all.new.items ≤ 4096) }
 {
     for trail in trails {
-        before(stmt, alloc, signals, target, trail, all)?;
+        let mut taken = trail;
+        before(stmt, alloc, signals, target, &mut taken, all)?;
     }
     Ok(())
 }
@@ -296,7 +333,7 @@ pub fn trails_of(
         return Err(WalkFault::OutOfMemory);
     }
     let mut trails = Vec::new(alloc);
-    let open = Trail::open(alloc, target);
-    before(body, alloc, signals, target, open, &mut trails)?;
+    let mut open = Trail::open(alloc, target);
+    before(body, alloc, signals, target, &mut open, &mut trails)?;
     Ok(trails)
 }

@@ -8,5 +8,5 @@ use Rattle.sv_obl.proofs.trail_queries.+along.Goals as goal
 pub along-returns-then-not-is_taken : goal.along-returns-then-not-is_taken
 along-returns-then-not-is_taken t c =
     sym (along_stays (signal_forms c.args.signals.now) c.args.target.0
-    (marked_statement c.args.stmt.now) (way_form c.args.made)
+    (marked_statement c.args.stmt.now) (way_form c.args.making.now)
     (sym c.is_taken.ensures ∙ c.if-not-is_taken.true))

@@ -20,8 +20,8 @@ returns c =
     let body = marked_statement c.args.body.now in
     let trail = trail_form c.args.trail.now in
     let close = step_with (closed_tree forms false) in
-    let way : way_form c.in_ok-made.made ≡ along forms s body (open_way s trail.choices) =
-    c.in_ok-made.ensures
+    let way : way_form c.along.new.making ≡ along forms s body (open_way s trail.choices) =
+    c.in_ok-along.ensures
     ∙ ap (along forms s body) (begins s (trail_form c.open.result) c.new.result.items
     c.as_slice.result.now trail.choices c.open.ensures c.new.ensures.items
     c.as_slice.ensures.value) in

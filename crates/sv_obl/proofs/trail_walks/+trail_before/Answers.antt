@@ -20,20 +20,23 @@ before-returns-then-not-is_taken-clause-adds t c =
     let signals = signal_forms c.args.signals.now in
     subst (λ (ts : List TrailForm). AddsTrails (trail_forms c.args.all.now.items ++ ts)
     c.add.new.all c.add.result)
-    (sym (stays signals c.args.target.0 (marked_statement c.args.stmt.now)
-    (trail_form c.args.trail) (sym c.is_taken.ensures ∙ c.if-not-is_taken.true)))
+    (ap (λ (t : TrailForm). t ∷ []) c.taken.ensures
+    ∙ sym (stays signals c.args.target.0 (marked_statement c.args.stmt.now)
+    (trail_form c.args.trail.now) (sym c.is_taken.ensures ∙ c.if-not-is_taken.true)))
     c.add.ensures.adds
 
 pub before-returns-in-Assign-clause-adds : goal.before-returns-in-Assign-clause-adds
 before-returns-in-Assign-clause-adds t c =
     let signals = signal_forms c.args.signals.now in
     let s = c.args.target.0 in
-    let trail = trail_form c.args.trail in
+    let trail = trail_form c.args.trail.now in
     let taken = subst (λ x. takes (marked_statement x) trail ≡ true) c.in-Assign.is
     (sym c.is_taken.ensures ∙ c.if-not-is_taken.false) in
     subst (λ (ts : List TrailForm). AddsTrails (trail_forms c.args.all.now.items ++ ts)
     c.put_assign.new.all c.put_assign.result)
-    (if_taken _ (with_assign signals s (piece_forms c.in-Assign.pieces.now)
+    (ap (with_assign signals s (piece_forms c.in-Assign.pieces.now) (typed_tree c.in-Assign.right))
+    c.taken-put.ensures
+    ∙ if_taken _ (with_assign signals s (piece_forms c.in-Assign.pieces.now)
     (typed_tree c.in-Assign.right) trail) (trail ∷ []) taken
     ∙ ap (λ x. trails_before signals s (marked_statement x) trail) (sym c.in-Assign.is))
     c.put_assign.ensures.adds
@@ -45,7 +48,7 @@ before-returns-in_err-before-in-Chain-clause-adds t c =
     let s = c.args.target.0 in
     let first = marked_statement c.in-Chain.first.value in
     let second = marked_statement c.deref.result.now in
-    let trail = trail_form c.args.trail in
+    let trail = trail_form c.args.trail.now in
     let old = trail_forms c.args.all.now.items in
     let none = trail_forms c.new-between.result.items in
     let whole : after first second ≡ marked_statement c.args.stmt.now =
@@ -68,7 +71,7 @@ before-returns-in_ok-before-in-Chain-clause-adds t c =
     let s = c.args.target.0 in
     let first = marked_statement c.deref-in-Chain.result.now in
     let second = marked_statement c.deref.result.now in
-    let trail = trail_form c.args.trail in
+    let trail = trail_form c.args.trail.now in
     let whole : after first second ≡ marked_statement c.args.stmt.now =
     ap₂ (λ x y. after (marked_statement x) (marked_statement y)) c.deref-in-Chain.ensures
     c.deref.ensures ∙ sym (ap marked_statement c.in-Chain.is) in
@@ -87,7 +90,7 @@ before_arm-returns-in_err-before-clause-adds t c =
     let mark : Mark = record { truth = c.args.truth; place = c.args.place } in
     arm_fails (marked_by (length signals) mark (typed_tree c.args.cond.now))
     (trail_forms c.args.all.now.items) (before (trail_form c.choose.new.self))
-    (before (chosen c.args.truth (trail_form c.args.trail))) c.before-2.new.all c.before-2.new.all
+    (before (chosen c.args.truth (trail_form c.args.trail.now))) c.before-2.new.all c.before-2.new.all
     c.in_err-before.field-0.0 c.from_residual-in_err-before.result (ap before c.in_ok-choose.ensures)
     c.from_residual-in_err-before.ensures.1 c.in_err-before.ensures.adds
 

@@ -104,7 +104,10 @@ impl<'a> Listing<'a> {
     }
 
     /// The obligations of the target that comes next, each one of the design's; an error where it
-    /// exceeds a limit, or where memory runs out, and then the listing stays before it.
+    /// exceeds a limit, or where memory runs out, and then the listing stays before it. They all
+    /// stand in memory at once: where values of earlier reads are put into their conditions, and
+    /// these have over 16,777,216 nodes in all, some 2 GB, that is want of memory, however much
+    /// there is; at most 65,537 nodes of each condition count.
     pub fn target_queries(
         &mut self,
         alloc: Global,

@@ -1,6 +1,6 @@
 // The paths of targets, and their obligations.
 ghost use Rattle.std.specs.Prelude.{◌≡◌, ℕ, ◌<◌, ◌≤◌, [], ◌++◌, map, length, All, Contains, IfOk};
-ghost use Rattle.std.specs.Prelude.{OnOk};
+ghost use Rattle.std.specs.Prelude.{◌+◌, OnOk, IsErr};
 ghost use Rattle.sv_flat.specs.ByNumber.{signal_forms};
 ghost use Rattle.sv_flat.specs.Processes.{is_clocked};
 ghost use Rattle.sv_flat.specs.Design.{FlatDesign};
@@ -8,7 +8,7 @@ ghost use Rattle.sv_flat.specs.Views.{process_form, process_kind, design_of};
 ghost use Rattle.sv_design.specs.Designs.{IsDesign};
 ghost use Rattle.sv_obl.specs.Answers.{Answers, excess_at};
 ghost use Rattle.sv_obl.specs.Alongs.{trail_obligation, trails_excess};
-ghost use Rattle.sv_obl.specs.Driven.{how_many, CanWalk, IsDriven, IsWalked};
+ghost use Rattle.sv_obl.specs.Driven.{how_many, CanWalk, IsDriven, IsWalked, nodes_on};
 ghost use Rattle.sv_obl.specs.MarkedBodies.{marked_statement, TellsTargets, AreBodiesOf};
 ghost use Rattle.sv_obl.specs.Trails.{open_trail, trails_before};
 ghost use Rattle.sv_obl.specs.TrailViews.{trail_forms};
@@ -17,15 +17,15 @@ ghost use Rattle.sv_obl.specs.Routes.{RouteForm, open_route, routes_before, name
 ghost use Rattle.sv_obl.specs.Routes.{route_obligation, target_excess};
 ghost use Rattle.sv_obl.specs.IndexedBodies.{looked_up};
 ghost use Rattle.sv_obl.specs.RouteViews.{route_forms, Finds};
-ghost use Rattle.sv_obl.specs.Views.{obligation_of};
+ghost use Rattle.sv_obl.specs.Views.{step_form, obligation_of};
 
 use crate::body_slices::{Bodies, slice_for};
 use crate::faults::{MOST_OBLIGATIONS, OblFault, WalkFault};
 use crate::indexed::Indexed;
 use crate::marked::Marked;
-use crate::nodes::{some_large, some_trail_large};
+use crate::nodes::{some_large, some_trail_large, with_nodes};
 use crate::path_queries::query_of;
-use crate::queries::Query;
+use crate::queries::{Query, Step};
 use crate::routes::Route;
 use crate::trail_queries::trail_query;
 use crate::trail_walks::trails_of;
@@ -34,6 +34,10 @@ use crate::walks::routes_of;
 use std::alloc::{AllocError, Global};
 use sv_design::Design;
 use sv_flat::{Process, SigId, Signal};
+
+// How many nodes the conditions of a target's obligations may have in all, where values of earlier
+// reads are put into them. They take some 2 GB.
+const MOST_MADE: u32 = 16_777_216;
 
 /// How many signals the design has.
 pub fn count_of(design: &Design) -> u32
@@ -207,7 +211,24 @@ fn add_queries(
     Ok(())
 }
 
-// Adds those of paths through a body with earlier reads.
+// What is left of so many nodes behind those of the conditions. An error says that these are more.
+fn nodes_left(left: u32, steps: &[Step]) -> Result<u32, AllocError>
+    ensures left { IfOk result (λ rest. rest + nodes_on (map step_form steps.now) ≡ left) }
+    ensures more { IsErr result → left < nodes_on (map step_form steps.now) }
+{
+    let mut rest = left;
+    for step in steps {
+        let nodes = with_nodes(0, 1, &step.cond);
+        if rest < nodes {
+            return Err(AllocError);
+        }
+        rest -= nodes;
+    }
+    Ok(rest)
+}
+
+// Adds those of paths through a body with earlier reads, whose conditions have values put into them
+// for each path anew: where they have over 16,777,216 nodes in all, that is want of memory too.
 fn add_trail_queries(
     alloc: Global,
     signals: &[Signal],
@@ -224,14 +245,18 @@ fn add_trail_queries(
         ++ map (trail_obligation (signal_forms signals.now) (process_form process.now) target.0
         (marked_statement body.now)) (trail_forms trails.now)) }
 {
+    let mut left = MOST_MADE;
     for trail in trails {
-        queries.push(trail_query(alloc, signals, process, target, body, trail)?)?;
+        let query = trail_query(alloc, signals, process, target, body, trail)?;
+        left = nodes_left(left, &query.path)?;
+        queries.push(query)?;
     }
     Ok(())
 }
 
 /// The obligations of a target, given its paths if a process drives it; an error where memory runs
-/// out.
+/// out, or where the conditions of paths through a body with earlier reads have over 16,777,216
+/// nodes in all.
 pub fn queries_of(
     alloc: Global,
     signals: &[Signal],

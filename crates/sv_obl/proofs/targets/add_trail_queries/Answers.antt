@@ -15,6 +15,6 @@ loop-trail-preserved c =
     let trails = c.args.trails.now in
     next_query trail_form become trails c.loop-trail.trail-index c.trail-item.result
     c.loop-trail-test.true c.trail-item.is c.loop-trail.queries.items c.push.new.self.items
-    c.in_ok-trail_query.field-0
+    c.in_ok-query.query
     (map obligation_of c.args.queries.now.items ++ map become (trail_forms trails))
-    c.in_ok-push.ensures.items c.in_ok-trail_query.ensures c.loop-trail.invariant
+    c.in_ok-push.ensures.items c.in_ok-query.ensures c.loop-trail.invariant

@@ -1,5 +1,5 @@
--- What of a statement matters to one target (a program slice): what gives the target its value, and
--- nothing that gives one to other signals alone.
+-- What of a statement matters to one target (a program slice) where no read is an earlier one: what
+-- gives the target its value, and nothing that gives one to other signals alone.
 use Rattle.std.specs.Prelude.{◌≡◌, ℕ, if◌then◌else◌, List, [], ◌∷◌, map}
 use Rattle.sv_flat.specs.Design.{FlatStatement, nothing, after, assign, branch, ProcessForm}
 use Rattle.sv_flat.specs.Design.{FlatDesign}

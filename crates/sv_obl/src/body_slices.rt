@@ -1,4 +1,5 @@
-// What of a body matters to one target, so that a walk for it asks nothing twice.
+// What of a body matters to one target where no read is an earlier one, so that a walk for it asks
+// nothing twice.
 ghost use Rattle.std.specs.Prelude.{◌≡◌, ℕ, ◌-◌, ◌<◌, [], ◌++◌, map, length, is_some};
 ghost use Rattle.std.specs.Prelude.{IsTrue, IfSome, IfOk, OnOk};
 ghost use Rattle.std.specs.List.{list_any};
@@ -21,9 +22,9 @@ use sv_design::Design;
 use sv_flat::{FExpr, Piece, SigId, Signal};
 use sv_num::Place;
 
-/// What of a statement matters to one target (a program slice): each part that does not assign the
-/// target is left out. A `case` stands as a chain of branches, the next in `no`, which may be
-/// walked by a loop.
+/// What of a statement matters to one target (a program slice) where no read is an earlier one:
+/// each part that does not assign the target is left out. A `case` stands as a chain of branches,
+/// the next in `no`, which may be walked by a loop.
 #[derive(Debug, Drop)]
 pub enum BodySlice<'a> {
     Nothing,

@@ -293,6 +293,44 @@ def fixed_blocks(folder):
         compare(what, (answer, status), (wanted, status_of(wanted)))
 
 
+def doubled(more):
+    """A target into which 65,533 nodes are put for `x`, which is doubled 14 times, and these."""
+    return f"""module m(input [7:0] a, b, c, output reg [7:0] y);
+  reg [7:0] x, w;
+  always @* begin
+    w = {more}; x = a;
+    {"x = x + x; " * 14}
+    y = x + w; x = 0; w = 0;
+  end
+endmodule
+"""
+
+
+def nested(count):
+    """A condition that nests two levels for each of so many sums, and two more."""
+    return f"""module m(input [7:0] a, output reg y);
+  reg [7:0] x;
+  always @* begin
+    x = a;
+    {"x = x + a; " * count}
+    if (x) y = 1; else y = 0;
+    x = 0;
+  end
+endmodule
+"""
+
+
+def limits(folder):
+    """65,536 nodes that are put into one path and one more, and a condition that nests 4,096 levels
+    once all is put in and one that nests more."""
+    rows = [(doubled("b & c"), ("accepted 3 obligations\n", 0)),
+            (doubled("~(b & c)"), ("refused 712 obligation-size y\n", 1)),
+            (nested(2047), ("accepted 3 obligations\n", 0)), (nested(2048), ("", 6))]
+    for text, wanted in rows:
+        put(folder, "f", text)
+        compare(f"check {text[:300]}", told(folder, "check f"), wanted)
+
+
 def same(what, module, got, wanted):
     """Compares, and shows the block where that fails."""
     if got != wanted:
@@ -363,4 +401,4 @@ def checked(folder, number, module, runs, lines):
 
 
 if __name__ == "__main__":
-    finish([fixed_blocks, random_blocks])
+    finish([fixed_blocks, limits, random_blocks])

@@ -7,7 +7,7 @@ use Rattle.design_tests.proofs.QueryFacts.{asked_at}
 use Rattle.design_tests.proofs.encodings.are_as_alone.Goals as goal
 
 pub numbers-init : goal.numbers-init
-numbers-init c = c.new-coder.ensures (design_of c.args.design.now) c.in_ok-bodies.ensures
+numbers-init c = c.in_ok-coder.ensures
 
 pub is_as_alone-requires-clause-query : goal.is_as_alone-requires-clause-query
 is_as_alone-requires-clause-query c =

@@ -2,7 +2,7 @@
 use Rattle.std.proofs.Common.{◌≡◌, ℕ, ◌+◌, ◌-◌, ◌<◌, ◌≤◌, ◌++◌, zero, suc, List, [], ◌∷◌, map}
 use Rattle.std.proofs.Common.{length, Option, Some, None, refl, sym, ◌∙◌, ap, subst, arith}
 use Rattle.std.proofs.Common.{length-append}
-use Rattle.std.specs.Prelude.{slice_get, option_map, IfSome, All}
+use Rattle.std.specs.Prelude.{slice_get, option_map, IfSome, All, Result, Ok, Err, IfOk}
 use Rattle.std.proofs.lemmas.List.Elements.{All-get_or}
 use Rattle.std.proofs.lemmas.Option.{slice_get_within, slice_get-map}
 use Rattle.std.proofs.lemmas.Option.{get_or_from_slice_get}
@@ -13,7 +13,6 @@ use Rattle.sv_obl.specs.Obligations.{Obligation, obligations, target_obligations
 use Rattle.sv_obl.specs.Views.{obligation_of}
 use Rattle.sv_obl.specs.declared.list_parts.Listing.{Listing}
 use Rattle.sv_obl.specs.declared.queries.Query.{Query}
-use Rattle.sv_obl.proofs.TargetFacts.{length_mapped}
 use Rattle.sv_obl.proofs.WrittenFacts.{before_and_from, from_next, next_before}
 use Rattle.sv_cli.specs.Clauses.{IsFoundOrNext}
 
@@ -52,9 +51,6 @@ module _ {A : Type 0} where
   none_past (x ∷ xs) zero none = absurd cc
   none_past (x ∷ xs) (suc k) none = let low = none_past xs k none in omega arith
 
-two_sums : {a b c d : ℕ} → a ≡ c → b ≡ d → a + b ≡ c + d
-two_sums first second = omega arith
-
 -- ---- obligations
 
 module _ (design : FlatDesign) (before : ℕ) where
@@ -80,19 +76,18 @@ module _ (design : FlatDesign) (before : ℕ) where
   place first behind = omega arith
 
   -- among the obligations of the target that comes next
-  pub found_or_next : (i : ℕ) (old new : Listing) (queries : List Query) (found : Option Query)
+  pub found_or_next : (i : ℕ) (old new : Listing) (found : Option Query)
       → i < length design.signals → IsAt design i old → IsAt design (i + 1) new
-      → old.count ≤ before → map obligation_of queries ≡ target_obligations [] design i
-      → All (IsQueryOf design) (map obligation_of queries)
-      → found ≡ slice_get queries (before - old.count)
+      → old.count ≤ before
+      → option_map obligation_of found
+      ≡ slice_get (target_obligations [] design i) (before - old.count)
+      → IfSome found (λ query. IsQueryOf design (obligation_of query))
       → IsFoundOrNext design (i + 1) before new found
-  found_or_next i old new queries (Some query) inside at next behind are all is =
+  found_or_next i old new (Some query) inside at next behind is of_design =
       let k = before - old.count in
       let here = target_obligations [] design i in
       let before_it = obligations_before design i in
       let after = obligations_from design (i + 1) in
-      let among : slice_get here k ≡ Some (obligation_of query) =
-      sym (plain_at queries here k (Some query) are is) in
       let at_place : before ≡ length before_it + k =
       place old.count behind ∙ ap (λ n. n + k) at.counted.count in (
         ap (λ n. slice_get (obligations [] design) n) at_place
@@ -100,25 +95,30 @@ module _ (design : FlatDesign) (before : ℕ) where
             (sym (before_and_from design i (low i inside)) ∙ ap (λ os. before_it ++ os)
             (from_next design i inside))
             ∙ get_behind before_it (here ++ after) k
-            ∙ get_first here after k (obligation_of query) among,
-        is_query queries k (Some query) all is,
+            ∙ get_first here after k (obligation_of query) (sym is),
+        of_design,
       )
     where
       low : (j : ℕ) → j < length design.signals → j ≤ length design.signals
       low j lt = omega arith
-  found_or_next i old new queries None inside at next behind are all is =
-      (next, above (length queries) past many)
+  found_or_next i old new None inside at next behind is of_design =
+      (next, above (length (target_obligations [] design i)) past many)
     where
-      past : length queries ≤ before - old.count
-      past = none_past queries (before - old.count) (sym is)
+      past : length (target_obligations [] design i) ≤ before - old.count
+      past = none_past (target_obligations [] design i) (before - old.count) (sym is)
 
-      many : new.count ≡ old.count + length queries
+      many : new.count ≡ old.count + length (target_obligations [] design i)
       many =
           next.counted.count
           ∙ ap length (next_before design i)
           ∙ length-append (obligations_before design i) (target_obligations [] design i)
-          ∙ two_sums (sym at.counted.count)
-          (sym (ap length are) ∙ length_mapped obligation_of queries)
+          ∙ ap (λ n. n + length (target_obligations [] design i)) (sym at.counted.count)
 
       above : (n : ℕ) → n ≤ before - old.count → new.count ≡ old.count + n → new.count ≤ before
       above n le is_many = omega arith
+
+-- what follows from two facts on the value in an `Ok`
+pub both_ok : {T E : Type 0} (r : Result T E) (P Q R : T → Type 0) → IfOk r P → IfOk r Q
+    → ((x : T) → P x → Q x → R x) → IfOk r R
+both_ok (Ok x) P Q R first second then = then x first second
+both_ok (Err y) P Q R first second then = tt

@@ -8,7 +8,7 @@ ghost use Rattle.sv_io.specs.Sink.{WritesFront};
 ghost use Rattle.sv_obl.specs.Asked.{asked};
 ghost use Rattle.sv_obl.specs.DesignQueries.{IsQueryOf};
 ghost use Rattle.sv_obl.specs.Limits.{excess};
-ghost use Rattle.sv_obl.specs.ListParts.{IsAt};
+ghost use Rattle.sv_obl.specs.ListParts.{IsAt, ArePathsOf, obligations_on};
 ghost use Rattle.sv_obl.specs.Views.{obligation_of};
 ghost use Rattle.sv_encoding.specs.CnfText.{clause_line, problem_line, cnf_text};
 ghost use Rattle.sv_blast.specs.Coded.{encoding_of};
@@ -26,7 +26,7 @@ use sv_design::Design;
 use sv_flat::SigId;
 use sv_io::{PutFault, Sink, put_all};
 use sv_num::Rule;
-use sv_obl::{Listing, Query, check_limits};
+use sv_obl::{Bodies, Listing, Query, TargetPaths, check_limits};
 use sv_report::Style;
 
 // The clauses of one piece of the text: so many of at most three literals take less than 64 KiB.
@@ -92,8 +92,7 @@ fn query_of_number(alloc: Global, design: &Design, number: u32) -> Result<Option
     }
 }
 
-// The obligation that stands behind so many others, if there is one. Those of one target are made
-// at a time.
+// The obligation that stands behind so many others, if there is one. No other is made of a target.
 fn query_behind(alloc: Global, design: &Design, before: u32) -> Result<Option<Query>, AllocError>
     requires { excess (design_of design.now) ≡ None }
     ensures found { IfOk result (λ found. option_map obligation_of found
@@ -101,7 +100,8 @@ fn query_behind(alloc: Global, design: &Design, before: u32) -> Result<Option<Qu
     ensures query { IfOk result (λ found.
         IfSome found (λ query. IsQueryOf (design_of design.now) (obligation_of query))) }
 {
-    let mut listing = Listing::new(alloc, design)?;
+    let bodies = Bodies::new(alloc, design)?;
+    let mut listing = Listing::new(design, &bodies);
     match target_query(alloc, design, &mut listing, before)? {
         Some(query) => Ok(Some(query)),
         None => selector_query(alloc, design, &listing, before),
@@ -142,9 +142,30 @@ fn next_query(
         before listing.new found) }
 {
     let first = listing.count;
-    match listing.target_queries(alloc, design, target) {
-        Ok(queries) => Ok(taken(queries, (before - first) as usize)),
+    match listing.target_paths(alloc, design, target) {
+        Ok(paths) => path_query(alloc, design, &paths, (before - first) as usize),
         Err(_) => Err(AllocError),
+    }
+}
+
+// The obligation at a place of those of a target's paths, if there is one.
+fn path_query(
+    alloc: Global,
+    design: &Design,
+    paths: &TargetPaths,
+    place: usize,
+) -> Result<Option<Query>, AllocError>
+    requires { ArePathsOf (design_of design.now) paths.now }
+    ensures found { IfOk result (λ found. option_map obligation_of found
+        ≡ slice_get (obligations_on (design_of design.now) paths.now) place) }
+    ensures query { IfOk result (λ found.
+        IfSome found (λ query. IsQueryOf (design_of design.now) (obligation_of query))) }
+{
+    if place < paths.len() {
+        let query = paths.query(alloc, design, place)?;
+        Ok(Some(query))
+    } else {
+        Ok(None)
     }
 }
 

@@ -18,7 +18,7 @@ use sv_design::Design;
 use sv_flat::SigId;
 use sv_io::{PutFault, Sink, put_all};
 use sv_num::{Name, Rule};
-use sv_obl::{Listing, OblFault, check_limits};
+use sv_obl::{Bodies, Listing, OblFault, check_limits};
 use sv_report::Style;
 
 /// What is prepared of an admitted design to list its obligations.
@@ -84,8 +84,9 @@ pub fn put_lines<K: Sink>(alloc: Global, out: &mut K, design: &Design) -> Result
     ensures failed { IsErrOf result PutFault.Failed → Rose (K.faults out.old) (K.faults out.new) }
     ensures kept { OnOk result (K.faults out.new ≡ K.faults out.old) }
 {
-    match Listing::new(alloc, design) {
-        Ok(mut listing) => {
+    match Bodies::new(alloc, design) {
+        Ok(bodies) => {
+            let mut listing = Listing::new(design, &bodies);
             put_targets(alloc, out, design, &mut listing)?;
             put_selectors(alloc, out, design, &listing)
         }

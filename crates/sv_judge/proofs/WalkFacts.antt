@@ -6,15 +6,17 @@ use Rattle.std.proofs.lemmas.Option.{slice_get_within, slice_get-map}
 use Rattle.sv_flat.specs.Design.{FlatDesign}
 use Rattle.sv_flat.specs.Processes.{signal_numbers}
 use Rattle.sv_obl.specs.DesignQueries.{IsQueryOf, IsPlaced}
-use Rattle.sv_obl.specs.ListParts.{IsAt, obligations_before, obligations_from}
+use Rattle.sv_obl.specs.ListParts.{IsAt, ArePathsOf, obligations_before, obligations_from}
+use Rattle.sv_obl.specs.ListParts.{obligations_on}
 use Rattle.sv_obl.specs.Obligations.{Obligation, obligations, target_obligations}
 use Rattle.sv_obl.specs.Obligations.{selector_obligations}
 use Rattle.sv_obl.specs.Views.{obligation_of}
 use Rattle.sv_obl.specs.declared.list_parts.Listing.{Listing}
 use Rattle.sv_obl.specs.declared.queries.Query.{Query}
+use Rattle.sv_obl.specs.declared.target_paths.TargetPaths.{TargetPaths}
 use Rattle.sv_obl.proofs.TargetFacts.{length_mapped}
 use Rattle.sv_obl.proofs.WrittenFacts.{before_and_from, from_next, next_before}
-use Rattle.sv_judge.specs.Walking.{AreNext}
+use Rattle.sv_judge.specs.Walking.{IsNext, AreNext, ComeNext}
 use Rattle.sv_judge.proofs.Lists.{get_behind, get_first, get_all}
 
 two_sums : {a b c d : ℕ} → a ≡ c → b ≡ d → a + b ≡ c + d
@@ -48,29 +50,53 @@ module _ (design : FlatDesign) where
   low i inside = omega arith
 
   -- those of the target that comes next are counted
-  pub target_counted : (i : ℕ) (old new : Listing) (queries : List Query) → IsAt design i old
-      → IsAt design (i + 1) new → map obligation_of queries ≡ target_obligations [] design i
-      → new.count ≡ old.count + length queries
-  target_counted i old new queries at next are =
+  pub target_counted : (i : ℕ) (old new : Listing) → IsAt design i old → IsAt design (i + 1) new
+      → new.count ≡ old.count + length (target_obligations [] design i)
+  target_counted i old new at next =
       next.counted.count
       ∙ ap length (next_before design i)
       ∙ length-append (obligations_before design i) (target_obligations [] design i)
-      ∙ two_sums (sym at.counted.count) (sym (ap length are) ∙ length_mapped obligation_of queries)
+      ∙ ap (λ n. n + length (target_obligations [] design i)) (sym at.counted.count)
 
   -- and come next
-  pub target_next : (i : ℕ) (old new : Listing) (queries : List Query)
+  pub target_next : (i : ℕ) (old new : Listing) (found : TargetPaths)
       → i < length design.signals → IsAt design i old → IsAt design (i + 1) new
-      → map obligation_of queries ≡ target_obligations [] design i
-      → All (IsQueryOf design) (map obligation_of queries)
-      → All IsPlaced (map obligation_of queries) → AreNext design old.count queries
-  target_next i old new queries inside at next are of_design placed =
-      next_of (obligations_before design i) (target_obligations [] design i)
-      (obligations_from design (i + 1)) old.count queries
-      (sym (before_and_from design i (low i inside))
-      ∙ ap (λ os. obligations_before design i ++ os) (from_next design i inside))
-      at.counted.count are
-      (subst (λ n. n ≤ 65536) (target_counted i old new queries at next are) next.counted.few)
-      of_design placed
+      → ArePathsOf design found → found.target.0 ≡ i → ComeNext design old.count found
+  target_next i old new found inside at next are is =
+      let before = obligations_before design i in
+      let here = target_obligations [] design i in
+      let after = obligations_from design (i + 1) in
+      let parts : obligations [] design ≡ before ++ (here ++ after) =
+      sym (before_and_from design i (low i inside))
+      ∙ ap (λ os. before ++ os) (from_next design i inside) in
+      record {
+        paths = are;
+        among = λ k o there.
+            ap (λ n. slice_get (obligations [] design) (n + k)) at.counted.count
+            ∙ ap (λ (os : List Obligation). slice_get os (length before + k)) parts
+            ∙ get_behind before (here ++ after) k
+            ∙ get_first here after k o
+            (subst (λ t. slice_get (target_obligations [] design t) k ≡ Some o) is there);
+        few =
+            subst (λ t. old.count + length (target_obligations [] design t) ≤ 65536) (sym is)
+            (subst (λ n. n ≤ 65536) (target_counted i old new at next) next.counted.few);
+      }
+
+  -- one of them is the next
+  pub path_next : (before place n : ℕ) (found : TargetPaths) (query : Query)
+      → ComeNext design before found
+      → slice_get (obligations_on design found) place ≡ Some (obligation_of query)
+      → IsQueryOf design (obligation_of query) → IsPlaced (obligation_of query)
+      → n ≡ before + place → IsNext design n query
+  path_next before place n found query next there of_design placed is =
+      let inside = slice_get_within (obligations_on design found) place (obligation_of query) there in
+      let few = next.few in
+      record {
+        among = ap (slice_get (obligations [] design)) is ∙ next.among place (obligation_of query) there;
+        of_design = of_design;
+        placed = placed;
+        few = omega arith;
+      }
 
   abbrev selectors : List Obligation
   selectors = flat_map (selector_obligations [] design) (signal_numbers design)

@@ -6,7 +6,7 @@ ghost use Rattle.sv_flat.specs.Views.{design_of};
 ghost use Rattle.sv_obl.specs.Asked.{asked};
 ghost use Rattle.sv_obl.specs.DesignQueries.{IsQueryOf, IsPlaced};
 ghost use Rattle.sv_obl.specs.Limits.{excess};
-ghost use Rattle.sv_obl.specs.ListParts.{IsAt};
+ghost use Rattle.sv_obl.specs.ListParts.{IsAt, obligations_on};
 ghost use Rattle.sv_obl.specs.Views.{obligation_of};
 ghost use Rattle.sv_blast.specs.Coders.{IsCoder};
 ghost use Rattle.sv_proof.specs.Certificate.{AreLogs};
@@ -15,7 +15,7 @@ ghost use Rattle.sv_judge.specs.Answers.{IsNotUnknown, HasAtMost, HasUnitConflic
 ghost use Rattle.sv_judge.specs.Progress.{HasDone, IsStop, verdict_of};
 ghost use Rattle.sv_judge.specs.Verdicts.{IsAccepted, AreRefutations, AreWithin, IsFalsified};
 ghost use Rattle.sv_judge.specs.Verdicts.{EndsTooLarge, IsSpent};
-ghost use Rattle.sv_judge.specs.Walking.{IsNext, AreNext};
+ghost use Rattle.sv_judge.specs.Walking.{IsNext, AreNext, ComeNext};
 
 use crate::progress::{Progress, Stop};
 use crate::verdicts::{Checked, Failure};
@@ -26,7 +26,7 @@ use sv_blast::{BlastFault, Coder};
 use sv_decide::{Decided, decide_by, is_valid_by_labels};
 use sv_design::Design;
 use sv_flat::SigId;
-use sv_obl::{Bodies, Listing, Query};
+use sv_obl::{Bodies, Listing, Query, TargetPaths};
 
 /// What the obligations of a design come to, each with at most `budget` conflict clauses: at most
 /// 4,000,000,000. They are decided in order, until one is falsified or too large; one on which the
@@ -103,7 +103,7 @@ fn decide_all(alloc: Global, design: &Design, budget: u32, keeps: bool) -> Resul
 {
     let mut progress = Progress::new(alloc, keeps);
     let bodies = Bodies::new(alloc, design)?;
-    let mut listing = Listing::new(alloc, design)?;
+    let mut listing = Listing::new(design, &bodies);
     let mut coder = Coder::new(alloc, design, &bodies)?;
     decide_targets(
         alloc,
@@ -142,13 +142,41 @@ fn decide_targets(
     ensures stop { IfErr result (IsStop (design_of design.now) budget) }
 {
     for s in 0..design.signals().len() {
-        let queries = target_part(alloc, design, listing, SigId(s as u32))?;
-        decide_part(alloc, design, coder, budget, queries, progress)?;
+        let paths = target_part(alloc, design, listing, SigId(s as u32))?;
+        decide_paths(alloc, design, coder, budget, &paths, progress)?;
     }
     Ok(())
 }
 
-// Decides the obligations of a part, which come next.
+// Decides the obligations of a target's paths, which come next. One of them at a time is in memory.
+fn decide_paths(
+    alloc: Global,
+    design: &Design,
+    coder: &mut Coder,
+    budget: u32,
+    paths: &TargetPaths,
+    progress: &mut Progress,
+) -> Result<(), Stop>
+    requires coder { IsCoder (design_of design.now) coder.old }
+    requires some { 1 ≤ budget }
+    requires most { budget ≤ 4000000000 }
+    requires next { ComeNext (design_of design.now) progress.old.count paths.now }
+    requires done { HasDone (design_of design.now) budget progress.old }
+    ensures coder { OnOk result (IsCoder (design_of design.now) coder.new) }
+    ensures count { OnOk result (progress.new.count
+        ≡ progress.old.count + length (obligations_on (design_of design.now) paths.now)) }
+    ensures done { OnOk result (HasDone (design_of design.now) budget progress.new) }
+    ensures keeps { OnOk result (progress.new.keeps ≡ progress.old.keeps) }
+    ensures stop { IfErr result (IsStop (design_of design.now) budget) }
+{
+    for place in 0..paths.len() {
+        let query = paths.query(alloc, design, place)?;
+        decide_next(alloc, design, coder, budget, query, progress)?;
+    }
+    Ok(())
+}
+
+// Decides these obligations, which come next.
 fn decide_part(
     alloc: Global,
     design: &Design,

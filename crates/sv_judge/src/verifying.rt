@@ -3,7 +3,7 @@ ghost use Rattle.std.specs.Prelude.{◌≡◌, ◌+◌, ◌^◌, ◌<◌, None, 
 ghost use Rattle.sv_flat.specs.Views.{design_of};
 ghost use Rattle.sv_obl.specs.Asked.{asked};
 ghost use Rattle.sv_obl.specs.Limits.{excess};
-ghost use Rattle.sv_obl.specs.ListParts.{IsAt};
+ghost use Rattle.sv_obl.specs.ListParts.{IsAt, obligations_on};
 ghost use Rattle.sv_blast.specs.Coders.{IsCoder};
 ghost use Rattle.sv_proof.specs.Certificate.{AreLogs, plain_logs, proof_lines, proof_text};
 ghost use Rattle.sv_judge.specs.Answers.{WhereVerified, WhereFault, WhereLarge};
@@ -11,7 +11,7 @@ ghost use Rattle.sv_judge.specs.Certified.{EarlierAreShown, IsVerified, IsFaultL
 ghost use Rattle.sv_judge.specs.Certified.{IsTooLargeToVerify};
 ghost use Rattle.sv_judge.specs.Verifying.{AreMatched, IsFlaw, IsVerdict, broken_verdict};
 ghost use Rattle.sv_judge.specs.Verifying.{flawed_verdict};
-ghost use Rattle.sv_judge.specs.Walking.{IsNext, AreNext};
+ghost use Rattle.sv_judge.specs.Walking.{IsNext, AreNext, ComeNext};
 ghost use Rattle.sv_judge.specs.declared.verifying.Flaw.TheVariants.{OutOfMemory};
 
 use crate::verdicts::Verified;
@@ -22,7 +22,7 @@ use sv_blast::Coder;
 use sv_clause::Log;
 use sv_design::Design;
 use sv_flat::SigId;
-use sv_obl::{Bodies, Listing, Query};
+use sv_obl::{Bodies, Listing, Query, TargetPaths};
 use sv_proof::{ProofFault, line_of_fault, read_proof};
 
 // The line of the number of obligations.
@@ -123,7 +123,7 @@ fn verify_all(alloc: Global, design: &Design, logs: &[Log]) -> Result<(), Flaw>
 {
     let bodies = Bodies::new(alloc, design)?;
     let mut coder = Coder::new(alloc, design, &bodies)?;
-    let mut listing = Listing::new(alloc, design)?;
+    let mut listing = Listing::new(design, &bodies);
     verify_targets(alloc, design, &mut coder, logs, &mut listing)?;
     let queries = selector_part(alloc, design, &listing)?;
     verify_part(alloc, design, &mut coder, logs, listing.count, &queries)
@@ -149,13 +149,39 @@ fn verify_targets(
 {
     for s in 0..design.signals().len() {
         let first = listing.count;
-        let queries = target_part(alloc, design, listing, SigId(s as u32))?;
-        verify_part(alloc, design, coder, logs, first, &queries)?;
+        let paths = target_part(alloc, design, listing, SigId(s as u32))?;
+        verify_paths(alloc, design, coder, logs, first, &paths)?;
     }
     Ok(())
 }
 
-// Checks the logs of the obligations of a part, which come next.
+// Checks the logs of the obligations of a target's paths, which come next. One of them at a time is
+// in memory.
+fn verify_paths(
+    alloc: Global,
+    design: &Design,
+    coder: &mut Coder,
+    logs: &[Log],
+    first: u32,
+    paths: &TargetPaths,
+) -> Result<(), Flaw>
+    requires coder { IsCoder (design_of design.now) coder.old }
+    requires logs { AreMatched (design_of design.now) (plain_logs logs.now) }
+    requires next { ComeNext (design_of design.now) first paths.now }
+    requires shown { EarlierAreShown (design_of design.now) first (plain_logs logs.now) }
+    ensures coder { OnOk result (IsCoder (design_of design.now) coder.new) }
+    ensures shown { OnOk result (EarlierAreShown (design_of design.now)
+        (first + length (obligations_on (design_of design.now) paths.now)) (plain_logs logs.now)) }
+    ensures flaw { IfErr result (IsFlaw (design_of design.now) (plain_logs logs.now)) }
+{
+    for path in 0..paths.len() {
+        let query = paths.query(alloc, design, path)?;
+        verify_next(alloc, design, coder, logs, first + path as u32, &query)?;
+    }
+    Ok(())
+}
+
+// Checks the logs of these obligations, which come next.
 fn verify_part(
     alloc: Global,
     design: &Design,

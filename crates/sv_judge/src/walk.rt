@@ -1,35 +1,34 @@
-// The obligations of a design, part by part: those of one target after the other, and then those of
-// selectors.
+// The obligations of a design, part by part: the paths of one target after the other, each of which
+// gives one, and then those of selectors.
 ghost use Rattle.std.specs.Prelude.{◌≡◌, ◌+◌, ◌<◌, ◌≤◌, length, IfOk, OnOk};
 ghost use Rattle.sv_flat.specs.Views.{design_of};
 ghost use Rattle.sv_obl.specs.Asked.{asked};
-ghost use Rattle.sv_obl.specs.ListParts.{IsAt};
+ghost use Rattle.sv_obl.specs.ListParts.{IsAt, obligations_on};
 ghost use Rattle.sv_obl.specs.Obligations.{obligations};
-ghost use Rattle.sv_judge.specs.Walking.{AreNext};
+ghost use Rattle.sv_judge.specs.Walking.{AreNext, ComeNext};
 
 use std::alloc::{AllocError, Global};
 use sv_design::Design;
 use sv_flat::SigId;
-use sv_obl::{Listing, Query};
+use sv_obl::{Listing, Query, TargetPaths};
 
-/// The obligations of the target that comes next, of a design that exceeds no limit. An error says
-/// that memory ran out.
-pub fn target_part(
+/// The paths of the target that comes next, of a design that exceeds no limit. An error says that
+/// memory ran out.
+pub fn target_part<'d, 'b, 'a>(
     alloc: Global,
-    design: &Design,
-    listing: &mut Listing,
+    design: &'d Design,
+    listing: &mut Listing<'b, 'a>,
     target: SigId,
-) -> Result<Vec<Query>, AllocError>
+) -> Result<TargetPaths<'d, 'b, 'a>, AllocError>
     requires known { target.0 < length design.now.signals.items }
     requires at { IsAt (design_of design.now) target.0 listing.old }
-    ensures next { IfOk result (λ queries.
-        AreNext (design_of design.now) listing.old.count queries.items) }
-    ensures count { IfOk result (λ queries.
-        listing.new.count ≡ listing.old.count + length queries.items) }
+    ensures next { IfOk result (ComeNext (design_of design.now) listing.old.count) }
+    ensures count { IfOk result (λ paths. listing.new.count
+        ≡ listing.old.count + length (obligations_on (design_of design.now) paths)) }
     ensures at { OnOk result (IsAt (design_of design.now) (target.0 + 1) listing.new) }
 {
-    match listing.target_queries(alloc, design, target) {
-        Ok(queries) => Ok(queries),
+    match listing.target_paths(alloc, design, target) {
+        Ok(paths) => Ok(paths),
         Err(_) => Err(AllocError),
     }
 }

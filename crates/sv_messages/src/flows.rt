@@ -2,7 +2,7 @@
 ghost use Rattle.std.specs.Prelude.{◌≡◌, ◌<◌, length, IfOk, IsTrue};
 ghost use Rattle.sv_flat.specs.ByNumber.{FitSignals};
 ghost use Rattle.sv_flat.specs.Views.{design_of};
-ghost use Rattle.sv_obl.specs.ListParts.{IsAt};
+ghost use Rattle.sv_obl.specs.ListParts.{IsAt, ArePathsOf};
 ghost use Rattle.sv_obl.specs.Valuations.{FitsDesign};
 
 use crate::designs::admitted_design;
@@ -14,15 +14,18 @@ use sv_flat::SigId;
 use sv_hints::{Case, Origin, shown};
 use sv_lattice::Point;
 use sv_num::Place;
-use sv_obl::{Frame, Goal, Listing, Query, Valuation};
+use sv_obl::{Bodies, Frame, Goal, Listing, Query, TargetPaths, Valuation};
 use sv_report::{frames_of, label_in};
 use sv_sim::Sim;
 
 // The obligation of a number, where there is one.
 fn query_of(alloc: Global, design: &Design, number: u32) -> Option<Query> {
     let before = number.checked_sub(1)?;
-    match Listing::new(alloc, design) {
-        Ok(mut listing) => listed_query(alloc, design, &mut listing, before),
+    match Bodies::new(alloc, design) {
+        Ok(bodies) => {
+            let mut listing = Listing::new(design, &bodies);
+            listed_query(alloc, design, &mut listing, before)
+        }
         Err(_) => None,
     }
 }
@@ -33,10 +36,10 @@ fn listed_query(alloc: Global, design: &Design, listing: &mut Listing, before: u
 {
     for s in 0..count_of(design) {
         let first = listing.count;
-        let Ok(queries) = listing.target_queries(alloc, design, SigId(s)) else {
+        let Ok(paths) = listing.target_paths(alloc, design, SigId(s)) else {
             return None;
         };
-        if let Some(query) = taken(queries, before, first) {
+        if let Some(query) = path_query(alloc, design, &paths, before, first) {
             return Some(query);
         }
     }
@@ -52,6 +55,24 @@ fn count_of(design: &Design) -> u32
     ensures { result ≡ length design.now.signals.items }
 {
     design.signals().len() as u32
+}
+
+// The obligation behind so many, of a target's paths behind the first ones.
+fn path_query(
+    alloc: Global,
+    design: &Design,
+    paths: &TargetPaths,
+    before: u32,
+    first: u32,
+) -> Option<Query>
+    requires { ArePathsOf (design_of design.now) paths.now }
+{
+    let at = before.checked_sub(first)? as usize;
+    if at < paths.len() {
+        paths.query(alloc, design, at).ok()
+    } else {
+        None
+    }
 }
 
 // The obligation behind so many, of a list behind the first ones.

@@ -28,14 +28,13 @@ use Rattle.sv_design.specs.Designs.{IsDesign}
 use Rattle.sv_design.proofs.Sound.{few_bits}
 use Rattle.sv_obl.specs.declared.body_slices.Bodies.{Bodies}
 use Rattle.sv_obl.specs.declared.marked.Marked.{Marked}
-use Rattle.sv_obl.specs.declared.targets.Driven.{Driven}
 use Rattle.sv_obl.specs.declared.targets.Paths.{Paths}
 use Rattle.sv_obl.specs.declared.targets.Paths.TheVariants.{Routes, Trails}
 use Rattle.sv_obl.specs.declared.trails.Trail.{Trail}
 use Rattle.sv_obl.specs.Alongs.{trail_obligation, trails_excess}
 use Rattle.sv_obl.specs.Answers.{excess_at}
 use Rattle.sv_obl.specs.Driven.{CanWalk, AreTrails, ArePaths}
-use Rattle.sv_obl.specs.Driven.{IsDriven, ArePathsWalked, IsWalked}
+use Rattle.sv_obl.specs.Driven.{ArePathsWalked}
 use Rattle.sv_obl.specs.MarkedBodies.{marked_statement, IsMarkedBody, IsMarkedFor, HasCopies}
 use Rattle.sv_obl.specs.MarkedBodies.{AreBodiesOf}
 use Rattle.sv_obl.specs.Trails.{TrailForm, open_trail, trails_before}
@@ -61,16 +60,10 @@ marked_at signals (q ∷ ps) (y ∷ xs) (suc k) p x all inside there is =
 
 -- ---- what was found
 
-paths_walked : (design : FlatDesign) (s : ℕ) (process : Process) (paths : Paths)
+pub paths_walked : (design : FlatDesign) (s : ℕ) (process : Process) (paths : Paths)
     → ArePaths design s process paths → ArePathsWalked paths
 paths_walked design s process (Routes routes) are = tt
 paths_walked design s process (Trails body trails) are = are.walks
-
-pub driven_walked : (design : FlatDesign) (s total : ℕ) (found : Option Driven)
-    → IsDriven design s total found → IsWalked found
-driven_walked design s total None is = tt
-driven_walked design s total (Some driven) is =
-    paths_walked design s driven.process.now driven.paths is.are
 
 -- where a marked body is held, copies of the signals are
 pub held_copies : (design : FlatDesign) (held : Bodies) → AreBodiesOf design held → (k : ℕ)

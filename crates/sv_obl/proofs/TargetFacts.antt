@@ -1,13 +1,14 @@
 -- The walk through all targets, one after the other.
 use Rattle.std.proofs.Common.{◌≡◌, ℕ, zero, suc, ◌+◌, ◌<◌, ◌≤◌, Bool, cond, nat_lt, List, []}
-use Rattle.std.proofs.Common.{◌∷◌, ◌++◌, length, map, flat_map, get_or, drop, Option, Some, None}
-use Rattle.std.proofs.Common.{refl, sym, ap, ap₂, subst, ◌∙◌, append_assoc, append-nil, add-one}
+use Rattle.std.proofs.Common.{◌∷◌, ◌++◌, length, map, flat_map, take, get_or, Option, Some, None}
+use Rattle.std.proofs.Common.{refl, sym, ap, ap₂, subst, ◌∙◌, append-nil}
 use Rattle.std.proofs.Common.{length-append, arith, le-ltb, All}
-use Rattle.std.proofs.Math.Seq.{drop-cons}
-use Rattle.std.specs.Prelude.{Contains, IsTrue}
+use Rattle.std.specs.Prelude.{Contains, IsTrue, slice_get, option_map}
 use Rattle.std.specs.List.{list_any}
-use Rattle.std.proofs.lemmas.List.{map-append}
-use Rattle.std.proofs.lemmas.List.Elements.{Contains-get_or}
+use Rattle.std.proofs.lemmas.List.{take_more}
+use Rattle.std.proofs.lemmas.List.Elements.{Contains-get_or, All-get_or}
+use Rattle.std.proofs.lemmas.Option.{slice_get_read, slice_get-map, slice_get_within}
+use Rattle.std.proofs.lemmas.Option.{get_or_from_slice_get}
 use Rattle.sv_system.proofs.Lists.{Contains-map}
 use Rattle.sv_flat.specs.Design.{ProcessForm, FlatDesign}
 use Rattle.sv_flat.specs.Soundness.{sound, is_signal}
@@ -16,39 +17,41 @@ use Rattle.sv_flat.specs.Clocks.{processes_of}
 use Rattle.sv_flat.specs.Processes.{drivers, is_block, is_clocked}
 use Rattle.sv_flat.specs.Readings.{no_bits}
 use Rattle.sv_flat.specs.SignalLists.{driver_of}
-use Rattle.sv_obl.specs.declared.queries.Query.{Query}
 use Rattle.sv_obl.specs.Answers.{excess_at}
 use Rattle.sv_obl.specs.Limits.{Excess, many_paths, large_path, many_obligations, target_paths}
 use Rattle.sv_obl.specs.Obligations.{Obligation, path_obligation, target_obligations}
 use Rattle.sv_obl.specs.Paths.{Path, paths}
 use Rattle.sv_obl.specs.Routes.{RouteForm, open_route, routes_before, route_obligation}
 use Rattle.sv_obl.specs.Routes.{names_on, target_excess}
-use Rattle.sv_obl.specs.Views.{obligation_of}
 use Rattle.sv_obl.specs.Wanted.{marked}
 use Rattle.sv_obl.proofs.OneDriver.{no_driver, one_driver_at}
 use Rattle.sv_obl.proofs.RouteObligations.{target_is, target_large, target_count}
 use Rattle.sv_obl.proofs.RouteObligations.{target_below}
 
--- the obligation of one more path
-pub next_query : {F X : Type 0} (form : X → F) (become : F → Obligation) (xs : List X) (i : ℕ)
-    (x : X) → i < length xs → x ≡ get_or xs i x
-    → (queries new : List Query) (q : Query) (whole : List Obligation)
-    → new ≡ queries ++ q ∷ [] → obligation_of q ≡ become (form x)
-    → map obligation_of queries ++ map become (map form (drop i xs)) ≡ whole
-    → map obligation_of new ++ map become (map form (drop (i + 1) xs)) ≡ whole
-next_query form become xs i x inside is queries new q whole gains same here =
-    ap (λ qs. map obligation_of qs ++ map become (map form (drop (i + 1) xs))) gains
-    ∙ ap (λ os. os ++ map become (map form (drop (i + 1) xs)))
-    (map-append obligation_of queries (q ∷ []))
-    ∙ append_assoc (map obligation_of queries) (obligation_of q ∷ [])
-    (map become (map form (drop (i + 1) xs)))
-    ∙ ap₂ (λ o k. map obligation_of queries ++ o ∷ map become (map form (drop k xs)))
-    same (add-one i)
-    ∙ ap (λ t. map obligation_of queries
-    ++ become (form t) ∷ map become (map form (drop (suc i) xs))) is
-    ∙ ap (λ ts. map obligation_of queries ++ map become (map form ts))
-    (sym (drop-cons xs i x inside))
-    ∙ here
+-- the obligation of the path at a place
+pub obligation_at : {F X : Type 0} (form : X → F) (become : F → Obligation) (xs : List X)
+    (os : List Obligation) (k : ℕ) (x : X) → map become (map form xs) ≡ os → k < length xs
+    → x ≡ get_or xs k x → slice_get os k ≡ Some (become (form x))
+obligation_at form become xs os k x are inside is =
+    ap (λ (ys : List Obligation). slice_get ys k) (sym are)
+    ∙ slice_get-map become (map form xs) k
+    ∙ ap (option_map become) (slice_get-map form xs k)
+    ∙ ap (λ found. option_map become (option_map form found))
+    (slice_get_read xs (length xs) k x refl inside is)
+
+-- what holds of all holds of the one at a place
+pub get_all : {A : Type 0} (P : A → Type 0) (xs : List A) (k : ℕ) (x : A) → All P xs
+    → slice_get xs k ≡ Some x → P x
+get_all P xs k x all is =
+    subst P (get_or_from_slice_get xs k x x is)
+    (All-get_or P xs k x (slice_get_within xs k x is) all)
+
+-- one element more
+pub take_next : {A : Type 0} (xs : List A) (k : ℕ) (x : A) → slice_get xs k ≡ Some x
+    → take (k + 1) xs ≡ take k xs ++ x ∷ []
+take_next xs k x is =
+    take_more xs k x (slice_get_within xs k x is)
+    ∙ ap (λ y. take k xs ++ y ∷ []) (get_or_from_slice_get xs k x x is)
 
 pub form_there : {F X : Type 0} (form : X → F) (xs : List X) (i : ℕ) (x : X) → i < length xs
     → x ≡ get_or xs i x → Contains (map form xs) (form x)

@@ -230,7 +230,7 @@ module _ (design : FlatDesign) where
       }
 
   -- a target has as many obligations as paths
-  as_many : (i : ℕ) (process : Process) (paths : Paths) → ArePaths design i process paths
+  pub as_many : (i : ℕ) (process : Process) (paths : Paths) → ArePaths design i process paths
       → how_many paths ≡ length (target_obligations [] design i)
   as_many i process (Routes routes) are =
       let become = route_obligation (length design.signals) (process_form process) i in

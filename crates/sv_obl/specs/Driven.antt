@@ -1,7 +1,7 @@
 -- Private: how the code goes. The paths of a target as the calls hand them on, with the process
 -- that drives it; which obligations a target has stands in `Obligations`.
-use Rattle.std.specs.Prelude.{◌≡◌, ℕ, ◌+◌, ◌<◌, ◌≤◌, List, [], ◌∷◌, length, map, reverse, All}
-use Rattle.std.specs.Prelude.{Contains, Option, Some, None}
+use Rattle.std.specs.Prelude.{◌≡◌, ℕ, ◌+◌, ◌<◌, ◌≤◌, List, [], length, map, reverse, All, Contains}
+use Rattle.std.specs.Prelude.{Option, Some, None}
 use Rattle.sv_flat.specs.Design.{FlatDesign}
 use Rattle.sv_flat.specs.Processes.{is_clocked}
 use Rattle.sv_flat.specs.Views.{process_form}
@@ -16,9 +16,8 @@ use Rattle.sv_obl.specs.Alongs.{conditions_along, trail_obligation}
 use Rattle.sv_obl.specs.ListLines.{step_word}
 use Rattle.sv_obl.specs.MarkedBodies.{marked_statement, TellsTargets}
 use Rattle.sv_obl.specs.Obligations.{target_obligations}
-use Rattle.sv_obl.specs.Paths.{StepForm}
 use Rattle.sv_obl.specs.PutIn.{HasWords}
-use Rattle.sv_obl.specs.Routes.{RouteForm, route_obligation, names_on, with_nodes}
+use Rattle.sv_obl.specs.Routes.{RouteForm, route_obligation, names_on}
 use Rattle.sv_obl.specs.RouteViews.{route_forms}
 use Rattle.sv_obl.specs.Trails.{TrailForm}
 use Rattle.sv_obl.specs.TrailViews.{trail_forms}
@@ -76,12 +75,3 @@ IsDriven design s total (Some driven) = HasPaths design s total driven
 abbrev pub ArePathsWalked : Paths → Type 0
 ArePathsWalked (Routes routes) = Unit {0}
 ArePathsWalked (Trails body trails) = CanWalk body.now
-
-abbrev pub IsWalked : Option Driven → Type 0
-IsWalked None = Unit {0}
-IsWalked (Some driven) = ArePathsWalked driven.paths
-
--- how many nodes the conditions have, each counted up to one over the limit on a path
-abbrev pub nodes_on : List StepForm → ℕ
-nodes_on [] = 0
-nodes_on (step ∷ steps) = with_nodes 0 1 step.condition + nodes_on steps

@@ -1,10 +1,12 @@
 -- The obligations of a design, part by part: those of one target after the other, and then those of
 -- selectors; and what `secv list` prints of them.
-use Rattle.std.specs.Prelude.{◌≡◌, ◌≤◌, ℕ, ◌+◌, ◌-◌, List, ◌++◌, [], length, flat_map}
+use Rattle.std.specs.Prelude.{◌≡◌, ◌<◌, ◌≤◌, ℕ, ◌+◌, ◌-◌, List, ◌++◌, [], length, flat_map}
 use Rattle.std.specs.List.{range_with_len}
 use Rattle.sv_flat.specs.Design.{FlatDesign}
 use Rattle.sv_flat.specs.Processes.{signal_numbers}
 use Rattle.sv_obl.specs.declared.list_parts.Listing.{Listing}
+use Rattle.sv_obl.specs.declared.target_paths.TargetPaths.{TargetPaths}
+use Rattle.sv_obl.specs.Driven.{IsDriven}
 use Rattle.sv_obl.specs.Limits.{first_excess, excess}
 use Rattle.sv_obl.specs.ListLines.{lines_from}
 use Rattle.sv_obl.specs.MarkedBodies.{AreBodiesOf}
@@ -37,5 +39,15 @@ pub record AreCounted (design : FlatDesign) (target total : ℕ) : Type 0 where
 
 -- this target comes next
 pub record IsAt (design : FlatDesign) (target : ℕ) (listing : Listing) : Type 0 where
-  pub bodies : AreBodiesOf design listing.bodies
+  pub bodies : AreBodiesOf design listing.bodies.now
   pub counted : AreCounted design target listing.count
+
+-- the obligations of the target that has these paths
+abbrev pub obligations_on : FlatDesign → TargetPaths → List Obligation
+obligations_on design paths = target_obligations [] design paths.target.0
+
+-- these are the paths of a signal of the design, found behind so many obligations
+pub record ArePathsOf (design : FlatDesign) (paths : TargetPaths) : Type 0 where
+  pub inside : paths.target.0 < length design.signals
+  pub total : ℕ
+  pub driven : IsDriven design paths.target.0 total paths.paths

@@ -15,8 +15,9 @@
 //! `obligations` takes an admitted design and gives exactly the list of the definition in its
 //! order, or the first limit that the design exceeds; `specs/DesignQueries.antt` says what makes an
 //! obligation one of the design's, as each of them is. `check_limits` tells that limit alone, or
-//! how many obligations there are. `Listing` gives the obligations target by target, and the lines
-//! of `secv list`, with no more in memory than the paths of one target and what is made of them.
+//! how many obligations there are. `Listing` gives the paths of one target after the other, and
+//! `TargetPaths` makes the obligations of these one by one; so it gives the lines of `secv list`.
+//! No more is in memory than the paths of one target, and an obligation or the lines of them.
 //! `Bodies` gives what of a body matters to one target, its slice (`BodySlices.antt`), and a body
 //! with its earlier reads wanted, where it has some (`MarkedBodies.antt`); for that it holds the
 //! bodies indexed too (`IndexedBodies.antt`). `Listing` walks through the same.
@@ -62,6 +63,7 @@ mod read_bits;
 mod reads;
 mod routes;
 mod selectors;
+mod target_paths;
 mod targets;
 mod trail_lines;
 mod trail_queries;
@@ -88,4 +90,5 @@ pub use listing::obligations;
 pub use marked::Marked;
 pub use queries::{Goal, Query, Step};
 pub use std::alloc::AllocError as OutOfMemory;
+pub use target_paths::TargetPaths;
 pub use valuations::Valuation;

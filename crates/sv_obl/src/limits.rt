@@ -7,6 +7,7 @@ ghost use Rattle.sv_obl.specs.Limits.{excess};
 ghost use Rattle.sv_obl.specs.ListParts.{IsAt};
 ghost use Rattle.sv_obl.specs.Obligations.{obligations};
 
+use crate::body_slices::Bodies;
 use crate::faults::OblFault;
 use crate::list_parts::Listing;
 use crate::targets::count_of;
@@ -35,7 +36,8 @@ pub fn check_limits(alloc: Global, design: &Design) -> Result<u32, OblFault>
         count ≡ length (obligations [] (design_of design.now))) }
     ensures few { IfOk result (λ count. count ≤ 65536) }
 {
-    let mut listing = Listing::new(alloc, design)?;
+    let bodies = Bodies::new(alloc, design)?;
+    let mut listing = Listing::new(design, &bodies);
     pass_targets(alloc, design, &mut listing)?;
     let selectors = listing.selector_queries(alloc, design)?;
     Ok(listing.count + selectors.len() as u32)

@@ -9,8 +9,9 @@ ghost use Rattle.sv_obl.specs.DesignQueries.{IsQueryOf, IsPlaced};
 ghost use Rattle.sv_obl.specs.Driven.{IsDriven};
 ghost use Rattle.sv_obl.specs.Limits.{excess};
 ghost use Rattle.sv_obl.specs.ListLines.{list_text};
-ghost use Rattle.sv_obl.specs.ListParts.{IsAt, AreCounted, lines_left};
-ghost use Rattle.sv_obl.specs.Obligations.{target_obligations, selector_obligations};
+ghost use Rattle.sv_obl.specs.ListParts.{IsAt, ArePathsOf, AreCounted, lines_left};
+ghost use Rattle.sv_obl.specs.MarkedBodies.{AreBodiesOf};
+ghost use Rattle.sv_obl.specs.Obligations.{selector_obligations};
 ghost use Rattle.sv_obl.specs.Views.{obligation_of};
 
 use crate::body_slices::Bodies;
@@ -18,46 +19,47 @@ use crate::faults::{MOST_OBLIGATIONS, OblFault};
 use crate::list_texts::{Lines, push_paths, push_queries};
 use crate::queries::Query;
 use crate::selectors::all_selectors;
-use crate::targets::{Driven, driven_paths, queries_of};
-use std::alloc::{AllocError, Global};
+use crate::target_paths::TargetPaths;
+use crate::targets::{Driven, driven_paths};
+use std::alloc::Global;
 use sv_design::Design;
 use sv_flat::SigId;
 
 /// The obligations of a design in parts: those of one target after the other, in signal order, and
-/// then those of selectors; as values, or as `secv list` prints them. It holds the bodies of the
-/// processes, and how many obligations the targets so far have. A part is to be let go before the
-/// next is made, so that no more than one stands in memory.
+/// then those of selectors; as values, or as `secv list` prints them. It borrows the bodies of the
+/// processes, and holds how many obligations the targets so far have. A part is to be let go before
+/// the next is made, so that no more than one stands in memory.
 #[derive(Drop)]
-pub struct Listing<'a> {
-    pub bodies: Bodies<'a>,
+pub struct Listing<'b, 'a> {
+    pub bodies: &'b Bodies<'a>,
     pub count: u32,
 }
 
 // The paths of the target that comes next, if a process drives it, and how many obligations there
 // are with those of this target.
 #[derive(Drop)]
-struct Next<'d, 's, 'a> {
-    paths: Option<Driven<'d, 's, 'a>>,
+struct Next<'d, 'b, 'a> {
+    paths: Option<Driven<'d, 'b, 'a>>,
     count: u32,
 }
 
-impl<'a> Listing<'a> {
-    /// The listing of a design before its first target; an error where memory runs out.
-    pub fn new(alloc: Global, design: &'a Design) -> Result<Listing<'a>, AllocError>
-        ensures at { IfOk result (IsAt (design_of design.now) 0) }
+impl<'b, 'a> Listing<'b, 'a> {
+    /// The listing of a design, whose bodies these are, before its first target.
+    pub fn new(design: &Design, bodies: &'b Bodies<'a>) -> Listing<'b, 'a>
+        requires bodies { AreBodiesOf (design_of design.now) bodies.now }
+        ensures at { IsAt (design_of design.now) 0 result }
         ensures all { lines_left (design_of design.now) 0 ≡ list_text (design_of design.now) }
     {
-        let bodies = Bodies::new(alloc, design)?;
-        Ok(Listing { bodies, count: 0 })
+        Listing { bodies, count: 0 }
     }
 
     // What comes next. The listing stays where it is.
-    fn next_paths<'s, 'd>(
-        &'s self,
+    fn next_paths<'d>(
+        &self,
         alloc: Global,
         design: &'d Design,
         target: SigId,
-    ) -> Result<Next<'d, 's, 'a>, OblFault>
+    ) -> Result<Next<'d, 'b, 'a>, OblFault>
         requires known { target.0 < length design.now.signals.items }
         requires at { IsAt (design_of design.now) target.0 self.now }
         ensures driven { IfOk result
@@ -67,7 +69,7 @@ impl<'a> Listing<'a> {
         ensures design { IsDesign (design_of design.now) }
         ensures told { IfErr result (Told (excess (design_of design.now))) }
     {
-        match driven_paths(alloc, design, &self.bodies, target, self.count as usize)? {
+        match driven_paths(alloc, design, self.bodies, target, self.count as usize)? {
             Some(driven) => {
                 let count = self.count + driven.paths.len() as u32;
                 Ok(Next {
@@ -103,34 +105,25 @@ impl<'a> Listing<'a> {
         Ok(())
     }
 
-    /// The obligations of the target that comes next, each one of the design's; an error where it
-    /// exceeds a limit, or where memory runs out, and then the listing stays before it. They all
-    /// stand in memory at once: where values of earlier reads are put into their conditions, and
-    /// these have over 16,777,216 nodes in all, some 2 GB, that is want of memory, however much
-    /// there is; at most 65,537 nodes of each condition count.
-    pub fn target_queries(
+    /// The paths of the target that comes next, which give its obligations one by one; an error
+    /// where it exceeds a limit, or where memory runs out, and then the listing stays before it.
+    pub fn target_paths<'d>(
         &mut self,
         alloc: Global,
-        design: &Design,
+        design: &'d Design,
         target: SigId,
-    ) -> Result<Vec<Query>, OblFault>
+    ) -> Result<TargetPaths<'d, 'b, 'a>, OblFault>
         requires known { target.0 < length design.now.signals.items }
         requires at { IsAt (design_of design.now) target.0 self.old }
-        ensures listed { IfOk result (λ queries. map obligation_of queries.items
-            ≡ target_obligations [] (design_of design.now) target.0) }
-        ensures queries { IfOk result (λ queries.
-            All (IsQueryOf (design_of design.now)) (map obligation_of queries.items)) }
-        ensures placed { IfOk result (λ queries. All IsPlaced (map obligation_of queries.items)) }
+        ensures paths { IfOk result (ArePathsOf (design_of design.now)) }
+        ensures target { IfOk result (λ paths. paths.target ≡ target) }
         ensures next { OnOk result (IsAt (design_of design.now) (target.0 + 1) self.new) }
         ensures stays { OnErr result (self.new ≡ self.old) }
         ensures told { IfErr result (Told (excess (design_of design.now))) }
     {
-        let next = self.next_paths(alloc, design, target)?;
-        let queries = queries_of(alloc, design.signals(), target, &next.paths)?;
-        let count = next.count;
-        drop(next);
+        let Next { paths, count } = self.next_paths(alloc, design, target)?;
         self.count = count;
-        Ok(queries)
+        Ok(TargetPaths { target, paths })
     }
 
     /// The lines of the target that comes next; an error where it exceeds a limit, or where memory

@@ -1,20 +1,40 @@
 // The obligations of a design, all at once.
-ghost use Rattle.std.specs.Prelude.{◌≡◌, ◌≤◌, map, length, All, IfOk, IfErr, OnOk};
+ghost use Rattle.std.specs.Prelude.{◌≡◌, ◌≤◌, ◌++◌, map, length, All, IfOk, IfErr, OnOk};
 ghost use Rattle.sv_flat.specs.Views.{design_of};
 ghost use Rattle.sv_design.specs.Designs.{IsDesign};
 ghost use Rattle.sv_obl.specs.Answers.{Lists, Told};
 ghost use Rattle.sv_obl.specs.DesignQueries.{IsQueryOf, IsPlaced};
 ghost use Rattle.sv_obl.specs.Limits.{excess};
-ghost use Rattle.sv_obl.specs.ListParts.{IsAt, obligations_before};
+ghost use Rattle.sv_obl.specs.ListParts.{IsAt, ArePathsOf, obligations_before, obligations_on};
 ghost use Rattle.sv_obl.specs.Views.{obligation_of};
 
+use crate::body_slices::Bodies;
 use crate::faults::OblFault;
 use crate::list_parts::Listing;
 use crate::queries::Query;
+use crate::target_paths::TargetPaths;
 use crate::targets::count_of;
-use std::alloc::Global;
+use std::alloc::{AllocError, Global};
 use sv_design::Design;
 use sv_flat::SigId;
+
+// Adds the obligations of the paths of a target.
+fn add_queries(
+    alloc: Global,
+    design: &Design,
+    paths: &TargetPaths,
+    queries: &mut Vec<Query>,
+) -> Result<(), AllocError>
+    requires paths { ArePathsOf (design_of design.now) paths.now }
+    ensures { OnOk result (map obligation_of queries.new.items ≡ map obligation_of queries.old.items
+        ++ obligations_on (design_of design.now) paths.now) }
+{
+    for place in 0..paths.len() {
+        let query = paths.query(alloc, design, place)?;
+        queries.push(query)?;
+    }
+    Ok(())
+}
 
 // The obligations of all targets.
 fn queries_of_targets(
@@ -32,8 +52,8 @@ fn queries_of_targets(
 {
     let mut queries = Vec::new(alloc);
     for s in 0..count_of(design) {
-        let mut more = listing.target_queries(alloc, design, SigId(s))?;
-        queries.append(&mut more)?;
+        let paths = listing.target_paths(alloc, design, SigId(s))?;
+        add_queries(alloc, design, &paths, &mut queries)?;
     }
     Ok(queries)
 }
@@ -50,7 +70,8 @@ pub fn obligations(alloc: Global, design: &Design) -> Result<Vec<Query>, OblFaul
         All (IsQueryOf (design_of design.now)) (map obligation_of queries.items)) }
     ensures placed { IfOk result (λ queries. All IsPlaced (map obligation_of queries.items)) }
 {
-    let mut listing = Listing::new(alloc, design)?;
+    let bodies = Bodies::new(alloc, design)?;
+    let mut listing = Listing::new(design, &bodies);
     let mut queries = queries_of_targets(alloc, design, &mut listing)?;
     let mut selectors = listing.selector_queries(alloc, design)?;
     queries.append(&mut selectors)?;

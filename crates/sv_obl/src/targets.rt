@@ -1,31 +1,28 @@
 // The paths of targets, and their obligations.
-ghost use Rattle.std.specs.Prelude.{◌≡◌, ℕ, ◌<◌, ◌≤◌, [], ◌++◌, map, length, All, Contains, IfOk};
-ghost use Rattle.std.specs.Prelude.{◌+◌, OnOk, IsErr};
+ghost use Rattle.std.specs.Prelude.{◌≡◌, ℕ, ◌<◌, ◌≤◌, [], length, Some, IfOk, slice_get};
 ghost use Rattle.sv_flat.specs.ByNumber.{signal_forms};
-ghost use Rattle.sv_flat.specs.Processes.{is_clocked};
 ghost use Rattle.sv_flat.specs.Design.{FlatDesign};
-ghost use Rattle.sv_flat.specs.Views.{process_form, process_kind, design_of};
+ghost use Rattle.sv_flat.specs.Views.{design_of};
 ghost use Rattle.sv_design.specs.Designs.{IsDesign};
 ghost use Rattle.sv_obl.specs.Answers.{Answers, excess_at};
-ghost use Rattle.sv_obl.specs.Alongs.{trail_obligation, trails_excess};
-ghost use Rattle.sv_obl.specs.Driven.{how_many, CanWalk, IsDriven, IsWalked, nodes_on};
+ghost use Rattle.sv_obl.specs.Alongs.{trails_excess};
+ghost use Rattle.sv_obl.specs.Driven.{how_many, HasPaths, IsDriven, ArePathsWalked};
 ghost use Rattle.sv_obl.specs.MarkedBodies.{marked_statement, TellsTargets, AreBodiesOf};
 ghost use Rattle.sv_obl.specs.Trails.{open_trail, trails_before};
 ghost use Rattle.sv_obl.specs.TrailViews.{trail_forms};
 ghost use Rattle.sv_obl.specs.Obligations.{target_obligations};
-ghost use Rattle.sv_obl.specs.Routes.{RouteForm, open_route, routes_before, names_on};
-ghost use Rattle.sv_obl.specs.Routes.{route_obligation, target_excess};
+ghost use Rattle.sv_obl.specs.Routes.{open_route, routes_before, target_excess};
 ghost use Rattle.sv_obl.specs.IndexedBodies.{looked_up};
 ghost use Rattle.sv_obl.specs.RouteViews.{route_forms, Finds};
-ghost use Rattle.sv_obl.specs.Views.{step_form, obligation_of};
+ghost use Rattle.sv_obl.specs.Views.{obligation_of};
 
 use crate::body_slices::{Bodies, slice_for};
 use crate::faults::{MOST_OBLIGATIONS, OblFault, WalkFault};
 use crate::indexed::Indexed;
 use crate::marked::Marked;
-use crate::nodes::{some_large, some_trail_large, with_nodes};
+use crate::nodes::{some_large, some_trail_large};
 use crate::path_queries::query_of;
-use crate::queries::{Query, Step};
+use crate::queries::Query;
 use crate::routes::Route;
 use crate::trail_queries::trail_query;
 use crate::trail_walks::trails_of;
@@ -34,10 +31,6 @@ use crate::walks::routes_of;
 use std::alloc::{AllocError, Global};
 use sv_design::Design;
 use sv_flat::{Process, SigId, Signal};
-
-// How many nodes the conditions of a target's obligations may have in all, where values of earlier
-// reads are put into them. They take some 2 GB.
-const MOST_MADE: u32 = 16_777_216;
 
 /// How many signals the design has.
 pub fn count_of(design: &Design) -> u32
@@ -192,105 +185,27 @@ pub fn driven_paths<'d, 'm, 'a>(
     }
 }
 
-// Adds the obligations of paths of the target.
-fn add_queries(
-    alloc: Global,
-    process: &Process,
-    target: SigId,
-    routes: &[Route],
-    queries: &mut Vec<Query>,
-) -> Result<(), AllocError>
-    ensures { (n : ℕ) → ((route : RouteForm) → Contains (route_forms routes.now) route
-        → All (λ t. t < n) (names_on (is_clocked (process_kind process.now.kind)) target.0 route))
-        → OnOk result (map obligation_of queries.new.items ≡ map obligation_of queries.old.items
-        ++ map (route_obligation n (process_form process.now) target.0) (route_forms routes.now)) }
-{
-    for route in routes {
-        queries.push(query_of(alloc, process, target, route)?)?;
-    }
-    Ok(())
-}
-
-// What is left of so many nodes behind those of the conditions. An error says that these are more.
-fn nodes_left(left: u32, steps: &[Step]) -> Result<u32, AllocError>
-    ensures left { IfOk result (λ rest. rest + nodes_on (map step_form steps.now) ≡ left) }
-    ensures more { IsErr result → left < nodes_on (map step_form steps.now) }
-{
-    let mut rest = left;
-    for step in steps {
-        let nodes = with_nodes(0, 1, &step.cond);
-        if rest < nodes {
-            return Err(AllocError);
-        }
-        rest -= nodes;
-    }
-    Ok(rest)
-}
-
-// Adds those of paths through a body with earlier reads, whose conditions have values put into them
-// for each path anew: where they have over 16,777,216 nodes in all, that is want of memory too.
-fn add_trail_queries(
-    alloc: Global,
-    signals: &[Signal],
-    process: &Process,
-    target: SigId,
-    body: &Marked,
-    trails: &[Trail],
-    queries: &mut Vec<Query>,
-) -> Result<(), AllocError>
-    requires known { target.0 < length signals.now }
-    requires few { length signals.now < 4294967296 }
-    requires walks { CanWalk body.now }
-    ensures { OnOk result (map obligation_of queries.new.items ≡ map obligation_of queries.old.items
-        ++ map (trail_obligation (signal_forms signals.now) (process_form process.now) target.0
-        (marked_statement body.now)) (trail_forms trails.now)) }
-{
-    let mut left = MOST_MADE;
-    for trail in trails {
-        let query = trail_query(alloc, signals, process, target, body, trail)?;
-        left = nodes_left(left, &query.path)?;
-        queries.push(query)?;
-    }
-    Ok(())
-}
-
-/// The obligations of a target, given its paths if a process drives it; an error where memory runs
-/// out, or where the conditions of paths through a body with earlier reads have over 16,777,216
-/// nodes in all.
-pub fn queries_of(
+/// The obligation of the path at a place among those of a target; an error where memory runs out.
+pub fn query_at(
     alloc: Global,
     signals: &[Signal],
     target: SigId,
-    found: &Option<Driven>,
-) -> Result<Vec<Query>, AllocError>
+    driven: &Driven,
+    place: usize,
+) -> Result<Query, AllocError>
     requires known { target.0 < length signals.now }
     requires few { length signals.now < 4294967296 }
-    requires walks { IsWalked found.now }
+    requires walks { ArePathsWalked driven.now.paths }
+    requires there { place < how_many driven.now.paths }
     ensures { (design : FlatDesign) (total : ℕ) → signal_forms signals.now ≡ design.signals
-        → IsDriven design target.0 total found.now
-        → IfOk result (λ queries.
-        map obligation_of queries.items ≡ target_obligations [] design target.0) }
+        → HasPaths design target.0 total driven.now → IfOk result (λ query.
+        slice_get (target_obligations [] design target.0) place ≡ Some (obligation_of query)) }
 {
-    let mut queries = Vec::new(alloc);
-    match found {
-        Some(driven) => match &driven.paths {
-            Paths::Routes(routes) => {
-                add_queries(alloc, driven.process, target, routes, &mut queries)?;
-                Ok(queries)
-            }
-            Paths::Trails(body, trails) => {
-                add_trail_queries(
-                    alloc,
-                    signals,
-                    driven.process,
-                    target,
-                    *body,
-                    trails,
-                    &mut queries,
-                )?;
-                Ok(queries)
-            }
-        },
-        None => Ok(queries),
+    match &driven.paths {
+        Paths::Routes(routes) => query_of(alloc, driven.process, target, &routes[place]),
+        Paths::Trails(body, trails) => {
+            let trail = &trails[place];
+            trail_query(alloc, signals, driven.process, target, *body, trail)
+        }
     }
 }

@@ -16,6 +16,6 @@ returns-in_ok-put_targets-in-Ok-clause-refused g c =
     let n = length c.args.design.now.signals.items in
     on_failure c.put_selectors.result (WritesFront mid (left n) new)
     (WritesFront old (list_text (design_of c.args.design.now)) new)
-    (λ w. subst (λ (text : List ℕ). WritesFront old text new) c.new.ensures.all
+    (λ w. subst (λ (text : List ℕ). WritesFront old text new) c.new-listing.ensures.all
     (front_after old (left 0) (left n) mid new c.in_ok-put_targets-in-Ok.ensures.whole w))
     c.put_selectors.ensures.refused

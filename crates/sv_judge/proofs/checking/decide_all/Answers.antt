@@ -5,7 +5,7 @@ use Rattle.sv_judge.proofs.checking.decide_all.Goals as goal
 
 pub decide_targets-requires-clause-same : goal.decide_targets-requires-clause-same
 decide_targets-requires-clause-same c =
-    c.new-progress.ensures.count ∙ sym c.in_ok-listing.ensures.at.counted.count
+    c.new-progress.ensures.count ∙ sym c.new-listing.ensures.at.counted.count
 
 pub decide_targets-requires-clause-done : goal.decide_targets-requires-clause-done
 decide_targets-requires-clause-done c =

@@ -1,9 +1,7 @@
-use Rattle.std.proofs.Common.{sym, ◌∙◌, ap, ◌+◌, length, List, subst}
+use Rattle.std.proofs.Common.{sym, subst}
 use Rattle.sv_flat.specs.Views.{design_of}
-use Rattle.sv_obl.specs.declared.queries.Query.{Query}
 use Rattle.sv_proof.specs.Certificate.{plain_logs}
 use Rattle.sv_judge.specs.Certified.{EarlierAreShown}
-use Rattle.sv_judge.specs.Walking.{AreNext}
 use Rattle.sv_judge.proofs.VerifyFacts.{none_shown}
 use Rattle.sv_judge.proofs.verifying.verify_targets.Goals as goal
 
@@ -18,16 +16,9 @@ loop-s-init c = record {
 
 pub loop-s-preserved : goal.loop-s-preserved
 loop-s-preserved c = record {
-  coder = c.in_ok-verify_part.ensures.coder;
-  at = c.in_ok-queries.ensures.at;
+  coder = c.in_ok-verify_paths.ensures.coder;
+  at = c.in_ok-paths.ensures.at;
   shown =
       subst (λ n. EarlierAreShown (design_of c.args.design.now) n (plain_logs c.args.logs.now))
-      (ap (λ (qs : List Query). c.loop-s.listing.count + length qs) c.deref.ensures.value
-      ∙ sym c.in_ok-queries.ensures.count)
-      c.in_ok-verify_part.ensures.shown;
+      (sym c.in_ok-paths.ensures.count) c.in_ok-verify_paths.ensures.shown;
 }
-
-pub verify_part-requires-clause-next : goal.verify_part-requires-clause-next
-verify_part-requires-clause-next c =
-    subst (AreNext (design_of c.args.design.now) c.loop-s.listing.count)
-    (sym c.deref.ensures.value) c.in_ok-queries.ensures.next

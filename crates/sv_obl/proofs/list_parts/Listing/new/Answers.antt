@@ -4,6 +4,6 @@ use Rattle.sv_obl.proofs.list_parts.Listing.new.Goals as goal
 
 pub returns-clause-at : goal.returns-clause-at
 returns-clause-at c = record {
-  bodies = c.in_ok-bodies.ensures;
+  bodies = c.requires.bodies;
   counted = none_counted (design_of c.args.design.now);
 }

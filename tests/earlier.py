@@ -14,13 +14,16 @@ import subprocess
 from block_maker import Maker
 from block_paths import NAMES, read_for, shown
 from blocks import Run
-from harness import MOST_SECONDS, SECV, compare, finish, put, status_of
+from harness import MOST_SECONDS, SECV, compare, finish, put, run, status_of
+from harness import limits as bounds
 
 SEED = 20261130
 # So many blocks for each rule that they break, and for none.
 BLOCKS = {None: 120, 605: 8, 606: 14, 607: 10}
 # No more obligations than so many.
 MOST_LINES = 64
+# So many MB of memory for a check whose obligations take more.
+MOST_MEMORY = 48
 LINE = re.compile(r"\d+ (\w+) now((?: [+-]\d+:\d+)*) =\d+:\d+ reads((?: \w+)*)")
 SUM = """module m(input [2:0] a, output reg [5:0] s);
   always @* begin
@@ -320,6 +323,27 @@ endmodule
 """
 
 
+def guarded(count):
+    """So many paths and one more, each behind a condition into which 65,533 nodes are put."""
+    items = " ".join(f"{item}: y = a;" for item in range(count - 1))
+    return f"""module m(input [7:0] s, input a, output reg [7:0] x, output reg y);
+  always @* begin
+    x = a;
+    {"x = x + x; " * 14}
+    if (x == 1) y = 1; else case (s) {items} default: y = 0; endcase
+    x = 0;
+  end
+endmodule
+"""
+
+
+def one_at_a_time(folder):
+    """No more than one of a target's obligations is in memory: all of these take some 100 MB."""
+    put(folder, "f", guarded(24))
+    got = run(folder, "check f", bounds=bounds(MOST_MEMORY))
+    compare(f"check {guarded(24)[:300]}, in {MOST_MEMORY} MB", got, ("accepted 26 obligations\n", 0))
+
+
 def limits(folder):
     """65,536 nodes that are put into one path and one more, and a condition that nests 4,096 levels
     once all is put in and one that nests more."""
@@ -401,4 +425,4 @@ def checked(folder, number, module, runs, lines):
 
 
 if __name__ == "__main__":
-    finish([fixed_blocks, limits, random_blocks])
+    finish([fixed_blocks, limits, one_at_a_time, random_blocks])

@@ -1,6 +1,7 @@
 -- Rows of bits, and graphs of them.
 use Rattle.std.proofs.Common.{◌≡◌, ◌≢◌, ℕ, zero, suc, ◌+◌, ◌/◌, ◌%◌, ◌^◌, ◌<◌, ◌≤◌, Bool, true}
-use Rattle.std.proofs.Common.{false, not, ◌&&◌, ◌||◌, ◌==◌, nat_lt, ltb-true, ltb-false, lt-ltb, List, [], ◌∷◌, length}
+use Rattle.std.proofs.Common.{false, not, ◌&&◌, ◌||◌, ◌==◌, nat_lt, ltb-true, ltb-false, lt-ltb}
+use Rattle.std.proofs.Common.{◌-◌, ◌*◌, cond, List, [], ◌∷◌, ◌++◌, length}
 use Rattle.std.proofs.Common.{map, set, get_or, Vec, Global, get_or-set_same, get_or-set_other}
 use Rattle.std.proofs.Common.{⊎_elim, refl, sym, ap, ap₂, subst, ◌∙◌, arith}
 use Rattle.std.specs.Int.{bit_at}
@@ -11,19 +12,20 @@ use Rattle.std.proofs.Math.ListN.{length-map}
 use Rattle.std.proofs.lemmas.Bool.{false≢true, eqb-true, eq-eqb}
 use Rattle.std.proofs.lemmas.Bool.Decides.{nat_tests}
 use Rattle.std.proofs.lemmas.List.{get_or_past, map-set, get_or-map, get_or-replicate, length-set}
-use Rattle.std.proofs.lemmas.List.{length-replicate, with_items_is}
+use Rattle.std.proofs.lemmas.List.{length-replicate, with_items_is, append-nil}
 use Rattle.std.proofs.lemmas.Nat.Bits.{bit_at-zero, bit_at-pow_same, bit_at-pow_other}
 use Rattle.sv_lattice.proofs.TableLemmas.{or_test}
 use Rattle.sv_flat.specs.Sets.{holds, those}
 use Rattle.sv_flat.proofs.AdmittedFacts.{negated_false}
 use Rattle.sv_flat.proofs.SameRuns.{or_none_left, or_none_right}
 use Rattle.sv_flat.proofs.LeastSets.{or_cases, either_way, those_pass, in_those, Contains-from_holds}
-use Rattle.sv_flat.proofs.LeastSets.{holds-from_Contains}
+use Rattle.sv_flat.proofs.LeastSets.{holds-from_Contains, from_some}
 use Rattle.sv_design.specs.declared.bit_graphs.BitGraph.{BitGraph}
 use Rattle.sv_design.specs.BitGraphs.{in_row, words, IsRow, GainsBits, size, row, has_edge}
 use Rattle.sv_design.specs.BitGraphs.{IsOver, GainsEdges}
 use Rattle.sv_design.specs.BitSets.{is_set}
 use Rattle.sv_design.proofs.BitFacts.{same_answer}
+use Rattle.sv_design.proofs.DriverFacts.{filter_more}
 use Rattle.sv_design.proofs.FollowFacts.{RowsSoFar}
 use Rattle.sv_design.proofs.MarkFacts.{or_no}
 
@@ -299,3 +301,26 @@ pub listed_row : (n : ℕ) (xs : List ℕ) → IsRow n xs → (s : ℕ) →
 listed_row n xs is s = same_answer (holds (those n (in_row xs)) s) (in_row xs s)
     (λ h. those_pass n (in_row xs) s (Contains-from_holds (those n (in_row xs)) s h))
     (λ h. holds-from_Contains (those n (in_row xs)) s (in_those n (in_row xs) s (is.1 s h) h))
+
+-- where none pass from one number on, those below it are all
+those_still : (test : ℕ → Bool) (start more : ℕ)
+    → ((s : ℕ) → start ≤ s → s < start + more → IsFalse (test s))
+    → those start test ≡ those (start + more) test
+those_still test start zero none = ap (λ k. those k test) (omega arith)
+those_still test start (suc more) none =
+    those_still test start more (λ s from below. none s from (omega arith))
+    ∙ sym (append-nil (those (start + more) test))
+    ∙ ap (λ b. those (start + more) test ++ cond b ((start + more) ∷ []) [])
+    (sym (none (start + more) (omega arith) (omega arith)))
+    ∙ sym (filter_more test (start + more))
+    ∙ ap (λ k. those k test) (omega arith)
+
+-- a word without bits lists no signal
+pub clear_word : (xs : List ℕ) (place end : ℕ) → get_or xs place 0 ≡ 0 → place * 64 ≤ end
+    → end ≤ place * 64 + 64 → those (place * 64) (in_row xs) ≡ those end (in_row xs)
+clear_word xs place end is_clear order here =
+    those_still (in_row xs) (place * 64) (end - place * 64) (λ s from below.
+    let same : s / 64 ≡ place = omega arith in
+    ap (λ k. is_set (get_or xs k 0) (s % 64)) same
+    ∙ ap (λ w. is_set w (s % 64)) is_clear ∙ no_bit (s % 64))
+    ∙ ap (λ k. those k (in_row xs)) (omega arith)

@@ -1,10 +1,12 @@
 // Graphs over signals, by bits: an edge that is added again takes no more room, and what leads on
 // from a signal is added to a row a word at a time.
-ghost use Rattle.std.specs.Prelude.{◌≡◌, ◌<◌, ◌≤◌, ◌/◌, ◌^◌, ◌==◌, ◌&&◌, not, ℕ, Bool, false};
-ghost use Rattle.std.specs.Prelude.{length, filter, replicate, IsFalse, OnOk, IfOk};
-ghost use Rattle.std.specs.List.{list_any, range_with_len};
-ghost use Rattle.sv_design.specs.BitGraphs.{in_row, words, IsRow, HasRoom, GainsBits, size, has_edge};
-ghost use Rattle.sv_design.specs.BitGraphs.{IsOver, GainsEdges, IsTurned, Shortens};
+ghost use Rattle.std.specs.Prelude.{◌≡◌, ◌<◌, ◌≤◌, ◌+◌, ◌*◌, ◌/◌, ◌^◌, ◌==◌, ◌&&◌, not, ℕ, Bool};
+ghost use Rattle.std.specs.Prelude.{false, length, slice_index_or, replicate, Contains};
+ghost use Rattle.std.specs.Prelude.{IsTrue, IsFalse, OnOk, IfOk};
+ghost use Rattle.std.specs.List.{list_any};
+ghost use Rattle.sv_flat.specs.Sets.{those};
+ghost use Rattle.sv_design.specs.BitGraphs.{in_row, words, IsRow, HasRoom, GainsBits, size, row};
+ghost use Rattle.sv_design.specs.BitGraphs.{has_edge, IsOver, GainsEdges, IsTurned, Shortens};
 ghost use Rattle.sv_design.specs.BitSets.{has_some, HasTargetsBelow};
 ghost use Rattle.sv_design.specs.Feeds.{feeds_through};
 ghost use Rattle.sv_design.specs.Graphs.{size as graph_size};
@@ -91,17 +93,66 @@ pub fn row_of(alloc: Global, count: usize, set: &Bits) -> Result<Vec<u64>, Alloc
     Ok(row)
 }
 
+// Adds the signals that a row has from one on and below another to those before them.
+fn list_from(
+    row: &[u64],
+    start: usize,
+    end: usize,
+    signals: &mut Vec<SigId>,
+) -> Result<(), AllocError>
+    requires order { start ≤ end }
+    requires few { end ≤ 2 ^ 32 }
+    requires so_far { numbers signals.old.items ≡ those start (in_row row.now) }
+    ensures { OnOk result (numbers signals.new.items ≡ those end (in_row row.now)) }
+{
+    for s in start..end {
+        let signal = SigId(s as u32);
+        push_if(has_bit(row, signal), signal, &mut *signals)?;
+    }
+    Ok(())
+}
+
+// Whether a row has no signal in a word of it.
+fn is_clear(row: &[u64], place: usize) -> bool
+    ensures { result ≡ (slice_index_or row.now place 0 == 0) }
+{
+    match row.get(place) {
+        Some(word) => *word == 0,
+        None => true,
+    }
+}
+
+// Adds the signals in a word of a row that are below some signal to those before them. A word
+// without signals takes one look.
+fn list_word(
+    row: &[u64],
+    place: usize,
+    end: usize,
+    signals: &mut Vec<SigId>,
+) -> Result<(), AllocError>
+    requires order { place * 64 ≤ end }
+    requires here { end ≤ place * 64 + 64 }
+    requires few { end ≤ 2 ^ 32 }
+    requires so_far { numbers signals.old.items ≡ those (place * 64) (in_row row.now) }
+    ensures { OnOk result (numbers signals.new.items ≡ those end (in_row row.now)) }
+{
+    if is_clear(row, place) {
+        return Ok(());
+    }
+    list_from(row, place * 64, end, signals)?;
+    Ok(())
+}
+
 // The first so many signals that a row has, in order.
 fn listed(alloc: Global, count: usize, row: &[u64]) -> Result<Vec<SigId>, AllocError>
     requires { count ≤ 2 ^ 32 }
-    ensures { IfOk result (λ signals.
-        numbers signals.items ≡ filter (in_row row.now) (range_with_len 0 count)) }
+    ensures { IfOk result (λ signals. numbers signals.items ≡ those count (in_row row.now)) }
 {
     let mut signals = Vec::new(alloc);
-    for s in 0..count {
-        let signal = SigId(s as u32);
-        push_if(has_bit(row, signal), signal, &mut signals)?;
+    for place in 0..count / 64 {
+        list_word(row, place, place * 64 + 64, &mut signals)?;
     }
+    list_word(row, count / 64, count, &mut signals)?;
     Ok(signals)
 }
 

@@ -1,9 +1,9 @@
-use Rattle.std.proofs.Common.{◌≡◌}
-use Rattle.std.specs.Prelude.{filter}
-use Rattle.std.specs.List.{range_with_len}
+use Rattle.std.proofs.Common.{◌≡◌, ◌*◌}
+use Rattle.sv_flat.specs.Sets.{those}
 use Rattle.sv_design.specs.BitGraphs.{in_row}
 use Rattle.sv_design.specs.Numbers.{numbers}
 use Rattle.sv_design.proofs.bit_graphs.listed.Given as goal
 
-abbrev pub invariant-loop-s : goal.invariant-loop-s
-invariant-loop-s l = numbers l.signals.items ≡ filter (in_row l.row) (range_with_len 0 l.s)
+-- the signals in the words so far
+abbrev pub invariant-loop-place : goal.invariant-loop-place
+invariant-loop-place l = numbers l.signals.items ≡ those (l.place * 64) (in_row l.row)

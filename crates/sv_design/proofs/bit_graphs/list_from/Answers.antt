@@ -1,7 +1,7 @@
 use Rattle.std.proofs.Common.{◌++◌, ◌∷◌, [], cond, ap₂, sym, ◌∙◌}
 use Rattle.sv_design.specs.BitGraphs.{in_row}
 use Rattle.sv_design.proofs.DriverFacts.{filter_more}
-use Rattle.sv_design.proofs.bit_graphs.listed.Goals as goal
+use Rattle.sv_design.proofs.bit_graphs.list_from.Goals as goal
 
 pub loop-s-preserved : goal.loop-s-preserved
 loop-s-preserved c =

@@ -247,32 +247,27 @@ module _ (n : ℕ) (graph : BitGraph)
       (let past : n ≤ a = ltb-false a n outside in omega (arith, past, fresh_over.0)))
       (either_way (nat_lt a n))
 
--- the signals so far are led on
-abbrev pub LedSoFar : (old now : ℕ → ℕ → Bool) → (m : ℕ) → (more : ℕ → Bool) → ℕ → Type 0
-LedSoFar old now m more i =
-    (a b : ℕ) → now a b ≡ (old a b || (nat_lt a i && (old a m && more b)))
+-- the signals so far have edges to what they are to have
+abbrev pub LedBySoFar : (old now more : ℕ → ℕ → Bool) → ℕ → Type 0
+LedBySoFar old now more i = (a b : ℕ) → now a b ≡ (old a b || (nat_lt a i && more a b))
 
-pub led_begins : (old : ℕ → ℕ → Bool) (m : ℕ) (more : ℕ → Bool) → LedSoFar old old m more 0
-led_begins old m more a b =
-    sym (or_no (old a b) (nat_lt a 0 && (old a m && more b))
-    (ap (λ t. t && (old a m && more b)) (let none : nat_lt a 0 ≡ false = grind (arith, nat_tests) in none)))
+-- the others stand as they were
+pub not_led : (old now more : ℕ → ℕ → Bool) (i : ℕ) → LedBySoFar old now more i → (b : ℕ) →
+    now i b ≡ old i b
+not_led old now more i so_far b =
+    let here : nat_lt i i ≡ false = grind (arith, nat_tests) in
+    so_far i b ∙ or_no (old i b) (nat_lt i i && more i b) (ap (λ t. t && more i b) here)
 
-pub led_more : (old now next : ℕ → ℕ → Bool) (m i : ℕ) (more : ℕ → Bool)
-    → LedSoFar old now m more i
-    → ((a b : ℕ) → next a b ≡ (now a b || ((i == a) && (now a m && more b))))
-    → LedSoFar old next m more (i + 1)
-led_more old now next m i more so_far gains a b = ⊎_elim
+pub led_by_more : (old now next more : ℕ → ℕ → Bool) (i : ℕ) → LedBySoFar old now more i
+    → ((a b : ℕ) → next a b ≡ (now a b || ((i == a) && more i b)))
+    → LedBySoFar old next more (i + 1)
+led_by_more old now next more i so_far gains a b = ⊎_elim
     (λ same.
-    let e : i ≡ a = eqb-true i a same in
-    let here : nat_lt a i ≡ false = grind (arith, nat_tests) in
-    let there : nat_lt a (i + 1) ≡ true = grind (arith, nat_tests) in
-    let stands : (k : ℕ) → now a k ≡ old a k =
-    λ k. so_far a k ∙ or_no (old a k) (nat_lt a i && (old a m && more k))
-    (ap (λ t. t && (old a m && more k)) here) in
-    gains a b
-    ∙ ap₂ (λ x t. x || (t && (now a m && more b))) (stands b) same
-    ∙ ap (λ x. old a b || (x && more b)) (stands m)
-    ∙ sym (ap (λ t. old a b || (t && (old a m && more b))) there))
+    let there : nat_lt i (i + 1) ≡ true = grind (arith, nat_tests) in
+    subst (λ z. next z b ≡ (old z b || (nat_lt z (i + 1) && more z b))) (eqb-true i a same)
+    (gains i b
+    ∙ ap₂ (λ x t. x || (t && more i b)) (not_led old now more i so_far b) (eq-eqb i i refl)
+    ∙ sym (ap (λ t. old i b || (t && more i b)) there)))
     (λ other.
     let further : nat_lt a (i + 1) ≡ nat_lt a i =
     same_answer (nat_lt a (i + 1)) (nat_lt a i)
@@ -280,11 +275,39 @@ led_more old now next m i more so_far gains a b = ⊎_elim
     let ne : i ≢ a = λ e. false≢true (sym other ∙ eq-eqb i a e) in omega arith))
     (λ h. lt-ltb a (i + 1) (let lt = ltb-true a i h in omega arith)) in
     gains a b
-    ∙ or_no (now a b) ((i == a) && (now a m && more b))
-    (ap (λ t. t && (now a m && more b)) other)
+    ∙ or_no (now a b) ((i == a) && more i b) (ap (λ t. t && more i b) other)
     ∙ so_far a b
-    ∙ sym (ap (λ t. old a b || (t && (old a m && more b))) further))
+    ∙ sym (ap (λ t. old a b || (t && more a b)) further))
     (either_way (i == a))
+
+pub led_by_begins : (old more : ℕ → ℕ → Bool) → LedBySoFar old old more 0
+led_by_begins old more a b =
+    sym (or_no (old a b) (nat_lt a 0 && more a b)
+    (ap (λ t. t && more a b) (let none : nat_lt a 0 ≡ false = grind (arith, nat_tests) in none)))
+
+-- the signals so far that lead to one lead on from it
+abbrev pub LedSoFar : (old now : ℕ → ℕ → Bool) → (m : ℕ) → (more : ℕ → Bool) → ℕ → Type 0
+LedSoFar old now m more i = LedBySoFar old now (λ a b. old a m && more b) i
+
+pub led_begins : (old : ℕ → ℕ → Bool) (m : ℕ) (more : ℕ → Bool) → LedSoFar old old m more 0
+led_begins old m more = led_by_begins old (λ a b. old a m && more b)
+
+pub led_more : (old now next : ℕ → ℕ → Bool) (m i : ℕ) (more : ℕ → Bool)
+    → LedSoFar old now m more i
+    → ((a b : ℕ) → next a b ≡ (now a b || ((i == a) && (now a m && more b))))
+    → LedSoFar old next m more (i + 1)
+led_more old now next m i more so_far gains =
+    let all = λ (a b : ℕ). old a m && more b in
+    led_by_more old now next all i so_far (λ a b.
+    gains a b ∙ ap (λ t. now a b || t) (⊎_elim
+    (λ same. ap (λ t. (i == a) && (t && more b))
+    (subst (λ z. now z m ≡ old i m) (eqb-true i a same) (stands m)))
+    (λ other. ap (λ t. t && (now a m && more b)) other
+    ∙ sym (ap (λ t. t && (old i m && more b)) other))
+    (either_way (i == a))))
+  where
+    stands : (k : ℕ) → now i k ≡ old i k
+    stands k = not_led old now (λ a b. old a m && more b) i so_far k
 
 pub led_ends : (old : BitGraph) (now : ℕ → ℕ → Bool) (m : ℕ) (more : ℕ → Bool)
     → LedSoFar (has_edge old) now m more (size old)
@@ -324,3 +347,18 @@ clear_word xs place end is_clear order here =
     ap (λ k. is_set (get_or xs k 0) (s % 64)) same
     ∙ ap (λ w. is_set w (s % 64)) is_clear ∙ no_bit (s % 64))
     ∙ ap (λ k. those k (in_row xs)) (omega arith)
+
+-- a row of what some signals lead to
+pub gained_row : (n : ℕ) (graph : BitGraph) → IsOver n graph → (old new signals : List ℕ)
+    → old ≡ replicate (words n) 0 → length new ≡ length old
+    → GainsBits old new (λ s. list_any (λ m. has_edge graph m s) signals) → IsRow n new
+gained_row n graph over old new signals is same gains = (
+  same ∙ ap length is ∙ length-replicate (words n) 0,
+  λ s h. ⊎_elim
+      (λ g.
+      absurd (false≢true (sym (ap (λ xs. in_row xs s) is ∙ empty_row (words n) s) ∙ g)))
+      (λ g.
+      let found = from_some (λ m. has_edge graph m s) signals g in
+      edge_below n graph over found.0 s found.2)
+      (or_cases (in_row old s) (list_any (λ m. has_edge graph m s) signals) (sym (gains s) ∙ h)),
+)

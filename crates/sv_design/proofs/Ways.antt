@@ -1,14 +1,19 @@
 -- Ways over edges, and edges in place of them.
 use Rattle.std.proofs.Common.{◌≡◌, ℕ, ◌+◌, ◌<◌, Bool, ◌&&◌, ◌||◌, [], ◌∷◌, ◌⊎◌, inl, inr, ⊎_elim}
 use Rattle.std.proofs.Common.{sym, subst, ◌∙◌, arith}
+use Rattle.std.proofs.Common.{◌==◌, nat_lt, lt-ltb}
 use Rattle.std.specs.Prelude.{IsTrue, Contains}
-use Rattle.std.proofs.lemmas.Bool.{or_left, or_right, and_parts, and_from}
+use Rattle.std.specs.List.{list_any}
+use Rattle.std.proofs.lemmas.Bool.{or_left, or_right, and_parts, and_from, eqb-true}
 use Rattle.sv_system.proofs.Lists.{Contains-head}
+use Rattle.sv_flat.specs.Sets.{those}
 use Rattle.sv_flat.proofs.LeastSets.{or_cases, some_from, from_some, least_set_has}
+use Rattle.sv_flat.proofs.LeastSets.{in_those, those_pass}
 use Rattle.sv_flat.proofs.LeastSets.{least_set_closed, least_set_least}
 use Rattle.sv_design.specs.BitGraphs.{before, Shortens}
 use Rattle.sv_design.specs.Feeds.{feeds_through}
 use Rattle.sv_design.proofs.BitFacts.{same_answer}
+use Rattle.sv_design.proofs.BitRows.{LedBySoFar}
 use Rattle.sv_design.proofs.FollowFacts.{only_one}
 use Rattle.sv_design.proofs.SearchFacts.{below_or_at}
 
@@ -97,55 +102,7 @@ module _ (n : ℕ) (first : ℕ → ℕ → Bool) where
 
 -- ---- what is led on by these ways
 
--- Edges to which such are added as lead on by the ways of other edges, from each signal below
--- `middles`.
-pub record Follows (n : ℕ) (settled edges ways now : ℕ → ℕ → Bool) (middles : ℕ) : Type 0 where
-  pub keeps : (a b : ℕ) → IsTrue (settled a b) → IsTrue (now a b)
-  pub feeds : (a b : ℕ) → b < n → IsTrue (now a b) → IsTrue (feeds_through n settled edges a b)
-  pub joins : (a m b : ℕ) → m < middles → IsTrue (now a m) → IsTrue (ways m b) → IsTrue (now a b)
-
 module _ (n : ℕ) (settled edges ways : ℕ → ℕ → Bool) (shortens : Shortens n edges ways n) where
-  pub follow_begins : Follows n settled edges ways settled 0
-  follow_begins = record {
-    keeps = λ a b h. h;
-    feeds = λ a b below h. some_from (settled a) (before n edges b) b (itself n edges b below) h;
-    joins = λ a m b none g h. absurd (omega arith);
-  }
-
-  module _ (now next : ℕ → ℕ → Bool) (m : ℕ) (m_below : m < n)
-      (gains : (a b : ℕ) → next a b ≡ (now a b || (now a m && ways m b)))
-      (so_far : Follows n settled edges ways now m) where
-    fed_on : (a b : ℕ) → b < n → IsTrue (now a m) → IsTrue (ways m b) →
-        IsTrue (feeds_through n settled edges a b)
-    fed_on a b below g h =
-        let found = from_some (settled a) (before n edges m) (so_far.feeds a m m_below g) in
-        some_from (settled a) (before n edges b) found.0
-        (before_that n edges m b m_below below (shortens.leads m b below h) found.0 found.1)
-        found.2
-
-    led_once : (a k b : ℕ) → k < m → Led now ways next m gains a k → IsTrue (ways k b) →
-        Led now ways next m gains a b
-    led_once a k b below (inl f) g = inl (so_far.joins a k b below f g)
-    led_once a k b below (inr (f, g)) h = inr (f, shortens.joins m k b (omega arith) g h)
-
-    pub follow_more : Follows n settled edges ways next (m + 1)
-    follow_more = record {
-      keeps = λ a b h. led_to now ways next m gains a b (inl (so_far.keeps a b h));
-      feeds = λ a b below h. ⊎_elim
-          (λ g. so_far.feeds a b below g)
-          (λ g. fed_on a b below g.0 g.1)
-          (led_from now ways next m gains a b h);
-      joins = λ a k b inside f g. ⊎_elim
-          (λ below. led_to now ways next m gains a b (led_once a k b below
-          (led_from now ways next m gains a k f) g))
-          (λ same. led_to now ways next m gains a b (inr (
-            led_before now ways next m gains a
-                (subst (λ z. IsTrue (next a z)) (sym same) f),
-            subst (λ z. IsTrue (ways z b)) (sym same) g,
-          )))
-          (below_or_at k m inside);
-    }
-
   -- what leads to a signal has a way to it, or is the signal
   way_to : (b : ℕ) → b < n → (w : ℕ) → Contains (before n edges b) w
       → (w < n) × ((b ≡ w) ⊎ IsTrue (ways w b))
@@ -162,15 +119,30 @@ module _ (n : ℕ) (settled edges ways : ℕ → ℕ → Bool) (shortens : Short
       ))
       w w_at
 
-  pub follow_ends : (now : ℕ → ℕ → Bool) → Follows n settled edges ways now n → (a b : ℕ) →
-      b < n → now a b ≡ feeds_through n settled edges a b
-  follow_ends now all a b below = same_answer (now a b) (feeds_through n settled edges a b)
-      (λ h. all.feeds a b below h)
+  -- what is led on once by the ways is led on to the end
+  pub follow_ends : (now : ℕ → ℕ → Bool) → ((a b : ℕ) → IsTrue (settled a b) → a < n)
+      → LedBySoFar settled now (λ a b. list_any (λ m. ways m b) (those n (settled a))) n
+      → (a b : ℕ) → b < n → now a b ≡ feeds_through n settled edges a b
+  follow_ends now inside led a b below =
+      let leads_on = list_any (λ m. ways m b) (those n (settled a)) in
+      same_answer (now a b) (feeds_through n settled edges a b)
+      (λ h. ⊎_elim
+      (λ g. some_from (settled a) (before n edges b) b (itself n edges b below) g)
+      (λ g.
+      let found = from_some (λ m. ways m b) (those n (settled a))
+      (and_parts (nat_lt a n) leads_on g).1 in
+      some_from (settled a) (before n edges b) found.0
+      (shortens.leads found.0 b below found.2) (those_pass n (settled a) found.0 found.1))
+      (or_cases (settled a b) (nat_lt a n && leads_on) (sym (led a b) ∙ h)))
       (λ h.
       let found = from_some (settled a) (before n edges b) h in
       let w = found.0 in
       let way = way_to b below w found.1 in
-      ⊎_elim
-      (λ same. subst (λ z. IsTrue (now a z)) (sym same) (all.keeps a w found.2))
-      (λ goes. all.joins a w b way.0 (all.keeps a w found.2) goes)
+      led a b ∙ ⊎_elim
+      (λ same. or_left (settled a b) (nat_lt a n && leads_on)
+      (subst (λ z. IsTrue (settled a z)) (sym same) found.2))
+      (λ goes. or_right (settled a b) (nat_lt a n && leads_on)
+      (and_from (nat_lt a n) leads_on (lt-ltb a n (inside a w found.2))
+      (some_from (λ m. ways m b) (those n (settled a)) w
+      (in_those n (settled a) w way.0 found.2) goes)))
       way.1)

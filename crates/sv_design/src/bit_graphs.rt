@@ -156,6 +156,20 @@ fn listed(alloc: Global, count: usize, row: &[u64]) -> Result<Vec<SigId>, AllocE
     Ok(signals)
 }
 
+// Puts what some signals lead to in a graph into a row.
+fn put_rows(row: &mut [u64], signals: &[SigId], graph: &BitGraph)
+    requires size { length row.old ≡ words (size graph.now) }
+    requires over { IsOver (size graph.now) graph.now }
+    requires signals { (m : ℕ) → Contains (numbers signals.now) m → m < size graph.now }
+    ensures size { length row.new ≡ length row.old }
+    ensures bits { GainsBits row.old row.new (λ s.
+        list_any (λ m. has_edge graph.now m s) (numbers signals.now)) }
+{
+    for signal in signals {
+        put_row(row, &graph.rows[signal.0 as usize]);
+    }
+}
+
 /// A graph over signals: for each signal, by its number, a bit for each that its edges lead to.
 #[derive(Drop)]
 pub struct BitGraph {
@@ -249,21 +263,37 @@ impl BitGraph {
         Ok(())
     }
 
+    // The row of what the signals of a row lead to.
+    fn led_from(&self, alloc: Global, row: &[u64]) -> Result<Vec<u64>, AllocError>
+        requires few { size self.now < 2 ^ 32 }
+        requires over { IsOver (size self.now) self.now }
+        ensures row { IfOk result (λ led. IsRow (size self.now) led.items) }
+        ensures bits { IfOk result (λ led. (s : ℕ) → in_row led.items s ≡
+            list_any (λ m. has_edge self.now m s) (those (size self.now) (in_row row.now))) }
+    {
+        let signals = listed(alloc, self.rows.len(), row)?;
+        let mut led = empty_row(alloc, self.rows.len())?;
+        put_rows(&mut led, &signals, self);
+        Ok(led)
+    }
+
     /// Adds an edge from each signal to what those that it leads to lead to in another graph, which
-    /// has an edge for each of its ways.
-    pub fn follow(&mut self, ways: &BitGraph)
+    /// has an edge for each of its ways. It fails where memory runs out.
+    pub fn follow(&mut self, alloc: Global, ways: &BitGraph) -> Result<(), AllocError>
         requires few { size self.old < 2 ^ 32 }
         requires over { IsOver (size self.old) self.old }
         requires ways { IsOver (size self.old) ways.now }
         ensures over { IsOver (size self.old) self.new }
-        ensures edges { (edges : ℕ → ℕ → Bool)
+        ensures edges { OnOk result ((edges : ℕ → ℕ → Bool)
             → Shortens (size self.old) edges (has_edge ways.now) (size self.old)
             → (a b : ℕ) → b < size self.old
-            → has_edge self.new a b ≡ feeds_through (size self.old) (has_edge self.old) edges a b }
+            → has_edge self.new a b ≡ feeds_through (size self.old) (has_edge self.old) edges a b) }
     {
-        for middle in 0..ways.rows.len() {
-            self.lead_all_on(SigId(middle as u32), &ways.rows[middle]);
+        for from in 0..self.rows.len() {
+            let led = ways.led_from(alloc, &self.rows[from])?;
+            self.add_row(SigId(from as u32), &led);
         }
+        Ok(())
     }
 
     /// The graph with each edge turned round, those of a signal in signal order. It fails where

@@ -294,7 +294,7 @@ fn follow_earlier(
         return Ok(());
     }
     earlier.shorten(alloc)?;
-    graph.follow(&earlier);
+    graph.follow(alloc, &earlier)?;
     Ok(())
 }
 

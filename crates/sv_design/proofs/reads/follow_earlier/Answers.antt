@@ -22,6 +22,6 @@ follow-requires-clause-ways c =
 
 pub returns-clause-edges : goal.returns-clause-edges
 returns-clause-edges c =
-    c.follow.ensures.edges (has_edge c.args.earlier)
+    c.in_ok-follow.ensures.edges (has_edge c.args.earlier)
     (subst (λ n. Shortens n (has_edge c.args.earlier) (has_edge c.shorten.new.self) n)
     c.requires.earlier.0 c.in_ok-shorten.ensures.ways)

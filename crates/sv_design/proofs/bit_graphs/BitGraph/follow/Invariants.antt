@@ -1,12 +1,13 @@
-use Rattle.std.proofs.Common.{ℕ, Bool}
-use Rattle.sv_design.specs.BitGraphs.{size, has_edge, IsOver, Shortens}
-use Rattle.sv_design.proofs.Ways.{Follows}
+use Rattle.std.specs.List.{list_any}
+use Rattle.sv_flat.specs.Sets.{those}
+use Rattle.sv_design.specs.BitGraphs.{size, has_edge, IsOver}
+use Rattle.sv_design.proofs.BitRows.{LedBySoFar}
 use Rattle.sv_design.proofs.bit_graphs.BitGraph.follow.Given as goal
 
--- what was led on over the signals so far
-abbrev pub invariant-loop-middle : goal.invariant-loop-middle
-invariant-loop-middle l =
+-- the signals so far are led on
+abbrev pub invariant-loop-from : goal.invariant-loop-from
+invariant-loop-from l =
     let n = size l.initial.self in
     IsOver n l.self
-    × ((edges : ℕ → ℕ → Bool) → Shortens n edges (has_edge l.ways) n
-    → Follows n (has_edge l.initial.self) edges (has_edge l.ways) (has_edge l.self) l.middle)
+    × LedBySoFar (has_edge l.initial.self) (has_edge l.self)
+    (λ a b. list_any (λ m. has_edge l.ways m b) (those n (has_edge l.initial.self a))) l.from

@@ -100,6 +100,39 @@ module _ (n : ℕ) (first : ℕ → ℕ → Bool) where
           (below_or_at k m inside);
     }
 
+  -- a signal leads to what its first edges lead to
+  pub ways_led : (now next : ℕ → ℕ → Bool) (m : ℕ) (led : ℕ → Bool) → m < n
+      → ((a b : ℕ) → next a b ≡ (now a b || ((m == a) && led b)))
+      → ((b : ℕ) → IsTrue (led b) → (k : ℕ) × IsTrue (first m k) × IsTrue (now k b))
+      → Shortens n first now 0 → Shortens n first next 0
+  ways_led now next m led m_below gains found so_far = record {
+    keeps = λ a b h. gains a b ∙ or_left (now a b) ((m == a) && led b) (so_far.keeps a b h);
+    leads = λ a b below h. ⊎_elim
+        (λ g. so_far.leads a b below g)
+        (λ g.
+        let both = and_parts (m == a) (led b) g in
+        let way = found b both.1 in
+        subst (λ z. Contains (before n first b) z) (eqb-true m a both.0)
+        (least_set_closed n back (b ∷ []) (begins b below) way.0 m
+        (so_far.leads way.0 b below way.2) way.1 m_below))
+        (or_cases (now a b) ((m == a) && led b) (sym (gains a b) ∙ h));
+    joins = λ a k b none g h. absurd (omega arith);
+  }
+
+  -- where each signal leads to all that its first edges lead to, all ways have edges
+  pub ways_closed : (now : ℕ → ℕ → Bool)
+      → ((a m b : ℕ) → IsTrue (first a m) → IsTrue (now m b) → IsTrue (now a b))
+      → Shortens n first now 0 → Shortens n first now n
+  ways_closed now closed so_far = record {
+    keeps = so_far.keeps;
+    leads = so_far.leads;
+    joins = λ a m b below g h.
+        least_set_least n back (m ∷ []) (begins m below) (λ z. IsTrue (now z b))
+        (λ z one. subst (λ y. IsTrue (now y b)) (only_one m z one) h)
+        (λ y z goes leads z_below. closed z y b leads goes)
+        a (so_far.leads a m below g);
+  }
+
 -- ---- what is led on by these ways
 
 module _ (n : ℕ) (settled edges ways : ℕ → ℕ → Bool) (shortens : Shortens n edges ways n) where

@@ -13,6 +13,7 @@ ghost use Rattle.sv_design.specs.Graphs.{size as graph_size};
 ghost use Rattle.sv_design.specs.Numbers.{numbers};
 
 use crate::bits::Bits;
+use crate::components::{Rows, leaving_order};
 use crate::graphs::Graph;
 use crate::lists::push_if;
 use std::alloc::{AllocError, Global};
@@ -67,6 +68,19 @@ fn put_row(row: &mut [u64], more: &[u64])
     for (place, word) in more.iter().enumerate() {
         row[place] |= *word;
     }
+}
+
+// Whether a row has the signals of another row.
+fn has_row(row: &[u64], more: &[u64]) -> bool
+    requires { length more.now ≡ length row.now }
+    ensures { IsTrue result → GainsBits row.now row.now (in_row more.now) }
+{
+    for (place, word) in more.iter().enumerate() {
+        if row[place] | *word != row[place] {
+            return false;
+        }
+    }
+    true
 }
 
 // Puts a signal into a row, where it is in a set.
@@ -170,6 +184,14 @@ fn put_rows(row: &mut [u64], signals: &[SigId], graph: &BitGraph)
     }
 }
 
+// Adds edges from one number to those of some signals.
+fn add_targets(rows: &mut Rows, from: usize, targets: &[SigId]) -> Result<(), AllocError> {
+    for target in targets {
+        rows.add(from, target.0 as usize)?;
+    }
+    Ok(())
+}
+
 /// A graph over signals: for each signal, by its number, a bit for each that its edges lead to.
 #[derive(Drop)]
 pub struct BitGraph {
@@ -248,13 +270,15 @@ impl BitGraph {
         }
     }
 
-    /// Adds an edge for each way over edges. It fails where memory runs out.
-    pub fn shorten(&mut self, alloc: Global) -> Result<(), AllocError>
+    // Adds an edge for each way over edges, which may stand in place of ways over first ones. Each
+    // signal is looked at for each other, also where no edge leads to it.
+    fn join_all(&mut self, alloc: Global) -> Result<(), AllocError>
         requires few { size self.old < 2 ^ 32 }
         requires over { IsOver (size self.old) self.old }
         ensures over { IsOver (size self.old) self.new }
-        ensures ways { OnOk result (Shortens (size self.old) (has_edge self.old)
-            (has_edge self.new) (size self.old)) }
+        ensures ways { OnOk result ((first : ℕ → ℕ → Bool)
+            → Shortens (size self.old) first (has_edge self.old) 0
+            → Shortens (size self.old) first (has_edge self.new) (size self.old)) }
     {
         for middle in 0..self.rows.len() {
             let targets = copied(alloc, &self.rows[middle])?;
@@ -275,6 +299,121 @@ impl BitGraph {
         let mut led = empty_row(alloc, self.rows.len())?;
         put_rows(&mut led, &signals, self);
         Ok(led)
+    }
+
+    // A copy.
+    fn copy(&self, alloc: Global) -> Result<BitGraph, AllocError>
+        ensures size { IfOk result (λ copy. size copy ≡ size self.now) }
+        ensures rows { IfOk result (λ copy. (a : ℕ) → row copy a ≡ row self.now a) }
+    {
+        let mut rows = Vec::new(alloc);
+        for row in &self.rows {
+            let copy = copied(alloc, row)?;
+            rows.push(copy)?;
+        }
+        Ok(BitGraph { rows })
+    }
+
+    // The signals in an order in which those that a signal leads to stand before it, where none of
+    // them leads back to it.
+    fn leaving_order(&self, alloc: Global) -> Result<Vec<usize>, AllocError>
+        requires few { size self.now < 2 ^ 32 }
+    {
+        let mut rows = Rows::new(alloc, self.rows.len())?;
+        for (from, row) in self.rows.iter().enumerate() {
+            let targets = listed(alloc, self.rows.len(), row)?;
+            add_targets(&mut rows, from, &targets)?;
+        }
+        leaving_order(alloc, &rows)
+    }
+
+    // Leads a signal on over its edges in another graph: adds one to whatever these lead to here.
+    fn lead_by(&mut self, alloc: Global, from: usize, first: &BitGraph) -> Result<(), AllocError>
+        requires few { size self.old < 2 ^ 32 }
+        requires over { IsOver (size self.old) self.old }
+        requires first { IsOver (size self.old) first.now }
+        ensures over { IsOver (size self.old) self.new }
+        ensures ways { OnOk result
+            (Shortens (size self.old) (has_edge first.now) (has_edge self.old) 0
+            → Shortens (size self.old) (has_edge first.now) (has_edge self.new) 0) }
+    {
+        if from >= self.rows.len() {
+            return Ok(());
+        }
+        let led = self.led_from(alloc, &first.rows[from])?;
+        self.add_row(SigId(from as u32), &led);
+        Ok(())
+    }
+
+    // Leads some signals on so, one after the other.
+    fn lead_in_order(
+        &mut self,
+        alloc: Global,
+        order: &[usize],
+        first: &BitGraph,
+    ) -> Result<(), AllocError>
+        requires few { size self.old < 2 ^ 32 }
+        requires over { IsOver (size self.old) self.old }
+        requires first { IsOver (size self.old) first.now }
+        ensures over { IsOver (size self.old) self.new }
+        ensures ways { OnOk result
+            (Shortens (size self.old) (has_edge first.now) (has_edge self.old) 0
+            → Shortens (size self.old) (has_edge first.now) (has_edge self.new) 0) }
+    {
+        for from in order {
+            self.lead_by(alloc, *from, first)?;
+        }
+        Ok(())
+    }
+
+    // Whether leading a signal on so would add nothing.
+    fn is_led(&self, alloc: Global, from: usize, first: &BitGraph) -> Result<bool, AllocError>
+        requires from { from < size self.now }
+        requires few { size self.now < 2 ^ 32 }
+        requires over { IsOver (size self.now) self.now }
+        requires first { IsOver (size self.now) first.now }
+        ensures { IfOk result (λ is_led. IsTrue is_led → (m b : ℕ)
+            → IsTrue (has_edge first.now from m) → IsTrue (has_edge self.now m b)
+            → IsTrue (has_edge self.now from b)) }
+    {
+        let led = self.led_from(alloc, &first.rows[from])?;
+        Ok(has_row(&self.rows[from], &led))
+    }
+
+    // Whether that holds of each signal.
+    fn are_led(&self, alloc: Global, first: &BitGraph) -> Result<bool, AllocError>
+        requires few { size self.now < 2 ^ 32 }
+        requires over { IsOver (size self.now) self.now }
+        requires first { IsOver (size self.now) first.now }
+        ensures { IfOk result (λ are_led. IsTrue are_led → (a m b : ℕ)
+            → IsTrue (has_edge first.now a m) → IsTrue (has_edge self.now m b)
+            → IsTrue (has_edge self.now a b)) }
+    {
+        for from in 0..self.rows.len() {
+            if !self.is_led(alloc, from, first)? {
+                return Ok(false);
+            }
+        }
+        Ok(true)
+    }
+
+    /// Adds an edge for each way over edges. It fails where memory runs out.
+    pub fn shorten(&mut self, alloc: Global) -> Result<(), AllocError>
+        requires few { size self.old < 2 ^ 32 }
+        requires over { IsOver (size self.old) self.old }
+        ensures over { IsOver (size self.old) self.new }
+        ensures ways { OnOk result (Shortens (size self.old) (has_edge self.old)
+            (has_edge self.new) (size self.old)) }
+    {
+        // Where no way leads back, one pass in this order adds all, at the cost of the edges alone.
+        let first = self.copy(alloc)?;
+        let order = first.leaving_order(alloc)?;
+        self.lead_in_order(alloc, &order, &first)?;
+        if self.are_led(alloc, &first)? {
+            return Ok(());
+        }
+        self.join_all(alloc)?;
+        Ok(())
     }
 
     /// Adds an edge from each signal to what those that it leads to lead to in another graph, which

@@ -1,42 +1,46 @@
-use Rattle.std.proofs.Common.{◌<◌, ◌&&◌, ◌||◌, sym, ap, subst, ◌∙◌}
-use Rattle.sv_design.specs.BitGraphs.{in_row, IsRow, size, row, has_edge, IsOver}
-use Rattle.sv_design.proofs.BitRows.{row_at, edge_inside}
-use Rattle.sv_design.proofs.Ways.{ways_begin, ways_more}
+use Rattle.std.proofs.Common.{◌≡◌, ℕ, sym, subst}
+use Rattle.std.specs.Prelude.{IsTrue}
+use Rattle.sv_design.specs.declared.bit_graphs.BitGraph.{BitGraph}
+use Rattle.sv_design.specs.BitGraphs.{in_row, size, row, has_edge, Shortens}
+use Rattle.sv_design.proofs.BitRows.{edge_inside}
+use Rattle.sv_design.proofs.Ways.{ways_begin, ways_closed}
 use Rattle.sv_design.proofs.bit_graphs.BitGraph.shorten.Goals as goal
 
-pub loop-middle-init : goal.loop-middle-init
-loop-middle-init c =
-    let self = c.args.self.now in
-    (c.requires.over, ways_begin (size self) (has_edge self) (edge_inside self))
+-- the edges of a copy
+same_edges : (copy graph : BitGraph) → ((a : ℕ) → row copy a ≡ row graph a) →
+    has_edge copy ≡ has_edge graph
+same_edges copy graph rows = λ k a b. in_row (rows a k) b
 
-pub lead_all_on-requires-clause-targets : goal.lead_all_on-requires-clause-targets
-lead_all_on-requires-clause-targets c =
-    let now = c.loop-middle.self in
-    let m = c.loop-middle.middle in
-    let known : m < size c.args.self.now =
-    subst (λ k. m < k) (c.len-middle-end.ensures ∙ c.args.self.now.rows.ok.0)
-    c.loop-middle-test.true in
-    let inside : m < size now = subst (λ k. m < k) (sym c.loop-middle.invariant.0.0) known in
-    let is = c.deref-in-loop-middle.ensures.value ∙ c.in_ok-targets.ensures ∙ c.deref.ensures.value
-    ∙ row_at now m c.index.result.now inside c.index.ensures in
-    subst (IsRow (size now)) (sym is)
-    (subst (λ k. IsRow k (row now m)) (sym c.loop-middle.invariant.0.0)
-    (c.loop-middle.invariant.0.1 m known))
+-- what a pass over a graph, with a copy of it, leaves
+after_pass : (copy graph led : BitGraph) → ((a : ℕ) → row copy a ≡ row graph a)
+    → (Shortens (size graph) (has_edge copy) (has_edge graph) 0
+    → Shortens (size graph) (has_edge copy) (has_edge led) 0)
+    → Shortens (size graph) (has_edge graph) (has_edge led) 0
+after_pass copy graph led rows pass =
+    let n = size graph in
+    let same = same_edges copy graph rows in
+    subst (λ edges. Shortens n edges (has_edge led) 0) same
+    (pass (subst (λ edges. Shortens n edges (has_edge graph) 0) (sym same)
+    (ways_begin n (has_edge graph) (edge_inside graph))))
 
-pub loop-middle-preserved : goal.loop-middle-preserved
-loop-middle-preserved c =
+pub returns-then-branch-clause-ways : goal.returns-then-branch-clause-ways
+returns-then-branch-clause-ways c =
     let self = c.args.self.now in
-    let now = c.loop-middle.self in
-    let next = c.lead_all_on.new.self in
-    let m = c.loop-middle.middle in
-    let known : m < size self =
-    subst (λ k. m < k) (c.len-middle-end.ensures ∙ self.rows.ok.0) c.loop-middle-test.true in
-    let inside : m < size now = subst (λ k. m < k) (sym c.loop-middle.invariant.0.0) known in
-    let is = c.deref-in-loop-middle.ensures.value ∙ c.in_ok-targets.ensures ∙ c.deref.ensures.value
-    ∙ row_at now m c.index.result.now inside c.index.ensures in (
-      subst (λ k. IsOver k next) c.loop-middle.invariant.0.0 c.lead_all_on.ensures.over,
-      ways_more (size self) (has_edge self) (has_edge now) (has_edge next) m known
-          (λ a b. c.lead_all_on.ensures.gains a b
-          ∙ ap (λ xs. has_edge now a b || (has_edge now a m && in_row xs b)) is)
-          c.loop-middle.invariant.1,
-    )
+    let first = c.in_ok-first.first in
+    let rows = c.in_ok-first.ensures.rows in
+    let led = c.lead_in_order.new.self in
+    ways_closed (size self) (has_edge self) (has_edge led)
+    (λ a m b goes leads. c.in_ok-are_led.ensures c.if-branch.true a m b
+    (subst (λ edges. IsTrue (edges a m)) (sym (same_edges first self rows)) goes) leads)
+    (after_pass first self led rows c.in_ok-lead_in_order.ensures.ways)
+
+pub returns-clause-ways : goal.returns-clause-ways
+returns-clause-ways c =
+    let self = c.args.self.now in
+    let first = c.in_ok-first.first in
+    let led = c.lead_in_order.new.self in
+    let count = c.lead_in_order.ensures.over.0 in
+    subst (λ n. Shortens n (has_edge self) (has_edge c.join_all.new.self) n) count
+    (c.in_ok-join_all.ensures.ways (has_edge self)
+    (subst (λ n. Shortens n (has_edge self) (has_edge led) 0) (sym count)
+    (after_pass first self led c.in_ok-first.ensures.rows c.in_ok-lead_in_order.ensures.ways)))

@@ -171,8 +171,9 @@ impl Design {
     }
 
     /// The signals read for the signal, in order: those named in the right sides of its assignments
-    /// and in the conditions of the branches with an arm that assigns it, and for a register itself
-    /// too. None are read for an input or a clock.
+    /// and in the conditions of the branches with an arm that assigns it, for an earlier read what
+    /// is read for its signal, and for a register itself too. None are read for an input or a
+    /// clock.
     pub fn reads_for(&self, s: SigId) -> &[SigId]
         requires { s.0 < length self.now.signals.items }
         ensures reads { numbers result.now ≡ reads_for (design_of self.now) s.0 }

@@ -1,14 +1,14 @@
 -- Trails only grow more on the walk, so it may end as soon as they are too many; and what does not
 -- take a statement stays.
 use Rattle.std.proofs.Common.{◌≡◌, ℕ, ◌+◌, ◌<◌, ◌≤◌, Bool, true, false, cond, ◌||◌}
-use Rattle.std.proofs.Common.{List, [], ◌∷◌, ◌++◌, length, map, flat_map, get_or, take}
+use Rattle.std.proofs.Common.{List, [], ◌∷◌, ◌++◌, length, map, flat_map, get_or, take, drop}
 use Rattle.std.proofs.Common.{Ok, Err}
 use Rattle.std.proofs.Common.{Result, Option, Some, None, IsErrAnd, refl, sym, ap, ap₂, subst, ◌∙◌}
-use Rattle.std.proofs.Common.{arith, length-append}
-use Rattle.std.specs.Global.{Vec}
+use Rattle.std.proofs.Common.{arith, length-append, append_assoc}
 use Rattle.std.specs.List.{list_any}
 use Rattle.std.proofs.lemmas.Bool.{false≢true}
-use Rattle.std.proofs.lemmas.List.{length-map}
+use Rattle.std.proofs.lemmas.Grind.{flat_map-append}
+use Rattle.std.proofs.lemmas.List.{append-nil, length-map, map-append}
 use Rattle.std.proofs.lemmas.List.Folds.{length-flat_map-take}
 use Rattle.sv_num.specs.declared.faults.Place.{Place}
 use Rattle.sv_flat.specs.ByNumber.{signal_forms}
@@ -85,7 +85,7 @@ some_both f g xs ys one =
     let same = length-map xs f in
     omega arith
 
-some_ways : (count from : ℕ) (right : TypedTree) (trail : TrailForm) →
+pub some_ways : (count from : ℕ) (right : TypedTree) (trail : TrailForm) →
     1 ≤ length (with_own_ways count from right trail)
 some_ways count from (typed w signed (choice place c a b)) trail =
     some_both _ _ (with_own_ways count from a (chosen true trail))
@@ -197,40 +197,69 @@ if_taken b xs ys is = sym (ap (λ t. cond t xs ys) is)
 -- ---- a walk that ends early
 
 -- more trails are too many too
-ends_early : (forms more : List TrailForm) (trails later : Vec Trail) (e : WalkFault)
-    → length forms ≤ length more → AddsTrails forms trails (Err e) → AddsTrails more later (Err e)
-ends_early forms more trails later TooMany less h = omega arith
-ends_early forms more trails later OutOfMemory less h = tt
+ends_early : (forms more now later : List TrailForm) (e : WalkFault)
+    → length forms ≤ length more → AddsTrails forms now (Err e) → AddsTrails more later (Err e)
+ends_early forms more now later TooMany less h = omega arith
+ends_early forms more now later OutOfMemory less h = tt
 
-pub fails_early : (forms more : List TrailForm) (trails later : Vec Trail) (e : WalkFault)
+pub fails_early : (forms more now later : List TrailForm) (e : WalkFault)
     (result : Result Unit WalkFault) → length forms ≤ length more
-    → IsErrAnd result (λ y. y ≡ e) → AddsTrails forms trails (Err e)
+    → IsErrAnd result (λ y. y ≡ e) → AddsTrails forms now (Err e)
     → AddsTrails more later result
-fails_early forms more trails later e (Ok done) less same h = elim same [ ]
-fails_early forms more trails later e (Err y) less same h =
+fails_early forms more now later e (Ok done) less same h = elim same [ ]
+fails_early forms more now later e (Err y) less same h =
     subst (λ x. AddsTrails more later (Err x)) (sym same)
-    (ends_early forms more trails later e less h)
+    (ends_early forms more now later e less h)
+
+-- ---- an arm
 
 -- where an arm gives too many, they are as many behind its condition
-pub arm_fails : (f : TrailForm → TrailForm) (old given arm : List TrailForm)
-    (trails later : Vec Trail) (e : WalkFault) (result : Result Unit WalkFault) → given ≡ arm
-    → IsErrAnd result (λ y. y ≡ e) → AddsTrails (old ++ given) trails (Err e)
+pub arm_fails : (f : TrailForm → TrailForm) (old given arm now later : List TrailForm)
+    (e : WalkFault) (result : Result Unit WalkFault) → given ≡ arm
+    → IsErrAnd result (λ y. y ≡ e) → AddsTrails (old ++ given) now (Err e)
     → AddsTrails (old ++ map f arm) later result
-arm_fails f old given arm trails later e result same is h =
+arm_fails f old given arm now later e result same is h =
     let one = length-append old given in
     let two = length-append old (map f arm) in
     let three = length-map arm f in
     let four : length given ≡ length arm = ap length same in
-    fails_early (old ++ given) (old ++ map f arm) trails later e result (omega arith) is h
+    fails_early (old ++ given) (old ++ map f arm) now later e result (omega arith) is h
 
--- those before an arm are no more than those with it
-pub start_inside : (old given : List TrailForm) (trails : List Trail) (start : ℕ)
-    → start ≡ length old → trail_forms trails ≡ old ++ given → start ≤ length trails
-start_inside old given trails start at adds =
+-- those before an arm are no more than those added with it, since one of it is left
+pub start_inside : (old given : List TrailForm) (trails : List Trail) (left : TrailForm)
+    (start : ℕ) → start ≡ length old → 1 ≤ length given
+    → trail_forms trails ++ left ∷ [] ≡ old ++ given → start ≤ length trails
+start_inside old given trails left start at some adds =
     let one = length-append old given in
     let two = length-map trails trail_form in
-    let three : length (trail_forms trails) ≡ length (old ++ given) = ap length adds in
+    let three : length (trail_forms trails ++ left ∷ []) ≡ length (old ++ given) = ap length adds in
+    let four = length-append (trail_forms trails) (left ∷ []) in
     omega arith
+
+-- the trails of an arm that were added, and the one that is left
+arm_behind : (f : TrailForm → TrailForm) (old arm now : List TrailForm) (left : TrailForm)
+    → 1 ≤ length arm → now ++ left ∷ [] ≡ old ++ arm
+    → (take (length old) now ++ map f (drop (length old) now)) ++ f left ∷ []
+    ≡ old ++ map f arm
+arm_behind f [] arm now left some is = sym (map-append f now (left ∷ [])) ∙ ap (map f) is
+arm_behind f (o ∷ old) arm [] left some is =
+    let same : 1 ≡ length ((o ∷ old) ++ arm) = ap length is in
+    let both = length-append (o ∷ old) arm in
+    absurd (omega arith)
+arm_behind f (o ∷ old) arm (t ∷ now) left some is =
+    let first : t ≡ o = ap (λ (ts : List TrailForm). get_or ts 0 o) is in
+    let later : now ++ left ∷ [] ≡ old ++ arm = ap (drop 1) is in
+    ap₂ (λ (x : TrailForm) (xs : List TrailForm). x ∷ xs) first
+    (arm_behind f old arm now left some later)
+
+pub arm_left : (f : TrailForm → TrailForm) (old given arm now later : List TrailForm)
+    (left marked : TrailForm) (start : ℕ) → start ≡ length old → 1 ≤ length arm → given ≡ arm
+    → now ++ left ∷ [] ≡ old ++ given → later ≡ take start now ++ map f (drop start now)
+    → marked ≡ f left → later ++ marked ∷ [] ≡ old ++ map f arm
+arm_left f old given arm now later left marked start at some same is behind here =
+    ap₂ (λ (ts : List TrailForm) t. ts ++ t ∷ []) behind here
+    ∙ ap (λ n. (take n now ++ map f (drop n now)) ++ f left ∷ []) at
+    ∙ arm_behind f old arm now left some (is ∙ ap (λ ts. old ++ ts) same)
 
 pub one_too_many : (trails : List Trail) (trail : TrailForm) → 4096 ≤ length trails
     → 4096 < length (trail_forms trails ++ trail ∷ [])
@@ -264,18 +293,67 @@ module _ (f : TrailForm → List TrailForm) where
       ap length (sym (flat_trails trails)) in
       omega arith
 
--- where the second of two statements gives too many, both do
-pub chain_longer : (signals : List SignalForm) (s : ℕ) (first second : FlatStatement)
-    (trail : TrailForm) (none old : List TrailForm) → none ≡ []
-    → length (none ++ trails_before signals s second trail)
-    ≤ length (old ++ trails_before signals s (after first second) trail)
-chain_longer signals s first second trail none old empty =
-    let one = length-append none (trails_before signals s second trail) in
-    let two = length-append old (trails_before signals s (after first second) trail) in
-    let three : length none ≡ 0 = ap length empty in
-    let four = flat_longer (trails_before signals s first) (some_trail signals s first)
-    (trails_before signals s second trail) in
-    let five : length (trails_before signals s (after first second) trail)
-    ≡ length (flat_map (trails_before signals s first) (trails_before signals s second trail)) =
-    refl in
-    omega arith
+  -- where the next one gives too many, all of them do
+  pub turn_fails : (trails seen : List Trail) (x : Trail) (old all now later : List TrailForm)
+      → seen ≡ take (length seen) trails → length seen < length trails
+      → x ≡ get_or trails (length seen) x → all ≡ old ++ flat_map f (trail_forms seen)
+      → (e : WalkFault) (result : Result Unit WalkFault) → IsErrAnd result (λ y. y ≡ e)
+      → AddsTrails (all ++ f (trail_form x)) now (Err e)
+      → AddsTrails (old ++ flat_map f (trail_forms trails)) later result
+  turn_fails trails seen x old all now later so_far inside next adds e result is h =
+      let longer = next_longer trails seen x so_far inside next in
+      let here : length all ≡ length old + length (flat_map f (trail_forms seen)) =
+      ap length adds ∙ length-append old (flat_map f (trail_forms seen)) in
+      let more = length-append all (f (trail_form x)) in
+      let most = length-append old (flat_map f (trail_forms trails)) in
+      fails_early (all ++ f (trail_form x)) (old ++ flat_map f (trail_forms trails)) now later e
+      result (omega (arith, longer, here, more, most)) is h
+
+-- ---- two statements
+
+module _ (signals : List SignalForm) (s : ℕ) (first second : FlatStatement)
+    (trail : TrailForm) where
+  -- where the second gives too many, both do
+  pub chain_longer : (none old : List TrailForm) → none ≡ []
+      → length (none ++ trails_before signals s second trail)
+      ≤ length (old ++ trails_before signals s (after first second) trail)
+  chain_longer none old empty =
+      let one = length-append none (trails_before signals s second trail) in
+      let two = length-append old (trails_before signals s (after first second) trail) in
+      let three : length none ≡ 0 = ap length empty in
+      let four = flat_longer (trails_before signals s first) (some_trail signals s first)
+      (trails_before signals s second trail) in
+      let five : length (trails_before signals s (after first second) trail)
+      ≡ length (flat_map (trails_before signals s first) (trails_before signals s second trail)) =
+      refl in
+      omega arith
+
+  module _ (none between : List TrailForm) (left : TrailForm) (empty : none ≡ [])
+      (is : between ++ left ∷ [] ≡ none ++ trails_before signals s second trail) where
+    -- the first before those that the second adds, and before the one that it leaves
+    pub chain_left : (old added : List TrailForm)
+        → added ≡ old ++ flat_map (trails_before signals s first) between
+        → added ++ trails_before signals s first left
+        ≡ old ++ trails_before signals s (after first second) trail
+    chain_left old added adds =
+        let f = trails_before signals s first in
+        let whole : flat_map f between ++ f left
+        ≡ trails_before signals s (after first second) trail =
+        ap (λ ts. flat_map f between ++ ts) (sym (append-nil (f left)))
+        ∙ sym (flat_map-append f between (left ∷ []))
+        ∙ ap (flat_map f) (is ∙ ap (λ ts. ts ++ trails_before signals s second trail) empty) in
+        ap (λ ts. ts ++ f left) adds
+        ∙ append_assoc old (flat_map f between) (f left)
+        ∙ ap (λ ts. old ++ ts) whole
+
+    -- where the first gives too many of those that the second adds, both do
+    pub between_shorter : (old : List TrailForm) →
+        length (old ++ flat_map (trails_before signals s first) between)
+        ≤ length (old ++ trails_before signals s (after first second) trail)
+    between_shorter old =
+        let added = old ++ flat_map (trails_before signals s first) between in
+        let both = length-append added (trails_before signals s first left) in
+        let same : length (added ++ trails_before signals s first left)
+        ≡ length (old ++ trails_before signals s (after first second) trail) =
+        ap length (chain_left old added refl) in
+        omega arith

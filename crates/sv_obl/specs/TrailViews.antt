@@ -31,7 +31,7 @@ WalksTrails forms (Err TooMany) = 4096 < length forms
 WalksTrails forms (Err OutOfMemory) = Unit {0}
 
 -- the trails are these now, unless these are too many
-abbrev pub AddsTrails : List TrailForm → Vec Trail → Result Unit WalkFault → Type 0
-AddsTrails forms trails (Ok done) = trail_forms trails.items ≡ forms
-AddsTrails forms trails (Err TooMany) = 4096 < length forms
-AddsTrails forms trails (Err OutOfMemory) = Unit {0}
+abbrev pub AddsTrails : (forms now : List TrailForm) → Result Unit WalkFault → Type 0
+AddsTrails forms now (Ok done) = now ≡ forms
+AddsTrails forms now (Err TooMany) = 4096 < length forms
+AddsTrails forms now (Err OutOfMemory) = Unit {0}

@@ -14,15 +14,14 @@ use crate::list_lines::Mark;
 use crate::marked::Marked;
 use crate::trails::Trail;
 use std::alloc::{AllocError, Global};
-use std::mem;
 use sv_flat::{FExpr, FNode, Piece, SigId, Signal};
 use sv_num::Place;
 
 // Adds a trail, where they stay few enough.
 #[tactic(auto, using(crate::proofs::TrailFacts::one_too_many))]
 fn add(trail: Trail, all: &mut Vec<Trail>) -> Result<(), WalkFault>
-    ensures adds { AddsTrails (trail_forms all.old.items ++ trail_form trail ∷ []) all.new
-        result }
+    ensures adds { AddsTrails (trail_forms all.old.items ++ trail_form trail ∷ [])
+        (trail_forms all.new.items) result }
     ensures few { OnOk result (length all.new.items ≤ 4096) }
 {
     if all.len() >= MOST_PATHS {
@@ -30,14 +29,6 @@ fn add(trail: Trail, all: &mut Vec<Trail>) -> Result<(), WalkFault>
     }
     all.push(trail)?;
     Ok(())
-}
-
-// Takes a trail that was lent, and leaves one there that took nothing. What is lent takes no room
-// on the stack at each level of a walk.
-fn taken(alloc: Global, target: SigId, trail: &mut Trail) -> Trail
-    ensures { trail_form result ≡ trail_form trail.old }
-{
-    mem::replace(trail, Trail::open(alloc, target))
 }
 
 // Puts a condition before each of the trails from a place on.
@@ -62,36 +53,35 @@ fn put_behind(
     Ok(())
 }
 
-// Adds the trails that the ways of a right side give for the result's own name.
+// Takes the trail through the ways of a right side for the result's own name. Of the trails that
+// come of it the last is left in its place, and the others are added.
 #[cycle(trail_ways)]
 fn put_ways(
     right: &FExpr,
     alloc: Global,
     count: u32,
     from: u8,
-    trail: Trail,
-    all: &mut Vec<Trail>,
+    trail: &mut Trail,
+    others: &mut Vec<Trail>,
 ) -> Result<(), WalkFault>
-    ensures adds { AddsTrails (trail_forms all.old.items
-        ++ with_own_ways count from (typed_tree right.now) (trail_form trail)) all.new
-        result }
-    ensures few { length all.old.items ≤ 4096 → OnOk result (length all.new.items ≤ 4096) }
+    ensures adds { AddsTrails (trail_forms others.old.items
+        ++ with_own_ways count from (typed_tree right.now) (trail_form trail.old))
+        (trail_forms others.new.items ++ trail_form trail.new ∷ []) result }
+    ensures few { length others.old.items ≤ 4096 → OnOk result (length others.new.items ≤ 4096) }
 {
     match &right.node {
         FNode::Choice(place, cond, yes, no) => {
-            let copy = trail.copy(alloc)?;
-            put_way(yes, true, *place, cond, alloc, count, from, copy, all)?;
-            put_way(no, false, *place, cond, alloc, count, from, trail, all)
+            put_copied(yes, *place, cond, alloc, count, from, trail, others)?;
+            put_way(no, false, *place, cond, alloc, count, from, trail, others)
         }
         _ => {
-            let mut put = trail;
-            put.put_value(alloc, count, from, right)?;
-            add(put, all)
+            trail.put_value(alloc, count, from, right)?;
+            Ok(())
         }
     }
 }
 
-// Adds those of one way of a choice, each behind its condition.
+// The same of one way of a choice, each behind its condition.
 #[cycle(trail_ways)]
 fn put_way(
     right: &FExpr,
@@ -101,71 +91,93 @@ fn put_way(
     alloc: Global,
     count: u32,
     from: u8,
-    trail: Trail,
-    all: &mut Vec<Trail>,
+    trail: &mut Trail,
+    others: &mut Vec<Trail>,
 ) -> Result<(), WalkFault>
-    ensures adds { AddsTrails (trail_forms all.old.items
+    ensures adds { AddsTrails (trail_forms others.old.items
         ++ map (marked_by count (record { truth = truth; place = place }) (typed_tree cond.now))
-        (with_own_ways count from (typed_tree right.now) (chosen truth (trail_form trail))))
-        all.new result }
-    ensures few { length all.old.items ≤ 4096 → OnOk result (length all.new.items ≤ 4096) }
+        (with_own_ways count from (typed_tree right.now) (chosen truth (trail_form trail.old))))
+        (trail_forms others.new.items ++ trail_form trail.new ∷ []) result }
+    ensures few { length others.old.items ≤ 4096 → OnOk result (length others.new.items ≤ 4096) }
 {
-    let start = all.len();
-    let mut arm = trail;
-    arm.choose(truth)?;
-    put_ways(right, alloc, count, from, arm, all)?;
-    put_behind(alloc, all, start, count, Mark { truth, place }, cond)?;
+    let start = others.len();
+    trail.choose(truth)?;
+    put_ways(right, alloc, count, from, trail, others)?;
+    put_behind(alloc, others, start, count, Mark { truth, place }, cond)?;
+    trail.add_mark(alloc, count, Mark { truth, place }, cond)?;
     Ok(())
 }
 
-// Adds the trails that an assignment gives that is taken.
+// Adds those of the first way of a choice, of a copy of the trail.
+#[cycle(trail_ways)]
+fn put_copied(
+    right: &FExpr,
+    place: Place,
+    cond: &FExpr,
+    alloc: Global,
+    count: u32,
+    from: u8,
+    trail: &Trail,
+    all: &mut Vec<Trail>,
+) -> Result<(), WalkFault>
+    ensures adds { AddsTrails (trail_forms all.old.items
+        ++ map (marked_by count (record { truth = true; place = place }) (typed_tree cond.now))
+        (with_own_ways count from (typed_tree right.now) (chosen true (trail_form trail.now))))
+        (trail_forms all.new.items) result }
+    ensures few { length all.old.items ≤ 4096 → OnOk result (length all.new.items ≤ 4096) }
+{
+    let mut copy = trail.copy(alloc)?;
+    put_way(right, true, place, cond, alloc, count, from, &mut copy, all)?;
+    add(copy, all)
+}
+
+// Puts so many pieces of a right side for some bits of the result's own name.
+fn put_rest(
+    alloc: Global,
+    count: u32,
+    times: u32,
+    right: &FExpr,
+    trail: &mut Trail,
+) -> Result<(), AllocError>
+    ensures { OnOk result (with_own_put count times None (typed_tree right.now)
+        (trail_form trail.old) ≡ trail_form trail.new ∷ []) }
+{
+    if times == 0 {
+        return Ok(());
+    }
+    trail.put_parts(alloc, count, times, right)
+}
+
+// Takes the trail through an assignment that is taken. Of the trails that come of it the last is
+// left in its place, and the others are added.
 fn put_assign(
     alloc: Global,
     signals: &[Signal],
     target: SigId,
     pieces: &[Piece],
     right: &FExpr,
-    trail: Trail,
-    all: &mut Vec<Trail>,
+    trail: &mut Trail,
+    others: &mut Vec<Trail>,
 ) -> Result<(), WalkFault>
     requires known { target.0 < length signals.now }
     requires counted { length signals.now < 2 ^ 32 }
-    ensures adds { AddsTrails (trail_forms all.old.items ++ with_assign (signal_forms signals.now)
-        target.0 (piece_forms pieces.now) (typed_tree right.now) (trail_form trail)) all.new
+    ensures adds { AddsTrails (trail_forms others.old.items ++ with_assign
+        (signal_forms signals.now) target.0 (piece_forms pieces.now) (typed_tree right.now)
+        (trail_form trail.old)) (trail_forms others.new.items ++ trail_form trail.new ∷ [])
         result }
-    ensures few { length all.old.items ≤ 4096 → OnOk result (length all.new.items ≤ 4096) }
+    ensures few { length others.old.items ≤ 4096 → OnOk result (length others.new.items ≤ 4096) }
 {
     let count = signals.len() as u32;
     let times = trail.own_pieces(pieces);
     let whole = trail.whole_from(signals, pieces);
-    let mut put = trail;
-    put.put_right(alloc, signals, target, pieces, right)?;
+    trail.put_right(alloc, signals, target, pieces, right)?;
     match whole {
-        Some(from) => put_ways(right, alloc, count, from, put, all),
-        None => put_rest(alloc, count, times, right, put, all),
+        Some(from) => put_ways(right, alloc, count, from, trail, others),
+        None => {
+            put_rest(alloc, count, times, right, trail)?;
+            Ok(())
+        }
     }
-}
-
-// Adds the trail in which so many pieces are put for some bits of the result's own name.
-fn put_rest(
-    alloc: Global,
-    count: u32,
-    times: u32,
-    right: &FExpr,
-    trail: Trail,
-    all: &mut Vec<Trail>,
-) -> Result<(), WalkFault>
-    ensures adds { AddsTrails (trail_forms all.old.items
-        ++ with_own_put count times None (typed_tree right.now) (trail_form trail)) all.new
-        result }
-    ensures few { OnOk result (length all.new.items ≤ 4096) }
-{
-    if times == 0 {
-        return add(trail, all);
-    }
-    let mut put = trail;
-    put.put_parts(alloc, count, times, right)?;
-    add(put, all)
 }
 
 /// Whether the statement assigns a signal that the trail wants.
@@ -181,8 +193,9 @@ pub fn is_taken(stmt: &Marked, trail: &Trail) -> bool
     }
 }
 
-// Adds the trails that a trail becomes where a statement is taken before it; an error where all are
-// then more than 4,096, or where memory runs out.
+// Takes the trail back through a statement. Of the trails that come of it the last is left in its
+// place, and the others are added: nearly always there are none, and then nothing is moved. An
+// error where they are more than 4,096, or where memory runs out.
 #[cycle(trail_before)]
 fn before(
     stmt: &Marked,
@@ -190,28 +203,29 @@ fn before(
     signals: &[Signal],
     target: SigId,
     trail: &mut Trail,
-    all: &mut Vec<Trail>,
+    others: &mut Vec<Trail>,
 ) -> Result<(), WalkFault>
     requires known { target.0 < length signals.now }
     requires counted { length signals.now < 2 ^ 32 }
     requires tells { TellsTargets stmt.now }
-    ensures adds { AddsTrails (trail_forms all.old.items ++ trails_before (signal_forms signals.now)
-        target.0 (marked_statement stmt.now) (trail_form trail.old)) all.new result }
-    ensures few { length all.old.items ≤ 4096 → OnOk result (length all.new.items ≤ 4096) }
+    ensures adds { AddsTrails (trail_forms others.old.items ++ trails_before
+        (signal_forms signals.now) target.0 (marked_statement stmt.now) (trail_form trail.old))
+        (trail_forms others.new.items ++ trail_form trail.new ∷ []) result }
+    ensures few { length others.old.items ≤ 4096 → OnOk result (length others.new.items ≤ 4096) }
 {
     if !is_taken(stmt, trail) {
-        return add(taken(alloc, target, trail), all);
+        return Ok(());
     }
     match stmt {
-        Marked::Nothing => add(taken(alloc, target, trail), all),
+        Marked::Nothing => Ok(()),
         Marked::Assign { pieces, right, .. } => {
-            let put = taken(alloc, target, trail);
-            put_assign(alloc, signals, target, *pieces, right, put, all)
+            put_assign(alloc, signals, target, *pieces, right, trail, others)
         }
         Marked::Chain { first, second, .. } => {
             let mut between = Vec::new(alloc);
             before(second, alloc, signals, target, trail, &mut between)?;
-            before_each(first, alloc, signals, target, between, all)
+            before_each(first, alloc, signals, target, between, others)?;
+            before(first, alloc, signals, target, trail, others)
         }
         Marked::Branch {
             place,
@@ -220,13 +234,15 @@ fn before(
             no,
             ..
         } => {
-            before_copied(yes, *place, cond, alloc, signals, target, trail, all)?;
-            before_arm(no, false, *place, cond, alloc, signals, target, trail, all)
+            before_copied(yes, *place, cond, alloc, signals, target, trail, others)?;
+            before_arm(
+                no, false, *place, cond, alloc, signals, target, trail, others,
+            )
         }
     }
 }
 
-// Adds those of one arm of a branch, each behind its condition.
+// The same of one arm of a branch, each behind its condition.
 #[cycle(trail_before)]
 fn before_arm(
     stmt: &Marked,
@@ -237,29 +253,25 @@ fn before_arm(
     signals: &[Signal],
     target: SigId,
     trail: &mut Trail,
-    all: &mut Vec<Trail>,
+    others: &mut Vec<Trail>,
 ) -> Result<(), WalkFault>
     requires known { target.0 < length signals.now }
     requires counted { length signals.now < 2 ^ 32 }
     requires tells { TellsTargets stmt.now }
-    ensures adds { AddsTrails (trail_forms all.old.items
+    ensures adds { AddsTrails (trail_forms others.old.items
         ++ map (marked_by (length (signal_forms signals.now))
         (record { truth = truth; place = place }) (typed_tree cond.now))
         (trails_before (signal_forms signals.now) target.0 (marked_statement stmt.now)
-        (chosen truth (trail_form trail.old)))) all.new result }
-    ensures few { length all.old.items ≤ 4096 → OnOk result (length all.new.items ≤ 4096) }
+        (chosen truth (trail_form trail.old))))
+        (trail_forms others.new.items ++ trail_form trail.new ∷ []) result }
+    ensures few { length others.old.items ≤ 4096 → OnOk result (length others.new.items ≤ 4096) }
 {
-    let start = all.len();
+    let start = others.len();
     trail.choose(truth)?;
-    before(stmt, alloc, signals, target, trail, all)?;
-    put_behind(
-        alloc,
-        all,
-        start,
-        signals.len() as u32,
-        Mark { truth, place },
-        cond,
-    )?;
+    before(stmt, alloc, signals, target, trail, others)?;
+    let count = signals.len() as u32;
+    put_behind(alloc, others, start, count, Mark { truth, place }, cond)?;
+    trail.add_mark(alloc, count, Mark { truth, place }, cond)?;
     Ok(())
 }
 
@@ -282,13 +294,14 @@ fn before_copied(
         ++ map (marked_by (length (signal_forms signals.now))
         (record { truth = true; place = place }) (typed_tree cond.now))
         (trails_before (signal_forms signals.now) target.0 (marked_statement stmt.now)
-        (chosen true (trail_form trail.now)))) all.new result }
+        (chosen true (trail_form trail.now)))) (trail_forms all.new.items) result }
     ensures few { length all.old.items ≤ 4096 → OnOk result (length all.new.items ≤ 4096) }
 {
     let mut copy = trail.copy(alloc)?;
     before_arm(
         stmt, true, place, cond, alloc, signals, target, &mut copy, all,
-    )
+    )?;
+    add(copy, all)
 }
 
 // Adds those that some trails become.
@@ -306,12 +319,13 @@ fn before_each(
     requires tells { TellsTargets stmt.now }
     ensures adds { AddsTrails (trail_forms all.old.items
         ++ flat_map (trails_before (signal_forms signals.now) target.0 (marked_statement stmt.now))
-        (trail_forms trails.items)) all.new result }
+        (trail_forms trails.items)) (trail_forms all.new.items) result }
     ensures few { length all.old.items ≤ 4096 → OnOk result (length all.new.items ≤ 4096) }
 {
     for trail in trails {
         let mut taken = trail;
         before(stmt, alloc, signals, target, &mut taken, all)?;
+        add(taken, all)?;
     }
     Ok(())
 }
@@ -335,5 +349,6 @@ pub fn trails_of(
     let mut trails = Vec::new(alloc);
     let mut open = Trail::open(alloc, target);
     before(body, alloc, signals, target, &mut open, &mut trails)?;
+    add(open, &mut trails)?;
     Ok(trails)
 }

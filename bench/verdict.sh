@@ -181,7 +181,7 @@ def page(rows, loads):
             f"Of caches of twice as many ways `check` takes {', '.join(steps)} times as long. The time of `verify` is at most "
             f"{largest(rows, lambda row: row.verify / row.check)} times that of `check`, and that of `check --proof` at most "
             f"{largest(rows, lambda row: row.stored / row.check)} times; without `--proof` an obligation that labels alone decide makes no clause.",
-            "The last row is the longest chain of `else`, of which `check` holds all paths with their conditions at once. Its certificate would take the "
+            "The last row is the longest chain of `else`, of which `check` holds all paths, and the conditions of one at a time. Its certificate would take the "
             "clauses of all 4,096 obligations, and is not made."]
     first, second, last = (textwrap.fill(text, COLUMNS, break_long_words=False, break_on_hyphens=False) for text in said)
     return "\n".join(["# What a verdict costs", "", first, "", *HEAD, *map(line_of, rows), "", second, "", last, ""])
